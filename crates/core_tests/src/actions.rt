@@ -1,11 +1,12 @@
 //! Single actions of a core where they are not permitted. The causes were worked out from the rules of the actions.
 ghost use Rattle.std.specs.Prelude.{◌≡◌};
-ghost use Rattle.sim_core.specs.Causes.{module_of};
+ghost use Rattle.core_actions.specs.Causes.{module_of};
 ghost use Rattle.sim_core.specs.Drives.{AreOwn};
 
+use core_actions::{ActFault, Action, Cause, act};
 use event_graph::Place;
 use flow_word::Steps;
-use sim_core::{ActFault, Action, Cause, Core, Guard};
+use sim_core::{Core, Guard};
 use std::marker::Brand;
 use std::process::Abort;
 use std::sync::ledger::{Blank, Ledger};
@@ -56,7 +57,7 @@ pub fn act_same<L: Ledger, R: Abort>(rt: &R, core: &mut Core, action: Action, st
     ensures own { AreOwn core.new }
 {
     assert!(rt; owner_of(action) < core.modules());
-    let answer = core.act(action, steps);
+    let answer = act(core, action, steps);
     assert_eq!(rt; answer, Ok(Guard::Same));
 }
 
@@ -78,7 +79,7 @@ fn answer_behind<L: Ledger, R: AllocGlobal + Abort>(
         act_same(rt, &mut core, *action, &mut steps);
     }
     assert!(rt; owner_of(tried) < core.modules());
-    let answer = core.act(tried, &mut steps);
+    let answer = act(&mut core, tried, &mut steps);
     drop(core);
     Ok(answer)
 }

@@ -1,14 +1,15 @@
 //! Whole simulations by single actions, in several orders.
 ghost use Rattle.std.specs.Prelude.{◌≡◌, ◌<◌, length, IfSome};
 ghost use Rattle.flow_design.specs.StaticRules.{FitsEngine};
-ghost use Rattle.sim_core.specs.Causes.{module_of};
+ghost use Rattle.core_actions.specs.Causes.{module_of};
 ghost use Rattle.sim_core.specs.Drives.{AreOwn};
 
 use crate::actions::{act_same, owner_of};
 use clock_machine::clock_run;
+use core_actions::{ActFault, Action, act, permits};
 use flow_design::{Plan, Report};
 use flow_word::Steps;
-use sim_core::{ActFault, Action, Core};
+use sim_core::Core;
 use std::marker::Brand;
 use std::process::Abort;
 use std::sync::ledger::{Blank, Ledger};
@@ -44,13 +45,13 @@ fn permitted_of(core: &Core, owner: u32) -> Option<Action>
     requires { owner < length core.now.plan.design.modules }
     ensures { IfSome result (λ action. module_of action ≡ owner) }
 {
-    if core.permits(Action::Run(owner)).is_ok() {
+    if permits(core, Action::Run(owner)).is_ok() {
         Some(Action::Run(owner))
-    } else if core.permits(Action::Assign(owner)).is_ok() {
+    } else if permits(core, Action::Assign(owner)).is_ok() {
         Some(Action::Assign(owner))
-    } else if core.permits(Action::Answer(owner)).is_ok() {
+    } else if permits(core, Action::Answer(owner)).is_ok() {
         Some(Action::Answer(owner))
-    } else if core.permits(Action::Earliest(owner)).is_ok() {
+    } else if permits(core, Action::Earliest(owner)).is_ok() {
         Some(Action::Earliest(owner))
     } else {
         None
@@ -77,8 +78,8 @@ fn try_refused<L: Ledger, R: Abort>(rt: &R, core: &mut Core, action: Action, ste
     requires own { AreOwn core.old }
     ensures same { core.new ≡ core.old }
 {
-    if core.permits(action).is_err() {
-        let answer = core.act(action, steps);
+    if permits(core, action).is_err() {
+        let answer = act(core, action, steps);
         let is_refused = matches!(answer, Err(ActFault::NotPermitted(_)));
         assert!(rt; is_refused);
     }

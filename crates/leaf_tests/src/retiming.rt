@@ -3,6 +3,7 @@ ghost use Rattle.std.specs.Prelude.{◌≡◌};
 
 use event_graph::{Accesses, Graph, Place, Step};
 use fifo_table::{FifoTable, TableChannel};
+use flow_design::Edit;
 use flow_word::{OutOfMemory, Steps};
 use retime::first_touched;
 use std::alloc::Global;
@@ -28,11 +29,41 @@ fn holds_one<L: Ledger, R: Abort>(rt: &R, alloc: Global, blank: Blank) -> Result
     )?;
     let mut fifos = FifoTable::new(alloc, &[TableChannel::Fifo { depth: 1, delay: 4 }])?;
     fifos.add_push(0, Place { module: 0, step: 0 }, 7)?;
-    assert_eq!(rt; first_touched(&graph, &fifos, 0, 2), None);
+    assert_eq!(rt;
+        first_touched(
+            &graph,
+            &fifos,
+            &Edit {
+                channel: 0,
+                depth: 2
+            }
+        ),
+        None
+    );
     let mut steps = Steps::<L>::new(blank);
     graph.set_cycle(0, 3, &mut steps);
-    assert_eq!(rt; first_touched(&graph, &fifos, 0, 2), Some(4));
-    assert_eq!(rt; first_touched(&graph, &fifos, 0, 1), None);
+    assert_eq!(rt;
+        first_touched(
+            &graph,
+            &fifos,
+            &Edit {
+                channel: 0,
+                depth: 2
+            }
+        ),
+        Some(4)
+    );
+    assert_eq!(rt;
+        first_touched(
+            &graph,
+            &fifos,
+            &Edit {
+                channel: 0,
+                depth: 1
+            }
+        ),
+        None
+    );
     Ok(())
 }
 

@@ -1,5 +1,5 @@
 //! Room for a module's steps.
-use engine_view::make_room;
+use engine_view::Engine;
 use event_graph::Graph;
 use fifo_table::{FifoTable, TableChannel};
 use flow_word::{Port, Side};
@@ -8,15 +8,17 @@ use std::test::Fail;
 
 #[test]
 fn a_module_has_room_for_many_steps_at_once(rt: HostRuntime) -> Result<(), Fail> {
-    let mut graph = Graph::new(rt.alloc(), 1)?;
-    let mut fifos = FifoTable::new(rt.alloc(), &[TableChannel::Fifo { depth: 2, delay: 1 }])?;
-    let mut log = QueryLog::new(rt.alloc(), 1)?;
-    let mut credits = vec![in rt.alloc(); 0; 1]?;
+    let mut engine = Engine {
+        graph: Graph::new(rt.alloc(), 1)?,
+        fifos: FifoTable::new(rt.alloc(), &[TableChannel::Fifo { depth: 2, delay: 1 }])?,
+        log: QueryLog::new(rt.alloc(), 1)?,
+        credits: vec![in rt.alloc(); 0; 1]?,
+    };
     let ports = [Port {
         side: Side::Push,
         channel: 0,
     }];
-    make_room(&mut graph, &mut fifos, &mut log, &mut credits, 0, &ports, 3)?;
-    assert_eq!(rt; credits[0], 512);
+    engine.make_room(0, &ports, 3)?;
+    assert_eq!(rt; engine.credits[0], 512);
     Ok(())
 }

@@ -5,13 +5,9 @@ use denote.Struct.Declared.{shape}
 use Rattle.std.proofs.Crossing.{crosses}
 use Rattle.flow_word.specs.contracts.list.List as list_of
 use Rattle.flow_word.proofs.list.List.TheSendSync as list
-use Rattle.flow_word.specs.contracts.queue.Queue as queue_of
-use Rattle.flow_word.proofs.queue.Queue.TheSendSync as queue
 use Rattle.flow_word.proofs.boxed.Boxed.TheSendSync as boxed
 use Rattle.flow_word.proofs.width.Width.TheSendSync as width
 use Rattle.flow_word.proofs.access.Access.TheSendSync as access
-use Rattle.flow_word.proofs.access.Port.TheSendSync as port
-use Rattle.flow_word.specs.contracts.access.Port as port_of
 use Rattle.flow_design.proofs.name.Name.TheSendSync as name
 use Rattle.flow_design.proofs.design.BlockKind.TheSendSync as kind
 use Rattle.flow_design.proofs.design.Memory.TheSendSync as memory
@@ -22,7 +18,6 @@ use Rattle.flow_design.proofs.expr.UnOp.TheSendSync as unary
 use Rattle.flow_design.proofs.expr.Expr.TheLaws.TheKnot as expr
 use Rattle.flow_design.proofs.state.Advance.TheSendSync as advance
 use Rattle.flow_design.proofs.state.ModuleState.TheSendSync as state
-use Rattle.flow_design.proofs.state.Reply.TheSendSync as reply
 use Rattle.flow_design.proofs.state.Request.TheSendSync as request
 use Rattle.flow_design.specs.contracts.design.Module as unit
 use Rattle.flow_design.specs.contracts.design.Design as design
@@ -33,12 +28,11 @@ use Rattle.module_interp.proofs.path.Stage.TheSendSync as stage
 use Rattle.module_interp.proofs.tally.Tally.TheSendSync as tally
 use Rattle.module_interp.specs.contracts.path.Path as path
 use Rattle.module_interp.specs.contracts.run.ModuleRun as run
-use Rattle.event_graph.proofs.graph.Graph.TheSendSync as graph
 use Rattle.event_graph.proofs.candidate.Candidate.TheSendSync as candidate
-use Rattle.fifo_table.proofs.table.FifoTable.TheSendSync as table
-use Rattle.query_log.proofs.log.QueryLog.TheSendSync as log
-use Rattle.cycle_changes.proofs.changes.Changes.TheSendSync as changes
+use Rattle.engine_view.proofs.engine.Engine.TheSendSync as held
+use Rattle.sim_core.proofs.machine.Scratch.TheSendSync as scratch
 use Rattle.sim_core.proofs.unread.Unread.TheSendSync as unread
+use Rattle.sim_core.proofs.wiring.Wiring.TheSendSync as wiring
 use Rattle.sim_core.specs.contracts.machine.Core as engine
 use Rattle.sim_core.specs.contracts.machine.Core.TheInside as core
 use Rattle.turn_history.proofs.turn.HubTurn.TheSendSync as turn
@@ -139,39 +133,18 @@ core_field =
     struct_send (shape core.the_type) (
       plan_field,
       (
-        graph.the_send,
+        held.the_field_send,
         (
-          table.the_send,
+          (search (advance.the_send, crosses, sendable) depth 30 fits 5000),
           (
-            log.the_send,
+            (search (run_send, crosses, sendable) depth 30 fits 5000),
             (
-              (search (advance.the_send, crosses, sendable) depth 30 fits 5000),
+              wiring.the_field_send,
               (
-                (search (run_send, crosses, sendable) depth 30 fits 5000),
+                list.the_send _ unread.the_send,
                 (
-                  (search (crosses, sendable) depth 30 fits 5000),
-                  (
-                    list.the_send (list_of.the_row port_of.the_row) (list.the_send _ port.the_send),
-                    (
-                      (search (crosses, sendable) depth 30 fits 5000),
-                      (
-                        list.the_send _ unread.the_send,
-                        (
-                          words_send,
-                          (
-                            plain_send _ _ _ _ _,
-                            (
-                              list.the_send (queue_of.the_row u64) (queue.the_send u64 (plain_send _ _ _ _ _)),
-                              (
-                                list.the_send _ reply.the_send,
-                                ((search (candidate.the_send, crosses, sendable) depth 30 fits 5000), (changes.the_field_send, tt)),
-                              ),
-                            ),
-                          ),
-                        ),
-                      ),
-                    ),
-                  ),
+                  plain_send _ _ _ _ _,
+                  ((search (candidate.the_send, crosses, sendable) depth 30 fits 5000), (scratch.the_field_send, tt)),
                 ),
               ),
             ),

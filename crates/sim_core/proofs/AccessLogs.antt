@@ -97,7 +97,7 @@ module _ (p : Plan) (h : Held) (s : IsSound (design p) h) (g : IsAgreed (design 
       where
         go : (o : Option (List Reply)) → found ≡ o → o ≡ Some (unwrap_or o [])
         go None e =
-            absurd (are_told p h s g.marks key.module key.step t.is_key.there.step inside (g.time.answered_then key.module key.step t.timed)
+            absurd (are_told p s g.marks key.module key.step t.is_key.there.step inside (g.time.answered_then key.module key.step t.timed)
             (g.time.there_then key.module key.step t.timed) e)
         go (Some rs) e = refl
 
@@ -111,7 +111,7 @@ module _ (p : Plan) (h : Held) (s : IsSound (design p) h) (g : IsAgreed (design 
 
       pub step_inside : All (IsAccess h.channels) step.accesses
       step_inside = subst (λ (t : Step). All (IsAccess h.channels) t.accesses) step_is
-          (accesses_inside p h s g.marks key.module key.step t.is_key.there.step inside)
+          (accesses_inside p s g.marks key.module key.step t.is_key.there.step inside)
 
       pub step_few : queries_before h key.module (emitted_of h key.module) < query_bound → step.first_query < query_bound
       step_few few =
@@ -131,10 +131,9 @@ module _ (p : Plan) (h : Held) (s : IsSound (design p) h) (g : IsAgreed (design 
 
           pub replies_many : length rs ≡ length step.accesses
           replies_many =
-              let told = replies_are ∙ found_told p h s g.marks key.module key.step t.is_key.there.step (replies_at h key.module key.step)
-              all_found in
-              let fit = flags_fit p h s g.marks key.module key.step t.is_key.there.step in
-              ap length (told ∙ tell_is p h s g.marks key.module key.step t.is_key.there.step)
+              let told = replies_are ∙ found_told p s g.marks key.module key.step t.is_key.there.step all_found in
+              let fit = flags_fit p s g.marks key.module key.step t.is_key.there.step in
+              ap length (told ∙ tell_is p s g.marks key.module key.step t.is_key.there.step)
               ∙ (found_many h.channels (step_of h key.module key.step).accesses (flags_of h key.module key.step)
               (as_many (step_of h key.module key.step).accesses (flags_of h key.module key.step) fit)
               ∙ ap (λ (t : Step). length t.accesses) step_is)
@@ -148,8 +147,8 @@ module _ (p : Plan) (h : Held) (s : IsSound (design p) h) (g : IsAgreed (design 
     step_logged =
         let cycle = t.is_key.cycle in
         let asked = sym (requests_are (requests_of p (key.module, x.state key.module key.step)) (step_of h key.module key.step).accesses
-        (seen_same p h s g.marks key.module key.step t.is_key.there.step)) in
-        let told = found_told p h s g.marks key.module key.step t.is_key.there.step (replies_at h key.module key.step) all_found in
+        (seen_same p s g.marks key.module key.step t.is_key.there.step)) in
+        let told = found_told p s g.marks key.module key.step t.is_key.there.step all_found in
         λ i. map (logged (step_with (record { cycle = cycle i; «module» = key.module; step = key.step }) [])) (paired (asked i) (told i))
 
   all_logged : (keys : List TimedStep) → All (IsTimedKey h.lanes) keys

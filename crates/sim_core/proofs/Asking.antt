@@ -24,7 +24,7 @@ use Rattle.lockstep_defs.specs.Ports.{StandsAtPort, owner}
 use Rattle.event_timing.specs.Machines.{Design, Each}
 use Rattle.event_timing.specs.Core.{Core}
 use Rattle.event_timing.specs.Actions.{ActsAll, Acts, MayEarliest, after_answer, runs}
-use Rattle.event_timing.specs.Actions.Action.{Run, Assign, Answer}
+use Rattle.event_timing.specs.Actions.Action.{Assign, Answer}
 use Rattle.event_timing.specs.Agreement.{IsAgreed}
 use Rattle.timing_bridge.specs.Designs.{design, lockstep_run, seen}
 use Rattle.timing_bridge.proofs.History.{plan_is_design, run_is_history}
@@ -194,13 +194,6 @@ pub asking_returned : (p : Plan) (g h : Held) → h ≡ g → FitsEngine p
     → ActsAll (design p) p.cycles (core_of (design p) h) (runs count m) y → AreAsking p y (bit_or asking bit)
 asking_returned p g h same fits agreed asking are m bit is count y acts =
     rw is (asking_ran p fits (core_of (design p) h) asking (rw same are) agreed m count y acts)
-
-pub asking_emitted : (p : Plan) (g h : Held) → h ≡ g → FitsEngine p
-    → IsAgreed (design p) (lockstep_run p) p.cycles (core_of (design p) h)
-    → (asking : ℕ) → AreAsking p (core_of (design p) g) asking → (m bit : ℕ) → bit ≡ bit_of m → (y : Core ModuleState)
-    → Acts (design p) p.cycles (core_of (design p) h) (Run m) y → AreAsking p y (bit_or asking bit)
-asking_emitted p g h same fits agreed asking are m bit is y acts =
-    asking_returned p g h same fits agreed asking are m bit is 1 y (y, acts, refl)
 
 -- who shares a channel with whom doesn't depend on depths
 pub beside_edited : (p : Plan) (channel depth : ℕ) (beside : List ℕ) → AreBeside p beside → AreBeside (with_depth p channel depth) beside

@@ -39,11 +39,15 @@ use Rattle.engine_view.specs.Held.{Held, emitted_of, core_of}
 use Rattle.engine_view.specs.Shown.{IsSound, IsKind}
 use Rattle.engine_view.specs.Opened.{opening_held, AreKinds}
 use Rattle.engine_view.specs.Rooms.{HasRoom}
-use Rattle.engine_view.specs.Stored.{Stored, held_in}
+use Rattle.engine_view.specs.declared.engine.Engine.{Engine}
+use Rattle.engine_view.specs.Engines.{held_in}
 use Rattle.engine_view.specs.Taking.{kinds_in}
 use Rattle.engine_view.proofs.Opened.{opening_core_is, copy_at}
 use Rattle.engine_view.proofs.Roomy.{room_opening}
-use Rattle.sim_core.specs.Runs.{IsCore, IsRunOf, rest_behind, lent_of, over_of}
+use Rattle.sim_core.specs.Runs.{IsCore, IsStoredCore, IsRunOf, rest_behind, lent_of, over_of}
+use Rattle.sim_core.specs.declared.unread.Unread.{Unread}
+use Rattle.sim_core.specs.declared.wiring.Wiring.{Wiring}
+use Rattle.event_graph.specs.declared.candidate.Candidate.{Candidate}
 use Rattle.sim_core.proofs.Keeping.{over_at}
 use Rattle.sim_core.specs.Opening.{kind_by, kind_in, kinds_of, source_values, AreFirstRuns, AreLeft, AreOlderRuns}
 
@@ -117,9 +121,9 @@ older_at p runs left m None older l e = tt
 older_at p runs left m (Some run) older l e = older m run (l.each m run (sym e))
 
 -- the runs of a core
-pub core_runs : (p : Plan) (s : Stored) (ends : List (Option Advance)) (runs : List (Option ModuleRun)) (credits : List ℕ)
-    → IsCore p s ends runs credits → AreOlderRuns p runs
-core_runs p s ends runs credits c m run there =
+pub core_runs : (p : Plan) (s : Engine) (ends : List (Option Advance)) (runs : List (Option ModuleRun))
+    → IsCore p s ends runs → AreOlderRuns p runs
+core_runs p s ends runs c m run there =
     let x = core_of (design p) (held_in s (over_of ends)) in
     let is : IsRunOf p x m run = c.runs_are m run there in
     elim (cases_Bool (waits run)) [
@@ -128,18 +132,26 @@ core_runs p s ends runs credits c m run there =
     ]
 
 -- a core whose runs are lent, or go over to another
-pub core_left : (p : Plan) (s : Stored) (ends : List (Option Advance)) (runs left : List (Option ModuleRun)) (credits : List ℕ)
-    → IsCore p s ends runs credits → AreLeft runs left → IsCore p s ends left credits
-core_left p s ends runs left credits c l = record {
-  fits = c.fits;
-  sound = c.sound;
-  agreed = c.agreed;
-  table = c.table;
-  count = l.count ∙ c.count;
-  counted = c.counted;
-  room = c.room;
-  runs_are = λ m run there. c.runs_are m run (l.each m run there);
-  ends_are = c.ends_are;
+pub stored_left : {p : Plan} {s : Engine} {ends : List (Option Advance)} {runs : List (Option ModuleRun)} {wiring : Wiring}
+    {unread : List Unread} {asking : ℕ} {candidates : List Candidate}
+    → IsStoredCore p s ends runs wiring unread asking candidates → (left : List (Option ModuleRun)) → AreLeft runs left
+    → IsStoredCore p s ends left wiring unread asking candidates
+stored_left {p} {s} {ends} {runs} {wiring} {unread} {asking} {candidates} k left l = record {
+  core = record {
+    fits = k.core.fits;
+    sound = k.core.sound;
+    agreed = k.core.agreed;
+    table = k.core.table;
+    count = l.count ∙ k.core.count;
+    counted = k.core.counted;
+    room = k.core.room;
+    runs_are = λ m run there. k.core.runs_are m run (l.each m run there);
+    ends_are = k.core.ends_are;
+  };
+  wired = k.wired;
+  unread_are = k.unread_are;
+  asking_are = k.asking_are;
+  candidate_count = k.candidate_count;
 }
 
 -- ---- the channels
@@ -253,10 +265,10 @@ module _ (p : Plan) (fits : FitsEngine p) where
         let none : get_or (over_of ends) m false ≡ false = ap (λ (bs : List Bool). get_or bs m false) e ∙ copy_at n m false in
         both_ways _ none over
 
-    pub core_begun : (s : Stored) (ends : List (Option Advance)) (runs : List (Option ModuleRun)) (credits : List ℕ)
+    pub core_begun : (s : Engine) (ends : List (Option Advance)) (runs : List (Option ModuleRun))
         → h ≡ held_in s (over_of ends) → over_of ends ≡ replicate n false → AreFirstRuns p runs n
-        → credits ≡ replicate n 0 → IsCore p s ends runs credits
-    core_begun s ends runs credits e over r none =
+        → s.credits.items ≡ replicate n 0 → IsCore p s ends runs
+    core_begun s ends runs e over r none =
         let lanes : length s.graph.lanes ≡ n = ap (λ (q : Held). length q.lanes) (sym e) ∙ length-replicate n no_lane in
         let core : core_of (design p) (held_in s (over_of ends)) ≡ opening_core (design p) = ap (core_of (design p)) (sym e) ∙ begins.0 in
         record {
@@ -266,8 +278,8 @@ module _ (p : Plan) (fits : FitsEngine p) where
           table = ap (λ (q : Held). kinds_in q.channels) (sym e) ∙ kinds_unused (kinds_of p);
           count = r.count ∙ sym lanes;
           counted = ap (λ (q : List ℕ). length q) none ∙ (length-replicate n 0 ∙ sym lanes);
-          room = subst (λ (q : Held). HasRoom (design p) q s.graph.rooms s.table s.log.rooms credits) e
-              (room_opening (design p) h s.graph.rooms s.table s.log.rooms credits none_emitted
+          room = subst (λ (q : Held). HasRoom (design p) q s.graph.rooms s.fifos s.log.rooms s.credits.items) e
+              (room_opening (design p) h s.graph.rooms s.fifos s.log.rooms s.credits.items none_emitted
               (λ m. ap (λ (q : List ℕ). get_or q m 0) none ∙ copy_at n m 0));
           runs_are = λ m run there. let z = r.each m run there in
               subst (λ (q : Held). IsRunOf p (core_of (design p) q) m run) e (first_run m run z.0 z.1);

@@ -34,12 +34,12 @@ module _ (p : Plan) (fits : FitsEngine p) (e : Edit) (fit : EditFits p e) (h : H
       (run_is_history q (edited_fits p fits e fit))
 
   -- it agrees with the edited plan
-  pub cut_of : (t : ℕ) → IsEditFrom h.lanes h.channels e.channel e.depth p.cycles t
+  pub cut_of : (t : ℕ) → IsEditFrom h.lanes h.channels e p.cycles t
       → IsAgreed (design q) (lockstep_run q) p.cycles (after_edit (design p) (core_of (design p) h) t)
   cut_of t from =
       subst (λ (f : Design ModuleState). IsAgreed f (lockstep_run q) p.cycles (after_edit (design p) (core_of (design p) h) t))
       (same_design p e.channel e.depth fit.entry)
-      (cut_agrees (design p) (lockstep_run p) p.cycles h final_of e.channel e.depth t from (λ c. refl) (lockstep_run q) history_of)
+      (cut_agrees (design p) (lockstep_run p) p.cycles h final_of e t from (λ c. refl) (lockstep_run q) history_of)
 
   -- and permits no Run
   pub cut_stays : (t m : ℕ) → MayRun (design q) (after_edit (design p) (core_of (design p) h) t) m → ⊥

@@ -29,6 +29,7 @@ use Rattle.fifo_table.specs.Channels.{with_depth as with_depths}
 use Rattle.event_timing.specs.Core.{Core}
 use Rattle.timing_bridge.proofs.Edits.{edited_fits}
 use Rattle.engine_view.specs.Taking.{kinds_in}
+use Rattle.retime.specs.Touched.{IsEditIn}
 use Rattle.sim_core.specs.Opening.{kind_by, kind_in, kinds_of, source_values}
 use Rattle.sim_core.specs.Runs.{IsRunOf, IsEndOf, rest_behind}
 use Rattle.sim_core.proofs.Marking.{table_count, table_kind}
@@ -123,6 +124,9 @@ module _ (p : Plan) (fits : FitsEngine p) (e : Edit) (fit : EditFits p e) (chann
 
     pub fifo_there : IsFifo (channel_at channels e.channel).kind
     fifo_there = subst IsFifo (sym kind_there) (is_fifo_kind (kind_at p e.channel) _ _ fit.fifo)
+
+    pub edit_in : IsEditIn channels e
+    edit_in = record { inside = channel_inside; is_fifo = fifo_there; least = fit.least; most = fit.most }
 
     pub depth_there : depth_of (channel_at channels e.channel).kind ≡ get_or p.depths e.channel 0
     depth_there = ap depth_of kind_there ∙ its_depth (kind_at p e.channel) _ _ fit.fifo

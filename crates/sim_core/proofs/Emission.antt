@@ -1,5 +1,5 @@
 -- A mark of a module, emitted by a Run: what it makes of the core.
-use Rattle.std.proofs.Common.{◌≡◌, refl, sym, ap, subst, ◌∙◌, ℕ, suc, ◌+◌, ◌-◌, ◌^◌, ◌<◌, ◌≤◌, inl, inr, true, false}
+use Rattle.std.proofs.Common.{◌≡◌, refl, sym, ap, subst, ◌∙◌, ℕ, suc, ◌-◌, ◌^◌, ◌<◌, ◌≤◌, inl, inr, true, false}
 use Rattle.std.proofs.Common.{List, length, get_or, set, Option, Some, None, is_some, arith}
 use Rattle.std.proofs.lemmas.Bool.{both_ways, cond-false}
 use Rattle.std.proofs.lemmas.Bool.Decides.{eqb_tells}
@@ -9,12 +9,12 @@ use Rattle.flow_design.specs.declared.plan.Plan.{Plan}
 use Rattle.flow_design.specs.declared.state.ModuleState.{ModuleState}
 use Rattle.flow_design.specs.declared.state.Advance.{Advance}
 use Rattle.flow_design.specs.declared.state.Advance.TheVariants.{Step}
-use Rattle.flow_design.specs.declared.state.Reply.{Reply}
 use Rattle.event_graph.specs.Lanes.{gap_bound}
 use Rattle.lockstep_defs.specs.Machine.{is_over}
 use Rattle.lockstep_defs.specs.OwnRun.{Own}
 use Rattle.module_interp.specs.declared.run.ModuleRun.{ModuleRun}
-use Rattle.module_interp.specs.OwnRests.{next_rest, mark_at}
+use Rattle.module_interp.specs.OwnRests.{mark_at}
+use Rattle.module_interp.proofs.Gaps.{least_gap}
 use Rattle.module_interp.specs.Runs.{is_step, gap_of, IsSmallStep}
 use Rattle.event_timing.specs.Machines.{Design, ready}
 use Rattle.event_timing.specs.Core.{Core}
@@ -31,13 +31,13 @@ use Rattle.timing_bridge.proofs.History.{plan_is_design}
 use Rattle.engine_view.specs.Held.{Held, emitted_of, queries_in, core_of}
 use Rattle.engine_view.specs.Shown.{IsSound}
 use Rattle.engine_view.specs.Emitted.{IsNextStep, with_emitted, with_over}
-use Rattle.engine_view.specs.Taking.{kinds_in}
-use Rattle.engine_view.specs.Rooms.{AreApart, HasRoomFor, HasRoom, UsesRoom, query_bound}
-use Rattle.engine_view.specs.Stored.{Stored, held_in}
+use Rattle.engine_view.specs.Rooms.{HasRoom, CanEmit, HasEmitted}
+use Rattle.engine_view.specs.declared.engine.Engine.{Engine}
+use Rattle.engine_view.specs.Engines.{held_in}
 use Rattle.engine_view.proofs.Emitted.{emitted_core}
 use Rattle.engine_view.proofs.Ended.{over_core}
 use Rattle.engine_view.proofs.Assigned.{IsAlike, alike_queries}
-use Rattle.engine_view.proofs.Roomy.{apart_next, room_for_next, room_emitted, room_same, pending_same}
+use Rattle.engine_view.proofs.Roomy.{few_queries, apart_next, room_for_next, room_emitted, room_same, pending_same}
 use Rattle.sim_core.specs.Marks.{IsRestBehind}
 use Rattle.sim_core.specs.Runs.{IsEndOf, IsCore, rest_behind, lent_of, over_of}
 use Rattle.sim_core.proofs.Ahead.{over_of_mark}
@@ -48,15 +48,15 @@ use Rattle.sim_core.proofs.Staying.{fed_is}
 use Rattle.sim_core.proofs.Keeping.{core_acted}
 
 -- a Run of a module whose run is out of the core is permitted
-pub record IsReady (p : Plan) (s : Stored) (ends : List (Option Advance)) (runs : List (Option ModuleRun)) (credits : List ℕ) (m : ℕ)
+pub record IsReady (p : Plan) (s : Engine) (ends : List (Option Advance)) (runs : List (Option ModuleRun)) (m : ℕ)
     : Type 0 where
-  pub core : IsCore p s ends runs credits
+  pub core : IsCore p s ends runs
   pub inside : m < length s.graph.lanes
   pub lent : get_or (lent_of runs) m true ≡ true
   pub may : MayRun (design p) (core_of (design p) (held_in s (over_of ends))) m
 
-module _ (p : Plan) (s : Stored) (ends : List (Option Advance)) (runs : List (Option ModuleRun)) (credits : List ℕ) (m : ℕ)
-    (r : IsReady p s ends runs credits m) where
+module _ {p : Plan} {s : Engine} {ends : List (Option Advance)} {runs : List (Option ModuleRun)} {m : ℕ}
+    (r : IsReady p s ends runs m) where
   abbrev d : Design ModuleState
   d = design p
 
@@ -83,8 +83,7 @@ module _ (p : Plan) (s : Stored) (ends : List (Option Advance)) (runs : List (Op
 
   -- ---- a step
 
-  module _ (t : StepOf) (mark : mark_at p m rest ≡ Step t) (short : rest.since < 10 ^ 18) (small : IsSmallStep t)
-      (least : (o : Own) (qs : List Reply) → 1 ≤ (next_rest p m o qs).since) where
+  module _ {t : StepOf} (mark : mark_at p m rest ≡ Step t) (short : rest.since < 10 ^ 18) (small : IsSmallStep t) where
     abbrev g : Held
     g = with_emitted h m t
 
@@ -92,7 +91,7 @@ module _ (p : Plan) (s : Stored) (ends : List (Option Advance)) (runs : List (Op
     behind_a_step l =
         let e : emitted_of h m ≡ suc (emitted_of h m - 1) = omega arith in
         subst (λ (n : ℕ). 1 ≤ (rest_behind p x m n).since) (sym e) (subst (λ (o : Own). 1 ≤ o.since)
-        (sym (fed_is p x m (emitted_of h m - 1))) (least _ _))
+        (sym (fed_is p x m (emitted_of h m - 1))) (least_gap p m _ _))
 
     next : IsNextStep d h m t × (d.is_over m (ready d m (newest d x m)) ≡ false)
     next = next_step p r.core.fits h r.core.table r.core.sound marks m rest t behind short (let f = small.few in omega arith) behind_a_step
@@ -116,33 +115,54 @@ module _ (p : Plan) (s : Stored) (ends : List (Option Advance)) (runs : List (Op
     pub step_acts : Acts d p.cycles x (Run m) (core_of d g)
     step_acts = (r.may, core_is.0)
 
-    pub step_apart : AreApart t.accesses
-    step_apart = apart_next d (plan_is_design p r.core.fits) h m t step_is
+    emitted_is : {f : Engine} → HasEmitted s m t f → held_in f (over_of ends) ≡ g
+    emitted_is e = rw (e.lanes, e.channels, e.log) refl
 
-    pub step_room : 2 ≤ get_or credits m 0 → HasRoomFor s.table t.accesses
-    step_room l = room_for_next d (plan_is_design p r.core.fits) h m t step_is s.graph.rooms s.table s.log.rooms credits r.core.room
-        (omega arith)
+    pub acts_to : {f : Engine} → HasEmitted s m t f → Acts d p.cycles x (Run m) (core_of d (held_in f (over_of ends)))
+    acts_to e = (r.may, subst (λ (q : Held). core_of d q ≡ after_run d x m) (sym (emitted_is e)) core_is.0)
 
-    -- what is stored with the step, with the room that it left
-    pub step_core : (u : Stored) → held_in u (over_of ends) ≡ g → kinds_in u.table.channels ≡ kinds_in s.table.channels
-        → 2 ≤ get_or credits m 0
-        → UsesRoom m t.accesses s.graph.rooms u.graph.rooms s.table u.table → u.log.rooms ≡ s.log.rooms
-        → queries_in t.accesses ≤ get_or s.log.rooms m 0 → t.first_query + queries_in t.accesses < query_bound
-        → IsCore p u ends runs (set credits m (get_or credits m 0 - 2))
-    step_core u is kinds rich used logs log_room small =
-        core_acted p s u ends ends runs credits (set credits m (get_or credits m 0 - 2)) r.core (Run m)
-        (subst (λ (q : Held). Acts d p.cycles x (Run m) (core_of d q)) (sym is) step_acts) (subst (IsSound d) (sym is) core_is.1) kinds
-        (length-set credits m (get_or credits m 0 - 2))
-        (subst (λ (q : Held). HasRoom d q u.graph.rooms u.table u.log.rooms (set credits m (get_or credits m 0 - 2))) (sym is)
-        (subst (λ (ls : List ℕ). HasRoom d g u.graph.rooms u.table ls (set credits m (get_or credits m 0 - 2))) (sym logs)
-        (room_emitted d (plan_is_design p r.core.fits) h m t r.inside r.core.sound step_is marks r.may next.1 s.graph.rooms u.graph.rooms
-        s.table u.table s.log.rooms credits r.core.room
-        (let n = r.core.counted in let i = r.inside in omega arith) rich used log_room small)))
+    -- there is room for it
+    pub can_emit : 2 ≤ get_or s.credits.items m 0 → CanEmit s m t
+    can_emit rich =
+        let logs = r.core.sound.logs in
+        let lanes = r.core.sound.lanes in
+        let count = r.core.counted in
+        let inside = r.inside in
+        record {
+          owner = record { lane = r.inside; log = omega arith; credit = omega arith };
+          sound = step_is.sound;
+          after = step_is.apart;
+          takes = record {
+            inside = step_is.inside;
+            apart = apart_next d (plan_is_design p r.core.fits) h m t step_is;
+            room = room_for_next d (plan_is_design p r.core.fits) h m t step_is s.graph.rooms s.fifos s.log.rooms s.credits.items
+                r.core.room (omega arith);
+          };
+          lane_room = let l = r.core.room.steps m in omega arith;
+          credit = rich;
+          few = let f = small.first_query in omega arith;
+        }
+
+    -- so it is a core with the step
+    pub step_core : {f : Engine} → HasEmitted s m t f → 2 ≤ get_or s.credits.items m 0
+        → queries_in t.accesses ≤ get_or s.log.rooms m 0 → IsCore p f ends runs
+    step_core {f} e rich log_room =
+        let first = small.first_query in
+        let few = few_queries t.accesses in
+        let most = small.few in
+        let is = emitted_is e in
+        let count = length-set s.credits.items m (get_or s.credits.items m 0 - 2) in
+        core_acted r.core f ends (Run m)
+        (acts_to e) (subst (IsSound d) (sym is) core_is.1) e.kinds
+        (ap (λ (cs : List ℕ). length cs) e.credits ∙ count)
+        (rw (is, e.log, e.credits) (room_emitted d (plan_is_design p r.core.fits) h m t r.inside r.core.sound step_is marks r.may next.1
+        s.graph.rooms f.graph.rooms s.fifos f.fifos s.log.rooms s.credits.items r.core.room
+        (let n = r.core.counted in let i = r.inside in omega arith) rich e.room log_room (omega arith)))
         (λ n other there. (others_out n other there, tt)) (λ n mark there. inl there)
 
   -- ---- the end
 
-  module _ (end : Advance) (mark : end ≡ mark_at p m rest) (over : is_step end ≡ false) (short : gap_of end < gap_bound) where
+  module _ {end : Advance} (mark : end ≡ mark_at p m rest) (over : is_step end ≡ false) (short : gap_of end < gap_bound) where
     abbrev ends_now : List (Option Advance)
     ends_now = set ends m (Some end)
 
@@ -174,11 +194,11 @@ module _ (p : Plan) (s : Stored) (ends : List (Option Advance)) (runs : List (Op
     alike : IsAlike (with_over h m) h
     alike = record { steps = λ n. refl; channels = refl; logs = refl }
 
-    pub end_core : IsCore p s ends_now runs credits
+    pub end_core : IsCore p s ends_now runs
     end_core =
-        core_acted p s s ends ends_now runs credits credits r.core (Run m) end_acts (subst (IsSound d) (sym held_is) over_is.1) refl refl
-        (subst (λ (q : Held). HasRoom d q s.graph.rooms s.table s.log.rooms credits) (sym held_is)
-        (room_same d h (with_over h m) s.graph.rooms s.graph.rooms s.table s.log.rooms credits r.core.room refl
+        core_acted r.core s ends_now (Run m) end_acts (subst (IsSound d) (sym held_is) over_is.1) refl refl
+        (subst (λ (q : Held). HasRoom d q s.graph.rooms s.fifos s.log.rooms s.credits.items) (sym held_is)
+        (room_same d h (with_over h m) s.graph.rooms s.graph.rooms s.fifos s.log.rooms s.credits.items r.core.room refl
         (λ n. pending_same (core_of d (with_over h m)) x n refl (λ k. refl))
         (λ n. alike_queries (with_over h m) h alike n (emitted_of h n)) (λ n. refl) (λ k. omega arith)))
         (λ n other there. (others_out n other there, tt))

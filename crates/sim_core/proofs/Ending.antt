@@ -18,7 +18,8 @@ use Rattle.event_timing.specs.Core.{Core}
 use Rattle.event_timing.specs.Actions.{IsFinal}
 use Rattle.timing_bridge.specs.Designs.{design}
 use Rattle.engine_view.specs.Held.{core_of}
-use Rattle.engine_view.specs.Stored.{Stored, held_in}
+use Rattle.engine_view.specs.declared.engine.Engine.{Engine}
+use Rattle.engine_view.specs.Engines.{held_in}
 use Rattle.engine_report.specs.Standings.{end_at, gap_of}
 use Rattle.engine_report.specs.Finished.{IsEndMark, IsFinished}
 use Rattle.sim_core.specs.Marks.{IsRestBehind}
@@ -45,8 +46,8 @@ short_mark (Some (Step t)) f = omega arith
 short_mark (Some (Ended n)) f = f (Ended n) refl
 short_mark (Some (Spent n)) f = f (Spent n) refl
 
-module _ (p : Plan) (s : Stored) (ends : List (Option Advance)) (runs : List (Option ModuleRun)) (credits : List ℕ)
-    (k : IsCore p s ends runs credits) where
+module _ (p : Plan) (s : Engine) (ends : List (Option Advance)) (runs : List (Option ModuleRun))
+    (k : IsCore p s ends runs) where
   abbrev x : Core ModuleState
   x = core_of (design p) (held_in s (over_of ends))
 
@@ -63,7 +64,7 @@ module _ (p : Plan) (s : Stored) (ends : List (Option Advance)) (runs : List (Op
   pub finished : IsFinal (design p) p.cycles x → IsFinished p (held_in s (over_of ends)) ends
   finished final = record {
     fits = k.fits;
-    channels = table_count p s.table.channels k.table;
+    channels = table_count p s.fifos.channels k.table;
     sound = k.sound;
     agreed = k.agreed;
     final = final;

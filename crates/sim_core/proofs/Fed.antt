@@ -1,6 +1,6 @@
 -- A run that waits is fed with the replies that are found for its newest step.
 use Rattle.std.proofs.Common.{◌≡◌, refl, sym, ap, subst, ◌∙◌, ℕ, suc, ◌+◌, ◌-◌, ◌<◌, ◌≤◌, inl, inr, Bool, true, false, cond, ltb}
-use Rattle.std.proofs.Common.{◌&&◌, List, [], ◌∷◌, length, map, drop, get_or, arith, length-drop}
+use Rattle.std.proofs.Common.{◌&&◌, List, [], ◌∷◌, length, map, drop, get_or, is_some, arith, length-drop}
 use Rattle.std.specs.Prelude.{All, Option, Some, None, slice_get}
 use Rattle.std.proofs.lemmas.Option.{get_or_from_slice_get}
 use Rattle.flow_word.specs.declared.access.Step.{Step}
@@ -11,8 +11,8 @@ use Rattle.std.proofs.lemmas.Bool.Decides.{eqb_tells}
 use Rattle.std.proofs.lemmas.List.Elements.{All-head, All-tail}
 use Rattle.flow_word.specs.declared.access.Access.{Access}
 use Rattle.flow_word.specs.declared.access.Kind.{Kind}
-use Rattle.flow_design.specs.StaticRules.{FitsEngine}
 use Rattle.flow_design.specs.declared.plan.Plan.{Plan}
+use Rattle.flow_design.specs.declared.state.Advance.{Advance}
 use Rattle.flow_design.specs.declared.state.ModuleState.{ModuleState}
 use Rattle.flow_design.specs.declared.state.Reply.{Reply}
 use Rattle.flow_design.specs.declared.state.Request.{Request}
@@ -42,7 +42,9 @@ use Rattle.engine_view.specs.Shown.{IsSound, queries_before}
 use Rattle.engine_view.proofs.Reading.{reply_is}
 use Rattle.engine_view.proofs.Answered.{among_is}
 use Rattle.sim_core.specs.Found.{replies_now}
-use Rattle.sim_core.specs.Runs.{IsRunOf, IsAnswered, rest_behind}
+use Rattle.engine_view.specs.declared.engine.Engine.{Engine}
+use Rattle.engine_view.specs.Engines.{held_in}
+use Rattle.sim_core.specs.Runs.{IsRunOf, IsAnswered, IsCore, over_of, rest_behind}
 use Rattle.sim_core.proofs.Replying.{replies_found, AreAsMany, found_fit}
 use Rattle.sim_core.proofs.Resting.{rest_is}
 use Rattle.sim_core.proofs.Staying.{tell, fed_is}
@@ -106,7 +108,7 @@ there_same channels V t (a ∷ xs) (b ∷ bs) o v =
 
 -- ---- a step
 
-module _ (p : Plan) (h : Held) (s : IsSound (design p) h) (b : AreOwnMarks (design p) (core_of (design p) h))
+module _ (p : Plan) {h : Held} (s : IsSound (design p) h) (b : AreOwnMarks (design p) (core_of (design p) h))
     (i k : ℕ) (less : k < emitted_of h i) where
   abbrev d : theory.Design ModuleState
   d = design p
@@ -147,8 +149,8 @@ module _ (p : Plan) (h : Held) (s : IsSound (design p) h) (b : AreOwnMarks (desi
       elim (among_is (step_of h i k) (length (log_at h.logs i).outcomes) a) [ inl q ↦ omega arith | inr q ↦ omega arith ]
 
   -- the replies that are found are those that the core tells
-  pub found_told : (rs : List Reply) → replies_now h.channels step_accesses os ≡ Some rs → rs ≡ tell p x i k
-  found_told rs e = (are_found h.channels step_accesses os rs e).replies ∙ sym tell_is
+  pub found_told : {rs : List Reply} → replies_now h.channels step_accesses os ≡ Some rs → rs ≡ tell p x i k
+  found_told {rs} e = (are_found h.channels step_accesses os rs e).replies ∙ sym tell_is
 
   -- all are found where the step's outcomes are recorded and its values are there
   pub are_told : i < length p.design.modules → x.answered i k ≡ true → values_there d x i k ≡ true
@@ -159,8 +161,17 @@ module _ (p : Plan) (h : Held) (s : IsSound (design p) h) (b : AreOwnMarks (desi
 
 -- ---- the step that waits
 
-module _ (p : Plan) (fits : FitsEngine p) (h : Held) (s : IsSound (design p) h) (b : AreOwnMarks (design p) (core_of (design p) h))
-    (i k : ℕ) (newest : suc k ≡ emitted_of h i) (inside : i < length p.design.modules) where
+module _ {p : Plan} {engine : Engine} {ends : List (Option Advance)} {runs : List (Option ModuleRun)} (core : IsCore p engine ends runs)
+    {i k : ℕ} (newest : suc k ≡ emitted_of (held_in engine (over_of ends)) i) (inside : i < length p.design.modules) where
+  abbrev h : Held
+  h = held_in engine (over_of ends)
+
+  abbrev now : Core ModuleState
+  now = core_of (design p) h
+
+  abbrev rest : Own
+  rest = rest_behind p now i k
+
   emitted : k < emitted_of h i
   emitted = omega arith
 
@@ -170,34 +181,37 @@ module _ (p : Plan) (fits : FitsEngine p) (h : Held) (s : IsSound (design p) h) 
   abbrev told_so_far : List Bool
   told_so_far = drop (step_of h i k).first_query (log_at h.logs i).outcomes
 
-  pub state_is : (rest_behind p (core_of (design p) h) i k).state ≡ (core_of (design p) h).state i k
-  state_is = (rest_is p fits (core_of (design p) h) b i inside k k (omega arith) (omega arith)).state ∙ sym (b.own_step i k emitted)
+  pub state_is : rest.state ≡ now.state i k
+  state_is =
+      (rest_is p core.fits now core.agreed.marks i inside k k (omega arith) (omega arith)).state
+      ∙ sym (core.agreed.marks.own_step i k emitted)
 
   -- all replies are found
-  pub fed_fits : (rs : List Reply) → replies_now h.channels waiting told_so_far ≡ Some rs
-      → all_fit (accesses_at p i (rest_behind p (core_of (design p) h) i k)) rs ≡ true
-  fed_fits rs e =
+  pub fed_fits : {rs : List Reply} → replies_now h.channels waiting told_so_far ≡ Some rs
+      → all_fit (accesses_at p i rest) rs ≡ true
+  fed_fits {rs} e =
       let f = are_found h.channels waiting told_so_far rs e in
-      ap (λ (q : List Reply). all_fit (accesses_at p i (rest_behind p (core_of (design p) h) i k)) q) f.replies
-      ∙ (fit_same (done_in (rest_behind p (core_of (design p) h) i k).steps)
-      (requests_of p (i, (rest_behind p (core_of (design p) h) i k).state)) waiting _
-      (ap (λ (z : ModuleState). map bridge.seen (requests_of p (i, z))) state_is ∙ seen_same p h s b i k emitted)
-      ∙ found_fit h.channels waiting (flags_of h i k) (as_many waiting (flags_of h i k) (flags_fit p h s b i k emitted)))
+      ap (λ (q : List Reply). all_fit (accesses_at p i rest) q) f.replies
+      ∙ (fit_same (done_in rest.steps)
+      (requests_of p (i, rest.state)) waiting _
+      (ap (λ (z : ModuleState). map bridge.seen (requests_of p (i, z))) state_is ∙ seen_same p core.sound core.agreed.marks i k emitted)
+      ∙ found_fit h.channels waiting (flags_of h i k) (as_many waiting (flags_of h i k)
+      (flags_fit p core.sound core.agreed.marks i k emitted)))
 
-  pub fed_rest : (rs : List Reply) → replies_now h.channels waiting told_so_far ≡ Some rs
-      → next_rest p i (rest_behind p (core_of (design p) h) i k) rs ≡ rest_behind p (core_of (design p) h) i (emitted_of h i)
-  fed_rest rs e =
-      ap (next_rest p i (rest_behind p (core_of (design p) h) i k)) (found_told p h s b i k emitted rs e)
-      ∙ (sym (fed_is p (core_of (design p) h) i k) ∙ ap (rest_behind p (core_of (design p) h) i) newest)
+  pub fed_rest : {rs : List Reply} → replies_now h.channels waiting told_so_far ≡ Some rs
+      → next_rest p i rest rs ≡ rest_behind p now i (emitted_of h i)
+  fed_rest {rs} e =
+      ap (next_rest p i rest) (found_told p core.sound core.agreed.marks i k emitted e)
+      ∙ (sym (fed_is p now i k) ∙ ap (rest_behind p now i) newest)
 
-  pub fed_answered : (rs : List Reply) → replies_now h.channels waiting told_so_far ≡ Some rs → IsAnswered p (core_of (design p) h) i
-  fed_answered rs e j q =
+  pub fed_answered : {rs : List Reply} → replies_now h.channels waiting told_so_far ≡ Some rs → IsAnswered p now i
+  fed_answered {rs} e j q =
       let f = are_found h.channels waiting told_so_far rs e in
       let same : j ≡ k = omega arith in (
-        subst (λ (n : ℕ). (core_of (design p) h).answered i n ≡ true) (sym same)
+        subst (λ (n : ℕ). now.answered i n ≡ true) (sym same)
             (and_from (ltb k (emitted_of h i)) _ (lt-ltb k (emitted_of h i) emitted) (among f.enough)),
-        subst (λ (n : ℕ). values_there (design p) (core_of (design p) h) i n ≡ true) (sym same)
-            (there_is p h s b i k emitted inside ∙ f.there),
+        subst (λ (n : ℕ). values_there (design p) now i n ≡ true) (sym same)
+            (there_is p core.sound core.agreed.marks i k emitted inside ∙ f.there),
       )
     where
       among : queries_in waiting ≤ length told_so_far → are_among (step_of h i k) (length (log_at h.logs i).outcomes) ≡ true
@@ -210,65 +224,90 @@ module _ (p : Plan) (fits : FitsEngine p) (h : Held) (s : IsSound (design p) h) 
           ]
 
   -- or some are not there
-  pub not_fed : replies_now h.channels waiting told_so_far ≡ None → MayRun (design p) (core_of (design p) h) i → ⊥
-  not_fed e may = are_told p h s b i k emitted inside (may.answered k newest) (may.there k newest) e
+  pub not_fed : replies_now h.channels waiting told_so_far ≡ None → IsAnswered p now i → ⊥
+  not_fed e answered =
+      let (recorded, there) = answered k newest in are_told p core.sound core.agreed.marks i k emitted inside recorded there e
+
+  module _ {step : Step} (there : slice_get (lane_at h.lanes i).steps k ≡ Some step) where
+    step_is : step_of h i k ≡ step
+    step_is = get_or_from_slice_get (lane_at h.lanes i).steps k step no_step there
+
+    abbrev replies_of : Step → Option (List Reply)
+    replies_of t = replies_now h.channels t.accesses (drop t.first_query (log_at h.logs i).outcomes)
+
+    pub newest_inside : All (IsAccess h.channels) step.accesses
+    newest_inside = subst (λ (t : Step). All (IsAccess h.channels) t.accesses) step_is
+        (accesses_inside p core.sound core.agreed.marks i k emitted inside)
+
+    pub newest_few : queries_before h i (emitted_of h i) < query_bound → step.first_query < query_bound
+    newest_few few =
+        let first = core.sound.first_query i k emitted in
+        let most = queries_mono h i k (emitted_of h i) (omega arith) in
+        subst (λ (t : Step). t.first_query < query_bound) step_is (omega arith)
+
+    pub newest_found : {o : Option (List Reply)} → o ≡ replies_of step → is_some o ≡ true → IsAnswered p now i
+    newest_found {o = None} e q = cc
+    newest_found {o = Some rs} e q = fed_answered (ap replies_of step_is ∙ sym e)
+
+    pub newest_missed : {o : Option (List Reply)} → o ≡ replies_of step → is_some o ≡ false → IsAnswered p now i → ⊥
+    newest_missed {o = None} e q = not_fed (ap replies_of step_is ∙ sym e)
+    newest_missed {o = Some rs} e q = cc
 
 -- ---- the step that a run is asked about
 
-module _ (p : Plan) (fits : FitsEngine p) (h : Held) (s : IsSound (design p) h) (b : AreOwnMarks (design p) (core_of (design p) h)) (i : ℕ)
-    (inside : i < length h.lanes) (run : ModuleRun)
-    (r : IsRunOf p (core_of (design p) h) i run) (w : waits run ≡ true) where
-  abbrev k : ℕ
-  k = emitted_of h i - 1
+module _ {p : Plan} {engine : Engine} {ends : List (Option Advance)} {runs : List (Option ModuleRun)} (core : IsCore p engine ends runs)
+    {i : ℕ} (inside : i < length engine.graph.lanes) {run : ModuleRun}
+    (r : IsRunOf p (core_of (design p) (held_in engine (over_of ends))) i run) (w : waits run ≡ true) where
+  abbrev g : Held
+  g = held_in engine (over_of ends)
 
-  pub asked_some : suc k ≡ emitted_of h i
+  abbrev k : ℕ
+  k = emitted_of g i - 1
+
+  pub asked_some : suc k ≡ emitted_of g i
   asked_some = let (n, newest, stands) = r.waiting w in omega arith
 
   within : i < length p.design.modules
-  within = let n = s.lanes in omega arith
+  within = let n = core.sound.lanes in omega arith
 
-  pub asked_stands : StandsAt p i (rest_behind p (core_of (design p) h) i k) run
+  pub asked_stands : StandsAt p i (rest_behind p (core_of (design p) g) i k) run
   asked_stands =
       let (n, newest, stands) = r.waiting w in
       let same : n ≡ k = omega arith in
-      subst (λ (j : ℕ). StandsAt p i (rest_behind p (core_of (design p) h) i j) run) same stands
+      subst (λ (j : ℕ). StandsAt p i (rest_behind p (core_of (design p) g) i j) run) same stands
 
-  module _ (step : Step) (there : slice_get (lane_at h.lanes i).steps k ≡ Some step) where
-    is : step_of h i k ≡ step
-    is = get_or_from_slice_get (lane_at h.lanes i).steps k step no_step there
+  module _ {step : Step} (there : slice_get (lane_at g.lanes i).steps k ≡ Some step) where
+    is : step_of g i k ≡ step
+    is = get_or_from_slice_get (lane_at g.lanes i).steps k step no_step there
 
     abbrev found : Step → Option (List Reply)
-    found t = replies_now h.channels t.accesses (drop t.first_query (log_at h.logs i).outcomes)
+    found t = replies_now g.channels t.accesses (drop t.first_query (log_at g.logs i).outcomes)
 
-    pub asked_inside : All (IsAccess h.channels) step.accesses
-    asked_inside = let e = asked_some in
-        subst (λ (t : Step). All (IsAccess h.channels) t.accesses) is (s.inside i no_lane inside k no_step (omega arith))
+    pub asked_inside : All (IsAccess g.channels) step.accesses
+    asked_inside = newest_inside core asked_some within there
 
-    pub asked_few : queries_before h i (emitted_of h i) < query_bound → step.first_query < query_bound
-    asked_few few =
-        let e = asked_some in
-        let first = s.first_query i k (omega arith) in
-        let most = queries_mono h i k (emitted_of h i) (omega arith) in
-        subst (λ (t : Step). t.first_query < query_bound) is (omega arith)
+    pub asked_few : queries_before g i (emitted_of g i) < query_bound → step.first_query < query_bound
+    asked_few = newest_few core asked_some within there
 
-    pub asked_not_fed : found step ≡ None → MayRun (design p) (core_of (design p) h) i → ⊥
-    asked_not_fed e = not_fed p fits h s b i k asked_some within (ap found is ∙ e)
+    pub asked_not_fed : found step ≡ None → MayRun (design p) (core_of (design p) g) i → ⊥
+    asked_not_fed e may =
+        not_fed core asked_some within (ap found is ∙ e) (λ j q. (may.answered j q, may.there j q))
 
-    pub asked_fits : (rs : List Reply) → found step ≡ Some rs → all_fit (accesses_at p i (rest_behind p (core_of (design p) h) i k))
+    pub asked_fits : {rs : List Reply} → found step ≡ Some rs → all_fit (accesses_at p i (rest_behind p (core_of (design p) g) i k))
         rs ≡ true
-    asked_fits rs e = fed_fits p fits h s b i k asked_some within rs (ap found is ∙ e)
+    asked_fits e = fed_fits core asked_some within (ap found is ∙ e)
 
     -- fed, the run goes on to the next rest
-    pub asked_run : (rs : List Reply) → found step ≡ Some rs → (new : ModuleRun)
+    pub asked_run : {rs : List Reply} → found step ≡ Some rs → {new : ModuleRun}
         → ((q : Plan) (j : ℕ) (o : Own) → StandsAt q j o run → StandsAt q j (next_rest q j o rs) new) → waits new ≡ false
-        → IsRunOf p (core_of (design p) h) i new
-    asked_run rs e new go answered =
-        let e' : found (step_of h i k) ≡ Some rs = ap found is ∙ e in
+        → IsRunOf p (core_of (design p) g) i new
+    asked_run {rs} e {new} go answered =
+        let e' : found (step_of g i k) ≡ Some rs = ap found is ∙ e in
         record {
           waiting = λ q. absurd (both_ways _ answered q);
           going = λ q. (
-            fed_answered p fits h s b i k asked_some within rs e',
-            subst (λ (o : Own). StandsAt p i o new) (fed_rest p fits h s b i k asked_some within rs e') (go p i _ asked_stands),
+            fed_answered core asked_some within e',
+            subst (λ (o : Own). StandsAt p i o new) (fed_rest core asked_some within e') (go p i _ asked_stands),
           );
           over = λ q. answered;
         }

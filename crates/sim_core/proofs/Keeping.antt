@@ -17,7 +17,8 @@ use Rattle.timing_bridge.proofs.History.{plan_is_design, run_is_history}
 use Rattle.engine_view.specs.Held.{core_of}
 use Rattle.engine_view.specs.Shown.{IsSound}
 use Rattle.engine_view.specs.Rooms.{IsRoomy}
-use Rattle.engine_view.specs.Stored.{Stored, held_in}
+use Rattle.engine_view.specs.declared.engine.Engine.{Engine}
+use Rattle.engine_view.specs.Engines.{held_in}
 use Rattle.engine_view.specs.Taking.{kinds_in}
 use Rattle.engine_view.specs.Kept.{IsKept}
 use Rattle.sim_core.specs.Runs.{IsCore, IsEndOf, over_of}
@@ -38,12 +39,12 @@ over_at (e ∷ es) zero = refl
 over_at (e ∷ es) (suc m) = over_at es m
 
 -- the conditions of the turns at a module, and of an Earliest
-pub kept_of : (p : Plan) (s : Stored) (ends : List (Option Advance)) (runs : List (Option ModuleRun)) (credits : List ℕ)
-    → IsCore p s ends runs credits → IsKept (design p) (held_in s (over_of ends))
-kept_of p s ends runs credits k = record { sound = k.sound; marks = k.agreed.marks; earlier = k.agreed.time.verified_then }
+pub kept_of : {p : Plan} {s : Engine} {ends : List (Option Advance)} {runs : List (Option ModuleRun)}
+    → IsCore p s ends runs → IsKept (design p) (held_in s (over_of ends))
+kept_of k = record { sound = k.sound; marks = k.agreed.marks; earlier = k.agreed.time.verified_then }
 
-module _ (p : Plan) (s t : Stored) (ends others : List (Option Advance)) (runs : List (Option ModuleRun)) (credits left : List ℕ)
-    (k : IsCore p s ends runs credits) (a : Action) where
+module _ {p : Plan} {s : Engine} {ends : List (Option Advance)} {runs : List (Option ModuleRun)} (k : IsCore p s ends runs) (t : Engine)
+    (others : List (Option Advance)) (a : Action) where
   abbrev d : Design ModuleState
   d = design p
 
@@ -58,11 +59,11 @@ module _ (p : Plan) (s t : Stored) (ends others : List (Option Advance)) (runs :
       none y (y, acts, refl)
 
   -- the runs of other modules stay where they stand, and so do the ends
-  pub core_acted : Acts d p.cycles x a y → IsSound d (held_in t (over_of others)) → kinds_in t.table.channels ≡ kinds_in s.table.channels
-      → length left ≡ length credits → IsRoomy d t (over_of others) left
+  pub core_acted : Acts d p.cycles x a y → IsSound d (held_in t (over_of others)) → kinds_in t.fifos.channels ≡ kinds_in s.fifos.channels
+      → length t.credits.items ≡ length s.credits.items → IsRoomy d t (over_of others)
       → ((m : ℕ) (run : ModuleRun) → get_or runs m None ≡ Some run → IsNoRunOf m (a ∷ []))
       → ((m : ℕ) (mark : Advance) → get_or others m None ≡ Some mark → (get_or ends m None ≡ Some mark) ⊎ IsEndOf p y m mark)
-      → IsCore p t others runs left
+      → IsCore p t others runs
   core_acted acts sound kinds credit room no_run ends_of = record {
     fits = k.fits;
     sound = sound;

@@ -18,7 +18,7 @@ use Rattle.timing_bridge.specs.Designs.{design, lockstep_run}
 use Rattle.timing_bridge.proofs.History.{plan_is_design, run_is_history}
 use Rattle.engine_view.specs.Held.{Held, core_of, values_at}
 use Rattle.engine_view.specs.Shown.{IsSound}
-use Rattle.engine_view.specs.Stored.{Stored}
+use Rattle.engine_view.specs.declared.engine.Engine.{Engine}
 use Rattle.sim_core.specs.declared.unread.Unread.{Unread}
 use Rattle.sim_core.specs.Unread.{none_unread, unread_at, IsUnread, AreUnread}
 use Rattle.sim_core.specs.Returned.{core_in}
@@ -138,8 +138,8 @@ no_runs : (m n : ℕ) → IsNoRunOf (suc m) (runs n m)
 no_runs m zero = tt
 no_runs m (suc n) = ((λ e. absurd (omega arith)), no_runs m n)
 
-module _ (p : Plan) (s : Stored) (ends : List (Option Advance)) (modules : List (Option ModuleRun)) (credits : List ℕ)
-    (k : IsCore p s ends modules credits) (unread : List Unread) (are : AreUnreadIn p s ends unread) where
+module _ (p : Plan) (s : Engine) (ends : List (Option Advance)) (modules : List (Option ModuleRun))
+    (k : IsCore p s ends modules) (unread : List Unread) (are : AreUnreadIn p s ends unread) where
   grown : (m : ℕ) (actions : List Action) → IsNoRunOf m actions → (y : Core ModuleState)
       → ActsAll (design p) p.cycles (core_in p s ends) actions y → AreUnread (core_values (design p) y) (length p.design.channels) unread
   grown m actions o y acts =

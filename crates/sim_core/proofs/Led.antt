@@ -36,8 +36,7 @@ use Rattle.sim_core.specs.Views.{CoreView, theory_of}
 use Rattle.sim_core.specs.Drives.{Goes, IsDiffering}
 use Rattle.sim_core.specs.Edits.{IsAsBefore, IsRetimed, IsChanged}
 use Rattle.sim_core.specs.Records.{IsEditedOn, HasOtherAnswer}
-use Rattle.sim_core.proofs.Causing.{determined_inside}
-use Rattle.sim_core.proofs.Rounds.{acts_join}
+use Rattle.sim_core.proofs.Rounds.{acts_join, determined_inside}
 use Rattle.sim_core.proofs.Cut.{cut_of, cut_stays}
 use Rattle.sim_core.proofs.Logged.{answered_back, outcomes_on}
 use Rattle.sim_core.proofs.Otherwise.{AreOtherAt, other_answer}
@@ -247,7 +246,7 @@ module _ (v : CoreView) (e : Edit) (w : CoreView) (t : IsEditedOn v e w) where
 
     inside : m < length w.held.logs
     inside =
-        let own = determined_inside (design w.plan) w.plan.cycles x t.to.agreed.marks.inside m c at in
+        let own = determined_inside (design w.plan) x t.to.agreed.marks.inside m c at in
         let same = t.to.sound.logs in omega arith
 
     other : AreOtherAt q.number (log_at w.held.logs m).outcomes (get_or (report w.plan).answers m [])

@@ -1,7 +1,6 @@
 -- A core that lends a run.
 use Rattle.std.proofs.Common.{◌≡◌, refl, sym, ap, subst, ◌∙◌, ℕ, zero, suc, ◌<◌, ◌≤◌, true, false, cond, inl, inr, List, [], ◌∷◌}
 use Rattle.std.proofs.Common.{arith, drop, length, get_or, set, slice_index, Option, Some, None, is_none}
-use Rattle.std.specs.Prelude.{Result, Ok, Err, OnOk, IfErr, is_err}
 use Rattle.std.proofs.lemmas.Bool.{cases_Bool, cond-true, cond-false}
 use Rattle.std.proofs.lemmas.List.{map-set}
 use Rattle.flow_word.specs.declared.access.Access.{Access}
@@ -18,7 +17,8 @@ use Rattle.query_log.specs.Logs.{log_at}
 use Rattle.event_timing.specs.Actions.{MayRun}
 use Rattle.timing_bridge.specs.Designs.{design}
 use Rattle.engine_view.specs.Held.{Held, emitted_of, core_of}
-use Rattle.engine_view.specs.Stored.{Stored, held_in}
+use Rattle.engine_view.specs.declared.engine.Engine.{Engine}
+use Rattle.engine_view.specs.Engines.{held_in}
 use Rattle.run_ahead.specs.declared.mail.Mail.{Mail}
 use Rattle.run_ahead.specs.declared.mail.Task.{Task}
 use Rattle.run_ahead.specs.Mails.{values_on}
@@ -52,63 +52,59 @@ is_lent (r ∷ rs) (suc m) e = is_lent rs m e
 -- ---- what was read
 
 -- where a run is at hand, what it counted, and what it waits for
-pub record IsAtHand (p : Plan) (s : Stored) (ends : List (Option Advance)) (runs : List (Option ModuleRun)) (credits : List ℕ) (m : ℕ)
+pub record IsAtHand (p : Plan) (s : Engine) (ends : List (Option Advance)) (runs : List (Option ModuleRun)) (m : ℕ)
     (run : ModuleRun) (readers : List ℕ) (first : ℕ) (popped : List ℕ) (accesses : List Access) : Type 0 where
-  pub core : IsCore p s ends runs credits
+  pub core : IsCore p s ends runs
   pub inside : m < length p.design.modules
   pub may : MayRun (design p) (core_of (design p) (held_in s (over_of ends))) m
-  pub here : get_or runs m None ≡ Some run
+  pub run_is : IsRunOf p (core_of (design p) (held_in s (over_of ends))) m run
   pub readers_are : AreReaders p readers
   pub first_is : (q : Plan) (i : ℕ) (o : Own) → StandsAt q i o run → first ≡ length (queries (done_in o.steps))
   pub popped_are : (q : Plan) (i : ℕ) (o : Own) → StandsAt q i o run → (f : ℕ) → f < length q.design.channels
       → slice_index popped f ≡ length (moved_by Pop f (done_in o.steps))
   pub accesses_are : (q : Plan) (i : ℕ) (o : Own) → StandsAt q i o run → accesses ≡ cond (waits run) (accesses_at q i o) []
 
-module _ (p : Plan) (s : Stored) (ends : List (Option Advance)) (runs : List (Option ModuleRun)) (credits : List ℕ) (m : ℕ)
-    (run : ModuleRun) (readers : List ℕ) (first : ℕ) (popped : List ℕ) (xs : List Access)
-    (k : IsAtHand p s ends runs credits m run readers first popped xs) where
+module _ {p : Plan} {s : Engine} {ends : List (Option Advance)} {runs : List (Option ModuleRun)} {m : ℕ}
+    {run : ModuleRun} {readers : List ℕ} {first : ℕ} {popped : List ℕ} {xs : List Access}
+    (k : IsAtHand p s ends runs m run readers first popped xs) where
   abbrev h : Held
   h = held_in s (over_of ends)
-
-  run_is : IsRunOf p (core_of (design p) h) m run
-  run_is = k.core.runs_are m run k.here
 
   pub task_lent : (mail : Mail) → IsMade (log_at h.logs m).outcomes h.channels readers m first popped xs mail
       → IsTaskOf p (core_of (design p) h) m (record { run = run; mail = mail })
   task_lent mail made =
       elim (cases_Bool (waits run)) [
         | inl w ↦
-            let (j, ej, st) = run_is.waiting w in
+            let (j, ej, st) = k.run_is.waiting w in
             let o = rest_behind p (core_of (design p) h) m j in
-            waiting_posted p k.core.fits h k.core.table k.core.sound k.core.agreed.marks m k.inside run run_is readers k.readers_are first
+            waiting_posted p k.core.fits h k.core.table k.core.sound k.core.agreed.marks m k.inside run k.run_is readers k.readers_are first
             popped xs mail made w j ej (k.accesses_are p m o st ∙ cond-true (waits run) (accesses_at p m o) [] w) (k.first_is p m o st)
             (k.popped_are p m o st) k.may
         | inr w ↦
-            let (answered, st) = run_is.going w in
+            let (answered, st) = k.run_is.going w in
             let o = rest_behind p (core_of (design p) h) m (emitted_of h m) in
-            going_posted p k.core.fits h k.core.table k.core.sound k.core.agreed.marks m k.inside run run_is readers k.readers_are first
+            going_posted p k.core.fits h k.core.table k.core.sound k.core.agreed.marks m k.inside run k.run_is readers k.readers_are first
             popped xs mail made w (k.accesses_are p m o st ∙ cond-false (waits run) (accesses_at p m o) [] w) (k.popped_are p m o st) k.may
       ]
 
 -- the run's counts are one for each channel of the table
-pub popped_count : (p : Plan) (s : Stored) (ends : List (Option Advance)) (runs : List (Option ModuleRun)) (credits : List ℕ)
-    → IsCore p s ends runs credits → (m : ℕ) (run : ModuleRun) → get_or runs m None ≡ Some run → (popped : List ℕ)
+pub popped_count : {p : Plan} {s : Engine} {ends : List (Option Advance)} {runs : List (Option ModuleRun)} → IsCore p s ends runs
+    → {m : ℕ} {run : ModuleRun} → IsRunOf p (core_of (design p) (held_in s (over_of ends))) m run → (popped : List ℕ)
     → ((q : Plan) (i : ℕ) (o : Own) → StandsAt q i o run → length popped ≡ length q.design.channels)
-    → length popped ≡ length s.table.channels
-popped_count p s ends runs credits k m run e popped count =
-    let r = k.runs_are m run e in
+    → length popped ≡ length s.fifos.channels
+popped_count {p} {s} {ends} k {m} {run} r popped count =
     let x = core_of (design p) (held_in s (over_of ends)) in
     elim (cases_Bool (waits run)) [
       | inl w ↦ let (j, ej, st) = r.waiting w in
-          count p m (rest_behind p x m j) st ∙ sym (table_count p s.table.channels k.table)
+          count p m (rest_behind p x m j) st ∙ sym (table_count p s.fifos.channels k.table)
       | inr w ↦ let (answered, st) = r.going w in
-          count p m (rest_behind p x m (x.emitted m)) st ∙ sym (table_count p s.table.channels k.table)
+          count p m (rest_behind p x m (x.emitted m)) st ∙ sym (table_count p s.fifos.channels k.table)
     ]
 
 -- ---- what is left of a mail
 
-module _ (p : Plan) (s : Stored) (ends : List (Option Advance)) (runs : List (Option ModuleRun)) (credits : List ℕ)
-    (k : IsCore p s ends runs credits) (m : ℕ) (inside : m < length p.design.modules) (last : Task)
+module _ {p : Plan} {s : Engine} {ends : List (Option Advance)} {runs : List (Option ModuleRun)}
+    (k : IsCore p s ends runs) {m : ℕ} (inside : m < length p.design.modules) {last : Task}
     (t : IsTaskLeft p (core_of (design p) (held_in s (over_of ends))) m last) (popped : List ℕ) where
   abbrev x : Core ModuleState
   x = core_of (design p) (held_in s (over_of ends))
@@ -140,15 +136,3 @@ module _ (p : Plan) (s : Stored) (ends : List (Option Advance)) (runs : List (Op
         ])) (t.values c)
 
 -- ---- answers
-
-pub same_run : (a b : ModuleRun) (r : Option ModuleRun) → r ≡ Some a → r ≡ Some b → a ≡ b
-same_run a b r e f = cc
-
--- what a call tells, by its answer
-pub refused : {C D : Type 0} (r : Result C D) {P : Type 0} → is_err r ≡ true → IfErr r (λ cause. P → ⊥) → P → ⊥
-refused {C} {D} (Ok a) {P} e f p = cc
-refused {C} {D} (Err b) {P} e f p = f p
-
-pub permitted : {C D : Type 0} (r : Result C D) {P : Type 0} → is_err r ≡ false → OnOk r P → P
-permitted {C} {D} (Ok a) {P} e p = p
-permitted {C} {D} (Err b) {P} e p = cc

@@ -9,10 +9,10 @@ pub mod Leaving
 pub mod Emitting
 pub mod Lending
 pub mod Ports
+pub mod Roomed
 pub mod Turning
 pub mod Rounds
 pub mod TimingRounds
-pub mod Acting
 pub mod Ending
 pub mod Beginning
 pub mod Cut
@@ -38,11 +38,6 @@ pub mod Posted
 pub mod Lends
 pub mod Emission
 pub mod Returning
-pub mod Firsts
-pub mod Causing
-pub mod Seeking
-pub mod Looking
-pub mod Permitting
 pub mod AccessLogs
 pub mod Given
 pub mod SetFew

@@ -1,7 +1,6 @@
 -- Marks that come back, one after the other.
-use Rattle.std.proofs.Common.{◌≡◌, refl, sym, ap, subst, ◌∙◌, ℕ, suc, ◌+◌, ◌*◌, ◌^◌, ◌<◌, ◌≤◌, ◌⊎◌, inl, inr, Bool, true}
-use Rattle.std.proofs.lemmas.List.{drop_all as all_dropped}
-use Rattle.std.proofs.Common.{List, [], ◌∷◌, length, drop, drop-set-lt, get_or, set, slice_get, Option, Some, arith}
+use Rattle.std.proofs.Common.{◌≡◌, refl, sym, ap, subst, ◌∙◌, ℕ, suc, ◌+◌, ◌*◌, ◌^◌, ◌<◌, ◌≤◌, ◌⊎◌, inl, inr, Bool, true, false}
+use Rattle.std.proofs.Common.{List, [], ◌∷◌, length, drop, drop-set-lt, get_or, set, Option, Some, arith}
 use Rattle.std.proofs.lemmas.Bool.{cases_Bool}
 use Rattle.flow_word.specs.declared.access.Step.{Step as StepOf}
 use Rattle.flow_design.specs.declared.plan.Plan.{Plan}
@@ -21,7 +20,8 @@ use Rattle.event_timing.specs.Agreement.{AreOwnMarks}
 use Rattle.event_timing.proofs.Running.{run_marks}
 use Rattle.timing_bridge.specs.Designs.{design}
 use Rattle.engine_view.specs.Held.{Held, queries_in, core_of}
-use Rattle.engine_view.specs.Stored.{Stored, held_in}
+use Rattle.engine_view.specs.declared.engine.Engine.{Engine}
+use Rattle.engine_view.specs.Engines.{held_in}
 use Rattle.run_ahead.specs.declared.mail.Mail.{Mail}
 use Rattle.run_ahead.specs.declared.mail.Task.{Task}
 use Rattle.run_ahead.specs.declared.mail.Burst.{Burst}
@@ -31,35 +31,54 @@ use Rattle.sim_core.specs.Returned.{core_in, most_queries, HasRoomForMarks, IsNe
 use Rattle.sim_core.specs.Runs.{IsCore, rest_behind, over_of, lent_of}
 use Rattle.sim_core.specs.Tasks.{IsTaskFor, IsTaskLeft, rest_of}
 use Rattle.sim_core.proofs.Ahead.{Goes, Waits, waits_behind, over_behind, goes_on, waiting_stands, going_stands, over_stands}
-use Rattle.sim_core.proofs.Posting.{drop_some}
 use Rattle.sim_core.proofs.Tasks.{waits_first, goes_first}
 use Rattle.sim_core.proofs.Emission.{IsReady}
+use Rattle.sim_core.proofs.Emission as emission
+use Rattle.engine_view.specs.Rooms.{CanEmit, HasEmitted}
+use Rattle.engine_view.proofs.Roomy.{few_queries}
 use Rattle.module_interp.proofs.Sound.{gap_at}
 
 -- ---- one mark
 
-module _ (p : Plan) (s : Stored) (ends : List (Option Advance)) (runs : List (Option ModuleRun)) (credits : List ℕ) (m : ℕ)
-    (mark : Advance) (n : IsNextMark p s ends runs credits m mark) where
+module _ {p : Plan} {s : Engine} {ends : List (Option Advance)} {runs : List (Option ModuleRun)} {m : ℕ}
+    {mark : Advance} (n : IsNextMark p s ends runs m mark) where
   abbrev rest : Own
   rest = rest_behind p (core_in p s ends) m ((core_in p s ends).emitted m)
 
-  pub may_record : m < length s.graph.lanes → IsReady p s ends runs credits m
+  pub may_record : m < length s.graph.lanes → IsReady p s ends runs m
   may_record l = record { core = n.room.core; inside = l; lent = n.room.lent; may = n.may }
 
   pub short_rest : rest.since < 10 ^ 18
   short_rest = let g = gap_at p m rest in let e = ap gap_of n.is in let l = n.sound.short in omega arith
 
-  pub small_step : (t : StepOf) → mark ≡ Step t → IsSmallStep t
-  small_step t e = subst IsSmall e n.sound.small
+  pub small_step : {t : StepOf} → mark ≡ Step t → IsSmallStep t
+  small_step e = subst IsSmall e n.sound.small
 
-  pub mark_step : (t : StepOf) → mark ≡ Step t → mark_at p m rest ≡ Step t
-  mark_step t e = sym n.is ∙ e
+  pub mark_step : {t : StepOf} → mark ≡ Step t → mark_at p m rest ≡ Step t
+  mark_step e = sym n.is ∙ e
 
-pub acts_in : (p : Plan) (before after there : Held) (m : ℕ) → after ≡ there
-    → Acts (design p) p.cycles (core_of (design p) before) (Run m) (core_of (design p) there)
-    → Acts (design p) p.cycles (core_of (design p) before) (Run m) (core_of (design p) after)
-acts_in p before after there m e a =
-    rw e a
+  -- a step can be emitted, and leads to a core; so does an end
+  module _ (inside : m < length s.graph.lanes) where
+    module _ {t : StepOf} (e : mark ≡ Step t) where
+      pub step_fits : CanEmit s m t
+      step_fits = emission.can_emit (may_record inside) (mark_step e) short_rest (small_step e) n.room.places
+
+      pub core_emitted : {f : Engine} → HasEmitted s m t f → IsCore p f ends runs
+      core_emitted done =
+          let few = few_queries t.accesses in
+          let most = (small_step e).few in
+          let outcomes = n.room.outcomes in
+          emission.step_core (may_record inside) (mark_step e) short_rest (small_step e) done n.room.places (omega arith)
+
+      pub acts_emitted : {f : Engine} → HasEmitted s m t f → Acts (design p) p.cycles (core_in p s ends) (Run m) (core_in p f ends)
+      acts_emitted done = emission.acts_to (may_record inside) (mark_step e) short_rest (small_step e) done
+
+    module _ (over : is_step mark ≡ false) where
+      pub core_ended : IsCore p s (set ends m (Some mark)) runs
+      core_ended = emission.end_core (may_record inside) n.is over n.sound.short
+
+      pub acts_ended : Acts (design p) p.cycles (core_in p s ends) (Run m) (core_in p s (set ends m (Some mark)))
+      acts_ended = emission.end_acts (may_record inside) n.is over n.sound.short
 
 -- ---- a burst on its way
 
@@ -156,30 +175,30 @@ on_way_first p f x b m task burst t i =
 -- ---- the loop
 
 -- those left of a burst's marks are still to be emitted; with them the first core comes to where all marks bring it
-pub record IsReturningOn (p : Plan) (s : Stored) (ends : List (Option Advance)) (runs : List (Option ModuleRun)) (credits : List ℕ)
+pub record IsReturningOn (p : Plan) (s : Engine) (ends : List (Option Advance)) (runs : List (Option ModuleRun))
     (m : ℕ) (mail : Mail) (short : Bool) (last : Task) (left : List Advance) (first : Core ModuleState) (count : ℕ) : Type 0 where
-  pub room : HasRoomForMarks p s ends runs credits m (length left)
+  pub room : HasRoomForMarks p s ends runs m (length left)
   pub on : IsOnWay p (core_in p s ends) m mail short last left
   pub acts : (y : Core ModuleState) → ActsAll (design p) p.cycles (core_in p s ends) (actions.runs (length left) m) y
       → ActsAll (design p) p.cycles first (actions.runs count m) y
 
-pub returning_first : (p : Plan) (s : Stored) (ends : List (Option Advance)) (runs : List (Option ModuleRun)) (credits : List ℕ) (m : ℕ)
-    (marks : List Advance) (last : Task) (r : AreReturned p s ends runs credits m marks last)
-    → IsReturningOn p s ends runs credits m r.task.mail r.short last marks (core_in p s ends) (length marks)
-returning_first p s ends runs credits m marks last r = record {
+pub returning_first : {p : Plan} {s : Engine} {ends : List (Option Advance)} {runs : List (Option ModuleRun)} {m : ℕ}
+    {marks : List Advance} {last : Task} (r : AreReturned p s ends runs m marks last)
+    → IsReturningOn p s ends runs m r.task.mail r.short last marks (core_in p s ends) (length marks)
+returning_first {p} {s} {ends} {runs} {m} {marks} {last} r = record {
   room = r.room;
   on = on_way_first p r.room.core.fits (core_in p s ends) r.room.core.agreed.marks m r.task (burst_of last marks r.short) r.is_task
       r.is_burst;
   acts = λ y a. a;
 }
 
-module _ (p : Plan) (s : Stored) (ends : List (Option Advance)) (runs : List (Option ModuleRun)) (credits : List ℕ) (m : ℕ) (mail : Mail)
-    (short : Bool) (last : Task) (mark : Advance) (more : List Advance) (first : Core ModuleState) (count : ℕ)
-    (r : IsReturningOn p s ends runs credits m mail short last (mark ∷ more) first count) where
+module _ {p : Plan} {s : Engine} {ends : List (Option Advance)} {runs : List (Option ModuleRun)} {m : ℕ} {mail : Mail}
+    {short : Bool} {last : Task} {mark : Advance} {more : List Advance} {first : Core ModuleState} {count : ℕ}
+    (r : IsReturningOn p s ends runs m mail short last (mark ∷ more) first count) where
   far : IsFarther p (core_in p s ends) m mail short last mark more
   far = on_way_more p r.room.core.fits (core_in p s ends) r.room.core.agreed.marks m mail short last mark more r.on
 
-  pub next_mark : IsNextMark p s ends runs credits m mark
+  pub next_mark : IsNextMark p s ends runs m mark
   next_mark = record {
     room = record {
       core = r.room.core;
@@ -192,10 +211,11 @@ module _ (p : Plan) (s : Stored) (ends : List (Option Advance)) (runs : List (Op
     sound = far.sound;
   }
 
-  pub returning_more : (t : Stored) (ends' : List (Option Advance)) (credits' : List ℕ) → t.log ≡ s.log → IsCore p t ends' runs credits'
-      → Acts (design p) p.cycles (core_in p s ends) (Run m) (core_in p t ends') → get_or credits m 0 ≤ get_or credits' m 0 + 2
-      → IsReturningOn p t ends' runs credits' m mail short last more first count
-  returning_more t ends' credits' log core (may, after) credit = record {
+  pub returning_more : {t : Engine} {ends' : List (Option Advance)} → t.log ≡ s.log → IsCore p t ends' runs
+      → Acts (design p) p.cycles (core_in p s ends) (Run m) (core_in p t ends')
+      → get_or s.credits.items m 0 ≤ get_or t.credits.items m 0 + 2
+      → IsReturningOn p t ends' runs m mail short last more first count
+  returning_more {t} {ends'} log core (may, after) credit = record {
     room = record {
       core = core;
       lent = r.room.lent;
@@ -206,33 +226,25 @@ module _ (p : Plan) (s : Stored) (ends : List (Option Advance)) (runs : List (Op
     acts = λ y a. r.acts y (core_in p t ends', (may, after), a);
   }
 
-pub drop_here : (xs : List Advance) (n : ℕ) (v : Advance) → slice_get xs n ≡ Some v → drop n xs ≡ v ∷ drop (suc n) xs
-drop_here xs n v e = drop_some xs n v e
-
 pub drop_behind : (xs : List Advance) (n : ℕ) (v : Advance) → drop (suc n) (set xs n v) ≡ drop (suc n) xs
 drop_behind xs n v = drop-set-lt (suc n) xs n v (omega arith)
 
-pub drop_all : (xs : List Advance) (n : ℕ) → length xs ≤ n → drop n xs ≡ []
-drop_all xs n l = all_dropped n xs l
-
 -- where none is left
-pub all_acts : (p : Plan) (s : Stored) (ends : List (Option Advance)) (runs : List (Option ModuleRun)) (credits : List ℕ) (m : ℕ)
-    (mail : Mail) (short : Bool) (last : Task) (left : List Advance) (first : Core ModuleState) (count : ℕ) → left ≡ []
-    → IsReturningOn p s ends runs credits m mail short last left first count
+pub all_acts : {p : Plan} {s : Engine} {ends : List (Option Advance)} {runs : List (Option ModuleRun)} {m : ℕ}
+    {mail : Mail} {short : Bool} {last : Task} {first : Core ModuleState} {count : ℕ}
+    → IsReturningOn p s ends runs m mail short last [] first count
     → ActsAll (design p) p.cycles first (actions.runs count m) (core_in p s ends)
-all_acts p s ends runs credits m mail short last left first count none r =
-    r.acts (core_in p s ends)
-    (rw none refl)
+all_acts {p} {s} {ends} r = r.acts (core_in p s ends) refl
 
 -- ---- the core
 
 -- with room, a burst of a task for the core can come back
-pub are_returned : (p : Plan) (s t : Stored) (ends : List (Option Advance)) (runs : List (Option ModuleRun)) (credits : List ℕ) (m : ℕ)
-    (burst : Burst) → held_in t (over_of ends) ≡ held_in s (over_of ends) → IsCore p t ends runs credits
-    → get_or (lent_of runs) m true ≡ true → 2 * length burst.emitted ≤ get_or credits m 0 → most_queries ≤ get_or t.log.rooms m 0
+pub are_returned : (s : Engine) {p : Plan} {t : Engine} {ends : List (Option Advance)} {runs : List (Option ModuleRun)} {m : ℕ}
+    {burst : Burst} → held_in t (over_of ends) ≡ held_in s (over_of ends) → IsCore p t ends runs
+    → get_or (lent_of runs) m true ≡ true → 2 * length burst.emitted ≤ get_or t.credits.items m 0 → most_queries ≤ get_or t.log.rooms m 0
     → (task : Task) × (IsTaskFor p (core_in p s ends) m task × IsBurst p m (rest_of p (core_in p s ends) m task) task burst)
-    → AreReturned p t ends runs credits m burst.emitted (task_left burst)
-are_returned p s t ends runs credits m burst same core lent places outcomes (task, (for', is)) = record {
+    → AreReturned p t ends runs m burst.emitted (task_left burst)
+are_returned s {p} {t} {ends} {runs} {m} {burst} same core lent places outcomes (task, (for', is)) = record {
   room = record { core = core; lent = lent; places = places; outcomes = outcomes };
   task = task;
   short = burst.short;

@@ -1,8 +1,8 @@
 -- Going round the modules as long as something is permitted.
-use Rattle.std.proofs.Common.{◌≡◌, refl, sym, ap, subst, ◌∙◌, ℕ, suc, ◌+◌, ◌-◌, ◌*◌, ◌^◌, ◌<◌, ◌≤◌, ◌⊎◌, inl, inr, true, false, Some}
-use Rattle.std.proofs.Common.{get_or, List, [], ◌∷◌, ◌++◌, length, arith, mul-le-mul_right}
+use Rattle.std.proofs.Common.{◌≡◌, refl, sym, ap, subst, ◌∙◌, ℕ, suc, ◌+◌, ◌-◌, ◌*◌, ◌<◌, ◌≤◌, ◌⊎◌, inl, inr, true, false, Some}
+use Rattle.std.proofs.Common.{get_or, List, [], ◌∷◌, ◌++◌, length, arith}
 use Rattle.std.specs.Prelude.{slice_get}
-use Rattle.std.proofs.lemmas.Bool.{both_ways}
+use Rattle.std.proofs.lemmas.Bool.{both_ways, cases_lt}
 use Rattle.flow_design.specs.declared.plan.Plan.{Plan}
 use Rattle.flow_design.specs.StaticRules.{FitsEngine}
 use Rattle.query_log.specs.declared.query.Query.{Query}
@@ -12,8 +12,10 @@ use Rattle.event_timing.specs.Enablers.{candidate}
 use Rattle.event_timing.specs.Actions.{Action, Acts, ActsAll, MayRun, IsQuiet, after_run}
 use Rattle.event_timing.specs.Actions.Action.{Run, Assign, Answer, Earliest}
 use Rattle.event_timing.specs.Agreement.{IsAgreed, AllVerified}
+use Rattle.event_timing.specs.Permitted.{IsInside}
 use Rattle.event_timing.specs.Work.{work}
 use Rattle.event_timing.proofs.Agreement.{all_agree}
+use Rattle.event_timing.proofs.Answering.{first_emitted}
 use Rattle.event_timing.proofs.Assigning.{put_same}
 use Rattle.event_timing.proofs.Running.{run_cases}
 use Rattle.event_timing.proofs.ActionBound.{more_work, most_work, never_found, all_rise}
@@ -21,14 +23,24 @@ use Rattle.timing_bridge.specs.Designs.{design, lockstep_run}
 use Rattle.timing_bridge.proofs.Bounded.{plan_is_bounded}
 use Rattle.timing_bridge.proofs.History.{plan_is_design, run_is_history}
 use Rattle.engine_view.specs.declared.turn.Timing.TheVariants as turn
+use Rattle.engine_view.specs.Cursors.{CursorView, IsNext, IsPassed}
+use Rattle.engine_view.proofs.Cursors.{idle_more}
 use Rattle.engine_view.specs.Turns.{IsDifferent, IsFoundOther}
 use Rattle.outcome_guard.specs.declared.guard.Guard.TheVariants as guard
-use Rattle.sim_core.proofs.Causing.{determined_inside}
 use Rattle.sim_core.specs.Views.{CoreView, theory_of}
 use Rattle.sim_core.specs.Turns.{IsStill, IsEarliestOther, HasTurned, HasAnsweredLeast}
 use Rattle.sim_core.specs.declared.visit.Visit.{Visit}
 use Rattle.sim_core.specs.declared.visit.Visit.TheVariants.{Acted, Differs, Idle}
-use Rattle.sim_core.specs.Drives.{given, Goes, GoesOn, HasTimed, HasVisited, IsVisited, AreOwn, IsGoingRound}
+use Rattle.sim_core.specs.Drives.{given, Goes, GoesOn, HasTimed, HasVisited, AreOwn, IsGoingRound}
+
+-- only a module of the design has a step whose cycle is determined
+pub determined_inside : {S : Type 0} (d : Design S) (x : Core S) → IsInside d x → (m c : ℕ) → candidate d (view d x) m ≡ Some c
+    → m < d.modules
+determined_inside {S} d x inside m c at =
+    elim (cases_lt m d.modules) [
+      | inl l ↦ l
+      | inr l ↦ absurd (omega (arith, first_emitted d x m c at, inside m l))
+    ]
 
 -- ---- each action makes another core
 
@@ -121,10 +133,6 @@ timed_is_visit v w b a m Idle f (e, t, o) = (e, t, record { no_run = f; idle = o
 pub goes_same : (v : CoreView) (before : ℕ) → Goes v before v before
 goes_same v before = record { actions = []; all = refl; ticked = omega arith; plan = refl; lent = refl }
 
-pub goes_at : (first now next : CoreView) (before ticks later : ℕ) → Goes first before now ticks → next ≡ now → later ≡ ticks
-    → Goes first before next later
-goes_at first now next before ticks later g e t = rw (e, t) g
-
 -- ---- what stays by actions
 
 module _ (v w : CoreView) (before after : ℕ) (agreed : IsAgreed (design v.plan) (lockstep_run v.plan) v.plan.cycles (theory_of v))
@@ -154,99 +162,68 @@ module _ (v : CoreView) (f : AllVerified (theory_of v)) where
   pub no_least_differs : (m : ℕ) (q : Query) → IsEarliestOther v m q → ⊥
   no_least_differs m q o = none_other m o.cycle q o.found o.may.open_step.determined.at o.may.open_step.open_query
 
--- ---- one module more
-
-abbrev pub IsNextOf : ℕ → ℕ → ℕ → Type 0
-IsNextOf count at to = ((at + 1 < count) × (to ≡ at + 1)) ⊎ ((count ≤ at + 1) × (to ≡ 0))
-
-pub next_inside : (count at to : ℕ) → at < count → IsNextOf count at to → to < count
-next_inside count at to u next = grind arith
-
--- one that is visited then was so before, or it is the one whose turn it was
-pub visited_before : (count at idle to m : ℕ) → at < count → idle < count → m < count → IsNextOf count at to
-    → IsVisited count to (idle + 1) m → (m ≡ at) ⊎ IsVisited count at idle m
-visited_before count at idle to m u less i (inl (l, e)) visited = grind arith
-visited_before count at idle to m u less i (inr (l, e)) visited = grind arith
-
--- where all were visited, each was
-pub all_visited : (count at idle n : ℕ) → (0 < count → at < count) → count ≤ idle → n < count → IsVisited count at idle n
-all_visited count at idle n inside l u = grind arith
-
--- behind an action at a module, or a jump, none was
-pub none_visited : (count at m : ℕ) → (0 < count → at < count) → m < count → IsVisited count at 0 m → ⊥
-none_visited count at m inside i (inl (l, e)) = omega arith
-none_visited count at m inside i (inr (l, e)) = let u = inside (omega arith) in omega arith
-
 -- ---- a round
 
-pub begun : (v : CoreView) (ticks count : ℕ) → IsAgreed (design v.plan) (lockstep_run v.plan) v.plan.cycles (theory_of v)
-    → FitsEngine v.plan → AreOwn v → count ≡ length v.plan.design.modules
-    → IsGoingRound v v ticks ticks count 0 0
-begun v ticks count agreed fits own counted = record {
+pub begun : {v : CoreView} {ticks : ℕ} {cursor : CursorView} → IsAgreed (design v.plan) (lockstep_run v.plan) v.plan.cycles (theory_of v)
+    → FitsEngine v.plan → AreOwn v → cursor.count ≡ length v.plan.design.modules → ((m : ℕ) → IsPassed cursor m → ⊥)
+    → IsGoingRound v v ticks ticks cursor
+begun {v} {ticks} {cursor} agreed fits own counted none = record {
   goes = goes_same v ticks;
   agreed = agreed;
   fits = fits;
   own = own;
   counted = counted;
-  within = omega arith;
-  inside = λ l. l;
-  none_left = λ m l visited. absurd (none_visited count 0 m (λ l. l) l visited);
+  idle = λ m passed. absurd (none m passed);
 }
 
-module _ (first now next : CoreView) (before ticks later count at idle : ℕ) (r : IsGoingRound first now before ticks count at idle) where
+module _ {first now : CoreView} {before ticks : ℕ} {cursor : CursorView} (r : IsGoingRound first now before ticks cursor) where
   pub agreed_now : IsAgreed (design now.plan) (lockstep_run now.plan) now.plan.cycles (theory_of now)
   agreed_now = goes_agreed first now before ticks r.agreed r.fits r.goes
 
-  fits_now : FitsEngine now.plan
+  pub fits_now : FitsEngine now.plan
   fits_now = subst FitsEngine (sym r.goes.plan) r.fits
 
-  -- something was done, and another module is next
-  pub went : GoesOn now ticks next later → (to : ℕ) → (0 < count → to < count) → IsGoingRound first next before later count to 0
-  went o to u = record {
+  -- something was done
+  pub went : {next : CoreView} {later : ℕ} {cursor' : CursorView} → GoesOn now ticks next later → cursor'.count ≡ cursor.count
+      → ((m : ℕ) → IsPassed cursor' m → ⊥) → IsGoingRound first next before later cursor'
+  went {next} {later} {cursor'} o count none = record {
     goes = goes_join first now next before ticks later r.goes o.goes;
     agreed = r.agreed;
     fits = r.fits;
     own = λ m l.
         ap (λ bs. get_or bs m true) o.goes.lent ∙ r.own m (let e = ap (λ (q : Plan). length q.design.modules) o.goes.plan in omega arith);
-    counted = r.counted ∙ ap (λ (q : Plan). length q.design.modules) (sym o.goes.plan);
-    within = omega arith;
-    inside = u;
-    none_left = λ m l visited. absurd (none_visited count to m u l visited);
+    counted = count ∙ r.counted ∙ ap (λ (q : Plan). length q.design.modules) (sym o.goes.plan);
+    idle = λ m passed. absurd (none m passed);
   }
 
-  -- nothing was done at the module whose turn it was
-  pub stayed : idle < count → next ≡ now → later ≡ ticks → IsStill now at → (to : ℕ) → IsNextOf count at to
-      → IsGoingRound first next before later count to (idle + 1)
-  stayed less same ticked none to t =
-      rw same (record {
-        goes = goes_at first now now before ticks later r.goes refl ticked;
+  -- nothing was to be done at the module whose turn it was
+  pub passed : {next : CoreView} {later m : ℕ} {cursor' : CursorView} → IsNext cursor m → next ≡ now → later ≡ ticks → IsStill now m
+      → cursor'.count ≡ cursor.count → ((k : ℕ) → IsPassed cursor' k → (k ≡ cursor.at) ⊎ IsPassed cursor k)
+      → IsGoingRound first next before later cursor'
+  passed {next} {later} {m} {cursor'} n same ticked none count more =
+      rw (same, ticked) (record {
+        goes = r.goes;
         agreed = r.agreed;
         fits = r.fits;
         own = r.own;
-        counted = r.counted;
-        within = omega arith;
-        inside = λ z. next_inside count at to (r.inside z) t;
-        none_left = λ m l visited.
-            elim (visited_before count at idle to m (r.inside (omega arith)) less l t visited) [
-              | inl e ↦ rw e none
-              | inr v ↦ r.none_left m l v
-            ];
+        counted = count ∙ r.counted;
+        idle = idle_more (IsStill now) cursor cursor' more (rw n.is at none) r.idle;
       })
 
-  -- where all were visited nothing is left but an Earliest
-  pub all_quiet : count ≤ idle → IsQuiet (design now.plan) now.plan.cycles (theory_of now)
-  all_quiet l = record {
+  -- where all were passed nothing is left but an Earliest
+  pub all_quiet : ((m : ℕ) → m < cursor.count → IsPassed cursor m) → IsQuiet (design now.plan) now.plan.cycles (theory_of now)
+  all_quiet all = record {
     no_run = λ n may. (still n (let e = r.counted in let i = may.inside in omega arith)).no_run may;
     no_assign = λ n c may. (still n (there n c may.determined.at)).idle.no_assign c may;
     no_answer = λ n c may. (still n (there n c may.determined.at)).idle.no_answer c may;
   }
     where
-      still : (n : ℕ) → n < count → IsStill now n
-      still n u = r.none_left n u (all_visited count at idle n r.inside l u)
+      still : (n : ℕ) → n < cursor.count → IsStill now n
+      still n u = r.idle n (all n u)
 
-      there : (n c : ℕ) → candidate (design now.plan) (view (design now.plan) (theory_of now)) n ≡ Some c → n < count
+      there : (n c : ℕ) → candidate (design now.plan) (view (design now.plan) (theory_of now)) n ≡ Some c → n < cursor.count
       there n c e =
-          let l = determined_inside (design now.plan) now.plan.cycles (theory_of now) agreed_now.marks.inside n c e in
+          let l = determined_inside (design now.plan) (theory_of now) agreed_now.marks.inside n c e in
           let same = r.counted in omega arith
 
   -- where no outcome is assumed, none is found to be another
@@ -262,19 +239,6 @@ module _ (first now next : CoreView) (before ticks later count at idle : ℕ) (r
 abbrev pub to_do : CoreView → ℕ
 to_do v = length v.plan.design.modules * (3 * v.plan.ops + 1) - work (design v.plan) (theory_of v)
 
--- actions before hints, and hints before the rest of the round
-abbrev pub still_to_do : CoreView → ℕ → ℕ → ℕ → ℕ
-still_to_do v count idle hints = to_do v * (2 ^ 64 * (count + 1)) + (hints * (count + 1) + (count - idle))
-
-pub falls : (a b most x y : ℕ) → a + 1 ≤ b → x < most → a * most + x < b * most + y
-falls a b most x y l u = let m : (a + 1) * most ≤ b * most = mul-le-mul_right most l in omega arith
-
-few : (h n : ℕ) → h < 2 ^ 64 → h * (n + 1) + (n - 0) < 2 ^ 64 * (n + 1)
-few h n l = let m : (h + 1) * (n + 1) ≤ 2 ^ 64 * (n + 1) = mul-le-mul_right (n + 1) (omega arith) in omega arith
-
-fewer : (h g n idle : ℕ) → h < g → h * (n + 1) + (n - 0) < g * (n + 1) + (n - idle)
-fewer h g n idle l = let m : (h + 1) * (n + 1) ≤ g * (n + 1) = mul-le-mul_right (n + 1) (omega arith) in omega arith
-
 pub to_do_less : (now next : CoreView) (ticks later : ℕ) → GoesOn now ticks next later
     → IsAgreed (design next.plan) (lockstep_run next.plan) next.plan.cycles (theory_of next) → FitsEngine next.plan
     → to_do next + 1 ≤ to_do now
@@ -284,25 +248,11 @@ to_do_less now next ticks later o agreed fits =
     let plan = o.goes.plan in
     let rise = o.risen in grind arith
 
-module _ (first now next : CoreView) (before ticks later count at idle : ℕ) (r : IsGoingRound first now before ticks count at idle)
-    (hints other : ℕ) where
-  pub went_on : GoesOn now ticks next later → other < 2 ^ 64 → still_to_do next count 0 other < still_to_do now count idle hints
-  went_on o l =
-      let agreed : IsAgreed (design next.plan) (lockstep_run next.plan) next.plan.cycles (theory_of next) =
-      agreed_now first next next before later later count at 0 (went first now next before ticks later count at idle r o at r.inside) in
-      falls (to_do next) (to_do now) (2 ^ 64 * (count + 1)) _ _
-      (to_do_less now next ticks later o agreed (subst FitsEngine (sym (o.goes.plan ∙ r.goes.plan)) r.fits)) (few other count l)
-
-  pub jumped_on : next ≡ now → other < hints → still_to_do next count 0 other < still_to_do now count idle hints
-  jumped_on e l =
-      rw e (let f = fewer other hints count idle l in add (to_do now * (2 ^ 64 * (count + 1))) _ _ f)
-    where
-      add : (a x y : ℕ) → x < y → a + x < a + y
-      add a x y u = omega arith
-
-  pub stayed_on : next ≡ now → idle < count → still_to_do next count (idle + 1) hints < still_to_do now count idle hints
-  stayed_on e l =
-      rw e (add (to_do now * (2 ^ 64 * (count + 1))) (hints * (count + 1)))
-    where
-      add : (a b : ℕ) → a + (b + (count - (idle + 1))) < a + (b + (count - idle))
-      add a b = omega arith
+-- something that was done is a turn less
+pub went_on : {first now next : CoreView} {before ticks later : ℕ} {cursor : CursorView} → IsGoingRound first now before ticks cursor
+    → GoesOn now ticks next later → to_do next < to_do now
+went_on {first} {now} {next} {before} {ticks} {later} {cursor} r o =
+    let fits = fits_now r in
+    let agreed = goes_agreed now next ticks later (agreed_now r) fits o.goes in
+    let less = to_do_less now next ticks later o agreed (subst FitsEngine (sym o.goes.plan) fits) in
+    omega arith

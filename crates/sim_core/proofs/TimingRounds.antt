@@ -1,31 +1,5 @@
 -- Rounds of Assigns and Answers, the Earliest behind them, and the end.
-use Rattle.std.proofs.Common.{
-  ◌≡◌,
-  refl,
-  sym,
-  ap,
-  subst,
-  ◌∙◌,
-  ℕ,
-  suc,
-  ◌+◌,
-  ◌-◌,
-  ◌*◌,
-  ◌^◌,
-  ◌<◌,
-  ◌≤◌,
-  ◌⊎◌,
-  inl,
-  inr,
-  true,
-  false,
-  length,
-  Some,
-  None,
-  arith,
-  mul-le-mul_right,
-}
-use Rattle.std.specs.Prelude.{Result, Ok, Err, IfOk, IfErr, is_ok}
+use Rattle.std.proofs.Common.{◌≡◌, sym, ap, subst, ◌∙◌, ℕ, suc, ◌+◌, ◌*◌, ◌^◌, ◌<◌, ◌≤◌, ◌⊎◌, inl, inr, true, false, length, Some, None, arith, mul-le-mul_right}
 use Rattle.std.proofs.lemmas.Bool.{cases_Bool}
 use Rattle.flow_design.specs.declared.plan.Plan.{Plan}
 use Rattle.flow_design.specs.declared.state.ModuleState.{ModuleState}
@@ -56,13 +30,10 @@ use Rattle.engine_view.specs.Turns.{is_progress, ticks_of}
 use Rattle.sim_core.specs.Views.{CoreView, theory_of}
 use Rattle.sim_core.specs.Turns.{HasTurned, HasAnsweredLeast, IsFirstEarliest}
 use Rattle.sim_core.specs.Timings.{IsUntimable, IsTimed, IsTimingRound, HasMore}
-use Rattle.sim_core.specs.declared.actions.Action.TheVariants.{Run}
-use Rattle.sim_core.specs.declared.actions.Cause.{Cause}
-use Rattle.sim_core.specs.Causes.{IsPermitted, cycle_causes, first_some}
-use Rattle.sim_core.proofs.Causing as causing
-use Rattle.sim_core.proofs.Causing.{determined_inside}
 use Rattle.sim_core.proofs.Rounds as rounds
-use Rattle.sim_core.proofs.Rounds.{IsNextOf, to_do}
+use Rattle.sim_core.proofs.Rounds.{determined_inside, to_do}
+use Rattle.engine_view.specs.Cursors.{CursorView, IsNext, IsPassed, GoesRound}
+use Rattle.engine_view.proofs.Cursors.{idle_more}
 
 -- ---- one action
 
@@ -106,12 +77,8 @@ rested r (inr e) = cc
 
 -- ---- the rounds
 
--- more than what can still be done
-abbrev pub timings_left : CoreView → ℕ → ℕ → ℕ
-timings_left v count idle = to_do v * (count + 1) + (count - idle)
-
-module _ (first now next : CoreView) (before ticks later count at idle done : ℕ)
-    (r : IsTimingRound first now before ticks count at idle done) where
+module _ {first now : CoreView} {before ticks : ℕ} {cursor : CursorView} {done : ℕ}
+    (r : IsTimingRound first now before ticks cursor done) where
   abbrev d : Design ModuleState
   d = design first.plan
 
@@ -124,7 +91,7 @@ module _ (first now next : CoreView) (before ticks later count at idle done : �
   fits_now : FitsEngine now.plan
   fits_now = subst FitsEngine (sym r.goes.plan) r.fits
 
-  counted_first : count ≡ length first.plan.design.modules
+  counted_first : cursor.count ≡ length first.plan.design.modules
   counted_first = r.counted ∙ ap (λ (q : Plan). length q.design.modules) r.goes.plan
 
   pub verified_now : AllVerified (theory_of now)
@@ -146,111 +113,105 @@ module _ (first now next : CoreView) (before ticks later count at idle done : �
           let p : n * (3 * o + 1) ≤ 64 * (3 * o + 1) = mul-le-mul_right (3 * o + 1) l in
           omega arith
 
-  pub went : at < count → IsTimed now ticks at next later → IsTimingRound first next before later count at 0 (done + 1)
-  went u o = record {
+  pub went : {next : CoreView} {later m : ℕ} {cursor' : CursorView} → IsNext cursor m → IsTimed now ticks m next later
+      → cursor'.count ≡ cursor.count → cursor'.at ≡ cursor.at → cursor'.hints ≡ 0 → ((n : ℕ) → IsPassed cursor' n → ⊥)
+      → IsTimingRound first next before later cursor' (done + 1)
+  went {next} {later} {m} {cursor'} n o count at unhinted none = record {
     goes = rounds.goes_join first now next before ticks later r.goes o.goes.goes;
     agreed = r.agreed;
     fits = r.fits;
     verified = r.verified;
-    counted = r.counted ∙ ap (λ (q : Plan). length q.design.modules) (sym o.goes.goes.plan);
-    within = omega arith;
-    at_most = r.at_most;
-    inside = r.inside;
-    none_left = λ m l visited. absurd (rounds.none_visited count at m r.inside l visited);
-    rounds = λ more. more_rounds more;
-    few = few_more;
+    counted = count ∙ r.counted ∙ ap (λ (q : Plan). length q.design.modules) (sym o.goes.goes.plan);
+    unhinted = unhinted;
+    at_most = let l = r.at_most in omega arith;
+    idle = λ k passed. absurd (none k passed);
+    rounds = λ more. rw at (more_rounds more);
+    few =
+        let rise = subst (λ (q : Plan). work (design q) (theory_of now) < work (design q) (theory_of next)) r.goes.plan o.goes.risen in
+        let few = r.few in
+        omega arith;
   }
     where
-      may : may_time d limit (theory_of now) at ≡ true
-      may = subst (λ (q : Plan). may_time (design q) q.cycles (theory_of now) at ≡ true) r.goes.plan o.may
+      may : may_time d limit (theory_of now) cursor.at ≡ true
+      may = subst (λ (q : Plan). may_time (design q) q.cycles (theory_of now) cursor.at ≡ true) r.goes.plan (rw n.is at o.may)
 
-      is : theory_of next ≡ after_timing d limit (theory_of now) at
-      is = subst (λ (q : Plan). theory_of next ≡ after_timing (design q) q.cycles (theory_of now) at) r.goes.plan o.is
+      is : theory_of next ≡ after_timing d limit (theory_of now) cursor.at
+      is = subst (λ (q : Plan). theory_of next ≡ after_timing (design q) q.cycles (theory_of now) cursor.at) r.goes.plan (rw n.is at o.is)
 
-      more_rounds : (more : ℕ) → timings d limit (done + 1 + more) 0 (theory_of first) ≡ timings d limit more at (theory_of next)
+      more_rounds : (more : ℕ) → timings d limit (done + 1 + more) 0 (theory_of first) ≡ timings d limit more cursor.at (theory_of next)
       more_rounds more =
           let count' = counted_first in
+          let inside = n.inside in
+          let same = n.is in
           let sum : done + 1 + more ≡ done + suc more = omega arith in
           ap (λ (n : ℕ). timings d limit n 0 (theory_of first)) sum ∙ r.rounds (suc more)
-          ∙ timings_more d limit more at (theory_of now) (omega arith) may ∙ sym (ap (timings d limit more at) is)
+          ∙ timings_more d limit more cursor.at (theory_of now) (omega arith) may ∙ sym (ap (timings d limit more cursor.at) is)
 
-      few_more : done + 1 + work d (theory_of first) ≤ work d (theory_of next)
-      few_more =
-          let rise = subst (λ (q : Plan). work (design q) (theory_of now) < work (design q) (theory_of next)) r.goes.plan o.goes.risen in
-          let few = r.few in
-          omega arith
-
-  pub stayed : idle < count → next ≡ now → later ≡ ticks → IsUntimable now at → (to : ℕ) → IsNextOf count at to
-      → IsTimingRound first next before later count to (idle + 1) done
-  stayed less same ticked none to t =
-      rw same (record {
-        goes = rounds.goes_at first now now before ticks later r.goes refl ticked;
+  pub passed : {next : CoreView} {later m : ℕ} {cursor' : CursorView} → IsNext cursor m → next ≡ now → later ≡ ticks
+      → IsUntimable now m → cursor'.count ≡ cursor.count → GoesRound cursor cursor'
+      → ((k : ℕ) → IsPassed cursor' k → (k ≡ cursor.at) ⊎ IsPassed cursor k) → IsTimingRound first next before later cursor' done
+  passed {next} {later} {m} {cursor'} n same ticked none count goes more =
+      rw (same, ticked) (record {
+        goes = r.goes;
         agreed = r.agreed;
         fits = r.fits;
         verified = r.verified;
-        counted = r.counted;
-        within = omega arith;
-        at_most = let u = rounds.next_inside count at to (r.inside (omega arith)) t in omega arith;
-        inside = λ z. rounds.next_inside count at to (r.inside z) t;
-        none_left = λ m l visited.
-            elim (rounds.visited_before count at idle to m (r.inside (omega arith)) less l t visited) [
-              | inl e ↦ rw e none
-              | inr v ↦ r.none_left m l v
-            ];
-        rounds = λ more. r.rounds more ∙ from_next more t;
+        counted = count ∙ r.counted;
+        unhinted = goes.unhinted;
+        at_most = elim goes.to [ inl (l, e) ↦ omega arith | inr (l, e) ↦ omega arith ];
+        idle = idle_more (IsUntimable now) cursor cursor' more (rw n.is at none) r.idle;
+        rounds = λ k. r.rounds k ∙ from_next k goes.to;
         few = r.few;
       })
     where
-      idle_here : may_time d limit (theory_of now) at ≡ false
-      idle_here = subst (λ (q : Plan). may_time (design q) q.cycles (theory_of now) at ≡ false) r.goes.plan none
+      idle_here : may_time d limit (theory_of now) cursor.at ≡ false
+      idle_here = subst (λ (q : Plan). may_time (design q) q.cycles (theory_of now) cursor.at ≡ false) r.goes.plan (rw n.is at none)
 
-      on : (more : ℕ) → timings d limit more at (theory_of now) ≡ timings d limit more (suc at) (theory_of now)
-      on more = let c = counted_first in let u = r.inside (omega arith) in timings_on d limit more at (theory_of now) (omega arith)
-          idle_here
+      on : (more : ℕ) → timings d limit more cursor.at (theory_of now) ≡ timings d limit more (suc cursor.at) (theory_of now)
+      on more = let c = counted_first in let inside = n.inside in let same = n.is in timings_on d limit more cursor.at (theory_of now)
+          (omega arith) idle_here
 
-      from_next : (more : ℕ) → IsNextOf count at to → timings d limit more at (theory_of now) ≡ timings d limit more to (theory_of now)
+      from_next : (more : ℕ)
+          → ((cursor.at + 1 < cursor.count) × (cursor'.at ≡ cursor.at + 1)) ⊎ ((cursor.count ≤ cursor.at + 1) × (cursor'.at ≡ 0))
+          → timings d limit more cursor.at (theory_of now) ≡ timings d limit more cursor'.at (theory_of now)
       from_next more (inl (l, e)) =
-          let e' : suc at ≡ to = omega arith in on more ∙ ap (λ (n : ℕ). timings d limit more n (theory_of now)) e'
+          let e' : suc cursor.at ≡ cursor'.at = omega arith in on more ∙ ap (λ (n : ℕ). timings d limit more n (theory_of now)) e'
       from_next more (inr (l, e)) =
           let c = counted_first in
-          let u = r.inside (omega arith) in
-          let e' : suc at ≡ length first.plan.design.modules = omega arith in
+          let e' : suc cursor.at ≡ length first.plan.design.modules = omega arith in
           on more ∙ ap (λ (n : ℕ). timings d limit more n (theory_of now)) e' ∙ timings_over d limit more (theory_of now)
           ∙ ap (λ (n : ℕ). timings d limit more n (theory_of now)) (sym e)
 
-  -- where all were visited, the rounds are over
-  module _ (l : count ≤ idle) where
-    none_next : next_timing d limit (theory_of now) at ≡ None
-    none_next = next_none d limit at (theory_of now) below (λ m u. none m u)
+  -- where all were passed, the rounds are over
+  module _ (all : (m : ℕ) → m < cursor.count → IsPassed cursor m) where
+    none_next : next_timing d limit (theory_of now) cursor.at ≡ None
+    none_next = next_none d limit cursor.at (theory_of now) below (λ m u. none m u)
       where
-        below : at ≤ length first.plan.design.modules
+        below : cursor.at ≤ length first.plan.design.modules
         below = let c = counted_first in let u = r.at_most in omega arith
 
         none : (m : ℕ) → m < length first.plan.design.modules → may_time d limit (theory_of now) m ≡ false
         none m u =
             let c = counted_first in
-            let u' : m < count = omega arith in
-            subst (λ (q : Plan). may_time (design q) q.cycles (theory_of now) m ≡ false) r.goes.plan
-            (r.none_left m u' (rounds.all_visited count at idle m r.inside l u'))
+            subst (λ (q : Plan). may_time (design q) q.cycles (theory_of now) m ≡ false) r.goes.plan (r.idle m (all m (omega arith)))
 
     pub all_rounds : timings d limit done 0 (theory_of first) ≡ Some (theory_of now)
     all_rounds =
         let sum : done ≡ done + 0 = omega arith in
-        ap (λ (n : ℕ). timings d limit n 0 (theory_of first)) sum ∙ r.rounds 0 ∙ timings_none d limit at (theory_of now) none_next
+        ap (λ (n : ℕ). timings d limit n 0 (theory_of first)) sum ∙ r.rounds 0 ∙ timings_none d limit cursor.at (theory_of now) none_next
 
     pub none_timed : NoTiming (design now.plan) now.plan.cycles (theory_of now)
     none_timed =
         none_left_at (design now.plan) (lockstep_run now.plan) (plan_is_design now.plan fits_now) (run_is_history now.plan fits_now)
-        now.plan.cycles (theory_of now) agreed_now at
-        (subst (λ (q : Plan). next_timing (design q) q.cycles (theory_of now) at ≡ None) (sym r.goes.plan) none_next)
+        now.plan.cycles (theory_of now) agreed_now cursor.at
+        (subst (λ (q : Plan). next_timing (design q) q.cycles (theory_of now) cursor.at ≡ None) (sym r.goes.plan) none_next)
 
-  -- ---- they end
-
-  pub went_on : IsTimed now ticks at next later → timings_left next count 0 < timings_left now count idle
-  went_on o =
+  -- something that was done is a turn less
+  pub went_on : {next : CoreView} {later m : ℕ} → IsTimed now ticks m next later → to_do next < to_do now
+  went_on {next} {later} {m} o =
       let agreed = rounds.goes_agreed now next ticks later agreed_now fits_now o.goes.goes in
-      rounds.falls (to_do next) (to_do now) (count + 1) (count - 0) (count - idle)
-      (rounds.to_do_less now next ticks later o.goes agreed (subst FitsEngine (sym o.goes.goes.plan) fits_now)) (omega arith)
+      let less = rounds.to_do_less now next ticks later o.goes agreed (subst FitsEngine (sym o.goes.goes.plan) fits_now) in
+      omega arith
 
 -- ---- the Earliest behind them
 
@@ -260,7 +221,7 @@ module _ (v w : CoreView) (agreed : IsAgreed (design v.plan) (lockstep_run v.pla
   least_is m ((c, may, inl (same, is)), changed) first =
       let inside = agreed.marks.inside in
       let at = may.open_step.determined.at in
-      let below = determined_inside (design v.plan) v.plan.cycles (theory_of v) inside m c at in
+      let below = determined_inside (design v.plan) (theory_of v) inside m c at in
       earliest_found (design v.plan) v.plan.cycles (theory_of v) inside m c below may first ∙ ap Some (sym is)
   least_is m ((c, may, inr (other, is)), changed) first = absurd (changed is)
 
@@ -289,7 +250,7 @@ module _ (v : CoreView) (inside : IsInside (design v.plan) (theory_of v)) where
     where
       stopped : (n c : ℕ) → IsDetermined (design v.plan) v.plan.cycles x n c → ⊥
       stopped n c at =
-          none n (determined_inside (design v.plan) v.plan.cycles x inside n c at.at) (inr (c, at))
+          none n (determined_inside (design v.plan) x inside n c at.at) (inr (c, at))
 
 -- and where one has, something is
 pub not_final : (v : CoreView) (m : ℕ) → HasMore v m → IsFinal (design v.plan) v.plan.cycles (theory_of v) → ⊥
@@ -304,21 +265,3 @@ not_final v m (inr (c, at)) f =
                 (record { determined = at; open_query = u; undecided = t })
           ]
     ]
-
--- what the tests of a module tell
-pub cycle_of_ok : (v : CoreView) (m : ℕ) (r : Result ℕ Cause) → IfOk r (λ c. IsDetermined (design v.plan) v.plan.cycles (theory_of v) m c)
-    → is_ok r ≡ true → (c : ℕ) × IsDetermined (design v.plan) v.plan.cycles (theory_of v) m c
-cycle_of_ok v m (Ok c) at e = (c, at)
-cycle_of_ok v m (Err c) at e = cc
-
-pub none_more : {A : Type 0} (v : CoreView) (m : ℕ) (r : Result A Cause)
-    → IfErr r (λ c. IsPermitted (design v.plan) v.plan.cycles (theory_of v) (Run m) → ⊥) → is_ok r ≡ false
-    → (q : Result ℕ Cause) → IfErr q (λ c. first_some (cycle_causes (design v.plan) v.plan.cycles (theory_of v) m) ≡ Some c)
-    → is_ok q ≡ false → HasMore v m → ⊥
-none_more {A} v m (Ok a) refused e q cause f more = cc
-none_more {A} v m (Err a) refused e (Ok c) cause f more = cc
-none_more {A} v m (Err a) refused e (Err c) cause f (inl may) = refused may
-none_more {A} v m (Err a) refused e (Err c) cause f (inr (t, at)) =
-    let none = causing.cycle_found (design v.plan) v.plan.cycles (theory_of v) m t at in
-    let no : None ≡ Some c = sym none ∙ cause in
-    cc

@@ -1,4 +1,4 @@
--- What the calls over a graph, a table and a log do to a core: cycles and answers.
+-- What the calls of an engine do to a core: cycles and answers.
 use Rattle.std.proofs.Common.{◌≡◌, refl, sym, ap, ap₂, subst, ◌∙◌, ℕ, zero, suc, ◌+◌, ◌-◌, ◌*◌, ◌<◌, inl, inr, Bool, true, false, cond}
 use Rattle.std.proofs.Common.{ltb, ◌&&◌, List, [], length, get_or, set, Option, None, Some, arith}
 use Rattle.std.proofs.lemmas.Bool.{cases_Bool, both_ways, lt-ltb}
@@ -35,7 +35,8 @@ use Rattle.engine_view.specs.declared.turn.Timing.TheVariants.{Assigned, Answere
 use Rattle.engine_view.specs.declared.turn.Timing.TheVariants as turn
 use Rattle.engine_view.specs.Held.{Held, no_step, emitted_of, step_of, are_among, core_of}
 use Rattle.engine_view.specs.Kept.{IsKept}
-use Rattle.engine_view.specs.Stored.{Stored, held_in}
+use Rattle.engine_view.specs.declared.engine.Engine.{Engine}
+use Rattle.engine_view.specs.Engines.{held_in}
 use Rattle.engine_view.specs.Taking.{kinds_in}
 use Rattle.engine_view.specs.Turns.{HasTimed, HasAnswered, KeepsRoom, HasUnsure, IsSomeCore, first_of, left_of, left}
 use Rattle.engine_view.proofs.Bounds.{candidate_is}
@@ -43,7 +44,7 @@ use Rattle.sim_core.specs.Views.{CoreView}
 use Rattle.sim_core.specs.Runs.{AreUnreadIn, IsCore, over_of}
 use Rattle.sim_core.specs.Turns.{HasTurned, HasAnsweredLeast}
 use Rattle.sim_core.specs.Candidates.{AreCandidates}
-use Rattle.sim_core.proofs.Causing.{determined_inside}
+use Rattle.sim_core.proofs.Rounds.{determined_inside}
 use Rattle.sim_core.proofs.Keeping.{core_acted, kept_of}
 use Rattle.sim_core.specs.declared.unread.Unread.{Unread}
 use Rattle.sim_core.proofs.Leaving.{unread_acted}
@@ -65,7 +66,7 @@ sum_same f g zero e = refl
 sum_same f g (suc n) e = ap₂ (λ (a b : ℕ). a + b) (sum_same f g n e) (e n)
 
 -- where less is left, the core is another
-pub changed : {S : Type 0} (d : Design S) (s t : Stored) (over : List Bool) → length t.graph.lanes ≡ length s.graph.lanes → left t < left s
+pub changed : {S : Type 0} (d : Design S) (s t : Engine) (over : List Bool) → length t.graph.lanes ≡ length s.graph.lanes → left t < left s
     → core_of d (held_in t over) ≡ core_of d (held_in s over) → ⊥
 unfolding left
 changed {S} d s t over same less e =
@@ -80,8 +81,7 @@ changed {S} d s t over same less e =
 
 -- ---- what a call asks, and leaves
 
-module _ (p : Plan) (s t : Stored) (ends : List (Option Advance)) (runs : List (Option ModuleRun)) (credits : List ℕ)
-    (k : IsCore p s ends runs credits) where
+module _ {p : Plan} {s : Engine} {ends : List (Option Advance)} {runs : List (Option ModuleRun)} (k : IsCore p s ends runs) where
   abbrev over : List Bool
   over = over_of ends
 
@@ -92,46 +92,51 @@ module _ (p : Plan) (s t : Stored) (ends : List (Option Advance)) (runs : List (
   is_design = plan_is_design p k.fits
 
   kept : IsKept d (held_in s over)
-  kept = kept_of p s ends runs credits k
+  kept = kept_of k
 
   pub some_core : IsSomeCore s
-  some_core = (d, over, credits, is_design, kept, k.room)
-
-  same_core : t ≡ s → IsCore p t ends runs credits
-  same_core e = rw e k
+  some_core = (d, over, is_design, kept, k.room)
 
   -- the lists that the view has
-  abbrev seen : Stored → List Bool → CoreView
+  abbrev seen : Engine → List Bool → CoreView
   seen u lent = record { plan = p; held = held_in u over; lent = lent }
 
-  pub core_timed : (m : ℕ) (r : Timing) → HasTimed r p.cycles m s t → KeepsRoom s t → kinds_in t.table.channels ≡ kinds_in s.table.channels
-      → IsCore p t ends runs credits
-  core_timed m (Assigned c) done room kinds =
-      let leads = (done d over is_design kept).1 in
-      core_acted p s t ends ends runs credits credits k (Assign m) leads.acts leads.kept.sound kinds refl
-      (room credits d over is_design kept k.room) (λ n run e. tt) (λ n mark e. inl e)
-  core_timed m (Answered c) done room kinds =
-      let leads = (done d over is_design kept).1 in
-      core_acted p s t ends ends runs credits credits k (Answer m) leads.acts leads.kept.sound kinds refl
-      (room credits d over is_design kept k.room) (λ n run e. tt) (λ n mark e. inl e)
-  core_timed m (Differs q) (e, f) room kinds = same_core e
-  core_timed m turn.Nothing (e, f) room kinds = same_core e
+  -- ---- a turn
 
-  pub unread_timed : (m : ℕ) (r : Timing) (unread : List Unread) → HasTimed r p.cycles m s t → AreUnreadIn p s ends unread
-      → AreUnreadIn p t ends unread
-  unread_timed m (Assigned c) unread done are =
-      unread_acted p s ends runs credits k unread are (Assign m) (core_of d (held_in t over)) (done d over is_design kept).1.acts
-  unread_timed m (Answered c) unread done are =
-      unread_acted p s ends runs credits k unread are (Answer m) (core_of d (held_in t over)) (done d over is_design kept).1.acts
-  unread_timed m (Differs q) unread (e, f) are = rw e are
-  unread_timed m turn.Nothing unread (e, f) are = rw e are
+  module _ (t : Engine) where
+    same_core : t ≡ s → IsCore p t ends runs
+    same_core e = rw e k
 
-  pub turned : (m : ℕ) (r : Timing) (lent : List Bool) → HasTimed r p.cycles m s t
-      → ((c : ℕ) → r ≡ Answered c → core_of d (held_in t over) ≡ core_of d (held_in s over) → ⊥) → HasTurned r (seen s lent) m (seen t lent)
-  turned m (Assigned c) lent done other = (done d over is_design kept).1.acts
-  turned m (Answered c) lent done other = ((done d over is_design kept).1.acts, other c refl)
-  turned m (Differs q) lent (e, f) other = (ap (λ (u : Stored). seen u lent) e, f d over is_design kept)
-  turned m turn.Nothing lent (e, f) other = (ap (λ (u : Stored). seen u lent) e, f d over is_design kept)
+    pub core_timed : (m : ℕ) (r : Timing) → HasTimed r p.cycles m s t → KeepsRoom s t
+        → kinds_in t.fifos.channels ≡ kinds_in s.fifos.channels
+        → IsCore p t ends runs
+    core_timed m (Assigned c) done room kinds =
+        let leads = (done d over is_design kept).1 in
+        core_acted k t ends (Assign m) leads.acts leads.kept.sound kinds (rw room.credits refl)
+        (room.room d over is_design kept k.room) (λ n run e. tt) (λ n mark e. inl e)
+    core_timed m (Answered c) done room kinds =
+        let leads = (done d over is_design kept).1 in
+        core_acted k t ends (Answer m) leads.acts leads.kept.sound kinds (rw room.credits refl)
+        (room.room d over is_design kept k.room) (λ n run e. tt) (λ n mark e. inl e)
+    core_timed m (Differs q) (e, f) room kinds = same_core e
+    core_timed m turn.Nothing (e, f) room kinds = same_core e
+
+    pub unread_timed : (m : ℕ) (r : Timing) (unread : List Unread) → HasTimed r p.cycles m s t → AreUnreadIn p s ends unread
+        → AreUnreadIn p t ends unread
+    unread_timed m (Assigned c) unread done are =
+        unread_acted p s ends runs k unread are (Assign m) (core_of d (held_in t over)) (done d over is_design kept).1.acts
+    unread_timed m (Answered c) unread done are =
+        unread_acted p s ends runs k unread are (Answer m) (core_of d (held_in t over)) (done d over is_design kept).1.acts
+    unread_timed m (Differs q) unread (e, f) are = rw e are
+    unread_timed m turn.Nothing unread (e, f) are = rw e are
+
+    pub turned : (m : ℕ) (r : Timing) (lent : List Bool) → HasTimed r p.cycles m s t
+        → ((c : ℕ) → r ≡ Answered c → core_of d (held_in t over) ≡ core_of d (held_in s over) → ⊥)
+        → HasTurned r (seen s lent) m (seen t lent)
+    turned m (Assigned c) lent done other = (done d over is_design kept).1.acts
+    turned m (Answered c) lent done other = ((done d over is_design kept).1.acts, other c refl)
+    turned m (Differs q) lent (e, f) other = (ap (λ (u : Engine). seen u lent) e, f d over is_design kept)
+    turned m turn.Nothing lent (e, f) other = (ap (λ (u : Engine). seen u lent) e, f d over is_design kept)
 
   -- ---- the least open step
 
@@ -146,7 +151,7 @@ module _ (p : Plan) (s t : Stored) (ends : List (Option Advance)) (runs : List (
 
   emitted_there : (m c : ℕ) → candidate d (view d x) m ≡ Some c → m < length h.lanes
   emitted_there m c e =
-      let inside = determined_inside d p.cycles x k.agreed.marks.inside m c e in
+      let inside = determined_inside d x k.agreed.marks.inside m c e in
       let same = k.sound.lanes in omega arith
 
   module _ (quiet : IsQuiet d p.cycles x) where
@@ -187,7 +192,7 @@ module _ (p : Plan) (s t : Stored) (ends : List (Option Advance)) (runs : List (
           slice_get-get_or candidates n Nothing (omega arith)
           ∙ ap Some ((all n e inside).1 (candidate_is d is_design h k.sound n ∙ o.determined.at, o.determined.below))
 
-      module _ (m c : ℕ) (first : IsEarliest candidates m c) where
+      module _ {m c : ℕ} (first : IsEarliest candidates m c) where
         least_inside : m < length h.lanes
         least_inside = let within = slice_get_within candidates m (At c) first.here in omega arith
 
@@ -210,7 +215,7 @@ module _ (p : Plan) (s t : Stored) (ends : List (Option Advance)) (runs : List (
 
   -- ---- the answer to an open step
 
-  module _ (m c : ℕ) (may : MayEarliest d p.cycles x m c) where
+  module _ {m c : ℕ} (may : MayEarliest d p.cycles x m c) where
     emitted : first_of h m < emitted_of h m
     emitted = first_emitted d x m c may.open_step.determined.at
 
@@ -225,32 +230,34 @@ module _ (p : Plan) (s t : Stored) (ends : List (Option Advance)) (runs : List (
         among_false : (a b : Bool) → a ≡ true → (a && b) ≡ false → b ≡ false
         among_false a b e f = cc
 
-    pub core_answered : (g : Guard) → HasAnswered g m c s t → KeepsRoom s t → kinds_in t.table.channels ≡ kinds_in s.table.channels
-        → IsCore p t ends runs credits
-    core_answered guard.Same done room kinds =
-        let a = done d over is_design kept in
-        core_acted p s t ends ends runs credits credits k (Earliest m) (c, may, inl (a.same, a.now.core)) a.now.kept.sound kinds
-        refl (room credits d over is_design kept k.room) (λ n run e. tt) (λ n mark e. inl e)
-    core_answered (guard.Differs q) (e, f) room kinds = same_core e
+    module _ (t : Engine) where
+      pub core_answered : (g : Guard) → HasAnswered g m c s t → KeepsRoom s t → kinds_in t.fifos.channels ≡ kinds_in s.fifos.channels
+          → IsCore p t ends runs
+      core_answered guard.Same done room kinds =
+          let a = done d over is_design kept in
+          core_acted k t ends (Earliest m) (c, may, inl (a.same, a.now.core)) a.now.kept.sound kinds
+          (rw room.credits refl) (room.room d over is_design kept k.room) (λ n run e. tt) (λ n mark e. inl e)
+      core_answered (guard.Differs q) (e, f) room kinds = same_core t e
 
-    pub unread_answered : (g : Guard) (unread : List Unread) → HasAnswered g m c s t → AreUnreadIn p s ends unread
-        → AreUnreadIn p t ends unread
-    unread_answered guard.Same unread done are =
-        let a = done d over is_design kept in
-        unread_acted p s ends runs credits k unread are (Earliest m) (core_of d (held_in t over)) (c, may, inl (a.same, a.now.core))
-    unread_answered (guard.Differs q) unread (e, f) are = rw e are
+      pub unread_answered : (g : Guard) (unread : List Unread) → HasAnswered g m c s t → AreUnreadIn p s ends unread
+          → AreUnreadIn p t ends unread
+      unread_answered guard.Same unread done are =
+          let a = done d over is_design kept in
+          unread_acted p s ends runs k unread are (Earliest m) (core_of d (held_in t over)) (c, may, inl (a.same, a.now.core))
+      unread_answered (guard.Differs q) unread (e, f) are = rw e are
 
-    pub open_answered : (g : Guard) (lent : List Bool) → HasAnswered g m c s t → HasAnsweredLeast (Some (m, g)) (seen s lent) (seen t lent)
-    open_answered guard.Same lent done =
-        let a = done d over is_design kept in (
-          (c, may, inl (a.same, a.now.core)),
-          λ e.
-              let now : x.verified m (x.timed m) ≡ true = ap (λ (q : Core ModuleState). q.verified m (x.timed m)) (sym e ∙ a.now.core)
-              ∙ put_at_same x.verified m (x.timed m) true in
-              both_ways _ may.open_step.open_query now,
-        )
-    open_answered (guard.Differs q) lent (e, f) =
-        (ap (λ (u : Stored). seen u lent) e, record { cycle = c; may = may; found = f d over is_design kept })
+      pub open_answered : (g : Guard) (lent : List Bool) → HasAnswered g m c s t
+          → HasAnsweredLeast (Some (m, g)) (seen s lent) (seen t lent)
+      open_answered guard.Same lent done =
+          let a = done d over is_design kept in (
+            (c, may, inl (a.same, a.now.core)),
+            λ e.
+                let now : x.verified m (x.timed m) ≡ true = ap (λ (q : Core ModuleState). q.verified m (x.timed m)) (sym e ∙ a.now.core)
+                ∙ put_at_same x.verified m (x.timed m) true in
+                both_ways _ may.open_step.open_query now,
+          )
+      open_answered (guard.Differs q) lent (e, f) =
+          (ap (λ (u : Engine). seen u lent) e, record { cycle = c; may = may; found = f d over is_design kept })
 
 -- ---- the list of candidates
 

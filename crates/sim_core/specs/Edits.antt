@@ -26,7 +26,7 @@ pub record IsAsBefore (old new : CoreView) (e : Edit) (guard : Guard) (before af
 -- answered, as long as that is permitted or until an outcome is not the recorded one
 pub record IsRetimed (old new : CoreView) (e : Edit) (guard : Guard) (before after : ℕ) : Type 0 where
   pub clock : ℕ
-  pub from : IsEditFrom old.held.lanes old.held.channels e.channel e.depth old.plan.cycles clock
+  pub from : IsEditFrom old.held.lanes old.held.channels e old.plan.cycles clock
   pub leads : LeadsAll (design new.plan) new.plan.cycles (after_edit (design old.plan) (theory_of old) clock) new.held
   pub ended : HasEnded guard (design new.plan) new.plan.cycles new.held
   -- one tick for each cycle that was given, and no more than there are steps beside those whose cycles stay
@@ -37,7 +37,7 @@ pub record IsRetimed (old new : CoreView) (e : Edit) (guard : Guard) (before aft
 -- few cycles changed: with those that did, the core is that of the edited plan, and nothing is left to do
 pub record IsChanged (old new : CoreView) (e : Edit) (guard : Guard) (before after : ℕ) : Type 0 where
   pub clock : ℕ
-  pub from : IsEditFrom old.held.lanes old.held.channels e.channel e.depth old.plan.cycles clock
+  pub from : IsEditFrom old.held.lanes old.held.channels e old.plan.cycles clock
   pub same : guard ≡ Same
   pub sound : IsSound (design new.plan) new.held
   pub agreed : IsAgreed (design new.plan) (lockstep_run new.plan) new.plan.cycles (theory_of new)

@@ -14,9 +14,6 @@ pub mod Readers
 pub mod Lent
 pub mod Unread
 pub mod Returned
-pub mod Causes
-pub mod Missing
-pub mod Acted
 pub mod AccessLog
 pub mod Costs
 pub mod Asking

@@ -1,25 +1,26 @@
 -- Marks that come back to a core.
-use Rattle.std.specs.Prelude.{◌≡◌, ℕ, ◌*◌, ◌≤◌, Bool, true, List, length, slice_index, slice_index_or, Option}
+use Rattle.std.specs.Prelude.{◌≡◌, ℕ, ◌*◌, ◌<◌, ◌≤◌, Bool, true, false, List, length, slice_index, slice_index_or, Option}
 use Rattle.flow_design.specs.declared.limits.TheConstants.{LIVE_ITERATIONS, OPERATIONS}
 use Rattle.flow_design.specs.declared.plan.Plan.{Plan}
 use Rattle.flow_design.specs.declared.state.Advance.{Advance}
 use Rattle.flow_design.specs.declared.state.ModuleState.{ModuleState}
 use Rattle.module_interp.specs.declared.run.ModuleRun.{ModuleRun}
 use Rattle.module_interp.specs.OwnRests.{mark_at}
-use Rattle.module_interp.specs.Runs.{IsSoundMark}
+use Rattle.module_interp.specs.Runs.{waits, IsSoundMark}
 use Rattle.event_timing.specs.Core.{Core}
 use Rattle.event_timing.specs.Actions.{MayRun}
 use Rattle.timing_bridge.specs.Designs.{design}
 use Rattle.engine_view.specs.Held.{core_of}
-use Rattle.engine_view.specs.Stored.{Stored, held_in}
+use Rattle.engine_view.specs.declared.engine.Engine.{Engine}
+use Rattle.engine_view.specs.Engines.{held_in}
 use Rattle.run_ahead.specs.declared.mail.Task.{Task}
 use Rattle.run_ahead.specs.Mails.{IsBurst}
 use Rattle.run_ahead.specs.Working.{burst_of}
-use Rattle.sim_core.specs.Runs.{IsCore, lent_of, over_of, rest_behind}
+use Rattle.sim_core.specs.Runs.{IsRunOf, IsCore, lent_of, over_of, rest_behind}
 use Rattle.sim_core.specs.Tasks.{IsTaskFor, rest_of}
 
 -- what is stored, as the theory's core
-abbrev pub core_in : Plan → Stored → List (Option Advance) → Core ModuleState
+abbrev pub core_in : Plan → Engine → List (Option Advance) → Core ModuleState
 core_in p s ends = core_of (design p) (held_in s (over_of ends))
 
 -- no step has more queries
@@ -27,25 +28,34 @@ abbrev pub most_queries : ℕ
 most_queries = LIVE_ITERATIONS * OPERATIONS
 
 -- a core whose run of this module is out, with room for so many marks of it
-pub record HasRoomForMarks (p : Plan) (s : Stored) (ends : List (Option Advance)) (runs : List (Option ModuleRun)) (credits : List ℕ)
+pub record HasRoomForMarks (p : Plan) (s : Engine) (ends : List (Option Advance)) (runs : List (Option ModuleRun))
     (m count : ℕ) : Type 0 where
-  pub core : IsCore p s ends runs credits
+  pub core : IsCore p s ends runs
   pub lent : slice_index_or (lent_of runs) m true ≡ true
-  pub places : 2 * count ≤ slice_index credits m
+  pub places : 2 * count ≤ slice_index s.credits.items m
   pub outcomes : most_queries ≤ slice_index s.log.rooms m
 
 -- the mark is the module's next, there is room for it, and a Run is permitted
-pub record IsNextMark (p : Plan) (s : Stored) (ends : List (Option Advance)) (runs : List (Option ModuleRun)) (credits : List ℕ) (m : ℕ)
+pub record IsNextMark (p : Plan) (s : Engine) (ends : List (Option Advance)) (runs : List (Option ModuleRun)) (m : ℕ)
     (mark : Advance) : Type 0 where
-  pub room : HasRoomForMarks p s ends runs credits m 1
+  pub room : HasRoomForMarks p s ends runs m 1
   pub may : MayRun (design p) (core_in p s ends) m
   pub is : mark ≡ mark_at p m (rest_behind p (core_in p s ends) m ((core_in p s ends).emitted m))
   pub sound : IsSoundMark (length (rest_behind p (core_in p s ends) m ((core_in p s ends).emitted m)).steps) mark
 
+-- the run is out of the core and waits for nothing, and there is room for its next mark
+pub record CanGoOn (p : Plan) (s : Engine) (ends : List (Option Advance)) (runs : List (Option ModuleRun)) (m : ℕ) (run : ModuleRun)
+    : Type 0 where
+  pub room : HasRoomForMarks p s ends runs m 1
+  pub inside : m < length p.design.modules
+  pub run_is : IsRunOf p (core_in p s ends) m run
+  pub answered : waits run ≡ false
+  pub lives : slice_index_or (over_of ends) m false ≡ false
+
 -- the marks are those of a burst on a task for the core, which leaves this run with this mail, and there is room for them
-pub record AreReturned (p : Plan) (s : Stored) (ends : List (Option Advance)) (runs : List (Option ModuleRun)) (credits : List ℕ) (m : ℕ)
+pub record AreReturned (p : Plan) (s : Engine) (ends : List (Option Advance)) (runs : List (Option ModuleRun)) (m : ℕ)
     (marks : List Advance) (last : Task) : Type 0 where
-  pub room : HasRoomForMarks p s ends runs credits m (length marks)
+  pub room : HasRoomForMarks p s ends runs m (length marks)
   pub task : Task
   pub short : Bool
   pub is_task : IsTaskFor p (core_in p s ends) m task

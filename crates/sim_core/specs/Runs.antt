@@ -1,6 +1,5 @@
 -- Where the modules' runs stand beside the core, and what a core keeps.
 use Rattle.std.specs.Prelude.{◌≡◌, ℕ, suc, ◌<◌, Bool, true, false, List, Option, None, Some, map, is_none, is_some, slice_index_or, length}
-use Rattle.flow_word.specs.declared.access.Port.{Port}
 use Rattle.flow_design.specs.StaticRules.{FitsEngine}
 use Rattle.flow_design.specs.declared.plan.Plan.{Plan}
 use Rattle.flow_design.specs.declared.state.Advance.{Advance}
@@ -19,13 +18,16 @@ use Rattle.timing_bridge.specs.OwnRuns.{core_replies}
 use Rattle.engine_view.specs.Held.{core_of}
 use Rattle.engine_view.specs.Shown.{IsSound}
 use Rattle.engine_view.specs.Rooms.{IsRoomy}
-use Rattle.engine_view.specs.Stored.{Stored, held_in}
+use Rattle.engine_view.specs.declared.engine.Engine.{Engine}
+use Rattle.engine_view.specs.Engines.{held_in}
 use Rattle.engine_view.specs.Taking.{kinds_in}
+use Rattle.sim_core.specs.Views.{CoreView, theory_of}
 use Rattle.sim_core.specs.Opening.{kinds_of, AreOwnPorts}
 use Rattle.sim_core.specs.Readers.{AreReaders}
 use Rattle.sim_core.specs.Asking.{AreBeside, AreAsking}
 use Rattle.sim_core.specs.Unread.{AreUnread}
 use Rattle.sim_core.specs.declared.unread.Unread.{Unread}
+use Rattle.sim_core.specs.declared.wiring.Wiring.{Wiring}
 
 -- ---- runs
 
@@ -42,6 +44,12 @@ pub record IsRunOf (p : Plan) (x : Core ModuleState) (m : ℕ) (run : ModuleRun)
   pub waiting : waits run ≡ true → (k : ℕ) × (suc k ≡ x.emitted m) × StandsAt p m (rest_behind p x m k) run
   pub going : waits run ≡ false → IsAnswered p x m × StandsAt p m (rest_behind p x m (x.emitted m)) run
   pub over : x.over m ≡ true → waits run ≡ false
+
+-- the module's run is this one, and it is out of the core
+pub record IsOut (v : CoreView) (m : ℕ) (run : ModuleRun) : Type 0 where
+  pub inside : m < length v.plan.design.modules
+  pub lent : slice_index_or v.lent m true ≡ true
+  pub run_is : IsRunOf v.plan (theory_of v) m run
 
 -- the mark of the end behind all steps of the module, which has every reply
 pub record IsEndOf (p : Plan) (x : Core ModuleState) (m : ℕ) (mark : Advance) : Type 0 where
@@ -61,33 +69,36 @@ over_of ends = map is_some ends
 
 -- what is held is a core of the plan that agrees with its lockstep run, there is room, and the runs stand at its newest marks. Nothing is
 -- said of an outcome that is not verified
-pub record IsCore (p : Plan) (s : Stored) (ends : List (Option Advance)) (runs : List (Option ModuleRun)) (credits : List ℕ) : Type 0 where
+pub record IsCore (p : Plan) (s : Engine) (ends : List (Option Advance)) (runs : List (Option ModuleRun)) : Type 0 where
   pub fits : FitsEngine p
   pub sound : IsSound (design p) (held_in s (over_of ends))
   pub agreed : IsAgreed (design p) (lockstep_run p) p.cycles (core_of (design p) (held_in s (over_of ends)))
-  pub table : kinds_in s.table.channels ≡ kinds_of p
+  pub table : kinds_in s.fifos.channels ≡ kinds_of p
   pub count : length runs ≡ length s.graph.lanes
-  pub counted : length credits ≡ length s.graph.lanes
-  pub room : IsRoomy (design p) s (over_of ends) credits
+  pub counted : length s.credits.items ≡ length s.graph.lanes
+  pub room : IsRoomy (design p) s (over_of ends)
   pub runs_are : (m : ℕ) (run : ModuleRun) → slice_index_or runs m None ≡ Some run
       → IsRunOf p (core_of (design p) (held_in s (over_of ends))) m run
   pub ends_are : (m : ℕ) (mark : Advance) → slice_index_or ends m None ≡ Some mark
       → IsEndOf p (core_of (design p) (held_in s (over_of ends))) m mark
 
 -- what came back unread of each channel are the next ones of its values, behind so many
-abbrev pub AreUnreadIn : Plan → Stored → List (Option Advance) → List Unread → Type 0
+abbrev pub AreUnreadIn : Plan → Engine → List (Option Advance) → List Unread → Type 0
 AreUnreadIn p s ends unread = AreUnread (core_values (design p) (core_of (design p) (held_in s (over_of ends)))) (length p.design.channels)
     unread
 
--- and each module has its own ports, which are given room, it is told who pops each channel, what came back unread, who shares a channel
--- with whom and who may be given a cycle or an answer, and there is a candidate for each module
-pub record IsStoredCore (p : Plan) (s : Stored) (ends : List (Option Advance)) (runs : List (Option ModuleRun)) (credits : List ℕ)
-    (ports : List (List Port))
-    (readers : List ℕ) (unread : List Unread) (beside : List ℕ) (asking : ℕ) (candidates : List Candidate) : Type 0 where
-  pub core : IsCore p s ends runs credits
-  pub ports_are : AreOwnPorts p (length p.design.modules) ports
-  pub readers_are : AreReaders p readers
+-- each module has its own ports, it is told who pops each channel, and who shares a channel with whom
+pub record IsWired (p : Plan) (w : Wiring) : Type 0 where
+  pub ports_are : AreOwnPorts p (length p.design.modules) w.ports
+  pub readers_are : AreReaders p w.readers.items
+  pub beside_are : AreBeside p w.beside
+
+-- and it is told who stands where, what came back unread, and who may be given a cycle or an answer, and there is a candidate for each
+-- module
+pub record IsStoredCore (p : Plan) (s : Engine) (ends : List (Option Advance)) (runs : List (Option ModuleRun)) (wiring : Wiring)
+    (unread : List Unread) (asking : ℕ) (candidates : List Candidate) : Type 0 where
+  pub core : IsCore p s ends runs
+  pub wired : IsWired p wiring
   pub unread_are : AreUnreadIn p s ends unread
-  pub beside_are : AreBeside p beside
   pub asking_are : AreAsking p (core_of (design p) (held_in s (over_of ends))) asking
   pub candidate_count : length candidates ≡ length p.design.modules

@@ -1,5 +1,5 @@
 -- What rounds of Assigns and Answers leave of a core.
-use Rattle.std.specs.Prelude.{◌≡◌, ℕ, ◌+◌, ◌<◌, ◌≤◌, ◌⊎◌, true, false, length}
+use Rattle.std.specs.Prelude.{◌≡◌, ℕ, ◌+◌, ◌≤◌, ◌⊎◌, true, false, length}
 use Rattle.flow_design.specs.StaticRules.{FitsEngine}
 use Rattle.event_timing.specs.Actions.{MayRun, IsDetermined}
 use Rattle.event_timing.specs.Agreement.{IsAgreed, AllVerified}
@@ -7,7 +7,8 @@ use Rattle.event_timing.specs.Work.{work}
 use Rattle.timing_bridge.specs.Designs.{design, lockstep_run}
 use Rattle.turn_history.specs.Rounds.{may_time, after_timing, timings}
 use Rattle.sim_core.specs.Views.{CoreView, theory_of}
-use Rattle.sim_core.specs.Drives.{Goes, GoesOn, IsVisited}
+use Rattle.engine_view.specs.Cursors.{CursorView, AreIdle}
+use Rattle.sim_core.specs.Drives.{Goes, GoesOn}
 
 -- an Assign or an Answer of the module is permitted
 abbrev pub IsTimable : CoreView → ℕ → Type 0
@@ -22,21 +23,19 @@ pub record IsTimed (v : CoreView) (before m : ℕ) (w : CoreView) (after : ℕ) 
   pub is : theory_of w ≡ after_timing (design v.plan) v.plan.cycles (theory_of v) m
   pub goes : GoesOn v before w after
 
--- what the rounds keep: `done` actions led from `first` to `now`, and the next module is looked for from `at` on
-pub record IsTimingRound (first now : CoreView) (before ticks count at idle done : ℕ) : Type 0 where
+-- what the rounds keep: `done` actions led from `first` to `now`, and the next module is looked for from the cursor on
+pub record IsTimingRound (first now : CoreView) (before ticks : ℕ) (cursor : CursorView) (done : ℕ) : Type 0 where
   pub goes : Goes first before now ticks
   pub agreed : IsAgreed (design first.plan) (lockstep_run first.plan) first.plan.cycles (theory_of first)
   pub fits : FitsEngine first.plan
   pub verified : AllVerified (theory_of first)
-  pub counted : count ≡ length now.plan.design.modules
-  pub within : idle ≤ count
-  pub at_most : at ≤ count
-  pub inside : 0 < count → at < count
-  -- nothing is permitted of the modules that were visited last
-  pub none_left : (m : ℕ) → m < count → IsVisited count at idle m → IsUntimable now m
+  pub counted : cursor.count ≡ length now.plan.design.modules
+  pub unhinted : cursor.hints ≡ 0
+  pub at_most : cursor.at ≤ cursor.count
+  pub idle : AreIdle (IsUntimable now) cursor
   -- the rounds that are left are the rest of all
   pub rounds : (more : ℕ) → timings (design first.plan) first.plan.cycles (done + more) 0 (theory_of first)
-      ≡ timings (design first.plan) first.plan.cycles more at (theory_of now)
+      ≡ timings (design first.plan) first.plan.cycles more cursor.at (theory_of now)
   pub few : done + work (design first.plan) (theory_of first) ≤ work (design first.plan) (theory_of now)
 
 -- ---- the end

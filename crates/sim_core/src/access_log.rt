@@ -41,7 +41,7 @@ impl Core {
         ensures { IfOk result (λ log. log ≡ log_of self.now.plan) }
     {
         steps_in_order();
-        let keys = sorted_steps(alloc, &self.graph)?;
+        let keys = sorted_steps(alloc, &self.engine.graph)?;
         let mut replies = List::new(alloc);
         let mut log = List::new(alloc);
         for key in keys.as_slice() {
@@ -60,14 +60,14 @@ impl Core {
         requires { IsTimedKey self.now.held.lanes key.now }
         ensures { OnOk result (log.new ≡ log.old ++ logged_at self.now.held key.now) }
     {
-        let step = self.graph.step(Place {
+        let step = self.engine.graph.step(Place {
             module: key.module,
             step: key.step,
         });
         let accesses = step.accesses.as_slice();
         let _all = find_replies(
-            &self.fifos,
-            &self.log,
+            &self.engine.fifos,
+            &self.engine.log,
             key.module,
             step.first_query,
             accesses,

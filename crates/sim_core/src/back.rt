@@ -1,23 +1,21 @@
 //! The marks of a run that comes back.
-ghost use Rattle.std.specs.Prelude.{◌≡◌, ℕ, ◌+◌, ◌<◌, ◌≤◌, length, slice_index, slice_get, slice_set, Some, List as Items, Option as Maybe};
+ghost use Rattle.std.specs.Prelude.{◌≡◌, ◌+◌, ◌<◌, ◌≤◌, length, slice_index, slice_get, slice_set, OnErr, OnOk, Some, List as Items, Option as Maybe};
 ghost use Rattle.flow_design.specs.declared.plan.Plan.{Plan as PlanOf};
 ghost use Rattle.event_timing.specs.Actions.{Acts, ActsAll, runs};
 ghost use Rattle.event_timing.specs.Actions.Action.{Run};
 ghost use Rattle.timing_bridge.specs.Designs.{design};
-ghost use Rattle.module_interp.specs.declared.run.ModuleRun.{ModuleRun};
-ghost use Rattle.engine_view.specs.Stored.{stored};
+ghost use Rattle.module_interp.specs.declared.run.ModuleRun.{ModuleRun as RunOf};
 ghost use Rattle.event_graph.specs.Packed.{whole, IsFewStep};
 ghost use Rattle.run_ahead.specs.declared.mail.Task.{Task as TaskOf};
-ghost use Rattle.sim_core.specs.Runs.{IsCore};
+ghost use Rattle.sim_core.specs.Runs.{IsCore, IsRunOf};
 ghost use Rattle.sim_core.specs.Tasks.{IsTaskLeft};
-ghost use Rattle.sim_core.specs.Returned.{core_in, IsNextMark, AreReturned};
+ghost use Rattle.sim_core.specs.Returned.{core_in, CanGoOn, IsNextMark, AreReturned};
 
-use engine_view::{emit_few, emit_step};
-use event_graph::{Graph, StepView};
-use fifo_table::FifoTable;
+use engine_view::Engine;
+use event_graph::{AccessesView, StepView};
 use flow_design::Advance;
-use flow_word::List;
-use query_log::QueryLog;
+use flow_word::{List, OutOfMemory};
+use module_interp::ModuleRun;
 
 /// Takes the mark of this number out of the list.
 fn take_mark(marks: &mut List<Advance>, at: u64) -> Advance
@@ -31,32 +29,27 @@ fn take_mark(marks: &mut List<Advance>, at: u64) -> Advance
 /// Emits a module's next mark. There is room for it.
 #[inline(never)]
 pub(crate) fn record_mark(
-    graph: &mut Graph,
-    fifos: &mut FifoTable,
-    log: &QueryLog,
-    credits: &mut Vec<u64>,
+    engine: &mut Engine,
     ends: &mut Vec<Option<Advance>>,
     owner: u32,
     mark: Advance,
 )
-    requires owner { owner < length graph.old.lanes }
-    requires next { (p : PlanOf) × ((runs : Items (Maybe ModuleRun))
-        × IsNextMark p (stored graph.old fifos.old log.now) ends.old.items runs credits.old.items owner mark) }
-    ensures core { (p : PlanOf) (runs : Items (Maybe ModuleRun))
-        → IsNextMark p (stored graph.old fifos.old log.now) ends.old.items runs credits.old.items owner mark
-        → IsCore p (stored graph.new fifos.new log.now) ends.new.items runs credits.new.items }
-    ensures acts { (p : PlanOf) (runs : Items (Maybe ModuleRun))
-        → IsNextMark p (stored graph.old fifos.old log.now) ends.old.items runs credits.old.items owner mark
-        → Acts (design p) p.cycles (core_in p (stored graph.old fifos.old log.now) ends.old.items) (Run owner)
-        (core_in p (stored graph.new fifos.new log.now) ends.new.items) }
-    ensures credit { slice_index credits.old.items owner ≤ slice_index credits.new.items owner + 2 }
-    ensures lanes { length graph.new.lanes ≡ length graph.old.lanes }
+    requires owner { owner < length engine.old.graph.lanes }
+    requires next { (p : PlanOf) × ((runs : Items (Maybe RunOf))
+        × IsNextMark p engine.old ends.old.items runs owner mark) }
+    ensures core { (p : PlanOf) (runs : Items (Maybe RunOf))
+        → IsNextMark p engine.old ends.old.items runs owner mark
+        → IsCore p engine.new ends.new.items runs }
+    ensures acts { (p : PlanOf) (runs : Items (Maybe RunOf))
+        → IsNextMark p engine.old ends.old.items runs owner mark
+        → Acts (design p) p.cycles (core_in p engine.old ends.old.items) (Run owner)
+        (core_in p engine.new ends.new.items) }
+    ensures log { engine.new.log ≡ engine.old.log }
+    ensures credit { slice_index engine.old.credits.items owner ≤ slice_index engine.new.credits.items owner + 2 }
+    ensures lanes { length engine.new.graph.lanes ≡ length engine.old.graph.lanes }
 {
     match mark {
-        Advance::Step(step) => {
-            credits[owner as usize] -= 2;
-            emit_step(graph, fifos, log, owner, step)
-        }
+        Advance::Step(step) => engine.emit_step(owner, step),
         end => {
             ends[owner as usize] = Some(end);
         }
@@ -65,57 +58,81 @@ pub(crate) fn record_mark(
 
 /// Emits a module's next mark, which is this step. There is room for it.
 #[inline(always)]
-pub(crate) fn record_few(
-    graph: &mut Graph,
-    fifos: &mut FifoTable,
-    log: &QueryLog,
-    credits: &mut Vec<u64>,
-    owner: u32,
-    step: &StepView<'_>,
-)
-    requires owner { owner < length graph.old.lanes }
+pub(crate) fn record_few(engine: &mut Engine, owner: u32, step: &StepView<'_>)
+    requires owner { owner < length engine.old.graph.lanes }
     requires few { IsFewStep (whole step.now) }
-    requires next { (p : PlanOf) × ((ends : Items (Maybe Advance)) × ((runs : Items (Maybe ModuleRun))
-        × IsNextMark p (stored graph.old fifos.old log.now) ends runs credits.old.items owner (Advance.Step (whole step.now)))) }
-    ensures core { (p : PlanOf) (ends : Items (Maybe Advance)) (runs : Items (Maybe ModuleRun))
-        → IsNextMark p (stored graph.old fifos.old log.now) ends runs credits.old.items owner (Advance.Step (whole step.now))
-        → IsCore p (stored graph.new fifos.new log.now) ends runs credits.new.items }
-    ensures acts { (p : PlanOf) (ends : Items (Maybe Advance)) (runs : Items (Maybe ModuleRun))
-        → IsNextMark p (stored graph.old fifos.old log.now) ends runs credits.old.items owner (Advance.Step (whole step.now))
-        → Acts (design p) p.cycles (core_in p (stored graph.old fifos.old log.now) ends) (Run owner)
-        (core_in p (stored graph.new fifos.new log.now) ends) }
+    requires next { (p : PlanOf) × ((ends : Items (Maybe Advance)) × ((runs : Items (Maybe RunOf))
+        × IsNextMark p engine.old ends runs owner (Advance.Step (whole step.now)))) }
+    ensures core { (p : PlanOf) (ends : Items (Maybe Advance)) (runs : Items (Maybe RunOf))
+        → IsNextMark p engine.old ends runs owner (Advance.Step (whole step.now))
+        → IsCore p engine.new ends runs }
+    ensures acts { (p : PlanOf) (ends : Items (Maybe Advance)) (runs : Items (Maybe RunOf))
+        → IsNextMark p engine.old ends runs owner (Advance.Step (whole step.now))
+        → Acts (design p) p.cycles (core_in p engine.old ends) (Run owner)
+        (core_in p engine.new ends) }
 {
-    credits[owner as usize] -= 2;
-    emit_few(graph, fifos, log, owner, step);
+    engine.emit_few(owner, step);
+}
+
+/// Brings a module's run, which waits for nothing, to its next mark, and emits that. There is room for it.
+///
+/// After want of memory the run stands where it stood, and nothing else changed.
+#[inline(always)]
+pub(crate) fn emit_mark(
+    engine: &mut Engine,
+    ends: &mut Vec<Option<Advance>>,
+    owner: u32,
+    run: &mut ModuleRun,
+) -> Result<(), OutOfMemory>
+    requires ready { (p : PlanOf) × ((runs : Items (Maybe RunOf)) × CanGoOn p engine.old ends.old.items runs owner run.old) }
+    ensures core { (p : PlanOf) (runs : Items (Maybe RunOf)) → CanGoOn p engine.old ends.old.items runs owner run.old
+        → IsCore p engine.new ends.new.items runs }
+    ensures acts { (p : PlanOf) (runs : Items (Maybe RunOf)) → CanGoOn p engine.old ends.old.items runs owner run.old
+        → OnOk result (Acts (design p) p.cycles (core_in p engine.old ends.old.items) (Run owner)
+        (core_in p engine.new ends.new.items)) }
+    ensures run { (p : PlanOf) (runs : Items (Maybe RunOf)) → CanGoOn p engine.old ends.old.items runs owner run.old
+        → IsRunOf p (core_in p engine.new ends.new.items) owner run.new }
+    ensures unchanged { OnErr result (engine.new ≡ engine.old) }
+    ensures no_end { OnErr result (ends.new.items ≡ ends.old.items) }
+{
+    if run.advance_few()? {
+        let step = StepView {
+            gap: run.gap(),
+            accesses: AccessesView::new(run.listed()),
+            first_query: run.queries(),
+        };
+        record_few(engine, owner, &step);
+        return Ok(());
+    }
+    let mark = run.give()?;
+    record_mark(engine, ends, owner, mark);
+    Ok(())
 }
 
 /// Emits a module's next marks. There is room for them. What is left of the list doesn't matter.
 pub(crate) fn record_all(
-    graph: &mut Graph,
-    fifos: &mut FifoTable,
-    log: &QueryLog,
-    credits: &mut Vec<u64>,
+    engine: &mut Engine,
     ends: &mut Vec<Option<Advance>>,
     owner: u32,
     marks: &mut List<Advance>,
 )
-    requires owner { owner < length graph.old.lanes }
-    requires returned { (p : PlanOf) × ((out : Items (Maybe ModuleRun)) × ((last : TaskOf)
-        × AreReturned p (stored graph.old fifos.old log.now) ends.old.items out credits.old.items owner marks.old last)) }
-    ensures core { (p : PlanOf) (out : Items (Maybe ModuleRun)) (last : TaskOf)
-        → AreReturned p (stored graph.old fifos.old log.now) ends.old.items out credits.old.items owner marks.old last
-        → IsCore p (stored graph.new fifos.new log.now) ends.new.items out credits.new.items }
-    ensures left { (p : PlanOf) (out : Items (Maybe ModuleRun)) (last : TaskOf)
-        → AreReturned p (stored graph.old fifos.old log.now) ends.old.items out credits.old.items owner marks.old last
-        → IsTaskLeft p (core_in p (stored graph.new fifos.new log.now) ends.new.items) owner last }
-    ensures acts { (p : PlanOf) (out : Items (Maybe ModuleRun)) (last : TaskOf)
-        → AreReturned p (stored graph.old fifos.old log.now) ends.old.items out credits.old.items owner marks.old last
-        → ActsAll (design p) p.cycles (core_in p (stored graph.old fifos.old log.now) ends.old.items) (runs (length marks.old) owner)
-        (core_in p (stored graph.new fifos.new log.now) ends.new.items) }
-    ensures lanes { length graph.new.lanes ≡ length graph.old.lanes }
+    requires owner { owner < length engine.old.graph.lanes }
+    requires returned { (p : PlanOf) × ((out : Items (Maybe RunOf)) × ((last : TaskOf)
+        × AreReturned p engine.old ends.old.items out owner marks.old last)) }
+    ensures core { (p : PlanOf) (out : Items (Maybe RunOf)) (last : TaskOf)
+        → AreReturned p engine.old ends.old.items out owner marks.old last
+        → IsCore p engine.new ends.new.items out }
+    ensures left { (p : PlanOf) (out : Items (Maybe RunOf)) (last : TaskOf)
+        → AreReturned p engine.old ends.old.items out owner marks.old last
+        → IsTaskLeft p (core_in p engine.new ends.new.items) owner last }
+    ensures acts { (p : PlanOf) (out : Items (Maybe RunOf)) (last : TaskOf)
+        → AreReturned p engine.old ends.old.items out owner marks.old last
+        → ActsAll (design p) p.cycles (core_in p engine.old ends.old.items) (runs (length marks.old) owner)
+        (core_in p engine.new ends.new.items) }
+    ensures lanes { length engine.new.graph.lanes ≡ length engine.old.graph.lanes }
 {
     for at in 0..marks.len() {
         let mark = take_mark(marks, at);
-        record_mark(graph, fifos, log, credits, ends, owner, mark);
+        record_mark(engine, ends, owner, mark);
     }
 }

@@ -11,7 +11,7 @@ ghost use Rattle.sim_core.specs.Asking.{IsUnhinted, AreAcross, AreBeside};
 ghost use Rattle.sim_core.specs.Opening.{AreOwnPorts};
 ghost use Rattle.sim_core.specs.Readers.{AreReaders, AreUsers};
 
-use crate::opening::ports_of;
+use crate::wiring::ports_of;
 use engine_view::{Timing, bit_of};
 use flow_design::Plan;
 use flow_word::{List, OutOfMemory, Port, Side, Words};

@@ -1,6 +1,6 @@
 //! All that is left to do.
 ghost use Rattle.std.specs.Prelude.{◌≡◌, ℕ, ◌<◌, true, false, length, slice_index_or, IfOk, OnErr};
-ghost use Rattle.event_timing.specs.Actions.{IsFinal, MayRun};
+ghost use Rattle.event_timing.specs.Actions.{MayRun};
 ghost use Rattle.event_timing.specs.Agreement.{AllVerified};
 ghost use Rattle.timing_bridge.specs.Designs.{design};
 ghost use Rattle.sim_core.specs.Views.{theory_of};
@@ -8,7 +8,7 @@ ghost use Rattle.sim_core.specs.Drives.{Goes, HasDriven};
 
 use crate::machine::Core;
 use crate::visit::Visit;
-use engine_view::{bit_of, next_of, without};
+use engine_view::{Cursor, bit_of};
 use flow_word::{OutOfMemory, Steps};
 use outcome_guard::Guard;
 use std::sync::ledger::Ledger;
@@ -25,52 +25,27 @@ impl Core {
         ensures no_memory { OnErr result ((m : ℕ) × MayRun (design self.new.plan) (theory_of self.new) m) }
         ensures same { AllVerified (theory_of self.old) → IfOk result (λ guard. guard ≡ Guard.Same) }
     {
-        let count = self.modules();
-        let mut at = 0;
-        let mut idle = 0;
-        // A bit for each of the first 64 modules of which something may have changed.
-        let mut hints = 0;
+        let mut cursor = Cursor::new(self.modules());
         // Those of which all was done.
         let mut done = 0;
         loop {
-            if idle < count {
-                match self.visit(at, steps)? {
+            match cursor.at() {
+                Some(at) => match self.visit(at, steps)? {
                     Visit::Acted(woken) => {
-                        hints |= woken & !done;
-                        idle = 0;
-                        match next_of(hints, at, count) {
-                            Some(next) => {
-                                at = next;
-                                hints = without(hints, next);
-                            }
-                            None => hints = 0,
-                        }
+                        cursor.acted(woken & !done);
+                        let _ = cursor.jump();
                     }
-                    Visit::Differs(query) => return Ok(Guard::Differs(query)),
                     Visit::Idle => {
                         done |= self.bit_if_done(at);
-                        match next_of(hints, at, count) {
-                            Some(next) => {
-                                idle = 0;
-                                at = next;
-                                hints = without(hints, next);
-                            }
-                            None => {
-                                idle += 1;
-                                at = if at + 1 < count { at + 1 } else { 0 };
-                            }
-                        }
+                        cursor.passed();
                     }
-                }
-            } else {
-                match self.answer_least() {
-                    None => return Ok(Guard::Same),
+                    Visit::Differs(query) => return Ok(Guard::Differs(query)),
+                },
+                None => match self.answer_least() {
+                    Some((owner, Guard::Same)) => cursor.acted(bit_of(owner)),
                     Some((_, Guard::Differs(query))) => return Ok(Guard::Differs(query)),
-                    Some((owner, Guard::Same)) => {
-                        hints |= bit_of(owner);
-                        idle = 0;
-                    }
-                }
+                    None => return Ok(Guard::Same),
+                },
             }
         }
     }

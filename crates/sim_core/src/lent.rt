@@ -3,19 +3,20 @@ ghost use Rattle.std.specs.Prelude.{◌≡◌, ◌+◌, ◌^◌, ◌<◌, ◌≤
 ghost use Rattle.std.specs.Prelude.{length, slice_set, slice_index_or, IsNone, IfOk, IfSome, OnOk, OnErr};
 ghost use Rattle.event_timing.specs.Actions.{ActsAll, MayRun, runs};
 ghost use Rattle.timing_bridge.specs.Designs.{design};
+ghost use Rattle.sim_core.specs.Runs.{IsOut};
 ghost use Rattle.sim_core.specs.Tasks.{IsBurstOf, IsTaskOf};
 ghost use Rattle.sim_core.specs.Views.{theory_of};
 
-use crate::actions::Action;
 use crate::back::record_all;
 use crate::machine::Core;
-use crate::opening::ports_of;
-use crate::post::make_mail;
-use crate::unread::keep_unread;
-use engine_view::{bit_of, make_room_for};
+use crate::post::{Wants, make_mail};
+use crate::unread::{Inlets, keep_unread};
+use crate::wiring::ports_of;
+use engine_view::bit_of;
 use flow_design::limits::{LIVE_ITERATIONS, OPERATIONS};
 use flow_word::{List, OutOfMemory};
-use run_ahead::{Burst, Task};
+use module_interp::ModuleRun;
+use run_ahead::{Burst, Mail, Task};
 use std::alloc::Global;
 use std::mem;
 
@@ -53,30 +54,47 @@ impl Core {
         ensures unchanged { IfOk result (λ lent. IsNone lent → self.new ≡ self.old) }
         ensures no_memory { OnErr result (self.new ≡ self.old) }
     {
-        if self.permits(Action::Run(owner)).is_err() {
+        if !self.may_run(owner) {
             return Ok(None);
         }
-        let Some(run) = &self.runs[owner as usize] else {
+        let Some(run) = self.take_out(owner) else {
             return Ok(None);
         };
-        let spare = mem::replace(&mut self.spare, List::new(alloc));
-        let mail = make_mail(
-            alloc,
-            &self.fifos,
-            &self.log,
-            &mut self.unread,
-            ports_of(&self.ports, owner),
-            &self.readers,
+        match self.mail_of(alloc, owner, &run) {
+            Ok(mail) => Ok(Some(Task { run, mail })),
+            Err(full) => {
+                self.put_back(owner, run);
+                Err(full)
+            }
+        }
+    }
+
+    /// The mail of a module's run, which is out of the core.
+    fn mail_of(&mut self, alloc: Global, owner: u32, run: &ModuleRun) -> Result<Mail, OutOfMemory>
+        requires out { IsOut self.old owner run.now }
+        ensures unchanged { self.new ≡ self.old }
+        ensures task { MayRun (design self.old.plan) (theory_of self.old) owner → IfOk result (λ mail.
+            IsTaskOf self.old.plan (theory_of self.old) owner (record { run = run.now; mail = mail })) }
+    {
+        let spare = mem::replace(&mut self.scratch.values, List::new(alloc));
+        let inlets = Inlets {
             owner,
-            run.queries(),
-            run.popped(),
-            run.waiting(),
-            spare,
-        )?;
-        let Some(run) = self.runs[owner as usize].take() else {
-            return Ok(None);
+            ports: ports_of(&self.wiring.ports, owner),
+            readers: &self.wiring.readers,
         };
-        Ok(Some(Task { run, mail }))
+        let wants = Wants {
+            first: run.queries(),
+            popped: run.popped(),
+            accesses: run.waiting(),
+        };
+        make_mail(
+            alloc,
+            &self.engine,
+            &mut self.unread,
+            &inlets,
+            &wants,
+            spare,
+        )
     }
 
     /// Takes a module's run back, with the marks that it gave meanwhile: these are as many Runs of the module, one after the
@@ -101,38 +119,29 @@ impl Core {
         let Some(wanted) = emitted.len().checked_mul(2) else {
             return Err(OutOfMemory);
         };
-        let places = places_for(self.credits[owner as usize], wanted);
-        make_room_for(
-            &mut self.graph,
-            &mut self.fifos,
-            &mut self.log,
-            &mut self.credits,
+        let places = places_for(self.engine.credits[owner as usize], wanted);
+        self.engine.make_room_for(
             owner,
-            ports_of(&self.ports, owner),
+            ports_of(&self.wiring.ports, owner),
             LIVE_ITERATIONS * OPERATIONS,
             places,
         )?;
-        record_all(
-            &mut self.graph,
-            &mut self.fifos,
-            &self.log,
-            &mut self.credits,
-            &mut self.ends,
+        record_all(&mut self.engine, &mut self.ends, owner, &mut emitted);
+        let alloc = *self.engine.credits.allocator();
+        let inlets = Inlets {
             owner,
-            &mut emitted,
-        );
-        let alloc = *self.credits.allocator();
+            ports: ports_of(&self.wiring.ports, owner),
+            readers: &self.wiring.readers,
+        };
         keep_unread(
             alloc,
             &mut self.unread,
-            ports_of(&self.ports, owner),
-            &self.readers,
-            owner,
+            &inlets,
             run.popped(),
             &mut mail.values,
         );
-        self.spare = mem::replace(&mut mail.values, List::new(alloc));
-        self.runs[owner as usize] = Some(run);
+        self.scratch.values = mem::replace(&mut mail.values, List::new(alloc));
+        self.put_back(owner, run);
         Ok(())
     }
 }

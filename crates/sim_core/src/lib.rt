@@ -2,8 +2,6 @@
 #![tactic(auto)]
 
 mod access_log;
-mod act;
-mod actions;
 mod alone;
 mod back;
 mod beside;
@@ -14,7 +12,6 @@ mod laws;
 mod lent;
 mod machine;
 mod opening;
-mod permits;
 mod post;
 mod readers;
 mod records;
@@ -26,9 +23,9 @@ mod timing;
 mod turn;
 mod unread;
 mod visit;
+mod wiring;
 
 pub use access_log::LoggedAccess;
-pub use actions::{ActFault, Action, Cause};
 pub use alone::{finish_alone, run_alone};
 pub use bursts::bursts_are_runs;
 pub use flow_design::Plan;

@@ -1,19 +1,22 @@
 //! The core.
-ghost use Rattle.std.specs.Prelude.{◌≡◌, length};
+ghost use Rattle.std.specs.Prelude.{◌≡◌, ℕ, ◌<◌, length};
 ghost use Rattle.flow_design.specs.StaticRules.{FitsEngine};
 ghost use Rattle.event_timing.specs.Agreement.{IsAgreed};
 ghost use Rattle.timing_bridge.specs.Designs.{design, lockstep_run};
-ghost use Rattle.engine_view.specs.Shown.{IsSound};
+ghost use Rattle.engine_view.specs.Held.{emitted_of};
+ghost use Rattle.engine_view.specs.Rooms.{query_bound};
+ghost use Rattle.engine_view.specs.Shown.{IsSound, queries_before};
 ghost use Rattle.sim_core.specs.Views.{theory_of};
 
 use crate::unread::Unread;
+use crate::wiring::Wiring;
 use cycle_changes::Changes;
-use event_graph::{Candidate, Graph};
-use fifo_table::FifoTable;
+use engine_view::Engine;
+use event_graph::Candidate;
 use flow_design::{Advance, Plan, Reply};
-use flow_word::{List, Port, Queue, Words};
+use flow_word::{List, Queue};
 use module_interp::ModuleRun;
-use query_log::QueryLog;
+use std::alloc::Global;
 use std::marker::Model;
 
 /// A plan with the marks, cycles and outcomes of its modules so far.
@@ -22,54 +25,65 @@ use std::marker::Model;
 /// the one there. Contracts see the plan, what is held of the modules, and of each module whether its run is lent.
 pub struct Core {
     pub(crate) plan: Plan,
-    pub(crate) graph: Graph,
-    pub(crate) fifos: FifoTable,
-    pub(crate) log: QueryLog,
+    pub(crate) engine: Engine,
     /// The end mark of each module whose own run came to its end.
     pub(crate) ends: Vec<Option<Advance>>,
     /// The run of each module; none while it is lent.
     pub(crate) runs: Vec<Option<ModuleRun>>,
-    /// How many more places each module may take at each of its ports without memory.
-    pub(crate) credits: Vec<u64>,
-    /// The ports of each module.
-    pub(crate) ports: List<List<Port>>,
-    /// Of each channel the module that pops it; the number of modules where none does.
-    pub(crate) readers: Vec<u32>,
+    /// Who stands where.
+    pub(crate) wiring: Wiring,
     /// Of each channel what came back unread with the run that pops it.
     pub(crate) unread: List<Unread>,
-    /// Of each module the others that access one of its channels, as bits.
-    pub(crate) beside: Words,
     /// The modules of which an Assign or an Answer may be permitted, as bits.
     pub(crate) asking: u64,
-    /// Room for the values of a mail: the lists of the last one that came back.
-    pub(crate) spare: List<Queue<u64>>,
-    /// Room for the replies to a step.
-    pub(crate) replies: List<Reply>,
     /// Room for a candidate of each module.
     pub(crate) candidates: Vec<Candidate>,
-    /// Room for the few cycles that an edit changes.
+    pub(crate) scratch: Scratch,
+}
+
+/// Room that is used again. What is in it doesn't matter.
+pub(crate) struct Scratch {
+    /// For the values of a mail: the lists of the last one that came back.
+    pub(crate) values: List<Queue<u64>>,
+    /// For the replies to a step.
+    pub(crate) replies: List<Reply>,
+    /// For the few cycles that an edit changes.
     pub(crate) changes: Changes,
+}
+
+impl Scratch {
+    /// No room yet.
+    pub(crate) fn new(alloc: Global) -> Scratch {
+        Scratch {
+            values: List::new(alloc),
+            replies: List::new(alloc),
+            changes: Changes::new(alloc),
+        }
+    }
+}
+
+impl Drop for Scratch {
+    fn drop(self) {
+        let Scratch {
+            values: _values,
+            replies: _replies,
+            changes: _changes,
+        } = self;
+    }
 }
 
 impl Drop for Core {
     fn drop(self) {
         let Core {
             plan: _plan,
-            graph: _graph,
-            fifos: _fifos,
-            log: _log,
+            engine: _engine,
             ends: _ends,
             runs: _runs,
-            credits: _credits,
-            ports: _ports,
-            readers: _readers,
+            wiring: _wiring,
             unread: _unread,
-            beside: _beside,
             asking: _,
-            spare: _spare,
-            replies: _replies,
             candidates: _candidates,
-            changes: _changes,
+            scratch: _scratch,
         } = self;
     }
 }
@@ -77,7 +91,7 @@ impl Drop for Core {
 impl Model for Core {
     ghost use Rattle.std.specs.Coded.{codes};
     ghost use Rattle.flow_design.specs.Codes.{plan_code};
-    ghost use Rattle.engine_view.specs.Stored.{stored, held_in};
+    ghost use Rattle.engine_view.specs.Engines.{held_in};
     ghost use Rattle.sim_core.specs.Views.{CoreView};
     ghost use Rattle.sim_core.specs.Runs.{IsStoredCore, lent_of, over_of};
 
@@ -87,12 +101,11 @@ impl Model for Core {
 
     ghost view = { λ c. record {
       plan = c.plan;
-      held = held_in (stored c.graph c.fifos c.log) (over_of c.ends.items);
+      held = held_in c.engine (over_of c.ends.items);
       lent = lent_of c.runs.items;
     } };
 
-    ghost invariant = { λ c. IsStoredCore c.plan (stored c.graph c.fifos c.log) c.ends.items c.runs.items c.credits.items c.ports
-        c.readers.items c.unread c.beside c.asking c.candidates.items };
+    ghost invariant = { λ c. IsStoredCore c.plan c.engine c.ends.items c.runs.items c.wiring c.unread c.asking c.candidates.items };
 }
 
 impl Core {
@@ -111,6 +124,18 @@ impl Core {
         ensures fits { FitsEngine self.now.plan }
         ensures sound { IsSound (design self.now.plan) self.now.held }
     {
-        self.graph.modules()
+        self.engine.graph.modules()
+    }
+
+    /// What the core holds. No module makes so many queries that their numbers run out.
+    pub fn engine(&self) -> &Engine
+        ensures lanes { result.now.graph.lanes ≡ self.now.held.lanes }
+        ensures channels { result.now.fifos.channels ≡ self.now.held.channels }
+        ensures logs { result.now.log.logs ≡ self.now.held.logs }
+        ensures few { (m : ℕ) → queries_before self.now.held m (emitted_of self.now.held m) < query_bound }
+        ensures fits { FitsEngine self.now.plan }
+        ensures sound { IsSound (design self.now.plan) self.now.held }
+    {
+        &self.engine
     }
 }

@@ -1,8 +1,6 @@
 //! How a core begins.
-ghost use Rattle.std.specs.Prelude.{◌≡◌, ℕ, ◌++◌, ◌<◌, [], true, false, None, map, length, replicate, IfOk, IfSome, OnOk};
+ghost use Rattle.std.specs.Prelude.{◌≡◌, ℕ, ◌<◌, true, false, None, map, length, replicate, IfOk, IfSome};
 ghost use Rattle.std.specs.Prelude.{slice_index_or, slice_set};
-ghost use Rattle.flow_word.specs.declared.access.Side.TheVariants.{Push};
-ghost use Rattle.sim_core.specs.Readers.{AreReaders, AreUsers};
 ghost use Rattle.flow_design.specs.StaticRules.{FitsEngine};
 ghost use Rattle.flow_design.specs.Words.{cut_to};
 ghost use Rattle.event_timing.specs.Core.{opening_core};
@@ -11,19 +9,18 @@ ghost use Rattle.timing_bridge.specs.Designs.{design};
 ghost use Rattle.lockstep_defs.specs.OwnRun.{Own};
 ghost use Rattle.module_interp.specs.OwnRests.{first_rest};
 ghost use Rattle.module_interp.specs.Runs.{StandsAt, waits};
-ghost use Rattle.sim_core.specs.Opening.{kind_in, kinds_of, port_where, ports_at, ports_to, AreOwnPorts};
+ghost use Rattle.sim_core.specs.Opening.{kind_in, kinds_of};
 ghost use Rattle.sim_core.specs.Opening.{AreFirstRuns, AreLeft, AreOlderRuns};
 ghost use Rattle.sim_core.specs.Views.{theory_of};
 
-use crate::beside::find_beside;
-use crate::machine::Core;
-use crate::readers::find_users;
+use crate::machine::{Core, Scratch};
 use crate::unread::nothing_unread;
-use cycle_changes::Changes;
+use crate::wiring::find_wiring;
+use engine_view::Engine;
 use event_graph::{Candidate, Graph};
 use fifo_table::{FifoTable, TableChannel};
 use flow_design::{Advance, ChannelKind, Plan, copy_plan};
-use flow_word::{List, OutOfMemory, Port, Side, Width, Words, cut};
+use flow_word::{List, OutOfMemory, Width, Words, cut};
 use module_interp::ModuleRun;
 use query_log::QueryLog;
 use std::alloc::Global;
@@ -78,29 +75,25 @@ fn begin(alloc: Global, plan: Plan, runs: Vec<Option<ModuleRun>>) -> Result<Core
     let log = QueryLog::new(alloc, modules)?;
     let ends = no_ends(alloc, modules)?;
     let credits = vec![in alloc; 0; modules as usize]?;
-    let readers = find_users(alloc, &plan, Side::Pop)?;
-    let writers = find_users(alloc, &plan, Side::Push)?;
-    let ports = make_ports(alloc, &plan, readers.as_slice(), writers.as_slice())?;
-    let unread = nothing_unread(alloc, plan.design.channels.len())?;
-    let candidates = no_candidates(alloc, modules)?;
-    let beside = find_beside(alloc, &plan, &ports, readers.as_slice(), writers.as_slice())?;
-    Ok(Core {
-        plan,
+    let engine = Engine {
         graph,
         fifos,
         log,
+        credits,
+    };
+    let wiring = find_wiring(alloc, &plan)?;
+    let unread = nothing_unread(alloc, plan.design.channels.len())?;
+    let candidates = no_candidates(alloc, modules)?;
+    Ok(Core {
+        plan,
+        engine,
         ends,
         runs,
-        credits,
-        ports,
-        readers,
+        wiring,
         unread,
-        beside,
         asking: u64::MAX,
-        spare: List::new(alloc),
-        replies: List::new(alloc),
         candidates,
-        changes: Changes::new(alloc),
+        scratch: Scratch::new(alloc),
     })
 }
 
@@ -220,69 +213,4 @@ fn cut_values(alloc: Global, width: Width, values: &[u64]) -> Result<Words, OutO
         words.push(cut(*value, width))?;
     }
     Ok(words)
-}
-
-/// Adds a port, where it is the module's.
-fn add_port(
-    ports: &mut List<Port>,
-    is_own: bool,
-    side: Side,
-    channel: u32,
-) -> Result<(), OutOfMemory>
-    ensures { OnOk result (ports.new ≡ ports.old ++ port_where is_own side channel) }
-{
-    if is_own {
-        ports.push(Port { side, channel })?;
-    }
-    Ok(())
-}
-
-/// The ports of a module, where it is told who pops and who pushes each channel.
-fn make_own_ports(
-    alloc: Global,
-    plan: &Plan,
-    readers: &[u32],
-    writers: &[u32],
-    owner: u32,
-) -> Result<List<Port>, OutOfMemory>
-    requires fits { FitsEngine plan.now }
-    requires readers { AreReaders plan.now readers.now }
-    requires writers { AreUsers plan.now Push writers.now }
-    ensures { IfOk result (λ ports. ports ≡ ports_to plan.now owner (length plan.now.design.channels)) }
-{
-    let mut ports = List::new(alloc);
-    for channel in 0..plan.design.channels.len() as u32 {
-        let at = channel as usize;
-        add_port(&mut ports, readers[at] == owner, Side::Pop, channel)?;
-        add_port(&mut ports, writers[at] == owner, Side::Push, channel)?;
-    }
-    Ok(ports)
-}
-
-/// The ports of each module, where it is told who pops and who pushes each channel.
-fn make_ports(
-    alloc: Global,
-    plan: &Plan,
-    readers: &[u32],
-    writers: &[u32],
-) -> Result<List<List<Port>>, OutOfMemory>
-    requires fits { FitsEngine plan.now }
-    requires readers { AreReaders plan.now readers.now }
-    requires writers { AreUsers plan.now Push writers.now }
-    ensures { IfOk result (λ ports. AreOwnPorts plan.now (length plan.now.design.modules) ports) }
-{
-    let mut ports = List::new(alloc);
-    for owner in 0..plan.design.modules.len() as u32 {
-        let own = make_own_ports(alloc, plan, readers, writers, owner)?;
-        ports.push(own)?;
-    }
-    Ok(ports)
-}
-
-/// The ports of a module.
-pub(crate) fn ports_of(ports: &List<List<Port>>, owner: u32) -> &[Port]
-    requires { owner < length ports.now }
-    ensures { result.now ≡ slice_index_or ports.now owner [] }
-{
-    ports.as_slice()[owner as usize].as_slice()
 }

@@ -1,16 +1,16 @@
 //! The mail of a run: what its next steps find.
-ghost use Rattle.std.specs.Prelude.{◌≡◌, ℕ, ◌+◌, ◌-◌, ◌<◌, ◌≤◌, [], length, take, drop, false, List as Items};
+ghost use Rattle.std.specs.Prelude.{◌≡◌, ℕ, ◌+◌, ◌-◌, ◌<◌, [], length, take, drop, false, List as Items};
 ghost use Rattle.std.specs.Prelude.{IfOk, OnOk};
 ghost use Rattle.event_timing.specs.Views.{Begins};
 ghost use Rattle.query_log.specs.Logs.{log_at};
-ghost use Rattle.engine_view.specs.Held.{values_at, queries_in};
+ghost use Rattle.engine_view.specs.Held.{values_at};
 ghost use Rattle.sim_core.specs.Lent.{AreEmpty, AreMailed, HasAllPops, IsMade};
 ghost use Rattle.sim_core.specs.Unread.{unread_at, IsUnread, AreUnread};
 
-use crate::unread::{Unread, pops, take_unread};
-use engine_view::count_queries;
+use crate::unread::{Inlets, Unread, pops, take_unread};
+use engine_view::{Engine, count_queries};
 use fifo_table::FifoTable;
-use flow_word::{Access, Flags, List, OutOfMemory, Port, Queue};
+use flow_word::{Access, Flags, List, OutOfMemory, Queue};
 use query_log::QueryLog;
 use run_ahead::Mail;
 use std::alloc::Global;
@@ -107,29 +107,27 @@ fn make_places(
     Ok(())
 }
 
-/// Reads the values of all channels that a module's next pops find, behind so many of each, into empty places. The ports are the
-/// module's.
+/// Reads the values of all channels that a module's next pops find, behind so many of each, into empty places.
 pub(crate) fn read_all(
     alloc: Global,
     fifos: &FifoTable,
     unread: &mut List<Unread>,
-    ports: &[Port],
-    readers: &[u32],
-    owner: u32,
+    inlets: &Inlets<'_>,
     popped: &[u64],
     values: &mut List<Queue<u64>>,
 ) -> Result<(), OutOfMemory>
-    requires readers { length readers.now ≡ length fifos.now.channels }
+    requires readers { length inlets.now.readers.now ≡ length fifos.now.channels }
     requires popped { length popped.now ≡ length fifos.now.channels }
-    requires ports { HasAllPops readers.now owner ports.now }
+    requires ports { HasAllPops inlets.now.readers.now inlets.now.owner inlets.now.ports.now }
     requires unread { AreUnread (values_at fifos.now.channels) (length fifos.now.channels) unread.old }
-    requires places { length values.old ≡ length readers.now }
+    requires places { length values.old ≡ length inlets.now.readers.now }
     requires empty { AreEmpty values.old }
-    ensures read { OnOk result (AreMailed fifos.now.channels readers.now owner popped.now values.new (length readers.now)) }
+    ensures read { OnOk result (AreMailed fifos.now.channels inlets.now.readers.now inlets.now.owner popped.now values.new
+        (length inlets.now.readers.now)) }
     ensures left { (all : ℕ → Items ℕ) (n : ℕ) → AreUnread all n unread.old → AreUnread all n unread.new }
 {
-    for port in ports {
-        if pops(port, readers, owner) {
+    for port in inlets.ports {
+        if pops(port, inlets.readers, inlets.owner) {
             let at = port.channel as usize;
             let words = &mut values.as_mut_slice()[at];
             read_channel(alloc, fifos, unread, port.channel, popped[at], words)?;
@@ -138,42 +136,47 @@ pub(crate) fn read_all(
     Ok(())
 }
 
-/// The mail of a run that made so many queries and pops of each channel, and waits for the replies to these accesses: all of them that
-/// are there. The ports are its module's. Its lists of values are those that are given, whatever is in them.
+/// What a run asks of its mail.
+#[derive(Drop)]
+pub(crate) struct Wants<'a> {
+    /// How many queries it made.
+    pub(crate) first: u64,
+    /// How many pops it made of each channel.
+    pub(crate) popped: &'a [u64],
+    /// The accesses whose replies it waits for.
+    pub(crate) accesses: &'a [Access],
+}
+
+/// The mail of a module's run: all that it wants, as far as it is there. Its lists of values are those that are given, whatever is in
+/// them.
 pub(crate) fn make_mail(
     alloc: Global,
-    fifos: &FifoTable,
-    log: &QueryLog,
+    engine: &Engine,
     unread: &mut List<Unread>,
-    ports: &[Port],
-    readers: &[u32],
-    owner: u32,
-    first: u64,
-    popped: &[u64],
-    accesses: &[Access],
+    inlets: &Inlets<'_>,
+    wants: &Wants<'_>,
     values: List<Queue<u64>>,
 ) -> Result<Mail, OutOfMemory>
-    requires owner { owner < length log.now.logs }
-    requires readers { length readers.now ≡ length fifos.now.channels }
-    requires popped { length popped.now ≡ length fifos.now.channels }
-    requires ports { HasAllPops readers.now owner ports.now }
-    requires unread { AreUnread (values_at fifos.now.channels) (length fifos.now.channels) unread.old }
-    ensures made { IfOk result (λ mail. IsMade (log_at log.now.logs owner).outcomes fifos.now.channels readers.now owner
-        first popped.now accesses.now mail) }
+    requires owner { inlets.now.owner < length engine.now.log.logs }
+    requires readers { length inlets.now.readers.now ≡ length engine.now.fifos.channels }
+    requires popped { length wants.now.popped.now ≡ length engine.now.fifos.channels }
+    requires ports { HasAllPops inlets.now.readers.now inlets.now.owner inlets.now.ports.now }
+    requires unread { AreUnread (values_at engine.now.fifos.channels) (length engine.now.fifos.channels) unread.old }
+    ensures made { IfOk result (λ mail. IsMade (log_at engine.now.log.logs inlets.now.owner).outcomes engine.now.fifos.channels
+        inlets.now.readers.now inlets.now.owner wants.now.first wants.now.popped.now wants.now.accesses.now mail) }
     ensures left { (all : ℕ → Items ℕ) (n : ℕ) → AreUnread all n unread.old → AreUnread all n unread.new }
 {
     let mut outcomes = Flags::new(alloc);
-    read_outcomes(log, owner, first, count_queries(accesses), &mut outcomes)?;
+    let count = count_queries(wants.accesses);
+    read_outcomes(&engine.log, inlets.owner, wants.first, count, &mut outcomes)?;
     let mut values = values;
-    make_places(alloc, &mut values, readers.len() as u64)?;
+    make_places(alloc, &mut values, inlets.readers.len() as u64)?;
     read_all(
         alloc,
-        fifos,
+        &engine.fifos,
         unread,
-        ports,
-        readers,
-        owner,
-        popped,
+        inlets,
+        wants.popped,
         &mut values,
     )?;
     Ok(Mail { outcomes, values })

@@ -1,5 +1,5 @@
 //! Which module pops, or pushes, each channel.
-ghost use Rattle.std.specs.Prelude.{◌≡◌, ◌<◌, nat_eq, IfOk};
+ghost use Rattle.std.specs.Prelude.{◌<◌, nat_eq, IfOk};
 ghost use Rattle.std.specs.List.{list_any};
 ghost use Rattle.flow_design.specs.Operations.{used_port};
 ghost use Rattle.flow_design.specs.StaticRules.{uses, is_port, FitsEngine};

@@ -1,5 +1,5 @@
 //! The replies to a step.
-ghost use Rattle.std.specs.Prelude.{◌≡◌, ℕ, ◌+◌, ◌-◌, ◌<◌, ◌≤◌, ◌^◌, true, false, length, drop, slice_get, All, Some, None, IfOk};
+ghost use Rattle.std.specs.Prelude.{◌≡◌, ◌+◌, ◌-◌, ◌<◌, ◌^◌, true, false, length, drop, All, Some, None, IfOk, is_some};
 ghost use Rattle.query_log.specs.Logs.{log_at, outcome_of};
 ghost use Rattle.time_engine.specs.Conditions.{IsAccess};
 ghost use Rattle.sim_core.specs.Found.{value_now, replies_now};
@@ -41,6 +41,30 @@ pub fn find_replies(
     Ok(true)
 }
 
+/// Whether the replies to a step's accesses are all there.
+pub fn are_found(
+    fifos: &FifoTable,
+    log: &QueryLog,
+    owner: u32,
+    first_query: u64,
+    accesses: &[Access],
+) -> bool
+    requires owner { owner < length log.now.logs }
+    requires inside { All (IsAccess fifos.now.channels) accesses.now }
+    requires few { first_query + length accesses.now < 2 ^ 64 }
+    ensures { result ≡ is_some (replies_now fifos.now.channels accesses.now
+        (drop first_query (log_at log.now.logs owner).outcomes)) }
+{
+    let mut number = first_query;
+    for access in accesses {
+        let Some(_reply) = reply_in(fifos, log, owner, number, access) else {
+            return false;
+        };
+        number += !access.kind.is_blocking() as u64;
+    }
+    true
+}
+
 /// The reply to an access, whose query, where it is one, has this number.
 #[inline(always)]
 fn reply_in(
@@ -59,25 +83,13 @@ fn reply_in(
             .value(access.channel, access.ordinal)
             .map(Reply::Value),
         Kind::Write => Some(Reply::Done),
-        Kind::TryRead | Kind::TryWrite | Kind::Empty | Kind::Full => {
-            reply_now(fifos, access, log.outcome(owner, number))
-        }
-    }
-}
-
-/// The reply to an access, by its query's outcome.
-pub(crate) fn reply_now(fifos: &FifoTable, access: &Access, outcome: Option<bool>) -> Option<Reply>
-    requires { IsAccess fifos.now.channels access.now }
-    ensures { result ≡ reply_of access.now.kind outcome (value_now fifos.now.channels access.now) }
-{
-    match access.kind {
-        Kind::Read | Kind::TryRead => reply_to(
+        Kind::TryRead => reply_to(
             access.kind,
-            outcome,
+            log.outcome(owner, number),
             fifos.value(access.channel, access.ordinal),
         ),
-        Kind::Write | Kind::TryWrite | Kind::Empty | Kind::Full => {
-            reply_to(access.kind, outcome, None)
+        Kind::TryWrite | Kind::Empty | Kind::Full => {
+            reply_to(access.kind, log.outcome(owner, number), None)
         }
     }
 }

@@ -19,15 +19,7 @@ impl Core {
         requires { IsFinal (design self.now.plan) self.now.plan.cycles (theory_of self.now) }
         ensures { IfOk result (λ report. report ≡ report_with with_events self.now.plan) }
     {
-        report_of(
-            alloc,
-            &self.plan,
-            &self.graph,
-            &self.fifos,
-            &self.log,
-            &self.ends,
-            with_events,
-        )
+        report_of(alloc, &self.plan, &self.engine, &self.ends, with_events)
     }
 
     /// The same of a core that is final. None where an action is permitted.

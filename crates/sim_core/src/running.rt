@@ -1,19 +1,18 @@
 //! The runs of the modules, ahead of time.
-ghost use Rattle.std.specs.Prelude.{◌≡◌, ◌<◌, true, false, length, slice_index_or, IfOk, OnOk, OnErr};
+ghost use Rattle.std.specs.Prelude.{◌≡◌, ◌<◌, true, false, length, slice_index_or, slice_set, IfOk, IfSome, IsNone, OnOk, OnErr};
 ghost use Rattle.event_timing.specs.Actions.{Acts, MayRun};
 ghost use Rattle.event_timing.specs.Actions.Action.{Run};
 ghost use Rattle.timing_bridge.specs.Designs.{design};
 ghost use Rattle.module_interp.specs.Runs.{waits};
 ghost use Rattle.sim_core.specs.Views.{theory_of};
-ghost use Rattle.sim_core.specs.Runs.{IsRunOf};
+ghost use Rattle.sim_core.specs.Runs.{IsAnswered, IsOut};
 
-use crate::actions::Action;
-use crate::back::{record_few, record_mark};
+use crate::back::emit_mark;
 use crate::machine::Core;
-use crate::opening::ports_of;
-use crate::replies::find_replies;
-use engine_view::{bit_of, make_room};
-use event_graph::{AccessesView, Place, StepView};
+use crate::replies::{are_found, find_replies};
+use crate::wiring::ports_of;
+use engine_view::bit_of;
+use event_graph::Place;
 use flow_design::limits::{LIVE_ITERATIONS, OPERATIONS};
 use flow_word::OutOfMemory;
 use module_interp::ModuleRun;
@@ -22,7 +21,7 @@ impl Core {
     /// Commits the replies to a module's newest step, and emits its next mark, where that is permitted. The module's run is
     /// not lent. Whether it was permitted; where it was not, and after want of memory, nothing changed. Memory is wanted only where
     /// it is permitted.
-    pub(crate) fn run(&mut self, owner: u32) -> Result<bool, OutOfMemory>
+    pub fn run(&mut self, owner: u32) -> Result<bool, OutOfMemory>
         requires owner { owner < length self.old.plan.design.modules }
         requires here { slice_index_or self.old.lent owner true ≡ false }
         ensures acts { IfOk result (λ ran. ran ≡ true → Acts (design self.old.plan) self.old.plan.cycles (theory_of self.old) (Run owner)
@@ -34,50 +33,68 @@ impl Core {
         ensures plan { self.new.plan ≡ self.old.plan }
         ensures lent { self.new.lent ≡ self.old.lent }
     {
-        let Some(mut run) = self.runs[owner as usize].take() else {
+        let Some(mut run) = self.take_out(owner) else {
             return Ok(false);
         };
         let ran = self.run_with(owner, &mut run);
-        self.runs[owner as usize] = Some(run);
+        self.put_back(owner, run);
         ran
+    }
+
+    /// Takes a module's run out of the core, where it is not lent. Then it counts as lent.
+    #[inline(always)]
+    pub(crate) fn take_out(&mut self, owner: u32) -> Option<ModuleRun>
+        requires { owner < length self.old.plan.design.modules }
+        ensures out { IfSome result (λ run. IsOut self.new owner run) }
+        ensures here { IfSome result (λ run. slice_index_or self.old.lent owner true ≡ false) }
+        ensures lent { IfSome result (λ run. self.new ≡ record self.old { lent = slice_set self.old.lent owner true }) }
+        ensures gone { IsNone result → slice_index_or self.old.lent owner true ≡ true }
+        ensures none { IsNone result → self.new ≡ self.old }
+    {
+        self.runs[owner as usize].take()
+    }
+
+    /// Puts a module's run back, which stands where the module's marks say.
+    #[inline(always)]
+    pub(crate) fn put_back(&mut self, owner: u32, run: ModuleRun)
+        requires { IsOut self.old owner run }
+        ensures { self.new ≡ record self.old { lent = slice_set self.old.lent owner false } }
+    {
+        self.runs[owner as usize] = Some(run);
     }
 
     /// The same with the module's run, which is out of the core.
     #[inline(always)]
     pub(crate) fn run_with(&mut self, owner: u32, run: &mut ModuleRun) -> Result<bool, OutOfMemory>
-        requires owner { owner < length self.old.plan.design.modules }
-        requires taken { slice_index_or self.old.lent owner true ≡ true }
-        requires run { IsRunOf self.old.plan (theory_of self.old) owner run.old }
+        requires out { IsOut self.old owner run.old }
         ensures acts { IfOk result (λ ran. ran ≡ true → Acts (design self.old.plan) self.old.plan.cycles (theory_of self.old) (Run owner)
             (theory_of self.new)) }
         ensures not_permitted { IfOk result (λ ran. ran ≡ false → MayRun (design self.old.plan) (theory_of self.old) owner → ⊥) }
         ensures unchanged { IfOk result (λ ran. ran ≡ false → self.new ≡ self.old) }
         ensures no_memory { OnErr result (self.new ≡ self.old) }
         ensures permitted { OnErr result (MayRun (design self.old.plan) (theory_of self.old) owner) }
-        ensures run { IsRunOf self.old.plan (theory_of self.new) owner run.new }
+        ensures out { IsOut self.new owner run.new }
         ensures plan { self.new.plan ≡ self.old.plan }
         ensures lent { self.new.lent ≡ self.old.lent }
     {
-        let ran = self.try_with(owner, run);
-        if ran.is_err() && self.permits(Action::Run(owner)).is_err() {
+        match self.try_with(owner, run) {
+            Ok(ran) => Ok(ran),
             // The list of replies wanted memory, though not all of them are there.
-            return Ok(false);
+            Err(OutOfMemory) if !self.may_run(owner) => Ok(false),
+            Err(OutOfMemory) => Err(OutOfMemory),
         }
-        ran
     }
 
     /// The same, but memory may be wanted where it is not permitted too.
     #[inline(always)]
     fn try_with(&mut self, owner: u32, run: &mut ModuleRun) -> Result<bool, OutOfMemory>
-        requires owner { owner < length self.old.plan.design.modules }
-        requires taken { slice_index_or self.old.lent owner true ≡ true }
-        requires run { IsRunOf self.old.plan (theory_of self.old) owner run.old }
+        requires out { IsOut self.old owner run.old }
         ensures acts { IfOk result (λ ran. ran ≡ true → Acts (design self.old.plan) self.old.plan.cycles (theory_of self.old) (Run owner)
             (theory_of self.new)) }
         ensures not_permitted { IfOk result (λ ran. ran ≡ false → MayRun (design self.old.plan) (theory_of self.old) owner → ⊥) }
         ensures unchanged { IfOk result (λ ran. ran ≡ false → self.new ≡ self.old) }
         ensures no_memory { OnErr result (self.new ≡ self.old) }
-        ensures run { IsRunOf self.old.plan (theory_of self.new) owner run.new }
+        ensures out { IsOut self.new owner run.new }
         ensures plan { self.new.plan ≡ self.old.plan }
         ensures lent { self.new.lent ≡ self.old.lent }
     {
@@ -91,8 +108,39 @@ impl Core {
         Ok(true)
     }
 
+    /// Whether a Run of a module is permitted, whether its run is lent or not. It takes no memory.
+    pub fn may_run(&self, owner: u32) -> bool
+        requires { owner < length self.now.plan.design.modules }
+        ensures some { result ≡ true → MayRun (design self.now.plan) (theory_of self.now) owner }
+        ensures none { result ≡ false → MayRun (design self.now.plan) (theory_of self.now) owner → ⊥ }
+    {
+        !self.is_over(owner) && self.is_answered(owner)
+    }
+
+    /// Whether all replies to a module's newest step are there.
+    fn is_answered(&self, owner: u32) -> bool
+        requires { owner < length self.now.plan.design.modules }
+        ensures some { result ≡ true → IsAnswered self.now.plan (theory_of self.now) owner }
+        ensures none { result ≡ false → IsAnswered self.now.plan (theory_of self.now) owner → ⊥ }
+    {
+        let Some(last) = self.engine.graph.len(owner).checked_sub(1) else {
+            return true;
+        };
+        let step = self.engine.graph.step(Place {
+            module: owner,
+            step: last,
+        });
+        are_found(
+            &self.engine.fifos,
+            &self.engine.log,
+            owner,
+            step.first_query,
+            step.accesses.as_slice(),
+        )
+    }
+
     /// Whether a module's end was emitted.
-    pub(crate) fn is_over(&self, owner: u32) -> bool
+    pub fn is_over(&self, owner: u32) -> bool
         requires { owner < length self.now.plan.design.modules }
         ensures { result ≡ slice_index_or self.now.held.over owner false }
     {
@@ -103,88 +151,53 @@ impl Core {
     /// waits no more.
     #[inline(always)]
     fn feed(&mut self, owner: u32, run: &mut ModuleRun) -> Result<bool, OutOfMemory>
-        requires owner { owner < length self.old.plan.design.modules }
-        requires run { IsRunOf self.old.plan (theory_of self.old) owner run.old }
+        requires out { IsOut self.old owner run.old }
         ensures unchanged { self.new ≡ self.old }
-        ensures run { IsRunOf self.old.plan (theory_of self.old) owner run.new }
+        ensures out { IsOut self.new owner run.new }
         ensures fed { IfOk result (λ fed. fed ≡ true → waits run.new ≡ false) }
         ensures not_fed { IfOk result (λ fed. fed ≡ false → MayRun (design self.old.plan) (theory_of self.old) owner → ⊥) }
     {
         if !run.is_waiting() {
             return Ok(true);
         }
-        let step = self.graph.step(Place {
+        let step = self.engine.graph.step(Place {
             module: owner,
-            step: self.graph.len(owner) - 1,
+            step: self.engine.graph.len(owner) - 1,
         });
         let all = find_replies(
-            &self.fifos,
-            &self.log,
+            &self.engine.fifos,
+            &self.engine.log,
             owner,
             step.first_query,
             step.accesses.as_slice(),
-            &mut self.replies,
+            &mut self.scratch.replies,
         )?;
         if !all {
             return Ok(false);
         }
-        run.feed(self.replies.as_slice());
+        run.feed(self.scratch.replies.as_slice());
         Ok(true)
     }
 
     /// Brings a module's run, which doesn't wait and is out of the core, to its next mark, and emits that.
     #[inline(always)]
     fn emit_next(&mut self, owner: u32, run: &mut ModuleRun) -> Result<(), OutOfMemory>
-        requires owner { owner < length self.old.plan.design.modules }
-        requires taken { slice_index_or self.old.lent owner true ≡ true }
-        requires run { IsRunOf self.old.plan (theory_of self.old) owner run.old }
+        requires out { IsOut self.old owner run.old }
         requires answered { waits run.old ≡ false }
         requires lives { slice_index_or self.old.held.over owner false ≡ false }
         ensures acts { OnOk result (Acts (design self.old.plan) self.old.plan.cycles (theory_of self.old) (Run owner)
             (theory_of self.new)) }
         ensures unchanged { OnErr result (self.new ≡ self.old) }
-        ensures run { IsRunOf self.old.plan (theory_of self.new) owner run.new }
+        ensures out { IsOut self.new owner run.new }
         ensures plan { self.new.plan ≡ self.old.plan }
         ensures lent { self.new.lent ≡ self.old.lent }
     {
         self.asking |= bit_of(owner);
         // No step makes more queries.
         let queries = LIVE_ITERATIONS * OPERATIONS;
-        make_room(
-            &mut self.graph,
-            &mut self.fifos,
-            &mut self.log,
-            &mut self.credits,
-            owner,
-            ports_of(&self.ports, owner),
-            queries,
-        )?;
-        if run.advance_few()? {
-            let step = StepView {
-                gap: run.gap(),
-                accesses: AccessesView::new(run.listed()),
-                first_query: run.queries(),
-            };
-            record_few(
-                &mut self.graph,
-                &mut self.fifos,
-                &self.log,
-                &mut self.credits,
-                owner,
-                &step,
-            );
-            return Ok(());
-        }
-        let mark = run.give()?;
-        record_mark(
-            &mut self.graph,
-            &mut self.fifos,
-            &self.log,
-            &mut self.credits,
-            &mut self.ends,
-            owner,
-            mark,
-        );
+        self.engine
+            .make_room(owner, ports_of(&self.wiring.ports, owner), queries)?;
+        emit_mark(&mut self.engine, &mut self.ends, owner, run)?;
         Ok(())
     }
 }

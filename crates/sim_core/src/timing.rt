@@ -1,6 +1,6 @@
 //! The turn of a thread that gives steps their cycles, and the test for the end.
 ghost use Rattle.std.specs.Prelude.{◌≡◌, ℕ, ◌<◌, true, false, length, Some};
-ghost use Rattle.event_timing.specs.Actions.{IsFinal, MayEarliest, MayRun};
+ghost use Rattle.event_timing.specs.Actions.{IsDetermined, IsFinal, MayEarliest, MayRun};
 ghost use Rattle.event_timing.specs.Agreement.{AllVerified};
 ghost use Rattle.timing_bridge.specs.Designs.{design};
 ghost use Rattle.turn_history.specs.Rounds.{earliest_of, timings};
@@ -9,13 +9,14 @@ ghost use Rattle.sim_core.specs.Views.{theory_of};
 ghost use Rattle.sim_core.specs.Drives.{Goes};
 ghost use Rattle.sim_core.specs.Timings.{HasMore, IsTimed, IsUntimable};
 
-use crate::actions::Action;
 use crate::beside::asks;
 use crate::machine::Core;
-use engine_view::Timing;
+use engine_view::{Cursor, Timing};
+use event_graph::Candidate;
 use flow_word::Steps;
 use outcome_guard::Guard;
 use std::sync::ledger::Ledger;
+use time_engine::candidate;
 
 impl Core {
     /// Does each permitted Assign and Answer, modules in order and round after round, and tells how many: at one module all that it can,
@@ -27,17 +28,14 @@ impl Core {
         ensures none_left { NoTiming (design self.new.plan) self.new.plan.cycles (theory_of self.new) }
         ensures verified { AllVerified (theory_of self.new) }
     {
-        let count = self.modules();
+        let mut cursor = Cursor::new(self.modules());
         let mut done = 0;
-        let mut at = 0;
-        let mut idle = 0;
-        while idle < count {
+        while let Some(at) = cursor.at() {
             if self.time_one(at, steps) {
+                cursor.acted(0);
                 done += 1;
-                idle = 0;
             } else {
-                at = if at + 1 < count { at + 1 } else { 0 };
-                idle += 1;
+                cursor.passed();
             }
         }
         done
@@ -77,7 +75,7 @@ impl Core {
     {
         // The core agrees with its plan.
         let _count = self.modules();
-        if self.may_run() {
+        if self.any_may_run() {
             return false;
         }
         match self.answer_least() {
@@ -106,16 +104,31 @@ impl Core {
         ensures some { result ≡ true → HasMore self.now owner }
         ensures none { result ≡ false → HasMore self.now owner → ⊥ }
     {
-        self.permits(Action::Run(owner)).is_ok() || self.next_cycle(owner).is_ok()
+        self.may_run(owner) || self.has_cycle(owner)
+    }
+
+    /// Whether the cycle of a module's first step without one is determined, below the limit.
+    fn has_cycle(&self, owner: u32) -> bool
+        requires { owner < length self.now.plan.design.modules }
+        ensures some { result ≡ true
+            → (c : ℕ) × IsDetermined (design self.now.plan) self.now.plan.cycles (theory_of self.now) owner c }
+        ensures none { result ≡ false
+            → (c : ℕ) → IsDetermined (design self.now.plan) self.now.plan.cycles (theory_of self.now) owner c → ⊥ }
+    {
+        let limit = self.plan.cycles;
+        matches!(
+            candidate(&self.engine.graph, &self.engine.fifos, owner, limit),
+            Candidate::At(_)
+        )
     }
 
     /// Whether a Run of some module is permitted.
-    fn may_run(&self) -> bool
+    fn any_may_run(&self) -> bool
         ensures some { result ≡ true → (m : ℕ) × MayRun (design self.now.plan) (theory_of self.now) m }
         ensures none { result ≡ false → (m : ℕ) → MayRun (design self.now.plan) (theory_of self.now) m → ⊥ }
     {
         for owner in 0..self.modules() {
-            if self.permits(Action::Run(owner)).is_ok() {
+            if self.may_run(owner) {
                 return true;
             }
         }

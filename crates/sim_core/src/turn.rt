@@ -1,5 +1,5 @@
 //! The cycles of the modules' steps, and the answers to their queries.
-ghost use Rattle.std.specs.Prelude.{◌≡◌, ◌≢◌, ◌↔◌, ℕ, ◌+◌, ◌<◌, ◌≤◌, length, slice_index_or, IfSome, Some};
+ghost use Rattle.std.specs.Prelude.{◌≡◌, ◌+◌, ◌<◌, ◌≤◌, length, IfSome, Some};
 ghost use Rattle.event_graph.specs.Lanes.{cycle_bound};
 ghost use Rattle.time_engine.specs.Conditions.{HasAccesses, HasPlaces};
 ghost use Rattle.event_timing.specs.Actions.{IsQuiet, MayEarliest};
@@ -11,7 +11,7 @@ ghost use Rattle.sim_core.specs.Candidates.{AreCandidates};
 
 use crate::beside::asking_after;
 use crate::machine::Core;
-use engine_view::{Timing, answer_first, bit_of, time_first};
+use engine_view::{Timing, bit_of};
 use event_graph::{Candidate, Graph};
 use fifo_table::FifoTable;
 use flow_word::Steps;
@@ -23,7 +23,7 @@ use time_engine::candidate;
 impl Core {
     /// Gives a module's first step without a cycle its cycle, or answers its queries, where that is permitted. It takes no
     /// memory.
-    pub(crate) fn time<L: Ledger>(&mut self, owner: u32, steps: &mut Steps<L>) -> Timing
+    pub fn time<L: Ledger>(&mut self, owner: u32, steps: &mut Steps<L>) -> Timing
         requires owner { owner < length self.old.plan.design.modules }
         ensures done { HasTurned result self.old owner self.new }
         ensures plan { self.new.plan ≡ self.old.plan }
@@ -31,15 +31,8 @@ impl Core {
         ensures ticks { steps.new ≡ steps.old + ticks_of result }
     {
         let limit = self.plan.cycles;
-        let timing = time_first(
-            &mut self.graph,
-            &mut self.fifos,
-            &mut self.log,
-            owner,
-            limit,
-            steps,
-        );
-        self.asking = asking_after(self.asking, self.beside.as_slice(), owner, &timing);
+        let timing = self.engine.time_first(owner, limit, steps);
+        self.asking = asking_after(self.asking, self.wiring.beside.as_slice(), owner, &timing);
         timing
     }
 
@@ -53,7 +46,12 @@ impl Core {
         ensures lent { self.new.lent ≡ self.old.lent }
     {
         let limit = self.plan.cycles;
-        list_candidates(&self.graph, &self.fifos, limit, &mut self.candidates);
+        list_candidates(
+            &self.engine.graph,
+            &self.engine.fifos,
+            limit,
+            &mut self.candidates,
+        );
         match earliest(&self.candidates) {
             None => None,
             Some((owner, cycle)) => Some((owner, self.answer_open(owner, cycle))),
@@ -62,14 +60,14 @@ impl Core {
 
     /// Answers the queries of a module's first step without a cycle in this clock, where an Earliest is permitted. It takes no
     /// memory.
-    pub(crate) fn answer_open(&mut self, owner: u32, cycle: u64) -> Guard
+    pub fn answer_open(&mut self, owner: u32, cycle: u64) -> Guard
         requires { MayEarliest (design self.old.plan) self.old.plan.cycles (theory_of self.old) owner cycle }
         ensures done { HasAnsweredLeast (Some (owner, result)) self.old self.new }
         ensures plan { self.new.plan ≡ self.old.plan }
         ensures lent { self.new.lent ≡ self.old.lent }
     {
-        self.asking = self.beside.as_slice()[owner as usize] | bit_of(owner);
-        answer_first(&self.graph, &mut self.fifos, &mut self.log, owner, cycle)
+        self.asking = self.wiring.beside.as_slice()[owner as usize] | bit_of(owner);
+        self.engine.answer_first(owner, cycle)
     }
 }
 

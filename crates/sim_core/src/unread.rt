@@ -25,6 +25,16 @@ impl Drop for Unread {
     }
 }
 
+/// The channels that a module pops.
+#[derive(Drop)]
+pub(crate) struct Inlets<'a> {
+    pub(crate) owner: u32,
+    /// The ports of the module.
+    pub(crate) ports: &'a [Port],
+    /// Of each channel the module that pops it.
+    pub(crate) readers: &'a [u32],
+}
+
 impl Unread {
     /// The values, where they are the next ones behind so many, or else none.
     fn values_behind(self, alloc: Global, behind: u64) -> Queue<u64>
@@ -107,24 +117,22 @@ fn put(unread: &mut List<Unread>, at: usize, behind: u64, values: Queue<u64>)
     }
 }
 
-/// Keeps what a run has left of its mail: of each channel that its module pops at these ports the values behind those that it popped.
+/// Keeps what a run has left of its mail: of each channel that its module pops the values behind those that it popped.
 pub(crate) fn keep_unread(
     alloc: Global,
     unread: &mut List<Unread>,
-    ports: &[Port],
-    readers: &[u32],
-    owner: u32,
+    inlets: &Inlets<'_>,
     popped: &[u64],
     values: &mut List<Queue<u64>>,
 )
-    requires readers { length readers.now ≡ length popped.now }
+    requires readers { length inlets.now.readers.now ≡ length popped.now }
     ensures { (all : ℕ → Items ℕ) (n : ℕ) → AreUnread all n unread.old
-        → ((c : ℕ) → c < n → slice_index readers.now c ≡ owner → Begins (drop (slice_index popped.now c) (all c))
+        → ((c : ℕ) → c < n → slice_index inlets.now.readers.now c ≡ inlets.now.owner → Begins (drop (slice_index popped.now c) (all c))
         (slice_index_or values.old c [])) → AreUnread all n unread.new }
 {
-    for port in ports {
+    for port in inlets.ports {
         let at = port.channel as usize;
-        if pops(port, readers, owner) && at < values.as_slice().len() {
+        if pops(port, inlets.readers, inlets.owner) && at < values.as_slice().len() {
             let left = take_values(alloc, values, at);
             put(unread, at, popped[at], left);
         }

@@ -2,7 +2,7 @@
 ghost use Rattle.std.specs.Prelude.{◌≡◌, ℕ, ◌<◌, true, false, length, slice_index_or, IfOk, IfSome, IsNone, OnErr};
 ghost use Rattle.event_timing.specs.Actions.{MayRun};
 ghost use Rattle.timing_bridge.specs.Designs.{design};
-ghost use Rattle.sim_core.specs.Runs.{IsRunOf};
+ghost use Rattle.sim_core.specs.Runs.{IsOut};
 ghost use Rattle.sim_core.specs.Views.{theory_of};
 ghost use Rattle.sim_core.specs.Drives.{Goes, GoesOn, HasTimed, HasVisited};
 
@@ -64,25 +64,23 @@ impl Core {
         if self.is_over(owner) {
             return Ok(None);
         }
-        let Some(mut run) = self.runs[owner as usize].take() else {
+        let Some(mut run) = self.take_out(owner) else {
             return Ok(None);
         };
         let woken = self.run_stretch(owner, &mut run);
-        self.runs[owner as usize] = Some(run);
+        self.put_back(owner, run);
         woken
     }
 
     /// The same with the module's run, which is out of the core.
     fn run_stretch(&mut self, owner: u32, run: &mut ModuleRun) -> Result<Option<u64>, OutOfMemory>
-        requires owner { owner < length self.old.plan.design.modules }
-        requires taken { slice_index_or self.old.lent owner true ≡ true }
-        requires run { IsRunOf self.old.plan (theory_of self.old) owner run.old }
+        requires out { IsOut self.old owner run.old }
         ensures some { IfOk result (λ woken. IfSome woken (λ bits. (n : ℕ) → GoesOn self.old n self.new n)) }
         ensures unchanged { IfOk result (λ woken. IsNone woken → self.new ≡ self.old) }
         ensures none { IfOk result (λ woken. IsNone woken → MayRun (design self.old.plan) (theory_of self.old) owner → ⊥) }
         ensures no_memory { OnErr result ((n : ℕ) → Goes self.old n self.new n) }
         ensures permitted { OnErr result (MayRun (design self.new.plan) (theory_of self.new) owner) }
-        ensures run { IsRunOf self.old.plan (theory_of self.new) owner run.new }
+        ensures out { IsOut self.new owner run.new }
         ensures plan { self.new.plan ≡ self.old.plan }
         ensures lent { self.new.lent ≡ self.old.lent }
     {
@@ -106,7 +104,7 @@ impl Core {
     fn has_asked(&self, owner: u32, run: &ModuleRun) -> bool
         requires { owner < length self.now.plan.design.modules }
     {
-        run.queries() >= self.log.len(owner)
+        run.queries() >= self.engine.log.len(owner)
             && run
                 .listed()
                 .last()
@@ -115,15 +113,13 @@ impl Core {
 
     /// One of them.
     fn run_once(&mut self, owner: u32, run: &mut ModuleRun) -> Result<Option<u64>, OutOfMemory>
-        requires owner { owner < length self.old.plan.design.modules }
-        requires taken { slice_index_or self.old.lent owner true ≡ true }
-        requires run { IsRunOf self.old.plan (theory_of self.old) owner run.old }
+        requires out { IsOut self.old owner run.old }
         ensures some { IfOk result (λ woken. IfSome woken (λ bits. (n : ℕ) → GoesOn self.old n self.new n)) }
         ensures unchanged { IfOk result (λ woken. IsNone woken → self.new ≡ self.old) }
         ensures none { IfOk result (λ woken. IsNone woken → MayRun (design self.old.plan) (theory_of self.old) owner → ⊥) }
         ensures no_memory { OnErr result (self.new ≡ self.old) }
         ensures permitted { OnErr result (MayRun (design self.new.plan) (theory_of self.new) owner) }
-        ensures run { IsRunOf self.old.plan (theory_of self.new) owner run.new }
+        ensures out { IsOut self.new owner run.new }
         ensures plan { self.new.plan ≡ self.old.plan }
         ensures lent { self.new.lent ≡ self.old.lent }
     {
@@ -162,7 +158,7 @@ impl Core {
     pub(crate) fn is_timed(&self, owner: u32) -> bool
         requires { owner < length self.now.plan.design.modules }
     {
-        self.graph.frontier(owner) == self.graph.len(owner)
+        self.engine.graph.frontier(owner) == self.engine.graph.len(owner)
     }
 
     /// One of them.
@@ -187,6 +183,6 @@ impl Core {
     fn bits_beside(&self, owner: u32) -> u64
         requires { owner < length self.now.plan.design.modules }
     {
-        self.beside.as_slice()[owner as usize]
+        self.wiring.beside.as_slice()[owner as usize]
     }
 }

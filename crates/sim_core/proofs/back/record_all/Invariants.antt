@@ -2,18 +2,16 @@ use Rattle.std.proofs.Common.{◌≡◌, List, length, drop, Option}
 use Rattle.flow_design.specs.declared.plan.Plan.{Plan}
 use Rattle.module_interp.specs.declared.run.ModuleRun.{ModuleRun}
 use Rattle.run_ahead.specs.declared.mail.Task.{Task}
-use Rattle.engine_view.specs.Stored.{stored}
 use Rattle.sim_core.specs.Returned.{core_in, AreReturned}
 use Rattle.sim_core.proofs.Returning.{IsReturningOn}
 use Rattle.sim_core.proofs.back.record_all.Given as goal
 
 abbrev pub invariant-loop-at : goal.invariant-loop-at
 invariant-loop-at l = record {
-  lanes : length l.graph.lanes ≡ length l.initial.graph.lanes;
+  lanes : length l.engine.graph.lanes ≡ length l.initial.engine.graph.lanes;
   count : length l.marks ≡ length l.initial.marks;
   on : (p : Plan) (out : List (Option ModuleRun)) (last : Task)
-      → (t : AreReturned p (stored l.initial.graph l.initial.fifos l.log) l.initial.ends.items out l.initial.credits.items l.owner
-      l.initial.marks last)
-      → IsReturningOn p (stored l.graph l.fifos l.log) l.ends.items out l.credits.items l.owner t.task.mail t.short last
-      (drop l.at l.marks) (core_in p (stored l.initial.graph l.initial.fifos l.log) l.initial.ends.items) (length l.initial.marks);
+      → (t : AreReturned p l.initial.engine l.initial.ends.items out l.owner l.initial.marks last)
+      → IsReturningOn p l.engine l.ends.items out l.owner t.task.mail t.short last
+      (drop l.at l.marks) (core_in p l.initial.engine l.initial.ends.items) (length l.initial.marks);
 }

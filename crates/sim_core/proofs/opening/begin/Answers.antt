@@ -6,7 +6,8 @@ use Rattle.event_timing.specs.Agreement.{AllVerified}
 use Rattle.event_timing.proofs.ActionBound.{none_assumed}
 use Rattle.timing_bridge.specs.Designs.{design}
 use Rattle.engine_view.specs.Held.{core_of}
-use Rattle.engine_view.specs.Stored.{stored, held_in}
+use Rattle.engine_view.specs.declared.engine.Engine.{Engine}
+use Rattle.engine_view.specs.Engines.{held_in}
 use Rattle.sim_core.specs.Opening.{kinds_of, AreFirstRuns}
 use Rattle.sim_core.specs.Runs.{over_of}
 use Rattle.sim_core.proofs.Asking.{asking_all}
@@ -27,19 +28,22 @@ new-requires-clause-kinds c = beginning.kinds_sound c.args.plan c.requires.fits 
 pub invariant_of-result : goal.invariant_of-result
 invariant_of-result c =
     let n = length c.as_slice.result.now in
-    let s = stored c.in_ok-graph.graph c.in_ok-fifos.fifos c.in_ok-log.log in
+    let s : Engine = record {
+      graph = c.in_ok-graph.graph;
+      fifos = c.in_ok-fifos.fifos;
+      log = c.in_ok-log.log;
+      credits = c.in_ok-credits.credits;
+    } in
     let over : over_of c.in_ok-ends.ends.items ≡ replicate n false = ap over_of c.in_ok-ends.ensures ∙ beginning.none_over n in
     let is = beginning.held_is n (kinds_of c.args.plan) (held_in s (over_of c.in_ok-ends.ends.items)) c.in_ok-graph.ensures
     (c.in_ok-fifos.ensures ∙ ap (map unused) (c.as_slice-2.ensures ∙ c.in_ok-kinds.ensures)) c.in_ok-log.ensures over in
     let count = ap (λ (xs : List Module). length xs) c.as_slice.ensures in
     record {
       core = beginning.core_begun c.args.plan c.requires.fits n count s c.in_ok-ends.ends.items c.args.runs.items
-          c.in_ok-credits.credits.items is over (subst (AreFirstRuns c.args.plan c.args.runs.items) (sym count) c.requires.runs)
+          is over (subst (AreFirstRuns c.args.plan c.args.runs.items) (sym count) c.requires.runs)
           (c.in_ok-credits.ensures.items_if_clones_equal (λ x e. e));
-      ports_are = c.in_ok-ports.ensures;
-      readers_are = c.in_ok-readers.ensures;
+      wired = c.in_ok-wiring.ensures;
       unread_are = c.in_ok-unread.ensures _ _;
-      beside_are = c.in_ok-beside.ensures;
       asking_are = asking_all c.args.plan c.requires.fits _;
       candidate_count = c.in_ok-candidates.ensures ∙ count;
     }
@@ -47,7 +51,12 @@ invariant_of-result c =
 pub returns-clause-opening : goal.returns-clause-opening
 returns-clause-opening c =
     let n = length c.as_slice.result.now in
-    let s = stored c.in_ok-graph.graph c.in_ok-fifos.fifos c.in_ok-log.log in
+    let s : Engine = record {
+      graph = c.in_ok-graph.graph;
+      fifos = c.in_ok-fifos.fifos;
+      log = c.in_ok-log.log;
+      credits = c.in_ok-credits.credits;
+    } in
     let over : over_of c.in_ok-ends.ends.items ≡ replicate n false = ap over_of c.in_ok-ends.ensures ∙ beginning.none_over n in
     let is = beginning.held_is n (kinds_of c.args.plan) (held_in s (over_of c.in_ok-ends.ends.items)) c.in_ok-graph.ensures
     (c.in_ok-fifos.ensures ∙ ap (map unused) (c.as_slice-2.ensures ∙ c.in_ok-kinds.ensures)) c.in_ok-log.ensures over in

@@ -16,7 +16,8 @@ no_port = record { side = Pop; channel = 0 }
 
 pub loop-port-init : goal.loop-port-init
 loop-port-init c = record {
-  reading = reads_none c.args.fifos.now.channels c.args.readers.now c.args.owner c.args.popped.now c.args.ports.now c.args.values.now
+  reading = reads_none c.args.fifos.now.channels c.args.inlets.now.readers.now c.args.inlets.now.owner c.args.popped.now
+      c.args.inlets.now.ports.now c.args.values.now
       c.requires.places c.requires.empty;
   left = λ all n are. are;
 }
@@ -32,10 +33,10 @@ returns-in_err-read_channel-clause-left c = λ all n are. c.read_channel.ensures
 pub loop-port-preserved : goal.loop-port-preserved
 loop-port-preserved c =
     let channels = c.args.fifos.now.channels in
-    let readers = c.args.readers.now in
-    let owner = c.args.owner in
+    let readers = c.args.inlets.now.readers.now in
+    let owner = c.args.inlets.now.owner in
     let popped = c.args.popped.now in
-    let ports = c.args.ports.now in
+    let ports = c.args.inlets.now.ports.now in
     let at = c.loop-port.port-index in
     let port = get_or ports at no_port in
     let here : slice_get ports at ≡ Some port = slice_get-get_or ports at no_port c.loop-port-test.true in
@@ -64,5 +65,6 @@ loop-port-preserved c =
 
 pub returns-clause-read : goal.returns-clause-read
 returns-clause-read c =
-    reads_all c.args.fifos.now.channels c.args.readers.now c.args.owner c.args.popped.now c.args.ports.now c.loop-port.values
+    reads_all c.args.fifos.now.channels c.args.inlets.now.readers.now c.args.inlets.now.owner c.args.popped.now
+    c.args.inlets.now.ports.now c.loop-port.values
     c.loop-port.port-index c.loop-port.invariant.reading c.loop-port-test.false c.requires.ports

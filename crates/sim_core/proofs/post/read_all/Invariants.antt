@@ -5,6 +5,6 @@ use Rattle.sim_core.proofs.post.read_all.Given as goal
 
 abbrev pub invariant-loop-port : goal.invariant-loop-port
 invariant-loop-port l = record {
-  reading : IsReadingPorts l.fifos.channels l.readers l.owner l.popped l.ports l.values l.port-index;
+  reading : IsReadingPorts l.fifos.channels l.inlets.readers.now l.inlets.owner l.popped l.inlets.ports.now l.values l.port-index;
   left : (all : ℕ → List ℕ) (n : ℕ) → AreUnread all n l.initial.unread → AreUnread all n l.unread;
 }

@@ -6,7 +6,7 @@ use Rattle.timing_bridge.specs.Designs.{design}
 use Rattle.engine_report.specs.declared.events.TimedStep.{TimedStep}
 use Rattle.engine_report.specs.Keys.{IsTimedKey}
 use Rattle.engine_view.specs.Held.{Held}
-use Rattle.engine_view.specs.Stored.{stored, held_in}
+use Rattle.engine_view.specs.Engines.{held_in}
 use Rattle.sim_core.specs.AccessLog.{logged_at}
 use Rattle.sim_core.specs.Runs.{over_of}
 use Rattle.sim_core.specs.Views.{CoreView, theory_of}
@@ -15,7 +15,7 @@ use Rattle.sim_core.proofs.machine.Core.access_log.Goals as goal
 
 pub log_step-requires : goal.log_step-requires
 log_step-requires c =
-    let h : Held = held_in (stored c.self.inside.graph c.self.inside.fifos c.self.inside.log) (over_of c.self.inside.ends.items) in
+    let h : Held = held_in c.self.inside.engine (over_of c.self.inside.ends.items) in
     let keys = c.in_ok-keys.keys.items in
     let all = subst (λ (ks : List TimedStep). All (IsTimedKey h.lanes) ks) (sym c.as_slice-key-items.ensures.value)
     (log.keys_timed h keys c.in_ok-keys.ensures) in
@@ -25,7 +25,7 @@ pub returns : goal.returns
 returns c =
     let k = c.self.invariant.core in
     let p = c.self.inside.plan in
-    let h : Held = held_in (stored c.self.inside.graph c.self.inside.fifos c.self.inside.log) (over_of c.self.inside.ends.items) in
+    let h : Held = held_in c.self.inside.engine (over_of c.self.inside.ends.items) in
     let final = subst (λ (v : CoreView). IsFinal (design v.plan) v.plan.cycles (theory_of v)) (sym c.self.view_is) c.requires in
     let keys = c.in_ok-keys.keys.items in
     let same = c.as_slice-key-items.ensures.value in

@@ -4,35 +4,19 @@ use Rattle.event_timing.specs.Core.{opening_core}
 use Rattle.timing_bridge.specs.Designs.{design}
 use Rattle.sim_core.specs.Opening.{AreOlderRuns}
 use Rattle.sim_core.specs.Views.{CoreView, theory_of}
-use Rattle.sim_core.proofs.Beginning.{core_runs, core_left}
+use Rattle.sim_core.proofs.Beginning.{core_runs, stored_left}
 use Rattle.sim_core.proofs.machine.Core.again.Goals as goal
 
 pub first_runs-requires-clause-older : goal.first_runs-requires-clause-older
 first_runs-requires-clause-older c =
     subst (λ (p : Plan). AreOlderRuns p c.self.inside.runs.items) (sym c.in_ok-plan.ensures)
-    (core_runs c.self.inside.plan _ c.self.inside.ends.items c.self.inside.runs.items c.self.inside.credits.items c.self.invariant.core)
+    (core_runs c.self.inside.plan _ c.self.inside.ends.items c.self.inside.runs.items c.self.invariant.core)
 
 pub invariant_of-self : goal.invariant_of-self
-invariant_of-self c = record {
-  core = core_left _ _ _ c.self.inside.runs.items _ _ c.self.invariant.core c.first_runs.ensures.left;
-  ports_are = c.self.invariant.ports_are;
-  readers_are = c.self.invariant.readers_are;
-  unread_are = c.self.invariant.unread_are;
-  beside_are = c.self.invariant.beside_are;
-  asking_are = c.self.invariant.asking_are;
-  candidate_count = c.self.invariant.candidate_count;
-}
+invariant_of-self c = stored_left c.self.invariant c.first_runs.new.older.items c.first_runs.ensures.left
 
 pub invariant_of-self-2 : goal.invariant_of-self-2
-invariant_of-self-2 c = record {
-  core = core_left _ _ _ c.self.inside.runs.items _ _ c.self.invariant.core c.first_runs.ensures.left;
-  ports_are = c.self.invariant.ports_are;
-  readers_are = c.self.invariant.readers_are;
-  unread_are = c.self.invariant.unread_are;
-  beside_are = c.self.invariant.beside_are;
-  asking_are = c.self.invariant.asking_are;
-  candidate_count = c.self.invariant.candidate_count;
-}
+invariant_of-self-2 c = stored_left c.self.invariant c.first_runs.new.older.items c.first_runs.ensures.left
 
 pub returns-clause-opening : goal.returns-clause-opening
 returns-clause-opening c =

@@ -1,7 +1,7 @@
 use Rattle.std.proofs.Common.{ap, List, length, arith}
 use Rattle.flow_word.specs.declared.access.Access.{Access}
 use Rattle.engine_view.specs.Held.{Held}
-use Rattle.engine_view.specs.Stored.{stored, held_in}
+use Rattle.engine_view.specs.Engines.{held_in}
 use Rattle.sim_core.specs.Runs.{over_of}
 use Rattle.sim_core.proofs.AccessLogs as log
 use Rattle.event_graph.specs.Packed.{whole}
@@ -10,14 +10,14 @@ use Rattle.sim_core.proofs.machine.Core.log_step.Goals as goal
 pub find_replies-requires-clause-inside : goal.find_replies-requires-clause-inside
 find_replies-requires-clause-inside c =
     let k = c.self.invariant.core in
-    let h : Held = held_in (stored c.self.inside.graph c.self.inside.fifos c.self.inside.log) (over_of c.self.inside.ends.items) in
+    let h : Held = held_in c.self.inside.engine (over_of c.self.inside.ends.items) in
     rw c.as_slice-accesses.ensures (log.step_inside c.self.inside.plan h k.sound k.agreed c.args.key.now
     (rw (← c.self.view_is) at c.requires) (whole c.step-step.result) c.step-step.ensures.step)
 
 pub find_replies-requires-clause-few : goal.find_replies-requires-clause-few
 find_replies-requires-clause-few c =
     let k = c.self.invariant.core in
-    let h : Held = held_in (stored c.self.inside.graph c.self.inside.fifos c.self.inside.log) (over_of c.self.inside.ends.items) in
+    let h : Held = held_in c.self.inside.engine (over_of c.self.inside.ends.items) in
     let few = log.step_few c.self.inside.plan h k.sound k.agreed c.args.key.now (rw (← c.self.view_is) at c.requires)
     (whole c.step-step.result) c.step-step.ensures.step (k.room.few c.args.key.now.module) in
     let short = c.step-step.ensures.sound.accesses in
@@ -27,7 +27,7 @@ find_replies-requires-clause-few c =
 pub log_accesses-requires : goal.log_accesses-requires
 log_accesses-requires c =
     let k = c.self.invariant.core in
-    let h : Held = held_in (stored c.self.inside.graph c.self.inside.fifos c.self.inside.log) (over_of c.self.inside.ends.items) in
+    let h : Held = held_in c.self.inside.engine (over_of c.self.inside.ends.items) in
     let many = log.replies_many c.self.inside.plan h k.sound k.agreed c.args.key.now (rw (← c.self.view_is) at c.requires)
     (whole c.step-step.result) c.step-step.ensures.step c.in_ok-_all._all c.find_replies.new.replies
     (rw c.as_slice-accesses.ensures at c.in_ok-_all.ensures.all) (rw c.as_slice-accesses.ensures at c.in_ok-_all.ensures.some) in
@@ -38,7 +38,7 @@ log_accesses-requires c =
 pub returns : goal.returns
 returns c =
     let k = c.self.invariant.core in
-    let h : Held = held_in (stored c.self.inside.graph c.self.inside.fifos c.self.inside.log) (over_of c.self.inside.ends.items) in
+    let h : Held = held_in c.self.inside.engine (over_of c.self.inside.ends.items) in
     let same = log.logged_is c.self.inside.plan h k.sound k.agreed c.args.key.now (rw (← c.self.view_is) at c.requires)
     (whole c.step-step.result) c.step-step.ensures.step c.in_ok-_all._all c.find_replies.new.replies
     (rw c.as_slice-accesses.ensures at c.in_ok-_all.ensures.all) (rw c.as_slice-accesses.ensures at c.in_ok-_all.ensures.some) in

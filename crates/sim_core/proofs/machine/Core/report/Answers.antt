@@ -1,7 +1,6 @@
 use Rattle.std.proofs.Common.{sym, subst}
 use Rattle.event_timing.specs.Actions.{IsFinal}
 use Rattle.timing_bridge.specs.Designs.{design}
-use Rattle.engine_view.specs.Stored.{stored}
 use Rattle.sim_core.specs.Views.{CoreView, theory_of}
 use Rattle.sim_core.proofs.Ending.{finished}
 use Rattle.sim_core.proofs.machine.Core.report.Goals as goal
@@ -9,5 +8,5 @@ use Rattle.sim_core.proofs.machine.Core.report.Goals as goal
 pub report_of-requires : goal.report_of-requires
 report_of-requires c =
     let final = subst (λ (v : CoreView). IsFinal (design v.plan) v.plan.cycles (theory_of v)) (sym c.self.view_is) c.requires in
-    rw c.deref.ensures.value (finished c.self.inside.plan (stored c.self.inside.graph c.self.inside.fifos c.self.inside.log)
-    c.self.inside.ends.items c.self.inside.runs.items c.self.inside.credits.items c.self.invariant.core final)
+    rw c.deref.ensures.value (finished c.self.inside.plan c.self.inside.engine
+    c.self.inside.ends.items c.self.inside.runs.items c.self.invariant.core final)

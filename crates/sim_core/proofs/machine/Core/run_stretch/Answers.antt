@@ -1,9 +1,7 @@
-use Rattle.std.proofs.Common.{ℕ, refl, sym, subst, ap, ◌∙◌, ◌<◌, length, get_or, true}
+use Rattle.std.proofs.Common.{ℕ, refl, sym, subst, ◌∙◌}
 use Rattle.std.specs.Prelude.{Result, Ok, Err, OnErr}
 use Rattle.sim_core.specs.Views.{CoreView}
-use Rattle.flow_design.specs.declared.plan.Plan.{Plan}
 use Rattle.sim_core.specs.Drives.{Goes, GoesOn}
-use Rattle.sim_core.proofs.Lending.{run_at}
 use Rattle.sim_core.proofs.Rounds as rounds
 use Rattle.sim_core.proofs.machine.Core.run_stretch.Goals as goal
 
@@ -12,7 +10,7 @@ on_err {A} {E} {P} (Ok a) p = tt
 on_err {A} {E} {P} (Err e) p = p
 
 pub has_asked-requires : goal.has_asked-requires
-has_asked-requires c = subst (λ (p : Plan). c.args.owner < length p.design.modules) (sym (c.loop.invariant.0 0).goes.plan) c.requires.owner
+has_asked-requires c = c.loop.invariant.1.inside
 
 pub returns-then-has_asked-clause-plan : goal.returns-then-has_asked-clause-plan
 returns-then-has_asked-clause-plan c = (c.loop.invariant.0 0).goes.plan
@@ -25,38 +23,16 @@ returns-in_err-woken-clause-no_memory c =
     on_err c.from_residual.result (λ (n : ℕ). subst (λ (w : CoreView). Goes c.args.self.now n w n) (sym c.in_err-woken.ensures.no_memory)
     (rounds.goes_same c.args.self.now n))
 
-pub run_once-requires-in-loop-clause-owner : goal.run_once-requires-in-loop-clause-owner
-run_once-requires-in-loop-clause-owner c =
-    subst (λ (p : Plan). c.args.owner < length p.design.modules) (sym (c.loop.invariant.0 0).goes.plan) c.requires.owner
-
-pub run_once-requires-in-loop-clause-taken : goal.run_once-requires-in-loop-clause-taken
-run_once-requires-in-loop-clause-taken c = ap (λ bs. get_or bs c.args.owner true) (c.loop.invariant.0 0).goes.lent ∙ c.requires.taken
-
-pub run_once-requires-in-loop-clause-run : goal.run_once-requires-in-loop-clause-run
-run_once-requires-in-loop-clause-run c =
-    run_at c.args.self.now.plan c.loop.self.plan c.loop.self c.loop.self c.args.owner c.loop.run (c.loop.invariant.0 0).goes.plan refl
-    c.loop.invariant.1
-
 pub returns-in-None-clause-some : goal.returns-in-None-clause-some
 returns-in-None-clause-some c = λ (n : ℕ).
     let same = (rw c.in-None.is at c.in_ok-more.ensures.unchanged) refl in
     subst (λ (w : CoreView). GoesOn c.args.self.now n w n) (sym same) (c.loop.invariant.0 n)
-
-pub returns-in_err-more-clause-run : goal.returns-in_err-more-clause-run
-returns-in_err-more-clause-run c =
-    run_at c.loop.self.plan c.args.self.now.plan c.run_once-in-loop.new.self c.run_once-in-loop.new.self c.args.owner
-    c.run_once-in-loop.new.run (sym (c.loop.invariant.0 0).goes.plan) refl c.run_once-in-loop.ensures.run
 
 pub returns-in_err-more-clause-plan : goal.returns-in_err-more-clause-plan
 returns-in_err-more-clause-plan c = c.run_once-in-loop.ensures.plan ∙ (c.loop.invariant.0 0).goes.plan
 
 pub returns-in_err-more-clause-lent : goal.returns-in_err-more-clause-lent
 returns-in_err-more-clause-lent c = c.run_once-in-loop.ensures.lent ∙ (c.loop.invariant.0 0).goes.lent
-
-pub returns-in-None-clause-run : goal.returns-in-None-clause-run
-returns-in-None-clause-run c =
-    run_at c.loop.self.plan c.args.self.now.plan c.run_once-in-loop.new.self c.run_once-in-loop.new.self c.args.owner
-    c.run_once-in-loop.new.run (sym (c.loop.invariant.0 0).goes.plan) refl c.run_once-in-loop.ensures.run
 
 pub returns-in-None-clause-plan : goal.returns-in-None-clause-plan
 returns-in-None-clause-plan c = c.run_once-in-loop.ensures.plan ∙ (c.loop.invariant.0 0).goes.plan
@@ -68,8 +44,7 @@ pub loop-preserved : goal.loop-preserved
 loop-preserved c =
     let more = rw c.in-Some-2.is at c.in_ok-more.ensures.some in (
       λ (n : ℕ). rounds.on_join c.args.self.now c.loop.self c.run_once-in-loop.new.self n n n (c.loop.invariant.0 n) (more n),
-      run_at c.loop.self.plan c.args.self.now.plan c.run_once-in-loop.new.self c.run_once-in-loop.new.self c.args.owner
-          c.run_once-in-loop.new.run (sym (c.loop.invariant.0 0).goes.plan) refl c.run_once-in-loop.ensures.run,
+      c.run_once-in-loop.ensures.out,
     )
 
 pub returns-clause-plan : goal.returns-clause-plan

@@ -1,9 +1,15 @@
-use Rattle.std.proofs.Common.{sym, ◌∙◌}
-use Rattle.sim_core.proofs.Lending as lending
+use Rattle.std.proofs.Common.{sym, subst}
+use Rattle.event_timing.specs.Actions.{MayRun}
+use Rattle.timing_bridge.specs.Designs.{design}
+use Rattle.sim_core.specs.Views.{CoreView, theory_of}
 use Rattle.sim_core.proofs.machine.Core.run_with.Goals as goal
 
-pub returns-then-is_err-2-clause-not_permitted : goal.returns-then-is_err-2-clause-not_permitted
-returns-then-is_err-2-clause-not_permitted c = λ e.
-    lending.not_permitted c.args.self.now c.try_with-ran.new.self c.args.owner c.try_with-ran.result c.try_with-ran.ensures.no_memory
-    (sym c.is_err.ensures.value ∙ c.if-is_err.true) c.permits.result c.permits.ensures.refused
-    (sym c.is_err-then-is_err.ensures.value ∙ c.if-is_err-2.true)
+pub returns-in-Err-clause-not_permitted : goal.returns-in-Err-clause-not_permitted
+returns-in-Err-clause-not_permitted c = λ e may.
+    c.may_run.ensures.none c.if-not-may_run.true
+    (subst (λ (v : CoreView). MayRun (design v.plan) (theory_of v) c.args.owner) (sym c.in-Err.ensures.no_memory) may)
+
+pub returns-in-Err-2-clause-permitted : goal.returns-in-Err-2-clause-permitted
+returns-in-Err-2-clause-permitted c =
+    subst (λ (v : CoreView). MayRun (design v.plan) (theory_of v) c.args.owner) c.in-Err-2.ensures.no_memory
+    (c.may_run.ensures.some c.if-not-may_run.false)

@@ -1,5 +1,5 @@
 use Rattle.std.proofs.Common.{sym, ap, subst, ◌∙◌, ℕ, List, slice_index, arith}
-use Rattle.engine_view.specs.Stored.{stored, held_in}
+use Rattle.engine_view.specs.Engines.{held_in}
 use Rattle.timing_bridge.specs.Designs.{design}
 use Rattle.engine_view.specs.Turns.{is_progress}
 use Rattle.sim_core.specs.Asking.{IsUnhinted}
@@ -11,15 +11,13 @@ use Rattle.sim_core.proofs.machine.Core.time.Goals as goal
 pub time_first-timing-requires : goal.time_first-timing-requires
 time_first-timing-requires g c =
     let k = c.self.invariant.core in
-    let s = stored c.self.inside.graph c.self.inside.fifos c.self.inside.log in
     let owner = rw (← c.self.view_is) at c.requires.owner in
     let lanes = k.sound.lanes in
     let limit = k.fits.cycles in
     record {
       owner = omega arith;
       limit = limit;
-      core = turning.some_core c.self.inside.plan s s c.self.inside.ends.items
-          c.self.inside.runs.items c.self.inside.credits.items k;
+      core = turning.some_core k;
     }
 
 pub invariant_of-self : goal.invariant_of-self
@@ -28,25 +26,24 @@ invariant_of-self g c =
     let k = c.self.invariant.core in
     let ends = c.self.inside.ends.items in
     let runs = c.self.inside.runs.items in
-    let s = stored c.self.inside.graph c.self.inside.fifos c.self.inside.log in
-    let t = stored c.time_first-timing.new.graph c.time_first-timing.new.fifos c.time_first-timing.new.log in
+    let s = c.self.inside.engine in
+    let t = c.time_first-timing.new.self in
     let inside = rw (← c.self.view_is) at c.requires.owner in
-    let core = turning.core_timed p s t ends runs c.self.inside.credits.items k c.args.owner c.time_first-timing.result
+    let core = turning.core_timed k t c.args.owner c.time_first-timing.result
     c.time_first-timing.ensures.done c.time_first-timing.ensures.room c.time_first-timing.ensures.kinds in
-    let turned = turning.turned p s t ends runs c.self.inside.credits.items k c.args.owner c.time_first-timing.result (lent_of runs)
+    let turned = turning.turned k t c.args.owner c.time_first-timing.result (lent_of runs)
     c.time_first-timing.ensures.done
     (λ cycle e. turning.changed (design p) s t (over_of ends) (core.sound.lanes ∙ sym k.sound.lanes)
     (c.time_first-timing.ensures.less (ap is_progress e))) in
     record {
       core = core;
-      ports_are = c.self.invariant.ports_are;
-      readers_are = c.self.invariant.readers_are;
-      unread_are = turning.unread_timed p s t ends runs c.self.inside.credits.items k c.args.owner c.time_first-timing.result
+      wired = c.self.invariant.wired;
+      unread_are = turning.unread_timed k t c.args.owner c.time_first-timing.result
           c.self.inside.unread c.time_first-timing.ensures.done c.self.invariant.unread_are;
-      beside_are = c.self.invariant.beside_are;
       asking_are = asking_turned (record { plan = p; held = held_in s (over_of ends); lent = lent_of runs })
           (record { plan = p; held = held_in t (over_of ends); lent = lent_of runs }) k.fits c.self.inside.asking
-          c.self.invariant.asking_are c.self.inside.beside c.self.invariant.beside_are c.args.owner inside c.asking_after-self-inside.result
+          c.self.invariant.asking_are c.self.inside.wiring.beside c.self.invariant.wired.beside_are c.args.owner inside
+          c.asking_after-self-inside.result
           c.asking_after-self-inside.ensures.others c.time_first-timing.result turned c.asking_after-self-inside.ensures.own
           (λ e. let modules = k.fits.module_count in c.asking_after-self-inside.ensures.acted e (omega arith))
           (λ e n none. subst (λ (bits : List ℕ). IsUnhinted (slice_index bits c.args.owner) n) c.as_slice.ensures
@@ -57,12 +54,11 @@ invariant_of-self g c =
 pub returns-clause-done : goal.returns-clause-done
 returns-clause-done g c =
     let k = c.self.invariant.core in
-    let s = stored c.self.inside.graph c.self.inside.fifos c.self.inside.log in
-    let t = stored c.time_first-timing.new.graph c.time_first-timing.new.fifos c.time_first-timing.new.log in
+    let s = c.self.inside.engine in
+    let t = c.time_first-timing.new.self in
     let lanes = k.sound.lanes in
     let now = (invariant_of-self g c).core.sound.lanes in
-    rw (← c.self.view_is) (turning.turned c.self.inside.plan s t c.self.inside.ends.items c.self.inside.runs.items
-    c.self.inside.credits.items k c.args.owner c.time_first-timing.result (lent_of c.self.inside.runs.items)
+    rw (← c.self.view_is) (turning.turned k t c.args.owner c.time_first-timing.result (lent_of c.self.inside.runs.items)
     c.time_first-timing.ensures.done
     (λ cycle e. turning.changed (design c.self.inside.plan) s t (over_of c.self.inside.ends.items) (now ∙ sym lanes)
     (c.time_first-timing.ensures.less (ap is_progress e))))

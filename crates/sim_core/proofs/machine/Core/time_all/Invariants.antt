@@ -1,9 +1,10 @@
+use Rattle.engine_view.specs.Cursors.{turns_left}
 use Rattle.sim_core.specs.Timings.{IsTimingRound}
-use Rattle.sim_core.proofs.TimingRounds.{timings_left}
+use Rattle.sim_core.proofs.Rounds.{to_do}
 use Rattle.sim_core.proofs.machine.Core.time_all.Given as goal
 
-abbrev pub invariant-loop-idle : goal.invariant-loop-idle
-invariant-loop-idle g l = IsTimingRound l.initial.self l.self l.initial.steps l.steps l.count l.at l.idle l.done
+abbrev pub invariant-loop-at : goal.invariant-loop-at
+invariant-loop-at g l = IsTimingRound l.initial.self l.self l.initial.steps l.steps l.cursor l.done
 
-abbrev pub decreases-loop-idle : goal.decreases-loop-idle
-decreases-loop-idle g l = timings_left l.self l.count l.idle
+abbrev pub decreases-loop-at : goal.decreases-loop-at
+decreases-loop-at g l = turns_left (to_do l.self) l.cursor

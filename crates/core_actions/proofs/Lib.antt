@@ -1,0 +1,6 @@
+pub mod Firsts
+pub mod Causing
+pub mod Seeking
+pub mod Looking
+pub mod Permissions
+pub mod Acts

@@ -1,0 +1,116 @@
+-- A core as it is stored: a module's run is taken out or put back; room is made for a module's marks, and Runs of that module follow.
+use Rattle.std.proofs.Common.{◌≡◌, ◌∙◌, ℕ, ◌<◌, List, [], length, get_or, set, Bool, Option, None, Some, arith}
+use Rattle.std.specs.Prelude.{All, IfSome, bit_or}
+use Rattle.flow_word.specs.declared.access.Port.{Port}
+use Rattle.flow_design.specs.declared.plan.Plan.{Plan}
+use Rattle.flow_design.specs.declared.state.Advance.{Advance}
+use Rattle.flow_design.specs.declared.state.ModuleState.{ModuleState}
+use Rattle.module_interp.specs.declared.run.ModuleRun.{ModuleRun}
+use Rattle.event_graph.specs.declared.candidate.Candidate.{Candidate}
+use Rattle.event_timing.specs.Machines.{Design}
+use Rattle.event_timing.specs.Core.{core_values}
+use Rattle.event_timing.specs.Actions.{ActsAll}
+use Rattle.event_timing.specs.Actions as actions
+use Rattle.timing_bridge.specs.Designs.{design}
+use Rattle.engine_view.specs.declared.engine.Engine.{Engine}
+use Rattle.engine_view.specs.Engines.{held_in}
+use Rattle.engine_view.specs.Hints.{bit_of}
+use Rattle.engine_view.specs.Rooms.{HasModule, IsSameButRoom, IsRoomy, AreAllPorts}
+use Rattle.sim_core.specs.declared.unread.Unread.{Unread}
+use Rattle.sim_core.specs.declared.wiring.Wiring.{Wiring}
+use Rattle.sim_core.specs.Opening.{ports_to}
+use Rattle.sim_core.specs.Returned.{core_in}
+use Rattle.sim_core.specs.Runs.{IsRunOf, IsOut, IsCore, IsStoredCore, lent_of, over_of}
+use Rattle.sim_core.specs.Unread.{AreUnread}
+use Rattle.sim_core.proofs.Asking.{asking_kept, asking_returned}
+use Rattle.sim_core.proofs.Leaving as leaving
+use Rattle.sim_core.proofs.Lending as lending
+use Rattle.sim_core.proofs.Marking.{table_count}
+use Rattle.sim_core.proofs.Ports as ports
+
+-- ---- a run that is taken out or put back
+
+module _ {p : Plan} {s : Engine} {ends : List (Option Advance)} {runs : List (Option ModuleRun)} {wiring : Wiring}
+    {unread : List Unread} {asking : ℕ} {candidates : List Candidate}
+    (k : IsStoredCore p s ends runs wiring unread asking candidates) (m : ℕ) (inside : m < length p.design.modules) where
+  pub stored_lent : (o : Option ModuleRun) → ((run : ModuleRun) → o ≡ Some run → IsRunOf p (core_in p s ends) m run)
+      → IsStoredCore p s ends (set runs m o) wiring unread asking candidates
+  stored_lent o f = record {
+    core = lending.core_lent p s ends runs m o k.core (let n = k.core.sound.lanes in omega arith) f;
+    wired = k.wired;
+    unread_are = k.unread_are;
+    asking_are = k.asking_are;
+    candidate_count = k.candidate_count;
+  }
+
+  -- a run that was there is out
+  pub run_out : (o : Option ModuleRun) → get_or runs m None ≡ o
+      → IfSome o (λ run. IsOut (record { plan = p; held = held_in s (over_of ends); lent = lent_of (set runs m None) }) m run)
+  run_out None e = tt
+  run_out (Some run) e = record { inside = inside; lent = lending.lent_set runs m; run_is = k.core.runs_are m run e }
+
+-- ---- room for a module's marks
+
+module _ {p : Plan} {s : Engine} {ends : List (Option Advance)} {runs : List (Option ModuleRun)} {wiring : Wiring}
+    {unread : List Unread} {asking : ℕ} {candidates : List Candidate}
+    (k : IsStoredCore p s ends runs wiring unread asking candidates) (m : ℕ) (inside : m < length p.design.modules)
+    (own : List Port) (own_is : own ≡ get_or wiring.ports m []) where
+  own_ports : own ≡ ports_to p m (length p.design.channels)
+  own_ports = own_is ∙ k.wired.ports_are.each m inside
+
+  channels : length s.fifos.channels ≡ length p.design.channels
+  channels = table_count p s.fifos.channels k.core.table
+
+  -- ---- what it asks to make room
+
+  pub has_module : HasModule s m
+  has_module =
+      let lanes = k.core.sound.lanes in
+      let logs = k.core.sound.logs in
+      let count = k.core.counted in
+      record { lane = omega arith; log = omega arith; credit = omega arith }
+
+  pub ports_inside : All (λ (port : Port). port.channel < length s.fifos.channels) own
+  ports_inside = ports.all_within p m (length s.fifos.channels) own channels own_ports
+
+  -- ---- with room
+
+  module _ (t : Engine) (same : IsSameButRoom m s t) (room : (d : Design ModuleState) (over : List Bool)
+      → AreAllPorts d m (length s.fifos.channels) own → IsRoomy d s over → IsRoomy d t over) where
+    pub held_same : held_in t (over_of ends) ≡ held_in s (over_of ends)
+    held_same = lending.held_same s t (over_of ends) same.lanes same.channels same.logs
+
+    pub core : IsCore p t ends runs
+    core = lending.core_roomed p s ends runs t k.core held_same same.count
+        (room (design p) (over_of ends) (ports.all_there p m (length s.fifos.channels) own channels own_ports) k.core.room)
+
+    unread_are : AreUnread (core_values (design p) (core_in p t ends)) (length p.design.channels) unread
+    unread_are = leaving.unread_same p (held_in s (over_of ends)) (held_in t (over_of ends)) unread held_same k.unread_are
+
+    pub stored_roomed : (bits : ℕ) → IsStoredCore p t ends runs wiring unread (bit_or asking bits) candidates
+    stored_roomed bits = record {
+      core = core;
+      wired = k.wired;
+      unread_are = unread_are;
+      asking_are = asking_kept p (held_in s (over_of ends)) (held_in t (over_of ends)) held_same k.core.fits asking k.asking_are bits;
+      candidate_count = k.candidate_count;
+    }
+
+    -- ---- behind Runs of the module
+
+    module _ (f : Engine) (ends' : List (Option Advance)) (count : ℕ)
+        (acts : ActsAll (design p) p.cycles (core_in p t ends) (actions.runs count m) (core_in p f ends')) where
+      pub unread_ran : AreUnread (core_values (design p) (core_in p f ends')) (length p.design.channels) unread
+      unread_ran = leaving.unread_ran p t ends runs core unread unread_are m count (core_in p f ends') acts
+
+      pub stored_ran : (runs' : List (Option ModuleRun)) → IsCore p f ends' runs' → (unread' : List Unread)
+          → AreUnread (core_values (design p) (core_in p f ends')) (length p.design.channels) unread'
+          → (bit : ℕ) → bit ≡ bit_of m → IsStoredCore p f ends' runs' wiring unread' (bit_or asking bit) candidates
+      stored_ran runs' core' unread' are bit is = record {
+        core = core';
+        wired = k.wired;
+        unread_are = are;
+        asking_are = asking_returned p (held_in s (over_of ends)) (held_in t (over_of ends)) held_same k.core.fits core.agreed asking
+            k.asking_are m bit is count (core_in p f ends') acts;
+        candidate_count = k.candidate_count;
+      }

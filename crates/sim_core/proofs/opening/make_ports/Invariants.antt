@@ -1,5 +1,0 @@
-use Rattle.sim_core.specs.Opening.{AreOwnPorts}
-use Rattle.sim_core.proofs.opening.make_ports.Given as goal
-
-abbrev pub invariant-loop-owner : goal.invariant-loop-owner
-invariant-loop-owner l = AreOwnPorts l.plan l.owner l.ports

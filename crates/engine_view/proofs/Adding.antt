@@ -5,20 +5,20 @@ use Rattle.std.specs.Prelude.{All, slice_get}
 use Rattle.std.proofs.lemmas.Bool.{cases_Bool}
 use Rattle.std.proofs.lemmas.Bool.Decides.{nat_tests}
 use Rattle.std.proofs.lemmas.List.{drop_more, drop_all, drop-drop}
-use Rattle.std.proofs.lemmas.List.Elements.{All-head, All-tail, All-weaker}
+use Rattle.std.proofs.lemmas.List.Elements.{All-head, All-tail, All-weaker, All-append, All-replicate}
 use Rattle.flow_word.specs.Kinds.{is_blocking, is_taking, same_side, side_of}
 use Rattle.flow_word.specs.declared.access.Side.{Side}
 use Rattle.flow_word.specs.declared.access.Access.{Access}
 use Rattle.flow_word.specs.declared.access.Place.{Place}
-use Rattle.fifo_table.specs.Channels.{Channel, channel_at}
+use Rattle.fifo_table.specs.Channels.{Channel, AreAllOf, channel_at, places_of}
 use Rattle.fifo_table.specs.Roomed.{RoomedChannels}
 use Rattle.time_engine.specs.Conditions.{IsAccess}
 use Rattle.engine_view.specs.Held.{possible_by, flags_by}
 use Rattle.engine_view.specs.Emitted.{done_at_once}
 use Rattle.engine_view.specs.Answered.{done_late}
 use Rattle.engine_view.specs.Taking.{taken_by, taken_all, kinds_in}
-use Rattle.engine_view.specs.Rooms.{room_of, TakesAt, AreApart, HasRoomFor, done_by}
-use Rattle.engine_view.proofs.Taking.{all_length, all_channel, kind_after, kinds_behind}
+use Rattle.engine_view.specs.Rooms.{room_of, TakesAt, AreApart, HasRoomFor, StandAtOwn, done_by}
+use Rattle.engine_view.proofs.Taking.{all_length, all_channel, kind_after, kinds_behind, places_after}
 
 -- the accesses before this index were taken, the outcomes of which end before this number
 pub record TakesOn (at : Place) (late : Bool) (accesses : List Access) (outcomes : List Bool) (first : ℕ) (old now : RoomedChannels)
@@ -28,6 +28,7 @@ pub record TakesOn (at : Place) (late : Bool) (accesses : List Access) (outcomes
   pub kinds : kinds_in now.channels ≡ kinds_in old.channels
   pub within : number ≤ first + index
   pub inside : All (IsAccess now.channels) (drop index accesses)
+  pub own : StandAtOwn at.module now.channels (drop index accesses)
   pub apart : AreApart (drop index accesses)
   pub rooms : HasRoomFor now (drop index accesses)
   -- a side from which a place was taken is not taken from again
@@ -45,13 +46,14 @@ drop_next {X} true n xs = grind arith
 drop_next {X} false n xs = drop-drop 1 n xs
 
 pub takes_init : (at : Place) (late : Bool) (xs : List Access) (outs : List Bool) (first : ℕ) (t : RoomedChannels)
-    → All (IsAccess t.channels) xs → AreApart xs → HasRoomFor t xs
+    → All (IsAccess t.channels) xs → StandAtOwn at.module t.channels xs → AreApart xs → HasRoomFor t xs
     → TakesOn at late xs outs first t t 0 first
-takes_init at late xs outs first t inside apart rooms = record {
+takes_init at late xs outs first t inside own apart rooms = record {
   channels = refl;
   kinds = refl;
   within = omega arith;
   inside = inside;
+  own = own;
   apart = apart;
   rooms = rooms;
   one = λ side c. inl (omega arith);
@@ -74,6 +76,19 @@ one_kept at channels a b y inside k =
       ) k.side;
     }
 
+-- it adds only places of the module
+own_kept : (at : Place) (channels : List Channel) (a : Access) (b : Bool) (y : Access) → a.channel < length channels
+    → AreAllOf at.module (places_of (side_of y.kind) (channel_at channels y.channel))
+    → AreAllOf at.module (places_of (side_of y.kind) (channel_at (cond (is_taking a.kind && b)
+    (taken_by (side_of a.kind) at channels a) channels) y.channel))
+own_kept at channels a b y inside own =
+    let inside' : All (λ (q : Access). q.channel < length channels) (a ∷ []) = λ j e l.
+    let first : j ≡ 0 = omega arith in rw first inside in
+    let new = all_channel at channels (a ∷ []) (b ∷ []) y.channel inside' in
+    let longer = places_after (side_of y.kind) at y.channel (channel_at channels y.channel) (a ∷ []) (b ∷ []) in
+    rw (new, longer) (All-append (λ (p : Place). p.module ≡ at.module) (places_of (side_of y.kind) (channel_at channels y.channel)) _ own
+    (All-replicate (λ (p : Place). p.module ≡ at.module) _ at refl))
+
 module _ (at : Place) (late : Bool) (xs : List Access) (outs : List Bool) (first : ℕ) (old now : RoomedChannels) (i n : ℕ) (d : Access)
     (r : TakesOn at late xs outs first old now i n) (l : i < length xs) where
   here : drop i xs ≡ get_or xs i d ∷ drop (i + 1) xs
@@ -81,6 +96,10 @@ module _ (at : Place) (late : Bool) (xs : List Access) (outs : List Bool) (first
 
   pub access_here : IsAccess now.channels (get_or xs i d)
   access_here = All-head (IsAccess now.channels) (get_or xs i d) (drop (i + 1) xs) (rw here at r.inside)
+
+  pub own_here : AreAllOf at.module (places_of (side_of (get_or xs i d).kind) (channel_at now.channels (get_or xs i d).channel))
+  own_here = All-head (λ (q : Access). AreAllOf at.module (places_of (side_of q.kind) (channel_at now.channels q.channel))) (get_or xs i d)
+      (drop (i + 1) xs) (rw here at r.own)
 
   pub room_here : is_taking (get_or xs i d).kind ≡ true → 0 < room_of now (side_of (get_or xs i d).kind) (get_or xs i d).channel
   room_here = All-head (λ (q : Access). is_taking q.kind ≡ true → 0 < room_of now (side_of q.kind) q.channel) (get_or xs i d)
@@ -123,6 +142,11 @@ module _ (at : Place) (late : Bool) (xs : List Access) (outs : List Bool) (first
         (All-weaker (IsAccess now.channels) _ (λ y k. one_kept at now.channels a done y (access_here at late xs outs first old now i n d r
         l).channel k) (drop (i + 1) xs)
         (All-tail (IsAccess now.channels) a (drop (i + 1) xs) (rw line at r.inside)));
+    own = rw channels
+        (All-weaker (λ (q : Access). AreAllOf at.module (places_of (side_of q.kind) (channel_at now.channels q.channel))) _
+        (λ y k. own_kept at now.channels a done y (access_here at late xs outs first old now i n d r l).channel k) (drop (i + 1) xs)
+        (All-tail (λ (q : Access). AreAllOf at.module (places_of (side_of q.kind) (channel_at now.channels q.channel))) a (drop (i + 1) xs)
+        (rw line at r.own)));
     apart = apart_here.1;
     rooms = λ j e q t.
         let b = get_or (drop (i + 1) xs) j e in

@@ -24,7 +24,7 @@ use Rattle.engine_view.specs.Known.{found_flags}
 use Rattle.engine_view.specs.Emitted.{place_of}
 use Rattle.engine_view.specs.Taking.{taken_all}
 use Rattle.engine_view.specs.Answered.{outcomes_of, done_late, with_answered}
-use Rattle.engine_view.specs.Rooms.{query_bound, room_of, TakesAt, AreApart, HasRoomFor, CanTake, done_by, pending, HasRoom}
+use Rattle.engine_view.specs.Rooms.{query_bound, room_of, TakesAt, AreApart, HasRoomFor, StandAtOwn, CanTake, done_by, pending, HasRoom}
 use Rattle.engine_view.specs.Turns.{first_of}
 use Rattle.engine_view.proofs.Unsure.{IsFresh}
 use Rattle.engine_view.proofs.Taking.{all_length}
@@ -32,7 +32,7 @@ use Rattle.engine_view.proofs.Deciding.{flags_are}
 use Rattle.engine_view.proofs.Answered.{queries_step, answered_core, last, verified_least, recorded_most, new_length, same_queries}
 use Rattle.engine_view.proofs.Answered.{flags_here, log_now, log_else}
 use Rattle.engine_view.proofs.Adding.{done_later}
-use Rattle.engine_view.proofs.Roomy.{apart_of, room_for, free_side, pending_same}
+use Rattle.engine_view.proofs.Roomy.{apart_of, own_for, room_for, free_side, pending_same}
 
 module _ {S : Type 0} {d : Design S} {h : Held} {m : ℕ} (f : IsFresh d h m) (c : ℕ) where
   abbrev x : Core S
@@ -77,6 +77,9 @@ module _ {S : Type 0} {d : Design S} {h : Held} {m : ℕ} (f : IsFresh d h m) (c
   fresh_apart = apart_of t.accesses (λ side ch. subst (λ (xs : List theory.Access). takers side ch xs ≤ 1)
       (f.unsure.kept.sound.accesses m k₀ f.unsure.less) (f.unsure.design.single side m (x.state m k₀) ch))
 
+  fresh_own : StandAtOwn m h.channels t.accesses
+  fresh_own = own_for d h f.unsure.kept.sound m t.accesses fresh_inside owned
+
   waits_one : pending x m ≡ 1
   unfolding pending
   waits_one = let n = newest in let fresh = f.fresh in grind (arith, nat_tests)
@@ -85,8 +88,8 @@ module _ {S : Type 0} {d : Design S} {h : Held} {m : ℕ} (f : IsFresh d h m) (c
     pub fresh_room : HasRoomFor table t.accesses
     fresh_room = room_for d h lanes table logs credits r m t.accesses (let n = waits_one in omega arith) fresh_inside owned
 
-    pub fresh_takes : table.channels ≡ h.channels → CanTake table t.accesses
-    fresh_takes e = record { inside = rw e fresh_inside; apart = fresh_apart; room = fresh_room }
+    pub fresh_takes : table.channels ≡ h.channels → CanTake m table t.accesses
+    fresh_takes e = record { inside = rw e fresh_inside; own = rw e fresh_own; apart = fresh_apart; room = fresh_room }
 
     queries_are : queries_before h m (emitted_of h m) ≡ queries_before h m k₀ + queries_in t.accesses
     queries_are = rw (sym newest) (queries_step h m k₀)

@@ -23,7 +23,7 @@ use Rattle.engine_view.specs.Shown.{IsSound, queries_before}
 use Rattle.engine_view.specs.Emitted.{IsNextStep, with_emitted, place_of, done_at_once}
 use Rattle.engine_view.specs.declared.engine.Engine.{Engine}
 use Rattle.engine_view.specs.Engines.{held_in}
-use Rattle.engine_view.specs.Rooms.{query_bound, room_of, TakesAt, AreApart, HasRoomFor, UsesRoom, pending, HasRoom, IsRoomy}
+use Rattle.engine_view.specs.Rooms.{query_bound, room_of, TakesAt, AreApart, HasRoomFor, StandAtOwn, UsesRoom, pending, HasRoom, IsRoomy}
 use Rattle.engine_view.proofs.Taking.{all_length}
 use Rattle.engine_view.proofs.Emitted.{there, queries_same, emitted_core}
 use Rattle.engine_view.proofs.Answered.{queries_step, queries_zero, all_among}
@@ -80,6 +80,15 @@ room_for {S} d h lanes table logs credits r m xs some inside owned j e l t =
     let room = rw own at (r.ends (side_of a.kind) a.channel k.channel) in
     omega arith
 
+-- the places at a side of a channel are of its owner
+pub own_for : {S : Type 0} → (d : Design S) (h : Held) → IsSound d h → (m : ℕ) (xs : List Access) → All (IsAccess h.channels) xs
+    → Each (λ a. d.owner a.side a.channel ≡ m) (map seen xs) → StandAtOwn m h.channels xs
+own_for {S} d h s m xs inside owned j e l i p u =
+    let a = get_or xs j e in
+    let owner = each_at (λ a. d.owner a.side a.channel ≡ m) xs owned j e l in
+    let places = s.taken (side_of a.kind) a.channel (inside j e l).channel in
+    (places.each i p u).owner ∙ owner
+
 pub few_queries : (xs : List Access) → queries_in xs ≤ length xs
 few_queries [] = omega arith
 few_queries (a ∷ xs) = let later = few_queries xs in grind arith
@@ -111,6 +120,9 @@ module _ {S : Type 0} (d : Design S) (i : IsDesign d) (h : Held) (m : ℕ) (t : 
   pub apart_next : AreApart t.accesses
   apart_next = apart_of t.accesses (λ side c. subst (λ (xs : List theory.Access). takers side c xs ≤ 1) next.accesses
       (i.single side m (ready d m (newest d (core_of d h) m)) c))
+
+  pub own_next : IsSound d h → StandAtOwn m h.channels t.accesses
+  own_next s = own_for d h s m t.accesses next.inside owned_next
 
   pub room_for_next : (lanes : List ℕ) (table : RoomedChannels) (logs credits : List ℕ) → HasRoom d h lanes table logs credits
       → 0 < get_or credits m 0 + pending (core_of d h) m → HasRoomFor table t.accesses

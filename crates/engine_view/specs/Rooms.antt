@@ -8,6 +8,7 @@ use Rattle.flow_word.specs.declared.access.Side.{Side}
 use Rattle.flow_word.specs.declared.access.Side.TheVariants.{Pop, Push}
 use Rattle.flow_word.specs.declared.access.Step.{Step}
 use Rattle.event_graph.specs.Lanes.{lane_at, with_step, IsSoundStep, IsSoundLane}
+use Rattle.fifo_table.specs.Channels.{Channel, AreAllOf, channel_at, places_of}
 use Rattle.fifo_table.specs.Roomed.{RoomedChannels}
 use Rattle.query_log.specs.Logs.{log_at}
 use Rattle.time_engine.specs.Conditions.{IsAccess}
@@ -41,6 +42,10 @@ AreApart (a ∷ as') = All (λ b. is_taking a.kind ≡ true → TakesAt (side_of
 -- there is room for each of them that takes
 abbrev pub HasRoomFor : RoomedChannels → List Access → Type 0
 HasRoomFor t accesses = All (λ a. is_taking a.kind ≡ true → 0 < room_of t (side_of a.kind) a.channel) accesses
+
+-- at the sides of the channels where they stand, all pushes and pops so far are of the module
+abbrev pub StandAtOwn : ℕ → List Channel → List Access → Type 0
+StandAtOwn m channels accesses = All (λ a. AreAllOf m (places_of (side_of a.kind) (channel_at channels a.channel))) accesses
 
 -- which accesses are done: as soon as they are emitted those that block, later the queries that these outcomes tell were possible
 abbrev pub done_by : Bool → List Access → List Bool → List Bool
@@ -100,9 +105,10 @@ pub record IsSameButRoom (m : ℕ) (e f : Engine) : Type 0 where
   pub count : length f.credits.items ≡ length e.credits.items
   pub other_credits : (n : ℕ) → n ≢ m → slice_index f.credits.items n ≡ slice_index e.credits.items n
 
--- each of the accesses is one of a channel of the table, and there is room for those that take
-pub record CanTake (t : RoomedChannels) (accesses : List Access) : Type 0 where
+-- each of the module's accesses is one of a channel of the table, and there is room for those that take
+pub record CanTake (m : ℕ) (t : RoomedChannels) (accesses : List Access) : Type 0 where
   pub inside : All (IsAccess t.channels) accesses
+  pub own : StandAtOwn m t.channels accesses
   pub apart : AreApart accesses
   pub room : HasRoomFor t accesses
 
@@ -111,7 +117,7 @@ pub record CanEmit (e : Engine) (m : ℕ) (step : Step) : Type 0 where
   pub owner : HasModule e m
   pub sound : IsSoundStep step
   pub after : 0 < length (lane_at e.graph.lanes m).steps → 1 ≤ step.gap
-  pub takes : CanTake e.fifos step.accesses
+  pub takes : CanTake m e.fifos step.accesses
   pub lane_room : 0 < slice_index e.graph.rooms m
   pub credit : 2 ≤ slice_index e.credits.items m
   pub few : step.first_query < query_bound

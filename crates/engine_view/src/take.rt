@@ -2,6 +2,7 @@
 ghost use Rattle.std.specs.Prelude.{◌≡◌, ℕ, ◌+◌, ◌<◌, ◌≤◌, ◌^◌, true, cond, not, ◌&&◌, length, drop, All};
 ghost use Rattle.flow_word.specs.Kinds.{side_of, is_blocking, is_taking};
 ghost use Rattle.flow_word.specs.declared.access.Side.{Side as side_type};
+ghost use Rattle.fifo_table.specs.Channels.{AreAllOf, channel_at, places_of};
 ghost use Rattle.query_log.specs.Logs.{log_at, outcome_of};
 ghost use Rattle.time_engine.specs.Conditions.{IsAccess};
 ghost use Rattle.engine_view.specs.Held.{possible_by};
@@ -27,7 +28,7 @@ pub fn take_all(
     later: bool,
 )
     requires owner { at.module < length log.now.logs }
-    requires accesses { CanTake fifos.old accesses.now }
+    requires accesses { CanTake at.module fifos.old accesses.now }
     requires few { first_query + length accesses.now < 2 ^ 64 }
     requires step { at.step < 2 ^ 32 }
     ensures channels { fifos.new.channels ≡ taken_all at fifos.old.channels accesses.now
@@ -72,6 +73,7 @@ pub fn was_possible(kind: Kind, outcome: Option<bool>) -> bool
 #[inline(always)]
 fn take_if(fifos: &mut FifoTable, at: Place, access: &Access, done: bool)
     requires access { IsAccess fifos.old.channels access.now }
+    requires own { AreAllOf at.module (places_of (side_of access.now.kind) (channel_at fifos.old.channels access.now.channel)) }
     requires step { at.step < 2 ^ 32 }
     requires room { is_taking access.now.kind ≡ true → 0 < room_of fifos.old (side_of access.now.kind) access.now.channel }
     ensures channels { fifos.new.channels ≡ cond (is_taking access.now.kind && done)
@@ -88,6 +90,7 @@ fn take_if(fifos: &mut FifoTable, at: Place, access: &Access, done: bool)
 #[inline(always)]
 fn add(fifos: &mut FifoTable, at: Place, access: &Access)
     requires access { IsAccess fifos.old.channels access.now }
+    requires own { AreAllOf at.module (places_of (side_of access.now.kind) (channel_at fifos.old.channels access.now.channel)) }
     requires step { at.step < 2 ^ 32 }
     requires taking { is_taking access.now.kind ≡ true }
     requires room { 0 < room_of fifos.old (side_of access.now.kind) access.now.channel }

@@ -1,2 +1,2 @@
-pub mod Narrowed
+pub mod Keeping
 pub mod SoundKinds

@@ -1,5 +1,6 @@
 -- Channels with the pushes and pops that were emitted so far.
-use Rattle.std.specs.Prelude.{ℕ, ◌-◌, ◌≤◌, List, [], ◌∷◌, ◌++◌, length, map, slice_get, slice_set, slice_index_or, Option, option_map}
+use Rattle.std.specs.Prelude.{ℕ, ◌≡◌, ◌-◌, ◌≤◌, List, [], ◌∷◌, ◌++◌, length, map, slice_get, slice_set, slice_index_or}
+use Rattle.std.specs.Prelude.{Option, option_map, All}
 use Rattle.flow_word.specs.declared.access.Place.{Place}
 use Rattle.flow_word.specs.declared.access.Side.{Side}
 use Rattle.flow_word.specs.declared.access.Side.TheVariants.{Pop, Push}
@@ -94,6 +95,10 @@ places_of Push channel = map (λ p. p.at) channel.pushes
 -- the module of the first of these steps, where there is one
 abbrev pub first_module : List Place → Option ℕ
 first_module places = option_map (λ place. place.module) (slice_get places 0)
+
+-- these steps are all of this module
+abbrev pub AreAllOf : ℕ → List Place → Type 0
+AreAllOf m places = All (λ place. place.module ≡ m) places
 
 -- the values that a channel's pops find, in order: a source's inputs, else what was pushed
 abbrev pub values_of : TableChannel → List Pushed → List ℕ

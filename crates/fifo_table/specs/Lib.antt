@@ -1,4 +1,4 @@
 pub mod Channels
 pub mod Enablers
-pub mod Narrow
+pub mod Kept
 pub mod Roomed

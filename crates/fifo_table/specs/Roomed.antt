@@ -2,7 +2,6 @@
 use Rattle.std.specs.Prelude.{ℕ, List, map}
 use Rattle.fifo_table.specs.declared.channel.RoomyChannel.{RoomyChannel}
 use Rattle.fifo_table.specs.Channels.{Channel}
-use Rattle.fifo_table.specs.Narrow.{wide, wide_push}
 
 -- the channels, and how many further pushes and pops each takes without memory
 pub record RoomedChannels : Type 0 where
@@ -14,8 +13,8 @@ pub record RoomedChannels : Type 0 where
 abbrev pub channel_of : RoomyChannel → Channel
 channel_of roomy = record {
   kind = roomy.kind;
-  pushes = map wide_push roomy.pushes.items;
-  pops = map wide roomy.pops.items;
+  pushes = roomy.pushes.items;
+  pops = roomy.pops.items;
 }
 
 -- the channels alone

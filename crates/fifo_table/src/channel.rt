@@ -1,10 +1,11 @@
 //! A channel with its pushes and pops.
-ghost use Rattle.std.specs.Prelude.{◌≡◌, ◌<◌, ◌≤◌, ◌^◌, slice_get, IfOk, OnOk};
+ghost use Rattle.std.specs.Prelude.{◌≡◌, ◌≤◌, slice_get, IfOk, OnOk};
 ghost use Rattle.fifo_table.specs.Channels.{unused, lag_of, free_of, deepened, places_of};
-ghost use Rattle.fifo_table.specs.Narrow.{wide, wide_push};
 ghost use Rattle.fifo_table.specs.Roomed.{channel_of};
 
-use flow_word::{List, OutOfMemory, Place, RoomyList, Side, Words};
+use crate::places::Places;
+use crate::pushes::Pushes;
+use flow_word::{List, OutOfMemory, Place, Side, Words};
 use std::alloc::Global;
 
 /// What a channel is.
@@ -26,61 +27,12 @@ pub struct Pushed {
     pub value: u64,
 }
 
-/// A place of 8 bytes, of a step whose number is below 2^32.
-#[derive(Clone, Copy, Debug)]
-pub struct NarrowPlace {
-    pub module: u32,
-    pub step: u32,
-}
-
-/// A push of 16 bytes.
-#[derive(Clone, Copy, Debug)]
-pub struct NarrowPush {
-    pub at: NarrowPlace,
-    pub value: u64,
-}
-
 /// A channel with its pushes and pops, and room for more of them.
 #[derive(Drop)]
 pub struct RoomyChannel {
     pub kind: TableChannel,
-    pub pushes: RoomyList<NarrowPush>,
-    pub pops: RoomyList<NarrowPlace>,
-}
-
-impl NarrowPlace {
-    /// A place whose step's number is below 2^32.
-    pub fn of(at: Place) -> NarrowPlace
-        requires { at.step < 2 ^ 32 }
-        ensures { wide result ≡ at }
-    {
-        NarrowPlace {
-            module: at.module,
-            step: at.step as u32,
-        }
-    }
-
-    /// The place.
-    pub fn wide(self) -> Place
-        ensures { result ≡ wide self }
-    {
-        Place {
-            module: self.module,
-            step: self.step as u64,
-        }
-    }
-}
-
-impl NarrowPush {
-    /// The push.
-    pub fn wide(self) -> Pushed
-        ensures { result ≡ wide_push self }
-    {
-        Pushed {
-            at: self.at.wide(),
-            value: self.value,
-        }
-    }
+    pub pushes: Pushes,
+    pub pops: Places,
 }
 
 impl RoomyChannel {
@@ -90,8 +42,8 @@ impl RoomyChannel {
     {
         Ok(RoomyChannel {
             kind: copied(alloc, kind)?,
-            pushes: RoomyList::new(alloc),
-            pops: RoomyList::new(alloc),
+            pushes: Pushes::new(alloc),
+            pops: Places::new(alloc),
         })
     }
 
@@ -137,7 +89,7 @@ impl RoomyChannel {
     {
         match side {
             Side::Pop => self.pop(before),
-            Side::Push => self.push(before).map(|push| push.at),
+            Side::Push => self.pushes.place(before),
         }
     }
 
@@ -145,16 +97,14 @@ impl RoomyChannel {
     pub fn pop(&self, before: u64) -> Option<Place>
         ensures { result ≡ slice_get (channel_of self.now).pops before }
     {
-        let pop = self.pops.as_slice().get(before as usize);
-        pop.map(|pop| pop.wide())
+        self.pops.get(before)
     }
 
     /// The push with so many before it.
     pub fn push(&self, before: u64) -> Option<Pushed>
         ensures { result ≡ slice_get (channel_of self.now).pushes before }
     {
-        let push = self.pushes.as_slice().get(before as usize);
-        push.map(|push| push.wide())
+        self.pushes.get(before)
     }
 
     /// Sets the depth of a FIFO. Another channel stays as it is.

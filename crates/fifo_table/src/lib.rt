@@ -3,6 +3,8 @@
 
 mod channel;
 mod enabler;
+mod places;
+mod pushes;
 mod table;
 
 pub use channel::{Pushed, TableChannel};

@@ -4,10 +4,10 @@ ghost use Rattle.std.specs.Prelude.{OnErr};
 ghost use Rattle.flow_design.specs.declared.limits.TheConstants.{FIFO_DEPTH, FIFO_DELAY};
 ghost use Rattle.fifo_table.specs.Channels.{IsSoundKind, IsSource, IsSink, IsFifo, HasSide, depth_of, lag_of, free_of, unused, channel_at};
 ghost use Rattle.fifo_table.specs.Channels.{nth};
-ghost use Rattle.fifo_table.specs.Channels.{places_of, first_module, values_of, with_push, with_pop, with_depth};
+ghost use Rattle.fifo_table.specs.Channels.{places_of, first_module, AreAllOf, values_of, with_push, with_pop, with_depth};
 ghost use Rattle.fifo_table.specs.Enablers.{enabler_of, event_at};
 
-use crate::channel::{NarrowPlace, NarrowPush, Pushed, RoomyChannel, TableChannel};
+use crate::channel::{Pushed, RoomyChannel, TableChannel};
 use crate::enabler::Enabler;
 use flow_word::{OutOfMemory, Place, Side};
 use std::alloc::Global;
@@ -74,13 +74,14 @@ impl FifoTable {
         self.channels[channel as usize].reserve(pushes, pops)
     }
 
-    /// Adds the next push of a channel.
+    /// Adds the next push of a channel, of the module whose steps made those before it.
     ///
     /// It succeeds where the channel has room for a push, of which it uses one place. After want of memory the channels
     /// are as they were.
     pub fn add_push(&mut self, channel: u32, at: Place, value: u64) -> Result<(), OutOfMemory>
         requires channel { channel < length self.old.channels }
         requires no_source { ¬ IsSource (channel_at self.old.channels channel).kind }
+        requires own { AreAllOf at.module (places_of Side.Push (channel_at self.old.channels channel)) }
         requires step { at.step < 2 ^ 32 }
         ensures ok { OnOk result (self.new.channels ≡ with_push self.old.channels channel at value) }
         ensures err { OnErr result (self.new.channels ≡ self.old.channels) }
@@ -89,19 +90,17 @@ impl FifoTable {
         ensures other_rooms { (k : ℕ) → k ≢ channel → slice_index self.old.push_rooms k ≤ slice_index self.new.push_rooms k }
         ensures pop_rooms { self.new.pop_rooms ≡ self.old.pop_rooms }
     {
-        let at = NarrowPlace::of(at);
-        self.channels[channel as usize]
-            .pushes
-            .push(NarrowPush { at, value })
+        self.channels[channel as usize].pushes.push(at, value)
     }
 
-    /// Adds the next pop of a channel.
+    /// Adds the next pop of a channel, of the module whose steps made those before it.
     ///
     /// It succeeds where the channel has room for a pop, of which it uses one place. After want of memory the channels
     /// are as they were.
     pub fn add_pop(&mut self, channel: u32, at: Place) -> Result<(), OutOfMemory>
         requires channel { channel < length self.old.channels }
         requires no_sink { ¬ IsSink (channel_at self.old.channels channel).kind }
+        requires own { AreAllOf at.module (places_of Side.Pop (channel_at self.old.channels channel)) }
         requires step { at.step < 2 ^ 32 }
         ensures ok { OnOk result (self.new.channels ≡ with_pop self.old.channels channel at) }
         ensures err { OnErr result (self.new.channels ≡ self.old.channels) }
@@ -110,7 +109,6 @@ impl FifoTable {
         ensures other_rooms { (k : ℕ) → k ≢ channel → slice_index self.old.pop_rooms k ≤ slice_index self.new.pop_rooms k }
         ensures push_rooms { self.new.push_rooms ≡ self.old.push_rooms }
     {
-        let at = NarrowPlace::of(at);
         self.channels[channel as usize].pops.push(at)
     }
 
@@ -151,9 +149,7 @@ impl FifoTable {
         let channel = &self.channels[channel as usize];
         match &channel.kind {
             TableChannel::Source(inputs) => inputs.as_slice().get((n - 1) as usize).copied(),
-            TableChannel::Sink | TableChannel::Fifo { .. } => {
-                channel.push(n - 1).map(|push| push.value)
-            }
+            TableChannel::Sink | TableChannel::Fifo { .. } => channel.pushes.value(n - 1),
         }
     }
 
@@ -193,8 +189,7 @@ impl FifoTable {
         requires { channel < length self.now.channels }
         ensures { result ≡ first_module (places_of Side.Pop (channel_at self.now.channels channel)) }
     {
-        let pop = self.channels[channel as usize].pop(0);
-        pop.map(|at| at.module)
+        self.channels[channel as usize].pops.module()
     }
 
     /// The module of a channel's first push. None where there is no push yet.
@@ -202,8 +197,7 @@ impl FifoTable {
         requires { channel < length self.now.channels }
         ensures { result ≡ first_module (places_of Side.Push (channel_at self.now.channels channel)) }
     {
-        let push = self.channels[channel as usize].push(0);
-        push.map(|push| push.at.module)
+        self.channels[channel as usize].pushes.module()
     }
 
     /// What the n-th pop of a channel, or its n-th push, waits for. `Never` comes only from a source.
@@ -233,7 +227,7 @@ impl FifoTable {
             TableChannel::Source(inputs) if n <= inputs.len() => Enabler::Free,
             TableChannel::Source(_) => Enabler::Never,
             TableChannel::Sink => Enabler::Missing,
-            TableChannel::Fifo { .. } => emitted(channel.push(n - 1).map(|push| push.at)),
+            TableChannel::Fifo { .. } => emitted(channel.pushes.place(n - 1)),
         }
     }
 

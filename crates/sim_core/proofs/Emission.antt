@@ -37,7 +37,7 @@ use Rattle.engine_view.specs.Engines.{held_in}
 use Rattle.engine_view.proofs.Emitted.{emitted_core}
 use Rattle.engine_view.proofs.Ended.{over_core}
 use Rattle.engine_view.proofs.Assigned.{IsAlike, alike_queries}
-use Rattle.engine_view.proofs.Roomy.{few_queries, apart_next, room_for_next, room_emitted, room_same, pending_same}
+use Rattle.engine_view.proofs.Roomy.{few_queries, apart_next, own_next, room_for_next, room_emitted, room_same, pending_same}
 use Rattle.sim_core.specs.Marks.{IsRestBehind}
 use Rattle.sim_core.specs.Runs.{IsEndOf, IsCore, rest_behind, lent_of, over_of}
 use Rattle.sim_core.proofs.Ahead.{over_of_mark}
@@ -134,6 +134,7 @@ module _ {p : Plan} {s : Engine} {ends : List (Option Advance)} {runs : List (Op
           after = step_is.apart;
           takes = record {
             inside = step_is.inside;
+            own = own_next d (plan_is_design p r.core.fits) h m t step_is r.core.sound;
             apart = apart_next d (plan_is_design p r.core.fits) h m t step_is;
             room = room_for_next d (plan_is_design p r.core.fits) h m t step_is s.graph.rooms s.fifos s.log.rooms s.credits.items
                 r.core.room (omega arith);

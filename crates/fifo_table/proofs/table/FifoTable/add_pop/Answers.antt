@@ -9,7 +9,6 @@ use Rattle.fifo_table.specs.Roomed.{channel_of}
 use Rattle.flow_word.proofs.Changed.{shown_set, shown_old, shown_new, shown_other}
 use Rattle.fifo_table.proofs.SoundKinds.{replaced, read_kind}
 use Rattle.flow_word.specs.declared.access.Place.{Place}
-use Rattle.fifo_table.proofs.Narrowed.{pop_more}
 use Rattle.fifo_table.proofs.table.FifoTable.add_pop.Goals as goal
 
 pub invariant_of-self : goal.invariant_of-self
@@ -24,8 +23,7 @@ returns-clause-ok c =
     rw (← c.self.view_is) (on_ok_weaker c.push.result
     (λ more. shown_set channel_of (λ (a : Channel). record a { pops = a.pops ++ c.args.at ∷ [] }) c.self.inside.channels.items
     c.args.channel c.index_mut.result.now _ (unused Sink) there c.index_mut.ensures.value
-    (ap (λ (xs : List Place). record (channel_of c.index_mut.result.now) { pops = xs })
-    (pop_more c.index_mut.result.now.pops.items _ c.of-at.result c.args.at c.of-at.ensures more))) c.push.ensures.ok)
+    (ap (λ (xs : List Place). record (channel_of c.index_mut.result.now) { pops = xs }) more)) c.push.ensures.ok)
 
 pub returns-clause-err : goal.returns-clause-err
 returns-clause-err c =

@@ -1,64 +1,290 @@
 -- A step more among those that are kept.
-use Rattle.std.proofs.Common.{◌≡◌, refl, ap, ap₂, ◌∙◌, ℕ, ◌+◌, ◌≤◌, List, [], ◌∷◌, ◌++◌, length, map}
-use Rattle.std.proofs.Common.{take, drop, arith, length-append}
+use Rattle.std.proofs.Common.{◌≡◌, refl, subst, ap, ap₂, sym, ◌∙◌, ℕ, ◌+◌, ◌*◌, ◌/◌, ◌%◌, ◌^◌, ◌<◌, ◌≤◌, ◌==◌, ◌⊎◌}
+use Rattle.std.proofs.Common.{inl, inr, Bool, true, false, not, cond, List, [], ◌∷◌, ◌++◌, length, map, get_or, drop, arith, length-append}
+use Rattle.std.proofs.lemmas.List.{get_or_append_left}
 use Rattle.std.specs.Prelude.{All}
-use Rattle.std.proofs.lemmas.List.{map-append, drop-append-le, take-append-le, length-drop}
-use Rattle.std.proofs.lemmas.List.Elements.{All-head, All-tail}
+use Rattle.std.specs.Int.{from_bool}
+use Rattle.std.proofs.Math.Seq.{get_or-append_seam}
+use Rattle.std.proofs.lemmas.Bool.{both_ways, cases_Bool, cond_both, eqb-true, ne_eqb}
+use Rattle.std.proofs.lemmas.List.{append-nil, map-append, drop-append-le, length-drop, drop_at}
+use Rattle.std.proofs.lemmas.List.Elements.{All-head, All-tail, All-push}
 use Rattle.flow_word.specs.declared.access.Access.{Access}
+use Rattle.flow_word.specs.declared.access.Kind.{Kind}
+use Rattle.flow_word.specs.declared.access.Kind.TheVariants.{Read, Write, TryRead, TryWrite, Empty, Full}
 use Rattle.flow_word.specs.declared.access.Step.{Step}
 use Rattle.event_graph.specs.declared.steps.Head.{Head}
-use Rattle.event_graph.specs.declared.steps.Spot.{Spot}
-use Rattle.event_graph.specs.declared.steps.Spot.TheVariants.{One, Two, Whole}
-use Rattle.event_graph.specs.Packed.{opened, opened_by, IsFew, IsInside, KeepsInside}
+use Rattle.event_graph.specs.Words.{Fits, kind_of, code_of, is_kept, has_value, goes_on, upper, access_in, behind, accesses_in}
+use Rattle.event_graph.specs.Words.{HasAccess, word_of, words_of}
+use Rattle.event_graph.specs.Packed.{nothing, opened, opened_at, packed, BeginsStep, IsInside, KeepsInside, IsKept}
 
-still_opened : (heads : List Head) (accesses accesses' : List Access) (others others' : List Step)
-    → All (λ (head : Head). IsInside accesses others head.spot) heads → KeepsInside accesses others accesses' others'
-    → map (opened accesses' others') heads ≡ map (opened accesses others) heads
-still_opened [] accesses accesses' others others' inside kept = refl
-still_opened (head ∷ heads) accesses accesses' others others' inside kept =
-    let here = (kept head (All-head (λ (h : Head). IsInside accesses others h.spot) head heads inside)).1 in
-    let rest = still_opened heads accesses accesses' others others'
-    (All-tail (λ (h : Head). IsInside accesses others h.spot) head heads inside) kept in
+-- ---- what a step's words mean, by its word
+
+reads_one : (words : List ℕ) {a : Access} → access_in words ≡ a → goes_on (get_or words 0 0) ≡ false → accesses_in words ≡ a ∷ []
+reads_one words is one =
+    ap₂ (λ (x : Access) (t : Bool). x ∷ cond t (access_in (behind words) ∷ []) []) is one
+
+reads_two : (words : List ℕ) {a b : Access} → access_in words ≡ a → goes_on (get_or words 0 0) ≡ true → access_in (behind words) ≡ b
+    → accesses_in words ≡ a ∷ b ∷ []
+reads_two words {a} is two then =
+    ap₂ (λ (x : Access) (t : Bool). x ∷ cond t (access_in (behind words) ∷ []) []) is two ∙ ap (λ (y : Access). a ∷ y ∷ []) then
+
+opens_few : (words : List ℕ) (others : List Step) (head : Head) {items : List Access} → is_kept (get_or words 0 0) ≡ false
+    → accesses_in words ≡ items
+    → opened_at words others head ≡ record { gap = head.gap; accesses = items; first_query = head.first_query }
+opens_few words others head few are =
+    ap₂ (λ (t : Bool) (xs : List Access). cond t (get_or others (upper (get_or words 0 0)) nothing)
+    (record { gap = head.gap; accesses = xs; first_query = head.first_query })) few are
+
+opens_kept : (words : List ℕ) (others : List Step) (head : Head) → is_kept (get_or words 0 0) ≡ true
+    → opened_at words others head ≡ get_or others (upper (get_or words 0 0)) nothing
+opens_kept words others head kept =
+    ap (λ (t : Bool). cond t (get_or others (upper (get_or words 0 0)) nothing)
+    (record { gap = head.gap; accesses = accesses_in words; first_query = head.first_query })) kept
+
+-- ---- what stands at the front stays, with other words behind it
+
+-- an access, and what is behind it
+access_more : (ws more : List ℕ) → HasAccess ws → (access_in (ws ++ more) ≡ access_in ws) × (behind (ws ++ more) ≡ behind ws ++ more)
+access_more [] more here = absurd (omega (arith, here))
+access_more (w ∷ []) more here = elim (cases_Bool (has_value w)) [
+  | inl e ↦ absurd (let two : 2 ≤ 1 = rw e at here in omega arith)
+  | inr e ↦ (rw e refl, rw e refl)
+]
+access_more (w ∷ v ∷ ws) more here = elim (cases_Bool (has_value w)) [ inl e ↦ (refl, rw e refl) | inr e ↦ (refl, rw e refl) ]
+
+first_more : (ws more : List ℕ) → HasAccess ws → get_or (ws ++ more) 0 0 ≡ get_or ws 0 0
+first_more [] more here = absurd (omega (arith, here))
+first_more (w ∷ ws) more here = refl
+
+has_more : (ws more : List ℕ) → HasAccess ws → HasAccess (ws ++ more)
+has_more ws more here = rw (first_more ws more here) (let l = length-append ws more in omega arith)
+
+begun_more : (ws more : List ℕ) (others steps : List Step) → BeginsStep ws others → BeginsStep (ws ++ more) (others ++ steps)
+begun_more ws more others steps begins =
+    let first = first_more ws more begins.some in
+    let second = (access_more ws more begins.some).1 in
+    record {
+      some = has_more ws more begins.some;
+      two = λ e. rw second (has_more (behind ws) more (begins.two (rw first at e)));
+      kept = λ e. rw first (let l = length-append others steps in let k = begins.kept (rw first at e) in omega arith);
+    }
+
+opened_more : (ws more : List ℕ) (others steps : List Step) (head : Head) → BeginsStep ws others
+    → opened_at (ws ++ more) (others ++ steps) head ≡ opened_at ws others head
+opened_more ws more others steps head begins =
+    let first = first_more ws more begins.some in
+    let (access, rest) = access_more ws more begins.some in
+    elim (cases_Bool (is_kept (get_or ws 0 0))) [
+      | inl kept ↦
+          opens_kept (ws ++ more) (others ++ steps) head (rw first kept)
+          ∙ (ap (λ (w : ℕ). get_or (others ++ steps) (upper w) nothing) first
+          ∙ (get_or_append_left others steps nothing (upper (get_or ws 0 0)) (begins.kept kept) ∙ sym (opens_kept ws others head kept)))
+      | inr few ↦
+          let same : accesses_in (ws ++ more) ≡ accesses_in ws = elim (cases_Bool (goes_on (get_or ws 0 0))) [
+            | inl two ↦
+                reads_two (ws ++ more) access (rw first two) (ap access_in rest ∙ (access_more (behind ws) more (begins.two two)).0)
+                ∙ sym (reads_two ws refl two refl)
+            | inr one ↦ reads_one (ws ++ more) access (rw first one) ∙ sym (reads_one ws refl one)
+          ] in
+          opens_few (ws ++ more) (others ++ steps) head (rw first few) same ∙ sym (opens_few ws others head few refl)
+    ]
+
+-- where words and steps are added, what stood in the lists stays
+kept_more : (words more words' : List ℕ) (others steps others' : List Step) → words' ≡ words ++ more → others' ≡ others ++ steps
+    → KeepsInside words others words' others'
+kept_more words more words' others steps others' added joined head inside =
+    let some : 1 ≤ length (drop head.at words) = cond_both (has_value (get_or (drop head.at words) 0 0)) 2 1
+    (λ n. n ≤ length (drop head.at words) → 1 ≤ length (drop head.at words)) (λ _ h. omega arith) (λ _ h. h) inside.some in
+    let there : head.at ≤ length words = omega (arith, length-drop head.at words) in
+    rw (added, joined, drop-append-le head.at words more there) (
+      begun_more (drop head.at words) more others steps inside,
+      opened_more (drop head.at words) more others steps head inside,
+    )
+
+-- ---- the parts of a word
+
+small : (k : Kind) → code_of k < 6
+small Read = omega arith
+small Write = omega arith
+small TryRead = omega arith
+small TryWrite = omega arith
+small Empty = omega arith
+small Full = omega arith
+
+coded : (k : Kind) → kind_of (code_of k) ≡ k
+coded Read = refl
+coded Write = refl
+coded TryRead = refl
+coded TryWrite = refl
+coded Empty = refl
+coded Full = refl
+
+bit_small : (b : Bool) → from_bool b < 2
+bit_small true = omega arith
+bit_small false = omega arith
+
+-- the parts of a word
+record HasParts (word code value more channel ordinal : ℕ) : Type 0 where
+  code_is : word % 8 ≡ code
+  value_is : word / 8 % 2 ≡ value
+  more_is : word / 16 % 2 ≡ more
+  channel_is : word / 32 % 2 ^ 27 ≡ channel
+  ordinal_is : word / 2 ^ 32 ≡ ordinal
+
+has_parts : (code value more channel ordinal word : ℕ) → word ≡ code + 8 * value + 16 * more + 32 * channel + 2 ^ 32 * ordinal
+    → code < 6 → value < 2 → more < 2 → channel < 2 ^ 27 → HasParts word code value more channel ordinal
+has_parts code value more channel ordinal word is c v m ch = record {
+  code_is = omega arith;
+  value_is = omega arith;
+  more_is = omega arith;
+  channel_is = omega arith;
+  ordinal_is = omega arith;
+}
+
+bit_set : (b : Bool) → (from_bool b == 1) ≡ b
+bit_set true = refl
+bit_set false = refl
+
+-- ---- an access that was packed is read back
+
+same_access : (a : Access) {kind : Kind} {channel ordinal value : ℕ} → kind ≡ a.kind → channel ≡ a.channel → ordinal ≡ a.ordinal
+    → value ≡ a.value → record { kind = kind; channel = channel; ordinal = ordinal; value = value } ≡ a
+same_access a k c o v = rw (k, c, o, v) refl
+
+module _ (a : Access) (more : Bool) (fits : Fits a) where
+  parts : HasParts (word_of a more) (code_of a.kind) (from_bool (not (a.value == 0))) (from_bool more) a.channel a.ordinal
+  parts = has_parts (code_of a.kind) (from_bool (not (a.value == 0))) (from_bool more) a.channel a.ordinal (word_of a more) refl
+      (small a.kind) (bit_small (not (a.value == 0))) (bit_small more) fits.channel
+
+  goes_back : goes_on (word_of a more) ≡ more
+  goes_back = rw parts.more_is (bit_set more)
+
+  not_kept : is_kept (word_of a more) ≡ false
+  not_kept = rw parts.code_is (ne_eqb (code_of a.kind) 6 (λ e. let s = small a.kind in omega arith))
+
+  kind_back : kind_of (word_of a more % 8) ≡ a.kind
+  kind_back = rw parts.code_is (coded a.kind)
+
+  -- what is read from an access's word and what follows it, as it has a value or not
+  record IsRead (words rest : List ℕ) : Type 0 where
+    there : HasAccess words
+    access : access_in words ≡ a
+    others : behind words ≡ rest
+
+  read_back : (rest : List ℕ) → IsRead (words_of a more ++ rest) rest
+  read_back rest = by_value (a.value == 0) refl
+    where
+      valued : (t : Bool) → (a.value == 0) ≡ t → has_value (word_of a more) ≡ not t
+      valued t e = rw (parts.value_is, e) (bit_set (not t))
+
+      by_value : (t : Bool) → (a.value == 0) ≡ t → IsRead (word_of a more ∷ (cond t [] (a.value ∷ []) ++ rest)) rest
+      by_value true e = let v = valued true e in record {
+        there = rw v (omega arith);
+        access = same_access a kind_back parts.channel_is parts.ordinal_is (rw v (sym (eqb-true a.value 0 e)));
+        others = rw v refl;
+      }
+      by_value false e = let v = valued false e in record {
+        there = rw v (omega arith);
+        access = same_access a kind_back parts.channel_is parts.ordinal_is (rw v refl);
+        others = rw v refl;
+      }
+
+  read_alone : IsRead (words_of a more) []
+  read_alone = subst (λ (ws : List ℕ). IsRead ws []) (append-nil (words_of a more)) (read_back [])
+
+-- what was kept of a step, and what it means with this head
+record IsPackedAs (words : List ℕ) (others : List Step) (head : Head) (step : Step) : Type 0 where
+  begins : BeginsStep words others
+  opens : opened_at words others head ≡ step
+
+few_packed : (items : List Access) (others : List Step) (head : Head) → (length items ≡ 1) ⊎ (length items ≡ 2) → All Fits items
+    → IsPackedAs (packed items) others head (record { gap = head.gap; accesses = items; first_query = head.first_query })
+few_packed [] others head some fits = absurd (elim some [ inl e ↦ omega (arith, e) | inr e ↦ omega (arith, e) ])
+few_packed (a ∷ []) others head some fits =
+    let h = All-head Fits a [] fits in
+    let one = read_alone a false h in
+    record {
+      begins = record {
+        some = one.there;
+        two = λ e. absurd (both_ways _ (goes_back a false h) e);
+        kept = λ e. absurd (both_ways _ (not_kept a false h) e);
+      };
+      opens = opens_few (words_of a false) others head (not_kept a false h) (reads_one (words_of a false) one.access (goes_back a false h));
+    }
+few_packed (a ∷ b ∷ []) others head some fits =
+    let h = All-head Fits a (b ∷ []) fits in
+    let k = All-head Fits b [] (All-tail Fits a (b ∷ []) fits) in
+    let first = read_back a true h (words_of b false) in
+    let second = read_alone b false k in
+    let words = words_of a true ++ words_of b false in
+    record {
+      begins = record {
+        some = first.there;
+        two = λ e. rw first.others second.there;
+        kept = λ e. absurd (both_ways _ (not_kept a true h) e);
+      };
+      opens = opens_few words others head (not_kept a true h)
+          (reads_two words first.access (goes_back a true h) (ap access_in first.others ∙ second.access));
+    }
+few_packed (a ∷ b ∷ d ∷ items) others head some fits = absurd (elim some [ inl e ↦ omega (arith, e) | inr e ↦ omega (arith, e) ])
+
+-- ---- a step more
+
+still_opened : (heads : List Head) (words words' : List ℕ) (others others' : List Step) → All (IsInside words others) heads
+    → KeepsInside words others words' others' → map (opened words' others') heads ≡ map (opened words others) heads
+still_opened [] words words' others others' inside kept = refl
+still_opened (head ∷ heads) words words' others others' inside kept =
+    let here = (kept head (All-head (IsInside words others) head heads inside)).1 in
+    let rest = still_opened heads words words' others others' (All-tail (IsInside words others) head heads inside) kept in
     rw (here, rest) refl
 
--- the steps with one more
-pub packed_more : (heads new : List Head) (accesses accesses' : List Access) (others others' : List Step) (head : Head) (step : Step)
-    (steps : List Step)
-    → map (opened accesses others) heads ≡ steps → All (λ (h : Head). IsInside accesses others h.spot) heads
-    → KeepsInside accesses others accesses' others'
-    → new ≡ heads ++ head ∷ [] → opened accesses' others' head ≡ step → map (opened accesses' others') new ≡ steps ++ step ∷ []
-packed_more heads new accesses accesses' others others' head step steps so inside kept more is =
-    ap (map (opened accesses' others')) more
-    ∙ (map-append (opened accesses' others') heads (head ∷ [])
-    ∙ ap₂ (λ (xs : List Step) (x : Step). xs ++ x ∷ []) (still_opened heads accesses accesses' others others' inside kept ∙ so) is)
+still_inside : (heads : List Head) (words words' : List ℕ) (others others' : List Step) → All (IsInside words others) heads
+    → KeepsInside words others words' others' → All (IsInside words' others') heads
+still_inside heads words words' others others' inside kept = λ k d l. (kept (get_or heads k d) (inside k d l)).0
 
-few_stay : (n at : ℕ) (xs ys : List Access) → at + n ≤ length xs → take n (drop at (xs ++ ys)) ≡ take n (drop at xs)
-few_stay n at xs ys inside =
-    rw (drop-append-le at xs ys (omega arith)) (take-append-le n (drop at xs) ys (omega (arith, length-drop at xs)))
+module _ (heads new : List Head) (words words' : List ℕ) (others others' : List Step) (head : Head) (step : Step)
+    (inside : All (IsInside words others) heads) (more : new ≡ heads ++ head ∷ []) (is : IsKept words others words' others' step head) where
+  -- the steps with one more
+  pub opened_with : (steps : List Step) → map (opened words others) heads ≡ steps → map (opened words' others') new ≡ steps ++ step ∷ []
+  opened_with steps so =
+      ap (map (opened words' others')) more
+      ∙ (map-append (opened words' others') heads (head ∷ [])
+      ∙ ap₂ (λ (xs : List Step) (x : Step). xs ++ x ∷ []) (still_opened heads words words' others others' inside is.before ∙ so) is.is)
 
--- where accesses are added, what stood at a spot stays
-pub kept_more : (accesses items accesses' : List Access) (others : List Step) → accesses' ≡ accesses ++ items
-    → KeepsInside accesses others accesses' others
-kept_more accesses items accesses' others more head inside = rw more (by_spot head.gap head.first_query head.spot inside)
-  where
-    by_spot : (gap first_query : ℕ) (spot : Spot) → IsInside accesses others spot → IsInside (accesses ++ items) others spot
-        × (opened_by (accesses ++ items) others gap first_query spot ≡ opened_by accesses others gap first_query spot)
-    by_spot gap first_query (One at) inside =
-        (omega (arith, length-append accesses items), rw (few_stay 1 at accesses items inside) refl)
-    by_spot gap first_query (Two at) inside =
-        (omega (arith, length-append accesses items), rw (few_stay 2 at accesses items inside) refl)
-    by_spot gap first_query (Whole at) inside = (inside, refl)
+  -- which stand inside
+  pub inside_with : All (IsInside words' others') new
+  inside_with =
+      rw more (All-push (IsInside words' others') heads head (still_inside heads words words' others others' inside is.before) is.inside)
 
--- few accesses that stand at a spot are those of the step there
-pub opened_few : (accesses items : List Access) (others : List Step) (gap first_query : ℕ) (spot : Spot) → IsFew accesses spot items
-    → opened_by accesses others gap first_query spot ≡ record { gap = gap; accesses = items; first_query = first_query }
-opened_few accesses items others gap first_query (One at) (inside, are) = rw are refl
-opened_few accesses items others gap first_query (Two at) (inside, are) = rw are refl
-opened_few accesses items others gap first_query (Whole at) none = absurd none
+-- words and maybe a step were added for a step
+is_kept_with : (words more words' : List ℕ) (others steps others' : List Step) (step : Step) (head : Head) → words' ≡ words ++ more
+    → others' ≡ others ++ steps → head.at ≡ length words → IsPackedAs more others' head step → IsKept words others words' others' step head
+is_kept_with words more words' others steps others' step head added joined at as_packed =
+    let behind_all : drop head.at words' ≡ more = rw (added, at) (drop_at words more (length words) refl) in
+    record {
+      is = rw behind_all as_packed.opens;
+      inside = rw behind_all as_packed.begins;
+      before = kept_more words more words' others steps others' added joined;
+    }
 
--- and stand inside
-pub few_inside : (accesses items : List Access) (others : List Step) (spot : Spot) → IsFew accesses spot items
-    → IsInside accesses others spot
-few_inside accesses items others (One at) (inside, are) = inside
-few_inside accesses items others (Two at) (inside, are) = inside
-few_inside accesses items others (Whole at) none = absurd none
+-- a step of few accesses
+pub few_kept : (words words' : List ℕ) (others : List Step) (items : List Access) (head : Head) → words' ≡ words ++ packed items
+    → head.at ≡ length words → (length items ≡ 1) ⊎ (length items ≡ 2) → All Fits items
+    → IsKept words others words' others (record { gap = head.gap; accesses = items; first_query = head.first_query }) head
+few_kept words words' others items head added at some fits =
+    is_kept_with words (packed items) words' others [] others _ head added (sym (append-nil others)) at
+    (few_packed items others head some fits)
+
+-- a step that is kept as it is
+pub whole_kept : (words words' : List ℕ) (others others' : List Step) (word : ℕ) (step : Step) (head : Head) → words' ≡ words ++ word ∷ []
+    → others' ≡ others ++ step ∷ [] → head.at ≡ length words → is_kept word ≡ true → upper word ≡ length others → has_value word ≡ false
+    → goes_on word ≡ false → IsKept words others words' others' step head
+whole_kept words words' others others' word step head added joined at kept number alone ends =
+    is_kept_with words (word ∷ []) words' others (step ∷ []) others' step head added joined at (record {
+      begins = record {
+        some = rw alone (omega arith);
+        two = λ e. absurd (both_ways _ ends e);
+        kept = λ e. rw (number, joined) (let l = length-append others (step ∷ []) in omega arith);
+      };
+      opens = opens_kept (word ∷ []) others' head kept ∙ rw (number, joined) (get_or-append_seam others step [] nothing);
+    })

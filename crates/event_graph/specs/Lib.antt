@@ -1,3 +1,5 @@
+pub mod Held
 pub mod Lanes
 pub mod Packed
 pub mod Roomed
+pub mod Words

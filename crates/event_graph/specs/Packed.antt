@@ -1,12 +1,12 @@
 -- Steps as they are kept, and what they mean.
-use Rattle.std.specs.Prelude.{◌≡◌, ◌⊎◌, ℕ, ◌+◌, ◌*◌, ◌<◌, ◌≤◌, ◌^◌, List, [], length, take, drop, slice_index_or, All}
+use Rattle.std.specs.Prelude.{◌≡◌, ◌⊎◌, ℕ, ◌+◌, ◌*◌, ◌<◌, ◌≤◌, ◌^◌, true, false, if◌then◌else◌, List, [], ◌∷◌, ◌++◌, length, drop}
+use Rattle.std.specs.Prelude.{slice_index, slice_index_or, All}
 use Rattle.flow_word.specs.Room.{Roomed}
 use Rattle.flow_word.specs.declared.access.Access.{Access}
 use Rattle.flow_word.specs.declared.access.Step.{Step}
 use Rattle.event_graph.specs.declared.steps.Head.{Head}
-use Rattle.event_graph.specs.declared.steps.Spot.{Spot}
-use Rattle.event_graph.specs.declared.steps.Spot.TheVariants.{One, Two, Whole}
 use Rattle.event_graph.specs.declared.view.StepView.{StepView}
+use Rattle.event_graph.specs.Words.{Fits, is_kept, goes_on, upper, accesses_in, behind, HasAccess, words_of}
 
 -- the step that is read
 abbrev pub whole : StepView → Step
@@ -16,53 +16,59 @@ whole view = record { gap = view.gap; accesses = view.accesses; first_query = vi
 abbrev pub nothing : Step
 nothing = record { gap = 0; accesses = []; first_query = 0 }
 
--- the step with this head, where these are the accesses of steps with few, and the steps that are kept as they are
-abbrev pub opened_by : List Access → List Step → ℕ → ℕ → Spot → Step
-opened_by accesses others gap first_query (One at) =
-    record { gap = gap; accesses = take 1 (drop at accesses); first_query = first_query }
-opened_by accesses others gap first_query (Two at) =
-    record { gap = gap; accesses = take 2 (drop at accesses); first_query = first_query }
-opened_by accesses others gap first_query (Whole at) = slice_index_or others at nothing
+-- the step with this head, whose words these are, with others behind them
+abbrev pub opened_at : List ℕ → List Step → Head → Step
+opened_at words others head =
+    let word = slice_index words 0 in
+    if is_kept word
+    then slice_index_or others (upper word) nothing
+    else record { gap = head.gap; accesses = accesses_in words; first_query = head.first_query }
 
-abbrev pub opened : List Access → List Step → Head → Step
-opened accesses others head = opened_by accesses others head.gap head.first_query head.spot
+-- the step with this head, where these are the words of all steps, and the steps that are kept as they are
+abbrev pub opened : List ℕ → List Step → Head → Step
+opened words others head = opened_at (drop head.at words) others head
 
--- the step has one access or two, and its numbers fit 32 bits
+-- the step has one access or two, its numbers fit 32 bits, and its accesses fit a word
 pub record IsFewStep (step : Step) : Type 0 where
   pub some : (length step.accesses ≡ 1) ⊎ (length step.accesses ≡ 2)
   pub gap : step.gap < 2 ^ 32
   pub first_query : step.first_query < 2 ^ 32
+  pub fits : All Fits step.accesses
 
--- something stands at the spot
-abbrev pub IsInside : List Access → List Step → Spot → Type 0
-IsInside accesses others (One at) = at + 1 ≤ length accesses
-IsInside accesses others (Two at) = at + 2 ≤ length accesses
-IsInside accesses others (Whole at) = at < length others
+-- the first of these words are those of a step
+pub record BeginsStep (words : List ℕ) (others : List Step) : Type 0 where
+  pub some : HasAccess words
+  pub two : goes_on (slice_index words 0) ≡ true → HasAccess (behind words)
+  pub kept : is_kept (slice_index words 0) ≡ true → upper (slice_index words 0) < length others
 
--- these few accesses stand at the spot
-abbrev pub IsFew : List Access → Spot → List Access → Type 0
-IsFew accesses (One at) items = (at + 1 ≤ length accesses) × (take 1 (drop at accesses) ≡ items)
-IsFew accesses (Two at) items = (at + 2 ≤ length accesses) × (take 2 (drop at accesses) ≡ items)
-IsFew accesses (Whole at) items = ⊥
+-- the words of a step with this head are there
+abbrev pub IsInside : List ℕ → List Step → Head → Type 0
+IsInside words others head = BeginsStep (drop head.at words) others
 
--- what stood at a spot stands there still
-abbrev pub KeepsInside : List Access → List Step → List Access → List Step → Type 0
-KeepsInside accesses others accesses' others' = (head : Head) → IsInside accesses others head.spot
-    → IsInside accesses' others' head.spot × (opened accesses' others' head ≡ opened accesses others head)
+-- the words of a step's accesses
+abbrev pub packed : List Access → List ℕ
+packed [] = []
+packed (a ∷ []) = words_of a false
+packed (a ∷ b ∷ rest) = words_of a true ++ packed (b ∷ rest)
+
+-- what stood in the lists stands there still
+abbrev pub KeepsInside : List ℕ → List Step → List ℕ → List Step → Type 0
+KeepsInside words others words' others' = (head : Head) → IsInside words others head
+    → IsInside words' others' head × (opened words' others' head ≡ opened words others head)
 
 -- the step stands in the lists with this head, beside what stood there
-pub record IsKept (accesses : List Access) (others : List Step) (accesses' : List Access) (others' : List Step) (step : Step) (head : Head)
+pub record IsKept (words : List ℕ) (others : List Step) (words' : List ℕ) (others' : List Step) (step : Step) (head : Head)
     : Type 0 where
-  pub is : opened accesses' others' head ≡ step
-  pub inside : IsInside accesses' others' head.spot
-  pub before : KeepsInside accesses others accesses' others'
+  pub is : opened words' others' head ≡ step
+  pub inside : IsInside words' others' head
+  pub before : KeepsInside words others words' others'
 
 -- each step stands in the lists, and there is room for so many more
-pub record IsPacked (heads : Roomed Head) (accesses : Roomed Access) (others : Roomed Step) (room : ℕ) : Type 0 where
-  pub inside : All (λ head. IsInside accesses.items others.items head.spot) heads.items
-  pub accesses_few : length accesses.items ≤ 2 * length heads.items
+pub record IsPacked (heads : Roomed Head) (words : Roomed ℕ) (others : Roomed Step) (room : ℕ) : Type 0 where
+  pub inside : All (IsInside words.items others.items) heads.items
+  pub words_few : length words.items ≤ 4 * length heads.items
   pub others_few : length others.items ≤ length heads.items
-  pub few : length heads.items + room < 2 ^ 31
+  pub few : length heads.items + room < 2 ^ 30
   pub heads_room : room ≤ heads.room
-  pub accesses_room : 2 * room ≤ accesses.room
+  pub words_room : 4 * room ≤ words.room
   pub others_room : room ≤ others.room

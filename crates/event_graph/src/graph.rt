@@ -132,6 +132,7 @@ impl Graph {
     }
 
     /// The step at a place.
+    #[inline(always)]
     pub fn step(&self, place: Place) -> StepView<'_>
         requires { HasStep self.now.lanes place }
         ensures step { slice_get (lane_at self.now.lanes place.module).steps place.step ≡ Some (whole result) }

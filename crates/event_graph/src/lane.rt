@@ -58,6 +58,7 @@ impl RoomyLane {
     }
 
     /// The step of this number.
+    #[inline(always)]
     pub fn step(&self, at: u64) -> StepView<'_>
         requires { at < length self.now.lane.steps }
         ensures { slice_get self.now.lane.steps at ≡ Some (whole result) }

@@ -6,6 +6,7 @@ mod graph;
 mod lane;
 mod steps;
 mod view;
+mod words;
 
 pub use candidate::Candidate;
 pub use flow_word::{Access, Accesses, Kind, Place, Step};

@@ -1,43 +1,36 @@
 //! The steps of a lane, each in as few bytes as it needs.
-ghost use Rattle.std.specs.Prelude.{◌≡◌, ◌+◌, ◌<◌, ◌≤◌, ◌^◌, [], ◌∷◌, ◌++◌, length, slice_get, Some, ◌⊎◌, IsOk, OnOk, OnErr};
-ghost use Rattle.event_graph.specs.Packed.{whole, IsFew, IsFewStep, IsKept};
+ghost use Rattle.std.specs.Prelude.{◌≡◌, ◌+◌, ◌<◌, ◌≤◌, ◌^◌, [], ◌∷◌, ◌++◌, true, length, slice_get, slice_index, Some};
+ghost use Rattle.std.specs.Prelude.{◌⊎◌, All, IsOk, OnOk, OnErr};
+ghost use Rattle.event_graph.specs.Packed.{whole, packed, IsFewStep, IsKept};
+ghost use Rattle.event_graph.specs.Words.{Fits, HasAccess, behind, accesses_in, goes_on as goes_on_by};
 
 use crate::view::{AccessesView, StepView};
+use crate::words::{all_fit, goes_on, is_kept, kept_at, push_access, read_access, size_of, upper};
 use flow_word::{Access, OutOfMemory, RoomyList, Step};
 use std::alloc::Global;
 use std::marker::Model;
 
 /// A lane has no more steps.
-const MOST_STEPS: u64 = 0x7fff_ffff;
+const MOST_STEPS: u64 = 0x3fff_ffff;
 
 /// The largest number that a head has.
 const MOST: u64 = 0xffff_ffff;
 
-/// Where a step's accesses stand.
-#[derive(Clone, Copy)]
-pub enum Spot {
-    /// The step has one, which stands here in the list of accesses.
-    One(u32),
-    /// The step has two, which stand from here on in the list of accesses.
-    Two(u32),
-    /// The step is kept as it is, as this item of the list of such steps.
-    Whole(u32),
-}
-
-/// What is kept of a step: 16 bytes. The gap and the number of queries before it are 0 where it is kept as it is.
+/// What is kept of a step: 12 bytes, and its words. The gap and the number of queries before it are 0 where it is kept as it is.
 #[derive(Clone, Copy)]
 pub struct Head {
     pub gap: u32,
     pub first_query: u32,
-    pub spot: Spot,
+    /// Where its words begin.
+    pub at: u32,
 }
 
-/// Steps in order. Where a step has one access or two, and its numbers fit 32 bits, its accesses stand in a list with those
-/// of the others. Any other step is kept as it is.
+/// Steps in order. Where a step has one access or two, its numbers fit 32 bits and its accesses a word, these stand as words
+/// in a list with those of the others. Any other step is kept as it is, and one word says where.
 #[derive(Drop)]
 pub struct StepList {
     heads: RoomyList<Head>,
-    accesses: RoomyList<Access>,
+    words: RoomyList<u64>,
     others: RoomyList<Step>,
     room: u64,
 }
@@ -50,9 +43,9 @@ impl Model for StepList {
 
     ghost Value = { Roomed Step };
 
-    ghost view = { λ l. record { items = map (opened l.accesses.items l.others.items) l.heads.items; room = l.room } };
+    ghost view = { λ l. record { items = map (opened l.words.items l.others.items) l.heads.items; room = l.room } };
 
-    ghost invariant = { λ l. IsPacked l.heads l.accesses l.others l.room };
+    ghost invariant = { λ l. IsPacked l.heads l.words l.others l.room };
 }
 
 impl StepList {
@@ -62,7 +55,7 @@ impl StepList {
     {
         StepList {
             heads: RoomyList::new(alloc),
-            accesses: RoomyList::new(alloc),
+            words: RoomyList::new(alloc),
             others: RoomyList::new(alloc),
             room: 0,
         }
@@ -71,34 +64,26 @@ impl StepList {
     /// How many steps there are.
     pub fn len(&self) -> u64
         ensures count { result ≡ length self.now.items }
-        ensures few { result < 2 ^ 31 }
+        ensures few { result < 2 ^ 30 }
     {
         self.heads.len()
     }
 
     /// The step of this number.
+    #[inline(always)]
     pub fn get(&self, at: u64) -> StepView<'_>
         requires { at < length self.now.items }
         ensures { slice_get self.now.items at ≡ Some (whole result) }
     {
         let head = &self.heads.as_slice()[at as usize];
-        match head.spot {
-            Spot::One(at) => view_of(
-                head,
-                &self.accesses.as_slice()[at as usize..at as usize + 1],
-            ),
-            Spot::Two(at) => view_of(
-                head,
-                &self.accesses.as_slice()[at as usize..at as usize + 2],
-            ),
-            Spot::Whole(at) => {
-                let step = &self.others.as_slice()[at as usize];
-                StepView {
-                    gap: step.gap,
-                    accesses: AccessesView::new(step.accesses.as_slice()),
-                    first_query: step.first_query,
-                }
-            }
+        let words = &self.words.as_slice()[head.at as usize..];
+        if is_kept(words[0]) {
+            return view_kept(&self.others.as_slice()[upper(words[0]) as usize]);
+        }
+        StepView {
+            gap: head.gap as u64,
+            accesses: read_accesses(words),
+            first_query: head.first_query as u64,
         }
     }
 
@@ -116,7 +101,7 @@ impl StepList {
         if more > MOST_STEPS - self.heads.len() {
             return Err(OutOfMemory);
         }
-        self.accesses.reserve(2 * more)?;
+        self.words.reserve(4 * more)?;
         self.others.reserve(more)?;
         self.heads.reserve(more)?;
         self.room = more;
@@ -131,13 +116,13 @@ impl StepList {
         ensures room { self.old.room ≤ self.new.room + 1 }
     {
         self.reserve(1)?;
-        let head = keep(&mut self.accesses, &mut self.others, step);
+        let head = keep(&mut self.words, &mut self.others, step);
         self.heads.push(head)?;
         self.room -= 1;
         Ok(())
     }
 
-    /// The same with a copy of a step of one access or two, whose numbers fit 32 bits.
+    /// The same with a copy of a step of one access or two, whose numbers fit 32 bits and whose accesses fit a word.
     #[inline(always)]
     pub fn push_few(&mut self, step: &StepView<'_>) -> Result<(), OutOfMemory>
         requires few { IsFewStep (whole step.now) }
@@ -150,7 +135,7 @@ impl StepList {
         let head = Head {
             gap: step.gap as u32,
             first_query: step.first_query as u32,
-            spot: keep_few(&mut self.accesses, step.accesses.as_slice()),
+            at: push_accesses(&mut self.words, step.accesses.as_slice()),
         };
         self.heads.push(head)?;
         self.room -= 1;
@@ -158,62 +143,91 @@ impl StepList {
     }
 }
 
-/// A step with these accesses, whose other numbers are in its head.
-fn view_of<'a>(head: &Head, accesses: &'a [Access]) -> StepView<'a>
-    ensures { whole result ≡ record { gap = head.now.gap; accesses = accesses.now; first_query = head.now.first_query } }
+/// A step that is kept as it is.
+#[inline(always)]
+fn view_kept(step: &Step) -> StepView<'_>
+    ensures { whole result ≡ step.now }
 {
     StepView {
-        gap: head.gap as u64,
-        accesses: AccessesView::new(accesses),
-        first_query: head.first_query as u64,
+        gap: step.gap,
+        accesses: AccessesView::new(step.accesses.as_slice()),
+        first_query: step.first_query,
     }
+}
+
+/// The accesses of a step, which begin these words.
+#[inline(always)]
+fn read_accesses<'a>(words: &[u64]) -> AccessesView<'a>
+    requires some { HasAccess words.now }
+    requires two { goes_on_by (slice_index words.now 0) ≡ true → HasAccess (behind words.now) }
+    ensures { result ≡ accesses_in words.now }
+{
+    let first = read_access(words);
+    if !goes_on(words[0]) {
+        return AccessesView::one(first);
+    }
+    let second = read_access(&words[size_of(words[0])..]);
+    AccessesView::two(first, second)
 }
 
 /// Keeps a step beside those of before, which stay. There is room for it.
-fn keep(accesses: &mut RoomyList<Access>, others: &mut RoomyList<Step>, step: Step) -> Head
-    requires accesses_room { 2 ≤ accesses.old.room }
+fn keep(words: &mut RoomyList<u64>, others: &mut RoomyList<Step>, step: Step) -> Head
+    requires words_room { 4 ≤ words.old.room }
     requires others_room { 1 ≤ others.old.room }
-    requires accesses_few { length accesses.old.items < 2 ^ 32 }
+    requires words_few { length words.old.items < 2 ^ 32 }
     requires others_few { length others.old.items < 2 ^ 32 }
-    ensures kept { IsKept accesses.old.items others.old.items accesses.new.items others.new.items step result }
-    ensures accesses_more { length accesses.new.items ≤ length accesses.old.items + 2 }
+    ensures kept { IsKept words.old.items others.old.items words.new.items others.new.items step result }
+    ensures words_more { length words.new.items ≤ length words.old.items + 4 }
     ensures others_more { length others.new.items ≤ length others.old.items + 1 }
-    ensures accesses_room { accesses.old.room ≤ accesses.new.room + 2 }
+    ensures words_room { words.old.room ≤ words.new.room + 4 }
     ensures others_room { others.old.room ≤ others.new.room + 1 }
 {
-    let items = step.accesses.as_slice();
-    let few = items.len() == 1 || items.len() == 2;
-    if !few || step.gap > MOST || step.first_query > MOST {
-        let at = others.len() as u32;
-        let _ = others.push(step);
+    if is_few(&step) {
         return Head {
-            gap: 0,
-            first_query: 0,
-            spot: Spot::Whole(at),
+            gap: step.gap as u32,
+            first_query: step.first_query as u32,
+            at: push_accesses(words, step.accesses.as_slice()),
         };
     }
+    let at = words.len() as u32;
+    let number = others.len() as u32;
+    let _ = words.push(kept_at(number));
+    let _ = others.push(step);
     Head {
-        gap: step.gap as u32,
-        first_query: step.first_query as u32,
-        spot: keep_few(accesses, items),
+        gap: 0,
+        first_query: 0,
+        at,
     }
 }
 
-/// Adds one access or two. There is room for them.
-#[inline(always)]
-fn keep_few(accesses: &mut RoomyList<Access>, items: &[Access]) -> Spot
-    requires few { (length items.now ≡ 1) ⊎ (length items.now ≡ 2) }
-    requires room { 2 ≤ accesses.old.room }
-    requires accesses_few { length accesses.old.items < 2 ^ 32 }
-    ensures items { IsFew accesses.new.items result items.now }
-    ensures more { accesses.new.items ≡ accesses.old.items ++ items.now }
-    ensures room { accesses.old.room ≤ accesses.new.room + 2 }
+/// Whether a step has one access or two, its numbers fit 32 bits, and its accesses fit a word.
+fn is_few(step: &Step) -> bool
+    ensures { result ≡ true → IsFewStep step.now }
 {
-    let at = accesses.len() as u32;
-    let _ = accesses.push(items[0]);
-    if items.len() == 1 {
-        return Spot::One(at);
+    let accesses = step.accesses.as_slice();
+    (accesses.len() == 1 || accesses.len() == 2)
+        && step.gap <= MOST
+        && step.first_query <= MOST
+        && all_fit(accesses)
+}
+
+/// Adds one access or two, and says where they begin. There is room for them.
+#[inline(always)]
+fn push_accesses(words: &mut RoomyList<u64>, items: &[Access]) -> u32
+    requires few { (length items.now ≡ 1) ⊎ (length items.now ≡ 2) }
+    requires fit { All Fits items.now }
+    requires room { 4 ≤ words.old.room }
+    requires words_few { length words.old.items < 2 ^ 32 }
+    ensures at { result ≡ length words.old.items }
+    ensures items { words.new.items ≡ words.old.items ++ packed items.now }
+    ensures more { length words.new.items ≤ length words.old.items + 4 }
+    ensures room { words.old.room ≤ words.new.room + 4 }
+{
+    let at = words.len() as u32;
+    let more = items.len() == 2;
+    push_access(words, items[0], more);
+    if more {
+        push_access(words, items[1], false);
     }
-    let _ = accesses.push(items[1]);
-    Spot::Two(at)
+    at
 }

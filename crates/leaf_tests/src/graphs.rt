@@ -2,7 +2,7 @@
 ghost use Rattle.std.specs.Prelude.{◌≡◌, [], length, IfOk};
 ghost use Rattle.event_graph.specs.Lanes.{HasStep};
 
-use event_graph::{Access, Accesses, Graph, Place, Step};
+use event_graph::{Access, Accesses, Graph, Kind, Place, Step};
 use flow_word::{OutOfMemory, Steps};
 use std::alloc::Global;
 use std::marker::Brand;
@@ -65,22 +65,19 @@ fn lanes_grow_and_forget(rt: HostRuntime) -> Result<(), Fail> {
     Ok(())
 }
 
-/// A step with accesses of these ordinals.
+/// A step with these accesses.
 fn step_with(
     alloc: Global,
     gap: u64,
-    ordinals: &[u64],
+    items: &[Access],
     first_query: u64,
 ) -> Result<Step, OutOfMemory>
     ensures gap { IfOk result (λ step. step.gap ≡ gap) }
-    ensures accesses { IfOk result (λ step. length step.accesses ≡ length ordinals.now) }
+    ensures accesses { IfOk result (λ step. length step.accesses ≡ length items.now) }
 {
     let mut accesses = Accesses::new(alloc);
-    for ordinal in ordinals {
-        accesses.push(Access {
-            ordinal: *ordinal,
-            ..Access::default()
-        })?;
+    for access in items {
+        accesses.push(*access)?;
     }
     Ok(Step {
         gap,
@@ -89,32 +86,59 @@ fn step_with(
     })
 }
 
-/// The gap of a step, how many accesses it has, the ordinal of the last of them, and how many queries came before.
-fn read(graph: &Graph, place: Place) -> (u64, u64, u64, u64)
+/// An access of channel 5.
+fn access(kind: Kind, ordinal: u64, value: u64) -> Access {
+    Access {
+        kind,
+        channel: 5,
+        ordinal,
+        value,
+    }
+}
+
+/// The place of a step of module 0.
+fn step_of(step: u64) -> Place
+    ensures module { result.«module» ≡ 0 }
+    ensures step { result.step ≡ step }
+{
+    Place { module: 0, step }
+}
+
+/// The step at a place has these parts.
+fn is_read<R: Abort>(
+    rt: &R,
+    graph: &Graph,
+    place: Place,
+    gap: u64,
+    accesses: &[Access],
+    first_query: u64,
+)
     requires { HasStep graph.now.lanes place }
 {
     let step = graph.step(place);
-    let ordinal = match step.accesses.as_slice().last() {
-        Some(access) => access.ordinal,
-        None => 0,
-    };
-    (step.gap, step.accesses.len(), ordinal, step.first_query)
+    assert_eq!(rt; (step.gap, step.first_query), (gap, first_query));
+    assert_eq!(rt; step.accesses.as_slice(), accesses);
 }
 
 #[test]
 fn steps_are_read_as_they_were_added(rt: HostRuntime) -> Result<(), Fail> {
     let mut graph = Graph::new(rt.alloc(), 1)?;
-    graph.push_step(0, step_with(rt.alloc(), 1, &[7], 0)?)?;
-    graph.push_step(0, step_with(rt.alloc(), 2, &[8, 9], 1)?)?;
-    graph.push_step(0, step_with(rt.alloc(), 3, &[10, 11, 12], 3)?)?;
-    graph.push_step(0, step_with(rt.alloc(), 5_000_000_000, &[13], 6)?)?;
-    let first = Place { module: 0, step: 0 };
-    let second = Place { module: 0, step: 1 };
-    let third = Place { module: 0, step: 2 };
-    let fourth = Place { module: 0, step: 3 };
-    assert_eq!(rt; read(&graph, first), (1, 1, 7, 0));
-    assert_eq!(rt; read(&graph, second), (2, 2, 9, 1));
-    assert_eq!(rt; read(&graph, third), (3, 3, 12, 3));
-    assert_eq!(rt; read(&graph, fourth), (5_000_000_000, 1, 13, 6));
+    let query = [access(Kind::Empty, 7, 0)];
+    let writes = [
+        access(Kind::Write, 8, 3),
+        access(Kind::TryWrite, 9, u64::MAX),
+    ];
+    let three = [writes[0], query[0], writes[1]];
+    let late = [access(Kind::Read, 5_000_000_000, 0)];
+    graph.push_step(0, step_with(rt.alloc(), 1, &query, 0)?)?;
+    graph.push_step(0, step_with(rt.alloc(), 2, &writes, 1)?)?;
+    graph.push_step(0, step_with(rt.alloc(), 3, &three, 3)?)?;
+    graph.push_step(0, step_with(rt.alloc(), 5_000_000_000, &query, 6)?)?;
+    graph.push_step(0, step_with(rt.alloc(), 4, &late, 7)?)?;
+    is_read(&rt, &graph, step_of(0), 1, &query, 0);
+    is_read(&rt, &graph, step_of(1), 2, &writes, 1);
+    is_read(&rt, &graph, step_of(2), 3, &three, 3);
+    is_read(&rt, &graph, step_of(3), 5_000_000_000, &query, 6);
+    is_read(&rt, &graph, step_of(4), 4, &late, 7);
     Ok(())
 }

@@ -1,13 +1,14 @@
 -- The marks of a run are sound, and a step makes few queries.
-use Rattle.std.proofs.Common.{◌≡◌, ℕ, ◌*◌, ◌^◌, ◌<◌, ◌≤◌, ◌↔◌, Bool, true, false, not, cond, List, [], ◌∷◌, map, length, refl, sym, ◌∙◌, ap}
-use Rattle.std.proofs.Common.{arith}
+use Rattle.std.proofs.Common.{◌≡◌, ℕ, ◌+◌, ◌*◌, ◌^◌, ◌<◌, ◌≤◌, ◌↔◌, Bool, true, false, not, cond, List, [], ◌∷◌, map, length, refl, sym, ◌∙◌, ap}
+use Rattle.std.proofs.Common.{All, get_or, arith}
 use Rattle.std.specs.Prelude.{count_by}
 use Rattle.std.specs.List.{filter}
 use Rattle.std.proofs.lemmas.Bool.{cond_both}
 use Rattle.std.proofs.lemmas.List.{length-map}
+use Rattle.std.proofs.lemmas.List.Elements.{All-map}
 use Rattle.std.proofs.lemmas.List.Sums.{length-filter}
 use Rattle.flow_word.specs.declared.access.Access.{Access}
-use Rattle.flow_word.specs.Kinds.{is_blocking}
+use Rattle.flow_word.specs.Kinds.{side_of, is_blocking}
 use Rattle.flow_design.specs.declared.limits.TheConstants.{LIVE_ITERATIONS, OPERATIONS}
 use Rattle.flow_design.specs.declared.plan.Plan.{Plan}
 use Rattle.flow_design.specs.declared.state.Advance.{Advance}
@@ -23,14 +24,16 @@ use Rattle.lockstep_defs.specs.Lockstep.{module_at, requests_of}
 use Rattle.lockstep_defs.specs.OwnRun.{Own, access_of}
 use Rattle.lockstep_defs.proofs.Once.{asks_once}
 use Rattle.lockstep_defs.proofs.Rules.{keeps_ports}
+use Rattle.lockstep_defs.proofs.Standing.{requests_stand}
 use Rattle.module_move.specs.Sound.{IsStateSound}
 use Rattle.module_move.proofs.Readiness.{few_due}
 use Rattle.module_interp.specs.declared.path.Stage.TheVariants.{Asked}
 use Rattle.module_interp.specs.declared.run.ModuleRun.{ModuleRun}
 use Rattle.module_interp.specs.OwnRests.{requests_at, done_in, accesses_at, mark_at}
-use Rattle.module_interp.specs.Runs.{IsSmall, IsSoundMark, gap_of, StandsAt}
+use Rattle.module_interp.specs.Runs.{IsSmall, IsSmallAccess, IsSoundMark, gap_of, StandsAt}
 use Rattle.module_interp.proofs.Feeding.{fewer_requests, waits_at}
 use Rattle.module_interp.proofs.Gaps.{short_gap}
+use Rattle.module_interp.proofs.Tallies.{moved_few, queries_few}
 use Rattle.module_interp.proofs.Timing.{module_sound}
 
 -- ---- marks
@@ -68,6 +71,37 @@ small_step p i o r s asked =
     let few = s.few in
     let small = w.can.answer.count in
     (omega arith, omega arith)
+
+-- no more was done than the operation limit, so its other numbers are small
+pub few_done : (p : Plan) (i : ℕ) (o : Own) (r : ModuleRun) → StandsAt p i o r → r.path.value.stage ≡ Asked
+    → length (done_in o.steps) + 1 < 2 ^ 32
+few_done p i o r s asked =
+    let w = waits_at p i o r.path.value s.leads asked in
+    let count : o.state.count ≡ r.path.value.state.count = ap (λ (z : ModuleState). z.count) w.rest.state in
+    let few = s.few in
+    let limit = w.few in
+    let most = s.leads.path.fits.operations in
+    omega arith
+
+pub small_queries : (p : Plan) (i : ℕ) (o : Own) (r : ModuleRun) → StandsAt p i o r → r.path.value.stage ≡ Asked → r.tally.queries < 2 ^ 32
+small_queries p i o r s asked =
+    let few = few_done p i o r s asked in
+    let made = s.tally.queries_are in
+    let less = queries_few (done_in o.steps) in
+    omega arith
+
+pub small_accesses : (p : Plan) (i : ℕ) (o : Own) (r : ModuleRun) → StandsAt p i o r → r.path.value.stage ≡ Asked
+    → All IsSmallAccess r.accesses
+small_accesses p i o r s asked =
+    let b = s.leads.path in
+    let few = few_done p i o r s asked in
+    let channels = b.fits.channel_count in
+    let small : All (λ (q : Request). IsSmallAccess (access_of (done_in o.steps) q)) (requests_at p i o) = λ k d l.
+    let inside = (requests_stand p b.fits i b.owner o.state k d l).in_range in
+    let q = get_or (requests_at p i o) k d in
+    let moved = moved_few (side_of q.kind) q.channel (done_in o.steps) in
+    record { channel = omega arith; ordinal = omega arith } in
+    rw (s.accesses asked) (All-map IsSmallAccess (access_of (done_in o.steps)) (requests_at p i o) small)
 
 -- a step that waits has an access
 pub some_accesses : (p : Plan) (i : ℕ) (o : Own) (r : ModuleRun) → StandsAt p i o r → r.path.value.stage ≡ Asked

@@ -1,5 +1,6 @@
 -- A run as callers see it: it stands at a rest of the module's own run, and waits for replies or not.
-use Rattle.std.specs.Prelude.{ℕ, ◌≡◌, ◌*◌, ◌^◌, ◌<◌, ◌≤◌, Bool, true, false, length}
+use Rattle.std.specs.Prelude.{ℕ, ◌≡◌, ◌*◌, ◌^◌, ◌<◌, ◌≤◌, Bool, true, false, length, All}
+use Rattle.flow_word.specs.declared.access.Access.{Access}
 use Rattle.flow_word.specs.declared.access.Step.{Step as StepOf}
 use Rattle.flow_design.specs.declared.limits.TheConstants.{LIVE_ITERATIONS, OPERATIONS}
 use Rattle.flow_design.specs.declared.plan.Plan.{Plan}
@@ -32,12 +33,18 @@ is_step (Spent g) = false
 abbrev pub listed : ModuleRun → StepOf
 listed r = record { gap = r.path.value.since; accesses = r.accesses; first_query = r.tally.queries }
 
+-- an access's numbers are small
+pub record IsSmallAccess (a : Access) : Type 0 where
+  pub channel : a.channel < 2 ^ 27
+  pub ordinal : a.ordinal < 2 ^ 32
+
 -- the step has one access or two, and its numbers fit 32 bits
 pub record IsFew (s : StepOf) : Type 0 where
   pub some : 1 ≤ length s.accesses
   pub most : length s.accesses ≤ 2
   pub gap : s.gap < 2 ^ 32
   pub first_query : s.first_query < 2 ^ 32
+  pub small : All IsSmallAccess s.accesses
 
 -- how many local clocks a mark is behind the one before it
 abbrev pub gap_of : Advance → ℕ

@@ -204,18 +204,17 @@ impl ModuleRun {
         Ok(())
     }
 
-    /// Whether it came to a step of one access or two, and its numbers fit 32 bits.
+    /// Whether it came to a step of one access or two, and its gap fits 32 bits. Its other numbers always do, by the operation
+    /// limit.
     #[inline(always)]
     fn rests_at_few(&self) -> bool
         ensures alive { result ≡ true → over_by self.now.path.value.limit self.now.path.value.state ≡ false }
         ensures most { result ≡ true → length self.now.path.value.asked ≤ 2 }
         ensures gap { result ≡ true → self.now.path.value.since < 2 ^ 32 }
-        ensures queries { result ≡ true → self.now.tally.queries < 2 ^ 32 }
     {
         !is_over(self.path.limit, &self.path.state)
             && self.path.asked.len() <= 2
             && self.path.since < MOST
-            && self.tally.queries < MOST
     }
 
     /// Gives the mark of what it came to: a step, which then waits for replies, or the end.
@@ -264,7 +263,6 @@ impl ModuleRun {
             → IsSoundMark (length o.steps) (Advance.Step (listed self.new))) }
         ensures count { OnOk result (length self.new.accesses ≡ length self.old.path.value.asked) }
         ensures gap { OnOk result (self.new.path.value.since ≡ self.old.path.value.since) }
-        ensures queries { OnOk result (self.new.tally.queries ≡ self.old.tally.queries) }
         ensures as_before { OnErr result (waits self.new ≡ false) }
     {
         let path = self.path.as_mut();

@@ -51,6 +51,7 @@ as_few run e f g few = rw (e, f, g) (record {
   some = one_or_two (length run.accesses) few.some few.most;
   gap = few.gap;
   first_query = few.first_query;
+  fits = λ k d inside. let small = few.small k d inside in record { channel = small.channel; ordinal = small.ordinal };
 })
 
 module _ {p : Plan} {s : Engine} {ends : List (Option Advance)} {runs : List (Option ModuleRun)} {m : ℕ}

@@ -1,5 +1,7 @@
 use Rattle.std.proofs.Common.{arith}
 use Rattle.module_interp.proofs.Advancing.{at_step}
+use Rattle.module_interp.proofs.Feeding.{asked_stage}
+use Rattle.module_interp.proofs.Sound.{small_queries, small_accesses}
 use Rattle.module_interp.proofs.run.ModuleRun.advance_few.Goals as goal
 
 pub list-requires-clause-step : goal.list-requires-clause-step
@@ -11,11 +13,18 @@ returns-then-rests_at_few-clause-few c = λ e.
     let some = step.some in
     let most = c.rests_at_few.ensures.most c.if-rests_at_few.true in
     let gap = c.rests_at_few.ensures.gap c.if-rests_at_few.true in
-    let queries = c.rests_at_few.ensures.queries c.if-rests_at_few.true in
     let count = c.in_ok-list.ensures.count in
     let same_gap = c.in_ok-list.ensures.gap in
-    let same_queries = c.in_ok-list.ensures.queries in
-    record { some = omega arith; most = omega arith; gap = omega arith; first_query = omega arith }
+    let (p, (i, (o, s))) = c.requires.stands in
+    let stands = c.list.ensures.stands p i o (c.come.ensures.stands p i o s) in
+    let asked = asked_stage _ c.in_ok-list.ensures.waits in
+    record {
+      some = omega arith;
+      most = omega arith;
+      gap = omega arith;
+      first_query = small_queries p i o c.list.new.self stands asked;
+      small = small_accesses p i o c.list.new.self stands asked;
+    }
 
 pub returns-in_err-list-clause-stands : goal.returns-in_err-list-clause-stands
 returns-in_err-list-clause-stands c p i o s = c.list.ensures.stands p i o (c.come.ensures.stands p i o s)

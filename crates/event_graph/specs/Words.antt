@@ -1,0 +1,79 @@
+-- Accesses as words: a word says what the access does, where, and what follows it; its value follows where it is not 0.
+use Rattle.std.specs.Prelude.{ℕ, ◌+◌, ◌*◌, ◌/◌, ◌%◌, ◌^◌, ◌<◌, ◌≤◌, ◌==◌, Bool, not, if◌then◌else◌}
+use Rattle.std.specs.Prelude.{List, [], ◌∷◌, length, drop, slice_index, slice_index_or}
+use Rattle.std.specs.Int.{from_bool}
+use Rattle.flow_word.specs.declared.access.Access.{Access}
+use Rattle.flow_word.specs.declared.access.Kind.{Kind}
+use Rattle.flow_word.specs.declared.access.Kind.TheVariants.{Read, Write, TryRead, TryWrite, Empty, Full}
+
+-- the access fits a word
+pub record Fits (access : Access) : Type 0 where
+  pub channel : access.channel < 2 ^ 27
+  pub ordinal : access.ordinal < 2 ^ 32
+
+-- ---- the parts of a word
+
+-- the kinds in the order of their codes
+abbrev pub kind_of : ℕ → Kind
+kind_of code = slice_index_or (Read ∷ Write ∷ TryRead ∷ TryWrite ∷ Empty ∷ []) code Full
+
+-- the word is that of a step which is kept as it is
+abbrev pub is_kept : ℕ → Bool
+is_kept word = word % 8 == 6
+
+-- the value follows
+abbrev pub has_value : ℕ → Bool
+has_value word = word / 8 % 2 == 1
+
+-- another access of the step follows
+abbrev pub goes_on : ℕ → Bool
+goes_on word = word / 16 % 2 == 1
+
+-- what stands in the upper half: an ordinal, or where the step is kept
+abbrev pub upper : ℕ → ℕ
+upper word = word / 2 ^ 32
+
+-- how many words the access takes
+abbrev pub size_of : ℕ → ℕ
+size_of word = if has_value word then 2 else 1
+
+-- ---- the accesses that begin some words
+
+abbrev pub access_in : List ℕ → Access
+access_in words =
+    let word = slice_index words 0 in
+    record {
+      kind = kind_of (word % 8);
+      channel = word / 32 % 2 ^ 27;
+      ordinal = upper word;
+      value = if has_value word then slice_index words 1 else 0;
+    }
+
+-- the words behind the first access
+abbrev pub behind : List ℕ → List ℕ
+behind words = drop (size_of (slice_index words 0)) words
+
+-- the first access, and the one that follows it
+abbrev pub accesses_in : List ℕ → List Access
+accesses_in words = access_in words ∷ (if goes_on (slice_index words 0) then access_in (behind words) ∷ [] else [])
+
+-- the words of the first access are there
+abbrev pub HasAccess : List ℕ → Type 0
+HasAccess words = size_of (slice_index words 0) ≤ length words
+
+-- ---- an access as words
+
+abbrev pub code_of : Kind → ℕ
+code_of Read = 0
+code_of Write = 1
+code_of TryRead = 2
+code_of TryWrite = 3
+code_of Empty = 4
+code_of Full = 5
+
+abbrev pub word_of : Access → Bool → ℕ
+word_of access more =
+    code_of access.kind + 8 * from_bool (not (access.value == 0)) + 16 * from_bool more + 32 * access.channel + 2 ^ 32 * access.ordinal
+
+abbrev pub words_of : Access → Bool → List ℕ
+words_of access more = word_of access more ∷ (if access.value == 0 then [] else access.value ∷ [])

@@ -1,0 +1,150 @@
+//! Accesses as words.
+//!
+//! A word has the code of what the access does in its lowest three bits, then whether its value follows, whether another
+//! access of the step follows, the channel, and in its upper half the ordinal. Its value follows it where that is not 0. The
+//! code 6 stands for a step that is kept as it is, with its number in the upper half.
+ghost use Rattle.std.specs.Prelude.{◌≡◌, ◌+◌, ◌<◌, ◌≤◌, ◌++◌, true, false, All};
+ghost use Rattle.event_graph.specs.Words.{Fits, is_kept as is_kept_by, has_value as has_value_by, goes_on as goes_on_by, upper as upper_by};
+ghost use Rattle.event_graph.specs.Words.{kind_of as kind_by, code_of as code_by, word_of as word_by, words_of};
+ghost use Rattle.event_graph.specs.Words.{access_in, size_of as size_by, HasAccess};
+
+use flow_word::{Access, Kind, RoomyList};
+
+/// The code of a step that is kept as it is.
+const KEPT: u64 = 6;
+
+/// One in the upper half.
+const UPPER: u64 = 0x1_0000_0000;
+
+/// A channel that fits is below this.
+const CHANNELS: u64 = 0x800_0000;
+
+/// Whether the word is that of a step which is kept as it is.
+#[inline(always)]
+pub(crate) fn is_kept(word: u64) -> bool
+    ensures { result ≡ is_kept_by word }
+{
+    word % 8 == KEPT
+}
+
+/// The word of a step that is kept as it is, under this number.
+pub(crate) fn kept_at(number: u32) -> u64
+    ensures kept { is_kept_by result ≡ true }
+    ensures number { upper_by result ≡ number }
+    ensures alone { has_value_by result ≡ false }
+    ensures ends { goes_on_by result ≡ false }
+{
+    number as u64 * UPPER + KEPT
+}
+
+/// What stands in the upper half of a word.
+#[inline(always)]
+pub(crate) fn upper(word: u64) -> u64
+    ensures { result ≡ upper_by word }
+{
+    word / UPPER
+}
+
+/// Whether the access's value follows its word.
+#[inline(always)]
+fn has_value(word: u64) -> bool
+    ensures { result ≡ has_value_by word }
+{
+    word / 8 % 2 == 1
+}
+
+/// Whether another access of the step follows.
+#[inline(always)]
+pub(crate) fn goes_on(word: u64) -> bool
+    ensures { result ≡ goes_on_by word }
+{
+    word / 16 % 2 == 1
+}
+
+/// The kind with this code.
+#[inline(always)]
+fn kind_of(code: u64) -> Kind
+    ensures { result ≡ kind_by code }
+{
+    match code {
+        0 => Kind::Read,
+        1 => Kind::Write,
+        2 => Kind::TryRead,
+        3 => Kind::TryWrite,
+        4 => Kind::Empty,
+        _ => Kind::Full,
+    }
+}
+
+/// The code of a kind.
+#[inline(always)]
+fn code_of(kind: Kind) -> u64
+    ensures code { result ≡ code_by kind }
+    ensures small { result < 6 }
+{
+    match kind {
+        Kind::Read => 0,
+        Kind::Write => 1,
+        Kind::TryRead => 2,
+        Kind::TryWrite => 3,
+        Kind::Empty => 4,
+        Kind::Full => 5,
+    }
+}
+
+/// How many words the access with this word takes.
+#[inline(always)]
+pub(crate) fn size_of(word: u64) -> usize
+    ensures { result ≡ size_by word }
+{
+    1 + has_value(word) as usize
+}
+
+/// The access that begins these words.
+#[inline(always)]
+pub(crate) fn read_access(words: &[u64]) -> Access
+    requires { HasAccess words.now }
+    ensures { result ≡ access_in words.now }
+{
+    let word = words[0];
+    Access {
+        kind: kind_of(word % 8),
+        channel: (word / 32 % CHANNELS) as u32,
+        ordinal: upper(word),
+        value: if has_value(word) { words[1] } else { 0 },
+    }
+}
+
+/// The word of an access.
+#[inline(always)]
+fn word_of(access: Access, more: bool) -> u64
+    requires { Fits access }
+    ensures { result ≡ word_by access more }
+{
+    code_of(access.kind)
+        + 8 * (access.value != 0) as u64
+        + 16 * more as u64
+        + 32 * access.channel as u64
+        + UPPER * access.ordinal
+}
+
+/// Adds an access, and whether another of its step follows. There is room for it.
+#[inline(always)]
+pub(crate) fn push_access(words: &mut RoomyList<u64>, access: Access, more: bool)
+    requires fits { Fits access }
+    requires room { 2 ≤ words.old.room }
+    ensures items { words.new.items ≡ words.old.items ++ words_of access more }
+    ensures room { words.old.room ≤ words.new.room + 2 }
+{
+    let _ = words.push(word_of(access, more));
+    if access.value != 0 {
+        let _ = words.push(access.value);
+    }
+}
+
+/// Whether each access fits a word.
+pub(crate) fn all_fit(accesses: &[Access]) -> bool
+    ensures { result ≡ true → All Fits accesses.now }
+{
+    accesses.iter().all(|access| access.ordinal < UPPER && (access.channel as u64) < CHANNELS)
+}

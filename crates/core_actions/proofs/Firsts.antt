@@ -12,7 +12,7 @@ use Rattle.time_engine.proofs.First.{position_found, position_none}
 -- ---- the first that passes
 
 pub position_more : {X : Type 0} (p : X → Bool) (x : X) (xs : List X)
-    → position p (x ∷ xs) ≡ cond (p x) (Some 0) (option_map (λ (n : ℕ). 1 + n) (position p xs))
+    → position p (x ∷ xs) ≡ cond (p x) (Some 0) (option_map suc (position p xs))
 position_more p x xs = grind (arith, nat_tests)
 
 pub position_seen : {X Y : Type 0} (p : Y → Bool) (q : X → Bool) (f : X → Y) (xs : List X) → All (λ (x : X). p (f x) ≡ q x) xs

@@ -2,12 +2,11 @@
 use Rattle.std.proofs.Common.{◌≡◌, refl, sym, ap, ap₂, subst, ◌∙◌, ℕ, zero, suc, ◌+◌, ◌-◌, ◌<◌, ◌≤◌, inl, inr, Bool, true, false, cond}
 use Rattle.std.proofs.Common.{ltb, not}
 use Rattle.std.proofs.Common.{◌&&◌, ◌||◌, List, [], ◌∷◌, length, map, drop, get_or, Option, None, Some, is_none, is_some, arith}
-use Rattle.std.proofs.Common.{length-drop}
 use Rattle.std.specs.Prelude.{All, position, option_map, slice_get}
 use Rattle.std.specs.List.{zip}
-use Rattle.std.proofs.lemmas.Bool.{cases_lt, both_ways, and_from, and_parts, lt-ltb}
-use Rattle.std.proofs.lemmas.Option.{get_or_from_slice_get, slice_get-get_or, slice_get_past}
-use Rattle.std.proofs.lemmas.Bool.Decides.{eqb_tells, nat_tests}
+use Rattle.std.proofs.lemmas.Bool.{cases_lt, both_ways, and_from, and_parts, lt-ltb, le-ltb}
+use Rattle.std.proofs.lemmas.Option.{get_or_from_slice_get}
+use Rattle.std.proofs.lemmas.Bool.Decides.{eqb_tells}
 use Rattle.std.proofs.lemmas.List.Elements.{All-head, All-tail}
 use Rattle.flow_word.specs.Kinds.{side_of, is_blocking, is_taking, same_side}
 use Rattle.flow_word.specs.declared.access.Access.{Access}
@@ -33,12 +32,11 @@ use Rattle.engine_view.specs.Turns.{first_of}
 use Rattle.engine_view.proofs.Knowing.{access_known}
 use Rattle.engine_view.proofs.Emitted.{queries_mono}
 use Rattle.engine_view.proofs.Answered.{queries_step, among_is, among_if}
-use Rattle.run_ahead.specs.Replies.{reply_now}
-use Rattle.sim_core.specs.Found.{value_now}
-use Rattle.core_actions.specs.Missing.{asks, is_open_query, first_missing}
+use Rattle.run_ahead.specs.Replies.{reply_now, told_by, first_missing, value_now}
+use Rattle.core_actions.specs.Missing.{asks, is_open_query}
 use Rattle.core_actions.specs.Causes.{first_lacking, is_held, is_undecided, is_unverified, lacks_reply}
 use Rattle.core_actions.proofs.Causing.{ArePlain, lacks}
-use Rattle.sim_core.proofs.Finding.{flags_first}
+use Rattle.sim_core.proofs.Finding.{flags_from, some_there}
 use Rattle.core_actions.proofs.Firsts as firsts
 use Rattle.engine_view.proofs.Comparing.{queries_cons as queries_first}
 
@@ -177,43 +175,41 @@ lacks_is k (Some b) v w u f g = grind arith
 abbrev HasValue : List Channel → (ℕ → ℕ) → (ℕ → ℕ) → Access → Type 0
 HasValue channels s t a = side_of a.kind ≡ Pop → is_none (value_now channels a) ≡ not (ltb (t a.channel) (s a.channel))
 
-missing_is : (channels : List Channel) (s t : ℕ → ℕ) (w : Bool) (xs : List Access) (os : List Bool) → All (HasValue channels s t) xs
-    → (w ≡ true → queries_in xs ≤ length os) → (w ≡ false → length os ≡ 0)
-    → first_missing channels xs os ≡ position (lacks s t w) (zip (map seen xs) (flags_by xs os))
-missing_is channels s t w [] os all f g = refl
-missing_is channels s t w (a ∷ xs) os all f g =
-    ap₂ (λ (b : Bool) (o : Option ℕ). cond b (Some 0) (option_map (λ (n : ℕ). 1 + n) o))
-    (lacks_is a.kind (slice_get os 0) (value_now channels a) w (ltb (t a.channel) (s a.channel))
-    (λ b. there os w (queries_in xs) (λ q.
-    let n : queries_in (a ∷ xs) ≡ 1 + queries_in xs = queries_first a xs ∙ ap (λ (c : Bool). cond {A = ℕ} c 0 1 + queries_in xs) b in
-    let l = f q in omega arith) g)
+missing_is : (channels : List Channel) (s t : ℕ → ℕ) (w : Bool) (outs : List Bool) (xs : List Access) (n : ℕ)
+    → All (HasValue channels s t) xs
+    → (w ≡ true → queries_in xs ≤ length outs - n) → (w ≡ false → length outs ≤ n)
+    → first_missing outs (value_now channels) n xs ≡ position (lacks s t w) (zip (map seen xs) (flags_by xs (drop n outs)))
+missing_is channels s t w outs [] n all f g = refl
+missing_is channels s t w outs (a ∷ xs) n all f g =
+    ap₂ (λ (b : Bool) (o : Option ℕ). cond b (Some 0) (option_map suc o))
+    (lacks_is a.kind (slice_get outs n) (value_now channels a) w (ltb (t a.channel) (s a.channel)) (λ b. there w (counted b) g)
     (All-head (HasValue channels s t) a xs all))
-    (missing_is channels s t w xs (cond (is_blocking a.kind) os (drop 1 os)) (All-tail (HasValue channels s t) a xs all)
-    (λ q. let l = f q in let n = queries_first a xs in fewer os (is_blocking a.kind) (omega arith))
-    (λ q. shorter os (is_blocking a.kind) (g q)))
-    ∙ (sym (firsts.position_more (lacks s t w) (seen a, flag_now a.kind (slice_get os 0))
-    (zip (map seen xs) (flags_by xs (cond (is_blocking a.kind) os (drop 1 os)))))
-    ∙ ap (λ (bs : List Bool). position (lacks s t w) (zip (seen a ∷ map seen xs) bs)) (sym (flags_first a xs os)))
+    (missing_is channels s t w outs xs (told_by a.kind n) (All-tail (HasValue channels s t) a xs all)
+    (λ q. let l = f q in let m = queries_first a xs in fewer (is_blocking a.kind) (omega arith)) (λ q. later (is_blocking a.kind) (g q)))
+    ∙ (sym (firsts.position_more (lacks s t w) (seen a, flag_now a.kind (slice_get outs n))
+    (zip (map seen xs) (flags_by xs (drop (told_by a.kind n) outs))))
+    ∙ ap (λ (bs : List Bool). position (lacks s t w) (zip (seen a ∷ map seen xs) bs)) (sym (flags_from a xs outs n)))
   where
-    there : (os : List Bool) (w : Bool) (n : ℕ) → (w ≡ true → 1 + n ≤ length os) → (w ≡ false → length os ≡ 0)
-        → is_some (slice_get os 0) ≡ w
-    there [] true n f g = let l = f refl in absurd (omega arith)
-    there [] false n f g = refl
-    there (o ∷ os) true n f g = refl
-    there (o ∷ os) false n f g = let l = g refl in absurd (omega arith)
+    counted : is_blocking a.kind ≡ false → w ≡ true → 1 + queries_in xs ≤ length outs - n
+    counted b q =
+        let m : queries_in (a ∷ xs) ≡ 1 + queries_in xs = queries_first a xs ∙ ap (λ (c : Bool). cond {A = ℕ} c 0 1 + queries_in xs) b in
+        let l = f q in omega arith
 
-    fewer : (os : List Bool) (b : Bool) → cond b 0 1 + queries_in xs ≤ length os → queries_in xs ≤ length (cond b os (drop 1 os))
-    fewer os true l = omega arith
-    fewer [] false l = absurd (omega arith)
-    fewer (o ∷ os) false l = omega arith
+    there : (w : Bool) → (w ≡ true → 1 + queries_in xs ≤ length outs - n) → (w ≡ false → length outs ≤ n)
+        → is_some (slice_get outs n) ≡ w
+    there true f g = let l = f refl in some_there true outs n ∙ lt-ltb n (length outs) (omega arith)
+    there false f g = some_there true outs n ∙ le-ltb n (length outs) (g refl)
 
-    shorter : (os : List Bool) (b : Bool) → length os ≡ 0 → length (cond b os (drop 1 os)) ≡ 0
-    shorter os true e = e
-    shorter [] false e = refl
-    shorter (o ∷ os) false e = absurd (omega arith)
+    fewer : (b : Bool) → cond b 0 1 + queries_in xs ≤ length outs - n → queries_in xs ≤ length outs - cond b n (suc n)
+    fewer true l = omega arith
+    fewer false l = omega arith
+
+    later : (b : Bool) → length outs ≤ n → length outs ≤ cond b n (suc n)
+    later true l = l
+    later false l = omega arith
 
 value_there : (xs : List ℕ) (n : ℕ) → is_none (slice_get xs n) ≡ not (ltb n (length xs))
-value_there xs n = grind (arith, nat_tests, slice_get-get_or xs n 0, slice_get_past xs n)
+value_there xs n = let there = some_there 0 xs n in grind arith
 
 module _ {S : Type 0} (d : Design S) (h : Held) (s : IsSound d h) (m k : ℕ) (l : k < emitted_of h m) (inside : m < length h.logs)
     (module_inside : m < length h.lanes) where
@@ -226,10 +222,10 @@ module _ {S : Type 0} (d : Design S) (h : Held) (s : IsSound d h) (m k : ℕ) (l
   abbrev outs : List Bool
   outs = (log_at h.logs m).outcomes
 
-  pub missing_reply : first_missing h.channels step.accesses (drop step.first_query outs) ≡ first_lacking d y m k
+  pub missing_reply : first_missing outs (value_now h.channels) step.first_query step.accesses ≡ first_lacking d y m k
   missing_reply =
-      missing_is h.channels (λ c. length (core_values d y c)) (λ c. core_tally d y m Pop c k) (y.answered m k) step.accesses
-      (drop step.first_query outs) values recorded open_yet
+      missing_is h.channels (λ c. length (core_values d y c)) (λ c. core_tally d y m Pop c k) (y.answered m k) outs step.accesses
+      step.first_query values recorded open_yet
       ∙ ap (λ (ys : List theory.Access). position (λ p. lacks_reply d y m k p.0 p.1) (zip ys (y.flags m k))) (sym (s.accesses m k l))
     where
       values : All (HasValue h.channels (λ c. length (core_values d y c)) (λ c. core_tally d y m Pop c k)) step.accesses
@@ -243,21 +239,19 @@ module _ {S : Type 0} (d : Design S) (h : Held) (s : IsSound d h) (m k : ℕ) (l
           ap₂ (λ (vs : List ℕ) (i : ℕ). is_none (slice_get vs i)) (s.values a.channel channel) n
           ∙ value_there (core_values d y a.channel) (core_tally d y m Pop a.channel k)
 
-      recorded : y.answered m k ≡ true → queries_in step.accesses ≤ length (drop step.first_query outs)
+      recorded : y.answered m k ≡ true → queries_in step.accesses ≤ length outs - step.first_query
       recorded e =
-          let n = length-drop step.first_query outs in
           elim (among_is step (length outs) (and_parts (ltb k (emitted_of h m)) (are_among step (length outs)) e).1) [
             | inl none ↦ omega arith
             | inr most ↦ omega arith
           ]
 
-      open_yet : y.answered m k ≡ false → length (drop step.first_query outs) ≡ 0
+      open_yet : y.answered m k ≡ false → length outs ≤ step.first_query
       open_yet e =
-          let n = length-drop step.first_query outs in
           elim (cases_lt step.first_query (length outs)) [
             | inl less ↦
                 let all = whole_step h m k (length outs) l (s.first_query m k l) (s.recorded m inside) less in
                 absurd (both_ways _ e (and_from (ltb k (emitted_of h m)) (are_among step (length outs)) (lt-ltb k (emitted_of h m) l)
                 (among_if step (length outs) all)))
-            | inr more ↦ omega arith
+            | inr more ↦ more
           ]

@@ -1,6 +1,6 @@
 -- What the calls that ask for a cause find, of a core of a plan.
-use Rattle.std.proofs.Common.{◌≡◌, sym, ap, subst, ◌∙◌, ◌↔◌, ℕ, suc, ◌+◌, ◌-◌, ◌^◌, ◌<◌, ◌≤◌, inl, inr, true}
-use Rattle.std.proofs.Common.{length, drop, Option, None, Some, is_none, arith}
+use Rattle.std.proofs.Common.{◌≡◌, sym, ap, ◌∙◌, ◌↔◌, ℕ, suc, ◌-◌, ◌<◌, ◌≤◌, inl, inr, true}
+use Rattle.std.proofs.Common.{length, Option, None, Some, is_none, arith}
 use Rattle.std.specs.Prelude.{position, option_map, option_and_then, slice_get, IsSomeAnd, Result, Ok, Err, OnOk, IfErr, is_ok}
 use Rattle.std.specs.Result.{result_err}
 use Rattle.std.proofs.lemmas.Bool.Decides.{nat_tests}
@@ -25,18 +25,16 @@ use Rattle.timing_bridge.specs.Designs.{design, lockstep_run}
 use Rattle.timing_bridge.proofs.History.{plan_is_design}
 use Rattle.engine_view.specs.Emitted.{place_of}
 use Rattle.engine_view.specs.Held.{Held, no_step as empty_step, step_of, emitted_of}
-use Rattle.engine_view.specs.Rooms.{query_bound}
-use Rattle.engine_view.specs.Shown.{IsSound, queries_before}
+use Rattle.engine_view.specs.Shown.{IsSound}
 use Rattle.engine_view.specs.Turns.{first_of}
 use Rattle.engine_view.proofs.Bounds.{candidate_is}
-use Rattle.engine_view.proofs.Emitted.{queries_mono}
 use Rattle.core_actions.specs.declared.actions.Action.{Action}
 use Rattle.core_actions.specs.declared.actions.Action.TheVariants.{Run, Assign, Answer, Earliest}
 use Rattle.core_actions.specs.declared.actions.Cause.{Cause}
 use Rattle.core_actions.specs.declared.actions.Cause.TheVariants as cause
 use Rattle.core_actions.specs.Causes.{IsPermitted, cause_of, cycle_causes, first_place, first_some}
 use Rattle.core_actions.specs.Causes.{is_unverified, module_of, waiting}
-use Rattle.core_actions.specs.Missing.{first_missing}
+use Rattle.run_ahead.specs.Replies.{first_missing, value_now}
 use Rattle.sim_core.specs.Views.{CoreView, theory_of}
 use Rattle.core_actions.proofs.Causing as causing
 use Rattle.core_actions.proofs.Looking as looking
@@ -150,17 +148,9 @@ module _ (v : CoreView) (fits : FitsEngine v.plan) (sound : IsSound (design v.pl
       last_within : last < emitted_of h m
       last_within = slice_get_within (lane_at h.lanes m).steps last step there
 
-      pub last_few : queries_before h m (emitted_of h m) < query_bound → length step.accesses < 2 ^ 32
-          → step.first_query + length step.accesses < 2 ^ 64
-      last_few few short =
-          let first = sound.first_query m last last_within in
-          let most = queries_mono h m last (emitted_of h m) (let l = last_within in omega arith) in
-          let few' : step.first_query < query_bound = subst (λ (t : Step). t.first_query < query_bound) last_is (omega arith) in
-          omega arith
-
       pub waits_at : last ≡ emitted_of h m - 1
           → option_map (cause.Waiting (place_of m last))
-          (first_missing h.channels step.accesses (drop step.first_query (log_at h.logs m).outcomes))
+          (first_missing (log_at h.logs m).outcomes (value_now h.channels) step.first_query step.accesses)
           ≡ waiting d x m (emitted_of h m)
       waits_at e =
           let l = last_within in
@@ -168,4 +158,4 @@ module _ (v : CoreView) (fits : FitsEngine v.plan) (sound : IsSound (design v.pl
           sym (ap (waiting d x m) n
           ∙ ap (option_map (cause.Waiting (place_of m last)))
           (sym (looking.missing_reply d h sound m last l (let e = sound.logs in omega arith) (let e = sound.lanes in omega arith))
-          ∙ ap (λ (t : Step). first_missing h.channels t.accesses (drop t.first_query (log_at h.logs m).outcomes)) last_is))
+          ∙ ap (λ (t : Step). first_missing (log_at h.logs m).outcomes (value_now h.channels) t.first_query t.accesses) last_is))

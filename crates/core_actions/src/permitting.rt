@@ -17,8 +17,9 @@ ghost use Rattle.core_actions.specs.Causes.{is_busy as busy_by};
 ghost use Rattle.core_actions.specs.Causes.{later as later_cause};
 
 use crate::actions::{Action, Cause};
-use crate::searching::{missing_in, query_in, undecided_in};
+use crate::searching::{number_of, query_in, undecided_in};
 use event_graph::{Candidate, Place};
+use run_ahead::first_missing;
 use sim_core::Core;
 use time_engine::candidate;
 
@@ -166,13 +167,13 @@ fn waiting(core: &Core, owner: u32) -> Option<Cause>
     };
     let step = engine.graph.step(place);
     let accesses = step.accesses.as_slice();
-    match missing_in(
+    let missing = first_missing(
+        engine.log.outcomes(owner),
         &engine.fifos,
-        &engine.log,
-        owner,
         step.first_query,
         accesses,
-    ) {
+    );
+    match number_of(missing) {
         Some(access) => Some(Cause::Waiting(place, access)),
         None => None,
     }

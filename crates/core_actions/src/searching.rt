@@ -1,40 +1,11 @@
 //! The first access of a step that is not as an action wants it.
-ghost use Rattle.std.specs.Prelude.{◌≡◌, ◌+◌, ◌<◌, ◌^◌, All, length, drop, position, IfSome};
-ghost use Rattle.query_log.specs.Logs.{log_at};
+ghost use Rattle.std.specs.Prelude.{◌≡◌, ◌<◌, ◌^◌, All, length, position, IfSome};
 ghost use Rattle.time_engine.specs.Conditions.{HasPlaces, IsAccess};
-ghost use Rattle.core_actions.specs.Missing.{asks, first_missing, is_open_query};
+ghost use Rattle.core_actions.specs.Missing.{asks, is_open_query};
 
 use event_graph::{Access, Graph};
 use fifo_table::FifoTable;
-use query_log::QueryLog;
 use query_resolve::{Decision, decide};
-use run_ahead::reply_to;
-
-/// The first access whose reply is not there, by the outcomes from the step's first query on.
-pub(crate) fn missing_in(
-    fifos: &FifoTable,
-    log: &QueryLog,
-    owner: u32,
-    first_query: u64,
-    accesses: &[Access],
-) -> Option<u32>
-    requires owner { owner < length log.now.logs }
-    requires inside { All (IsAccess fifos.now.channels) accesses.now }
-    requires few { first_query + length accesses.now < 2 ^ 64 }
-    requires short { length accesses.now < 2 ^ 32 }
-    ensures { result ≡ first_missing fifos.now.channels accesses.now (drop first_query (log_at log.now.logs owner).outcomes) }
-{
-    let mut number = first_query;
-    for (index, access) in accesses.iter().enumerate() {
-        let outcome = log.outcome(owner, number);
-        let value = fifos.value(access.channel, access.ordinal);
-        let Some(_reply) = reply_to(access.kind, outcome, value) else {
-            return Some(index as u32);
-        };
-        number += !access.kind.is_blocking() as u64;
-    }
-    None
-}
 
 /// The first query among the accesses.
 pub(crate) fn query_in(accesses: &[Access]) -> Option<u32>
@@ -87,7 +58,7 @@ fn is_undecided(graph: &Graph, fifos: &FifoTable, access: &Access) -> bool
 }
 
 /// The number of the access that was found.
-fn number_of(index: Option<usize>) -> Option<u32>
+pub(crate) fn number_of(index: Option<usize>) -> Option<u32>
     requires { IfSome index (λ i. i < 2 ^ 32) }
     ensures { result ≡ index }
 {

@@ -176,8 +176,8 @@ module _ {S : Type 0} (d : Design S) (i : IsDesign d) (h : Held) (m : ℕ) (t : 
             ends_now side c (omega arith);
         steps = λ n.
             let before = old.steps n in
-            let here = used.lane in
-            let there = used.other_lanes n in
+            let here = used.place.own in
+            let there = used.place.others n in
             let else = rest n in
             grind arith;
         outcomes = λ n. let before = old.outcomes n in let now = queries_now in let else = queries_else n in grind arith;

@@ -8,6 +8,7 @@ use Rattle.flow_word.specs.declared.access.Side.{Side}
 use Rattle.flow_word.specs.declared.access.Side.TheVariants.{Pop, Push}
 use Rattle.flow_word.specs.declared.access.Step.{Step}
 use Rattle.event_graph.specs.Lanes.{lane_at, with_step, IsSoundStep, IsSoundLane}
+use Rattle.event_graph.specs.Roomed.{UsesPlace}
 use Rattle.fifo_table.specs.Channels.{Channel, AreAllOf, channel_at, places_of}
 use Rattle.fifo_table.specs.Roomed.{RoomedChannels}
 use Rattle.query_log.specs.Logs.{log_at}
@@ -56,8 +57,7 @@ done_by later (a ∷ as') outcomes =
 
 -- a step of the module with these accesses uses a place of its lane, and one at most at each side of a channel at which one of them takes
 pub record UsesRoom (m : ℕ) (accesses : List Access) (lanes lanes_left : List ℕ) (table table_left : RoomedChannels) : Type 0 where
-  pub lane : slice_index lanes m ≤ slice_index lanes_left m + 1
-  pub other_lanes : (n : ℕ) → n ≢ m → slice_index lanes n ≤ slice_index lanes_left n
+  pub place : UsesPlace m lanes lanes_left
   pub one : (side : Side) (c : ℕ) → room_of table side c ≤ room_of table_left side c + 1
   pub others : (side : Side) (c : ℕ) → All (λ a. TakesAt side c a → ⊥) accesses → room_of table side c ≤ room_of table_left side c
 

@@ -69,10 +69,12 @@ unfolding no_module
 none_found test zero f = refl
 none_found test (suc n) f = grind (arith, f n, none_found test n f)
 
-module _ {S : Type 0} (d : Design S) (limit : ℕ) (x : Core S) (inside : IsInside d x) where
-  determined_inside : (m c : ℕ) → IsDetermined d limit x m c → m < d.modules
-  determined_inside m c n = grind (arith, first_emitted d x m c n.at, inside m)
+-- only a module of the design has a step whose cycle is determined
+pub determined_inside : {S : Type 0} (d : Design S) (x : Core S) → IsInside d x → (m c : ℕ) → candidate d (view d x) m ≡ Some c
+    → m < d.modules
+determined_inside {S} d x inside m c at = grind (arith, first_emitted d x m c at, inside m)
 
+module _ {S : Type 0} (d : Design S) (limit : ℕ) (x : Core S) (inside : IsInside d x) where
   pub quiet_decided : (is_quiet d limit x ≡ true) ↔ IsQuiet d limit x
   unfolding is_quiet
   quiet_decided = (there, back)
@@ -82,10 +84,10 @@ module _ {S : Type 0} (d : Design S) (limit : ℕ) (x : Core S) (inside : IsInsi
           record {
             no_run = λ n r. grind (arith, none_passes (may_run d x) d.modules, run_decided d x n);
             no_assign = λ n c w.
-                let l = determined_inside n c w.determined in
+                let l = determined_inside d x inside n c w.determined.at in
                 grind (arith, none_passes (may_assign d limit x) d.modules, (assign_decided d limit x n).1 (c, w));
             no_answer = λ n c w.
-                let l = determined_inside n c w.determined in
+                let l = determined_inside d x inside n c w.determined.at in
                 grind (arith, none_passes (may_answer d limit x) d.modules, (answer_decided d limit x n).1 (c, w));
           }
 
@@ -101,7 +103,7 @@ module _ {S : Type 0} (d : Design S) (limit : ℕ) (x : Core S) (inside : IsInsi
       → no_module (is_open_before d limit x (candidate d (view d x) m)) d.modules ≡ true → (n e : ℕ) → IsOpen d limit x n e → c ≤ e
   unfolding is_open_before
   least_there m c at p n e o =
-      let f = none_passes (is_open_before d limit x (candidate d (view d x) m)) d.modules p n (determined_inside n e o.determined) in
+      let f = none_passes (is_open_before d limit x (candidate d (view d x) m)) d.modules p n (determined_inside d x inside n e o.determined.at) in
       grind (arith, nat_tests, o.determined.at, (open_decided d limit x n).1 (e, o))
 
   least_back : (m c : ℕ) → candidate d (view d x) m ≡ Some c → ((n e : ℕ) → IsOpen d limit x n e → c ≤ e)
@@ -136,7 +138,7 @@ module _ {S : Type 0} (d : Design S) (limit : ℕ) (x : Core S) (inside : IsInsi
           record {
             quiet = grind (arith, quiet_decided.0);
             no_earliest = λ n c w.
-                let l = determined_inside n c w.open_step.determined in
+                let l = determined_inside d x inside n c w.open_step.determined.at in
                 grind (arith, none_passes (is_open d limit x) d.modules, (open_decided d limit x n).1 (c, w.open_step));
           }
 

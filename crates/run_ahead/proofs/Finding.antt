@@ -1,6 +1,7 @@
 -- Reading a mail, access by access.
 use Rattle.std.proofs.Common.{◌≡◌, refl, sym, ap, ◌∙◌, ℕ, zero, suc, ◌+◌, ◌<◌, ◌≤◌, Bool, true, false, List, [], ◌∷◌, ◌++◌}
-use Rattle.std.proofs.Common.{length, drop, get_or, set, replicate, Option, Some}
+use Rattle.std.proofs.Common.{length, drop, get_or, set, replicate, Option, Some, is_some, not}
+use Rattle.std.specs.Prelude.{option_map}
 use Rattle.std.proofs.Common.{slice_get, inl, inr, arith, append_assoc}
 use Rattle.std.proofs.lemmas.Bool.{cases_lt}
 use Rattle.std.proofs.lemmas.Bool.Decides.{eqb_tells}
@@ -14,8 +15,8 @@ use Rattle.flow_design.specs.declared.state.Reply.{Reply}
 use Rattle.module_interp.specs.OwnRests.{fits_kind, all_fit}
 use Rattle.engine_view.specs.Held.{queries_in}
 use Rattle.run_ahead.specs.declared.mail.Mail.{Mail}
-use Rattle.run_ahead.specs.Replies.{reply_now, put_first, put_before, has_value}
-use Rattle.run_ahead.specs.Mails.{values_on, next_value, told_by, replies_in, one_more, taken_after, none_taken, IsLeft}
+use Rattle.run_ahead.specs.Replies.{reply_now, put_first, put_before, has_value, told_by, replies_from, first_missing}
+use Rattle.run_ahead.specs.Mails.{values_on, next_value, replies_in, one_more, taken_after, none_taken, IsLeft}
 use Rattle.run_ahead.proofs.Parts.{first_parts}
 
 pub before_more : (qs : List Reply) (q : Reply) (r : Option (List Reply))
@@ -27,23 +28,40 @@ drop_next [] i l = absurd (omega arith)
 drop_next (x ∷ xs) zero l = (x, refl)
 drop_next (x ∷ xs) (suc i) l = drop_next xs i (omega arith)
 
--- what is to be read behind these replies
-pub record IsFinding (mail : Mail) (told₀ : ℕ) (taken : List ℕ) (xs : List Access) (replies : List Reply) (told i : ℕ) : Type 0 where
-  pub found : replies_in mail told₀ taken xs ≡ put_before replies (replies_in mail told taken (drop i xs))
-  pub number : told + queries_in (drop i xs) ≡ told₀ + queries_in xs
-
--- the replies fit
+-- a reply fits
 fits_with : (k : Kind) (o : Option Bool) (v : Option ℕ) (q : Reply) → reply_now k o v ≡ Some q → fits_kind k q ≡ true
 fits_with k o v q e = grind arith
 
-pub replies_fit : (mail : Mail) (told : ℕ) (taken : List ℕ) (xs : List Access) (qs : List Reply) → replies_in mail told taken xs ≡ Some qs
-    → all_fit xs qs ≡ true
-replies_fit mail told taken [] qs e = grind arith
-replies_fit mail told taken (a ∷ xs) qs e =
-    let (q, (qs', (e1, (e2, e3)))) = first_parts (reply_now a.kind (slice_get mail.outcomes told) (next_value mail taken a.channel))
-    (replies_in mail (told_by a.kind told) taken xs) qs e in
-    rw (e3, fits_with a.kind (slice_get mail.outcomes told) (next_value mail taken a.channel) q e1)
-    (replies_fit mail (told_by a.kind told) taken xs qs' e2)
+module _ (outs : List Bool) (value : Access → Option ℕ) where
+  -- what is to be read behind these replies
+  pub record IsFinding (told₀ : ℕ) (xs : List Access) (replies : List Reply) (told i : ℕ) : Type 0 where
+    pub found : replies_from outs value told₀ xs ≡ put_before replies (replies_from outs value told (drop i xs))
+    pub number : told + queries_in (drop i xs) ≡ told₀ + queries_in xs
+
+  -- no reply was missing so far
+  pub record IsSeeking (told₀ : ℕ) (xs : List Access) (told i : ℕ) : Type 0 where
+    pub missing : first_missing outs value told₀ xs ≡ option_map (λ (n : ℕ). i + n) (first_missing outs value told (drop i xs))
+
+  -- the replies fit
+  pub replies_fit : (told : ℕ) (xs : List Access) (qs : List Reply) → replies_from outs value told xs ≡ Some qs → all_fit xs qs ≡ true
+  replies_fit told [] qs e = grind arith
+  replies_fit told (a ∷ xs) qs e =
+      let (q, (qs', (e1, (e2, e3)))) = first_parts (reply_now a.kind (slice_get outs told) (value a))
+      (replies_from outs value (told_by a.kind told) xs) qs e in
+      rw (e3, fits_with a.kind (slice_get outs told) (value a) q e1) (replies_fit (told_by a.kind told) xs qs' e2)
+
+  pub replies_length : (told : ℕ) (xs : List Access) (qs : List Reply) → replies_from outs value told xs ≡ Some qs → length qs ≡ length xs
+  replies_length told [] qs e = grind arith
+  replies_length told (a ∷ xs) qs e =
+      let (q, (qs', (e1, (e2, e3)))) = first_parts (reply_now a.kind (slice_get outs told) (value a))
+      (replies_from outs value (told_by a.kind told) xs) qs e in
+      rw (e3, replies_length (told_by a.kind told) xs qs' e2) refl
+
+  -- one is missing where not all are there
+  pub none_missing : (told : ℕ) (xs : List Access) → is_some (first_missing outs value told xs)
+      ≡ not (is_some (replies_from outs value told xs))
+  none_missing told [] = refl
+  none_missing told (a ∷ xs) = let later = none_missing (told_by a.kind told) xs in grind arith
 
 -- ---- what is left
 
@@ -144,11 +162,3 @@ pub taking_all : (first : Mail) (xs : List Access) (qs : List Reply) (left : Mai
     → (whole : Mail) (taken : List ℕ) → IsLeft whole taken first → IsLeft whole (taken_after taken xs qs) left
 taking_all first xs qs left i k l whole taken m =
     let (now, (is, same)) = k.before whole taken m in rw (rw (drop_all i xs l) at same) at is
-
-pub replies_length : (mail : Mail) (told : ℕ) (taken : List ℕ) (xs : List Access) (qs : List Reply)
-    → replies_in mail told taken xs ≡ Some qs → length qs ≡ length xs
-replies_length mail told taken [] qs e = grind arith
-replies_length mail told taken (a ∷ xs) qs e =
-    let (q, (qs', (e1, (e2, e3)))) = first_parts (reply_now a.kind (slice_get mail.outcomes told) (next_value mail taken a.channel))
-    (replies_in mail (told_by a.kind told) taken xs) qs e in
-    rw (e3, replies_length mail (told_by a.kind told) taken xs qs' e2) refl

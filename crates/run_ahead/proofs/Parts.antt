@@ -6,9 +6,6 @@ use Rattle.flow_design.specs.declared.state.Reply.{Reply}
 use Rattle.run_ahead.specs.Replies.{put_first, has_value}
 use Rattle.run_ahead.specs.Mails.{one_more, taken_after}
 
-pub some_is : {A : Type 0} → (a b : A) → Some a ≡ Some b → a ≡ b
-some_is {A} a b e = cc
-
 pub first_parts : (a : Option Reply) (b : Option (List Reply)) (qs : List Reply) → put_first a b ≡ Some qs
     → (q : Reply) × ((rs : List Reply) × ((a ≡ Some q) × ((b ≡ Some rs) × (qs ≡ q ∷ rs))))
 first_parts None b qs e = cc

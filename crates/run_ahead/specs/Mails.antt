@@ -2,19 +2,17 @@
 use Rattle.std.specs.Prelude.{◌≡◌, ℕ, suc, ◌+◌, ◌⊎◌, Bool, true, false, cond, List, [], ◌∷◌, length, drop, replicate, Option, None, Some}
 use Rattle.std.specs.Prelude.{slice_get, slice_set, slice_index_or}
 use Rattle.flow_word.specs.declared.access.Access.{Access}
-use Rattle.flow_word.specs.declared.access.Kind.{Kind}
 use Rattle.flow_design.specs.declared.plan.Plan.{Plan}
 use Rattle.flow_design.specs.declared.state.Advance.{Advance}
 use Rattle.flow_design.specs.declared.state.Reply.{Reply}
 use Rattle.lockstep_defs.specs.OwnRun.{Own}
 use Rattle.module_interp.specs.OwnRests.{next_rest, accesses_at, mark_at}
 use Rattle.module_interp.specs.Runs.{StandsAt, waits, is_step, IsSoundMark}
-use Rattle.flow_word.specs.Kinds.{is_blocking}
 use Rattle.engine_view.specs.Held.{queries_in}
 use Rattle.run_ahead.specs.declared.mail.Mail.{Mail}
 use Rattle.run_ahead.specs.declared.mail.Task.{Task}
 use Rattle.run_ahead.specs.declared.mail.Burst.{Burst}
-use Rattle.run_ahead.specs.Replies.{reply_now, put_first, has_value}
+use Rattle.run_ahead.specs.Replies.{replies_from, has_value}
 
 -- ---- replies
 
@@ -26,17 +24,10 @@ values_on mail c = slice_index_or mail.values c []
 abbrev pub next_value : Mail → List ℕ → ℕ → Option ℕ
 next_value mail taken c = slice_get (values_on mail c) (slice_index_or taken c 0)
 
--- so many outcomes are read behind this access
-abbrev pub told_by : Kind → ℕ → ℕ
-told_by kind told = cond (is_blocking kind) told (suc told)
-
 -- the replies to a step's accesses, of a mail of which so many outcomes and so many values of each channel were taken before the
 -- step; None where one of them is not in the mail
 abbrev pub replies_in : Mail → ℕ → List ℕ → List Access → Option (List Reply)
-replies_in mail told taken [] = Some []
-replies_in mail told taken (a ∷ as') =
-    put_first (reply_now a.kind (slice_get mail.outcomes told) (next_value mail taken a.channel))
-    (replies_in mail (told_by a.kind told) taken as')
+replies_in mail told taken accesses = replies_from mail.outcomes (λ a. next_value mail taken a.channel) told accesses
 
 -- one value more of a channel is taken
 abbrev pub one_more : List ℕ → ℕ → List ℕ

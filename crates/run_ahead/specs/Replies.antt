@@ -1,9 +1,13 @@
--- The reply to an access, by what it needs.
-use Rattle.std.specs.Prelude.{Bool, true, false, List, ◌∷◌, ◌++◌, ℕ, Option, None, Some, option_map}
+-- The replies to a step's accesses, by what they need.
+use Rattle.std.specs.Prelude.{Bool, true, false, cond, List, [], ◌∷◌, ◌++◌, ℕ, suc, ◌-◌, Option, None, Some, option_map, is_none, slice_get}
+use Rattle.flow_word.specs.Kinds.{is_blocking}
+use Rattle.flow_word.specs.declared.access.Access.{Access}
 use Rattle.flow_word.specs.declared.access.Kind.{Kind}
 use Rattle.flow_word.specs.declared.access.Kind.TheVariants.{Read, Write, TryRead, TryWrite, Empty, Full}
 use Rattle.flow_design.specs.declared.state.Reply.{Reply}
 use Rattle.flow_design.specs.declared.state.Reply.TheVariants.{Done, Value, Flag, Took, Missed}
+use Rattle.fifo_table.specs.Channels.{Channel}
+use Rattle.engine_view.specs.Held.{values_at}
 
 -- by its query's outcome and the value that a pop finds, each where it is there
 abbrev pub reply_now : Kind → Option Bool → Option ℕ → Option Reply
@@ -26,6 +30,28 @@ put_first (Some r) (Some rs) = Some (r ∷ rs)
 abbrev pub put_before : List Reply → Option (List Reply) → Option (List Reply)
 put_before rs None = None
 put_before rs (Some qs) = Some (rs ++ qs)
+
+-- so many outcomes are read behind this access
+abbrev pub told_by : Kind → ℕ → ℕ
+told_by kind told = cond (is_blocking kind) told (suc told)
+
+-- to a step's accesses, where so many of the outcomes belong to earlier steps, by the value that each pop finds; None where one of them is
+-- not there
+abbrev pub replies_from : List Bool → (Access → Option ℕ) → ℕ → List Access → Option (List Reply)
+replies_from outcomes value told [] = Some []
+replies_from outcomes value told (a ∷ as') =
+    put_first (reply_now a.kind (slice_get outcomes told) (value a)) (replies_from outcomes value (told_by a.kind told) as')
+
+-- the first access whose reply is not there
+abbrev pub first_missing : List Bool → (Access → Option ℕ) → ℕ → List Access → Option ℕ
+first_missing outcomes value told [] = None
+first_missing outcomes value told (a ∷ as') =
+    cond (is_none (reply_now a.kind (slice_get outcomes told) (value a))) (Some 0)
+    (option_map suc (first_missing outcomes value (told_by a.kind told) as'))
+
+-- what a table has for a pop: the value at its ordinal
+abbrev pub value_now : List Channel → Access → Option ℕ
+value_now channels a = slice_get (values_at channels a.channel) (a.ordinal - 1)
 
 -- the reply took a value
 abbrev pub has_value : Reply → Bool

@@ -2,5 +2,7 @@
 #![tactic(auto)]
 
 mod mail;
+mod replies;
 
-pub use mail::{Burst, Mail, Task, reply_to, work};
+pub use mail::{Burst, Mail, Task, work};
+pub use replies::{Values, find_replies, first_missing};

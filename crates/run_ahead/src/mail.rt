@@ -1,19 +1,18 @@
 //! A module's run with its mail, and how far it goes on that alone.
-ghost use Rattle.std.specs.Prelude.{◌≡◌, ℕ, ◌+◌, ◌<◌, ◌^◌, [], ◌∷◌, ◌++◌, length, drop, slice_get, slice_set};
-ghost use Rattle.std.specs.Prelude.{List as Items, Some, None, true, false, IsTrue, IsFalse, IsNone, IfOk, IfSome, OnOk, OnErr};
+ghost use Rattle.std.specs.Prelude.{◌≡◌, ℕ, ◌<◌, [], length, drop, slice_set};
+ghost use Rattle.std.specs.Prelude.{List as Items, Some, None, true, false, IsTrue, IsFalse, IfOk, OnErr};
 ghost use Rattle.flow_design.specs.declared.plan.Plan.{Plan as PlanOf};
 ghost use Rattle.lockstep_defs.specs.OwnRun.{Own};
-ghost use Rattle.flow_design.specs.declared.state.Reply.{Reply as ReplyOf};
 ghost use Rattle.module_interp.specs.OwnRests.{accesses_at};
 ghost use Rattle.module_interp.specs.Runs.{StandsAt, waits};
 ghost use Rattle.module_interp.specs.Runs.{is_step as is_step_of};
-ghost use Rattle.engine_view.specs.Held.{queries_in};
-ghost use Rattle.run_ahead.specs.Replies.{reply_now, has_value};
+ghost use Rattle.run_ahead.specs.Replies.{has_value};
 ghost use Rattle.run_ahead.specs.declared.mail.Mail.{Mail as MailOf};
 ghost use Rattle.run_ahead.specs.Mails.{values_on, next_value, replies_in, none_taken, taken_after, IsLeft, GoesOn, IsBurst, IsBurstFrom};
 ghost use Rattle.run_ahead.specs.Working.{StandsSomewhere, IsFed, IsEmitted, burst_of, task_of};
 
-use flow_word::{Access, Flags, Kind, List, OutOfMemory, Queue};
+use crate::replies::{Values, find_replies};
+use flow_word::{Access, Flags, List, OutOfMemory, Queue};
 use module_interp::{Advance, ModuleRun, Reply};
 use std::alloc::Global;
 
@@ -50,38 +49,18 @@ pub struct Burst {
     pub mail: Mail,
 }
 
-/// The reply to an access of this kind by its query's outcome and the value that it finds, where what it needs is there.
-pub fn reply_to(kind: Kind, outcome: Option<bool>, value: Option<u64>) -> Option<Reply>
-    ensures { result ≡ reply_now kind outcome value }
-{
-    match kind {
-        Kind::Write => Some(Reply::Done),
-        Kind::Read => value.map(Reply::Value),
-        Kind::TryRead => match outcome {
-            Some(true) => value.map(Reply::Took),
-            Some(false) => Some(Reply::Missed),
+impl Values for Mail {
+    ghost knows = { λ mail a. Unit {0} };
+
+    ghost value = { λ mail a. next_value mail (none_taken mail) a.channel };
+
+    /// The next value of the access's channel.
+    fn value(&self, access: &Access) -> Option<u64> {
+        match self.values.as_slice().get(access.channel as usize) {
+            Some(values) => values.front(),
             None => None,
-        },
-        Kind::TryWrite | Kind::Empty | Kind::Full => outcome.map(Reply::Flag),
+        }
     }
-}
-
-/// The next value of a channel.
-fn value_of(mail: &Mail, channel: u32) -> Option<u64>
-    ensures { result ≡ next_value mail.now (none_taken mail.now) channel }
-{
-    match mail.values.as_slice().get(channel as usize) {
-        Some(values) => values.front(),
-        None => None,
-    }
-}
-
-/// The outcome of this number.
-fn outcome_of(mail: &Mail, number: u64) -> Option<bool>
-    ensures outcome { result ≡ slice_get mail.now.outcomes number }
-    ensures inside { IfSome result (λ o. number + 1 < 2 ^ 64) }
-{
-    mail.outcomes.as_slice().get(number as usize).copied()
 }
 
 /// Whether the reply took a value.
@@ -92,33 +71,6 @@ fn takes(reply: Reply) -> bool
         Reply::Value(_) | Reply::Took(_) => true,
         Reply::Done | Reply::Flag(_) | Reply::Missed => false,
     }
-}
-
-/// Looks up the replies to a step's accesses, where so many outcomes were read, and how many are read behind it; or one of them is not
-/// in the mail.
-fn find(
-    mail: &Mail,
-    told: u64,
-    accesses: &[Access],
-    replies: &mut List<Reply>,
-) -> Result<Option<u64>, OutOfMemory>
-    ensures found { IfOk result (λ r. IfSome r (λ n. replies_in mail.now told (none_taken mail.now) accesses.now ≡ Some replies.new)) }
-    ensures told { IfOk result (λ r. IfSome r (λ n. n ≡ told + queries_in accesses.now)) }
-    ensures missing { IfOk result (λ r. IsNone r → replies_in mail.now told (none_taken mail.now) accesses.now ≡ None) }
-{
-    replies.truncate(0);
-    let mut next = told;
-    for access in accesses {
-        let value = value_of(mail, access.channel);
-        let Some(reply) = reply_to(access.kind, outcome_of(mail, next), value) else {
-            return Ok(None);
-        };
-        replies.push(reply)?;
-        if !access.kind.is_blocking() {
-            next += 1;
-        }
-    }
-    Ok(Some(next))
 }
 
 /// Takes the next value of a channel off the mail.
@@ -166,7 +118,7 @@ fn answer(
     ensures err { OnErr result ((run.new ≡ run.old) × (mail.new ≡ mail.old)) }
 {
     let accesses = run.waiting();
-    let Some(next) = find(mail, *told, accesses, replies)? else {
+    let Some(next) = find_replies(mail.outcomes.as_slice(), mail, *told, accesses, replies)? else {
         return Ok(false);
     };
     take_values(mail, accesses, replies.as_slice());

@@ -6,14 +6,15 @@
 //! looks afterwards whether it is: so it was seen asleep, or it saw the ring. A ring between that glance and `park` leaves a token
 //! with the parker, and `park` returns at once. A token that is left from an earlier ring makes `park` return too early, and the bell
 //! is glanced at again.
+ghost use Rattle.std.specs.Prelude.{◌<◌, length};
+
 use crate::concern::{Concern, News};
 use crate::light::Light;
-use crate::readers::{find_poppers, find_readers};
 use crossbeam_utils::Backoff;
 use crossbeam_utils::sync::{Parker, Unparker};
-use flow_design::Design;
 use flow_design::limits::MODULES;
-use flow_word::OutOfMemory;
+use flow_word::{OutOfMemory, Side};
+use sim_core::Core;
 use std::alloc::Global;
 use std::sync::Wait;
 use std::sync::atomic::{AtomicBool, AtomicU64, Ordering};
@@ -117,14 +118,30 @@ pub struct Bells {
     unstarted: AtomicBool,
 }
 
+/// The modules that pop what a module of the core's plan pushes. Where nobody pops a channel, one more than there are stands there.
+fn readers_of(alloc: Global, core: &Core, owner: u32) -> Result<Vec<u32>, OutOfMemory>
+    requires { owner < length core.now.plan.design.modules }
+{
+    let mut readers = Vec::new(alloc);
+    for port in core.ports(owner) {
+        if port.side == Side::Push {
+            if let Some(reader) = core.readers().get(port.channel as usize) {
+                if !readers.as_slice().contains(reader) {
+                    readers.push(*reader)?;
+                }
+            }
+        }
+    }
+    Ok(readers)
+}
+
 impl Bells {
-    /// The caller's bell and none for a module yet, and what the caller parks on.
-    pub fn new(alloc: Global, design: &Design) -> Result<(Bells, Parker), OutOfMemory> {
+    /// The caller's bell and none for a module of the core's plan yet, and what the caller parks on.
+    pub fn new(alloc: Global, core: &Core) -> Result<(Bells, Parker), OutOfMemory> {
         let (caller, parker) = Bell::new(alloc)?;
-        let poppers = find_poppers(alloc, design)?;
         let mut readers = Vec::new(alloc);
-        for of in design.modules.as_slice() {
-            let mine = find_readers(alloc, of, poppers.as_slice())?;
+        for owner in 0..core.modules() {
+            let mine = readers_of(alloc, core, owner)?;
             if readers.push(mine).is_err() {
                 return Err(OutOfMemory);
             }

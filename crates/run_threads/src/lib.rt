@@ -7,7 +7,6 @@ mod drive;
 mod gate;
 mod lead;
 mod light;
-mod readers;
 mod run;
 mod start;
 

@@ -82,7 +82,7 @@ pub fn run_core<G: Gate + Sync, R: Threads + Wait + Sync>(
     requires own { AreOwn core }
     ensures run { IfOk result (λ threaded. IsRun core.plan threaded) }
 {
-    let (mut bells, parker) = Bells::new(alloc, &core.plan().design)?;
+    let (mut bells, parker) = Bells::new(alloc, &core)?;
     let (hub, perf, modules) = Hub::new(alloc, core)?;
     let Ok(slots) = Vec::with_capacity(alloc, modules.len()) else {
         return Err(OutOfMemory);

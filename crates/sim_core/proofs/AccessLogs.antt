@@ -1,10 +1,9 @@
 -- The log that is read off a final core is the history's.
-use Rattle.std.proofs.Common.{◌≡◌, refl, sym, ap, ap₂, subst, ◌∙◌, ℕ, suc, ◌+◌, ◌<◌, ◌≤◌, List, [], ◌∷◌, ◌++◌, length, map, drop, take}
+use Rattle.std.proofs.Common.{◌≡◌, refl, sym, ap, ap₂, subst, ◌∙◌, ℕ, ◌+◌, ◌<◌, ◌≤◌, List, [], ◌∷◌, ◌++◌, length, map, take}
 use Rattle.std.proofs.Common.{get_or, arith}
-use Rattle.std.proofs.Common.{append_assoc, Bool, true, false, inl, inr}
-use Rattle.std.specs.Prelude.{All, IsPermutation, Option, Some, None, flat_map, slice_get, unwrap_or}
+use Rattle.std.proofs.Common.{append_assoc}
+use Rattle.std.specs.Prelude.{All, IsPermutation, IfSome, IsNone, Option, Some, None, flat_map, slice_get, unwrap_or}
 use Rattle.std.specs.List.{range_with_len}
-use Rattle.std.proofs.lemmas.Bool.{cases_Bool}
 use Rattle.std.proofs.lemmas.Option.{get_or_from_slice_get}
 use Rattle.std.proofs.lemmas.List.{get_or-map, length-map, map-append, take_all}
 use Rattle.std.proofs.lemmas.List.Elements.{All-head, All-tail}
@@ -19,7 +18,6 @@ use Rattle.flow_design.specs.StaticRules.{FitsEngine}
 use Rattle.lockstep_defs.specs.Channels.{HistoryStep}
 use Rattle.lockstep_defs.specs.Lockstep.{requests_of}
 use Rattle.lockstep_defs.specs.OwnRun.{paired}
-use Rattle.fifo_table.specs.Channels.{Channel}
 use Rattle.time_engine.specs.Conditions.{IsAccess}
 use Rattle.module_interp.proofs.Tallies.{paired_more}
 use Rattle.query_log.specs.Logs.{log_at}
@@ -32,21 +30,21 @@ use Rattle.timing_bridge.specs.Designs.{design, lockstep_run}
 use Rattle.timing_bridge.specs.CoreReports.{core_step, steps_at, AreSorted}
 use Rattle.timing_bridge.proofs.InOrder.{only_in_order, reported_history}
 use Rattle.timing_bridge.proofs.Places.{sorted_steps}
-use Rattle.engine_view.specs.Held.{Held, no_step, step_of, emitted_of, flags_of, seen, core_of}
-use Rattle.engine_view.specs.Shown.{IsSound, queries_before}
-use Rattle.engine_view.specs.Rooms.{query_bound}
-use Rattle.engine_view.proofs.Emitted.{queries_mono}
+use Rattle.engine_view.specs.Held.{Held, no_step, step_of, seen, core_of}
+use Rattle.engine_view.specs.Shown.{IsSound}
 use Rattle.engine_report.specs.declared.events.TimedStep.{TimedStep}
 use Rattle.event_graph.specs.Lanes.{lane_at}
 use Rattle.engine_report.specs.Read.{timed_places}
 use Rattle.engine_report.specs.Keys.{place_of, IsTimedKey, AreSortedKeys}
 use Rattle.engine_report.proofs.Asking.{same_kind, same_channel}
 use Rattle.engine_report.proofs.Happening.{IsTimed, all_timed}
+use Rattle.run_ahead.specs.Replies.{value_now}
+use Rattle.run_ahead.proofs.Finding.{replies_length}
 use Rattle.sim_core.specs.Found.{replies_now}
+use Rattle.flow_word.proofs.Ranges.{some_is}
 use Rattle.sim_core.specs.AccessLog.{logged, logged_in, log_of, request_of, exchange_of, replies_at, step_with, logged_at}
 use Rattle.sim_core.specs.declared.access_log.LoggedAccess.{LoggedAccess}
-use Rattle.sim_core.proofs.Fed.{accesses_inside, are_told, as_many, flags_fit, found_told, seen_same, tell_is}
-use Rattle.sim_core.proofs.Replying.{replies_found, AreAsMany}
+use Rattle.sim_core.proofs.Fed.{accesses_inside, are_told, found_told, seen_same}
 
 -- what a module asks is what its step holds
 request_is : (r : Request) (a : Access) → bridge.seen r ≡ seen a → r ≡ request_of a
@@ -72,21 +70,13 @@ keys_timed h keys sorted = λ k d l.
     let timed = subst (IsTimed h) (get_or-map place_of keys k d (place_of d) l) there in
     record { is_key = sorted.each k d l; timed = timed.less }
 
-found_many : (channels : List Channel) (xs : List Access) (bs : List Bool) → AreAsMany xs bs
-    → length (replies_found channels xs bs) ≡ length xs
-found_many channels [] [] m = refl
-found_many channels [] (b ∷ bs) m = absurd m
-found_many channels (a ∷ xs) [] m = absurd m
-found_many channels (a ∷ xs) (b ∷ bs) m = ap suc (found_many channels xs bs m)
-
 module _ (p : Plan) (h : Held) (s : IsSound (design p) h) (g : IsAgreed (design p) (lockstep_run p) p.cycles (core_of (design p) h)) where
   abbrev x : Core ModuleState
   x = core_of (design p) h
 
   module _ (key : TimedStep) (t : IsTimedKey h.lanes key) where
     abbrev found : Option (List Reply)
-    found = replies_now h.channels (step_of h key.module key.step).accesses
-        (drop (step_of h key.module key.step).first_query (log_at h.logs key.module).outcomes)
+    found = replies_now h key.module (step_of h key.module key.step)
 
     inside : key.module < length p.design.modules
     inside = let a = t.is_key.there.owner in let b = s.lanes in omega arith
@@ -107,36 +97,27 @@ module _ (p : Plan) (h : Held) (s : IsSound (design p) h) (g : IsAgreed (design 
       step_is = get_or_from_slice_get (lane_at h.lanes key.module).steps key.step step no_step there
 
       abbrev found_in : Step → Option (List Reply)
-      found_in t = replies_now h.channels t.accesses (drop t.first_query (log_at h.logs key.module).outcomes)
+      found_in = replies_now h key.module
 
       pub step_inside : All (IsAccess h.channels) step.accesses
       step_inside = subst (λ (t : Step). All (IsAccess h.channels) t.accesses) step_is
           (accesses_inside p s g.marks key.module key.step t.is_key.there.step inside)
 
-      pub step_few : queries_before h key.module (emitted_of h key.module) < query_bound → step.first_query < query_bound
-      step_few few =
-          let first = s.first_query key.module key.step t.is_key.there.step in
-          let l = t.is_key.there.step in
-          let most = queries_mono h key.module key.step (emitted_of h key.module) (omega arith) in
-          subst (λ (t : Step). t.first_query < query_bound) step_is (omega arith)
-
       -- what was found are the replies, as many as there are accesses
-      module _ (all : Bool) (rs : List Reply) (some : all ≡ true → found_in step ≡ Some rs) (none : all ≡ false → found_in step ≡ None)
-        where
-          pub replies_are : rs ≡ replies_at h key.module key.step
-          replies_are = elim (cases_Bool all) [
-            | inl e ↦ let z = sym (some e) ∙ (sym (ap found_in step_is) ∙ all_found) in cc
-            | inr e ↦ let z = sym (none e) ∙ (sym (ap found_in step_is) ∙ all_found) in cc
-          ]
+      module _ (rs : List Reply) where
+        all_in : (told : Option ℕ) → IfSome told (λ n. found_in step ≡ Some rs) → (IsNone told → found_in step ≡ None)
+            → found_in step ≡ Some rs
+        all_in None some none = let z = sym (none refl) ∙ (sym (ap found_in step_is) ∙ all_found) in cc
+        all_in (Some n) some none = some
+
+        module _ (told : Option ℕ) (some : IfSome told (λ n. found_in step ≡ Some rs)) (none : IsNone told → found_in step ≡ None) where
+          replies_are : rs ≡ replies_at h key.module key.step
+          replies_are = some_is _ _ (sym (all_in told some none) ∙ (sym (ap found_in step_is) ∙ all_found))
 
           pub replies_many : length rs ≡ length step.accesses
           replies_many =
-              let told = replies_are ∙ found_told p s g.marks key.module key.step t.is_key.there.step all_found in
-              let fit = flags_fit p s g.marks key.module key.step t.is_key.there.step in
-              ap length (told ∙ tell_is p s g.marks key.module key.step t.is_key.there.step)
-              ∙ (found_many h.channels (step_of h key.module key.step).accesses (flags_of h key.module key.step)
-              (as_many (step_of h key.module key.step).accesses (flags_of h key.module key.step) fit)
-              ∙ ap (λ (t : Step). length t.accesses) step_is)
+              replies_length (log_at h.logs key.module).outcomes (value_now h.channels) step.first_query step.accesses rs
+              (all_in told some none)
 
           -- so what is logged by them is what the step gave
           pub logged_is : map (logged (step_with key [])) (paired (map request_of step.accesses) rs) ≡ logged_at h key

@@ -59,7 +59,8 @@ use Rattle.sim_core.proofs.Leaving.{unread_none}
 use Rattle.sim_core.proofs.Cut.{final_of, history_of, cut_of}
 use Rattle.sim_core.proofs.EditedRuns.{run_edited, end_edited, channel_inside, fifo_there, depth_there, kinds_edited}
 use Rattle.sim_core.proofs.Keeping.{kept_of}
-use Rattle.sim_core.proofs.SameSteps.{same_steps, same_length, marks_beside}
+use Rattle.retime.proofs.Counts.{same_steps, same_length}
+use Rattle.sim_core.proofs.SameSteps.{marks_beside}
 use Rattle.sim_core.proofs.Staying.{run_stays, end_stays}
 use Rattle.lockstep_defs.specs.Ports.{owner}
 use Rattle.turn_history.proofs.Lending.{timings_no_run}

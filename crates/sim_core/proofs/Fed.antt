@@ -1,11 +1,9 @@
 -- A run that waits is fed with the replies that are found for its newest step.
 use Rattle.std.proofs.Common.{◌≡◌, refl, sym, ap, subst, ◌∙◌, ℕ, suc, ◌+◌, ◌-◌, ◌<◌, ◌≤◌, inl, inr, Bool, true, false, cond, ltb}
-use Rattle.std.proofs.Common.{◌&&◌, List, [], ◌∷◌, length, map, drop, get_or, is_some, arith, length-drop}
+use Rattle.std.proofs.Common.{◌&&◌, List, [], ◌∷◌, length, map, get_or, is_some, not, arith}
 use Rattle.std.specs.Prelude.{All, Option, Some, None, slice_get}
 use Rattle.std.proofs.lemmas.Option.{get_or_from_slice_get}
 use Rattle.flow_word.specs.declared.access.Step.{Step}
-use Rattle.engine_view.specs.Rooms.{query_bound}
-use Rattle.engine_view.proofs.Emitted.{queries_mono}
 use Rattle.std.proofs.lemmas.Bool.{both_ways, and_from, and_parts, or_left, or_right, lt-ltb, le-leb}
 use Rattle.std.proofs.lemmas.Bool.Decides.{eqb_tells}
 use Rattle.std.proofs.lemmas.List.Elements.{All-head, All-tail}
@@ -38,17 +36,18 @@ use Rattle.time_engine.specs.Conditions.{IsAccess}
 use Rattle.event_graph.specs.Lanes.{no_lane, lane_at}
 use Rattle.engine_view.specs.Held.{Held, no_step, step_of, emitted_of, seen, queries_in, flags_of, are_among, values_at, replies_by}
 use Rattle.engine_view.specs.Held.{core_of}
-use Rattle.engine_view.specs.Shown.{IsSound, queries_before}
+use Rattle.engine_view.specs.Shown.{IsSound}
 use Rattle.engine_view.proofs.Reading.{reply_is}
 use Rattle.engine_view.proofs.Answered.{among_is}
 use Rattle.sim_core.specs.Found.{replies_now}
 use Rattle.engine_view.specs.declared.engine.Engine.{Engine}
 use Rattle.engine_view.specs.Engines.{held_in}
 use Rattle.sim_core.specs.Runs.{IsRunOf, IsAnswered, IsCore, over_of, rest_behind}
-use Rattle.sim_core.proofs.Replying.{replies_found, AreAsMany, found_fit}
 use Rattle.sim_core.proofs.Resting.{rest_is}
 use Rattle.sim_core.proofs.Staying.{tell, fed_is}
-use Rattle.sim_core.proofs.Finding.{values_now, are_found, not_found}
+use Rattle.run_ahead.specs.Replies.{value_now, first_missing}
+use Rattle.run_ahead.proofs.Finding.{replies_fit, none_missing}
+use Rattle.sim_core.proofs.Finding.{replies_found, values_now, are_found, not_found}
 use Rattle.engine_report.proofs.Asking.{same_kind}
 
 -- ---- replies
@@ -78,12 +77,6 @@ fit_same before (r ∷ rs) (a ∷ xs) [] e = refl
 fit_same before (r ∷ rs) (a ∷ xs) (q ∷ qs) e =
     let kind = same_kind r a cc in
     let later = fit_same before rs xs qs cc in cc
-
-pub as_many : (xs : List Access) (bs : List Bool) → FlagsFit (map seen xs) bs → AreAsMany xs bs
-as_many [] [] f = tt
-as_many [] (b ∷ bs) f = f
-as_many (a ∷ xs) [] f = f
-as_many (a ∷ xs) (b ∷ bs) (f, fs) = as_many xs bs fs
 
 -- each pop has its value, as the theory says it
 there_same : (channels : List Channel) (V : ℕ → List ℕ) (t : Side → ℕ → ℕ) (xs : List Access) (bs : List Bool)
@@ -119,8 +112,8 @@ module _ (p : Plan) {h : Held} (s : IsSound (design p) h) (b : AreOwnMarks (desi
   abbrev step_accesses : List Access
   step_accesses = (step_of h i k).accesses
 
-  abbrev os : List Bool
-  os = drop (step_of h i k).first_query (log_at h.logs i).outcomes
+  abbrev outs : List Bool
+  outs = (log_at h.logs i).outcomes
 
   pub seen_same : map bridge.seen (requests_of p (i, x.state i k)) ≡ map seen step_accesses
   seen_same = s.accesses i k less
@@ -143,21 +136,21 @@ module _ (p : Plan) {h : Held} (s : IsSound (design p) h) (b : AreOwnMarks (desi
       ∙ there_same h.channels (core_values d x) (λ side c. core_tally d x i side c k) step_accesses (flags_of h i k) (s.ordinals i k less)
       (λ j e l. s.values (get_or step_accesses j e).channel (accesses_inside inside j e l).channel)
 
-  pub enough : are_among (step_of h i k) (length (log_at h.logs i).outcomes) ≡ true → queries_in step_accesses ≤ length os
+  pub enough : are_among (step_of h i k) (length outs) ≡ true → queries_in step_accesses
+      ≤ length outs - (step_of h i k).first_query
   enough a =
-      let n = length-drop (step_of h i k).first_query (log_at h.logs i).outcomes in
-      elim (among_is (step_of h i k) (length (log_at h.logs i).outcomes) a) [ inl q ↦ omega arith | inr q ↦ omega arith ]
+      elim (among_is (step_of h i k) (length outs) a) [ inl q ↦ omega arith | inr q ↦ omega arith ]
 
   -- the replies that are found are those that the core tells
-  pub found_told : {rs : List Reply} → replies_now h.channels step_accesses os ≡ Some rs → rs ≡ tell p x i k
-  found_told {rs} e = (are_found h.channels step_accesses os rs e).replies ∙ sym tell_is
+  pub found_told : {rs : List Reply} → replies_now h i (step_of h i k) ≡ Some rs → rs ≡ tell p x i k
+  found_told {rs} e = (are_found h.channels outs step_accesses (step_of h i k).first_query rs e).replies ∙ sym tell_is
 
   -- all are found where the step's outcomes are recorded and its values are there
   pub are_told : i < length p.design.modules → x.answered i k ≡ true → values_there d x i k ≡ true
-      → replies_now h.channels step_accesses os ≡ None → ⊥
+      → replies_now h i (step_of h i k) ≡ None → ⊥
   are_told inside answered there e =
       let among = (and_parts (ltb k (emitted_of h i)) (are_among (step_of h i k) (length (log_at h.logs i).outcomes)) answered).1 in
-      not_found h.channels step_accesses os e (enough among) (sym (there_is inside) ∙ there)
+      not_found h.channels outs step_accesses (step_of h i k).first_query e (enough among) (sym (there_is inside) ∙ there)
 
 -- ---- the step that waits
 
@@ -178,35 +171,27 @@ module _ {p : Plan} {engine : Engine} {ends : List (Option Advance)} {runs : Lis
   abbrev waiting : List Access
   waiting = (step_of h i k).accesses
 
-  abbrev told_so_far : List Bool
-  told_so_far = drop (step_of h i k).first_query (log_at h.logs i).outcomes
-
   pub state_is : rest.state ≡ now.state i k
   state_is =
       (rest_is p core.fits now core.agreed.marks i inside k k (omega arith) (omega arith)).state
       ∙ sym (core.agreed.marks.own_step i k emitted)
 
   -- all replies are found
-  pub fed_fits : {rs : List Reply} → replies_now h.channels waiting told_so_far ≡ Some rs
-      → all_fit (accesses_at p i rest) rs ≡ true
+  pub fed_fits : {rs : List Reply} → replies_now h i (step_of h i k) ≡ Some rs → all_fit (accesses_at p i rest) rs ≡ true
   fed_fits {rs} e =
-      let f = are_found h.channels waiting told_so_far rs e in
-      ap (λ (q : List Reply). all_fit (accesses_at p i rest) q) f.replies
-      ∙ (fit_same (done_in rest.steps)
-      (requests_of p (i, rest.state)) waiting _
+      fit_same (done_in rest.steps) (requests_of p (i, rest.state)) waiting rs
       (ap (λ (z : ModuleState). map bridge.seen (requests_of p (i, z))) state_is ∙ seen_same p core.sound core.agreed.marks i k emitted)
-      ∙ found_fit h.channels waiting (flags_of h i k) (as_many waiting (flags_of h i k)
-      (flags_fit p core.sound core.agreed.marks i k emitted)))
+      ∙ replies_fit (log_at h.logs i).outcomes (value_now h.channels) (step_of h i k).first_query waiting rs e
 
-  pub fed_rest : {rs : List Reply} → replies_now h.channels waiting told_so_far ≡ Some rs
+  pub fed_rest : {rs : List Reply} → replies_now h i (step_of h i k) ≡ Some rs
       → next_rest p i rest rs ≡ rest_behind p now i (emitted_of h i)
   fed_rest {rs} e =
       ap (next_rest p i rest) (found_told p core.sound core.agreed.marks i k emitted e)
       ∙ (sym (fed_is p now i k) ∙ ap (rest_behind p now i) newest)
 
-  pub fed_answered : {rs : List Reply} → replies_now h.channels waiting told_so_far ≡ Some rs → IsAnswered p now i
+  pub fed_answered : {rs : List Reply} → replies_now h i (step_of h i k) ≡ Some rs → IsAnswered p now i
   fed_answered {rs} e j q =
-      let f = are_found h.channels waiting told_so_far rs e in
+      let f = are_found h.channels (log_at h.logs i).outcomes waiting (step_of h i k).first_query rs e in
       let same : j ≡ k = omega arith in (
         subst (λ (n : ℕ). now.answered i n ≡ true) (sym same)
             (and_from (ltb k (emitted_of h i)) _ (lt-ltb k (emitted_of h i) emitted) (among f.enough)),
@@ -214,9 +199,9 @@ module _ {p : Plan} {engine : Engine} {ends : List (Option Advance)} {runs : Lis
             (there_is p core.sound core.agreed.marks i k emitted inside ∙ f.there),
       )
     where
-      among : queries_in waiting ≤ length told_so_far → are_among (step_of h i k) (length (log_at h.logs i).outcomes) ≡ true
+      among : queries_in waiting ≤ length (log_at h.logs i).outcomes - (step_of h i k).first_query
+          → are_among (step_of h i k) (length (log_at h.logs i).outcomes) ≡ true
       among l =
-          let n = length-drop (step_of h i k).first_query (log_at h.logs i).outcomes in
           elim (eqb_tells (queries_in waiting) 0) [
             | inl q ↦ or_left _ _ q.0
             | inr q ↦ let some = q.1 in or_right _ _ (le-leb ((step_of h i k).first_query + queries_in waiting)
@@ -224,7 +209,7 @@ module _ {p : Plan} {engine : Engine} {ends : List (Option Advance)} {runs : Lis
           ]
 
   -- or some are not there
-  pub not_fed : replies_now h.channels waiting told_so_far ≡ None → IsAnswered p now i → ⊥
+  pub not_fed : replies_now h i (step_of h i k) ≡ None → IsAnswered p now i → ⊥
   not_fed e answered =
       let (recorded, there) = answered k newest in are_told p core.sound core.agreed.marks i k emitted inside recorded there e
 
@@ -232,26 +217,32 @@ module _ {p : Plan} {engine : Engine} {ends : List (Option Advance)} {runs : Lis
     step_is : step_of h i k ≡ step
     step_is = get_or_from_slice_get (lane_at h.lanes i).steps k step no_step there
 
-    abbrev replies_of : Step → Option (List Reply)
-    replies_of t = replies_now h.channels t.accesses (drop t.first_query (log_at h.logs i).outcomes)
-
     pub newest_inside : All (IsAccess h.channels) step.accesses
     newest_inside = subst (λ (t : Step). All (IsAccess h.channels) t.accesses) step_is
         (accesses_inside p core.sound core.agreed.marks i k emitted inside)
 
-    pub newest_few : queries_before h i (emitted_of h i) < query_bound → step.first_query < query_bound
-    newest_few few =
-        let first = core.sound.first_query i k emitted in
-        let most = queries_mono h i k (emitted_of h i) (omega arith) in
-        subst (λ (t : Step). t.first_query < query_bound) step_is (omega arith)
+    -- whether one is missing
+    abbrev missing : Option ℕ
+    missing = first_missing (log_at h.logs i).outcomes (value_now h.channels) step.first_query step.accesses
 
-    pub newest_found : {o : Option (List Reply)} → o ≡ replies_of step → is_some o ≡ true → IsAnswered p now i
-    newest_found {o = None} e q = cc
-    newest_found {o = Some rs} e q = fed_answered (ap replies_of step_is ∙ sym e)
+    both : is_some missing ≡ not (is_some (replies_now h i (step_of h i k)))
+    both =
+        none_missing (log_at h.logs i).outcomes (value_now h.channels) step.first_query step.accesses
+        ∙ ap (λ (t : Step). not (is_some (replies_now h i t))) (sym step_is)
 
-    pub newest_missed : {o : Option (List Reply)} → o ≡ replies_of step → is_some o ≡ false → IsAnswered p now i → ⊥
-    newest_missed {o = None} e q = not_fed (ap replies_of step_is ∙ sym e)
-    newest_missed {o = Some rs} e q = cc
+    pub newest_found : is_some missing ≡ false → IsAnswered p now i
+    newest_found e = go (replies_now h i (step_of h i k)) refl
+      where
+        go : (o : Option (List Reply)) → replies_now h i (step_of h i k) ≡ o → IsAnswered p now i
+        go None q = let z = sym e ∙ (both ∙ ap (λ (o : Option (List Reply)). not (is_some o)) q) in cc
+        go (Some rs) q = fed_answered q
+
+    pub newest_missed : is_some missing ≡ true → IsAnswered p now i → ⊥
+    newest_missed e = go (replies_now h i (step_of h i k)) refl
+      where
+        go : (o : Option (List Reply)) → replies_now h i (step_of h i k) ≡ o → IsAnswered p now i → ⊥
+        go None q = not_fed q
+        go (Some rs) q = let z = sym e ∙ (both ∙ ap (λ (o : Option (List Reply)). not (is_some o)) q) in cc
 
 -- ---- the step that a run is asked about
 
@@ -281,13 +272,10 @@ module _ {p : Plan} {engine : Engine} {ends : List (Option Advance)} {runs : Lis
     is = get_or_from_slice_get (lane_at g.lanes i).steps k step no_step there
 
     abbrev found : Step → Option (List Reply)
-    found t = replies_now g.channels t.accesses (drop t.first_query (log_at g.logs i).outcomes)
+    found = replies_now g i
 
     pub asked_inside : All (IsAccess g.channels) step.accesses
     asked_inside = newest_inside core asked_some within there
-
-    pub asked_few : queries_before g i (emitted_of g i) < query_bound → step.first_query < query_bound
-    asked_few = newest_few core asked_some within there
 
     pub asked_not_fed : found step ≡ None → MayRun (design p) (core_of (design p) g) i → ⊥
     asked_not_fed e may =

@@ -1,13 +1,11 @@
--- The replies that are found for a step, and what their being there means.
-use Rattle.std.proofs.Common.{◌≡◌, refl, sym, ap, ap₂, subst, ◌∙◌, ℕ, ◌+◌, ◌-◌, ◌<◌, ◌≤◌, ◌⊎◌, inl, inr, Bool, true, false, cond}
-use Rattle.std.proofs.Common.{not, ltb, ◌&&◌, ◌||◌, List, [], ◌∷◌, ◌++◌, length, drop, get_or, Option, Some, None, is_some, arith}
-use Rattle.std.proofs.Common.{append_assoc}
+-- What it means that the replies to a step are there.
+use Rattle.std.proofs.Common.{◌≡◌, refl, sym, ap, ap₂, ◌∙◌, ℕ, suc, ◌+◌, ◌-◌, ◌≤◌, ◌⊎◌, inl, inr, Bool, true, false, cond}
+use Rattle.std.proofs.Common.{not, ltb, ◌&&◌, ◌||◌, List, [], ◌∷◌, length, drop, get_or, Option, Some, None, is_some, arith}
 use Rattle.std.specs.Prelude.{slice_get, unwrap_or}
-use Rattle.std.specs.Int.{from_bool}
-use Rattle.std.proofs.lemmas.Bool.{cases_Bool, and_from, and_parts}
-use Rattle.std.proofs.lemmas.List.{drop_more}
-use Rattle.std.proofs.lemmas.Option.{unwrap_or-slice_get, slice_get-get_or, slice_get_past}
+use Rattle.std.proofs.lemmas.Bool.{and_from, and_parts, lt-ltb, ltb-true}
 use Rattle.std.proofs.lemmas.Bool.Decides.{nat_tests}
+use Rattle.std.proofs.lemmas.List.{drop-drop}
+use Rattle.std.proofs.lemmas.Option.{unwrap_or-slice_get, slice_get-get_or, slice_get_past}
 use Rattle.flow_word.specs.declared.access.Access.{Access}
 use Rattle.flow_word.specs.declared.access.Kind.{Kind}
 use Rattle.flow_design.specs.declared.state.Reply.{Reply}
@@ -16,53 +14,19 @@ use Rattle.lockstep_defs.specs.Channels.{reply_by}
 use Rattle.flow_word.specs.Kinds.{side_of, is_blocking, is_taking, same_side}
 use Rattle.flow_word.specs.declared.access.Side.TheVariants.{Pop}
 use Rattle.engine_view.specs.Held.{seen, possible_by, queries_in, flags_by, values_at}
-use Rattle.engine_view.proofs.Adding.{get_drop, drop_next}
+use Rattle.engine_view.proofs.Adding.{get_drop}
 use Rattle.event_timing.specs.Core.{pops_now}
-use Rattle.run_ahead.specs.Replies.{reply_now, put_first, put_before}
-use Rattle.sim_core.specs.Found.{value_now, replies_now, FindsOn}
-use Rattle.sim_core.proofs.Replying.{replies_found}
+use Rattle.run_ahead.specs.Replies.{reply_now, put_first, told_by, replies_from, value_now}
+use Rattle.run_ahead.proofs.Parts.{first_parts}
 use Rattle.flow_word.proofs.Ranges.{some_is}
 use Rattle.engine_view.proofs.Comparing.{queries_cons}
 
--- ---- the loop
-
-put_more : (rs : List Reply) (r : Reply) (q : Option (List Reply)) → put_before rs (put_first (Some r) q) ≡ put_before (rs ++ r ∷ []) q
-put_more rs r None = refl
-put_more rs r (Some qs) = rw append_assoc refl
-
-module _ (channels : List Channel) (xs : List Access) (outs : List Bool) (first : ℕ) (rs : List Reply) (i n : ℕ) (d : Access)
-    (r : FindsOn channels xs outs first rs i n) (l : i < length xs) where
-  abbrev a : Access
-  a = get_or xs i d
-
-  found_here : replies_now channels xs (drop first outs)
-      ≡ put_before rs (put_first (reply_now a.kind (slice_get outs n) (value_now channels a))
-      (replies_now channels (drop (i + 1) xs) (drop (n + cond (is_blocking a.kind) 0 1) outs)))
-  found_here =
-      r.found
-      ∙ (ap (λ (ys : List Access). put_before rs (replies_now channels ys (drop n outs))) (drop_more xs i d l)
-      ∙ ap₂ (λ (o : Option Bool) (os : List Bool). put_before rs (put_first (reply_now a.kind o (value_now channels a))
-      (replies_now channels (drop (i + 1) xs) os))) (get_drop n outs) (drop_next (is_blocking a.kind) n outs))
-
-  pub found_none : reply_now a.kind (slice_get outs n) (value_now channels a) ≡ None → replies_now channels xs (drop first outs) ≡ None
-  found_none e = found_here ∙ ap (λ (o : Option Reply). put_before rs (put_first o
-      (replies_now channels (drop (i + 1) xs) (drop (n + cond (is_blocking a.kind) 0 1) outs)))) e
-
-  pub found_more : (reply : Reply) → reply_now a.kind (slice_get outs n) (value_now channels a) ≡ Some reply → (m : ℕ)
-      → m ≡ n + from_bool (not (is_blocking a.kind))
-      → FindsOn channels xs outs first (rs ++ reply ∷ []) (i + 1) m
-  found_more reply e m next = subst (FindsOn channels xs outs first (rs ++ reply ∷ []) (i + 1)) (sym (next ∙ counted (is_blocking a.kind)))
-      (record {
-        found = found_here ∙ (ap (λ (o : Option Reply). put_before rs (put_first o
-            (replies_now channels (drop (i + 1) xs) (drop (n + cond (is_blocking a.kind) 0 1) outs)))) e ∙ put_more rs reply _);
-        within = let w = r.within in elim (cases_Bool (is_blocking a.kind)) [ inl q ↦ rw q (omega arith) | inr q ↦ rw q (omega arith) ];
-      })
-    where
-      counted : (b : Bool) → n + from_bool (not b) ≡ n + cond b 0 1
-      counted true = refl
-      counted false = refl
-
--- ---- what it means
+-- the replies, by an access's kind, whether it is possible, and the value at its ordinal
+abbrev pub replies_found : List Channel → List Access → List Bool → List Reply
+replies_found channels [] flags = []
+replies_found channels (a ∷ as') [] = []
+replies_found channels (a ∷ as') (b ∷ bs) = reply_by a.kind b (get_or (values_at channels a.channel) (a.ordinal - 1) 0) ∷ replies_found
+    channels as' bs
 
 -- each pop has its value
 abbrev pub values_now : List Channel → List Access → List Bool → Bool
@@ -89,84 +53,74 @@ no_reply : (k : Kind) (o : Option Bool) (v : Option ℕ) → reply_now k o v ≡
     → (needs k (flag_now k o) ≡ true → is_some v ≡ true) → ⊥
 no_reply k o v e f g = grind arith
 
-record IsPut (r : Option Reply) (q : Option (List Reply)) (rs : List Reply) : Type 0 where
-  first : Reply
-  rest : List Reply
-  first_is : r ≡ Some first
-  rest_is : q ≡ Some rest
-  is : rs ≡ first ∷ rest
-
-put_is : (r : Option Reply) (q : Option (List Reply)) (rs : List Reply) → put_first r q ≡ Some rs → IsPut r q rs
-put_is None q rs e = cc
-put_is (Some r) None rs e = cc
-put_is (Some r) (Some qs) rs e = record { first = r; rest = qs; first_is = refl; rest_is = refl; is = sym (some_is (r ∷ qs) rs e) }
-
 put_none : (r : Option Reply) (q : Option (List Reply)) → put_first r q ≡ None → (r ≡ None) ⊎ (q ≡ None)
 put_none None q e = inl refl
 put_none (Some r) None e = inr refl
 put_none (Some r) (Some qs) e = cc
 
-pub record AreFound (channels : List Channel) (xs : List Access) (os : List Bool) (rs : List Reply) : Type 0 where
-  pub replies : rs ≡ replies_found channels xs (flags_by xs os)
-  pub enough : queries_in xs ≤ length os
-  pub there : values_now channels xs (flags_by xs os) ≡ true
+-- the flag of an access, and those behind it
+pub flags_from : (a : Access) (xs : List Access) (outs : List Bool) (n : ℕ) → flags_by (a ∷ xs) (drop n outs)
+    ≡ flag_now a.kind (slice_get outs n) ∷ flags_by xs (drop (told_by a.kind n) outs)
+flags_from a xs outs n =
+    let first = get_drop n outs in
+    let rest = drop-drop 1 n outs in grind arith
 
-pub flags_first : (a : Access) (xs : List Access) (os : List Bool) → flags_by (a ∷ xs) os ≡ flag_now a.kind (slice_get os 0) ∷ flags_by xs
-    (cond (is_blocking a.kind) os (drop 1 os))
-flags_first a xs os = grind arith
+pub some_there : {X : Type 0} (d : X) (xs : List X) (n : ℕ) → is_some (slice_get xs n) ≡ ltb n (length xs)
+some_there d xs n = grind (arith, nat_tests, slice_get-get_or xs n d, slice_get_past xs n)
 
-some_there : (xs : List ℕ) (n : ℕ) → is_some (slice_get xs n) ≡ ltb n (length xs)
-some_there xs n = grind (arith, nat_tests, slice_get-get_or xs n 0, slice_get_past xs n)
+module _ (channels : List Channel) (outs : List Bool) where
+  pub record AreFound (xs : List Access) (n : ℕ) (rs : List Reply) : Type 0 where
+    pub replies : rs ≡ replies_found channels xs (flags_by xs (drop n outs))
+    pub enough : queries_in xs ≤ length outs - n
+    pub there : values_now channels xs (flags_by xs (drop n outs)) ≡ true
 
-pub are_found : (channels : List Channel) (xs : List Access) (os : List Bool) (rs : List Reply) → replies_now channels xs os ≡ Some rs
-    → AreFound channels xs os rs
-are_found channels [] os rs e = record { replies = sym (some_is [] rs e); enough = omega arith; there = refl }
-are_found channels (a ∷ xs) os rs e =
-    let p = put_is (reply_now a.kind (slice_get os 0) (value_now channels a))
-    (replies_now channels xs (cond (is_blocking a.kind) os (drop 1 os))) rs e in
-    let f = are_found channels xs (cond (is_blocking a.kind) os (drop 1 os)) p.rest p.rest_is in
-    let y = reply_is_there a.kind (slice_get os 0) (value_now channels a) p.first p.first_is in
-    record {
-      replies = p.is ∙ (ap₂ (λ (q : Reply) (qs : List Reply). q ∷ qs)
-          (y.is ∙ ap (reply_by a.kind (flag_now a.kind (slice_get os 0)))
-          (unwrap_or-slice_get (values_at channels a.channel) (a.ordinal - 1) 0)) f.replies
-          ∙ ap (λ (bs : List Bool). replies_found channels (a ∷ xs) bs) (sym (flags_first a xs os)));
-      enough = rw (queries_cons a xs) (count os (is_blocking a.kind) f.enough y.outcome);
-      there = rw (flags_first a xs os) (and_from _ _ (value_there y.value) f.there);
-    }
-  where
-    count : (os : List Bool) (b : Bool) → queries_in xs ≤ length (cond b os (drop 1 os)) → (b ≡ false → is_some (slice_get os 0) ≡ true)
-        → cond b 0 1 + queries_in xs ≤ length os
-    count [] b l f = grind arith
-    count (o ∷ os) b l f = grind arith
+  pub are_found : (xs : List Access) (n : ℕ) (rs : List Reply) → replies_from outs (value_now channels) n xs ≡ Some rs → AreFound xs n rs
+  are_found [] n rs e = record { replies = sym (some_is [] rs e); enough = omega arith; there = refl }
+  are_found (a ∷ xs) n rs e =
+      let (first, (rest, (first_is, (rest_is, is)))) = first_parts (reply_now a.kind (slice_get outs n) (value_now channels a))
+      (replies_from outs (value_now channels) (told_by a.kind n) xs) rs e in
+      let f = are_found xs (told_by a.kind n) rest rest_is in
+      let y = reply_is_there a.kind (slice_get outs n) (value_now channels a) first first_is in
+      record {
+        replies = is ∙ (ap₂ (λ (q : Reply) (qs : List Reply). q ∷ qs)
+            (y.is ∙ ap (reply_by a.kind (flag_now a.kind (slice_get outs n)))
+            (unwrap_or-slice_get (values_at channels a.channel) (a.ordinal - 1) 0)) f.replies
+            ∙ ap (λ (bs : List Bool). replies_found channels (a ∷ xs) bs) (sym (flags_from a xs outs n)));
+        enough = rw (queries_cons a xs) (count (is_blocking a.kind) f.enough y.outcome);
+        there = rw (flags_from a xs outs n) (and_from _ _ (value_there y.value) f.there);
+      }
+    where
+      count : (b : Bool) → queries_in xs ≤ length outs - cond b n (suc n) → (b ≡ false → is_some (slice_get outs n) ≡ true)
+          → cond b 0 1 + queries_in xs ≤ length outs - n
+      count true l f = omega arith
+      count false l f = let less = ltb-true n (length outs) (sym (some_there true outs n) ∙ f refl) in omega arith
 
-    value_there : (needs a.kind (flag_now a.kind (slice_get os 0)) ≡ true → is_some (value_now channels a) ≡ true)
-        → (not (pops_now (seen a) (flag_now a.kind (slice_get os 0))) || ltb (a.ordinal - 1) (length (values_at channels a.channel))) ≡ true
-    value_there f = let there = some_there (values_at channels a.channel) (a.ordinal - 1) in grind arith
+      value_there : (needs a.kind (flag_now a.kind (slice_get outs n)) ≡ true → is_some (value_now channels a) ≡ true)
+          → (not (pops_now (seen a) (flag_now a.kind (slice_get outs n))) || ltb (a.ordinal - 1) (length (values_at channels a.channel)))
+          ≡ true
+      value_there f = let there = some_there 0 (values_at channels a.channel) (a.ordinal - 1) in grind arith
 
-pub not_found : (channels : List Channel) (xs : List Access) (os : List Bool) → replies_now channels xs os ≡ None
-    → queries_in xs ≤ length os → values_now channels xs (flags_by xs os) ≡ true → ⊥
-not_found channels [] os e l t = cc
-not_found channels (a ∷ xs) os e l t =
-    let t' = rw (flags_first a xs os) at t in
-    let (mine, rest) = and_parts (not (pops_now (seen a) (flag_now a.kind (slice_get os 0))) || ltb (a.ordinal - 1)
-    (length (values_at channels a.channel))) (values_now channels xs (flags_by xs (cond (is_blocking a.kind) os (drop 1 os)))) t' in
-    let l' = rw (queries_cons a xs) at l in
-    elim (put_none (reply_now a.kind (slice_get os 0) (value_now channels a))
-    (replies_now channels xs (cond (is_blocking a.kind) os (drop 1 os))) e) [
-      | inl q ↦ no_reply a.kind (slice_get os 0) (value_now channels a) q (λ b. outcome os b (rw b at l')) (λ n. value n mine)
-      | inr q ↦ not_found channels xs (cond (is_blocking a.kind) os (drop 1 os)) q (fewer os (is_blocking a.kind) l') rest
-    ]
-  where
-    outcome : (os : List Bool) → is_blocking a.kind ≡ false → 1 + queries_in xs ≤ length os → is_some (slice_get os 0) ≡ true
-    outcome [] b l = absurd (omega arith)
-    outcome (o ∷ os) b l = refl
+  pub not_found : (xs : List Access) (n : ℕ) → replies_from outs (value_now channels) n xs ≡ None → queries_in xs ≤ length outs - n
+      → values_now channels xs (flags_by xs (drop n outs)) ≡ true → ⊥
+  not_found [] n e l t = cc
+  not_found (a ∷ xs) n e l t =
+      let t' = rw (flags_from a xs outs n) at t in
+      let (mine, rest) = and_parts (not (pops_now (seen a) (flag_now a.kind (slice_get outs n))) || ltb (a.ordinal - 1)
+      (length (values_at channels a.channel))) (values_now channels xs (flags_by xs (drop (told_by a.kind n) outs))) t' in
+      let l' = rw (queries_cons a xs) at l in
+      elim (put_none (reply_now a.kind (slice_get outs n) (value_now channels a))
+      (replies_from outs (value_now channels) (told_by a.kind n) xs) e) [
+        | inl q ↦ no_reply a.kind (slice_get outs n) (value_now channels a) q (λ b. outcome (rw b at l')) (λ k. value k mine)
+        | inr q ↦ not_found xs (told_by a.kind n) q (fewer (is_blocking a.kind) l') rest
+      ]
+    where
+      outcome : 1 + queries_in xs ≤ length outs - n → is_some (slice_get outs n) ≡ true
+      outcome l = some_there true outs n ∙ lt-ltb n (length outs) (omega arith)
 
-    fewer : (os : List Bool) (b : Bool) → cond b 0 1 + queries_in xs ≤ length os → queries_in xs ≤ length (cond b os (drop 1 os))
-    fewer [] b l = grind arith
-    fewer (o ∷ os) b l = grind arith
+      fewer : (b : Bool) → cond b 0 1 + queries_in xs ≤ length outs - n → queries_in xs ≤ length outs - cond b n (suc n)
+      fewer true l = omega arith
+      fewer false l = omega arith
 
-    value : needs a.kind (flag_now a.kind (slice_get os 0)) ≡ true → (not (pops_now (seen a) (flag_now a.kind (slice_get os 0))) || ltb
-        (a.ordinal - 1) (length (values_at channels a.channel))) ≡ true
-        → is_some (value_now channels a) ≡ true
-    value n m = let there = some_there (values_at channels a.channel) (a.ordinal - 1) in grind arith
+      value : needs a.kind (flag_now a.kind (slice_get outs n)) ≡ true → (not (pops_now (seen a) (flag_now a.kind (slice_get outs n)))
+          || ltb (a.ordinal - 1) (length (values_at channels a.channel))) ≡ true → is_some (value_now channels a) ≡ true
+      value k m = let there = some_there 0 (values_at channels a.channel) (a.ordinal - 1) in grind arith

@@ -36,12 +36,14 @@ use Rattle.sim_core.specs.Views.{CoreView, theory_of}
 use Rattle.sim_core.specs.Drives.{Goes, IsDiffering}
 use Rattle.sim_core.specs.Edits.{IsAsBefore, IsRetimed, IsChanged}
 use Rattle.sim_core.specs.Records.{IsEditedOn, HasOtherAnswer}
-use Rattle.sim_core.proofs.Rounds.{acts_join, determined_inside}
+use Rattle.event_timing.proofs.Deciding.{determined_inside}
+use Rattle.sim_core.proofs.Rounds.{acts_join}
 use Rattle.sim_core.proofs.Cut.{cut_of, cut_stays}
 use Rattle.sim_core.proofs.Logged.{answered_back, outcomes_on}
 use Rattle.sim_core.proofs.Otherwise.{AreOtherAt, other_answer}
 use Rattle.sim_core.proofs.RecordsGrow.{all_recorded}
-use Rattle.sim_core.proofs.SameSteps.{same_steps, same_flags, same_answered, all_asked}
+use Rattle.retime.proofs.Counts.{same_steps}
+use Rattle.sim_core.proofs.SameSteps.{same_flags, same_answered, all_asked}
 use Rattle.sim_core.proofs.Unadded.{IsUnadded, unadded_no_run}
 
 -- a module with a step is one of the lanes

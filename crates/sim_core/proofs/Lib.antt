@@ -1,7 +1,6 @@
 pub mod Resting
 pub mod Marking
 pub mod Finding
-pub mod Replying
 pub mod Staying
 pub mod Fed
 pub mod Keeping

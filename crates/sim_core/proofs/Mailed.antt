@@ -23,9 +23,10 @@ use Rattle.timing_bridge.specs.Designs.{told_all, seen}
 use Rattle.engine_view.specs.Held.{queries_in}
 use Rattle.engine_view.specs.Answered.{outcome_by}
 use Rattle.run_ahead.specs.declared.mail.Mail.{Mail}
-use Rattle.run_ahead.specs.Replies.{reply_now, put_first, has_value}
-use Rattle.run_ahead.specs.Mails.{next_value, told_by, replies_in, one_more, taken_after}
-use Rattle.run_ahead.proofs.Parts.{some_is, first_parts, more_length}
+use Rattle.run_ahead.specs.Replies.{reply_now, put_first, has_value, told_by}
+use Rattle.run_ahead.specs.Mails.{next_value, replies_in, one_more, taken_after}
+use Rattle.flow_word.proofs.Ranges.{some_is}
+use Rattle.run_ahead.proofs.Parts.{first_parts, more_length}
 use Rattle.sim_core.specs.Tasks.{outcomes_in}
 
 -- the access takes a value

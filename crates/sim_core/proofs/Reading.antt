@@ -9,7 +9,7 @@ use Rattle.flow_word.specs.declared.access.Port.{Port}
 use Rattle.flow_word.specs.declared.access.Side.TheVariants.{Pop}
 use Rattle.fifo_table.specs.Channels.{Channel}
 use Rattle.engine_view.specs.Held.{values_at}
-use Rattle.run_ahead.proofs.Parts.{some_is}
+use Rattle.flow_word.proofs.Ranges.{some_is}
 use Rattle.sim_core.specs.Lent.{mailed, AreEmpty, AreMailed, HasAllPops, IsReadingPorts}
 
 module _ (channels : List Channel) (readers : List ℕ) (m : ℕ) (popped : List ℕ) (ports : List Port) where

@@ -14,21 +14,13 @@ use Rattle.event_timing.proofs.Assigning.{put_same, put_other, put_at_same, put_
 use Rattle.event_timing.proofs.Beside.{actions_grow}
 use Rattle.retime.specs.Edits.{RecordGrows}
 use Rattle.retime.proofs.Growing.{answered_or_not}
+use Rattle.retime.proofs.Outcomes.{NoneAdded, AreSure}
 
 module _ {S : Type 0} (d : Design S) where
-  -- each query of z with an outcome had it in x
-  abbrev pub NoneAdded : Core S → Core S → ℕ → Type 0
-  NoneAdded x z m = (k : ℕ) → k < z.emitted m → has_query (core_accesses d z m k) ≡ true → z.answered m k ≡ true
-      → (k < x.emitted m) × (x.answered m k ≡ true)
-
-  -- each query with an outcome has a verified one
-  abbrev pub AreSure : Core S → ℕ → Type 0
-  AreSure z m = (k : ℕ) → k < z.emitted m → has_query (core_accesses d z m k) ≡ true → z.answered m k ≡ true → z.verified m k ≡ true
-
   abbrev StayVerified : Core S → Core S → ℕ → Type 0
   StayVerified x z m = (k : ℕ) → k < x.emitted m → x.verified m k ≡ true → z.verified m k ≡ true
 
-  none_self : (x : Core S) (m : ℕ) → NoneAdded x x m
+  none_self : (x : Core S) (m : ℕ) → NoneAdded d x x m
   none_self x m k l q a = (l, a)
 
   -- ---- a step more
@@ -37,7 +29,7 @@ module _ {S : Type 0} (d : Design S) where
     abbrev z : Core S
     z = emit_step d x n s
 
-    step_none : (m : ℕ) → NoneAdded x z m
+    step_none : (m : ℕ) → NoneAdded d x z m
     step_none m k l q a =
         elim (eqb_tells m n) [
           | inl e ↦ subst (λ (j : ℕ). (k < x.emitted j) × (x.answered j k ≡ true)) (sym e.1)
@@ -70,9 +62,9 @@ module _ {S : Type 0} (d : Design S) where
         new : m ≡ n → k ≡ x.emitted n → ⊥
         new e f = let same = ap x.emitted e in absurd (omega arith)
 
-  run_grows : (x z : Core S) (n : ℕ) → z ≡ after_run d x n → (m : ℕ) → NoneAdded x z m × StayVerified x z m
+  run_grows : (x z : Core S) (n : ℕ) → z ≡ after_run d x n → (m : ℕ) → NoneAdded d x z m × StayVerified x z m
   run_grows x z n e m =
-      subst (λ (y : Core S). NoneAdded x y m × StayVerified x y m) (sym e)
+      subst (λ (y : Core S). NoneAdded d x y m × StayVerified x y m) (sym e)
       (elim (cases_Bool (d.is_over n (ready d n (newest d x n)))) [
         | inl over ↦ rw over (none_self x m, λ k l v. v)
         | inr goes ↦ rw goes (step_none x n (newest d x n) m, step_verified x n (newest d x n) m)
@@ -80,7 +72,7 @@ module _ {S : Type 0} (d : Design S) where
 
   -- ---- a cycle, or answers
 
-  record_grows : (x z : Core S) (m : ℕ) → RecordGrows x z m → (NoneAdded x z m ⊎ AreSure z m) × StayVerified x z m
+  record_grows : (x z : Core S) (m : ℕ) → RecordGrows x z m → (NoneAdded d x z m ⊎ AreSure d z m) × StayVerified x z m
   record_grows x z m r = (
     elim r.ends [
       | inl same ↦ inl (λ k l q a. (let e = r.emitted in omega arith, sym (same k) ∙ a))

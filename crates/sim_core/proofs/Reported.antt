@@ -33,7 +33,7 @@ use Rattle.engine_view.specs.Shown.{IsSound, queries_before}
 use Rattle.engine_view.specs.Turns.{first_of}
 use Rattle.engine_view.proofs.Answered.{among_is}
 use Rattle.engine_report.proofs.Replied.{front}
-use Rattle.sim_core.proofs.Logged.{sure_all}
+use Rattle.retime.proofs.Outcomes.{sure_all}
 use Rattle.retime.proofs.Recorded.{verified_are_timed}
 
 -- the outcomes of a module's steps with a cycle

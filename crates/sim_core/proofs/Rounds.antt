@@ -2,7 +2,7 @@
 use Rattle.std.proofs.Common.{◌≡◌, refl, sym, ap, subst, ◌∙◌, ℕ, suc, ◌+◌, ◌-◌, ◌*◌, ◌<◌, ◌≤◌, ◌⊎◌, inl, inr, true, false, Some}
 use Rattle.std.proofs.Common.{get_or, List, [], ◌∷◌, ◌++◌, length, arith}
 use Rattle.std.specs.Prelude.{slice_get}
-use Rattle.std.proofs.lemmas.Bool.{both_ways, cases_lt}
+use Rattle.std.proofs.lemmas.Bool.{both_ways}
 use Rattle.flow_design.specs.declared.plan.Plan.{Plan}
 use Rattle.flow_design.specs.StaticRules.{FitsEngine}
 use Rattle.query_log.specs.declared.query.Query.{Query}
@@ -12,10 +12,9 @@ use Rattle.event_timing.specs.Enablers.{candidate}
 use Rattle.event_timing.specs.Actions.{Action, Acts, ActsAll, MayRun, IsQuiet, after_run}
 use Rattle.event_timing.specs.Actions.Action.{Run, Assign, Answer, Earliest}
 use Rattle.event_timing.specs.Agreement.{IsAgreed, AllVerified}
-use Rattle.event_timing.specs.Permitted.{IsInside}
 use Rattle.event_timing.specs.Work.{work}
 use Rattle.event_timing.proofs.Agreement.{all_agree}
-use Rattle.event_timing.proofs.Answering.{first_emitted}
+use Rattle.event_timing.proofs.Deciding.{determined_inside}
 use Rattle.event_timing.proofs.Assigning.{put_same}
 use Rattle.event_timing.proofs.Running.{run_cases}
 use Rattle.event_timing.proofs.ActionBound.{more_work, most_work, never_found, all_rise}
@@ -32,15 +31,6 @@ use Rattle.sim_core.specs.Turns.{IsStill, IsEarliestOther, HasTurned, HasAnswere
 use Rattle.sim_core.specs.declared.visit.Visit.{Visit}
 use Rattle.sim_core.specs.declared.visit.Visit.TheVariants.{Acted, Differs, Idle}
 use Rattle.sim_core.specs.Drives.{given, Goes, GoesOn, HasTimed, HasVisited, AreOwn, IsGoingRound}
-
--- only a module of the design has a step whose cycle is determined
-pub determined_inside : {S : Type 0} (d : Design S) (x : Core S) → IsInside d x → (m c : ℕ) → candidate d (view d x) m ≡ Some c
-    → m < d.modules
-determined_inside {S} d x inside m c at =
-    elim (cases_lt m d.modules) [
-      | inl l ↦ l
-      | inr l ↦ absurd (omega (arith, first_emitted d x m c at, inside m l))
-    ]
 
 -- ---- each action makes another core
 

@@ -1,15 +1,13 @@
 -- Where the steps and the outcomes are the same, so are the marks: what is held may differ in cycles and in the depth of a FIFO.
 use Rattle.std.proofs.Common.{◌≡◌, sym, ap, ap₂, subst, ◌∙◌, ℕ, zero, suc, ◌<◌, ◌≤◌, inl, inr, Bool, ltb, ◌&&◌, ◌++◌}
-use Rattle.std.proofs.Common.{List, [], length, map, drop, get_or, arith}
+use Rattle.std.proofs.Common.{List, length, map, drop, arith}
 use Rattle.std.specs.Prelude.{slice_index_or, false}
-use Rattle.std.proofs.Math.ListN.{get_or-map}
 use Rattle.std.proofs.lemmas.Bool.{cases_lt, cond-false, le-ltb}
-use Rattle.std.proofs.lemmas.List.{length-map}
 use mathlib.Core.Path.{fun_ext}
 use Rattle.flow_word.specs.declared.access.Side.{Side}
 use Rattle.flow_word.specs.declared.access.Side.TheVariants.{Pop, Push}
 use Rattle.flow_word.specs.declared.access.Step.{Step}
-use Rattle.event_graph.specs.Lanes.{Lane, lane_at, no_lane}
+use Rattle.event_graph.specs.Lanes.{lane_at}
 use Rattle.query_log.specs.Logs.{Log, log_at}
 use Rattle.event_timing.specs.Machines.{Access, Reply, Design, ready, takes_in, values_in}
 use Rattle.event_timing.specs.Views.{own, Begins}
@@ -22,18 +20,6 @@ use Rattle.event_timing.proofs.OwnRuns.{own_0, own_more}
 use Rattle.event_timing.proofs.Values.{begins_self}
 use Rattle.engine_view.specs.Held.{Held, no_step, emitted_of, seen, flags_by, flags_of, are_among, has_all, waited, core_of}
 use Rattle.engine_view.specs.Shown.{IsSound}
-use Rattle.retime.specs.Rounds.{only_steps}
-
-steps_at : (lanes : List Lane) (m : ℕ) → get_or (only_steps lanes) m [] ≡ (lane_at lanes m).steps
-steps_at lanes m = get_or-map (λ (l : Lane). l.steps) lanes m no_lane
-
-pub same_steps : (old new : List Lane) → only_steps new ≡ only_steps old → (m : ℕ) → (lane_at new m).steps ≡ (lane_at old m).steps
-same_steps old new e m = sym (steps_at new m) ∙ (ap (λ (l : List (List Step)). get_or l m []) e ∙ steps_at old m)
-
-pub same_length : (old new : List Lane) → only_steps new ≡ only_steps old → length new ≡ length old
-same_length old new e =
-    sym (length-map new (λ (l : Lane). l.steps))
-    ∙ (ap (λ (ss : List (List Step)). length ss) e ∙ length-map old (λ (l : Lane). l.steps))
 
 -- ---- outcomes
 

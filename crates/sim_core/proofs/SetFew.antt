@@ -22,7 +22,7 @@ use Rattle.sim_core.specs.Edits.{IsAsBefore, IsRetimed, IsChanged}
 use Rattle.sim_core.specs.Records.{IsEditedOn}
 use Rattle.sim_core.specs.Costs.{HasSetFew}
 use Rattle.sim_core.proofs.Given.{goes_cycles}
-use Rattle.sim_core.proofs.SameSteps.{same_steps}
+use Rattle.retime.proofs.Counts.{same_steps}
 
 fewer_below : (t : ℕ) (lanes : List Lane) → cycles_in (map (timed_below t) lanes) ≤ cycles_in lanes
 fewer_below t [] = omega arith

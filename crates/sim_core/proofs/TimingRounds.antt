@@ -31,7 +31,8 @@ use Rattle.sim_core.specs.Views.{CoreView, theory_of}
 use Rattle.sim_core.specs.Turns.{HasTurned, HasAnsweredLeast, IsFirstEarliest}
 use Rattle.sim_core.specs.Timings.{IsUntimable, IsTimed, IsTimingRound, HasMore}
 use Rattle.sim_core.proofs.Rounds as rounds
-use Rattle.sim_core.proofs.Rounds.{determined_inside, to_do}
+use Rattle.event_timing.proofs.Deciding.{determined_inside}
+use Rattle.sim_core.proofs.Rounds.{to_do}
 use Rattle.engine_view.specs.Cursors.{CursorView, IsNext, IsPassed, GoesRound}
 use Rattle.engine_view.proofs.Cursors.{idle_more}
 

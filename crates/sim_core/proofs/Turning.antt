@@ -44,7 +44,7 @@ use Rattle.sim_core.specs.Views.{CoreView}
 use Rattle.sim_core.specs.Runs.{AreUnreadIn, IsCore, over_of}
 use Rattle.sim_core.specs.Turns.{HasTurned, HasAnsweredLeast}
 use Rattle.sim_core.specs.Candidates.{AreCandidates}
-use Rattle.sim_core.proofs.Rounds.{determined_inside}
+use Rattle.event_timing.proofs.Deciding.{determined_inside}
 use Rattle.sim_core.proofs.Keeping.{core_acted, kept_of}
 use Rattle.sim_core.specs.declared.unread.Unread.{Unread}
 use Rattle.sim_core.proofs.Leaving.{unread_acted}

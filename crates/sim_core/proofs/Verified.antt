@@ -35,7 +35,7 @@ use Rattle.engine_view.specs.Turns.{first_of}
 use Rattle.engine_view.proofs.Answered.{among_if, queries_step}
 use Rattle.engine_view.proofs.Emitted.{queries_mono}
 use Rattle.engine_report.proofs.Asking.{same_kind}
-use Rattle.sim_core.proofs.Logged.{all_within}
+use Rattle.retime.proofs.Outcomes.{all_within}
 use Rattle.sim_core.proofs.Reported.{answers_behind, answers_next, next_recorded}
 
 -- ---- the outcomes of a step by the flags of recorded ones

@@ -1,5 +1,5 @@
 -- What each access of a plan's simulation gave.
-use Rattle.std.specs.Prelude.{ℕ, List, [], drop, flat_map, map, slice_get, unwrap_or}
+use Rattle.std.specs.Prelude.{ℕ, List, [], flat_map, map, slice_get, unwrap_or}
 use Rattle.flow_design.specs.declared.plan.Plan.{Plan}
 use Rattle.flow_design.specs.declared.state.Reply.{Reply}
 use Rattle.flow_design.specs.declared.state.Request.{Request}
@@ -14,7 +14,6 @@ use Rattle.lockstep_defs.specs.Verdict.{verdict}
 use Rattle.flow_design.specs.Reports.{clock_of}
 use Rattle.engine_view.specs.Held.{Held, step_of}
 use Rattle.engine_report.specs.declared.events.TimedStep.{TimedStep}
-use Rattle.query_log.specs.Logs.{log_at}
 use Rattle.sim_core.specs.Found.{replies_now}
 use Rattle.sim_core.specs.declared.access_log.LoggedAccess.{LoggedAccess}
 
@@ -43,8 +42,7 @@ exchange_of a r = record { request = request_of a; reply = r }
 
 -- the replies to a step, none where some are not there
 abbrev pub replies_at : Held → ℕ → ℕ → List Reply
-replies_at h m k =
-    unwrap_or (replies_now h.channels (step_of h m k).accesses (drop (step_of h m k).first_query (log_at h.logs m).outcomes)) []
+replies_at h m k = unwrap_or (replies_now h m (step_of h m k)) []
 
 -- a step with a cycle, and what was done in it
 abbrev pub step_with : TimedStep → List Exchange → HistoryStep

@@ -11,12 +11,12 @@ ghost use Rattle.sim_core.specs.AccessLog.{exchange_of, log_of, logged, logged_a
 ghost use Rattle.sim_core.specs.Views.{theory_of};
 
 use crate::machine::Core;
-use crate::replies::find_replies;
 use block_code::is_yes;
 use engine_report::{TimedStep, sorted_steps};
 use event_graph::{Access, Kind, Place};
 use flow_design::{EventLine, Reply};
 use flow_word::{List, OutOfMemory};
+use run_ahead::find_replies;
 use std::alloc::Global;
 use timing_bridge::steps_in_order;
 
@@ -65,10 +65,9 @@ impl Core {
             step: key.step,
         });
         let accesses = step.accesses.as_slice();
-        let _all = find_replies(
+        let _told = find_replies(
+            self.engine.log.outcomes(key.module),
             &self.engine.fifos,
-            &self.engine.log,
-            key.module,
             step.first_query,
             accesses,
             replies,

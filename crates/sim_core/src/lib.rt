@@ -15,7 +15,6 @@ mod opening;
 mod post;
 mod readers;
 mod records;
-mod replies;
 mod report;
 mod running;
 mod spans;

@@ -6,15 +6,17 @@ ghost use Rattle.timing_bridge.specs.Designs.{design, lockstep_run};
 ghost use Rattle.engine_view.specs.Held.{emitted_of};
 ghost use Rattle.engine_view.specs.Rooms.{query_bound};
 ghost use Rattle.engine_view.specs.Shown.{IsSound, queries_before};
+ghost use Rattle.sim_core.specs.Opening.{ports_to};
+ghost use Rattle.sim_core.specs.Readers.{AreReaders};
 ghost use Rattle.sim_core.specs.Views.{theory_of};
 
 use crate::unread::Unread;
-use crate::wiring::Wiring;
+use crate::wiring::{Wiring, ports_of};
 use cycle_changes::Changes;
 use engine_view::Engine;
 use event_graph::Candidate;
 use flow_design::{Advance, Plan, Reply};
-use flow_word::{List, Queue};
+use flow_word::{List, Port, Queue};
 use module_interp::ModuleRun;
 use std::alloc::Global;
 use std::marker::Model;
@@ -114,6 +116,21 @@ impl Core {
         ensures { result.now ≡ self.now.plan }
     {
         &self.plan
+    }
+
+    /// The ports of a module: at each channel its pops before its pushes.
+    pub fn ports(&self, owner: u32) -> &[Port]
+        requires { owner < length self.now.plan.design.modules }
+        ensures { result.now ≡ ports_to self.now.plan owner (length self.now.plan.design.channels) }
+    {
+        ports_of(&self.wiring.ports, owner)
+    }
+
+    /// Of each channel the module that pops it; the number of modules where none does.
+    pub fn readers(&self) -> &[u32]
+        ensures { AreReaders self.now.plan result.now }
+    {
+        self.wiring.readers.as_slice()
     }
 
     /// How many modules there are.

@@ -9,13 +9,13 @@ ghost use Rattle.sim_core.specs.Runs.{IsAnswered, IsOut};
 
 use crate::back::emit_mark;
 use crate::machine::Core;
-use crate::replies::{are_found, find_replies};
 use crate::wiring::ports_of;
 use engine_view::bit_of;
 use event_graph::Place;
 use flow_design::limits::{LIVE_ITERATIONS, OPERATIONS};
 use flow_word::OutOfMemory;
 use module_interp::ModuleRun;
+use run_ahead::{find_replies, first_missing};
 
 impl Core {
     /// Commits the replies to a module's newest step, and emits its next mark, where that is permitted. The module's run is
@@ -130,13 +130,13 @@ impl Core {
             module: owner,
             step: last,
         });
-        are_found(
+        first_missing(
+            self.engine.log.outcomes(owner),
             &self.engine.fifos,
-            &self.engine.log,
-            owner,
             step.first_query,
             step.accesses.as_slice(),
         )
+        .is_none()
     }
 
     /// Whether a module's end was emitted.
@@ -164,17 +164,16 @@ impl Core {
             module: owner,
             step: self.engine.graph.len(owner) - 1,
         });
-        let all = find_replies(
+        let Some(_told) = find_replies(
+            self.engine.log.outcomes(owner),
             &self.engine.fifos,
-            &self.engine.log,
-            owner,
             step.first_query,
             step.accesses.as_slice(),
             &mut self.scratch.replies,
-        )?;
-        if !all {
+        )?
+        else {
             return Ok(false);
-        }
+        };
         run.feed(self.scratch.replies.as_slice());
         Ok(true)
     }

@@ -26,7 +26,7 @@ use Rattle.turn_history.proofs.Legal.{turns_are}
 use Rattle.turn_history.proofs.Turning.{turns_join}
 use Rattle.turn_lock.proofs.Histories.{prefix_self}
 use Rattle.sim_hub.specs.Places.{Behind}
-use Rattle.run_ahead.proofs.Parts.{some_is}
+use Rattle.flow_word.proofs.Ranges.{some_is}
 
 -- ---- turns as entries
 

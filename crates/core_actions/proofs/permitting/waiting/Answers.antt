@@ -1,5 +1,6 @@
 use Rattle.std.proofs.Common.{◌≡◌, ◌-◌, ℕ, ap, ◌∙◌, List, length, arith}
 use Rattle.std.specs.Prelude.{option_map}
+use Rattle.std.proofs.lemmas.Option.{IfSome_then}
 use Rattle.flow_word.specs.declared.access.Access.{Access}
 use Rattle.event_graph.specs.Packed.{whole}
 use Rattle.engine_view.specs.Emitted.{place_of}
@@ -12,18 +13,17 @@ use Rattle.core_actions.proofs.permitting.waiting.Goals as goal
 last_is : (c : After-step-step) → c.in_ok-last.last ≡ emitted_of c.args.core.now.held c.args.owner - 1
 last_is c = c.in_ok-last.ensures.1 ∙ ap (λ (n : ℕ). n - 1) (rw c.engine-engine.ensures.lanes at c.len.ensures.count)
 
-pub missing_in-requires-clause-few : goal.missing_in-requires-clause-few
-missing_in-requires-clause-few c =
-    let there = rw c.engine-engine.ensures.lanes at c.step-step.ensures.step in
-    let few = permissions.last_few c.args.core.now c.engine-engine.ensures.fits c.engine-engine.ensures.sound c.args.owner c.requires
-    c.in_ok-last.last (whole c.step-step.result) there (c.engine-engine.ensures.few c.args.owner) c.step-step.ensures.sound.accesses in
+pub number_of-requires : goal.number_of-requires
+number_of-requires c =
+    let short = c.step-step.ensures.sound.accesses in
     let size = ap (λ (xs : List Access). length xs) c.as_slice-accesses.ensures in
-    omega arith
+    IfSome_then c.first_missing-missing.result c.first_missing-missing.ensures.inside (λ i l. omega arith)
 
 pub returns-in-Some : goal.returns-in-Some
 returns-in-Some c =
     let there = rw c.engine-engine.ensures.lanes at c.step-step.ensures.step in
-    let found = rw (c.engine-engine.ensures.channels, c.engine-engine.ensures.logs, c.as_slice-accesses.ensures) at c.in-Some.ensures in
+    let found = rw (c.engine-engine.ensures.channels, c.outcomes.ensures, c.engine-engine.ensures.logs, c.as_slice-accesses.ensures) at
+    (c.in-Some.ensures ∙ c.first_missing-missing.ensures.missing) in
     ap (option_map (cause.Waiting (place_of c.args.owner c.in_ok-last.last))) found
     ∙ permissions.waits_at c.args.core.now c.engine-engine.ensures.fits c.engine-engine.ensures.sound c.args.owner c.requires
     c.in_ok-last.last
@@ -32,7 +32,8 @@ returns-in-Some c =
 pub returns-in-None : goal.returns-in-None
 returns-in-None c =
     let there = rw c.engine-engine.ensures.lanes at c.step-step.ensures.step in
-    let found = rw (c.engine-engine.ensures.channels, c.engine-engine.ensures.logs, c.as_slice-accesses.ensures) at c.in-None.ensures in
+    let found = rw (c.engine-engine.ensures.channels, c.outcomes.ensures, c.engine-engine.ensures.logs, c.as_slice-accesses.ensures) at
+    (c.in-None.ensures ∙ c.first_missing-missing.ensures.missing) in
     ap (option_map (cause.Waiting (place_of c.args.owner c.in_ok-last.last))) found
     ∙ permissions.waits_at c.args.core.now c.engine-engine.ensures.fits c.engine-engine.ensures.sound c.args.owner c.requires
     c.in_ok-last.last

@@ -20,8 +20,7 @@ returns c = record {
         let inside = c.requires.step.owner.credit in
         rw (get_or_read c.args.self.now.credits.items c.args.owner c.index_mut.result.now (omega arith) c.index_mut.ensures.value 0) refl;
     room = record {
-      lane = c.push_step.ensures.rooms.own;
-      other_lanes = c.push_step.ensures.rooms.others;
+      place = c.push_step.ensures.rooms;
       one = c.take_all.ensures.one;
       others = rw (← c.as_slice.ensures) c.take_all.ensures.others;
     };

@@ -7,30 +7,21 @@ use Rattle.sim_core.proofs.AccessLogs as log
 use Rattle.event_graph.specs.Packed.{whole}
 use Rattle.sim_core.proofs.machine.Core.log_step.Goals as goal
 
-pub find_replies-requires-clause-inside : goal.find_replies-requires-clause-inside
-find_replies-requires-clause-inside c =
+pub find_replies-requires : goal.find_replies-requires
+find_replies-requires c =
     let k = c.self.invariant.core in
     let h : Held = held_in c.self.inside.engine (over_of c.self.inside.ends.items) in
     rw c.as_slice-accesses.ensures (log.step_inside c.self.inside.plan h k.sound k.agreed c.args.key.now
     (rw (← c.self.view_is) at c.requires) (whole c.step-step.result) c.step-step.ensures.step)
-
-pub find_replies-requires-clause-few : goal.find_replies-requires-clause-few
-find_replies-requires-clause-few c =
-    let k = c.self.invariant.core in
-    let h : Held = held_in c.self.inside.engine (over_of c.self.inside.ends.items) in
-    let few = log.step_few c.self.inside.plan h k.sound k.agreed c.args.key.now (rw (← c.self.view_is) at c.requires)
-    (whole c.step-step.result) c.step-step.ensures.step (k.room.few c.args.key.now.module) in
-    let short = c.step-step.ensures.sound.accesses in
-    let size = ap (λ (xs : List Access). length xs) c.as_slice-accesses.ensures in
-    omega arith
 
 pub log_accesses-requires : goal.log_accesses-requires
 log_accesses-requires c =
     let k = c.self.invariant.core in
     let h : Held = held_in c.self.inside.engine (over_of c.self.inside.ends.items) in
     let many = log.replies_many c.self.inside.plan h k.sound k.agreed c.args.key.now (rw (← c.self.view_is) at c.requires)
-    (whole c.step-step.result) c.step-step.ensures.step c.in_ok-_all._all c.find_replies.new.replies
-    (rw c.as_slice-accesses.ensures at c.in_ok-_all.ensures.all) (rw c.as_slice-accesses.ensures at c.in_ok-_all.ensures.some) in
+    (whole c.step-step.result) c.step-step.ensures.step c.find_replies.new.replies c.in_ok-_told._told
+    (rw (c.outcomes.ensures, c.as_slice-accesses.ensures) at c.in_ok-_told.ensures.found)
+    (rw (c.outcomes.ensures, c.as_slice-accesses.ensures) at c.in_ok-_told.ensures.missing) in
     let size = ap (λ (xs : List Access). length xs) c.as_slice-accesses.ensures in
     let found = ap length c.as_slice.ensures in
     omega arith
@@ -40,6 +31,7 @@ returns c =
     let k = c.self.invariant.core in
     let h : Held = held_in c.self.inside.engine (over_of c.self.inside.ends.items) in
     let same = log.logged_is c.self.inside.plan h k.sound k.agreed c.args.key.now (rw (← c.self.view_is) at c.requires)
-    (whole c.step-step.result) c.step-step.ensures.step c.in_ok-_all._all c.find_replies.new.replies
-    (rw c.as_slice-accesses.ensures at c.in_ok-_all.ensures.all) (rw c.as_slice-accesses.ensures at c.in_ok-_all.ensures.some) in
+    (whole c.step-step.result) c.step-step.ensures.step c.find_replies.new.replies c.in_ok-_told._told
+    (rw (c.outcomes.ensures, c.as_slice-accesses.ensures) at c.in_ok-_told.ensures.found)
+    (rw (c.outcomes.ensures, c.as_slice-accesses.ensures) at c.in_ok-_told.ensures.missing) in
     rw (← c.self.view_is, ← same, ← c.as_slice-accesses.ensures, ← c.as_slice.ensures) c.log_accesses.ensures

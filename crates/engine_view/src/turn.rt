@@ -1,6 +1,6 @@
 //! One turn at a module.
-ghost use Rattle.std.specs.Prelude.{◌≡◌, ◌+◌, ◌<◌, ◌≤◌, true, length, All};
-ghost use Rattle.event_graph.specs.Lanes.{cycle_bound};
+ghost use Rattle.std.specs.Prelude.{◌≡◌, ℕ, ◌+◌, ◌<◌, ◌≤◌, true, length, All};
+ghost use Rattle.event_graph.specs.Lanes.{cycle_bound, with_cycle};
 ghost use Rattle.event_graph.specs.Packed.{whole};
 ghost use Rattle.time_engine.specs.Conditions.{IsAccess, HasPlaces};
 ghost use Rattle.time_engine.specs.Possible.{when_possible};
@@ -8,7 +8,7 @@ ghost use Rattle.event_timing.specs.Enablers.{is_decided as decided};
 ghost use Rattle.engine_view.specs.Held.{queries_in, are_among};
 ghost use Rattle.engine_view.specs.Known.{as_known, are_decided};
 ghost use Rattle.engine_view.specs.Taking.{kinds_in};
-ghost use Rattle.engine_view.specs.Turns.{IsSomeCore, HasTimed, KeepsRoom, lanes_behind, ticks_of, is_progress, left};
+ghost use Rattle.engine_view.specs.Turns.{IsSomeCore, MayTakeIn, HasTimed, KeepsRoom, lanes_behind, ticks_of, is_progress, left};
 
 use crate::engine::Engine;
 use event_graph::{Access, Candidate, Graph, Place, StepView};
@@ -58,7 +58,7 @@ impl Engine {
             step: self.graph.frontier(owner),
         });
         if are_first(&first, queries, self.log.verified(owner)) {
-            assign(&mut self.graph, owner, cycle, steps);
+            self.assign_first(owner, cycle, steps);
             return Timing::Assigned(cycle);
         }
         if !all_decided(&self.graph, &self.fifos, first.accesses.as_slice()) {
@@ -68,6 +68,21 @@ impl Engine {
             Guard::Same => Timing::Answered(cycle),
             Guard::Differs(query) => Timing::Differs(query),
         }
+    }
+
+    /// Gives a module's first step without a cycle this one, which it may be given.
+    #[inline(always)]
+    pub fn assign_first<L: Ledger>(&mut self, owner: u32, cycle: u64, steps: &mut Steps<L>)
+        requires owner { owner < length self.old.graph.lanes }
+        requires may { MayTakeIn self.old owner cycle }
+        ensures done { (limit : ℕ) → cycle < limit → HasTimed (Timing.Assigned cycle) limit owner self.old self.new }
+        ensures room { KeepsRoom self.old self.new }
+        ensures lanes { self.new.graph.lanes ≡ with_cycle self.old.graph.lanes owner cycle }
+        ensures rest { self.new ≡ record self.old { graph = self.new.graph } }
+        ensures less { left self.new < left self.old }
+        ensures ticks { steps.new ≡ steps.old + 1 }
+    {
+        assign(&mut self.graph, owner, cycle, steps);
     }
 }
 

@@ -213,7 +213,7 @@ module _ (v w : CoreView) (fits : FitsEngine v.plan) (asking : ℕ) (are : AreAs
       → AreAsking v.plan (theory_of w) now
   asking_turned (turn.Assigned c) done kept own spread =
       asking_assigned v.plan fits (theory_of v) asking are beside besides m inside now others (own refl) (spread refl) (theory_of w) done
-  asking_turned (turn.Answered c) (done, changed) kept own spread =
+  asking_turned (turn.Answered c) (done, changed, next) kept own spread =
       asking_answered v.plan fits (theory_of v) asking are beside besides m inside now others (own refl) (spread refl) (theory_of w) done
   asking_turned (turn.Differs q) (same, different) kept own spread =
       rw same (λ n l none. let modules = fits.module_count in

@@ -112,8 +112,8 @@ module _ {before taken after back : CoreView} {m : ℕ} (t : IsRoundTrip before 
       → Acts (design before.plan) before.plan.cycles (theory_of before) (Run m) (theory_of back)
   acts_back s = rw t.home (rw t.out at s)
 
-  pub goes_back : (n : ℕ) → Goes taken n after n → Goes before n back n
-  goes_back n g =
+  pub goes_back : {a b : ℕ} → Goes taken a after b → Goes before a back b
+  goes_back g =
       let lent = rw t.home at lent_back g.lent in
       rw t.home (record {
         actions = g.actions;
@@ -123,8 +123,8 @@ module _ {before taken after back : CoreView} {m : ℕ} (t : IsRoundTrip before 
         lent = lent;
       })
 
-  pub goes_on_back : (n : ℕ) → GoesOn taken n after n → GoesOn before n back n
-  goes_on_back n g = record { goes = goes_back n g.goes; risen = rw t.home (rw t.out at g.risen) }
+  pub goes_on_back : {a b : ℕ} → GoesOn taken a after b → GoesOn before a back b
+  goes_on_back g = record { goes = goes_back g.goes; risen = rw t.home (rw t.out at g.risen) }
 
 pub some_so : {A P : Type 0} (o : Option A) → P → IfSome o (λ a. P)
 some_so {A} {P} (Some a) p = p

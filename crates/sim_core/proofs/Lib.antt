@@ -11,6 +11,7 @@ pub mod Ports
 pub mod Roomed
 pub mod Turning
 pub mod Rounds
+pub mod Timed
 pub mod TimingRounds
 pub mod Ending
 pub mod Beginning

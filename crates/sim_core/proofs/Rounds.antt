@@ -1,7 +1,7 @@
 -- Going round the modules as long as something is permitted.
-use Rattle.std.proofs.Common.{◌≡◌, refl, sym, ap, subst, ◌∙◌, ℕ, suc, ◌+◌, ◌-◌, ◌*◌, ◌<◌, ◌≤◌, ◌⊎◌, inl, inr, true, false, Some}
+use Rattle.std.proofs.Common.{◌≡◌, refl, sym, ap, subst, ◌∙◌, ℕ, suc, ◌+◌, ◌-◌, ◌*◌, ◌<◌, ◌≤◌, ◌⊎◌, inl, inr, true, false, Bool, Some}
 use Rattle.std.proofs.Common.{get_or, List, [], ◌∷◌, ◌++◌, length, arith}
-use Rattle.std.specs.Prelude.{slice_get}
+use Rattle.std.specs.Prelude.{slice_get, slice_index_or}
 use Rattle.std.proofs.lemmas.Bool.{both_ways}
 use Rattle.flow_design.specs.declared.plan.Plan.{Plan}
 use Rattle.flow_design.specs.StaticRules.{FitsEngine}
@@ -9,28 +9,33 @@ use Rattle.query_log.specs.declared.query.Query.{Query}
 use Rattle.event_timing.specs.Machines.{Design}
 use Rattle.event_timing.specs.Core.{Core, view}
 use Rattle.event_timing.specs.Enablers.{candidate}
-use Rattle.event_timing.specs.Actions.{Action, Acts, ActsAll, MayRun, IsQuiet, after_run}
+use Rattle.event_timing.specs.Actions.{Action, Acts, ActsAll, MayRun, IsQuiet, IsNoRunOf, after_run}
 use Rattle.event_timing.specs.Actions.Action.{Run, Assign, Answer, Earliest}
 use Rattle.event_timing.specs.Agreement.{IsAgreed, AllVerified}
 use Rattle.event_timing.specs.Work.{work}
 use Rattle.event_timing.proofs.Agreement.{all_agree}
 use Rattle.event_timing.proofs.Deciding.{determined_inside}
 use Rattle.event_timing.proofs.Assigning.{put_same}
+use Rattle.event_timing.proofs.Beside.{others_grow}
 use Rattle.event_timing.proofs.Running.{run_cases}
 use Rattle.event_timing.proofs.ActionBound.{more_work, most_work, never_found, all_rise}
 use Rattle.timing_bridge.specs.Designs.{design, lockstep_run}
 use Rattle.timing_bridge.proofs.Bounded.{plan_is_bounded}
 use Rattle.timing_bridge.proofs.History.{plan_is_design, run_is_history}
+use Rattle.module_interp.specs.declared.run.ModuleRun.{ModuleRun}
+use Rattle.engine_view.specs.declared.turn.Timing.{Timing}
 use Rattle.engine_view.specs.declared.turn.Timing.TheVariants as turn
 use Rattle.engine_view.specs.Cursors.{CursorView, IsNext, IsPassed}
 use Rattle.engine_view.proofs.Cursors.{idle_more}
 use Rattle.engine_view.specs.Turns.{IsDifferent, IsFoundOther}
 use Rattle.outcome_guard.specs.declared.guard.Guard.TheVariants as guard
+use Rattle.sim_core.specs.Runs.{IsOut, IsRunOf}
 use Rattle.sim_core.specs.Views.{CoreView, theory_of}
 use Rattle.sim_core.specs.Turns.{IsStill, IsEarliestOther, HasTurned, HasAnsweredLeast}
 use Rattle.sim_core.specs.declared.visit.Visit.{Visit}
 use Rattle.sim_core.specs.declared.visit.Visit.TheVariants.{Acted, Differs, Idle}
 use Rattle.sim_core.specs.Drives.{given, Goes, GoesOn, HasTimed, HasVisited, AreOwn, IsGoingRound}
+use Rattle.sim_core.proofs.Staying.{run_stays}
 
 -- ---- each action makes another core
 
@@ -69,10 +74,29 @@ module _ (v w : CoreView) (m before : ℕ) (plan : w.plan ≡ v.plan) (lent : w.
       one (Assign m) acts (assign_changes (design v.plan) v.plan.cycles (theory_of v) (theory_of w) m acts) after ticked
 
   pub was_answered : (c after : ℕ) → HasTurned (turn.Answered c) v m w → after ≡ before + 0 → GoesOn v before w after
-  was_answered c after (acts, changed) ticked = one (Answer m) acts changed after ticked
+  was_answered c after (acts, changed, next) ticked = one (Answer m) acts changed after ticked
 
   pub was_least : HasAnsweredLeast (Some (m, guard.Same)) v w → GoesOn v before w before
   was_least (acts, changed) = one (Earliest m) acts changed before (omega arith)
+
+-- a run that is out of the core stands where it stood while its module's step is given its cycle, or its queries are answered
+module _ (v w : CoreView) (m : ℕ) (plan : w.plan ≡ v.plan) (lent : w.lent ≡ v.lent) (fits : FitsEngine v.plan)
+    (agreed : IsAgreed (design v.plan) (lockstep_run v.plan) v.plan.cycles (theory_of v)) (run : ModuleRun) (out : IsOut v m run) where
+  still_out : (a : Action) → IsNoRunOf m (a ∷ []) → Acts (design v.plan) v.plan.cycles (theory_of v) a (theory_of w) → IsOut w m run
+  still_out a none acts = record {
+    inside = subst (λ (q : Plan). m < length q.design.modules) (sym plan) out.inside;
+    lent = ap (λ (bs : List Bool). slice_index_or bs m true) lent ∙ out.lent;
+    run_is = subst (λ (q : Plan). IsRunOf q (theory_of w) m run) (sym plan)
+        (run_stays v.plan (theory_of v) (theory_of w) agreed.marks m
+        (others_grow (design v.plan) (lockstep_run v.plan) (plan_is_design v.plan fits) (run_is_history v.plan fits) v.plan.cycles
+        (theory_of v) agreed m (a ∷ []) none (theory_of w) (theory_of w, acts, refl)) run out.run_is);
+  }
+
+  pub out_timed : (r : Timing) → HasTurned r v m w → IsOut w m run
+  out_timed (turn.Assigned c) acts = still_out (Assign m) tt acts
+  out_timed (turn.Answered c) (acts, changed, next) = still_out (Answer m) tt acts
+  out_timed (turn.Differs q) (same, other) = rw same out
+  out_timed turn.Nothing (same, idle) = rw same out
 
 -- ---- lists of actions
 
@@ -172,6 +196,13 @@ module _ {first now : CoreView} {before ticks : ℕ} {cursor : CursorView} (r : 
 
   pub fits_now : FitsEngine now.plan
   fits_now = subst FitsEngine (sym r.goes.plan) r.fits
+
+  -- an Earliest is of a module that the cursor counts
+  pub some_counted : (next : CoreView) {m : ℕ} → HasAnsweredLeast (Some (m, guard.Same)) now next → 0 < cursor.count
+  some_counted next {m} ((c, may, answered), changed) =
+      let inside = determined_inside (design now.plan) (theory_of now) agreed_now.marks.inside m c may.open_step.determined.at in
+      let counted = r.counted in
+      omega arith
 
   -- something was done
   pub went : {next : CoreView} {later : ℕ} {cursor' : CursorView} → GoesOn now ticks next later → cursor'.count ≡ cursor.count

@@ -49,14 +49,14 @@ module _ (v w : CoreView) (m before : ℕ) (plan : w.plan ≡ v.plan) (lent : w.
         is = is ∙ sym then;
         goes = rounds.was_assigned v w m before plan lent agreed c after (e, may, is) ticked;
       }
-  was_timed (turn.Answered c) after ((e, may, inl (same, is)), changed) ticked p =
+  was_timed (turn.Answered c) after ((e, may, inl (same, is)), changed, next) ticked p =
       let (there, then) = answered_is (design v.plan) v.plan.cycles (theory_of v) m e may in
       record {
         may = there;
         is = is ∙ sym then;
-        goes = rounds.was_answered v w m before plan lent agreed c after ((e, may, inl (same, is)), changed) ticked;
+        goes = rounds.was_answered v w m before plan lent agreed c after ((e, may, inl (same, is)), changed, next) ticked;
       }
-  was_timed (turn.Answered c) after ((e, may, inr (other, is)), changed) ticked p = absurd (changed is)
+  was_timed (turn.Answered c) after ((e, may, inr (other, is)), changed, next) ticked p = absurd (changed is)
   was_timed (turn.Differs q) after done ticked p = cc
   was_timed turn.Nothing after done ticked p = cc
 

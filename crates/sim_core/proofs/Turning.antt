@@ -24,12 +24,13 @@ use Rattle.event_timing.specs.Views.{first_accesses}
 use Rattle.event_timing.specs.Enablers.{candidate, known_of, all_decided}
 use Rattle.event_timing.specs.Core.{Core, view}
 use Rattle.event_timing.specs.Work.{sum_to}
-use Rattle.event_timing.specs.Actions.{MayEarliest, IsOpen, IsQuiet, IsFinal, IsDetermined}
+use Rattle.event_timing.specs.Actions.{Acts, MayAssign, MayAnswer, MayEarliest, IsOpen, IsQuiet, IsFinal, IsDetermined}
 use Rattle.event_timing.specs.Actions.Action.{Assign, Answer, Earliest}
 use Rattle.event_timing.proofs.Assigning.{put_at_same}
 use Rattle.event_timing.proofs.Answering.{first_emitted}
 use Rattle.timing_bridge.specs.Designs.{design}
 use Rattle.timing_bridge.proofs.History.{plan_is_design}
+use Rattle.turn_history.proofs.Apart.{answered_assigns}
 use Rattle.engine_view.specs.declared.turn.Timing.{Timing}
 use Rattle.engine_view.specs.declared.turn.Timing.TheVariants.{Assigned, Answered, Differs}
 use Rattle.engine_view.specs.declared.turn.Timing.TheVariants as turn
@@ -130,11 +131,24 @@ module _ {p : Plan} {s : Engine} {ends : List (Option Advance)} {runs : List (Op
     unread_timed m (Differs q) unread (e, f) are = rw e are
     unread_timed m turn.Nothing unread (e, f) are = rw e are
 
+    -- behind an answer the step may be given its cycle
+    next_assigns : (m c : ℕ) → MayAnswer d p.cycles (core_of d (held_in s over)) m c
+        → Acts d p.cycles (core_of d (held_in s over)) (Answer m) (core_of d (held_in t over))
+        → (core_of d (held_in t over) ≡ core_of d (held_in s over) → ⊥) → MayAssign d p.cycles (core_of d (held_in t over)) m c
+    next_assigns m c may (e, found, inl (same, is)) changed =
+        let there = may.determined.at in
+        let there_too = found.determined.at in
+        let one : e ≡ c = cc in
+        rw (is, one) (answered_assigns d p.cycles (core_of d (held_in s over)) m c may.determined)
+    next_assigns m c may (e, found, inr (other, is)) changed = absurd (changed is)
+
     pub turned : (m : ℕ) (r : Timing) (lent : List Bool) → HasTimed r p.cycles m s t
         → ((c : ℕ) → r ≡ Answered c → core_of d (held_in t over) ≡ core_of d (held_in s over) → ⊥)
         → HasTurned r (seen s lent) m (seen t lent)
     turned m (Assigned c) lent done other = (done d over is_design kept).1.acts
-    turned m (Answered c) lent done other = ((done d over is_design kept).1.acts, other c refl)
+    turned m (Answered c) lent done other =
+        let (may, leads) = done d over is_design kept in
+        (leads.acts, other c refl, next_assigns m c may leads.acts (other c refl))
     turned m (Differs q) lent (e, f) other = (ap (λ (u : Engine). seen u lent) e, f d over is_design kept)
     turned m turn.Nothing lent (e, f) other = (ap (λ (u : Engine). seen u lent) e, f d over is_design kept)
 

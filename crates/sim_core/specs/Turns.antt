@@ -3,7 +3,7 @@ use Rattle.std.specs.Prelude.{◌≡◌, ℕ, ◌<◌, Option, None, Some}
 use Rattle.query_log.specs.declared.query.Query.{Query}
 use Rattle.outcome_guard.specs.declared.guard.Guard.{Guard}
 use Rattle.outcome_guard.specs.declared.guard.Guard.TheVariants as guard
-use Rattle.event_timing.specs.Actions.{Acts, MayRun, MayEarliest, IsFinal}
+use Rattle.event_timing.specs.Actions.{Acts, MayRun, MayAssign, MayEarliest, IsFinal}
 use Rattle.event_timing.specs.Actions.Action.{Assign, Answer, Earliest}
 use Rattle.engine_view.specs.declared.turn.Timing.{Timing}
 use Rattle.engine_view.specs.declared.turn.Timing.TheVariants.{Assigned, Answered, Differs, Nothing}
@@ -11,10 +11,12 @@ use Rattle.engine_view.specs.Turns.{IsDifferent, IsFoundOther, IsIdle}
 use Rattle.timing_bridge.specs.Designs.{design}
 use Rattle.sim_core.specs.Views.{CoreView, theory_of}
 
--- the module's first step without a cycle was given its cycle, or its queries were answered, as far as that is permitted
+-- the module's first step without a cycle was given its cycle, or its queries were answered and it may be given that cycle now, as far
+-- as that is permitted
 abbrev pub HasTurned : Timing → CoreView → ℕ → CoreView → Type 0
 HasTurned (Assigned c) v m w = Acts (design v.plan) v.plan.cycles (theory_of v) (Assign m) (theory_of w)
 HasTurned (Answered c) v m w = Acts (design v.plan) v.plan.cycles (theory_of v) (Answer m) (theory_of w) × (theory_of w ≡ theory_of v → ⊥)
+    × MayAssign (design v.plan) v.plan.cycles (theory_of w) m c
 HasTurned (Differs q) v m w = (w ≡ v) × IsDifferent (design v.plan) v.plan.cycles v.held m q
 HasTurned Nothing v m w = (w ≡ v) × IsIdle (design v.plan) v.plan.cycles (theory_of v) m
 

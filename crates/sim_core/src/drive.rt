@@ -42,7 +42,10 @@ impl Core {
                     Visit::Differs(query) => return Ok(Guard::Differs(query)),
                 },
                 None => match self.answer_least() {
-                    Some((owner, Guard::Same)) => cursor.acted(bit_of(owner)),
+                    Some((owner, Guard::Same)) => {
+                        cursor.acted(bit_of(owner));
+                        let _ = cursor.jump();
+                    }
                     Some((_, Guard::Differs(query))) => return Ok(Guard::Differs(query)),
                     None => return Ok(Guard::Same),
                 },

@@ -2,7 +2,7 @@
 ghost use Rattle.std.specs.Prelude.{◌≡◌, ◌+◌, ◌<◌, ◌≤◌, length, IfSome, Some};
 ghost use Rattle.event_graph.specs.Lanes.{cycle_bound};
 ghost use Rattle.time_engine.specs.Conditions.{HasAccesses, HasPlaces};
-ghost use Rattle.event_timing.specs.Actions.{IsQuiet, MayEarliest};
+ghost use Rattle.event_timing.specs.Actions.{IsQuiet, MayAssign, MayEarliest};
 ghost use Rattle.engine_view.specs.Turns.{ticks_of};
 ghost use Rattle.timing_bridge.specs.Designs.{design};
 ghost use Rattle.sim_core.specs.Views.{theory_of};
@@ -34,6 +34,20 @@ impl Core {
         let timing = self.engine.time_first(owner, limit, steps);
         self.asking = asking_after(self.asking, self.wiring.beside.as_slice(), owner, &timing);
         timing
+    }
+
+    /// Gives a module's first step without a cycle this one, which it may be given. It takes no memory.
+    pub(crate) fn assign<L: Ledger>(&mut self, owner: u32, cycle: u64, steps: &mut Steps<L>)
+        requires owner { owner < length self.old.plan.design.modules }
+        requires may { MayAssign (design self.old.plan) self.old.plan.cycles (theory_of self.old) owner cycle }
+        ensures done { HasTurned (Timing.Assigned cycle) self.old owner self.new }
+        ensures plan { self.new.plan ≡ self.old.plan }
+        ensures lent { self.new.lent ≡ self.old.lent }
+        ensures ticks { steps.new ≡ steps.old + 1 }
+    {
+        self.engine.assign_first(owner, cycle, steps);
+        let timing = Timing::Assigned(cycle);
+        self.asking = asking_after(self.asking, self.wiring.beside.as_slice(), owner, &timing);
     }
 
     /// Where no Run, Assign or Answer of any module is permitted, answers the first of the least open steps, and gives its

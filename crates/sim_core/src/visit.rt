@@ -2,6 +2,7 @@
 ghost use Rattle.std.specs.Prelude.{◌≡◌, ℕ, ◌<◌, true, false, length, slice_index_or, IfOk, IfSome, IsNone, OnErr};
 ghost use Rattle.event_timing.specs.Actions.{MayRun};
 ghost use Rattle.timing_bridge.specs.Designs.{design};
+ghost use Rattle.module_interp.specs.declared.run.ModuleRun.{ModuleRun as RunOf};
 ghost use Rattle.sim_core.specs.Runs.{IsOut};
 ghost use Rattle.sim_core.specs.Views.{theory_of};
 ghost use Rattle.sim_core.specs.Drives.{Goes, GoesOn, HasTimed, HasVisited};
@@ -42,7 +43,7 @@ impl Core {
         ensures no_memory { OnErr result (Goes self.old steps.old self.new steps.new) }
         ensures permitted { OnErr result (MayRun (design self.new.plan) (theory_of self.new) owner) }
     {
-        match self.run_on(owner)? {
+        match self.run_on(owner, steps)? {
             None => Ok(self.time_on(owner, steps)),
             Some(woken) => match self.time_on(owner, steps) {
                 Visit::Acted(more) => Ok(Visit::Acted(woken | more)),
@@ -51,14 +52,19 @@ impl Core {
         }
     }
 
-    /// Runs of a module, as long as they are permitted. None where none was.
-    fn run_on(&mut self, owner: u32) -> Result<Option<u64>, OutOfMemory>
+    /// Runs of a module, as long as they are permitted, with the Assigns and Answers by which its queries get their outcomes. None where
+    /// no Run was.
+    fn run_on<L: Ledger>(
+        &mut self,
+        owner: u32,
+        steps: &mut Steps<L>,
+    ) -> Result<Option<u64>, OutOfMemory>
         requires owner { owner < length self.old.plan.design.modules }
         requires here { slice_index_or self.old.lent owner true ≡ false }
-        ensures some { IfOk result (λ woken. IfSome woken (λ bits. (n : ℕ) → GoesOn self.old n self.new n)) }
-        ensures unchanged { IfOk result (λ woken. IsNone woken → self.new ≡ self.old) }
+        ensures some { IfOk result (λ woken. IfSome woken (λ bits. GoesOn self.old steps.old self.new steps.new)) }
+        ensures unchanged { IfOk result (λ woken. IsNone woken → (self.new ≡ self.old) × (steps.new ≡ steps.old)) }
         ensures none { IfOk result (λ woken. IsNone woken → MayRun (design self.old.plan) (theory_of self.old) owner → ⊥) }
-        ensures no_memory { OnErr result ((n : ℕ) → Goes self.old n self.new n) }
+        ensures no_memory { OnErr result (Goes self.old steps.old self.new steps.new) }
         ensures permitted { OnErr result (MayRun (design self.new.plan) (theory_of self.new) owner) }
     {
         if self.is_over(owner) {
@@ -67,18 +73,23 @@ impl Core {
         let Some(mut run) = self.take_out(owner) else {
             return Ok(None);
         };
-        let woken = self.run_stretch(owner, &mut run);
+        let woken = self.run_stretch(owner, &mut run, steps);
         self.put_back(owner, run);
         woken
     }
 
     /// The same with the module's run, which is out of the core.
-    fn run_stretch(&mut self, owner: u32, run: &mut ModuleRun) -> Result<Option<u64>, OutOfMemory>
+    fn run_stretch<L: Ledger>(
+        &mut self,
+        owner: u32,
+        run: &mut ModuleRun,
+        steps: &mut Steps<L>,
+    ) -> Result<Option<u64>, OutOfMemory>
         requires out { IsOut self.old owner run.old }
-        ensures some { IfOk result (λ woken. IfSome woken (λ bits. (n : ℕ) → GoesOn self.old n self.new n)) }
-        ensures unchanged { IfOk result (λ woken. IsNone woken → self.new ≡ self.old) }
+        ensures some { IfOk result (λ woken. IfSome woken (λ bits. GoesOn self.old steps.old self.new steps.new)) }
+        ensures unchanged { IfOk result (λ woken. IsNone woken → (self.new ≡ self.old) × (steps.new ≡ steps.old)) }
         ensures none { IfOk result (λ woken. IsNone woken → MayRun (design self.old.plan) (theory_of self.old) owner → ⊥) }
-        ensures no_memory { OnErr result ((n : ℕ) → Goes self.old n self.new n) }
+        ensures no_memory { OnErr result (Goes self.old steps.old self.new steps.new) }
         ensures permitted { OnErr result (MayRun (design self.new.plan) (theory_of self.new) owner) }
         ensures out { IsOut self.new owner run.new }
         ensures plan { self.new.plan ≡ self.old.plan }
@@ -88,15 +99,37 @@ impl Core {
             return Ok(None);
         };
         for _ in 1..STRETCH {
-            if self.has_asked(owner, run) {
-                return Ok(Some(woken));
-            }
-            match self.run_once(owner, run)? {
+            match self.go_on(owner, run, steps)? {
                 Some(more) => woken |= more,
                 None => return Ok(Some(woken)),
             }
         }
         Ok(Some(woken | bit_of(owner)))
+    }
+
+    /// Another Run, or, where the module's newest step waits for an outcome, the Assigns and Answers by which it may get it. None where
+    /// none was permitted.
+    #[inline(always)]
+    fn go_on<L: Ledger>(
+        &mut self,
+        owner: u32,
+        run: &mut ModuleRun,
+        steps: &mut Steps<L>,
+    ) -> Result<Option<u64>, OutOfMemory>
+        requires out { IsOut self.old owner run.old }
+        ensures some { IfOk result (λ woken. IfSome woken (λ bits. GoesOn self.old steps.old self.new steps.new)) }
+        ensures unchanged { IfOk result (λ woken. IsNone woken → (self.new ≡ self.old) × (steps.new ≡ steps.old)) }
+        ensures no_memory { OnErr result ((self.new ≡ self.old) × (steps.new ≡ steps.old)) }
+        ensures permitted { OnErr result (MayRun (design self.new.plan) (theory_of self.new) owner) }
+        ensures out { IsOut self.new owner run.new }
+    {
+        if !self.has_asked(owner, run) {
+            return self.run_once(owner, run);
+        }
+        match self.time_on(owner, steps) {
+            Visit::Acted(woken) => Ok(Some(woken)),
+            Visit::Differs(_) | Visit::Idle => Ok(None),
+        }
     }
 
     /// Whether a module's newest step ends with a query, and no outcome of it is there.
@@ -132,10 +165,11 @@ impl Core {
         }
     }
 
-    /// Assigns and Answers of a module, as long as they are permitted.
+    /// Assigns and Answers of a module, as long as they are permitted. A run of it that is out of the core stands where it stood.
     fn time_on<L: Ledger>(&mut self, owner: u32, steps: &mut Steps<L>) -> Visit
         requires { owner < length self.old.plan.design.modules }
-        ensures { HasTimed result self.old steps.old owner self.new steps.new }
+        ensures timed { HasTimed result self.old steps.old owner self.new steps.new }
+        ensures out { (run : RunOf) → IsOut self.old owner run → IsOut self.new owner run }
     {
         let mut woken = match self.time_once(owner, steps) {
             Visit::Acted(first) => first,
@@ -161,10 +195,11 @@ impl Core {
         self.engine.graph.frontier(owner) == self.engine.graph.len(owner)
     }
 
-    /// One of them.
+    /// One of them; where it is an Answer, the Assign of the same step after it.
     fn time_once<L: Ledger>(&mut self, owner: u32, steps: &mut Steps<L>) -> Visit
         requires { owner < length self.old.plan.design.modules }
-        ensures { HasTimed result self.old steps.old owner self.new steps.new }
+        ensures timed { HasTimed result self.old steps.old owner self.new steps.new }
+        ensures out { (run : RunOf) → IsOut self.old owner run → IsOut self.new owner run }
     {
         // The core agrees with its plan.
         let _count = self.modules();
@@ -173,7 +208,10 @@ impl Core {
         }
         match self.time(owner, steps) {
             Timing::Assigned(_) => Visit::Acted(self.bits_beside(owner)),
-            Timing::Answered(_) => Visit::Acted(self.bits_beside(owner) | bit_of(owner)),
+            Timing::Answered(cycle) => {
+                self.assign(owner, cycle, steps);
+                Visit::Acted(self.bits_beside(owner) | bit_of(owner))
+            }
             Timing::Differs(query) => Visit::Differs(query),
             Timing::Nothing => Visit::Idle,
         }

@@ -11,12 +11,12 @@ use Rattle.event_timing.specs.Views.{tally, place, from, first_accesses}
 use Rattle.event_timing.specs.Core.{Core, bare_replies, core_accesses, core_reply, view}
 use Rattle.event_timing.specs.Enablers.{Known, known, known_of, candidate, bound, to_clock, reach, from_step, timed_place, all_decided}
 use Rattle.event_timing.specs.Enablers.Known.{From, Never}
-use Rattle.event_timing.specs.Actions.{ActsAll, after_run, after_assign, after_answer, emit_over, runs}
+use Rattle.event_timing.specs.Actions.{ActsAll, IsDetermined, MayAssign, after_run, after_assign, after_answer, emit_over, runs}
 use Rattle.event_timing.specs.Actions.Action.{Run}
 use Rattle.event_timing.specs.Agreement.{IsAgreed}
 use Rattle.event_timing.specs.Permitted.{may_assign, may_answer, is_determined, is_before, decides}
 use Rattle.event_timing.proofs.Agreement.{acts_agree}
-use Rattle.event_timing.proofs.Assigning.{put_other, put_at_other}
+use Rattle.event_timing.proofs.Assigning.{put_other, put_at_other, put_at_same}
 use Rattle.event_timing.proofs.Fronts.{tally_same, core_tally_is}
 use Rattle.event_timing.proofs.Running.{emit, old_at, run_cases}
 use Rattle.turn_history.specs.Apart.{AreApart}
@@ -35,6 +35,10 @@ decided_same f g (a ∷ xs) (here, more) = rw (here, decided_same f g xs more) r
 each_of : (P Q : Access → Type 0) (xs : List Access) → ((a : Access) → P a → Q a) → Each P xs → Each Q xs
 each_of P Q [] f e = tt
 each_of P Q (a ∷ xs) f (here, more) = (f a here, each_of P Q xs f more)
+
+each_all : (P : Access → Type 0) (xs : List Access) → ((a : Access) → P a) → Each P xs
+each_all P [] f = tt
+each_all P (a ∷ xs) f = (f a, each_all P xs f)
 
 place_same : (a b : ℕ → List Access) (r s : ℕ → List Reply) (side : Side) (ch n i : ℕ)
     → ((k : ℕ) → k ≤ n → tally a r side ch k ≡ tally b s side ch k) → place a r side ch n i ≡ place b s side ch n i
@@ -61,13 +65,12 @@ module _ {S : Type 0} (d : Design S) (x y : Core S) where
     pub flags : (k : ℕ) → k < x.timed w → y.flags w k ≡ x.flags w k
     pub cycle : (k : ℕ) → y.cycle w k ≡ x.cycle w k
 
-  -- and the first one without a cycle
+  -- and the first one without a cycle, but for its outcomes
   pub record SameFirst (n : ℕ) : Type 0 where
     pub steps : SameSteps n
     pub emitted : y.emitted n ≡ x.emitted n
     pub state : y.state n (x.timed n) ≡ x.state n (x.timed n)
     pub wait : y.wait n (x.timed n) ≡ x.wait n (x.timed n)
-    pub verified : y.verified n (x.timed n) ≡ x.verified n (x.timed n)
 
   tally_at : (w : ℕ) → SameSteps w → (side : Side) (ch n : ℕ) → n ≤ x.timed w
       → tally (core_accesses d y w) (core_reply d y w) side ch n ≡ tally (core_accesses d x w) (core_reply d x w) side ch n
@@ -131,8 +134,8 @@ module _ {S : Type 0} (d : Design S) (x y : Core S) where
     unfolding is_determined
     determined_same limit = ap (is_before limit) candidate_same
 
-    verified_same : y.verified n (y.timed n) ≡ x.verified n (x.timed n)
-    verified_same = ap (y.verified n) f.steps.timed ∙ f.verified
+    verified_same : y.verified n (x.timed n) ≡ x.verified n (x.timed n) → y.verified n (y.timed n) ≡ x.verified n (x.timed n)
+    verified_same same = ap (y.verified n) f.steps.timed ∙ same
 
     decides_same : decides d y n ≡ decides d x n
     unfolding decides
@@ -140,9 +143,9 @@ module _ {S : Type 0} (d : Design S) (x y : Core S) where
         ap (all_decided (known_of d (view d y) n)) accesses_are
         ∙ decided_same (known_of d (view d y) n) (known_of d (view d x) n) (first_accesses (view d x) n) all_known
 
-    pub timing_same : (limit : ℕ) → may_time d limit y n ≡ may_time d limit x n
+    pub timing_same : y.verified n (x.timed n) ≡ x.verified n (x.timed n) → (limit : ℕ) → may_time d limit y n ≡ may_time d limit x n
     unfolding may_time may_assign may_answer
-    timing_same limit = rw (determined_same limit, verified_same, decides_same) refl
+    timing_same same limit = rw (determined_same limit, verified_same same, decides_same) refl
 
 -- ---- what an Assign, an Answer or Runs leave
 
@@ -161,31 +164,25 @@ module _ {S : Type 0} (d : Design S) (x : Core S) (m : ℕ) where
     emitted = refl;
     state = refl;
     wait = refl;
-    verified = refl;
   }
 
-  answer_steps : (c w : ℕ) → (w ≡ m → ⊥) → SameSteps d x (after_answer d x m c) w
-  answer_steps c w other = record {
+  -- an Answer is of a step without a cycle
+  answer_steps : (c w : ℕ) → SameSteps d x (after_answer d x m c) w
+  answer_steps c w = record {
     timed = refl;
     state = λ k l. refl;
-    flags = λ k l. put_at_other x.flags m (x.timed m) _ w k (λ e f. other e);
+    flags = λ k l. put_at_other x.flags m (x.timed m) _ w k (λ e f. let same = ap x.timed e in omega arith);
     cycle = λ k. refl;
   }
 
-  answer_first : (c n : ℕ) → (n ≡ m → ⊥) → SameFirst d x (after_answer d x m c) n
-  answer_first c n other = record {
-    steps = answer_steps c n other;
-    emitted = refl;
-    state = refl;
-    wait = refl;
-    verified = put_at_other x.verified m (x.timed m) true n (x.timed n) (λ e f. other e);
-  }
+  answer_first : (c n : ℕ) → SameFirst d x (after_answer d x m c) n
+  answer_first c n = record { steps = answer_steps c n; emitted = refl; state = refl; wait = refl }
 
   over_steps : (w : ℕ) → SameSteps d x (emit_over x m) w
   over_steps w = record { timed = refl; state = λ k l. refl; flags = λ k l. refl; cycle = λ k. refl }
 
   over_first : (n : ℕ) → SameFirst d x (emit_over x m) n
-  over_first n = record { steps = over_steps n; emitted = refl; state = refl; wait = refl; verified = refl }
+  over_first n = record { steps = over_steps n; emitted = refl; state = refl; wait = refl }
 
   module _ (within : (w : ℕ) → x.timed w ≤ x.emitted w) where
     emit_steps : (w : ℕ) → SameSteps d x (emit d x m) w
@@ -202,7 +199,6 @@ module _ {S : Type 0} (d : Design S) (x : Core S) (m : ℕ) where
       emitted = put_other x.emitted m _ n other;
       state = put_at_other x.state m (x.emitted m) _ n (x.timed n) (λ e f. other e);
       wait = put_at_other x.wait m (x.emitted m) _ n (x.timed n) (λ e f. other e);
-      verified = put_at_other x.verified m (x.emitted m) _ n (x.timed n) (λ e f. other e);
     }
 
     run_steps : (w : ℕ) → SameSteps d x (after_run d x m) w
@@ -211,11 +207,25 @@ module _ {S : Type 0} (d : Design S) (x : Core S) (m : ℕ) where
     run_first : (n : ℕ) → (n ≡ m → ⊥) → SameFirst d x (after_run d x m) n
     run_first n other = run_cases d x m (λ y. SameFirst d x y n) (λ e. over_first n) (λ e. emit_first n other)
 
--- ---- what another module may do
+  run_verified : (n k : ℕ) → (n ≡ m → ⊥) → (after_run d x m).verified n k ≡ x.verified n k
+  run_verified n k other =
+      run_cases d x m (λ y. y.verified n k ≡ x.verified n k) (λ e. refl)
+      (λ e. put_at_other x.verified m (x.emitted m) _ n k (λ e f. other e))
 
-each_all : (P : Access → Type 0) (xs : List Access) → ((a : Access) → P a) → Each P xs
-each_all P [] f = tt
-each_all P (a ∷ xs) f = (f a, each_all P xs f)
+-- the step that was answered may be given its cycle
+pub answered_assigns : {S : Type 0} (d : Design S) (limit : ℕ) (x : Core S) (m c : ℕ) → IsDetermined d limit x m c
+    → MayAssign d limit (after_answer d x m c) m c
+answered_assigns {S} d limit x m c there = record {
+  determined = record {
+    at = candidate_same d x (after_answer d x m c) m (answer_first d x m c m)
+        (each_all _ (d.accesses m (x.state m (x.timed m))) (λ a. answer_steps d x m c (d.owner (other_side a.side) a.channel)))
+        ∙ there.at;
+    below = there.below;
+  };
+  verified = put_at_same x.verified m (x.timed m) true;
+}
+
+-- ---- what another module may do
 
 module _ {S : Type 0} (d : Design S) (limit : ℕ) (x : Core S) (m n : ℕ) (other : n ≡ m → ⊥) where
   -- an Assign or an Answer of the one changes nothing for another with which it shares no channel
@@ -226,11 +236,12 @@ module _ {S : Type 0} (d : Design S) (limit : ℕ) (x : Core S) (m n : ℕ) (oth
         | inl t ↦
             ap (λ (y : Core S). may_time d limit y n) (cond-true (may_assign d limit x m) _ _ t)
             ∙ timing_same d x (after_assign x m (cycle_found d x m)) n (assign_first d x m (cycle_found d x m) n other)
-            (opposite (after_assign x m (cycle_found d x m)) (assign_steps d x m (cycle_found d x m))) limit
+            (opposite (after_assign x m (cycle_found d x m)) (assign_steps d x m (cycle_found d x m))) refl limit
         | inr f ↦
             ap (λ (y : Core S). may_time d limit y n) (cond-false (may_assign d limit x m) _ _ f)
-            ∙ timing_same d x (after_answer d x m (cycle_found d x m)) n (answer_first d x m (cycle_found d x m) n other)
-            (opposite (after_answer d x m (cycle_found d x m)) (answer_steps d x m (cycle_found d x m))) limit
+            ∙ timing_same d x (after_answer d x m (cycle_found d x m)) n (answer_first d x m (cycle_found d x m) n)
+            (opposite (after_answer d x m (cycle_found d x m)) (λ w o. answer_steps d x m (cycle_found d x m) w))
+            (put_at_other x.verified m (x.timed m) true n (x.timed n) (λ e f. other e)) limit
       ]
     where
       opposite : (y : Core S) → ((w : ℕ) → (w ≡ m → ⊥) → SameSteps d x y w)
@@ -244,7 +255,7 @@ module _ {S : Type 0} (d : Design S) (limit : ℕ) (x : Core S) (m n : ℕ) (oth
   run_apart within =
       timing_same d x (after_run d x m) n (run_first d x m within n other)
       (each_all _ (d.accesses n (x.state n (x.timed n)))
-      (λ a. run_steps d x m within (d.owner (other_side a.side) a.channel))) limit
+      (λ a. run_steps d x m within (d.owner (other_side a.side) a.channel))) (run_verified d x m n (x.timed n) other) limit
 
 module _ {S : Type 0} (d : Design S) (h : Trace S) (i : IsDesign d) (history : IsHistory d h) (limit m n : ℕ) (other : n ≡ m → ⊥) where
   -- nor do any number of them

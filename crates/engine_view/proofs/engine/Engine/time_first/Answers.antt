@@ -51,25 +51,22 @@ are_first-requires g c =
     (c.candidate_and_queries-found.ensures.may_take c.in-At.cycle c.in-At.is).count (whole c.step-first.result)
     (rw (← c.frontier.ensures.count) c.step-first.ensures.step)
 
-pub returns-then-are_first-clause-done : goal.returns-then-are_first-clause-done
-returns-then-are_first-clause-done g c = λ d over i k.
-    let at = first g (goal.at.returns-then-are_first-clause-done g c).After-step-first over in
+pub assign_first-requires-clause-may : goal.assign_first-requires-clause-may
+assign_first-requires-clause-may g c =
+    let (d, over, i, k, r) = c.requires.core in
+    let at = first g (goal.at.assign_first-requires-clause-may g c).After-step-first over in
     let (e, l) = (c.candidate_and_queries-found.ensures.at c.in-At.cycle).0 c.in-At.is in
-    rw c.assign.ensures.lanes (turning.turn_assigned at i k c.verified.ensures.count e l c.if-are_first.ensures c.requires.owner
-    (rw (← c.assign.ensures.lanes) c.assign.ensures.sound))
+    (d, over, c.args.limit, c.requires.limit, i, k, turning.may_assign at i k c.verified.ensures.count e l c.if-are_first.ensures)
 
-pub returns-then-are_first-clause-room : goal.returns-then-are_first-clause-room
-returns-then-are_first-clause-room g c = record {
-  credits = refl;
-  room = λ d over i k r.
-      rw c.assign.ensures.lanes (turning.room_assigned c.in-At.cycle c.requires.owner r c.assign.ensures.kept);
+pub returns-then-are_first : goal.returns-then-are_first
+returns-then-are_first g c = record {
+  done = c.assign_first.ensures.done c.args.limit ((c.candidate_and_queries-found.ensures.at c.in-At.cycle).0 c.in-At.is).1;
+  room = c.assign_first.ensures.room;
+  lanes = c.assign_first.ensures.lanes;
+  kinds = rw c.assign_first.ensures.rest refl;
+  less = λ e. c.assign_first.ensures.less;
+  ticks = c.assign_first.ensures.ticks;
 }
-
-pub returns-then-are_first-clause-less : goal.returns-then-are_first-clause-less
-returns-then-are_first-clause-less g c = λ e.
-    let at = first g (goal.at.returns-then-are_first-clause-less g c).After-step-first [] in
-    less_assigned c.args.self.now c.assign.new.graph c.args.owner c.in-At.cycle c.assign.ensures.lanes c.requires.owner at.there
-    (turning.among_first at c.verified.ensures.count c.if-are_first.ensures)
 
 pub all_decided-requires-clause-inside : goal.all_decided-requires-clause-inside
 all_decided-requires-clause-inside g c =

@@ -50,12 +50,21 @@ returns-in-Differs-clause-same g c = λ f.
 pub answer_least-requires : goal.answer_least-requires
 answer_least-requires g c = rounds.all_quiet c.loop-at.invariant (c.in-None.ensures.all refl)
 
+pub jump-requires-in-Some-default-Same : goal.jump-requires-in-Some-default-Same
+jump-requires-in-Some-default-Same g c =
+    let done = rw c.in-Some-default-Same.field-0-1-is at c.in-Some-default-Same.ensures.done in
+    let some = rounds.some_counted c.loop-at.invariant c.answer_least.new.self done in
+    let count = c.acted-in-Some-default-Same.ensures.count in
+    omega arith
+
 pub loop-at-smaller : goal.loop-at-smaller
 loop-at-smaller g c =
     let done = rw c.in-Some-default-Same.field-0-1-is at c.in-Some-default-Same.ensures.done in
-    c.acted-in-Some-default-Same.ensures.less _ _ (rounds.went_on c.loop-at.invariant
-    (rounds.was_least c.loop-at.self c.answer_least.new.self c.in-Some-default-Same.owner c.loop-at.steps c.answer_least.ensures.plan
-    c.answer_least.ensures.lent (rounds.agreed_now c.loop-at.invariant) done))
+    let least = rounds.was_least c.loop-at.self c.answer_least.new.self c.in-Some-default-Same.owner c.loop-at.steps
+    c.answer_least.ensures.plan c.answer_least.ensures.lent (rounds.agreed_now c.loop-at.invariant) done in
+    let less = c.acted-in-Some-default-Same.ensures.less _ _ (rounds.went_on c.loop-at.invariant least) in
+    let no_more = c.jump-in-Some-default-Same.ensures.no_more (rounds.to_do c.answer_least.new.self) in
+    omega arith
 
 pub loop-at-preserved : goal.loop-at-preserved
 loop-at-preserved g c =
@@ -63,7 +72,8 @@ loop-at-preserved g c =
     rounds.went c.loop-at.invariant
     (rounds.was_least c.loop-at.self c.answer_least.new.self c.in-Some-default-Same.owner c.loop-at.steps c.answer_least.ensures.plan
     c.answer_least.ensures.lent (rounds.agreed_now c.loop-at.invariant) done)
-    c.acted-in-Some-default-Same.ensures.count c.acted-in-Some-default-Same.ensures.idle
+    (c.jump-in-Some-default-Same.ensures.count ∙ c.acted-in-Some-default-Same.ensures.count)
+    (λ m passed. c.acted-in-Some-default-Same.ensures.idle m (c.jump-in-Some-default-Same.ensures.idle m passed))
 
 pub returns-in-Some-default-Differs-clause-same : goal.returns-in-Some-default-Differs-clause-same
 returns-in-Some-default-Differs-clause-same g c = λ f.

@@ -3,33 +3,34 @@ use Rattle.std.proofs.lemmas.Bool.{both_ways}
 use Rattle.std.proofs.lemmas.Result.{IfOk-weaker, on_err_weaker}
 use Rattle.sim_core.proofs.Lending.{IsRoundTrip}
 use Rattle.sim_core.proofs.Lending as lending
+use Rattle.sim_core.proofs.machine.Core.run_on.Given.{Over}
 use Rattle.sim_core.proofs.machine.Core.run_on.Goals.{After-put_back}
 use Rattle.sim_core.proofs.machine.Core.run_on.Goals as goal
 
-trip : (c : After-put_back) → IsRoundTrip c.args.self.now c.take_out.new.self c.run_stretch-woken.new.self c.put_back.new.self c.args.owner
-trip c = record { out = c.in-Some.ensures.lent; here = c.in-Some.ensures.here; home = c.put_back.ensures }
+trip : (g : Over) (c : After-put_back g) → IsRoundTrip c.args.self.now c.take_out.new.self c.run_stretch-woken.new.self c.put_back.new.self c.args.owner
+trip g c = record { out = c.in-Some.ensures.lent; here = c.in-Some.ensures.here; home = c.put_back.ensures }
 
 pub returns-then-is_over-clause-none : goal.returns-then-is_over-clause-none
-returns-then-is_over-clause-none c = λ e may. both_ways _ may.lives (sym c.is_over.ensures ∙ c.if-is_over.true)
+returns-then-is_over-clause-none g c = λ e may. both_ways _ may.lives (sym c.is_over.ensures ∙ c.if-is_over.true)
 
 pub returns-clause-some : goal.returns-clause-some
-returns-clause-some c =
-    let t = trip (goal.at.returns-clause-some c).After-put_back in
-    IfOk-weaker c.run_stretch-woken.result _ _ (λ woken f. lending.some_then woken _ _ (λ g n. lending.goes_on_back t n (g n)) f)
+returns-clause-some g c =
+    let t = trip g (goal.at.returns-clause-some g c).After-put_back in
+    IfOk-weaker c.run_stretch-woken.result _ _ (λ woken f. lending.some_then woken _ _ (lending.goes_on_back t) f)
     c.run_stretch-woken.ensures.some
 
 pub returns-clause-unchanged : goal.returns-clause-unchanged
-returns-clause-unchanged c =
-    let t = trip (goal.at.returns-clause-unchanged c).After-put_back in
-    IfOk-weaker c.run_stretch-woken.result _ _ (λ woken f e. lending.same_back t (f e)) c.run_stretch-woken.ensures.unchanged
+returns-clause-unchanged g c =
+    let t = trip g (goal.at.returns-clause-unchanged g c).After-put_back in
+    IfOk-weaker c.run_stretch-woken.result _ _ (λ woken f e. (lending.same_back t (f e).0, (f e).1)) c.run_stretch-woken.ensures.unchanged
 
 pub returns-clause-none : goal.returns-clause-none
-returns-clause-none c = rw c.in-Some.ensures.lent at c.run_stretch-woken.ensures.none
+returns-clause-none g c = rw c.in-Some.ensures.lent at c.run_stretch-woken.ensures.none
 
 pub returns-clause-no_memory : goal.returns-clause-no_memory
-returns-clause-no_memory c =
-    let t = trip (goal.at.returns-clause-no_memory c).After-put_back in
-    on_err_weaker c.run_stretch-woken.result (λ g n. lending.goes_back t n (g n)) c.run_stretch-woken.ensures.no_memory
+returns-clause-no_memory g c =
+    let t = trip g (goal.at.returns-clause-no_memory g c).After-put_back in
+    on_err_weaker c.run_stretch-woken.result (lending.goes_back t) c.run_stretch-woken.ensures.no_memory
 
 pub returns-clause-permitted : goal.returns-clause-permitted
-returns-clause-permitted c = rw c.put_back.ensures c.run_stretch-woken.ensures.permitted
+returns-clause-permitted g c = rw c.put_back.ensures c.run_stretch-woken.ensures.permitted

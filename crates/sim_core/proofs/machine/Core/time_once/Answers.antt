@@ -1,13 +1,21 @@
-use Rattle.std.proofs.Common.{refl, subst, arith}
+use Rattle.std.proofs.Common.{refl, sym, subst, arith}
+use Rattle.flow_design.specs.declared.plan.Plan.{Plan}
+use Rattle.flow_design.specs.StaticRules.{FitsEngine}
 use Rattle.turn_history.proofs.Timings.{no_timing_at}
-use Rattle.timing_bridge.specs.Designs.{design}
+use Rattle.event_timing.specs.Actions.{MayAssign}
+use Rattle.event_timing.specs.Agreement.{IsAgreed}
+use Rattle.timing_bridge.specs.Designs.{design, lockstep_run}
 use Rattle.engine_view.specs.Turns.{IsIdle}
+use Rattle.engine_view.specs.declared.turn.Timing.TheVariants.{Assigned, Answered}
+use Rattle.sim_core.specs.Drives.{GoesOn}
 use Rattle.sim_core.specs.Views.{CoreView, theory_of}
 use Rattle.sim_core.proofs.Rounds as rounds
+use Rattle.sim_core.proofs.machine.Core.time_once.Given.{Over}
+use Rattle.sim_core.proofs.machine.Core.time_once.Goals.{In-Answered}
 use Rattle.sim_core.proofs.machine.Core.time_once.Goals as goal
 
-pub returns-then-not-asks : goal.returns-then-not-asks
-returns-then-not-asks g c =
+pub returns-then-not-asks-clause-timed : goal.returns-then-not-asks-clause-timed
+returns-then-not-asks-clause-timed g c =
     let inside = rw (← c.self.view_is) at c.requires in
     let modules = c.self.invariant.core.fits.module_count in
     let none = c.self.invariant.asking_are c.args.owner inside (c.asks.ensures c.if-not-asks.true (omega arith)) in (
@@ -20,12 +28,43 @@ returns-then-not-asks g c =
           }),
     )
 
-pub returns-in-Assigned : goal.returns-in-Assigned
-returns-in-Assigned g c =
+pub assign-requires-clause-may : goal.assign-requires-clause-may
+assign-requires-clause-may g c =
+    subst (λ (q : Plan). MayAssign (design q) q.cycles (theory_of c.time.new.self) c.args.owner c.in-Answered.cycle) (sym c.time.ensures.plan)
+    c.in-Answered.ensures.done.2
+
+pub returns-in-Assigned-clause-timed : goal.returns-in-Assigned-clause-timed
+returns-in-Assigned-clause-timed g c =
     rounds.was_assigned c.args.self.now c.time.new.self c.args.owner c.args.steps.now c.time.ensures.plan c.time.ensures.lent
     c.modules-count.ensures.agreed c.in-Assigned.field-0 c.time.new.steps c.in-Assigned.ensures.done c.in-Assigned.ensures.ticks
 
-pub returns-in-Answered : goal.returns-in-Answered
-returns-in-Answered g c =
-    rounds.was_answered c.args.self.now c.time.new.self c.args.owner c.args.steps.now c.time.ensures.plan c.time.ensures.lent
-    c.modules-count.ensures.agreed c.in-Answered.field-0 c.time.new.steps c.in-Answered.ensures.done c.in-Answered.ensures.ticks
+pub returns-in-Assigned-clause-out : goal.returns-in-Assigned-clause-out
+returns-in-Assigned-clause-out g c = λ run out.
+    rounds.out_timed c.args.self.now c.time.new.self c.args.owner c.time.ensures.plan c.time.ensures.lent c.modules-count.ensures.fits
+    c.modules-count.ensures.agreed run out (Assigned c.in-Assigned.field-0) c.in-Assigned.ensures.done
+
+-- behind the answer
+module _ (g : Over) (c : In-Answered g) where
+  answered : GoesOn c.args.self.now c.args.steps.now c.time.new.self c.time.new.steps
+  answered = rounds.was_answered c.args.self.now c.time.new.self c.args.owner c.args.steps.now c.time.ensures.plan c.time.ensures.lent
+      c.modules-count.ensures.agreed c.in-Answered.cycle c.time.new.steps c.in-Answered.ensures.done c.in-Answered.ensures.ticks
+
+  agreed : IsAgreed (design c.time.new.self.plan) (lockstep_run c.time.new.self.plan) c.time.new.self.plan.cycles (theory_of c.time.new.self)
+  agreed = rounds.goes_agreed c.args.self.now c.time.new.self c.args.steps.now c.time.new.steps c.modules-count.ensures.agreed
+      c.modules-count.ensures.fits answered.goes
+
+pub returns-in-Answered-clause-timed : goal.returns-in-Answered-clause-timed
+returns-in-Answered-clause-timed g c =
+    let at = (goal.at.returns-in-Answered-clause-timed g c).In-Answered in
+    rounds.on_join c.args.self.now c.time.new.self c.assign.new.self c.args.steps.now c.time.new.steps c.assign.new.steps (answered g at)
+    (rounds.was_assigned c.time.new.self c.assign.new.self c.args.owner c.time.new.steps c.assign.ensures.plan c.assign.ensures.lent
+    (agreed g at) c.in-Answered.cycle c.assign.new.steps c.assign.ensures.done c.assign.ensures.ticks)
+
+pub returns-in-Answered-clause-out : goal.returns-in-Answered-clause-out
+returns-in-Answered-clause-out g c = λ run out.
+    let at = (goal.at.returns-in-Answered-clause-out g c).In-Answered in
+    let there = rounds.out_timed c.args.self.now c.time.new.self c.args.owner c.time.ensures.plan c.time.ensures.lent
+    c.modules-count.ensures.fits c.modules-count.ensures.agreed run out (Answered c.in-Answered.cycle) c.in-Answered.ensures.done in
+    rounds.out_timed c.time.new.self c.assign.new.self c.args.owner c.assign.ensures.plan c.assign.ensures.lent
+    (subst FitsEngine (sym c.time.ensures.plan) c.modules-count.ensures.fits) (agreed g at) run there (Assigned c.in-Answered.cycle)
+    c.assign.ensures.done

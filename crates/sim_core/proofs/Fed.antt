@@ -1,10 +1,10 @@
 -- A run that waits is fed with the replies that are found for its newest step.
-use Rattle.std.proofs.Common.{◌≡◌, refl, sym, ap, subst, ◌∙◌, ℕ, suc, ◌+◌, ◌-◌, ◌<◌, ◌≤◌, inl, inr, Bool, true, false, cond, ltb}
+use Rattle.std.proofs.Common.{◌≡◌, refl, sym, ap, ap₂, subst, ◌∙◌, ℕ, suc, ◌+◌, ◌-◌, ◌<◌, ◌≤◌, inl, inr, Bool, true, false, cond, ltb}
 use Rattle.std.proofs.Common.{◌&&◌, List, [], ◌∷◌, length, map, get_or, is_some, not, arith}
 use Rattle.std.specs.Prelude.{All, Option, Some, None, slice_get}
 use Rattle.std.proofs.lemmas.Option.{get_or_from_slice_get}
 use Rattle.flow_word.specs.declared.access.Step.{Step}
-use Rattle.std.proofs.lemmas.Bool.{both_ways, and_from, and_parts, or_left, or_right, lt-ltb, le-leb}
+use Rattle.std.proofs.lemmas.Bool.{both_ways, cond-true, and_from, and_parts, or_left, or_right, lt-ltb, le-leb}
 use Rattle.std.proofs.lemmas.Bool.Decides.{eqb_tells}
 use Rattle.std.proofs.lemmas.List.Elements.{All-head, All-tail}
 use Rattle.flow_word.specs.declared.access.Access.{Access}
@@ -19,6 +19,7 @@ use Rattle.query_log.specs.Logs.{log_at}
 use Rattle.lockstep_defs.specs.Channels.{Exchange, reply_by}
 use Rattle.lockstep_defs.specs.Lockstep.{requests_of}
 use Rattle.lockstep_defs.specs.OwnRun.{Own, access_of}
+use Rattle.lockstep_defs.specs.Report.{queries}
 use Rattle.module_interp.specs.declared.run.ModuleRun.{ModuleRun}
 use Rattle.module_interp.specs.OwnRests.{done_in, next_rest, accesses_at, all_fit}
 use Rattle.module_interp.specs.Runs.{StandsAt, waits}
@@ -42,13 +43,15 @@ use Rattle.engine_view.proofs.Answered.{among_is}
 use Rattle.sim_core.specs.Found.{replies_now}
 use Rattle.engine_view.specs.declared.engine.Engine.{Engine}
 use Rattle.engine_view.specs.Engines.{held_in}
+use Rattle.sim_core.specs.Marks.{IsRestBehind}
 use Rattle.sim_core.specs.Runs.{IsRunOf, IsAnswered, IsCore, over_of, rest_behind}
+use Rattle.sim_core.proofs.Marking.{ordinal_is, queries_done}
 use Rattle.sim_core.proofs.Resting.{rest_is}
 use Rattle.sim_core.proofs.Staying.{tell, fed_is}
 use Rattle.run_ahead.specs.Replies.{value_now, first_missing}
 use Rattle.run_ahead.proofs.Finding.{replies_fit, none_missing}
 use Rattle.sim_core.proofs.Finding.{replies_found, values_now, are_found, not_found}
-use Rattle.engine_report.proofs.Asking.{same_kind}
+use Rattle.engine_report.proofs.Asking.{same_kind, same_channel}
 
 -- ---- replies
 
@@ -77,6 +80,30 @@ fit_same before (r ∷ rs) (a ∷ xs) [] e = refl
 fit_same before (r ∷ rs) (a ∷ xs) (q ∷ qs) e =
     let kind = same_kind r a cc in
     let later = fit_same before rs xs qs cc in cc
+
+same_access : (x y : Access) → x.kind ≡ y.kind → x.channel ≡ y.channel → x.ordinal ≡ y.ordinal → x.value ≡ y.value → x ≡ y
+same_access x y kind channel ordinal value =
+    let access : Kind × ℕ → ℕ × ℕ → Access = λ p q. record { kind = p.0; channel = p.1; ordinal = q.0; value = q.1 } in
+    ap₂ access (ap₂ (λ (a : Kind) (b : ℕ). (a, b)) kind channel) (ap₂ (λ (a b : ℕ). (a, b)) ordinal value)
+
+-- accesses as the theory sees them, with the ordinals that it counts, are those of the requests
+same_accesses : (before : List Exchange) (t : Side → ℕ → ℕ) (rs : List Request) (xs : List Access) → map bridge.seen rs ≡ map seen xs
+    → ((r : Request) → (access_of before r).ordinal ≡ suc (t (side_of r.kind) r.channel))
+    → All (λ (a : Access). a.ordinal ≡ suc (t (side_of a.kind) a.channel)) xs → map (access_of before) rs ≡ xs
+same_accesses before t [] [] e f o = refl
+same_accesses before t [] (a ∷ xs) e f o = cc
+same_accesses before t (r ∷ rs) [] e f o = cc
+same_accesses before t (r ∷ rs) (a ∷ xs) e f o =
+    let here : bridge.seen r ≡ seen a = cc in
+    let rest : map bridge.seen rs ≡ map seen xs = cc in
+    let kind = same_kind r a here in
+    let channel = same_channel r a here in
+    let value : r.value ≡ a.value = ap (λ (t : theory.Access). t.value) here in
+    let there = All-head (λ (a : Access). a.ordinal ≡ suc (t (side_of a.kind) a.channel)) a xs o in
+    let ordinal : (access_of before r).ordinal ≡ a.ordinal = f r
+    ∙ (ap suc (ap₂ t (ap side_of kind) channel) ∙ sym there) in
+    let later = same_accesses before t rs xs rest f (All-tail (λ (a : Access). a.ordinal ≡ suc (t (side_of a.kind) a.channel)) a xs o) in
+    ap₂ (λ (b : Access) (bs : List Access). b ∷ bs) (same_access (access_of before r) a kind channel ordinal value) later
 
 -- each pop has its value, as the theory says it
 there_same : (channels : List Channel) (V : ℕ → List ℕ) (t : Side → ℕ → ℕ) (xs : List Access) (bs : List Bool)
@@ -267,35 +294,57 @@ module _ {p : Plan} {engine : Engine} {ends : List (Option Advance)} {runs : Lis
       let same : n ≡ k = omega arith in
       subst (λ (j : ℕ). StandsAt p i (rest_behind p (core_of (design p) g) i j) run) same stands
 
-  module _ {step : Step} (there : slice_get (lane_at g.lanes i).steps k ≡ Some step) where
-    is : step_of g i k ≡ step
-    is = get_or_from_slice_get (lane_at g.lanes i).steps k step no_step there
+  abbrev step : Step
+  step = step_of g i k
 
-    abbrev found : Step → Option (List Reply)
-    found = replies_now g i
+  emitted_asked : k < emitted_of g i
+  emitted_asked = let some = asked_some in omega arith
 
-    pub asked_inside : All (IsAccess g.channels) step.accesses
-    asked_inside = newest_inside core asked_some within there
+  behind : IsRestBehind p (core_of (design p) g) i k (rest_behind p (core_of (design p) g) i k)
+  behind = rest_is p core.fits (core_of (design p) g) core.agreed.marks i within k k (omega arith) (let l = emitted_asked in omega arith)
 
-    pub asked_not_fed : found step ≡ None → MayRun (design p) (core_of (design p) g) i → ⊥
-    asked_not_fed e may =
-        not_fed core asked_some within (ap found is ∙ e) (λ j q. (may.answered j q, may.there j q))
+  -- the run lists the accesses of that step
+  pub asked_accesses : {xs : List Access}
+      → ((q : Plan) (j : ℕ) (o : Own) → StandsAt q j o run → xs ≡ cond (waits run) (accesses_at q j o) []) → xs ≡ step.accesses
+  asked_accesses listed =
+      let l = emitted_asked in
+      let rest = rest_behind p (core_of (design p) g) i k in
+      listed p i rest asked_stands
+      ∙ (cond-true (waits run) (accesses_at p i rest) [] w
+      ∙ (ap (λ (z : ModuleState). map (access_of (done_in rest.steps)) (requests_of p (i, z))) (state_is core asked_some within)
+      ∙ same_accesses (done_in rest.steps) (λ side c. core_tally (design p) (core_of (design p) g) i side c k)
+      (requests_of p (i, (core_of (design p) g).state i k)) step.accesses (seen_same p core.sound core.agreed.marks i k l)
+      (ordinal_is p g core.agreed.marks i k (omega arith) (done_in rest.steps) behind.done) (core.sound.ordinals i k l)))
 
-    pub asked_fits : {rs : List Reply} → found step ≡ Some rs → all_fit (accesses_at p i (rest_behind p (core_of (design p) g) i k))
-        rs ≡ true
-    asked_fits e = fed_fits core asked_some within (ap found is ∙ e)
+  -- and has made the queries of those before it
+  pub asked_queries : {n : ℕ} → ((q : Plan) (j : ℕ) (o : Own) → StandsAt q j o run → n ≡ length (queries (done_in o.steps)))
+      → n ≡ step.first_query
+  asked_queries made =
+      let l = emitted_asked in
+      made p i (rest_behind p (core_of (design p) g) i k) asked_stands
+      ∙ (ap (λ (xs : List Exchange). length (queries xs)) behind.done
+      ∙ (queries_done p g core.sound i k (omega arith) ∙ sym (core.sound.first_query i k l)))
 
-    -- fed, the run goes on to the next rest
-    pub asked_run : {rs : List Reply} → found step ≡ Some rs → {new : ModuleRun}
-        → ((q : Plan) (j : ℕ) (o : Own) → StandsAt q j o run → StandsAt q j (next_rest q j o rs) new) → waits new ≡ false
-        → IsRunOf p (core_of (design p) g) i new
-    asked_run {rs} e {new} go answered =
-        let e' : found (step_of g i k) ≡ Some rs = ap found is ∙ e in
-        record {
-          waiting = λ q. absurd (both_ways _ answered q);
-          going = λ q. (
-            fed_answered core asked_some within e',
-            subst (λ (o : Own). StandsAt p i o new) (fed_rest core asked_some within e') (go p i _ asked_stands),
-          );
-          over = λ q. answered;
-        }
+  pub asked_inside : All (IsAccess g.channels) step.accesses
+  asked_inside = accesses_inside p core.sound core.agreed.marks i k emitted_asked within
+
+  pub asked_not_fed : replies_now g i step ≡ None → MayRun (design p) (core_of (design p) g) i → ⊥
+  asked_not_fed e may =
+      not_fed core asked_some within e (λ j q. (may.answered j q, may.there j q))
+
+  pub asked_fits : {rs : List Reply} → replies_now g i step ≡ Some rs → all_fit (accesses_at p i (rest_behind p (core_of (design p) g) i k))
+      rs ≡ true
+  asked_fits e = fed_fits core asked_some within e
+
+  -- fed, the run goes on to the next rest
+  pub asked_run : {rs : List Reply} → replies_now g i step ≡ Some rs → {new : ModuleRun}
+      → ((q : Plan) (j : ℕ) (o : Own) → StandsAt q j o run → StandsAt q j (next_rest q j o rs) new) → waits new ≡ false
+      → IsRunOf p (core_of (design p) g) i new
+  asked_run {rs} e {new} go answered = record {
+    waiting = λ q. absurd (both_ways _ answered q);
+    going = λ q. (
+      fed_answered core asked_some within e,
+      subst (λ (o : Own). StandsAt p i o new) (fed_rest core asked_some within e) (go p i _ asked_stands),
+    );
+    over = λ q. answered;
+  }

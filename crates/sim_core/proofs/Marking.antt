@@ -142,7 +142,7 @@ module _ (p : Plan) (channels : List Channel) (t : kinds_in channels ≡ kinds_o
       }
 
 -- an ordinal is one more than the theory's count
-ordinal_is : (p : Plan) (h : Held) → AreOwnMarks (design p) (core_of (design p) h) → (i n : ℕ) → n ≤ emitted_of h i
+pub ordinal_is : (p : Plan) (h : Held) → AreOwnMarks (design p) (core_of (design p) h) → (i n : ℕ) → n ≤ emitted_of h i
     → (before : List Exchange) → before ≡ exchanges_before p (core_of (design p) h) i n
     → (r : Request) → (access_of before r).ordinal ≡ suc (core_tally (design p) (core_of (design p) h) i (side_of r.kind) r.channel n)
 ordinal_is p h b i n l before e r =

@@ -160,15 +160,11 @@ impl Core {
         if !run.is_waiting() {
             return Ok(true);
         }
-        let step = self.engine.graph.step(Place {
-            module: owner,
-            step: self.engine.graph.len(owner) - 1,
-        });
         let Some(_told) = find_replies(
             self.engine.log.outcomes(owner),
             &self.engine.fifos,
-            step.first_query,
-            step.accesses.as_slice(),
+            run.queries(),
+            run.waiting(),
             &mut self.scratch.replies,
         )?
         else {

@@ -4,7 +4,7 @@ ghost use Rattle.time_engine.specs.Conditions.{IsAccess, HasAccesses};
 
 use crate::draft::Draft;
 use crate::timed::has_cycle;
-use event_graph::{Access, Graph, Place};
+use event_graph::{Access, Graph, LaneAccesses, Place};
 use fifo_table::{Enabler, FifoTable};
 
 /// The latest of the clock in which the module comes to the step and of those from which its blocking accesses are
@@ -15,19 +15,25 @@ pub fn due_cycle(draft: &Draft, graph: &Graph, fifos: &FifoTable, at: Place) -> 
     if !has_cycle(graph, at) {
         return None;
     }
-    let step = graph.step(at);
+    let step = graph.look(at);
     let arrival = draft.cycle_before(at)?.checked_add(step.gap)?;
-    latest(draft, fifos, step.accesses.as_slice(), arrival)
+    latest(draft, fifos, &step.accesses, arrival)
 }
 
 /// The latest of a clock and of those from which the blocking ones of the accesses are possible. None where one waits.
-fn latest(draft: &Draft, fifos: &FifoTable, accesses: &[Access], clock: u64) -> Option<u64>
+fn latest(
+    draft: &Draft,
+    fifos: &FifoTable,
+    accesses: &LaneAccesses<'_>,
+    clock: u64,
+) -> Option<u64>
     requires { All (IsAccess fifos.now.channels) accesses.now }
 {
     let mut cycle = clock;
-    for access in accesses {
+    for number in 0..accesses.len() {
+        let access = accesses.at(number);
         if access.kind.is_blocking() {
-            cycle = cycle.max(possible_from(draft, fifos, access)?);
+            cycle = cycle.max(possible_from(draft, fifos, &access)?);
         }
     }
     Some(cycle)

@@ -6,11 +6,16 @@ use Rattle.flow_word.specs.declared.access.Access.{Access}
 use Rattle.flow_word.specs.declared.access.Step.{Step}
 use Rattle.event_graph.specs.declared.steps.Head.{Head}
 use Rattle.event_graph.specs.declared.view.StepView.{StepView}
+use Rattle.event_graph.specs.declared.view.LaneStep.{LaneStep}
 use Rattle.event_graph.specs.Words.{Fits, is_kept, goes_on, upper, accesses_in, behind, HasAccess, words_of}
 
 -- the step that is read
 abbrev pub whole : StepView → Step
 whole view = record { gap = view.gap; accesses = view.accesses; first_query = view.first_query }
+
+-- and the step that is read where it stands
+abbrev pub in_lane : LaneStep → Step
+in_lane view = record { gap = view.gap; accesses = view.accesses; first_query = view.first_query }
 
 -- no step
 abbrev pub nothing : Step

@@ -8,12 +8,12 @@ ghost use Rattle.event_graph.specs.Lanes.{with_cycle, with_put, timed_below, if_
 ghost use Rattle.std.specs.Prelude.{slice_set};
 ghost use Rattle.std.specs.List.Sorted.{IsStrictlyIncreasing};
 ghost use Rattle.event_graph.specs.Lanes.{cycle_of as cycle_at};
-ghost use Rattle.event_graph.specs.Packed.{whole, IsFewStep};
+ghost use Rattle.event_graph.specs.Packed.{whole, in_lane, IsFewStep};
 ghost use Rattle.event_graph.specs.Roomed.{UsesPlace};
 ghost use Rattle.flow_word.specs.declared.access.Place.{Place};
 
 use crate::lane::RoomyLane;
-use crate::view::StepView;
+use crate::view::{LaneStep, StepView};
 use flow_word::{OutOfMemory, Place, Step, Steps};
 use std::alloc::Global;
 use std::marker::Model;
@@ -140,6 +140,17 @@ impl Graph {
         ensures apart { 0 < place.step → 1 ≤ result.gap }
     {
         self.lanes[place.module as usize].step(place.step)
+    }
+
+    /// The step at a place, of which each access is read where it is asked for.
+    #[inline(always)]
+    pub fn look(&self, place: Place) -> LaneStep<'_>
+        requires { HasStep self.now.lanes place }
+        ensures step { slice_get (lane_at self.now.lanes place.module).steps place.step ≡ Some (in_lane result) }
+        ensures sound { IsSoundStep (in_lane result) }
+        ensures apart { 0 < place.step → 1 ≤ result.gap }
+    {
+        self.lanes[place.module as usize].look(place.step)
     }
 
     /// The cycle of the step at a place, where it has one.

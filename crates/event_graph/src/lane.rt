@@ -4,10 +4,10 @@ ghost use Rattle.std.specs.Option.{ForSome};
 ghost use Rattle.std.specs.List.Sorted.{IsStrictlyIncreasing};
 ghost use Rattle.event_graph.specs.Lanes.{no_lane, last_cycle, cycle_bound, IsSoundStep, IsSoundLane, longer, timed, timed_below};
 ghost use Rattle.event_graph.specs.Lanes.{put_in};
-ghost use Rattle.event_graph.specs.Packed.{whole, IsFewStep};
+ghost use Rattle.event_graph.specs.Packed.{whole, in_lane, IsFewStep};
 
 use crate::steps::StepList;
-use crate::view::StepView;
+use crate::view::{LaneStep, StepView};
 use flow_word::{OutOfMemory, Step, Steps};
 use std::alloc::Global;
 use std::marker::Model;
@@ -64,6 +64,15 @@ impl RoomyLane {
         ensures { slice_get self.now.lane.steps at ≡ Some (whole result) }
     {
         self.steps.get(at)
+    }
+
+    /// The same, of which each access is read where it is asked for.
+    #[inline(always)]
+    pub fn look(&self, at: u64) -> LaneStep<'_>
+        requires { at < length self.now.lane.steps }
+        ensures { slice_get self.now.lane.steps at ≡ Some (in_lane result) }
+    {
+        self.steps.look(at)
     }
 
     /// How many steps have their cycle.

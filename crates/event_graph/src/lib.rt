@@ -11,4 +11,4 @@ mod words;
 pub use candidate::Candidate;
 pub use flow_word::{Access, Accesses, Kind, Place, Step};
 pub use graph::Graph;
-pub use view::{AccessesView, StepView};
+pub use view::{AccessesView, LaneAccesses, LaneStep, StepView};

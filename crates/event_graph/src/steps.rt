@@ -1,10 +1,10 @@
 //! The steps of a lane, each in as few bytes as it needs.
 ghost use Rattle.std.specs.Prelude.{◌≡◌, ◌+◌, ◌<◌, ◌≤◌, ◌^◌, [], ◌∷◌, ◌++◌, true, length, slice_get, slice_index, Some};
 ghost use Rattle.std.specs.Prelude.{◌⊎◌, All, IsOk, OnOk, OnErr};
-ghost use Rattle.event_graph.specs.Packed.{whole, packed, IsFewStep, IsKept};
+ghost use Rattle.event_graph.specs.Packed.{whole, in_lane, packed, IsFewStep, IsKept};
 ghost use Rattle.event_graph.specs.Words.{Fits, HasAccess, behind, accesses_in, goes_on as goes_on_by};
 
-use crate::view::{AccessesView, StepView};
+use crate::view::{AccessesView, LaneAccesses, LaneStep, StepView};
 use crate::words::{all_fit, goes_on, is_kept, kept_at, push_access, read_access, size_of, upper};
 use flow_word::{Access, OutOfMemory, RoomyList, Step};
 use std::alloc::Global;
@@ -87,6 +87,24 @@ impl StepList {
         }
     }
 
+    /// The same, of which each access is read where it is asked for.
+    #[inline(always)]
+    pub fn look(&self, at: u64) -> LaneStep<'_>
+        requires { at < length self.now.items }
+        ensures { slice_get self.now.items at ≡ Some (in_lane result) }
+    {
+        let head = &self.heads.as_slice()[at as usize];
+        let words = &self.words.as_slice()[head.at as usize..];
+        if is_kept(words[0]) {
+            return look_kept(&self.others.as_slice()[upper(words[0]) as usize]);
+        }
+        LaneStep {
+            gap: head.gap as u64,
+            accesses: LaneAccesses::of_words(words),
+            first_query: head.first_query as u64,
+        }
+    }
+
     /// Makes room for so many more steps. The room never falls.
     #[inline(always)]
     pub fn reserve(&mut self, more: u64) -> Result<(), OutOfMemory>
@@ -151,6 +169,17 @@ fn view_kept(step: &Step) -> StepView<'_>
     StepView {
         gap: step.gap,
         accesses: AccessesView::new(step.accesses.as_slice()),
+        first_query: step.first_query,
+    }
+}
+
+/// The same, where it stands.
+fn look_kept(step: &Step) -> LaneStep<'_>
+    ensures { in_lane result ≡ step.now }
+{
+    LaneStep {
+        gap: step.gap,
+        accesses: LaneAccesses::of_slice(step.accesses.as_slice()),
         first_query: step.first_query,
     }
 }

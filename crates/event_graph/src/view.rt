@@ -1,6 +1,8 @@
 //! A step as it is read in its lane.
-ghost use Rattle.std.specs.Prelude.{◌≡◌, [], ◌∷◌, length};
+ghost use Rattle.std.specs.Prelude.{◌≡◌, ◌<◌, true, [], ◌∷◌, length, slice_get, slice_index, Some};
+ghost use Rattle.event_graph.specs.Words.{HasAccess, behind, accesses_in, goes_on as goes_on_by};
 
+use crate::words::{goes_on, read_access, size_of};
 use flow_word::Access;
 use std::marker::Model;
 
@@ -87,6 +89,99 @@ pub struct StepView<'a> {
     pub gap: u64,
     /// The accesses, in commit order.
     pub accesses: AccessesView<'a>,
+    /// How many queries the module made before this step.
+    pub first_query: u64,
+}
+
+/// Where the accesses are that are read one by one.
+#[derive(Drop)]
+enum Listed<'a> {
+    Words(&'a [u64]),
+    Slice(&'a [Access]),
+}
+
+/// The accesses of a step, in commit order, where they stand in its lane. Each is read where it is asked for.
+#[derive(Drop)]
+pub struct LaneAccesses<'a> {
+    listed: Listed<'a>,
+}
+
+impl<'a> Model for LaneAccesses<'a> {
+    ghost use Rattle.std.specs.Prelude.{List};
+    ghost use Rattle.flow_word.specs.declared.access.Access.{Access};
+    ghost use Rattle.event_graph.specs.Held.{listed_in, IsListed};
+
+    ghost Value = { List Access };
+
+    ghost view = { λ accesses. listed_in accesses.listed };
+
+    ghost invariant = { λ accesses. IsListed accesses.listed };
+}
+
+impl<'a> LaneAccesses<'a> {
+    /// Those that begin these words.
+    #[inline(always)]
+    pub(crate) fn of_words(words: &'a [u64]) -> LaneAccesses<'a>
+        requires some { HasAccess words.now }
+        requires two { goes_on_by (slice_index words.now 0) ≡ true → HasAccess (behind words.now) }
+        ensures { result ≡ accesses_in words.now }
+    {
+        LaneAccesses {
+            listed: Listed::Words(words),
+        }
+    }
+
+    /// These accesses.
+    #[inline(always)]
+    pub(crate) fn of_slice(items: &'a [Access]) -> LaneAccesses<'a>
+        ensures { result ≡ items.now }
+    {
+        LaneAccesses {
+            listed: Listed::Slice(items),
+        }
+    }
+
+    /// How many accesses there are.
+    #[inline(always)]
+    pub fn len(&self) -> usize
+        ensures { result ≡ length self.now }
+    {
+        match &self.listed {
+            Listed::Words(words) => 1 + goes_on(words[0]) as usize,
+            Listed::Slice(items) => items.len(),
+        }
+    }
+
+    /// The access of this number, counted from 0.
+    #[inline(always)]
+    pub fn at(&self, number: usize) -> Access
+        requires { number < length self.now }
+        ensures { slice_get self.now number ≡ Some result }
+    {
+        match &self.listed {
+            Listed::Words(words) if number == 0 => read_access(words),
+            Listed::Words(words) => read_access(&words[size_of(words[0])..]),
+            Listed::Slice(items) => item_at(items, number),
+        }
+    }
+}
+
+/// The access of this number among these.
+#[inline(always)]
+fn item_at(items: &[Access], number: usize) -> Access
+    requires { number < length items.now }
+    ensures { slice_get items.now number ≡ Some result }
+{
+    items[number]
+}
+
+/// A step where it stands in its lane, of which each access is read where it is asked for.
+#[derive(Drop)]
+pub struct LaneStep<'a> {
+    /// The local clocks since the module's step before, or since its local clock 0.
+    pub gap: u64,
+    /// The accesses, in commit order.
+    pub accesses: LaneAccesses<'a>,
     /// How many queries the module made before this step.
     pub first_query: u64,
 }

@@ -72,9 +72,9 @@ fn due_cycle(graph: &Graph, fifos: &FifoTable, at: Place) -> Option<u64>
     requires places { HasPlaces graph.now.lanes fifos.now.channels }
     ensures { result ≡ looked (held graph.now.lanes fifos.now.channels [] []) at.module at.step }
 {
-    let step = graph.step(at);
+    let step = graph.look(at);
     let arrival = cycle_before(graph, at) + step.gap;
-    match latest(graph, fifos, step.accesses.as_slice(), arrival) {
+    match latest(graph, fifos, &step.accesses, arrival) {
         Ok(cycle) => Some(cycle),
         Err(_access) => None,
     }

@@ -11,7 +11,7 @@ ghost use Rattle.time_engine.specs.Cycles.{latest as latest_of};
 ghost use Rattle.fifo_table.specs.Channels.{Channel};
 
 use crate::known::{Known, known_of};
-use event_graph::{Access, Candidate, Graph, Kind, Place};
+use event_graph::{Access, Candidate, Graph, Kind, LaneAccesses, Place};
 use fifo_table::FifoTable;
 use flow_word::Steps;
 use std::sync::ledger::Ledger;
@@ -59,12 +59,12 @@ pub fn candidate_and_queries(
     if first == graph.len(owner) {
         return (Candidate::Nothing, 0);
     }
-    let step = graph.step(Place {
+    let step = graph.look(Place {
         module: owner,
         step: first,
     });
     let arrival = last_cycle(graph, owner) + step.gap;
-    match latest_and_queries(graph, fifos, step.accesses.as_slice(), arrival) {
+    match latest_and_queries(graph, fifos, &step.accesses, arrival) {
         Err(access) => (Candidate::Waits(access), 0),
         Ok((cycle, queries)) if cycle < limit => (Candidate::At(cycle), queries),
         Ok((_, queries)) => (Candidate::Beyond, queries),
@@ -104,7 +104,12 @@ pub fn last_cycle(graph: &Graph, owner: u32) -> u64
 
 /// The latest of a clock and of those from which the blocking accesses are possible, or the number of the first access that
 /// waits.
-pub fn latest(graph: &Graph, fifos: &FifoTable, accesses: &[Access], clock: u64) -> Result<u64, u32>
+pub fn latest(
+    graph: &Graph,
+    fifos: &FifoTable,
+    accesses: &LaneAccesses<'_>,
+    clock: u64,
+) -> Result<u64, u32>
     requires accesses { All (IsAccess fifos.now.channels) accesses.now }
     requires few { length accesses.now < 2 ^ 32 }
     requires places { HasPlaces graph.now.lanes fifos.now.channels }
@@ -121,7 +126,7 @@ pub fn latest(graph: &Graph, fifos: &FifoTable, accesses: &[Access], clock: u64)
 fn latest_and_queries(
     graph: &Graph,
     fifos: &FifoTable,
-    accesses: &[Access],
+    accesses: &LaneAccesses<'_>,
     clock: u64,
 ) -> Result<(u64, u64), u32>
     requires accesses { All (IsAccess fifos.now.channels) accesses.now }
@@ -135,8 +140,9 @@ fn latest_and_queries(
 {
     let mut cycle = clock;
     let mut queries = 0u64;
-    for (number, access) in accesses.iter().enumerate() {
-        match later(graph, fifos, access, cycle) {
+    for number in 0..accesses.len() {
+        let access = accesses.at(number);
+        match later(graph, fifos, &access, cycle) {
             Some(later) => cycle = later,
             None => return Err(number as u32),
         }

@@ -3,7 +3,7 @@ use Rattle.std.proofs.lemmas.Option.{slice_get_past}
 use Rattle.event_graph.specs.Lanes.{lane_at}
 use Rattle.time_engine.specs.Cycles.{open_step, clocks_of}
 use Rattle.time_engine.proofs.Candidates.{says_nothing, says_waits, says_at, says_beyond, may_take}
-use Rattle.event_graph.specs.Packed.{whole}
+use Rattle.event_graph.specs.Packed.{in_lane}
 use Rattle.time_engine.proofs.timing.candidate_and_queries.Goals as goal
 
 pub returns-then-first-len : goal.returns-then-first-len
@@ -22,11 +22,11 @@ returns-then-first-len c =
 
 pub returns-in-Err : goal.returns-in-Err
 returns-in-Err c =
-    let there : open_step (lane_at c.args.graph.now.lanes c.args.owner) ≡ Some (whole c.step-step.result) =
-    rw (← c.frontier-first.ensures.count) c.step-step.ensures.step in
-    let says = says_waits c.args.graph.now.lanes c.args.fifos.now.channels c.args.owner c.args.limit (whole c.step-step.result)
+    let there : open_step (lane_at c.args.graph.now.lanes c.args.owner) ≡ Some (in_lane c.look-step.result) =
+    rw (← c.frontier-first.ensures.count) c.look-step.ensures.step in
+    let says = says_waits c.args.graph.now.lanes c.args.fifos.now.channels c.args.owner c.args.limit (in_lane c.look-step.result)
     c.in-Err.access
-    there (rw (← c.as_slice.ensures) c.in-Err.ensures.waits) in
+    there c.in-Err.ensures.waits in
     record {
       nothing = says.nothing;
       waits = says.waits;
@@ -39,14 +39,14 @@ pub returns-in-Ok : goal.returns-in-Ok
 returns-in-Ok c =
     let lanes = c.args.graph.now.lanes in
     let channels = c.args.fifos.now.channels in
-    let step = (whole c.step-step.result) in
-    let there : open_step (lane_at lanes c.args.owner) ≡ Some step = rw (← c.frontier-first.ensures.count) c.step-step.ensures.step in
-    let latest = rw (c.as_slice.ensures, c.last_cycle.ensures.cycle) at c.in-Ok.ensures.latest in
+    let step = in_lane c.look-step.result in
+    let there : open_step (lane_at lanes c.args.owner) ≡ Some step = rw (← c.frontier-first.ensures.count) c.look-step.ensures.step in
+    let latest = rw c.last_cycle.ensures.cycle at c.in-Ok.ensures.latest in
     let says = says_at lanes channels c.args.owner c.args.limit step c.in-Ok.cycle there
-    (rw (← c.as_slice.ensures) c.in-Ok.ensures.none_waits) latest c.if-cycle-limit.true in
+    c.in-Ok.ensures.none_waits latest c.if-cycle-limit.true in
     let takes = may_take lanes c.args.owner c.args.limit step (clocks_of lanes channels step.accesses) c.in-Ok.cycle c.requires.owner
     c.requires.limit there
-    (rw (← c.frontier-first.ensures.count) c.step-step.ensures.apart) latest c.if-cycle-limit.true in
+    (rw (← c.frontier-first.ensures.count) c.look-step.ensures.apart) latest c.if-cycle-limit.true in
     record {
       nothing = says.nothing;
       waits = says.waits;
@@ -54,7 +54,7 @@ returns-in-Ok c =
       at = says.at;
       may_take = λ cycle e. let same : c.in-Ok.cycle ≡ cycle = cc in record {
         may = rw (← same) takes;
-        count = λ s is. let same : s ≡ step = cc in rw (same, ← c.as_slice.ensures) c.in-Ok.ensures.queries;
+        count = λ s is. let same : s ≡ step = cc in rw same c.in-Ok.ensures.queries;
       };
     }
 
@@ -62,11 +62,11 @@ pub returns-in-Ok-2 : goal.returns-in-Ok-2
 returns-in-Ok-2 c =
     let lanes = c.args.graph.now.lanes in
     let channels = c.args.fifos.now.channels in
-    let step = (whole c.step-step.result) in
-    let there : open_step (lane_at lanes c.args.owner) ≡ Some step = rw (← c.frontier-first.ensures.count) c.step-step.ensures.step in
-    let latest = rw (c.as_slice.ensures, c.last_cycle.ensures.cycle) at c.in-Ok.ensures.latest in
+    let step = in_lane c.look-step.result in
+    let there : open_step (lane_at lanes c.args.owner) ≡ Some step = rw (← c.frontier-first.ensures.count) c.look-step.ensures.step in
+    let latest = rw c.last_cycle.ensures.cycle at c.in-Ok.ensures.latest in
     let says = says_beyond lanes channels c.args.owner c.args.limit step c.in-Ok.cycle there
-    (rw (← c.as_slice.ensures) c.in-Ok.ensures.none_waits) latest c.if-cycle-limit.false in
+    c.in-Ok.ensures.none_waits latest c.if-cycle-limit.false in
     record {
       nothing = says.nothing;
       waits = says.waits;

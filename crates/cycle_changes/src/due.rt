@@ -21,12 +21,7 @@ pub fn due_cycle(draft: &Draft, graph: &Graph, fifos: &FifoTable, at: Place) -> 
 }
 
 /// The latest of a clock and of those from which the blocking ones of the accesses are possible. None where one waits.
-fn latest(
-    draft: &Draft,
-    fifos: &FifoTable,
-    accesses: &LaneAccesses<'_>,
-    clock: u64,
-) -> Option<u64>
+fn latest(draft: &Draft, fifos: &FifoTable, accesses: &LaneAccesses<'_>, clock: u64) -> Option<u64>
     requires { All (IsAccess fifos.now.channels) accesses.now }
 {
     let mut cycle = clock;

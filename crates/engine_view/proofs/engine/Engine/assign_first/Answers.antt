@@ -1,9 +1,9 @@
-use Rattle.std.proofs.Common.{◌≡◌, refl, sym, ◌∙◌, ◌<◌, Bool, true, List, [], Some, length}
+use Rattle.std.proofs.Common.{◌≡◌, refl, sym, ◌∙◌, Bool, true, List, [], Some}
 use Rattle.std.proofs.lemmas.Bool.{and_parts}
 use Rattle.query_log.specs.Logs.{log_at}
 use Rattle.time_engine.specs.Cycles.{MayTake, determined}
 use Rattle.time_engine.proofs.Candidates.{determined_takes}
-use Rattle.engine_view.specs.Held.{step_of, emitted_of, are_among}
+use Rattle.engine_view.specs.Held.{step_of, are_among}
 use Rattle.engine_view.specs.Engines.{held_in}
 use Rattle.engine_view.specs.Turns.{first_of}
 use Rattle.engine_view.proofs.Bounds.{candidate_is}

@@ -4,7 +4,7 @@ use Rattle.event_graph.specs.Lanes.{no_lane}
 use Rattle.engine_view.specs.Held.{no_step}
 use Rattle.engine_view.specs.Engines.{held_in}
 use Rattle.engine_view.specs.Turns.{first_of}
-use Rattle.engine_view.proofs.Leaving.{less_assigned, less_answered}
+use Rattle.engine_view.proofs.Leaving.{less_answered}
 use Rattle.engine_view.proofs.Unsure.{verified_now}
 use Rattle.engine_view.proofs.Turning.{IsFirst, is_first}
 use Rattle.engine_view.proofs.Turning as turning

@@ -104,7 +104,7 @@ fn step_of(step: u64) -> Place
     Place { module: 0, step }
 }
 
-/// The step at a place has these parts.
+/// The step at a place has these parts, however it is read.
 fn is_read<R: Abort>(
     rt: &R,
     graph: &Graph,
@@ -118,6 +118,13 @@ fn is_read<R: Abort>(
     let step = graph.step(place);
     assert_eq!(rt; (step.gap, step.first_query), (gap, first_query));
     assert_eq!(rt; step.accesses.as_slice(), accesses);
+    let looked = graph.look(place);
+    assert_eq!(rt; (looked.gap, looked.first_query), (gap, first_query));
+    assert_eq!(rt; looked.accesses.len(), accesses.len());
+    for number in 0..looked.accesses.len() {
+        let there = accesses.get(number).copied();
+        assert_eq!(rt; there, Some(looked.accesses.at(number)));
+    }
 }
 
 #[test]

@@ -8,7 +8,7 @@ ghost use Rattle.event_timing.specs.Enablers.{is_decided as decided};
 ghost use Rattle.engine_view.specs.Held.{queries_in, are_among};
 ghost use Rattle.engine_view.specs.Known.{as_known, are_decided};
 ghost use Rattle.engine_view.specs.Taking.{kinds_in};
-ghost use Rattle.engine_view.specs.Turns.{IsSomeCore, MayTakeIn, HasTimed, KeepsRoom, lanes_behind, ticks_of, is_progress, left};
+ghost use Rattle.engine_view.specs.Turns.{IsSomeCore, IsDue, MayTakeIn, HasTimed, KeepsRoom, lanes_behind, ticks_of, is_progress, left};
 
 use crate::engine::Engine;
 use event_graph::{Access, Candidate, Graph, Place, StepView};
@@ -53,6 +53,31 @@ impl Engine {
         let Candidate::At(cycle) = found else {
             return Timing::Nothing;
         };
+        if queries == 0 {
+            self.assign_first(owner, cycle, steps);
+            return Timing::Assigned(cycle);
+        }
+        self.time_asking(owner, cycle, queries, steps)
+    }
+
+    /// The same, where the step's cycle is determined, and so many of its accesses are queries.
+    #[inline(never)]
+    fn time_asking<L: Ledger>(
+        &mut self,
+        owner: u32,
+        cycle: u64,
+        queries: u64,
+        steps: &mut Steps<L>,
+    ) -> Timing
+        requires core { IsSomeCore self.old }
+        requires due { (limit : ℕ) × IsDue self.old limit owner cycle queries }
+        ensures done { (limit : ℕ) → IsDue self.old limit owner cycle queries → HasTimed result limit owner self.old self.new }
+        ensures room { KeepsRoom self.old self.new }
+        ensures lanes { self.new.graph.lanes ≡ lanes_behind result owner self.old.graph.lanes }
+        ensures kinds { kinds_in self.new.fifos.channels ≡ kinds_in self.old.fifos.channels }
+        ensures less { is_progress result ≡ true → left self.new < left self.old }
+        ensures ticks { steps.new ≡ steps.old + ticks_of result }
+    {
         let first = self.graph.step(Place {
             module: owner,
             step: self.graph.frontier(owner),

@@ -37,6 +37,7 @@ impl Core {
     }
 
     /// Gives a module's first step without a cycle this one, which it may be given. It takes no memory.
+    #[inline(never)]
     pub(crate) fn assign<L: Ledger>(&mut self, owner: u32, cycle: u64, steps: &mut Steps<L>)
         requires owner { owner < length self.old.plan.design.modules }
         requires may { MayAssign (design self.old.plan) self.old.plan.cycles (theory_of self.old) owner cycle }

@@ -196,6 +196,7 @@ impl Core {
     }
 
     /// One of them; where it is an Answer, the Assign of the same step after it.
+    #[inline(always)]
     fn time_once<L: Ledger>(&mut self, owner: u32, steps: &mut Steps<L>) -> Visit
         requires { owner < length self.old.plan.design.modules }
         ensures timed { HasTimed result self.old steps.old owner self.new steps.new }

@@ -1,21 +1,10 @@
-use Rattle.std.proofs.Common.{refl, sym, ap, ◌∙◌, Bool, List, [], inl, arith}
-use Rattle.flow_word.specs.declared.access.Step.{Step}
-use Rattle.event_graph.specs.Lanes.{no_lane}
-use Rattle.engine_view.specs.Held.{no_step}
+use Rattle.std.proofs.Common.{refl, arith}
 use Rattle.engine_view.specs.Engines.{held_in}
-use Rattle.engine_view.specs.Turns.{first_of}
-use Rattle.engine_view.proofs.Leaving.{less_answered}
-use Rattle.engine_view.proofs.Unsure.{verified_now}
-use Rattle.engine_view.proofs.Turning.{IsFirst, is_first}
+use Rattle.engine_view.specs.Turns.{IsDue}
 use Rattle.engine_view.proofs.Turning as turning
-use Rattle.event_graph.specs.Packed.{whole}
 use Rattle.engine_view.proofs.engine.Engine.time_first.Given.{Over}
-use Rattle.engine_view.proofs.engine.Engine.time_first.Goals.{After-step-first}
+use Rattle.engine_view.proofs.engine.Engine.time_first.Goals.{In-At}
 use Rattle.engine_view.proofs.engine.Engine.time_first.Goals as goal
-
-first : (g : Over) (c : After-step-first g) (over : List Bool)
-    → IsFirst (held_in c.args.self.now over) c.args.owner (whole c.step-first.result)
-first g c over = is_first (held_in c.args.self.now over) c.args.owner c.frontier.ensures.count c.step-first.ensures.step
 
 pub candidate_and_queries-found-requires-clause-accesses : goal.candidate_and_queries-found-requires-clause-accesses
 candidate_and_queries-found-requires-clause-accesses g c = let (d, over, i, k, r) = c.requires.core in k.sound.inside
@@ -38,87 +27,38 @@ returns-in_default g c = record {
   ticks = omega arith;
 }
 
-pub verified-requires : goal.verified-requires
-verified-requires g c =
-    let (d, over, i, k, r) = c.requires.core in
-    let logs = k.sound.logs in
-    let lanes = k.sound.lanes in
-    let inside = c.requires.owner in
-    omega arith
-
-pub are_first-requires : goal.are_first-requires
-are_first-requires g c =
-    (c.candidate_and_queries-found.ensures.may_take c.in-At.cycle c.in-At.is).count (whole c.step-first.result)
-    (rw (← c.frontier.ensures.count) c.step-first.ensures.step)
+-- what is found of the step
+module _ (g : Over) (c : In-At g) where
+  due : IsDue c.args.self.now c.args.limit c.args.owner c.in-At.cycle c.candidate_and_queries-found.result.1
+  due =
+      let (at, below) = (c.candidate_and_queries-found.ensures.at c.in-At.cycle).0 c.in-At.is in
+      record {
+        at = at;
+        below = below;
+        limited = c.requires.limit;
+        takes = c.candidate_and_queries-found.ensures.may_take c.in-At.cycle c.in-At.is;
+      }
 
 pub assign_first-requires-clause-may : goal.assign_first-requires-clause-may
 assign_first-requires-clause-may g c =
-    let (d, over, i, k, r) = c.requires.core in
-    let at = first g (goal.at.assign_first-requires-clause-may g c).After-step-first over in
-    let (e, l) = (c.candidate_and_queries-found.ensures.at c.in-At.cycle).0 c.in-At.is in
-    (d, over, c.args.limit, c.requires.limit, i, k, turning.may_assign at i k c.verified.ensures.count e l c.if-are_first.ensures)
+    let found = due g (goal.at.assign_first-requires-clause-may g c).In-At in
+    let (d, over, i, k, r) = c.requires.core in (
+      d,
+      over,
+      c.args.limit,
+      c.requires.limit,
+      i,
+      k,
+      turning.may_unasked (held_in c.args.self.now over) c.args.owner found.takes
+          c.if-queries-eq0.true i k found.at found.below,
+    )
 
-pub returns-then-are_first : goal.returns-then-are_first
-returns-then-are_first g c = record {
-  done = c.assign_first.ensures.done c.args.limit ((c.candidate_and_queries-found.ensures.at c.in-At.cycle).0 c.in-At.is).1;
-  room = c.assign_first.ensures.room;
-  lanes = c.assign_first.ensures.lanes;
-  kinds = rw c.assign_first.ensures.rest refl;
-  less = λ e. c.assign_first.ensures.less;
-  ticks = c.assign_first.ensures.ticks;
-}
+pub returns-then-queries-eq0-clause-done : goal.returns-then-queries-eq0-clause-done
+returns-then-queries-eq0-clause-done g c =
+    c.assign_first.ensures.done c.args.limit (due g (goal.at.returns-then-queries-eq0-clause-done g c).In-At).below
 
-pub all_decided-requires-clause-inside : goal.all_decided-requires-clause-inside
-all_decided-requires-clause-inside g c =
-    let (d, over, i, k, r) = c.requires.core in
-    let at = first g (goal.at.all_decided-requires-clause-inside g c).After-step-first over in
-    rw (c.as_slice.ensures ∙ ap (λ (t : Step). t.accesses) (sym at.is))
-    (k.sound.inside c.args.owner no_lane c.requires.owner (first_of (held_in c.args.self.now over) c.args.owner) no_step at.there)
+pub time_asking-requires-clause-due : goal.time_asking-requires-clause-due
+time_asking-requires-clause-due g c = (c.args.limit, due g (goal.at.time_asking-requires-clause-due g c).In-At)
 
-pub all_decided-requires-clause-places : goal.all_decided-requires-clause-places
-all_decided-requires-clause-places g c = let (d, over, i, k, r) = c.requires.core in k.sound.places
-
-pub returns-then-not-all_decided-clause-done : goal.returns-then-not-all_decided-clause-done
-returns-then-not-all_decided-clause-done g c = (
-  refl,
-  λ d over i k.
-      turning.idle_undecided (first g (goal.at.returns-then-not-all_decided-clause-done g c).After-step-first over) i k
-      c.verified.ensures.count c.args.limit c.if-are_first.ensures c.as_slice.ensures c.if-not-all_decided.ensures,
-)
-
-pub answer_first-requires-clause-unsure : goal.answer_first-requires-clause-unsure
-answer_first-requires-clause-unsure g c =
-    turning.unsure_here (first g (goal.at.answer_first-requires-clause-unsure g c).After-step-first []) c.verified.ensures.count
-    c.if-are_first.ensures c.requires.owner
-
-pub returns-in-Same-clause-done : goal.returns-in-Same-clause-done
-returns-in-Same-clause-done g c = λ d over i k.
-    let at = first g (goal.at.returns-in-Same-clause-done g c).After-step-first over in
-    let (e, l) = (c.candidate_and_queries-found.ensures.at c.in-At.cycle).0 c.in-At.is in
-    let may = turning.may_answer at i k c.verified.ensures.count e l c.if-are_first.ensures c.as_slice.ensures c.if-not-all_decided.ensures
-    in
-    let a = c.in-Same.ensures.answered d over i k in
-    (may, record { acts = (c.in-At.cycle, may, inl (a.same, a.now.core)); kept = a.now.kept })
-
-pub returns-in-Same-clause-less : goal.returns-in-Same-clause-less
-returns-in-Same-clause-less g c = λ e.
-    let (d, over, i, k, r) = c.requires.core in
-    let unsure = turning.unsure_here (first g (goal.at.returns-in-Same-clause-less g c).After-step-first []) c.verified.ensures.count
-    c.if-are_first.ensures c.requires.owner in
-    less_answered c.args.self.now c.answer_first.new.self c.args.owner c.answer_first.ensures.graph unsure c.answer_first.ensures.others
-    (rw c.answer_first.ensures.graph at (verified_now d (held_in c.args.self.now over) c.args.owner c.in-At.cycle
-    (held_in c.answer_first.new.self over) (c.in-Same.ensures.answered d over i k)))
-
-pub returns-in-Differs-clause-done : goal.returns-in-Differs-clause-done
-returns-in-Differs-clause-done g c = (
-  c.in-Differs.ensures.answered.0,
-  λ d over i k.
-      let at = first g (goal.at.returns-in-Differs-clause-done g c).After-step-first over in
-      let (e, l) = (c.candidate_and_queries-found.ensures.at c.in-At.cycle).0 c.in-At.is in
-      record {
-        cycle = c.in-At.cycle;
-        may = turning.may_answer at i k c.verified.ensures.count e l c.if-are_first.ensures c.as_slice.ensures
-            c.if-not-all_decided.ensures;
-        found = c.in-Differs.ensures.answered.1 d over i k;
-      },
-)
+pub returns-clause-done : goal.returns-clause-done
+returns-clause-done g c = c.time_asking.ensures.done c.args.limit (due g (goal.at.returns-clause-done g c).In-At)

@@ -1,0 +1,102 @@
+use Rattle.std.proofs.Common.{refl, sym, ap, ◌∙◌, Bool, List, [], inl, arith}
+use Rattle.flow_word.specs.declared.access.Step.{Step}
+use Rattle.event_graph.specs.Lanes.{no_lane}
+use Rattle.engine_view.specs.Held.{no_step}
+use Rattle.engine_view.specs.Engines.{held_in}
+use Rattle.engine_view.specs.Turns.{first_of}
+use Rattle.engine_view.proofs.Leaving.{less_answered}
+use Rattle.engine_view.proofs.Unsure.{verified_now}
+use Rattle.engine_view.proofs.Turning.{IsFirst, is_first}
+use Rattle.engine_view.proofs.Turning as turning
+use Rattle.event_graph.specs.Packed.{whole}
+use Rattle.engine_view.proofs.engine.Engine.time_asking.Given.{Over}
+use Rattle.engine_view.proofs.engine.Engine.time_asking.Goals.{After-step-first}
+use Rattle.engine_view.proofs.engine.Engine.time_asking.Goals as goal
+
+first : (g : Over) (c : After-step-first g) (over : List Bool)
+    → IsFirst (held_in c.args.self.now over) c.args.owner (whole c.step-first.result)
+first g c over = is_first (held_in c.args.self.now over) c.args.owner c.frontier.ensures.count c.step-first.ensures.step
+
+pub verified-requires : goal.verified-requires
+verified-requires g c =
+    let (d, over, i, k, r) = c.requires.core in
+    let logs = k.sound.logs in
+    let lanes = k.sound.lanes in
+    let (limit, due) = c.requires.due in
+    let inside = due.takes.may.inside in
+    omega arith
+
+pub are_first-requires : goal.are_first-requires
+are_first-requires g c =
+    let (limit, due) = c.requires.due in
+    due.takes.count (whole c.step-first.result) (rw (← c.frontier.ensures.count) c.step-first.ensures.step)
+
+pub assign_first-requires-clause-may : goal.assign_first-requires-clause-may
+assign_first-requires-clause-may g c =
+    let (d, over, i, k, r) = c.requires.core in
+    let at = first g (goal.at.assign_first-requires-clause-may g c).After-step-first over in
+    let (limit, due) = c.requires.due in
+    (d, over, limit, due.limited, i, k, turning.may_assign at i k c.verified.ensures.count due.at due.below c.if-are_first.ensures)
+
+pub returns-then-are_first : goal.returns-then-are_first
+returns-then-are_first g c = record {
+  done = λ limit due. c.assign_first.ensures.done limit due.below;
+  room = c.assign_first.ensures.room;
+  lanes = c.assign_first.ensures.lanes;
+  kinds = rw c.assign_first.ensures.rest refl;
+  less = λ e. c.assign_first.ensures.less;
+  ticks = c.assign_first.ensures.ticks;
+}
+
+pub all_decided-requires-clause-inside : goal.all_decided-requires-clause-inside
+all_decided-requires-clause-inside g c =
+    let (d, over, i, k, r) = c.requires.core in
+    let at = first g (goal.at.all_decided-requires-clause-inside g c).After-step-first over in
+    rw (c.as_slice.ensures ∙ ap (λ (t : Step). t.accesses) (sym at.is))
+    (k.sound.inside c.args.owner no_lane (c.requires.due.1).takes.may.inside (first_of (held_in c.args.self.now over) c.args.owner) no_step at.there)
+
+pub all_decided-requires-clause-places : goal.all_decided-requires-clause-places
+all_decided-requires-clause-places g c = let (d, over, i, k, r) = c.requires.core in k.sound.places
+
+pub returns-then-not-all_decided-clause-done : goal.returns-then-not-all_decided-clause-done
+returns-then-not-all_decided-clause-done g c = λ limit due. (
+  refl,
+  λ d over i k.
+      turning.idle_undecided (first g (goal.at.returns-then-not-all_decided-clause-done g c).After-step-first over) i k
+      c.verified.ensures.count limit c.if-are_first.ensures c.as_slice.ensures c.if-not-all_decided.ensures,
+)
+
+pub answer_first-requires-clause-unsure : goal.answer_first-requires-clause-unsure
+answer_first-requires-clause-unsure g c =
+    turning.unsure_here (first g (goal.at.answer_first-requires-clause-unsure g c).After-step-first []) c.verified.ensures.count
+    c.if-are_first.ensures (c.requires.due.1).takes.may.inside
+
+pub returns-in-Same-clause-done : goal.returns-in-Same-clause-done
+returns-in-Same-clause-done g c = λ limit due d over i k.
+    let at = first g (goal.at.returns-in-Same-clause-done g c).After-step-first over in
+    let may = turning.may_answer at i k c.verified.ensures.count due.at due.below c.if-are_first.ensures c.as_slice.ensures
+    c.if-not-all_decided.ensures in
+    let a = c.in-Same.ensures.answered d over i k in
+    (may, record { acts = (c.args.cycle, may, inl (a.same, a.now.core)); kept = a.now.kept })
+
+pub returns-in-Same-clause-less : goal.returns-in-Same-clause-less
+returns-in-Same-clause-less g c = λ e.
+    let (d, over, i, k, r) = c.requires.core in
+    let unsure = turning.unsure_here (first g (goal.at.returns-in-Same-clause-less g c).After-step-first []) c.verified.ensures.count
+    c.if-are_first.ensures (c.requires.due.1).takes.may.inside in
+    less_answered c.args.self.now c.answer_first.new.self c.args.owner c.answer_first.ensures.graph unsure c.answer_first.ensures.others
+    (rw c.answer_first.ensures.graph at (verified_now d (held_in c.args.self.now over) c.args.owner c.args.cycle
+    (held_in c.answer_first.new.self over) (c.in-Same.ensures.answered d over i k)))
+
+pub returns-in-Differs-clause-done : goal.returns-in-Differs-clause-done
+returns-in-Differs-clause-done g c = λ limit due. (
+  c.in-Differs.ensures.answered.0,
+  λ d over i k.
+      let at = first g (goal.at.returns-in-Differs-clause-done g c).After-step-first over in
+      record {
+        cycle = c.args.cycle;
+        may = turning.may_answer at i k c.verified.ensures.count due.at due.below c.if-are_first.ensures c.as_slice.ensures
+            c.if-not-all_decided.ensures;
+        found = c.in-Differs.ensures.answered.1 d over i k;
+      },
+)

@@ -35,7 +35,7 @@ module _ (v w : CoreView) (m : ℕ) where
       → HasActed (guard_of r) v (Assign m) w × (ticks_of r ≡ 1)
   assigned_acted (turn.Assigned e) c may acts =
       ((acts, rounds.assign_changes (design v.plan) v.plan.cycles (theory_of v) (theory_of w) m acts), refl)
-  assigned_acted (turn.Answered e) c may ((f, may', is), changed) = absurd (both_ways _ may'.open_query may.verified)
+  assigned_acted (turn.Answered e) c may ((f, may', is), changed, next) = absurd (both_ways _ may'.open_query may.verified)
   assigned_acted (turn.Differs q) c may (same, other) = absurd (both_ways _ other.may.open_query may.verified)
   assigned_acted turn.Nothing c may (same, idle) = absurd (idle.no_assign c may)
 

@@ -15,8 +15,7 @@ use module_interp::ModuleRun;
 use outcome_guard::Query;
 use std::sync::ledger::Ledger;
 
-/// How many Runs, and how many other actions, a module does in one visit at most: so few that its steps are near when they get their
-/// cycles.
+/// How many turns a stretch of Runs, or of other actions, has at most: so few that a module's steps are near when they get their cycles.
 const STRETCH: u32 = 64;
 
 /// What was done at a module.

@@ -244,10 +244,6 @@ module _ {p : Plan} {engine : Engine} {ends : List (Option Advance)} {runs : Lis
     step_is : step_of h i k ≡ step
     step_is = get_or_from_slice_get (lane_at h.lanes i).steps k step no_step there
 
-    pub newest_inside : All (IsAccess h.channels) step.accesses
-    newest_inside = subst (λ (t : Step). All (IsAccess h.channels) t.accesses) step_is
-        (accesses_inside p core.sound core.agreed.marks i k emitted inside)
-
     -- whether one is missing
     abbrev missing : Option ℕ
     missing = first_missing (log_at h.logs i).outcomes (value_now h.channels) step.first_query step.accesses

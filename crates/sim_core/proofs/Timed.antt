@@ -54,7 +54,7 @@ module _ {p : Plan} {s : Engine} {ends : List (Option Advance)} {runs : List (Op
     core = turning.core_timed k.core t m r done room kinds;
     wired = k.wired;
     unread_are = turning.unread_timed k.core t m r unread done k.unread_are;
-    asking_are = asking_turned (seen s) (seen t) k.core.fits asking k.asking_are wiring.beside k.wired.beside_are m inside now others r turned
-        own (λ e. let modules = k.core.fits.module_count in acted e (omega arith)) beside;
+    asking_are = asking_turned (seen s) (seen t) k.core.fits asking k.asking_are wiring.beside k.wired.beside_are m inside now others r
+        turned own (λ e. let modules = k.core.fits.module_count in acted e (omega arith)) beside;
     candidate_count = k.candidate_count;
   }

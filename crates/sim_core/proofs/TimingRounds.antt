@@ -1,5 +1,6 @@
 -- Rounds of Assigns and Answers, the Earliest behind them, and the end.
-use Rattle.std.proofs.Common.{◌≡◌, sym, ap, subst, ◌∙◌, ℕ, suc, ◌+◌, ◌*◌, ◌^◌, ◌<◌, ◌≤◌, ◌⊎◌, inl, inr, true, false, length, Some, None, arith, mul-le-mul_right}
+use Rattle.std.proofs.Common.{◌≡◌, sym, ap, subst, ◌∙◌, ℕ, suc, ◌+◌, ◌*◌, ◌^◌, ◌<◌, ◌≤◌, ◌⊎◌, inl, inr, true, false}
+use Rattle.std.proofs.Common.{length, Some, None, arith, mul-le-mul_right}
 use Rattle.std.proofs.lemmas.Bool.{cases_Bool}
 use Rattle.flow_design.specs.declared.plan.Plan.{Plan}
 use Rattle.flow_design.specs.declared.state.ModuleState.{ModuleState}

@@ -1,5 +1,6 @@
 //! The marks of a run that comes back.
-ghost use Rattle.std.specs.Prelude.{◌≡◌, ◌+◌, ◌<◌, ◌≤◌, length, slice_index, slice_get, slice_set, OnErr, OnOk, Some, List as Items, Option as Maybe};
+ghost use Rattle.std.specs.Prelude.{◌≡◌, ◌+◌, ◌<◌, ◌≤◌, length, slice_index, slice_get, slice_set, OnErr, OnOk, Some};
+ghost use Rattle.std.specs.Prelude.{List as Items, Option as Maybe};
 ghost use Rattle.flow_design.specs.declared.plan.Plan.{Plan as PlanOf};
 ghost use Rattle.event_timing.specs.Actions.{Acts, ActsAll, runs};
 ghost use Rattle.event_timing.specs.Actions.Action.{Run};

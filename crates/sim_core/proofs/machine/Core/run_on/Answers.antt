@@ -7,7 +7,8 @@ use Rattle.sim_core.proofs.machine.Core.run_on.Given.{Over}
 use Rattle.sim_core.proofs.machine.Core.run_on.Goals.{After-put_back}
 use Rattle.sim_core.proofs.machine.Core.run_on.Goals as goal
 
-trip : (g : Over) (c : After-put_back g) → IsRoundTrip c.args.self.now c.take_out.new.self c.run_stretch-woken.new.self c.put_back.new.self c.args.owner
+trip : (g : Over) (c : After-put_back g) → IsRoundTrip c.args.self.now c.take_out.new.self c.run_stretch-woken.new.self
+    c.put_back.new.self c.args.owner
 trip g c = record { out = c.in-Some.ensures.lent; here = c.in-Some.ensures.here; home = c.put_back.ensures }
 
 pub returns-then-is_over-clause-none : goal.returns-then-is_over-clause-none

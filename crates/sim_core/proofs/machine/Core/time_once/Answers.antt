@@ -30,8 +30,8 @@ returns-then-not-asks-clause-timed g c =
 
 pub assign-requires-clause-may : goal.assign-requires-clause-may
 assign-requires-clause-may g c =
-    subst (λ (q : Plan). MayAssign (design q) q.cycles (theory_of c.time.new.self) c.args.owner c.in-Answered.cycle) (sym c.time.ensures.plan)
-    c.in-Answered.ensures.done.2
+    subst (λ (q : Plan). MayAssign (design q) q.cycles (theory_of c.time.new.self) c.args.owner c.in-Answered.cycle)
+    (sym c.time.ensures.plan) c.in-Answered.ensures.done.2
 
 pub returns-in-Assigned-clause-timed : goal.returns-in-Assigned-clause-timed
 returns-in-Assigned-clause-timed g c =
@@ -49,7 +49,8 @@ module _ (g : Over) (c : In-Answered g) where
   answered = rounds.was_answered c.args.self.now c.time.new.self c.args.owner c.args.steps.now c.time.ensures.plan c.time.ensures.lent
       c.modules-count.ensures.agreed c.in-Answered.cycle c.time.new.steps c.in-Answered.ensures.done c.in-Answered.ensures.ticks
 
-  agreed : IsAgreed (design c.time.new.self.plan) (lockstep_run c.time.new.self.plan) c.time.new.self.plan.cycles (theory_of c.time.new.self)
+  agreed : IsAgreed (design c.time.new.self.plan) (lockstep_run c.time.new.self.plan) c.time.new.self.plan.cycles
+      (theory_of c.time.new.self)
   agreed = rounds.goes_agreed c.args.self.now c.time.new.self c.args.steps.now c.time.new.steps c.modules-count.ensures.agreed
       c.modules-count.ensures.fits answered.goes
 

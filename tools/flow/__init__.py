@@ -1,0 +1,1 @@
+"""What the scripts share: sessions, the program, and its answers."""

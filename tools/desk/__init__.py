@@ -1,0 +1,1 @@
+"""What ./omnisim can do beyond the program's own words."""

@@ -94,6 +94,15 @@ def check_entry(entry, kind, where):
         check_value(value, form, f'{name}.{key}')
 
 
+def check_loops(schedule):
+    """Checks that each loop either counts its trips or has a register that decides."""
+    for process in schedule['processes']:
+        for region in process['regions']:
+            if 'ii' in region and ('trips' in region) == ('while' in region):
+                raise ScheduleFault(f'process {process["name"]}, region {region["name"]}: a loop has trips, or a register while')
+
+
 def check_schedule(schedule):
     """Raises a ScheduleFault where something is wrong."""
     check_entry(schedule, 'schedule', 'schedule')
+    check_loops(schedule)

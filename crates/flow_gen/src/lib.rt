@@ -1,4 +1,4 @@
-//! A session of modules in a row, made from a seed.
+//! A session of modules in a row, made from a seed: it has no fault, and its text is read as it.
 #![tactic(auto)]
 
 ghost use Rattle.std.specs.Prelude.{◌≡◌, ◌≤◌, IfOk};
@@ -6,10 +6,12 @@ ghost use Rattle.flow_design.specs.declared.limits.TheConstants.{MODULES};
 ghost use Rattle.flow_gen.specs.Generated.{session_text};
 
 mod draws;
+mod laws;
 mod session;
 
 use flow_print::print_session;
 use flow_word::{List, OutOfMemory};
+pub use laws::{generated_sessions_are_checked, generated_texts_are_read};
 pub use session::generate_session;
 use std::alloc::Global;
 

@@ -1,6 +1,0 @@
-use Rattle.std.proofs.Common.{◌≡◌, map, take}
-use Rattle.base_tests.specs.Blocks.{test_at}
-use Rattle.base_tests.proofs.schedules.block_of_tests.Given as goal
-
-abbrev pub invariant-loop-offset : goal.invariant-loop-offset
-invariant-loop-offset l = l.ops ≡ map test_at (take l.offset-index l.offsets)

@@ -1,4 +1,0 @@
-pub mod Checking
-pub mod Fitting
-pub mod Passing
-pub mod Reading

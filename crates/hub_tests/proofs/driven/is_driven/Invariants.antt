@@ -1,6 +1,0 @@
-use Rattle.sim_hub.specs.Hubs.{hub_id}
-use Rattle.hub_tests.specs.Resting.{AreResting}
-use Rattle.hub_tests.proofs.driven.is_driven.Given as goal
-
-abbrev pub invariant-loop-next : goal.invariant-loop-next
-invariant-loop-next g l = AreResting (hub_id l.hub) l.passes.perf l.passes.modules.items

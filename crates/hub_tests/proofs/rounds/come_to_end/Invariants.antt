@@ -1,6 +1,0 @@
-use Rattle.sim_hub.specs.Hubs.{hub_id}
-use Rattle.hub_tests.specs.Resting.{AreResting}
-use Rattle.hub_tests.proofs.rounds.come_to_end.Given as goal
-
-abbrev pub invariant-loop : goal.invariant-loop
-invariant-loop g l = AreResting (hub_id l.hub) l.passes.perf l.passes.modules.items

@@ -1,6 +1,0 @@
-use Rattle.sim_hub.specs.Hubs.{hub_id}
-use Rattle.hub_tests.specs.Resting.{AreResting}
-use Rattle.hub_tests.proofs.rounds.round.Given as goal
-
-abbrev pub invariant-loop-which : goal.invariant-loop-which
-invariant-loop-which g l = AreResting (hub_id l.hub) l.passes.perf l.passes.modules.items

@@ -1,0 +1,74 @@
+//! Tables of two blocks, and their next local clocks with work.
+ghost use Rattle.std.specs.Prelude.{◌≡◌, IfOk};
+ghost use Rattle.session_tests.specs.Blocks.{tests_at};
+
+use block_schedule::Schedule;
+use flow_design::{Block, BlockKind, Control, Next, Op, Timed};
+use flow_word::{List, OutOfMemory};
+use std::alloc::Global;
+use std::test::Fail;
+
+/// A block whose operations, at these offsets, test the one channel.
+fn block_of_tests(
+    alloc: Global,
+    kind: BlockKind,
+    len: u64,
+    offsets: &[u64],
+) -> Result<Block, OutOfMemory>
+    ensures { IfOk result (λ block. block ≡ tests_at kind len offsets.now) }
+{
+    let mut ops = List::new(alloc);
+    for offset in offsets {
+        ops.push(Timed {
+            offset: *offset,
+            guard: None,
+            op: Op::Empty {
+                channel: 0,
+                target: 0,
+            },
+        })?;
+    }
+    Ok(Block {
+        kind,
+        len,
+        temps: List::new(alloc),
+        ops,
+        next: Next::Stop,
+    })
+}
+
+/// Where a module stands in the block.
+fn standing(clock: u64, newest: u64, looping: bool) -> Control
+    ensures { result ≡ record { block = 0; clock = clock; newest = newest; looping = looping } }
+{
+    Control {
+        block: 0,
+        clock,
+        newest,
+        looping,
+    }
+}
+
+#[test]
+fn iterations_overlap(rt: HostRuntime) -> Result<(), Fail> {
+    let alloc = rt.alloc();
+    let kind = BlockKind::Loop { ii: 2, again: 0 };
+    let block = block_of_tests(alloc, kind, 5, [3, 0, 3, 4].as_slice())?;
+    let schedule = Schedule::new(alloc, &block)?;
+    assert_eq!(rt; schedule.due(3), [0, 2].as_slice());
+    assert_eq!(rt; schedule.due(1), [].as_slice());
+    assert_eq!(rt; schedule.next_due(&standing(1, 0, true)), 2);
+    assert_eq!(rt; schedule.next_due(&standing(3, 2, false)), 3);
+    assert_eq!(rt; schedule.next_due(&standing(5, 2, false)), 5);
+    Ok(())
+}
+
+#[test]
+fn a_long_block_has_a_short_table(rt: HostRuntime) -> Result<(), Fail> {
+    let alloc = rt.alloc();
+    let len = 1_000_000_000_000;
+    let block = block_of_tests(alloc, BlockKind::Plain, len, [len - 1].as_slice())?;
+    let schedule = Schedule::new(alloc, &block)?;
+    assert_eq!(rt; schedule.next_due(&standing(0, 0, false)), len - 1);
+    Ok(())
+}

@@ -1,0 +1,6 @@
+use Rattle.sim_hub.specs.Hubs.{hub_id}
+use Rattle.thread_tests.specs.Resting.{AreResting}
+use Rattle.thread_tests.proofs.rounds.come_to_end.Given as goal
+
+abbrev pub invariant-loop : goal.invariant-loop
+invariant-loop g l = AreResting (hub_id l.hub) l.passes.perf l.passes.modules.items

@@ -1,0 +1,118 @@
+//! Simulations round after round, which report as the lockstep machine does.
+ghost use Rattle.std.specs.Prelude.{◌≡◌, IfOk};
+ghost use Rattle.sim_hub.specs.Hubs.{hub_id};
+ghost use Rattle.thread_tests.specs.Resting.{AreResting};
+
+use crate::passes::{Answer, Passes, closes_with, module_turns, open, perf_turn, turned_round};
+use sim_hub::Hub;
+use std::process::Abort;
+use std::sync::Wait;
+use std::test::Fail;
+use worked_sessions::{DEADLOCKS, DELAYS, DESIGNS, EDITS, LIMITS, QUERIES, Worked};
+
+/// Each module's pass takes its turns, in order, with the performance pass behind each of them if so asked. Whether all modules wait.
+fn round<R: AllocGlobal + Wait + Abort>(
+    rt: &R,
+    hub: &Hub,
+    passes: Passes,
+    behind_each: bool,
+) -> Result<(Passes, bool), Fail>
+    requires resting { AreResting (hub_id hub.now) passes.perf passes.modules.items }
+    ensures resting { IfOk result (λ r. AreResting (hub_id hub.now) r.0.perf r.0.modules.items) }
+{
+    let mut passes = passes;
+    let mut all_wait = true;
+    for which in 0..passes.modules.len() {
+        let (back, answer) = module_turns(rt, hub, passes, which)?;
+        passes = if behind_each {
+            perf_turn(rt, hub, back).0
+        } else {
+            back
+        };
+        if let Answer::Made(_) = answer {
+            all_wait = false;
+        }
+    }
+    Ok((passes, all_wait))
+}
+
+/// A round, and behind it a turn of the performance pass where all modules wait. Whether all is over.
+fn round_on<R: AllocGlobal + Wait + Abort>(
+    rt: &R,
+    hub: &Hub,
+    passes: Passes,
+    behind_each: bool,
+) -> Result<(Passes, bool), Fail>
+    requires resting { AreResting (hub_id hub.now) passes.perf passes.modules.items }
+    ensures resting { IfOk result (λ r. AreResting (hub_id hub.now) r.0.perf r.0.modules.items) }
+{
+    let (back, all_wait) = round(rt, hub, passes, behind_each)?;
+    if !all_wait {
+        return Ok((back, false));
+    }
+    let (back, answer) = perf_turn(rt, hub, back);
+    Ok((back, answer == Answer::Over))
+}
+
+/// Rounds up to the end.
+fn come_to_end<R: AllocGlobal + Wait + Abort>(
+    rt: &R,
+    hub: &Hub,
+    passes: Passes,
+    behind_each: bool,
+) -> Result<Passes, Fail>
+    requires resting { AreResting (hub_id hub.now) passes.perf passes.modules.items }
+    ensures resting { IfOk result (λ r. AreResting (hub_id hub.now) r.perf r.modules.items) }
+{
+    let mut passes = passes;
+    for _ in 0..1_000 {
+        let (back, over) = round_on(rt, hub, passes, behind_each)?;
+        if over {
+            return Ok(back);
+        }
+        passes = back;
+    }
+    panic!(rt; "it comes to no end")
+}
+
+/// Rounds up to the end, with the performance pass behind each module's turns, and a hub that closes with the passes of the modules in
+/// order; or with the performance pass only where all modules wait, and a hub that closes with them in the opposite order.
+fn reports_as_lockstep<R: AllocGlobal + Wait + Abort>(
+    rt: &R,
+    text: &[u8],
+    behind_each: bool,
+) -> Result<(), Fail> {
+    let (hub, passes, report) = open(rt, text)?;
+    let passes = come_to_end(rt, &hub, passes, behind_each)?;
+    let passes = if behind_each {
+        passes
+    } else {
+        turned_round(&hub, passes)
+    };
+    closes_with(rt, hub, passes, report)
+}
+
+/// The same of each of these sessions.
+fn report_as_lockstep<R: AllocGlobal + Wait + Abort>(
+    rt: &R,
+    table: &[Worked],
+    behind_each: bool,
+) -> Result<(), Fail> {
+    for worked in table {
+        reports_as_lockstep(rt, worked.text, behind_each)?;
+    }
+    Ok(())
+}
+
+#[test]
+fn hubs_report_as_lockstep(rt: HostRuntime) -> Result<(), Fail> {
+    for behind_each in [true, false] {
+        report_as_lockstep(&rt, DESIGNS, behind_each)?;
+        report_as_lockstep(&rt, QUERIES, behind_each)?;
+        report_as_lockstep(&rt, LIMITS, behind_each)?;
+        report_as_lockstep(&rt, DEADLOCKS, behind_each)?;
+        report_as_lockstep(&rt, EDITS, behind_each)?;
+        report_as_lockstep(&rt, DELAYS, behind_each)?;
+    }
+    Ok(())
+}

@@ -1,0 +1,58 @@
+"""Where operations went: which modules used theirs up, and loops that never end."""
+from explain.program import ask
+from explain.session import PUSHING
+from flow.depths import with_depths
+
+MOST_OPS = 200_000
+OPS = 100_000  # where the session and the words name no limit
+
+
+def ops_of(options, session):
+    """The operation limit that holds."""
+    return int(options[options.index('--ops') + 1]) if '--ops' in options else session.ops or OPS
+
+
+def most_ops_reached(options, session):
+    return ops_of(options, session) >= MOST_OPS
+
+
+def with_ops(options, ops):
+    """The options with another operation limit."""
+    kept = [option for at, option in enumerate(options) if '--ops' not in options[max(at - 1, 0):at + 1]]
+    return kept + ['--ops', str(ops)]
+
+
+def clocks_of(options, text):
+    """Of each module the clocks in which it moves and in which it stalls."""
+    lines, _ = ask(['stalls'] + options, text)
+    return {line.split()[1]: line.split()[2:] for line in lines if line.startswith('module ')}
+
+
+def out_of_operations(options, text, session, held):
+    """Names the modules that used up their operations: those that go further with more. With the greatest limit some of the
+    modules named may have ended in their own time."""
+    blocked = {entry[0] for entry in held}
+    over = [module.name for module in session.modules if module.name not in blocked]
+    if most_ops_reached(options, session):
+        return f'Out of operations{"" if len(over) == 1 else ", or ended"}: {", ".join(over)}.'
+    before, after = clocks_of(options, text), clocks_of(with_ops(options, MOST_OPS), text)
+    spent = [name for name in over if before.get(name) != after.get(name)] or over
+    return f'Out of operations: {", ".join(spent)}.'
+
+
+def ports_of(options, text):
+    """How many elements passed each port, by channel and side."""
+    lines, _ = ask(['stalls'] + options, text)
+    ports = (line.split() for line in lines if line.startswith('port '))
+    return {(words[3], words[2]): int(words[4]) for words in ports}
+
+
+def endless_pushes(options, text, session, held, depths):
+    """Of a design that uses up its operations with depths that never block: who pushes on although its reader has stopped."""
+    ports = ports_of(options, with_depths(text.decode('ascii', 'replace'), depths).encode())
+    for module, side, channel in held:
+        readers = session.users(channel, ('read', 'tryread'))
+        if side == 'full' and readers and not any(entry[0] == readers[0] for entry in held):
+            pushed, popped = ports.get((channel, PUSHING), 0), ports.get((channel, 'pop'), 0)
+            yield (f'{module} pushed {pushed:,} elements on {channel} and would go on; {readers[0]} stopped after {popped:,}. That is '
+                   f'no question of depths: let the loop of {module} end, or {readers[0]} read on.')

@@ -1,0 +1,70 @@
+"""The forms, limits and tables of the language, as ./explain needs them."""
+import os
+import re
+
+TOP = os.path.dirname(os.path.dirname(os.path.dirname(os.path.realpath(__file__))))
+POPS = ('read', 'tryread', 'empty')
+PUSHES = ('write', 'trywrite', 'full')
+FORMS = {
+    'flow': 'flow VERSION', 'source': 'source NAME WIDTH', 'sink': 'sink NAME WIDTH',
+    'fifo': 'fifo NAME WIDTH [DEPTH [DELAY]] (DELAY under flow 2 alone)', 'module': 'module NAME', 'reg': 'reg NAME WIDTH',
+    'mem': 'mem NAME WIDTH WORDS', 'block': 'block NAME LENGTH', 'loop': 'loop NAME II LENGTH while REGISTER',
+    'temp': 'temp NAME WIDTH', 'at': 'at OFFSET [if REGISTER] OPERATION', 'goto': 'goto BLOCK',
+    'branch': 'branch REGISTER BLOCK BLOCK', 'stop': 'stop', 'input': 'input SOURCE VALUE ..', 'limits': 'limits CYCLES OPS',
+    'depth': 'depth FIFO DEPTH', 'end': 'end',
+}
+OPERATIONS = {
+    'set': 'set PLACE EXPRESSION', 'load': 'load PLACE MEMORY ADDRESS', 'store': 'store MEMORY ADDRESS VALUE',
+    'read': 'read CHANNEL PLACE', 'write': 'write CHANNEL VALUE', 'tryread': 'tryread CHANNEL PLACE OK',
+    'trywrite': 'trywrite CHANNEL OK VALUE', 'empty': 'empty CHANNEL PLACE', 'full': 'full CHANNEL PLACE',
+}
+OPERANDS = {'~': 1, 'sext': 2, '?:': 3}
+OPERANDS.update({word: 2 for word in '+ - * & | ^ << >> == != <u <s / %'.split()})
+FOLLOW = [  # what may follow what
+    (('nothing',), ('flow',)),
+    (('flow', 'source', 'sink', 'fifo'), ('source', 'sink', 'fifo', 'module', 'input', 'limits', 'depth', 'end')),
+    (('module', 'reg', 'mem'), ('reg', 'mem', 'block', 'loop')),
+    (('block', 'loop', 'temp'), ('temp', 'at', 'goto', 'branch', 'stop')),
+    (('at',), ('at', 'goto', 'branch', 'stop')),
+    (('goto', 'branch', 'stop'), ('block', 'loop', 'module', 'input', 'limits', 'depth', 'end')),
+    (('input',), ('input', 'limits', 'depth', 'end')),
+    (('limits', 'depth'), ('depth', 'end')),
+    (('end',), ()),
+]
+FIRST = {key: ' (channels come before all modules)' for key in ('source', 'sink', 'fifo')}
+FIRST.update({key: ' (registers and memories come before all bodies of their module)' for key in ('reg', 'mem')})
+FIRST['temp'] = ' (temps come before the operations of their body)'
+BODY = ('block', 'loop', 'temp', 'at')
+NUMBERS = ('VERSION', 'WIDTH', 'DEPTH', 'DELAY', 'WORDS', 'LENGTH', 'II', 'OFFSET', 'VALUE', 'CYCLES', 'OPS')
+RANGES = {(key, 2): (1, 64, 'width') for key in ('source', 'sink', 'fifo', 'reg', 'mem', 'temp')}
+RANGES.update({('flow', 1): (1, 2, 'version'), ('fifo', 3): (1, 1_000_000, 'depth'), ('fifo', 4): (1, 1_000, 'delay'),
+               ('mem', 3): (1, 4_096, 'number of words'), ('block', 2): (1, 10 ** 12, 'LEN'), ('loop', 2): (1, 10 ** 12, 'II'),
+               ('loop', 3): (1, 10 ** 12, 'LEN'), ('depth', 2): (1, 1_000_000, 'depth')})
+MOST = {'module': 'at most 64 modules', 'reg': 'at most 256 registers in a module', 'mem': 'at most 16 memories in a module',
+        'temp': 'at most 64 temps in a body', 'input': 'at most 100,000 input values in all', 'depth': 'at most 1,000 edits'}
+MOST.update({key: 'at most 256 sources, sinks and FIFOs' for key in ('source', 'sink', 'fifo')})
+MOST.update({key: 'at most 256 blocks and loops in a module' for key in ('block', 'loop')})
+
+
+def table(heading):
+    """The rows of the table below a heading of docs/LANGUAGE.md, as lists of cells."""
+    rows = []
+    found = False
+    with open(os.path.join(TOP, 'docs', 'LANGUAGE.md'), encoding='utf-8') as page:
+        for line in page:
+            if line.startswith('#') or line.startswith('**'):
+                if rows:
+                    break
+                found = line.strip('#* \n').rstrip('.').lower() == heading
+            elif found and line.startswith('|'):
+                rows.append([cell.strip() for cell in re.split(r'(?<!\\)\|', line)[1:-1]])
+    return rows[2:]
+
+
+def plain(text):
+    """A cell without the marks of the page: quotes in the place of backticks."""
+    return text.replace('`', "'").replace('\\|', '|')
+
+
+def count_of(number, noun):
+    return f'{number:,} {noun}{"" if number == 1 else "s"}'

@@ -1,0 +1,54 @@
+"""Asks the built program about a session, given as a text, and gives its answer as plain objects; docs/PYTHON.md has an example.
+
+Each call takes the session's text, and `cycles` and `ops` as limits in place of the session's. NoAnswer tells that the session is
+refused, or that memory ran out; NotBuilt that the program has to be built first.
+"""
+from flow.answers import read_depths, read_log, read_path, read_run, read_stalls, read_sweep
+from flow.program import Program
+
+
+def limits_of(cycles, ops):
+    """The words for limits."""
+    return [word for name, limit in (('--cycles', cycles), ('--ops', ops)) if limit is not None for word in (name, str(limit))]
+
+
+def told(words, text, cycles=None, ops=None):
+    """The text of an answer."""
+    program = Program()
+    program.need()
+    return program.answer([*words, *limits_of(cycles, ops)], text.encode('ascii'))
+
+
+def run(text, events=False, cycles=None, ops=None):
+    """What the design does, and after each edit: a Run."""
+    return read_run(told(['run'] + ['--events'] * events, text, cycles, ops))
+
+
+def stalls(text, cycles=None, ops=None):
+    """Where time is lost: Stalls."""
+    return read_stalls(told(['stalls'], text, cycles, ops))
+
+
+def path(text, events=False, cycles=None, ops=None):
+    """What makes the latency: a Path."""
+    return read_path(told(['path'] + ['--events'] * events, text, cycles, ops))
+
+
+def log(text, cycles=None, ops=None):
+    """What each access gave: a Log."""
+    return read_log(told(['log'], text, cycles, ops))
+
+
+def size(text, cycles=None, ops=None):
+    """The smallest depths that lose no time: Depths."""
+    return read_depths('size', told(['size'], text, cycles, ops))
+
+
+def advise(text, cycles=None, ops=None):
+    """Depths with which no FIFO is ever full: Depths."""
+    return read_depths('advise', told(['advise'], text, cycles, ops))
+
+
+def sweep(text, low, high, cycles=None, ops=None):
+    """The verdict for each choice of depths: a Sweep."""
+    return read_sweep(told(['sweep', str(low), str(high)], text, cycles, ops))

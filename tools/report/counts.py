@@ -1,0 +1,13 @@
+"""Numbers as a page shows them."""
+
+
+def told(number):
+    return f'{number:,}'
+
+
+def count_of(number, noun):
+    return f'{number:,} {noun}{"" if number == 1 else "s"}'
+
+
+def percent(part, whole):
+    return 100 * part / whole if whole else 0

@@ -1,0 +1,105 @@
+"""The rows of a page's tables: modules, ports and FIFOs, as texts."""
+from report.counts import percent, told
+from report.facts import too_shallow
+
+POPS, PUSHES = ('read', 'tryread'), ('write', 'trywrite')
+SLOWER = 1.05  # times its loop's interval; beyond it a port is marked
+
+
+def by_side(stalls, module, side):
+    """The clocks in which a module stalls because some channel is empty, or full."""
+    return sum(stall.clocks for stall in stalls.stalls if stall.module == module and stall.side == side)
+
+
+def causes_of(stalls, module):
+    """Why a module stalls, the longest first."""
+    found = sorted((stall for stall in stalls.stalls if stall.module == module), key=lambda stall: -stall.clocks)
+    return [{'channel': stall.channel, 'side': stall.side, 'clocks': told(stall.clocks)} for stall in found]
+
+
+def module_rows(facts):
+    """The modules, those with the most stalls first."""
+    rows, clock = [], facts.verdict.clock
+    for time in sorted(facts.stalls.modules, key=lambda time: -time.still):
+        empty, full = (by_side(facts.stalls, time.module, side) for side in ('empty', 'full'))
+        rows.append({
+            'name': time.module, 'moved': told(time.moved), 'still': told(time.still), 'empty': told(empty),
+            'full': told(full), 'shares': [percent(part, clock) for part in (time.moved, empty, full)],
+            'causes': causes_of(facts.stalls, time.module),
+        })
+    return rows
+
+
+def wanted_intervals(session, port):
+    """Of each body that uses a port: its II, or None for a plain block, and how often an iteration uses it."""
+    kinds = POPS if port.side == 'pop' else PUSHES
+    module = next(module for module in session.modules if module.name == port.module)
+    found = []
+    for block in module.blocks:
+        times = sum(made.kind in kinds and made.channel.name == port.channel for made in block.operations)
+        if times:
+            found.append((block.interval if block.go else None, times))
+    return found
+
+
+def wanted_text(interval, times):
+    if interval is None:
+        return 'block'
+    return told(interval) if times == 1 else f'{told(interval)} for {times}'
+
+
+def is_slow(port, wanted):
+    """Whether a port of a single loop is slower than that asks for."""
+    if port.interval is None or len(wanted) != 1 or wanted[0][0] is None:
+        return False
+    interval, times = wanted[0]
+    return port.interval > SLOWER * interval / times
+
+
+def port_row(session, port):
+    wanted = wanted_intervals(session, port)
+    return {
+        'module': port.module, 'side': port.side, 'channel': port.channel,
+        'verb': 'pops' if port.side == 'pop' else 'pushes',
+        'count': told(port.count), 'first': told(port.first), 'last': told(port.last), 'slow': is_slow(port, wanted),
+        'interval': '–' if port.interval is None else f'{port.interval:,.2f}'.removesuffix('.00'),
+        'wanted': ', '.join(dict.fromkeys(wanted_text(*one) for one in wanted)),
+    }
+
+
+def fifo_rows(facts):
+    rows, shallow, clock = [], too_shallow(facts), facts.verdict.clock
+    held = {time.fifo: time for time in facts.stalls.fifos}
+    for fifo in facts.session.fifos():
+        time, size = held[fifo.name], facts.size.depths[fifo.name]
+        partly = clock - time.empty - time.full
+        rows.append({
+            'name': fifo.name, 'width': fifo.width, 'depth': told(fifo.depth), 'most': told(time.most),
+            'empty': told(time.empty), 'full': told(time.full), 'size': told(size),
+            'advise': told(facts.advise.depths[fifo.name]), 'bits': told(fifo.width * fifo.depth),
+            'size_bits': told(fifo.width * size), 'shallow': fifo.name in shallow,
+            'shares': [percent(part, clock) for part in (partly, time.empty, time.full)],
+        })
+    return rows
+
+
+def size_note(facts):
+    """What the depths of `size` give."""
+    found, now = facts.size.verdict, facts.verdict
+    if not found.is_done:
+        return (f'With the depths of size, which are the advised ones, the design is not done either: {found.kind} '
+                f'{told(found.clock)}.')
+    promise = '' if facts.asks_outcomes else ', the smallest that lose no time'
+    change = 'as now' if found == now else f'and now in clock {told(now.clock)}' if now.is_done else 'and now it is not done'
+    return f'With the depths of size{promise}, the design is done in clock {told(found.clock)}, {change}.'
+
+
+def spent_rows(path):
+    """The modules of the chain, those with the most clocks first."""
+    spent = sorted(path.spent, key=lambda spend: -spend.clocks)
+    longest = max([spend.clocks for spend in spent], default=1)
+    return [{'name': spend.module, 'clocks': told(spend.clocks), 'share': spend.clocks / longest} for spend in spent]
+
+
+def crossed_rows(path):
+    return [{'side': cross.side, 'channel': cross.channel, 'count': told(cross.count)} for cross in path.crossed]

@@ -3,6 +3,7 @@ import os
 from concurrent.futures import ThreadPoolExecutor
 
 from flow import answers
+from flow.program import NoAnswer
 from report.facts import Facts
 from report.timeline import Timeline
 from report.words import explained, words_of
@@ -20,9 +21,13 @@ def timeline_of(program, options, text, clock, session, path):
     """The spans and fills, read as the program writes them."""
     timeline = Timeline(clock, [module.name for module in session.modules], list(session.channels),
                         [fifo.name for fifo in session.fifos()], path.links)
-    child = program.start(['trace'] + options, text)
-    with child.stdout:
-        answers.take_trace(child.stdout, timeline)
+    words = ['trace'] + options
+    child = program.start(words, text)
+    try:
+        with child.stdout:
+            answers.take_trace(child.stdout, timeline)
+    except answers.BadAnswer as fault:
+        raise NoAnswer(words, child.wait(), str(fault)) from fault
     child.wait()
     return timeline
 

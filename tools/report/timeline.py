@@ -52,6 +52,14 @@ class Series:
             yield self.values[at], max(first, self.starts[at]), min(stop, until)
             at += 1
 
+    def numbers(self, first, until):
+        """The count of the changes in a range of clocks, and for each its clocks and its value."""
+        changes = list(self.between(first, until))
+        yield len(changes)
+        for value, start, stop in changes:
+            yield stop - start
+            yield value
+
 
 class Timeline(TraceTaker):
     """Takes a trace. A module's value is 0 where it moves, 1 + 2 * channel where it waits for an element of a channel,
@@ -105,17 +113,13 @@ class Timeline(TraceTaker):
     def kept(self, first, until):
         """The numbers of a range of clocks: for each module its spans, for each FIFO its fills, and the links."""
         for lane in self.lanes:
-            spans = list(lane.between(first, until))
-            yield len(spans)
-            for value, start, stop in spans:
-                yield stop - start
-                yield value
+            yield from lane.numbers(first, until)
         for series in self.fills_of.values():
-            fills = list(series.between(first, until + 1))
-            yield len(fills)
-            for value, start, stop in fills:
-                yield stop - start
-                yield value
+            yield from series.numbers(first, until + 1)
+        yield from self.link_numbers(first, until)
+
+    def link_numbers(self, first, until):
+        """The count of the links in a range of clocks; for each its module, the clocks before it, and its clocks."""
         begin, end = max(0, bisect_right(self.link_starts, first) - 1), bisect_left(self.link_starts, until)
         links = [link for link in self.links[begin:end] if link[2] > first]
         yield len(links)

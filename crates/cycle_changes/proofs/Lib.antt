@@ -6,4 +6,5 @@ pub mod Reaching
 pub mod Changing
 pub mod Counting
 pub mod Putting
+pub mod Moving
 mod SoFar

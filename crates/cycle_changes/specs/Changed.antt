@@ -1,8 +1,9 @@
 -- A change of a depth that leaves a right record.
-use Rattle.std.specs.Prelude.{◌≡◌, ℕ, ◌≤◌, ◌⊎◌, List, [], slice_index, All, Contains}
+use Rattle.std.specs.Prelude.{◌≡◌, ℕ, ◌≤◌, ◌⊎◌, List, [], length, slice_index, All, Contains}
 use Rattle.flow_design.specs.declared.plan.Edit.{Edit}
 use Rattle.flow_word.specs.declared.access.Place.{Place}
 use Rattle.flow_word.specs.declared.access.Side.{Side}
+use Rattle.event_graph.specs.Lanes.{lane_at}
 use Rattle.fifo_table.specs.Channels.{with_depth}
 use Rattle.event_timing.specs.Edits.{edited}
 use Rattle.right_records.specs.Records.{IsRightRecord}
@@ -34,6 +35,7 @@ pub record HasChanged (edit : Edit) (limit : ℕ) (s t : Engine) : Type 0 where
   pub core : IsSomeCore t
   pub room : KeepsRoomEdited edit s t
   pub steps : only_steps t.graph.lanes ≡ only_steps s.graph.lanes
+  pub counts : (m : ℕ) → length (lane_at t.graph.lanes m).cycles ≡ length (lane_at s.graph.lanes m).cycles
   pub kinds : kinds_in t.fifos.channels ≡ kinds_in (with_depth s.fifos.channels edit.channel edit.depth)
   pub log : t.log ≡ s.log
 

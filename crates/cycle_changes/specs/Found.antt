@@ -1,8 +1,6 @@
 -- What is found right of cycles that were put.
-use Rattle.std.specs.Prelude.{◌≡◌, ℕ, ◌+◌, ◌⊎◌, List, [], length, map, slice_index, All, Contains}
+use Rattle.std.specs.Prelude.{ℕ, List, [], map, All}
 use Rattle.flow_word.specs.declared.access.Place.{Place}
-use Rattle.event_graph.specs.Lanes.{Lane, lane_at}
-use Rattle.engine_view.specs.Emitted.{place_of}
 use Rattle.engine_view.specs.declared.engine.Engine.{Engine}
 use Rattle.engine_view.specs.Engines.{held_in}
 use Rattle.step_looks.specs.Looks.{IsLooked}
@@ -24,9 +22,3 @@ pub record AreFoundRight (t : Engine) (limit : ℕ) (seeds puts : List Place) : 
 pub record IsFoundRight (s t : Engine) (channel limit : ℕ) (seeds puts : List Place) : Type 0 where
   pub felt : AreSeeds (held_in s []) channel seeds
   pub now : AreFoundRight t limit seeds puts
-
--- each step whose cycle is another is at one of these places, and there were as many ticks as there are places
-pub record AreTicked (old new : List Lane) (before after : ℕ) : Type 0 where
-  pub places : List Place
-  pub ticks : after ≡ before + length places
-  pub others : (m k : ℕ) → (slice_index (lane_at new m).cycles k ≡ slice_index (lane_at old m).cycles k) ⊎ Contains places (place_of m k)

@@ -1,5 +1,6 @@
 pub mod Around
 pub mod Seeds
 pub mod Changed
+pub mod Moved
 pub mod Puts
 pub mod Found

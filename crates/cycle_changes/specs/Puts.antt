@@ -1,9 +1,12 @@
 -- Cycles that were put into lanes one after the other, and lanes from which they are taken back.
-use Rattle.std.specs.Prelude.{◌≡◌, ℕ, suc, ◌<◌, List, [], ◌∷◌, length, drop, slice_index, All}
+use Rattle.std.specs.Prelude.{◌≡◌, ℕ, suc, ◌<◌, List, [], ◌∷◌, length, drop, slice_get, slice_index, All, Option, Some}
+use Rattle.std.specs.Prelude.{option_and_then}
 use Rattle.flow_word.specs.declared.access.Place.{Place}
 use Rattle.event_graph.specs.Lanes.{Lane, IsSoundLane, lane_at, with_put}
 use Rattle.engine_view.specs.declared.engine.Engine.{Engine}
 use Rattle.cycle_changes.specs.declared.changes.Put.{Put}
+use Rattle.cycle_changes.specs.declared.draft.Draft.{Draft}
+use Rattle.cycle_changes.specs.Moved.{moved_in}
 
 -- a step with a cycle is at the place
 pub record HasCycle (lanes : List Lane) (place : Place) : Type 0 where
@@ -20,6 +23,16 @@ pub record ArePut (first : List Lane) (puts : List Put) (now : List Lane) : Type
   pub back : undone puts now ≡ first
   pub sound : (k : ℕ) → All IsSoundLane (undone (drop k puts) now)
   pub timed : All (λ p. HasCycle now p.place) puts
+
+-- the draft's cycle of the step at a place, where it has one
+abbrev pub drafted : Draft → Place → Option ℕ
+drafted draft place = option_and_then (λ lane. slice_get lane.items place.step) (slice_get draft.lanes.items place.module)
+
+-- the puts gave each of their steps the draft's cycle, and each of them gave another step another cycle
+pub record AreDrafted (draft : Draft) (first : List Lane) (puts : List Put) (now : List Lane) : Type 0 where
+  pub put : ArePut first puts now
+  pub drafts : All (λ p. drafted draft p.place ≡ Some (slice_index (lane_at now p.place.module).cycles p.place.step)) puts
+  pub moved : moved_in first now ≡ length puts
 
 -- the puts lead from the lanes of the one to those of the other, and all else is as it was
 pub record HasPut (s : Engine) (puts : List Put) (t : Engine) : Type 0 where

@@ -1,14 +1,14 @@
 //! New cycles after a change of a depth, where few change.
-ghost use Rattle.std.specs.Prelude.{◌≡◌, ◌+◌, ◌<◌, ◌≤◌, true, false, length, map};
-ghost use Rattle.event_graph.specs.Lanes.{lane_at, cycle_bound, timed_below};
+ghost use Rattle.std.specs.Prelude.{◌≡◌, ◌+◌, ◌<◌, ◌≤◌, [], true, false, length, map, All, IfSome, IsNone, IsSome};
+ghost use Rattle.event_graph.specs.Lanes.{IsSoundLane, lane_at, cycle_bound, timed_below};
 ghost use Rattle.time_engine.specs.Conditions.{HasAccesses};
 ghost use Rattle.fifo_table.specs.Channels.{IsFifo, channel_at};
-ghost use Rattle.engine_view.specs.declared.engine.Engine.{Engine as held_engine};
 ghost use Rattle.engine_view.specs.Turns.{IsSomeCore};
 ghost use Rattle.retime.specs.Rounds.{cycles_in, steps_in};
 ghost use Rattle.retime.specs.Touched.{IsEditIn};
 ghost use Rattle.cycle_changes.specs.Changed.{HasChanged};
-ghost use Rattle.cycle_changes.specs.Found.{AreFoundRight, IsFoundRight, AreTicked, places_in};
+ghost use Rattle.cycle_changes.specs.Found.{AreFoundRight, IsFoundRight, places_in};
+ghost use Rattle.cycle_changes.specs.Moved.{moved_in};
 ghost use Rattle.cycle_changes.specs.Puts.{HasPut};
 
 use crate::changes::{Changes, Put};
@@ -19,7 +19,8 @@ use engine_view::Engine;
 use event_graph::{Graph, Place};
 use flow_design::Edit;
 use flow_word::Steps;
-use std::sync::ledger::Ledger;
+use std::marker::Brand;
+use std::sync::ledger::{Blank, Ledger};
 
 /// A search visits one in so many steps from the first touched clock on, at most: a visit costs several times what a retiming
 /// takes to give a step its cycle.
@@ -30,9 +31,9 @@ const SEARCHED_ALWAYS: u64 = 64;
 
 /// Sets a FIFO's depth and gives those steps new cycles whose cycles change, where these are found, and are found right.
 ///
-/// It ticks once for each cycle that it puts. False where they are not: where a query would have another outcome, a step
-/// would have no cycle below the limit, the search would visit more than a small part of the steps from this clock on, or
-/// memory is wanting. Then all is as it was.
+/// It ticks once for each step whose cycle is another then. False where they are not: where a query would have another
+/// outcome, a step would have no cycle below the limit, the search would visit more than a small part of the steps from this
+/// clock on, or memory is wanting. Then all is as it was.
 pub fn retime_changes<L: Ledger>(
     engine: &mut Engine,
     changes: &mut Changes,
@@ -47,44 +48,88 @@ pub fn retime_changes<L: Ledger>(
     ensures same { result ≡ false → engine.new ≡ engine.old }
     ensures same_ticks { result ≡ false → steps.new ≡ steps.old }
     ensures changed { result ≡ true → HasChanged edit.now limit engine.old engine.new }
-    ensures ticked { result ≡ true → AreTicked engine.old.graph.lanes engine.new.graph.lanes steps.old steps.new }
+    ensures ticked { result ≡ true → steps.new ≡ steps.old + moved_in engine.old.graph.lanes engine.new.graph.lanes }
     ensures few { steps.new + cycles_in (map (timed_below from) engine.old.graph.lanes)
         ≤ steps.old + steps_in engine.old.graph.lanes }
 {
-    let stands = engine.fifos.depth(edit.channel);
-    engine.fifos.set_depth(edit.channel, edit.depth);
-    changes.puts.clear();
-    if change(engine, changes, edit.channel, from, limit) {
-        tick_each(changes.puts.as_slice(), steps);
-        return true;
+    match try_changes::<Brand>(engine, changes, edit, from, limit, Blank::new(1)) {
+        Some(count) => {
+            tick_each(count, steps);
+            true
+        }
+        None => false,
     }
-    undo(&mut engine.graph, &mut changes.puts);
-    changes.search.draft.leave();
-    engine.fifos.set_depth(edit.channel, stands);
-    false
 }
 
-/// Searches for the cycles that change with the depth that stands, puts them, and checks them. The puts stand in the list, also
-/// where it is false.
-fn change(engine: &mut Engine, changes: &mut Changes, channel: u32, from: u64, limit: u64) -> bool
-    requires none { HasPut engine.old changes.old.puts.items engine.old }
-    requires channel { channel < length engine.old.fifos.channels }
-    requires fifo { IsFifo (channel_at engine.old.fifos.channels channel).kind }
+/// The same with a counter of its own, so that what is undone doesn't count: how many ticks there were where the new cycles
+/// stay, and None where all is as it was.
+fn try_changes<L: Ledger>(
+    engine: &mut Engine,
+    changes: &mut Changes,
+    edit: &Edit,
+    from: u64,
+    limit: u64,
+    blank: Blank,
+) -> Option<u64>
+    requires blank { (blank.name ≡ L.name) × (blank.parts ≡ L.parts) × (L.parts ≡ 1) }
+    requires edit { IsEditIn engine.old.fifos.channels edit.now }
+    requires limit { limit ≤ cycle_bound }
+    requires core { IsSomeCore engine.old }
+    ensures same { IsNone result → engine.new ≡ engine.old }
+    ensures changed { IsSome result → HasChanged edit.now limit engine.old engine.new }
+    ensures ticked { IfSome result (λ count. count ≡ moved_in engine.old.graph.lanes engine.new.graph.lanes) }
+    ensures few { IfSome result (λ count. count + cycles_in (map (timed_below from) engine.old.graph.lanes)
+        ≤ steps_in engine.old.graph.lanes) }
+{
+    let mut tried = Steps::<L>::new(blank);
+    let stands = engine.fifos.depth(edit.channel);
+    engine.fifos.set_depth(edit.channel, edit.depth);
+    if change(engine, changes, edit.channel, from, limit, &mut tried) {
+        return Some(count_of(&tried, changes.puts.as_slice()));
+    }
+    undo(&mut engine.graph, &mut changes.puts, &mut tried);
+    changes.search.draft.leave();
+    engine.fifos.set_depth(edit.channel, stands);
+    None
+}
+
+/// How many steps a counter counted, one for each of the puts.
+fn count_of<L: Ledger>(tried: &Steps<L>, puts: &[Put]) -> u64
+    requires { tried.now ≡ length puts.now }
+    ensures { result ≡ tried.now }
+{
+    puts.len() as u64
+}
+
+/// Searches for the cycles that change with the depth that stands, puts them, with a tick for each, and checks them. The puts
+/// stand in the list, also where it is false.
+fn change<L: Ledger>(
+    engine: &mut Engine,
+    changes: &mut Changes,
+    channel: u32,
+    from: u64,
+    limit: u64,
+    steps: &mut Steps<L>,
+) -> bool
+    requires fifo { channel < length engine.old.fifos.channels × IsFifo (channel_at engine.old.fifos.channels channel).kind }
     requires limit { limit ≤ cycle_bound }
     requires core { IsSomeCore engine.old }
     ensures put { HasPut engine.old changes.new.puts.items engine.new }
+    ensures moved { moved_in engine.old.graph.lanes engine.new.graph.lanes ≡ length changes.new.puts.items }
+    ensures ticks { steps.new ≡ steps.old + length changes.new.puts.items }
     ensures right { result ≡ true → IsFoundRight engine.old engine.new channel limit changes.new.seeds.items
         (places_in changes.new.puts.items) }
     ensures few { result ≡ true → length changes.new.puts.items + cycles_in (map (timed_below from) engine.old.graph.lanes)
         ≤ steps_in engine.old.graph.lanes }
 {
+    changes.puts.clear();
     changes.seeds.clear();
     if !find_seeds(engine, channel, &mut changes.seeds) {
         return false;
     }
     let left = count_left(&engine.graph, from);
     let most = (left / SEARCHED_PART).saturating_add(SEARCHED_ALWAYS);
-    if !put_found(engine, changes, most, limit) {
+    if !put_found(engine, changes, most, limit, steps) {
         return false;
     }
     if changes.puts.len() as u64 > left {
@@ -98,11 +143,20 @@ fn change(engine: &mut Engine, changes: &mut Changes, channel: u32, from: u64, l
     )
 }
 
-/// Searches for the cycles that change, and puts them. False where that does not come to its end.
-fn put_found(engine: &mut Engine, changes: &mut Changes, most: u64, limit: u64) -> bool
-    requires limit { limit ≤ cycle_bound }
+/// Searches for the cycles that change, and puts them, with a tick for each. False where that does not come to its end.
+fn put_found<L: Ledger>(
+    engine: &mut Engine,
+    changes: &mut Changes,
+    most: u64,
+    limit: u64,
+    steps: &mut Steps<L>,
+) -> bool
+    requires none { changes.old.puts.items ≡ [] }
+    requires sound { All IsSoundLane engine.old.graph.lanes }
     requires accesses { HasAccesses engine.old.graph.lanes engine.old.fifos.channels }
-    ensures put { (first : held_engine) → HasPut first changes.old.puts.items engine.old → HasPut first changes.new.puts.items engine.new }
+    ensures put { HasPut engine.old changes.new.puts.items engine.new }
+    ensures moved { moved_in engine.old.graph.lanes engine.new.graph.lanes ≡ length changes.new.puts.items }
+    ensures ticks { steps.new ≡ steps.old + length changes.new.puts.items }
     ensures seeds { changes.new.seeds ≡ changes.old.seeds }
 {
     let Changes {
@@ -110,16 +164,12 @@ fn put_found(engine: &mut Engine, changes: &mut Changes, most: u64, limit: u64) 
         seeds,
         puts,
     } = changes;
-    match search.run(&engine.graph, &engine.fifos, seeds.as_slice(), limit, most) {
-        Ok(true) => {
-            let moved = search.moved.as_mut_slice();
-            matches!(
-                put_moved(&mut engine.graph, &search.draft, moved, puts, limit),
-                Ok(true)
-            )
-        }
-        Ok(false) | Err(_) => false,
+    let found = search.run(&engine.graph, &engine.fifos, seeds.as_slice(), limit, most);
+    if !found.unwrap_or(false) {
+        return false;
     }
+    let moved = search.moved.as_mut_slice();
+    put_moved(&mut engine.graph, &search.draft, moved, puts, steps)
 }
 
 /// Whether the seeds are right and all that the puts can reach, and nothing else is determined.
@@ -139,11 +189,11 @@ fn are_found_right(engine: &Engine, seeds: &[Place], puts: &[Put], limit: u64) -
     are_late(engine, limit)
 }
 
-/// A tick for each of the puts.
-fn tick_each<L: Ledger>(puts: &[Put], steps: &mut Steps<L>)
-    ensures { steps.new ≡ steps.old + length puts.now }
+/// So many ticks.
+fn tick_each<L: Ledger>(count: u64, steps: &mut Steps<L>)
+    ensures { steps.new ≡ steps.old + count }
 {
-    for _put in puts {
+    for _tick in 0..count {
         steps.tick();
     }
 }

@@ -1,5 +1,6 @@
 //! The cycles of all steps, as a search changes them.
-ghost use Rattle.std.specs.Prelude.{◌<◌};
+ghost use Rattle.std.specs.Prelude.{◌≡◌, ◌<◌};
+ghost use Rattle.cycle_changes.specs.Puts.{drafted};
 
 use event_graph::{Graph, Place};
 use flow_word::OutOfMemory;
@@ -24,7 +25,9 @@ impl Draft {
     }
 
     /// The cycle of the step at a place, where the draft has one.
-    pub fn cycle(&self, place: Place) -> Option<u64> {
+    pub fn cycle(&self, place: Place) -> Option<u64>
+        ensures { result ≡ drafted self.now place }
+    {
         let lane = self.lanes.get(place.module as usize)?;
         lane.get(place.step as usize).copied()
     }

@@ -1,47 +1,52 @@
 //! Cycles that are put into the graph, and taken back.
-ghost use Rattle.std.specs.Prelude.{◌≡◌, ◌<◌, ◌≤◌, List, length, true};
-ghost use Rattle.event_graph.specs.Lanes.{Lane, cycle_bound};
-ghost use Rattle.cycle_changes.specs.Puts.{ArePut, IsFitting};
+ghost use Rattle.std.specs.Prelude.{◌≡◌, ◌+◌, ◌<◌, List, length, true};
+ghost use Rattle.event_graph.specs.Lanes.{Lane};
+ghost use Rattle.cycle_changes.specs.Puts.{ArePut, AreDrafted, IsFitting};
 
 use crate::changes::Put;
 use crate::draft::Draft;
 use crate::timed::has_cycle;
 use event_graph::{Graph, Place};
-use flow_word::OutOfMemory;
+use flow_word::Steps;
+use std::sync::ledger::Ledger;
 
-/// Puts the draft's cycles of these steps into the graph, in an order in which the cycles of a lane always rise.
+/// Each cycle is below this.
+const CYCLE_BOUND: u64 = 1_000_000_000_000_000;
+
+/// Puts the draft's cycles of these steps into the graph, in an order in which the cycles of a lane always rise. It ticks once
+/// for each put, and puts no cycle twice.
 ///
-/// False where one is not below the limit, or would not rise.
-pub fn put_moved(
+/// False where one is too large or would not rise, or memory is wanting.
+pub fn put_moved<L: Ledger>(
     graph: &mut Graph,
     draft: &Draft,
     moved: &mut [(u32, u64)],
     puts: &mut Vec<Put>,
-    limit: u64,
-) -> Result<bool, OutOfMemory>
-    requires { limit ≤ cycle_bound }
-    ensures puts { (first : List Lane) → ArePut first puts.old.items graph.old.lanes → ArePut first puts.new.items graph.new.lanes }
+    steps: &mut Steps<L>,
+) -> bool
+    ensures puts { (first : List Lane) → AreDrafted draft.now first puts.old.items graph.old.lanes
+        → AreDrafted draft.now first puts.new.items graph.new.lanes }
     ensures rooms { graph.new.rooms ≡ graph.old.rooms }
+    ensures ticks { steps.new + length puts.old.items ≡ steps.old + length puts.new.items }
 {
     moved.sort_unstable();
-    Ok(
-        put_all(graph, draft, moved, puts, limit, true)?
-            && put_all(graph, draft, moved, puts, limit, false)?,
-    )
+    put_all(graph, draft, moved, puts, true, steps)
+        && put_all(graph, draft, moved, puts, false, steps)
 }
 
 /// Puts the cycles that get later, from the last step to the first, or those that get earlier, from the first to the last.
-fn put_all(
+fn put_all<L: Ledger>(
     graph: &mut Graph,
     draft: &Draft,
     moved: &[(u32, u64)],
     puts: &mut Vec<Put>,
-    limit: u64,
     later: bool,
-) -> Result<bool, OutOfMemory>
-    requires { limit ≤ cycle_bound }
-    ensures puts { (first : List Lane) → ArePut first puts.old.items graph.old.lanes → ArePut first puts.new.items graph.new.lanes }
+    steps: &mut Steps<L>,
+) -> bool
+    ensures puts { (first : List Lane) → AreDrafted draft.now first puts.old.items graph.old.lanes
+        → AreDrafted draft.now first puts.new.items graph.new.lanes }
     ensures rooms { graph.new.rooms ≡ graph.old.rooms }
+    ensures ticks { steps.new + length puts.old.items ≡ steps.old + length puts.new.items }
 {
     for before in 0..moved.len() {
         let index = if later {
@@ -50,44 +55,49 @@ fn put_all(
             before
         };
         let (module, step) = moved[index];
-        if !put_drafted(graph, draft, Place { module, step }, puts, limit, later)? {
-            return Ok(false);
+        if !put_drafted(graph, draft, Place { module, step }, puts, later, steps) {
+            return false;
         }
     }
-    Ok(true)
+    true
 }
 
-/// Puts the draft's cycle of a step, where it is later than the graph's, or where it is earlier. False where it is not below the
-/// limit, or would not rise.
-fn put_drafted(
+/// Puts the draft's cycle of a step, where it is later than the graph's, or where it is earlier. False where it is too large
+/// or would not rise, or memory is wanting.
+fn put_drafted<L: Ledger>(
     graph: &mut Graph,
     draft: &Draft,
     place: Place,
     puts: &mut Vec<Put>,
-    limit: u64,
     later: bool,
-) -> Result<bool, OutOfMemory>
-    requires { limit ≤ cycle_bound }
-    ensures puts { (first : List Lane) → ArePut first puts.old.items graph.old.lanes → ArePut first puts.new.items graph.new.lanes }
+    steps: &mut Steps<L>,
+) -> bool
+    ensures puts { (first : List Lane) → AreDrafted draft.now first puts.old.items graph.old.lanes
+        → AreDrafted draft.now first puts.new.items graph.new.lanes }
     ensures rooms { graph.new.rooms ≡ graph.old.rooms }
+    ensures ticks { steps.new + length puts.old.items ≡ steps.old + length puts.new.items }
 {
     if !has_cycle(graph, place) {
-        return Ok(false);
+        return false;
     }
     let old = graph.cycles(place.module)[place.step as usize];
     let cycle = draft.cycle(place).unwrap_or(old);
     if cycle == old || (cycle > old) != later {
-        return Ok(true);
+        return true;
     }
-    if cycle >= limit {
-        return Ok(false);
+    if cycle >= CYCLE_BOUND {
+        return false;
     }
     if !is_fitting(graph.cycles(place.module), place.step as usize, cycle) {
-        return Ok(false);
+        return false;
     }
-    puts.push(Put { place, old })?;
-    graph.put(place, cycle);
-    Ok(true)
+    match puts.push(Put { place, old }) {
+        Ok(()) => {
+            graph.put(place, cycle, steps);
+            true
+        }
+        Err(_) => false,
+    }
 }
 
 /// Whether a cycle is later than that of the step before, and earlier than that of the step after.
@@ -99,13 +109,13 @@ fn is_fitting(cycles: &[u64], step: usize, cycle: u64) -> bool
         && (step + 1 == cycles.len() || cycle < cycles[step + 1])
 }
 
-/// Takes all puts back, from the last to the first.
-pub fn undo(graph: &mut Graph, puts: &mut Vec<Put>)
+/// Takes all puts back, from the last to the first, with a tick for each.
+pub fn undo<L: Ledger>(graph: &mut Graph, puts: &mut Vec<Put>, steps: &mut Steps<L>)
     requires { (first : List Lane) × ArePut first puts.old.items graph.old.lanes }
     ensures undone { (first : List Lane) → ArePut first puts.old.items graph.old.lanes → graph.new.lanes ≡ first }
     ensures rooms { graph.new.rooms ≡ graph.old.rooms }
 {
     while let Some(put) = puts.pop() {
-        graph.put(put.place, put.old);
+        graph.put(put.place, put.old, steps);
     }
 }

@@ -177,9 +177,8 @@ impl Graph {
         self.lanes[owner as usize].set_cycle(cycle, steps);
     }
 
-    /// Gives a step that has a cycle another one, with which the cycles of its lane still rise. All else stays. It does not
-    /// tick: whoever puts cycles that stay ticks for them.
-    pub fn put(&mut self, place: Place, cycle: u64)
+    /// Gives a step that has a cycle another one, with which the cycles of its lane still rise. All else stays.
+    pub fn put<L: Ledger>(&mut self, place: Place, cycle: u64, steps: &mut Steps<L>)
         requires owner { place.module < length self.old.lanes }
         requires there { place.step < length (lane_at self.old.lanes place.module).cycles }
         requires below { cycle < cycle_bound }
@@ -187,8 +186,9 @@ impl Graph {
         ensures lanes { self.new.lanes ≡ with_put self.old.lanes place cycle }
         ensures rooms { self.new.rooms ≡ self.old.rooms }
         ensures sound { All IsSoundLane self.new.lanes }
+        ensures ticks { steps.new ≡ steps.old + 1 }
     {
-        self.lanes[place.module as usize].put(place.step, cycle);
+        self.lanes[place.module as usize].put(place.step, cycle, steps);
     }
 
     /// The cycles of a module's first steps.

@@ -154,15 +154,17 @@ impl RoomyLane {
     }
 
     /// Gives a step that has a cycle another one, with which the cycles still rise.
-    pub fn put(&mut self, step: u64, cycle: u64)
+    pub fn put<L: Ledger>(&mut self, step: u64, cycle: u64, steps: &mut Steps<L>)
         requires there { step < length self.old.lane.cycles }
         requires below { cycle < cycle_bound }
         requires rising { IsStrictlyIncreasing (slice_set self.old.lane.cycles step cycle) }
         ensures lane { self.new.lane ≡ put_in self.old.lane step cycle }
         ensures room { self.new.room ≡ self.old.room }
         ensures sound { IsSoundLane self.new.lane }
+        ensures ticks { steps.new ≡ steps.old + 1 }
     {
         self.cycles[step as usize] = cycle;
+        steps.tick();
     }
 
     /// How many cycles are below this one.

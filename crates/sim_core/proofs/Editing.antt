@@ -1,8 +1,10 @@
 -- A final core behind an edit of its plan.
-use Rattle.std.proofs.Common.{◌≡◌, refl, sym, ap, subst, ◌∙◌, ℕ, ◌+◌, ◌≤◌, inl, inr, Bool, List, [], length, map}
+use Rattle.std.proofs.Common.{◌≡◌, refl, sym, ap, subst, ◌∙◌, ℕ, suc, ◌+◌, ◌<◌, ◌≤◌, inl, inr, Bool, List, [], length, map}
 use Rattle.std.proofs.Common.{set, Option, Some, None, unwrap_or, ◌⊎◌, arith}
 use Rattle.std.specs.Prelude.{IfSome, IsNone}
+use Rattle.std.proofs.lemmas.Bool.{cases_eq}
 use Rattle.std.proofs.lemmas.List.{length-map, set-get_or}
+use Rattle.std.proofs.lemmas.Option.{get_or_from_slice_get, slice_get-get_or, slice_get_within}
 use Rattle.flow_word.specs.declared.access.Side.{Side}
 use Rattle.flow_design.specs.declared.plan.Edit.{Edit}
 use Rattle.flow_design.specs.declared.plan.Plan.{Plan}
@@ -11,7 +13,7 @@ use Rattle.flow_design.specs.declared.state.ModuleState.{ModuleState}
 use Rattle.flow_design.specs.Plans.{with_depth, EditFits}
 use Rattle.flow_design.specs.StaticRules.{FitsEngine}
 use Rattle.module_interp.specs.declared.run.ModuleRun.{ModuleRun}
-use Rattle.event_graph.specs.Lanes.{Lane, timed_below}
+use Rattle.event_graph.specs.Lanes.{Lane, lane_at, timed_below}
 use Rattle.fifo_table.specs.Channels.{channel_at, depth_of, places_of}
 use Rattle.fifo_table.specs.Channels.{with_depth as with_depths}
 use Rattle.outcome_guard.specs.declared.guard.Guard.{Guard}
@@ -23,6 +25,9 @@ use Rattle.event_timing.specs.Agreement.{AreOwnMarks, IsAgreed}
 use Rattle.event_timing.specs.Edits.{edited, after_edit}
 use Rattle.event_timing.specs.Growth.{GrowsBeside}
 use Rattle.event_timing.proofs.Beside.{others_grow}
+use Rattle.event_timing.proofs.Editing.{cycles_rise, kept_same}
+use Rattle.event_timing.proofs.Steps.{same_clock}
+use Rattle.event_timing.proofs.Touched.{kept_ge}
 use Rattle.timing_bridge.specs.Designs.{design, lockstep_run}
 use Rattle.timing_bridge.proofs.Edits.{edited_fits, same_design}
 use Rattle.timing_bridge.proofs.History.{plan_is_design, run_is_history}
@@ -40,6 +45,7 @@ use Rattle.right_records.proofs.Marks.{marks_on}
 use Rattle.right_records.proofs.Onward.{final_record}
 use Rattle.right_records.proofs.Recording.{right_agrees}
 use Rattle.cycle_changes.specs.Changed.{HasChanged}
+use Rattle.cycle_changes.specs.Moved.{moved_in}
 use Rattle.retime.specs.Cuts.{HasRetimed, KeepsRoomEdited}
 use Rattle.retime.specs.Edits.{IsEditFrom, IsEditOf}
 use Rattle.retime.specs.Rounds.{LeadsAll, HasEnded, only_steps, cycles_in, steps_in}
@@ -49,7 +55,7 @@ use Rattle.retime.proofs.Cutting.{sound_lanes_of}
 use Rattle.retime.proofs.Behind.{agreed_behind, outcomes_behind}
 use Rattle.retime.proofs.Otherwise.{other_in_history}
 use Rattle.retime.proofs.Tallied.{places_in_order}
-use Rattle.sim_core.specs.Edits.{IsEdited, IsTrueGuard}
+use Rattle.sim_core.specs.Edits.{IsEdited, IsTrueGuard, StayBelow}
 use Rattle.sim_core.specs.Runs.{IsCore, IsStoredCore, IsWired, over_of}
 use Rattle.sim_core.specs.declared.unread.Unread.{Unread}
 use Rattle.sim_core.specs.declared.wiring.Wiring.{Wiring}
@@ -238,12 +244,33 @@ module _ {p : Plan} {s : Engine} {ends : List (Option Advance)} {runs : List (Op
           (end_edited p k.fits e fit m x x.timed x.cycle x.verified mark (k.ends_are m mark there));
     }
 
+    -- the cycles below the clock are those of a core that agrees with the edited plan too
+    stay : {clock : ℕ} → IsEditFrom s.graph.lanes s.fifos.channels e p.cycles clock → StayBelow clock s.graph.lanes t.graph.lanes
+    stay {clock} from at c is less =
+        let cut = cut_of p k.fits e fit (held_in s over) k.sound k.agreed final clock from in
+        let there = get_or_from_slice_get (lane_at s.graph.lanes at.module).cycles at.step c 0 is in
+        let within = slice_get_within (lane_at s.graph.lanes at.module).cycles at.step c is in
+        let rise = cycles_rise d (lockstep_run p) p.cycles x k.agreed.time at.module in
+        let kept = kept_ge (x.cycle at.module) clock (suc at.step) (x.timed at.module) (omega arith)
+        (λ j l. elim (cases_eq j at.step) [
+          | inl same ↦ subst (λ (i : ℕ). x.cycle at.module i < clock) (sym same) (omega arith)
+          | inr apart ↦ let r = rise j at.step (omega arith) within in omega arith
+        ]) in
+        let same_cut = kept_same (x.cycle at.module) clock (x.timed at.module) at.step (omega arith) in
+        let count = done.counts at.module in
+        let inside : at.step < now.timed at.module = omega arith in
+        let one = same_clock (design q) (lockstep_run q) at.module _ _
+        (agrees_now.time.steps_then at.module at.step inside) (cut.time.steps_then at.module at.step (omega arith))
+        (agrees_now.time.done_then at.module at.step inside ∙ sym (cut.time.done_then at.module at.step (omega arith))) in
+        slice_get-get_or (lane_at t.graph.lanes at.module).cycles at.step 0 inside ∙ ap Some (one ∙ (same_cut ∙ there))
+
     pub is_changed : {clock : ℕ} → IsEditFrom s.graph.lanes s.fifos.channels e p.cycles clock → (lent : List Bool) (before after : ℕ)
+        → after ≡ before + moved_in s.graph.lanes t.graph.lanes
         → after + cycles_in (map (timed_below clock) s.graph.lanes) ≤ before + steps_in s.graph.lanes
         → IsEdited (record { plan = p; held = held_in s over; lent = lent })
         (record { plan = q; held = held_in t over; lent = lent }) e Same
         before after
-    is_changed {clock} from lent before after few = inr (inr (record {
+    is_changed {clock} from lent before after ticked few = inr (inr (record {
       clock = clock;
       from = from;
       same = refl;
@@ -253,6 +280,8 @@ module _ {p : Plan} {s : Engine} {ends : List (Option Advance)} {runs : List (Op
       steps = done.steps;
       logs = logs;
       over = refl;
+      stay = stay from;
+      ticked = ticked;
       few = few;
     }))
 

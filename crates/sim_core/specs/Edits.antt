@@ -1,7 +1,8 @@
 -- What an edit of a depth leaves of a core.
-use Rattle.std.specs.Prelude.{◌≡◌, ℕ, ◌+◌, ◌<◌, ◌≤◌, ◌⊎◌, length, map}
+use Rattle.std.specs.Prelude.{◌≡◌, ℕ, ◌+◌, ◌<◌, ◌≤◌, ◌⊎◌, List, Some, length, map}
 use Rattle.flow_design.specs.declared.plan.Edit.{Edit}
-use Rattle.event_graph.specs.Lanes.{timed_below}
+use Rattle.flow_word.specs.declared.access.Place.{Place}
+use Rattle.event_graph.specs.Lanes.{Lane, cycle_of, timed_below}
 use Rattle.fifo_table.specs.Channels.{channel_at, depth_of}
 use Rattle.query_log.specs.Logs.{log_at}
 use Rattle.outcome_guard.specs.declared.guard.Guard.{Guard}
@@ -13,6 +14,7 @@ use Rattle.timing_bridge.specs.Designs.{design, lockstep_run}
 use Rattle.engine_view.specs.Shown.{IsSound}
 use Rattle.retime.specs.Edits.{IsEditFrom, IsOtherInHistory, OutcomesGrow}
 use Rattle.retime.specs.Rounds.{LeadsAll, HasEnded, only_steps, cycles_in, steps_in}
+use Rattle.cycle_changes.specs.Moved.{moved_in}
 use Rattle.sim_core.specs.Views.{CoreView, theory_of}
 
 -- the depth is the one that stands, and nothing changed
@@ -34,6 +36,10 @@ pub record IsRetimed (old new : CoreView) (e : Edit) (guard : Guard) (before aft
   pub few : after + cycles_in (map (timed_below clock) old.held.lanes) ≤ before + steps_in old.held.lanes
   pub outcomes : (m : ℕ) → m < length old.held.logs → OutcomesGrow (log_at old.held.logs m) (log_at new.held.logs m)
 
+-- a step whose cycle is below the clock keeps it
+abbrev pub StayBelow : ℕ → List Lane → List Lane → Type 0
+StayBelow clock old new = (at : Place) (c : ℕ) → cycle_of old at ≡ Some c → c < clock → cycle_of new at ≡ Some c
+
 -- few cycles changed: with those that did, the core is that of the edited plan, and nothing is left to do
 pub record IsChanged (old new : CoreView) (e : Edit) (guard : Guard) (before after : ℕ) : Type 0 where
   pub clock : ℕ
@@ -45,6 +51,9 @@ pub record IsChanged (old new : CoreView) (e : Edit) (guard : Guard) (before aft
   pub steps : only_steps new.held.lanes ≡ only_steps old.held.lanes
   pub logs : new.held.logs ≡ old.held.logs
   pub over : new.held.over ≡ old.held.over
+  pub stay : StayBelow clock old.held.lanes new.held.lanes
+  -- one tick for each step whose cycle is another, and none beside them
+  pub ticked : after ≡ before + moved_in old.held.lanes new.held.lanes
   -- no more ticks than there are steps beside those whose cycles were below the first touched clock
   pub few : after + cycles_in (map (timed_below clock) old.held.lanes) ≤ before + steps_in old.held.lanes
 

@@ -8,6 +8,7 @@ ghost use Rattle.engine_view.specs.Turns.{IsSomeCore};
 ghost use Rattle.retime.specs.Rounds.{cycles_in, steps_in};
 ghost use Rattle.retime.specs.Touched.{IsEditIn};
 ghost use Rattle.cycle_changes.specs.Changed.{HasChanged};
+ghost use Rattle.cycle_changes.specs.Moved.{moved_in};
 ghost use Rattle.sim_core.specs.Views.{theory_of};
 ghost use Rattle.sim_core.specs.Edits.{IsEdited, IsTrueGuard};
 
@@ -26,8 +27,8 @@ impl Core {
     /// Where few cycles change, they are given anew, and the core is final again. Else the cycles from the first clock on that
     /// the change touches are given anew, as long as outcomes are as they were recorded, so that the core agrees with the edited
     /// plan; `drive` does the rest. Where the outcome of a query is another than the recorded one, that query is told. What came
-    /// back unread is let go. It needs no memory, and ticks once for each cycle that it gives: with those of `drive` these are no
-    /// more than `edits_set_few` says.
+    /// back unread is let go. It needs no memory. It ticks once for each step whose cycle is another, where these are few; else
+    /// once for each cycle that it gives. With the ticks of `drive` these are no more than `edits_set_few` says.
     pub fn edit<L: Ledger>(&mut self, edit: &Edit, steps: &mut Steps<L>) -> Guard
         requires is_final { IsFinal (design self.old.plan) self.old.plan.cycles (theory_of self.old) }
         requires fits { EditFits self.old.plan edit.now }
@@ -73,6 +74,7 @@ fn change_few<L: Ledger>(
     ensures same { result ≡ false → engine.new ≡ engine.old }
     ensures same_ticks { result ≡ false → steps.new ≡ steps.old }
     ensures changed { result ≡ true → HasChanged edit.now limit engine.old engine.new }
+    ensures ticked { result ≡ true → steps.new ≡ steps.old + moved_in engine.old.graph.lanes engine.new.graph.lanes }
     ensures few { result ≡ true → steps.new + cycles_in (map (timed_below (unwrap_or from limit)) engine.old.graph.lanes)
         ≤ steps.old + steps_in engine.old.graph.lanes }
 {

@@ -66,7 +66,7 @@ returns-then-change_few-clause-edited g c =
     c.first_touched-from.result c.first_touched-from.ensures.some c.first_touched-from.ensures.none in
     rw (← c.self.view_is, c.edit_plan.ensures) (editing.is_changed c.self.invariant.core fit (rw (← c.self.view_is) at c.requires.is_final)
     (c.change_few.ensures.changed c.if-change_few.true) from (lent_of c.self.inside.runs.items) c.args.steps.now c.change_few.new.steps
-    (c.change_few.ensures.few c.if-change_few.true))
+    (c.change_few.ensures.ticked c.if-change_few.true) (c.change_few.ensures.few c.if-change_few.true))
 
 -- ---- cycles are given anew
 

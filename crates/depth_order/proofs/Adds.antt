@@ -1,6 +1,6 @@
 -- The clocks that a chain spends in modules, and those of elements under way, are all clocks up to its end.
 use Rattle.std.proofs.Common.{◌≡◌, ℕ, zero, suc, ◌+◌, ◌-◌, ◌≤◌, ◌<◌, Bool, true, false, ◌||◌, ltb, List, [], ◌∷◌, map, length}
-use Rattle.std.proofs.Common.{refl, sym, ◌∙◌, ap, subst, arith, inl, inr, ◌⊎◌, Option, Some, None}
+use Rattle.std.proofs.Common.{refl, sym, ◌∙◌, ap, subst, arith, inl, inr, ◌⊎◌, Option, Some, None, cond}
 use Rattle.std.specs.Prelude.{find, option_map}
 use Rattle.std.specs.List.{AllByRecursion, range_with_len}
 use Rattle.std.proofs.lemmas.Bool.{cases_Bool, cases_lt, and_parts, ltb-true, lt-ltb, not-true}
@@ -22,7 +22,7 @@ use Rattle.timing_bridge.proofs.Requests.{stand}
 use Rattle.timing_bridge.proofs.History.{plan_is_design, run_is_history, moves_same}
 use Rattle.depth_order.specs.Chain.{moves_at, span_start, port_of, stood_at, goes_on, chain}
 use Rattle.depth_order.specs.Chain.{first_mover, chain_from, path}
-use Rattle.depth_order.specs.Sums.{spent, clocks_across, under_way, IsEnd, IsWhole}
+use Rattle.depth_order.specs.Sums.{spent, clocks_across, under_way, chain_clocks, IsEnd, IsWhole, MovesLast, NoneMoves}
 use Rattle.depth_order.proofs.First.{IsFirst, first_among, verdict_first}
 use Rattle.lockstep_defs.specs.Verdict.{verdict, is_settled}
 use Rattle.flow_design.specs.Reports.{clock_of}
@@ -31,7 +31,7 @@ use Rattle.lockstep_defs.proofs.Found.{verdict_none}
 use Rattle.lockstep_defs.proofs.Exits.{clock_settled}
 use Rattle.depth_order.proofs.Bound.{must_be}
 use Rattle.depth_order.proofs.Chained.{IsStill, starts, found_in, found_stalls, kept_still, next_clock, chain_more, path_more, found_true}
-use Rattle.depth_order.proofs.Chained.{someone_moved}
+use Rattle.depth_order.proofs.Chained.{someone_moved, find_any, none_among}
 
 -- ---- what becomes possible
 
@@ -173,3 +173,80 @@ whole_chain p h ends = by_first (first_among p (suc p.cycles))
         let at : clock_of (verdict p) ≡ c = ap clock_of (verdict_first p c f) ∙ clock_settled p c (state p c) in
         subst (IsWhole p) (sym at) (path_whole p h c f.none f.settled)
     by_first (inr none) = absurd (subst IsEnd (verdict_none p none) ends)
+
+-- ---- up to any clock
+
+-- the first number that passes is one of them
+found_inside : (P : ℕ → Bool) (a n m : ℕ) → find P (range_with_len a n) ≡ Some m → m < a + n
+found_inside P a zero m e = absurd (cc)
+found_inside P a (suc n) m e = by_test (P a) (found_inside P (a + 1) n m) e
+  where
+    by_test : (b : Bool) → (find P (range_with_len (a + 1) n) ≡ Some m → m < (a + 1) + n)
+        → cond b (Some a) (find P (range_with_len (a + 1) n)) ≡ Some m → m < a + suc n
+    by_test true rest e = let same : a ≡ m = cc in omega arith
+    by_test false rest e = let inside = rest e in omega arith
+
+still_all : (p : Plan) (c m : ℕ) → first_mover p c ≡ None → m < length p.design.modules → moves_at p c m ≡ false
+still_all p c m none l =
+    let at : 0 + m ≡ m = omega arith in
+    subst (λ (k : ℕ). moves_at p c k ≡ false) at
+    (none_among (moves_at p c) 0 (length p.design.modules)
+    (find_any (moves_at p c) (range_with_len 0 (length p.design.modules)) none) m l)
+
+-- who is found is a module of the plan, and moves
+record IsMover (p : Plan) (c m : ℕ) : Type 0 where
+  pub inside : m < length p.design.modules
+  pub moves : moves_at p c m ≡ true
+
+mover : (p : Plan) (c m : ℕ) → first_mover p c ≡ Some m → IsMover p c m
+mover p c m e =
+    let inside = found_inside (moves_at p c) 0 (length p.design.modules) m e in
+    record { inside = omega arith; moves = found_true (moves_at p c) (range_with_len 0 (length p.design.modules)) m e }
+
+pub chain_to : (p : Plan) → FitsEngine p → (c t : ℕ) → MovesLast p c t → chain_clocks p c ≡ suc t
+chain_to p h zero t l = let below = l.below in absurd (omega arith)
+chain_to p h (suc c) t l = rw (path_more p c) (by_mover (first_mover p c) refl (λ k. chain_to p h c t k))
+  where
+    by_mover : (o : Option ℕ) → first_mover p c ≡ o → (MovesLast p c t → chain_clocks p c ≡ suc t)
+        → spent (chain_from p c o (path p c)) + under_way p (chain_from p c o (path p c)) ≡ suc t
+    by_mover None found rest = elim (cases_lt t c) [
+      | inl before ↦ rest (record {
+        mover = l.mover;
+        inside = l.inside;
+        moves = l.moves;
+        below = before;
+        none_later = λ b m after within. l.none_later b m after (omega arith);
+      })
+      | inr at ↦
+          let below = l.below in
+          let same : t ≡ c = omega arith in
+          let moves = subst (λ (b : ℕ). moves_at p b l.mover ≡ true) same l.moves in
+          let still = still_all p c l.mover found l.inside in
+          absurd (cc)
+    ]
+    by_mover (Some m) found rest =
+        let x = mover p c m found in
+        elim (cases_lt t c) [
+          | inl before ↦
+              let moves = x.moves in
+              let still = l.none_later c m before (omega arith) x.inside in
+              absurd (cc)
+          | inr at ↦
+              let below = l.below in
+              let same : suc c ≡ suc t = omega arith in
+              adds_up p h (suc c) m c (omega arith) x.moves ∙ same
+        ]
+
+pub no_chain : (p : Plan) (c : ℕ) → NoneMoves p c → path p c ≡ []
+unfolding path
+no_chain p zero none = refl
+no_chain p (suc c) none =
+    path_more p c ∙ by_mover (first_mover p c) refl (no_chain p c (λ b m l. none b m (omega arith)))
+  where
+    by_mover : (o : Option ℕ) → first_mover p c ≡ o → path p c ≡ [] → chain_from p c o (path p c) ≡ []
+    by_mover None found rest = rest
+    by_mover (Some m) found rest =
+        let x = mover p c m found in
+        let moves = x.moves in
+        let still = none c m (omega arith) x.inside in
+        absurd (cc)

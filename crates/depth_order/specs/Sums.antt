@@ -1,12 +1,12 @@
 -- How long the chain is.
-use Rattle.std.specs.Prelude.{◌≡◌, ⊤, ℕ, suc, ◌+◌, ◌-◌, Option, Some, None, List, [], ◌∷◌}
+use Rattle.std.specs.Prelude.{◌≡◌, ⊤, ℕ, suc, ◌+◌, ◌-◌, ◌<◌, IsTrue, IsFalse, Option, Some, None, List, [], ◌∷◌, length}
 use Rattle.flow_word.specs.declared.access.Port.{Port}
 use Rattle.flow_design.specs.declared.plan.Plan.{Plan}
 use Rattle.flow_design.specs.declared.report.Verdict.{Verdict}
 use Rattle.flow_design.specs.declared.report.Verdict.TheVariants.{Done, Deadlock, Cycles, Ops}
 use Rattle.timing_bridge.specs.Designs.{lag_in}
 use Rattle.depth_order.specs.declared.link.Link.{Link}
-use Rattle.depth_order.specs.Chain.{path}
+use Rattle.depth_order.specs.Chain.{moves_at, path}
 
 -- the clocks that a chain spends in modules
 abbrev pub spent : List Link → ℕ
@@ -29,6 +29,22 @@ IsEnd (Deadlock clock) = ⊤
 IsEnd (Cycles clock) = ⊥
 IsEnd (Ops clock) = ⊤
 
--- the chain's clocks are all clocks up to this one
+-- the clocks that the chain back from this clock spends, and those in which its elements are under way
+abbrev pub chain_clocks : Plan → ℕ → ℕ
+chain_clocks p clock = spent (path p clock) + under_way p (path p clock)
+
+-- they are all clocks up to this one
 abbrev pub IsWhole : Plan → ℕ → Type 0
-IsWhole p clock = spent (path p clock) + under_way p (path p clock) ≡ clock
+IsWhole p clock = chain_clocks p clock ≡ clock
+
+-- t is the last clock below this one in which a module of the plan moves
+pub record MovesLast (p : Plan) (clock t : ℕ) : Type 0 where
+  pub mover : ℕ
+  pub inside : mover < length p.design.modules
+  pub moves : IsTrue (moves_at p t mover)
+  pub below : t < clock
+  pub none_later : (c m : ℕ) → t < c → c < clock → m < length p.design.modules → IsFalse (moves_at p c m)
+
+-- no module of the plan moves below this clock
+abbrev pub NoneMoves : Plan → ℕ → Type 0
+NoneMoves p clock = (c m : ℕ) → c < clock → m < length p.design.modules → IsFalse (moves_at p c m)

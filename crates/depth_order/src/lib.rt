@@ -6,5 +6,7 @@
 mod laws;
 mod link;
 
-pub use laws::{chains_are_whole, more_depth_is_never_slower, no_depth_helps};
+pub use laws::{
+    chains_are_whole, more_depth_is_never_slower, no_depth_helps, quiet_plans_answer_nothing,
+};
 pub use link::Link;

@@ -1,7 +1,7 @@
 -- A core behind an edit, and the count of runs with its report.
 use Rattle.std.proofs.Common.{◌≡◌, sym, ap, subst, ◌∙◌, ℕ, ◌+◌, ◌<◌, ◌≤◌, inl, inr, Bool, true, List, [], length}
 use Rattle.std.proofs.Common.{take, get_or, Some, arith}
-use Rattle.std.specs.Prelude.{slice_get}
+use Rattle.std.specs.Prelude.{slice_get, All}
 use Rattle.std.proofs.lemmas.Bool.{cases_lt, cases_Bool}
 use Rattle.std.proofs.lemmas.List.{length-map, get_or_past}
 use Rattle.flow_design.specs.declared.plan.Edit.{Edit}
@@ -133,6 +133,19 @@ same_logs v e w t =
     let modules : length w.plan.design.modules ≡ length v.plan.design.modules =
     ap (λ (p : Plan). length p.design.modules) (t.goes.plan ∙ t.plan) in
     omega arith
+
+-- ---- where no module answers
+
+-- no query is another
+pub none_answered : (v w : CoreView) (q : Query) → All (λ (os : List Bool). os ≡ []) (report w.plan).answers
+    → HasOtherAnswer v.held.logs w.plan q → ⊥
+none_answered v w q all o = elim (cases_lt q.module (length (report w.plan).answers)) [
+  | inl l ↦ none (all q.module [] l)
+  | inr l ↦ none (get_or_past (report w.plan).answers q.module [] l)
+]
+  where
+    none : answers_of (report w.plan).answers q.module ≡ [] → ⊥
+    none e = let is = sym (ap (λ (os : List Bool). slice_get os q.number) e) ∙ o.is in absurd (cc)
 
 -- ---- where the report repeats what is kept
 

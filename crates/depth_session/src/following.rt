@@ -9,6 +9,7 @@ ghost use Rattle.timing_bridge.specs.Designs.{design};
 ghost use Rattle.sim_core.specs.Views.{theory_of};
 ghost use Rattle.sim_core.specs.Drives.{AreOwn, Goes, HasDriven};
 ghost use Rattle.sim_core.specs.Records.{IsSoundCore, IsEditedOn, recorded_in};
+ghost use Rattle.depth_order.specs.Depths.{AsksNothing};
 ghost use Rattle.depth_session.specs.Records.{RepeatsAnswers};
 ghost use Rattle.depth_session.specs.Settled.{IsSettled, HasGoneOn, HasRun, count_of, count_with};
 
@@ -24,8 +25,8 @@ use std::thread::Threads;
 
 /// Edits a core that is settled, and settles it again. How many runs are counted then.
 ///
-/// The runner is called exactly where one more is counted. There is no error where of each module the report's answers are the first
-/// of those that the core has recorded. An error leaves the plan edited.
+/// The runner is called exactly where one more is counted, and never where no operation of the plan is a query. There is no error
+/// where of each module the report's answers are the first of those that the core has recorded. An error leaves the plan edited.
 pub(crate) fn follow<R: Threads + Wait + Sync, U: Runner>(
     rt: &R,
     alloc: Global,
@@ -44,6 +45,8 @@ pub(crate) fn follow<R: Threads + Wait + Sync, U: Runner>(
     ensures at_most { U.made runner.old < u64.MAX
         → U.made runner.new + runs ≤ U.made runner.old + (count_with core.old runs core.new).runs }
     ensures stays { u64.MAX ≤ U.made runner.old → U.made runner.new ≡ U.made runner.old }
+    ensures few { U.made runner.new ≤ U.made runner.old + 1 }
+    ensures quiet { AsksNothing core.old.plan → U.made runner.new ≡ U.made runner.old }
     ensures succeeds { RepeatsAnswers (recorded_in core.old.held.logs) (report core.new.plan).answers → IsOk result }
 {
     records_are_answers();

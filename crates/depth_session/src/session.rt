@@ -4,6 +4,7 @@ ghost use Rattle.flow_design.specs.Plans.{EditFits};
 ghost use Rattle.flow_design.specs.StaticRules.{FitsEngine};
 ghost use Rattle.lockstep_defs.specs.Report.{report};
 ghost use Rattle.engine_report.specs.Finished.{report_with};
+ghost use Rattle.depth_order.specs.Depths.{AsksNothing};
 ghost use Rattle.depth_session.specs.Records.{RepeatsAnswers};
 ghost use Rattle.depth_session.specs.Sessions.{opened, plan_behind, with_edit, IsBroken};
 
@@ -78,8 +79,8 @@ impl DepthSession {
     }
 
     /// Edits the depth of a FIFO. The record goes on where outcomes are as they were recorded. The runner is called exactly
-    /// where the report counts one run more. Where of each module the report's answers are the first of those that
-    /// are kept, there is no error: it needs no memory.
+    /// where the report counts one run more: once at most, and never where no operation of the plan is a query. Where of each
+    /// module the report's answers are the first of those that are kept, there is no error: it needs no memory.
     ///
     /// Where the record goes on, the edit sets no more cycles than there are steps at or after the first clock that it touches, steps
     /// that had no cycle, and new steps (`sim_core::edits_set_few`).
@@ -102,6 +103,8 @@ impl DepthSession {
         ensures at_most { U.made runner.old < u64.MAX
             → U.made runner.new + self.old.count.runs ≤ U.made runner.old + (with_edit self.old edit.now).count.runs }
         ensures stays { u64.MAX ≤ U.made runner.old → U.made runner.new ≡ U.made runner.old }
+        ensures few { U.made runner.new ≤ U.made runner.old + 1 }
+        ensures quiet { AsksNothing self.old.plan → U.made runner.new ≡ U.made runner.old }
         ensures succeeds { RepeatsAnswers self.old.count.kept (report (plan_behind self.old edit.now)).answers → IsOk result }
     {
         self.live = false;

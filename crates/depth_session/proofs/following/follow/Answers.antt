@@ -6,7 +6,9 @@ use Rattle.edit_runs.specs.declared.count.RunCount.{RunCount}
 use Rattle.sim_core.specs.Records.{HasOtherAnswer, recorded_in}
 use Rattle.depth_session.specs.Records.{RepeatsAnswers, counted}
 use Rattle.depth_session.specs.Settled.{HasGoneOn, count_of}
-use Rattle.depth_session.proofs.Behind.{counts_on, counts_again, no_less, none_added, none_other, same_logs}
+use Rattle.depth_order.specs.Depths.{AsksNothing}
+use Rattle.depth_order.proofs.Silent.{no_answers}
+use Rattle.depth_session.proofs.Behind.{none_answered, counts_on, counts_again, no_less, none_added, none_other, same_logs}
 use Rattle.depth_session.proofs.following.follow.Goals as goal
 
 pub returns-in_err-go_on-clause-at_most : goal.returns-in_err-go_on-clause-at_most
@@ -78,3 +80,21 @@ returns-in_ok-run_again-in-Differs-clause-at_most g c = λ l.
     let more = ap (λ (n : RunCount). n.runs) (counts_again v c.run_again.new.core c.args.runs _ other) in
     let most = c.run_again.ensures.at_most l in
     omega arith
+
+pub returns-in_err-run_again-in-Differs-clause-quiet : goal.returns-in_err-run_again-in-Differs-clause-quiet
+returns-in_err-run_again-in-Differs-clause-quiet g c = λ none.
+    let v = c.args.core.now in
+    let w = c.go_on.new.core in
+    let e = c.args.edit.now in
+    let gone = subst (λ (r : Guard). HasGoneOn r v e w) c.in-Differs.is c.in_ok-go_on.ensures.gone in
+    let silent = no_answers w.plan c.go_on.ensures.sound.fits (subst AsksNothing (sym c.go_on.ensures.plan) none) in
+    absurd (none_answered v w _ silent (c.records_are_answers.ensures.differ v e w gone.0 _ gone.1))
+
+pub returns-in_ok-run_again-in-Differs-clause-quiet : goal.returns-in_ok-run_again-in-Differs-clause-quiet
+returns-in_ok-run_again-in-Differs-clause-quiet g c = λ none.
+    let v = c.args.core.now in
+    let w = c.go_on.new.core in
+    let e = c.args.edit.now in
+    let gone = subst (λ (r : Guard). HasGoneOn r v e w) c.in-Differs.is c.in_ok-go_on.ensures.gone in
+    let silent = no_answers w.plan c.go_on.ensures.sound.fits (subst AsksNothing (sym c.go_on.ensures.plan) none) in
+    absurd (none_answered v w _ silent (c.records_are_answers.ensures.differ v e w gone.0 _ gone.1))

@@ -1,3 +1,6 @@
+use Rattle.std.proofs.Common.{sym, subst}
+use Rattle.depth_order.specs.Depths.{AsksNothing}
+use Rattle.depth_session.specs.Sessions.{Session}
 use Rattle.depth_session.proofs.Behind.{repeats_in_core}
 use Rattle.depth_session.proofs.session.DepthSession.edit.Goals as goal
 
@@ -8,3 +11,7 @@ returns-in_err-self-inside-clause-succeeds g c = λ repeat.
     (repeats_in_core i.core i.runs i.live c.args.self.now c.args.edit.now c.follow.new.core.plan c.self.view_is c.follow.ensures.plan
     repeat) in
     cc
+
+pub returns-in_err-self-inside-clause-quiet : goal.returns-in_err-self-inside-clause-quiet
+returns-in_err-self-inside-clause-quiet g c = λ none.
+    c.follow.ensures.quiet (subst (λ (s : Session). AsksNothing s.plan) (sym c.self.view_is) none)

@@ -1,5 +1,5 @@
 //! The advice on the depths of a plan's FIFOs.
-ghost use Rattle.std.specs.Prelude.{◌≡◌, ◌+◌, ◌<◌, IfOk};
+ghost use Rattle.std.specs.Prelude.{◌≡◌, ◌+◌, ◌<◌, ◌≤◌, IfOk};
 ghost use Rattle.flow_design.specs.StaticRules.{FitsEngine};
 ghost use Rattle.lockstep_defs.specs.Report as lockstep;
 ghost use Rattle.event_timing.specs.Actions.{IsFinal};
@@ -68,6 +68,7 @@ pub fn advise<R: Threads + Wait + Sync, U: Runner>(
     ensures never_block { IfOk result (λ advice. lockstep.report (with_depths plan advice.depths) ≡ advice.report) }
     ensures fastest { AsksNothing plan → IfOk result (λ advice. AreFastest plan advice.depths) }
     ensures counted { U.made runner.old < u64.MAX → U.made runner.new ≡ U.made runner.old + 1 }
+    ensures stays { u64.MAX ≤ U.made runner.old → U.made runner.new ≡ U.made runner.old }
 {
     widen(&mut plan);
     let core = runner.run_plan(rt, alloc, plan)?;

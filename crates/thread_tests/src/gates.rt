@@ -94,6 +94,46 @@ impl Gate for Gathering {
     }
 }
 
+/// Each of the first bursts of module 0 and the burst of module 1 with its number wait for each other.
+#[derive(Drop)]
+pub struct Pairing {
+    /// How many bursts of each are to meet.
+    pub wanted: u64,
+    /// How many of each have begun.
+    pub begun: [AtomicU64; 2],
+    /// One waited in vain.
+    pub missed: AtomicBool,
+}
+
+impl Pairing {
+    fn pair(&self, mine: usize, other: usize)
+        requires { (mine < 2) × (other < 2) }
+    {
+        let before = self.begun[mine].fetch_add(1, Ordering::SeqCst);
+        if before >= self.wanted {
+            return;
+        }
+        for _ in 0..TURNS {
+            if self.begun[other].load(Ordering::SeqCst) > before {
+                return;
+            }
+            yield_now();
+        }
+        self.missed.store(true, Ordering::SeqCst);
+    }
+}
+
+impl Gate for Pairing {
+    fn burst(&self, alloc: Global, owner: u32, task: Task) -> Burst {
+        match owner {
+            0 => self.pair(0, 1),
+            1 => self.pair(1, 0),
+            _ => {}
+        }
+        work(alloc, task)
+    }
+}
+
 /// Yields a thousand times before each burst.
 #[derive(Clone, Copy)]
 pub struct Slow;

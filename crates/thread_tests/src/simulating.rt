@@ -1,5 +1,5 @@
 //! Whole simulations with threads.
-use crate::gates::{Gathering, Meeting, Notes, Slow};
+use crate::gates::{Gathering, Meeting, Notes, Pairing, Slow};
 use clock_machine::clock_run;
 use flow_design::Report;
 use flow_gen::generate;
@@ -192,6 +192,68 @@ fn slow_bursts(rt: HostRuntime) -> Result<(), Fail> {
     let expected = clock_run(alloc, &read_plan(rt.alloc(), TWO_MODULES)?)?;
     let threaded = run_threads(&rt, alloc, read_plan(rt.alloc(), TWO_MODULES)?, &Slow)?;
     let report = threaded.core.final_report(alloc, true)?;
+    assert!(rt; report.is_some_and(|found| found == expected));
+    Ok(())
+}
+
+/// Module m polls: in each clock it tries to take a value, and pushes one behind each try. Module w polls these. All values that m
+/// tries to take were pushed before, by module p, so that m and w learn the outcomes of their tries in the same turn of the caller.
+const POLLING: &[u8] = b"\
+flow 1
+fifo b 16 2000
+fifo c 16 2000
+module m
+reg x 16
+reg ok 1
+reg n 16
+reg g 1
+block k 2
+goto l
+loop l 1 1 while g
+at 0 tryread b x ok
+at 0 write c n
+at 0 set n + n 1
+at 0 set g <u n 1000
+stop
+module w
+reg x 16
+reg ok 1
+reg n 16
+reg g 1
+block k 4
+goto l
+loop l 1 1 while g
+at 0 tryread c x ok
+at 0 set n + n 1
+at 0 set g <u n 1000
+stop
+module p
+reg n 16
+reg g 1
+loop l 1 1 while g
+at 0 write b n
+at 0 set n + n 1
+at 0 set g <u n 1000
+stop
+end
+";
+
+#[test]
+fn light_bursts_are_handed_over(rt: HostRuntime) -> Result<(), Fail> {
+    let gate = Pairing {
+        wanted: 3,
+        begun: [AtomicU64::new(0), AtomicU64::new(0)],
+        missed: AtomicBool::new(false),
+    };
+    let expected = clock_run(rt.alloc(), &read_plan(rt.alloc(), POLLING)?)?;
+    // the caller drives all modules but the first
+    let mut light = Light::from_module(1);
+    let core = Core::new(rt.alloc(), read_plan(rt.alloc(), POLLING)?)?;
+    let threaded = run_core(&rt, rt.alloc(), core, &gate, &mut light)?;
+    // the caller was in a burst of the second module during each of the first three of the first
+    assert!(rt; !gate.missed.load(Ordering::SeqCst));
+    assert!(rt; light.has(0));
+    let report = threaded.core.final_report(rt.alloc(), true)?;
     assert!(rt; report.is_some_and(|found| found == expected));
     Ok(())
 }

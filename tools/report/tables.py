@@ -1,4 +1,6 @@
 """The rows of a page's tables: modules, ports and FIFOs, as texts."""
+from dataclasses import dataclass
+
 from report.counts import percent, told
 from report.facts import too_shallow
 
@@ -30,40 +32,50 @@ def module_rows(facts):
     return rows
 
 
-def wanted_intervals(session, port):
-    """Of each body that uses a port: its II, or None for a plain block, and how often an iteration uses it."""
+@dataclass(frozen=True)
+class Wanted:
+    """What a body asks of a port: its II, or None for a plain block, and how often an iteration uses the port.
+
+    It is sure where each use is a `read` or a `write` without a guard.
+    """
+    interval: int
+    times: int
+    is_sure: bool
+
+    def text(self):
+        if self.interval is None:
+            return 'block'
+        return told(self.interval) if self.times == 1 else f'{told(self.interval)} for {self.times}'
+
+
+def wanted_of(session, port):
+    """What each body of a module asks of a port that it uses."""
     kinds = POPS if port.side == 'pop' else PUSHES
     module = next(module for module in session.modules if module.name == port.module)
     found = []
     for block in module.blocks:
-        times = sum(made.kind in kinds and made.channel.name == port.channel for made in block.operations)
-        if times:
-            found.append((block.interval if block.go else None, times))
+        used = [made for made in block.operations if made.kind in kinds and made.channel.name == port.channel]
+        is_sure = all(made.guard is None and made.kind == kinds[0] for made in used)
+        if used:
+            found.append(Wanted(block.interval if block.go else None, len(used), is_sure))
     return found
 
 
-def wanted_text(interval, times):
-    if interval is None:
-        return 'block'
-    return told(interval) if times == 1 else f'{told(interval)} for {times}'
-
-
 def is_slow(port, wanted):
-    """Whether a port of a single loop is slower than that asks for."""
-    if port.interval is None or len(wanted) != 1 or wanted[0][0] is None:
+    """Whether a port of a single loop, which uses it in every iteration, is slower than the loop asks for."""
+    if port.interval is None or len(wanted) != 1 or wanted[0].interval is None or not wanted[0].is_sure:
         return False
-    interval, times = wanted[0]
-    return port.interval > SLOWER * interval / times
+    return port.interval > SLOWER * wanted[0].interval / wanted[0].times
 
 
 def port_row(session, port):
-    wanted = wanted_intervals(session, port)
+    wanted = wanted_of(session, port)
     return {
         'module': port.module, 'side': port.side, 'channel': port.channel,
         'verb': 'pops' if port.side == 'pop' else 'pushes',
         'count': told(port.count), 'first': told(port.first), 'last': told(port.last), 'slow': is_slow(port, wanted),
         'interval': '–' if port.interval is None else f'{port.interval:,.2f}'.removesuffix('.00'),
-        'wanted': ', '.join(dict.fromkeys(wanted_text(*one) for one in wanted)),
+        'wanted': ', '.join(dict.fromkeys(one.text() for one in wanted)),
     }
 
 

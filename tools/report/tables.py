@@ -102,7 +102,8 @@ def size_note(facts):
         return (f'With the depths of size, which are the advised ones, the design is not done either: {found.kind} '
                 f'{told(found.clock)}.')
     promise = '' if facts.asks_outcomes else ', the smallest that lose no time'
-    change = 'as now' if found == now else f'and now in clock {told(now.clock)}' if now.is_done else 'and now it is not done'
+    today = f'and now in clock {told(now.clock)}' if now.is_done else 'and now it is not done'
+    change = 'as now' if found == now else today
     return f'With the depths of size{promise}, the design is done in clock {told(found.clock)}, {change}.'
 
 

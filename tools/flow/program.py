@@ -1,6 +1,8 @@
 """The built program: where it is, and how to ask it."""
 import os
+import signal
 import subprocess
+import threading
 from dataclasses import dataclass
 
 TOP = os.path.dirname(os.path.dirname(os.path.dirname(os.path.realpath(__file__))))
@@ -12,6 +14,10 @@ NO_PROGRAM = 125
 
 class NotBuilt(Exception):
     """There is no built program, or its source is newer."""
+
+
+class TookTooLong(Exception):
+    """The program was stopped before it had answered."""
 
 
 class NoAnswer(Exception):
@@ -72,6 +78,21 @@ class Program:
         with child.stdout:
             told = child.stdout.read()
         return Answer(told.decode('ascii', 'replace'), child.wait())
+
+    def answer_within(self, seconds, words, text):
+        """The text of an answer to an accepted session, which may take so long. Raises TookTooLong, or NoAnswer."""
+        child = self.start(words, text)
+        timer = threading.Timer(seconds, child.kill)
+        timer.start()
+        with child.stdout:
+            told = child.stdout.read().decode('ascii', 'replace')
+        status = child.wait()
+        timer.cancel()
+        if status == -signal.SIGKILL:
+            raise TookTooLong(f'omnisim {" ".join(words)} took more than {seconds} s')
+        if status not in STATUSES.values():
+            raise NoAnswer(words, status, '')
+        return told
 
     def answer(self, words, text):
         """The text of an answer to an accepted session. Raises NoAnswer where there is none."""

@@ -17,11 +17,12 @@ class Facts:
     run: answers.Run
     stalls: answers.Stalls
     path: answers.Path
-    size: answers.Depths
+    size: answers.Depths  # or None, where it took too long
     advise: answers.Depths
     timeline: Timeline
     words: Words
     limits: tuple  # of clocks, and of operations of a module
+    wait: int  # the seconds that `size` had
 
     @property
     def verdict(self):
@@ -59,13 +60,15 @@ def too_shallow(facts):
     Of a design with queries nothing is sure, so none is named.
     """
     now, size = facts.verdict, facts.size
-    if facts.asks_outcomes or not size.verdict.is_done or now.is_done and size.verdict.clock >= now.clock:
+    if facts.asks_outcomes or size is None or not size.verdict.is_done:
+        return {}
+    if now.is_done and size.verdict.clock >= now.clock:
         return {}
     return {name: depth for name, depth in size.depths.items() if depth > facts.depths[name]}
 
 
 def bits_of(facts):
-    """The bits of all FIFOs, now and with the depths of `size`."""
+    """The bits of all FIFOs, now and with the depths of `size`, which are None where these are not known."""
     fifos = facts.session.fifos()
-    return (sum(fifo.width * fifo.depth for fifo in fifos),
-            sum(fifo.width * facts.size.depths[fifo.name] for fifo in fifos))
+    now = sum(fifo.width * fifo.depth for fifo in fifos)
+    return now, facts.size and sum(fifo.width * facts.size.depths[fifo.name] for fifo in fifos)

@@ -3,13 +3,14 @@ import os
 from concurrent.futures import ThreadPoolExecutor
 
 from flow import answers
-from flow.program import NoAnswer
+from flow.program import NoAnswer, TookTooLong
 from report.facts import Facts
 from report.timeline import Timeline
 from report.words import explained, words_of
 from rtl.session import read_session
 
 AT_ONCE = 3  # programs
+AFTERWARDS = 1  # seconds that ./explain has beyond those of `size`
 
 
 def title_of(path):
@@ -32,19 +33,27 @@ def timeline_of(program, options, text, clock, session, path):
     return timeline
 
 
-def gather(program, path, text, canonical, limits):
-    """The facts of an accepted session: its file, its text in bytes, its canonical form, and limits by option."""
+def sizes_of(program, options, text, wait):
+    """The answer of `size`, or None where it takes longer."""
+    try:
+        return answers.read_depths('size', program.answer_within(wait, ['size'] + options, text))
+    except TookTooLong:
+        return None
+
+
+def gather(program, path, text, canonical, limits, wait):
+    """The facts of an accepted session: its file, its text in bytes, its canonical form, limits by option, and how many
+    seconds `size` may take."""
     session = read_session(canonical)
     options = [word for option, number in limits.items() for word in (option, number)]
     with ThreadPoolExecutor(AT_ONCE) as pool:
-        asked = {command: pool.submit(program.answer, [command] + options, text)
-                 for command in ('size', 'advise', 'run')}
-        lines = pool.submit(explained, program.top, path, text, options)
+        size = pool.submit(sizes_of, program, options, text, wait)
+        lines = pool.submit(explained, program.top, path, text, options, wait + AFTERWARDS)
+        run, advise = (pool.submit(program.answer, [command] + options, text) for command in ('run', 'advise'))
         stalls = answers.read_stalls(program.answer(['stalls'] + options, text))
         chain = answers.read_path(program.answer(['path', '--events'] + options, text))
         timeline = timeline_of(program, options, text, stalls.verdict.clock, session, chain)
-        size, advise = (answers.read_depths(command, asked[command].result()) for command in ('size', 'advise'))
         return Facts(
-            title_of(path), session, answers.read_run(asked['run'].result()), stalls, chain, size, advise, timeline,
-            words_of(lines.result()),
-            (int(limits.get('--cycles', session.cycles)), int(limits.get('--ops', session.ops))))
+            title_of(path), session, answers.read_run(run.result()), stalls, chain, size.result(),
+            answers.read_depths('advise', advise.result()), timeline, words_of(lines.result()),
+            (int(limits.get('--cycles', session.cycles)), int(limits.get('--ops', session.ops))), wait)

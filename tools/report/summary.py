@@ -31,11 +31,19 @@ def other_depths(facts):
     return ', '.join(f'{name} {told(depth)}' for name, depth in changed.items())
 
 
+def chain_headline(facts):
+    """What the chain tells of depths where those of `size` are not known."""
+    if not facts.depths or not facts.verdict.is_done or facts.asks_outcomes:
+        return ''
+    full = [cross.channel for cross in facts.path.crossed if cross.side == 'full']
+    return '' if full else 'No FIFO is too shallow: no choice of depths is faster.'
+
+
 def depths_headline(facts):
     """What depths can do for a design of which no FIFO is surely too shallow."""
+    if not facts.depths or facts.size is None:
+        return chain_headline(facts)
     now, found, (bits, size_bits) = facts.verdict, facts.size.verdict, bits_of(facts)
-    if not facts.depths:
-        return ''
     if facts.asks_outcomes:
         if found.is_done and (not now.is_done or found.clock < now.clock):
             return f'With other depths ({other_depths(facts)}) the design is done in clock {told(found.clock)}.'
@@ -65,7 +73,7 @@ def figures(facts):
     now, (bits, size_bits) = facts.verdict, bits_of(facts)
     label, unit = ('Latency', 'clocks') if now.is_done else ('Stops in clock', '')
     rows = [figure('latency', label, now.clock, unit)]
-    if facts.size.verdict.is_done and facts.depths:
+    if facts.size and facts.size.verdict.is_done and facts.depths:
         rows.append(figure('size-latency', 'Latency with the depths of size', facts.size.verdict.clock, 'clocks'))
     if facts.stalls.stalls:
         worst = max(facts.stalls.stalls, key=lambda stall: stall.clocks)
@@ -73,6 +81,7 @@ def figures(facts):
         rows.append(figure('worst', label, worst.clocks, 'clocks'))
     if facts.depths:
         rows.append(figure('bits', 'FIFO memory', bits, 'bits'))
+    if facts.depths and facts.size:
         rows.append(figure('size-bits', 'FIFO memory with the depths of size', size_bits, 'bits'))
     return rows
 

@@ -1,7 +1,7 @@
 """The rows of a page's tables: modules, ports and FIFOs, as texts."""
 from dataclasses import dataclass
 
-from report.counts import percent, told
+from report.counts import percent, told, told_or_dash
 from report.facts import too_shallow
 
 POPS, PUSHES = ('read', 'tryread'), ('write', 'trywrite')
@@ -83,13 +83,13 @@ def fifo_rows(facts):
     rows, shallow, clock = [], too_shallow(facts), facts.verdict.clock
     held = {time.fifo: time for time in facts.stalls.fifos}
     for fifo in facts.session.fifos():
-        time, size = held[fifo.name], facts.size.depths[fifo.name]
+        time, size = held[fifo.name], facts.size and facts.size.depths[fifo.name]
         partly = clock - time.empty - time.full
         rows.append({
             'name': fifo.name, 'width': fifo.width, 'depth': told(fifo.depth), 'most': told(time.most),
-            'empty': told(time.empty), 'full': told(time.full), 'size': told(size),
+            'empty': told(time.empty), 'full': told(time.full), 'size': told_or_dash(size),
             'advise': told(facts.advise.depths[fifo.name]), 'bits': told(fifo.width * fifo.depth),
-            'size_bits': told(fifo.width * size), 'shallow': fifo.name in shallow,
+            'size_bits': told_or_dash(size and fifo.width * size), 'shallow': fifo.name in shallow,
             'shares': [percent(part, clock) for part in (partly, time.empty, time.full)],
         })
     return rows
@@ -97,6 +97,8 @@ def fifo_rows(facts):
 
 def size_note(facts):
     """What the depths of `size` give."""
+    if facts.size is None:
+        return f'The smallest depths are not known: size took more than {facts.wait} s and was stopped (--wait).'
     found, now = facts.size.verdict, facts.verdict
     if not found.is_done:
         return (f'With the depths of size, which are the advised ones, the design is not done either: {found.kind} '

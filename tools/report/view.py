@@ -2,7 +2,7 @@
 import json
 import os
 
-from report.counts import count_of, told
+from report.counts import count_of, told, told_or_dash
 from report.curve import curve_of
 from report.facts import bits_of, too_shallow
 from report.graph import graph_of
@@ -77,7 +77,7 @@ def view_of(facts, explored):
         'runs': count_of(facts.run.runs, 'simulation'), 'graph': graph_of(facts, too_shallow(facts)),
         'stuck': bool(circles_of(facts.waits())), 'modules': module_rows(facts),
         'ports': [port_row(facts.session, port) for port in facts.stalls.ports], 'fifos': fifo_rows(facts),
-        'size_note': size_note(facts), 'bits': told(bits[0]), 'size_bits': told(bits[1]),
+        'size_note': size_note(facts), 'bits': told(bits[0]), 'size_bits': told_or_dash(bits[1]),
         'spent': spent_rows(facts.path), 'crossed': crossed_rows(facts.path),
         'explored': curve_of(explored, facts, bits[0]) if explored else None,
     }

@@ -1,6 +1,6 @@
 // The timeline: a lane for each module, and the chain that makes the latency over them.
 
-const mostSpans = 300; // that a lane shows one by one
+const mostSpans = Math.max(60, Math.min(300, Math.floor(3000 / facts.modules.length))); // shown one by one in a lane
 const mostLinks = 250;
 const few = facts.modules.length <= 12;
 const laneHigh = few ? 26 : facts.modules.length <= 32 ? 19 : 14;

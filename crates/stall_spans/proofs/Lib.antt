@@ -7,3 +7,4 @@ pub mod Existing
 pub mod Going
 pub mod Counting
 pub mod Adding
+pub mod Covering

@@ -1,12 +1,14 @@
 //! The laws of spans.
-ghost use Rattle.std.specs.Prelude.{ℕ, ◌≡◌, ◌+◌, Bool, length, sum_by};
+ghost use Rattle.std.specs.Prelude.{ℕ, ◌≡◌, ◌≢◌, ◌+◌, ◌<◌, Bool, None, Contains, length, slice_index_or, sum_by};
 ghost use Rattle.std.specs.Prelude.{List as Items};
-ghost use Rattle.std.specs.List.{range_with_len};
+ghost use Rattle.std.specs.List.{AllAdjacentBelow, range_with_len};
 ghost use Rattle.flow_word.specs.declared.access.Side.TheVariants.{Pop, Push};
 ghost use Rattle.flow_design.specs.declared.plan.Plan.{Plan};
 ghost use Rattle.flow_design.specs.StaticRules.{FitsEngine};
 ghost use Rattle.stall_spans.specs.declared.span.Doing.{Doing};
 ghost use Rattle.stall_spans.specs.declared.span.Span.{Span};
+ghost use Rattle.stall_spans.specs.Doings.{doing};
+ghost use Rattle.stall_spans.specs.Covers.{HasClock, GoesOnFrom};
 ghost use Rattle.stall_spans.specs.Spans.{AreSpansBelow};
 ghost use Rattle.stall_spans.specs.Totals.{clocks_in, moved_clocks, still_clocks, still_clocks_at, spans_clocks, IsOverFrom};
 
@@ -14,6 +16,17 @@ ghost use Rattle.stall_spans.specs.Totals.{clocks_in, moved_clocks, still_clocks
 pub fn spans_are_one()
     ensures there { (p : Plan) (i end : ℕ) → (spans : Items Span) × AreSpansBelow p i end spans }
     ensures only { (p : Plan) (i end : ℕ) (a b : Items Span) → AreSpansBelow p i end a → AreSpansBelow p i end b → a ≡ b }
+{}
+
+/// The spans below a clock cover each clock in which the module is not over: the first begins in clock 0, and each other one begins
+/// where the one before it is over, and says something else.
+pub fn spans_cover_clocks()
+    ensures covered { (p : Plan) (i end : ℕ) (spans : Items Span) → AreSpansBelow p i end spans → (c : ℕ) → c < end → doing p c i ≢ None
+        → (s : Span) × Contains spans s × HasClock s c }
+    ensures begins { (p : Plan) (i end : ℕ) (spans : Items Span) → AreSpansBelow p i end spans → (s : Span) → 0 < length spans
+        → (slice_index_or spans 0 s).first ≡ 0 }
+    ensures go_on { (p : Plan) (i end : ℕ) (spans : Items Span) → AreSpansBelow p i end spans
+        → AllAdjacentBelow GoesOnFrom spans (length spans) }
 {}
 
 /// The spans below a clock have all clocks in which a module does something. The clocks in which it moves, and those in which it

@@ -6,6 +6,6 @@ mod laws;
 mod list;
 mod span;
 
-pub use laws::{clocks_add_up, spans_are_one};
+pub use laws::{clocks_add_up, spans_are_one, spans_cover_clocks};
 pub use list::{end_of, go_on};
 pub use span::{Doing, Span};

@@ -15,15 +15,16 @@ use worked_sessions::{REALISTIC_LINE, TWO_MODULES, TWO_MODULES_ANSWER};
 /// How often a burst yields that waits for another one, before it gives up.
 const PATIENCE: u64 = 10_000_000;
 
-/// What a command answers to a session, with this gate.
+/// What a command with some options answers to a session, with this gate.
 fn answer_with<R: Threads + Wait + Sync + AllocGlobal, G: Gate + Sync>(
     rt: &R,
     command: &str,
+    options: &[&str],
     text: &[u8],
     gate: &G,
 ) -> Result<(Status, MemSink), Fail> {
     let alloc = rt.alloc();
-    let words = words_of(rt, command, &[])?;
+    let words = words_of(rt, command, options)?;
     let mut source = MemSource::new(alloc, text, 64, &[])?;
     let mut sink = MemSink::new(alloc, 8192, 4, &[])?;
     let status = omnisim(rt, alloc, words.as_slice(), &mut source, &mut sink, gate);
@@ -51,7 +52,7 @@ impl Gate for SecondIsShort {
 
 #[test]
 fn a_burst_that_is_short(rt: HostRuntime) -> Result<(), Fail> {
-    let (status, sink) = answer_with(&rt, "run", TWO_MODULES, &SecondIsShort)?;
+    let (status, sink) = answer_with(&rt, "run", &[], TWO_MODULES, &SecondIsShort)?;
     assert_eq!(rt; status, Status::Memory);
     assert_eq!(rt; sink.held(), b"".as_slice());
     Ok(())
@@ -91,17 +92,18 @@ impl Gate for Meeting {
     }
 }
 
-/// The first bursts meet under a command. What is written.
+/// The first bursts meet under a command with some options. What is written.
 fn meets<R: Threads + Wait + Sync + AllocGlobal + Abort>(
     rt: &R,
     command: &str,
+    options: &[&str],
 ) -> Result<MemSink, Fail> {
     let gate = Meeting {
         first: AtomicBool::new(false),
         second: AtomicBool::new(false),
         missed: AtomicBool::new(false),
     };
-    let (status, sink) = answer_with(rt, command, TWO_MODULES, &gate)?;
+    let (status, sink) = answer_with(rt, command, options, TWO_MODULES, &gate)?;
     assert_eq!(rt; status, Status::Done);
     assert!(rt; gate.first.load(Ordering::SeqCst));
     assert!(rt; gate.second.load(Ordering::SeqCst));
@@ -111,10 +113,13 @@ fn meets<R: Threads + Wait + Sync + AllocGlobal + Abort>(
 
 #[test]
 fn first_bursts_that_meet(rt: HostRuntime) -> Result<(), Fail> {
-    let answer = meets(&rt, "run")?;
+    let answer = meets(&rt, "run", &[])?;
     assert_eq!(rt; answer.held(), TWO_MODULES_ANSWER);
-    let _advice = meets(&rt, "advise")?;
-    let _wave = meets(&rt, "wave")?;
+    for command in ["advise", "log", "path", "size", "stalls", "trace", "wave"] {
+        let _answer = meets(&rt, command, &[])?;
+    }
+    // it makes a session of two modules
+    let _summary = meets(&rt, "gen", &["0", "2"])?;
     Ok(())
 }
 
@@ -138,7 +143,7 @@ fn each_run_after_an_edit_meets_the_gate(rt: HostRuntime) -> Result<(), Fail> {
     let gate = Beginnings {
         count: AtomicU64::new(0),
     };
-    let (status, sink) = answer_with(&rt, "run", REALISTIC_LINE, &gate)?;
+    let (status, sink) = answer_with(&rt, "run", &[], REALISTIC_LINE, &gate)?;
     assert_eq!(rt; status, Status::Done);
     assert!(rt; sink.held().ends_with(b"runs 5\n"));
     assert_eq!(rt; gate.count.load(Ordering::SeqCst), 5);

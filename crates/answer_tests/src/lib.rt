@@ -8,6 +8,8 @@ mod commanding;
 #[cfg(test)]
 mod ends;
 #[cfg(test)]
+mod exploring;
+#[cfg(test)]
 mod further;
 #[cfg(test)]
 mod gates;

@@ -1,0 +1,395 @@
+//! Worked sessions under the commands that look further than a simulation.
+use crate::asking::answers;
+use std::test::Fail;
+use whole_answer::Status;
+use worked_sessions::{LATE_CHANNEL, LATER_STALL, REALISTIC_LINE, TWO_MODULES};
+
+/// What is asked about a session, and the answer. It was worked out by hand from the machine's rules.
+struct Asked {
+    command: &'static str,
+    options: &'static [&'static str],
+    text: &'static [u8],
+    told: &'static [u8],
+    status: Status,
+}
+
+/// Three values go through a FIFO of two places, one in each clock.
+const THREE_VALUES: &[u8] = b"\
+flow 1
+fifo b 8
+module P
+reg i 8
+reg g 1
+loop l 1 1 while g
+at 0 write b i
+at 0 set i + i 1
+at 0 set g <u i 2
+stop
+module Q
+reg x 8
+reg i 8
+reg g 1
+loop l 1 1 while g
+at 0 read b x
+at 0 set i + i 1
+at 0 set g <u i 2
+stop
+end
+";
+
+/// Two modules, each of which first waits for the other.
+const DEADLOCK_AT_ONCE: &[u8] = b"\
+flow 1
+fifo ab 8
+fifo ba 8
+module A
+reg x 8
+block k 2
+at 0 read ba x
+at 1 write ab 1
+stop
+module B
+reg x 8
+block k 2
+at 0 read ab x
+at 1 write ba 1
+stop
+end
+";
+
+/// A block of 10^12 clocks: whoever goes through all clocks doesn't come to its end.
+const LONG_BLOCK: &[u8] = b"\
+flow 1
+sink y 8
+module m
+block k 1000000000000
+at 999999999999 write y 1
+stop
+limits 1000000000000000 100000
+end
+";
+
+/// A register is read in the iteration that writes it, but later than the next one starts.
+const WIDE_REGISTER: &[u8] = b"\
+flow 1
+source a 8
+sink y 8
+module m
+reg x 8
+reg g 1
+loop l 1 3 while g
+at 0 read a x
+at 2 write y x
+stop
+end
+";
+
+/// The same, and whether there is another iteration is known too late.
+const LATE_DECISION: &[u8] = b"\
+flow 1
+source a 8
+sink y 8
+module m
+reg x 8
+reg g 1
+loop l 1 3 while g
+at 0 read a x
+at 1 set g 0
+at 2 write y x
+stop
+end
+";
+
+const ADVISED: &[Asked] = &[
+    // three values through depth two
+    Asked {
+        command: "advise",
+        options: &[],
+        text: THREE_VALUES,
+        told: b"\
+advise
+verdict done 4
+depth b 2
+",
+        status: Status::Done,
+    },
+    // deadlocked record goes on
+    Asked {
+        command: "advise",
+        options: &[],
+        text: LATE_CHANNEL,
+        told: b"\
+advise
+verdict done 9
+depth b 4
+depth c 2
+",
+        status: Status::Done,
+    },
+    // deadlock at once
+    Asked {
+        command: "advise",
+        options: &[],
+        text: DEADLOCK_AT_ONCE,
+        told: b"\
+advise
+verdict deadlock 0
+depth ab 1
+depth ba 1
+",
+        status: Status::Deadlock,
+    },
+];
+
+const WAVES: &[Asked] = &[
+    // visibility one clock later
+    Asked {
+        command: "wave",
+        options: &[],
+        text: TWO_MODULES,
+        told: b"\
+$timescale 1 ns $end
+$scope module flow $end
+$var wire 32 f0 b $end
+$upscope $end
+$enddefinitions $end
+#0
+b0 f0
+#2
+b1 f0
+#3
+b0 f0
+#4
+",
+        status: Status::Done,
+    },
+    // deadlock at once
+    Asked {
+        command: "wave",
+        options: &[],
+        text: DEADLOCK_AT_ONCE,
+        told: b"\
+$timescale 1 ns $end
+$scope module flow $end
+$var wire 32 f0 ab $end
+$var wire 32 f1 ba $end
+$upscope $end
+$enddefinitions $end
+#0
+b0 f0
+b0 f1
+",
+        status: Status::Deadlock,
+    },
+];
+
+const ORDERED: &[Asked] = &[
+    // realistic line
+    Asked {
+        command: "order",
+        options: &[],
+        text: REALISTIC_LINE,
+        told: b"\
+order reader serial
+order filter serial
+order decimator query 0 0
+order writer serial
+",
+        status: Status::Done,
+    },
+    // later stall delays earlier query
+    Asked {
+        command: "order",
+        options: &[],
+        text: LATER_STALL,
+        told: b"\
+order R query 0 2
+order S serial
+",
+        status: Status::Done,
+    },
+    Asked {
+        command: "order",
+        options: &[],
+        text: WIDE_REGISTER,
+        told: b"\
+order m wide 0 register 0
+",
+        status: Status::Done,
+    },
+    Asked {
+        command: "order",
+        options: &[],
+        text: LATE_DECISION,
+        told: b"\
+order m late 0 1
+",
+        status: Status::Done,
+    },
+];
+
+const SWEPT: &[Asked] = &[
+    // three values through depth two
+    Asked {
+        command: "sweep",
+        options: &["1", "3"],
+        text: THREE_VALUES,
+        told: b"\
+point 1 done 6
+point 2 done 4
+point 3 done 4
+best 2
+",
+        status: Status::Done,
+    },
+    // deadlocked record goes on
+    Asked {
+        command: "sweep",
+        options: &["2", "3"],
+        text: LATE_CHANNEL,
+        told: b"\
+point 2 2 deadlock 2
+point 2 3 deadlock 2
+point 3 2 done 9
+point 3 3 done 9
+best 3 2
+",
+        status: Status::Done,
+    },
+    // deadlock at once
+    Asked {
+        command: "sweep",
+        options: &["1", "1"],
+        text: DEADLOCK_AT_ONCE,
+        told: b"\
+point 1 1 deadlock 0
+best none
+",
+        status: Status::Deadlock,
+    },
+    // empty design
+    Asked {
+        command: "sweep",
+        options: &["1", "1"],
+        text: b"\
+flow 1
+end
+",
+        told: b"\
+point done 0
+best
+",
+        status: Status::Done,
+    },
+];
+
+const LONG_BLOCKS: &[Asked] = &[
+    Asked {
+        command: "log",
+        options: &[],
+        text: LONG_BLOCK,
+        told: b"\
+log
+verdict done 1000000000000
+access m write y 999999999999 1 1
+",
+        status: Status::Done,
+    },
+    Asked {
+        command: "stalls",
+        options: &[],
+        text: LONG_BLOCK,
+        told: b"\
+stalls
+verdict done 1000000000000
+module m 1000000000000 0
+port m push y 1 999999999999 999999999999
+",
+        status: Status::Done,
+    },
+    Asked {
+        command: "path",
+        options: &["--events"],
+        text: LONG_BLOCK,
+        told: b"\
+path
+verdict done 1000000000000
+spend m 1000000000000
+link m 0 999999999999
+",
+        status: Status::Done,
+    },
+    Asked {
+        command: "trace",
+        options: &[],
+        text: LONG_BLOCK,
+        told: b"\
+{\"displayTimeUnit\":\"ns\",\"traceEvents\":[
+{\"ph\":\"M\",\"pid\":0,\"tid\":0,\"name\":\"thread_name\",\"args\":{\"name\":\"m\"}},
+{\"ph\":\"X\",\"pid\":0,\"tid\":0,\"ts\":0,\"dur\":1000000000000,\"name\":\"moves\"}
+]}
+",
+        status: Status::Done,
+    },
+    Asked {
+        command: "wave",
+        options: &[],
+        text: LONG_BLOCK,
+        told: b"\
+$timescale 1 ns $end
+$scope module flow $end
+$upscope $end
+$enddefinitions $end
+#0
+#1000000000000
+",
+        status: Status::Done,
+    },
+    Asked {
+        command: "size",
+        options: &[],
+        text: LONG_BLOCK,
+        told: b"\
+size
+verdict done 1000000000000
+",
+        status: Status::Done,
+    },
+    Asked {
+        command: "advise",
+        options: &[],
+        text: LONG_BLOCK,
+        told: b"\
+advise
+verdict done 1000000000000
+",
+        status: Status::Done,
+    },
+    Asked {
+        command: "sweep",
+        options: &["1", "1"],
+        text: LONG_BLOCK,
+        told: b"\
+point done 1000000000000
+best
+",
+        status: Status::Done,
+    },
+];
+
+#[test]
+fn worked_sessions_explored(rt: HostRuntime) -> Result<(), Fail> {
+    for table in [ADVISED, WAVES, ORDERED, SWEPT, LONG_BLOCKS] {
+        for asked in table {
+            let Asked {
+                command,
+                options,
+                text,
+                told,
+                status,
+            } = asked;
+            answers(&rt, command, options, text, told, *status)?;
+        }
+    }
+    Ok(())
+}

@@ -1,14 +1,14 @@
 -- The FIFOs of a plan lowered, channel after channel.
-use Rattle.std.proofs.Common.{◌≡◌, ℕ, suc, ◌+◌, ◌<◌, ◌≤◌, true, false, List, length, sym, ◌∙◌, ap, subst, arith, refl}
+use Rattle.std.proofs.Common.{◌≡◌, ℕ, zero, suc, ◌+◌, ◌-◌, ◌<◌, ◌≤◌, true, false, List, length, sym, ◌∙◌, ap, subst, arith, refl, inl, inr}
 use Rattle.std.specs.Prelude.{slice_index}
-use Rattle.flow_design.specs.declared.limits.TheConstants.{FIFO_DEPTH}
+use Rattle.std.proofs.lemmas.Bool.{cases_Bool}
 use Rattle.flow_design.specs.declared.plan.Plan.{Plan}
 use Rattle.flow_design.specs.declared.report.Verdict.{Verdict}
 use Rattle.flow_design.specs.Plans.{is_fifo, kind_at, with_depth}
 use Rattle.flow_design.specs.StaticRules.{FitsEngine}
 use Rattle.lockstep_defs.specs.Verdict.{verdict}
 use Rattle.least_depths.specs.Least.{sizes_of}
-use Rattle.least_depths.specs.Lowering.{least_for, Lowered, with_found, lowered}
+use Rattle.least_depths.specs.Lowering.{HasDepth, least_for, Lowered, with_found, lowered}
 use Rattle.least_depths.proofs.Least.{lowered_first}
 
 -- a channel is of the same kind whatever the depths are
@@ -20,19 +20,18 @@ pub same_channels : (p : Plan) → FitsEngine p → (clock n : ℕ) (q : Plan) �
     → length q.design.channels ≡ length p.design.channels
 same_channels p h clock n q e = ap (λ (r : Plan). length r.design.channels) (e ∙ (lowered_first p h clock n).lower.same)
 
--- the depth of a FIFO that is to be lowered
-pub record HasDepth (q : Plan) (f : ℕ) : Type 0 where
-  pub entry : f < length q.depths
-  pub least : 1 ≤ slice_index q.depths f
-  pub most : slice_index q.depths f ≤ FIFO_DEPTH
-
 pub next_depth : (p : Plan) → FitsEngine p → (clock n : ℕ) (q : Plan) → q ≡ (lowered p clock n).plan → n < length p.design.channels
     → is_fifo (kind_at q n) ≡ true → HasDepth q n
 next_depth p h clock n q e l fifo =
     let a = (lowered_first p h clock n).lower.depths in
     let count = a.count in
     let kind = sym (ap is_fifo (same_kind p h clock n q e n)) ∙ fifo in
-    subst (λ (r : Plan). HasDepth r n) (sym e) (record { entry = omega arith; least = a.least n kind; most = a.most n kind })
+    subst (λ (r : Plan). HasDepth r n) (sym e) (record {
+      fifo = ap is_fifo (same_kind p h clock n (lowered p clock n).plan refl n) ∙ kind;
+      entry = omega arith;
+      least = a.least n kind;
+      most = a.most n kind;
+    })
 
 -- past a FIFO
 next_fifo : (p : Plan) (clock n : ℕ) → is_fifo (kind_at p n) ≡ true
@@ -69,6 +68,28 @@ other_lowered p h clock n q e fifo =
     let kind = sym (ap is_fifo (same_kind p h clock n q e n)) ∙ fifo in
     let next : suc n ≡ n + 1 = omega arith in
     sym (next_other p clock n kind) ∙ ap (lowered p clock) next
+
+-- the first channels have no more tries than more of them
+fewer_tries : (p : Plan) (clock n k : ℕ) → (lowered p clock n).tries ≤ (lowered p clock (k + n)).tries
+fewer_tries p clock n zero = let same : 0 + n ≡ n = omega arith in rw same (omega arith)
+fewer_tries p clock n (suc k) =
+    let before = fewer_tries p clock n k in
+    let next : suc k + n ≡ suc (k + n) = omega arith in
+    rw next (elim (cases_Bool (is_fifo (kind_at p (k + n)))) [
+      | inl e ↦ let more = ap (λ (x : Lowered). x.tries) (next_fifo p clock (k + n) e) in omega arith
+      | inr e ↦ let same = ap (λ (x : Lowered). x.tries) (next_other p clock (k + n) e) in omega arith
+    ])
+
+-- the tries of one FIFO more are among those of all channels
+pub tries_within : (p : Plan) → FitsEngine p → (clock n all : ℕ) (q : Plan) (before more : ℕ) → n < all → q ≡ (lowered p clock n).plan
+    → is_fifo (kind_at q n) ≡ true → before ≡ (lowered p clock n).tries → more ≡ (least_for q clock n).tries
+    → before + more ≤ (lowered p clock all).tries
+tries_within p h clock n all q before more l e fifo so_far new =
+    let here = fifo_tries p h clock n q before more e fifo so_far new in
+    let at : (all - (n + 1)) + (n + 1) ≡ all = omega arith in
+    let rest = subst (λ (k : ℕ). (lowered p clock (n + 1)).tries ≤ (lowered p clock k).tries) at
+    (fewer_tries p clock (n + 1) (all - (n + 1))) in
+    omega arith
 
 -- ---- what is told at the end
 

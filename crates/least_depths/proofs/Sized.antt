@@ -1,6 +1,7 @@
 -- What is found of a plan with the advised depths.
-use Rattle.std.proofs.Common.{◌≡◌, ℕ, ◌≤◌, List, length, refl, sym, ◌∙◌, ap, subst, arith, ◌⊎◌, inl, inr}
+use Rattle.std.proofs.Common.{◌≡◌, ℕ, ◌+◌, ◌<◌, ◌≤◌, List, length, refl, sym, ◌∙◌, ap, subst, arith, ◌⊎◌, inl, inr}
 use Rattle.std.specs.Prelude.{◌≢◌}
+use Rattle.std.proofs.lemmas.Bool.{cases_lt}
 use Rattle.flow_design.specs.declared.plan.Plan.{Plan}
 use Rattle.flow_design.specs.declared.report.Verdict.{Verdict}
 use Rattle.flow_design.specs.declared.report.Verdict.TheVariants.{Done, Deadlock, Cycles, Ops}
@@ -14,7 +15,7 @@ use Rattle.depth_advice.specs.Advice.{advised}
 use Rattle.depth_advice.proofs.Depths.{advised_depths}
 use Rattle.depth_advice.proofs.Faster.{advised_fastest}
 use Rattle.least_depths.specs.Lowering.{untouched, lowered, AreLeast, all_bits}
-use Rattle.least_depths.specs.Least.{sizes_of, sized_by, sizes, IsNoLater, IsLeast}
+use Rattle.least_depths.specs.Least.{sizes_of, sized_by, sizes, first_runs, IsNoLater, IsLeast}
 use Rattle.least_depths.specs.declared.sizing.Sizes.{Sizes}
 use Rattle.least_depths.proofs.Depths.{same_depths, same_least}
 use Rattle.least_depths.proofs.Least.{own_depths, lowered_first, none_lower}
@@ -137,3 +138,36 @@ left_sizes p ds v other e told =
     by_verdict (Deadlock clock) h = refl
     by_verdict (Cycles clock) h = refl
     by_verdict (Ops clock) h = refl
+
+-- ---- how often a runner is called for them
+
+done_runs : (clock : ℕ) (v : Verdict) → IsDoneBy clock v → first_runs v ≡ 2
+done_runs clock (Done c) l = refl
+done_runs clock (Deadlock c) l = absurd l
+done_runs clock (Cycles c) l = absurd l
+done_runs clock (Ops c) l = absurd l
+
+left_runs : (v : Verdict) → ((clock : ℕ) → v ≢ Done clock) → first_runs v ≡ 1
+left_runs (Done clock) h = absurd (h clock refl)
+left_runs (Deadlock clock) h = refl
+left_runs (Cycles clock) h = refl
+left_runs (Ops clock) h = refl
+
+-- twice where the plan with the advised depths is done
+pub two_runs : (p : Plan) → FitsEngine p → (clock : ℕ) → verdict (with_depths p (advised p)) ≡ Done clock
+    → first_runs (sizes p).verdict ≡ 2
+two_runs p h clock told =
+    done_runs clock (sizes p).verdict (subst (λ (v : Verdict). IsNoLater v (sizes p).verdict) told (advised_sized p h).in_time)
+
+-- and else once
+pub one_run : (p : Plan) (ds : List ℕ) (v : Verdict) → ((clock : ℕ) → v ≢ Done clock) → ds ≡ advised p
+    → verdict (with_depths p (advised p)) ≡ v → first_runs (sizes p).verdict ≡ 1
+one_run p ds v other e told =
+    ap (λ (x : Sizes). first_runs x.verdict) (sym (left_sizes p ds v other e told)) ∙ left_runs v other
+
+-- a run that is counted as far as the count goes
+pub one_run_more : (old new most : ℕ) → (old < most → new ≡ old + 1) → (most ≤ old → new ≡ old) → new ≤ old + 1
+one_run_more old new most more stays = elim (cases_lt old most) [
+  | inl l ↦ let is = more l in omega arith
+  | inr l ↦ let is = stays l in omega arith
+]

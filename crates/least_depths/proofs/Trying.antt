@@ -102,6 +102,11 @@ halving_ends p f clock q least most tries l x =
     let sum : tries ≡ tries + 0 = omega arith in
     (ap (λ (y : Found). y.number) is, sum ∙ ap (λ (y : Found). y.tries) is)
 
+-- the tries so far are among all
+pub tries_so_far : (p : Plan) (f clock : ℕ) (q : Plan) (least most tries : ℕ) → IsHalving p f clock q least most tries
+    → tries ≤ (least_for p clock f).tries
+tries_so_far p f clock q least most tries x = let all = ap (λ (y : Found). y.tries) x.found in omega arith
+
 -- an edit of that channel fits each such plan
 pub alike_fits : (p : Plan) (f : ℕ) (q : Plan) (depth : ℕ) → IsAlike p f q → is_fifo (kind_at p f) ≡ true → f < length p.depths
     → 1 ≤ depth → depth ≤ FIFO_DEPTH → EditFits q (record { channel = f; depth = depth })

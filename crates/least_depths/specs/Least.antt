@@ -27,6 +27,14 @@ sized p = sized_by p (verdict p)
 unfoldable pub sizes : Plan → Sizes
 sizes p = sized (with_depths p (advised p))
 
+-- how many plans are simulated for these sizes from the beginning, where no operation is a query: one for the advised depths, and where
+-- that one is done, one more before depths are tried
+abbrev pub first_runs : Verdict → ℕ
+first_runs (Done clock) = 2
+first_runs (Deadlock clock) = 1
+first_runs (Cycles clock) = 1
+first_runs (Ops clock) = 1
+
 -- ---- what they are
 
 -- an end in the same clock or before, where the first is an end

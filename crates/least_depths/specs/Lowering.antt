@@ -1,5 +1,6 @@
 -- The FIFOs of a plan lowered one after the other, each as far as halving finds with no later end.
-use Rattle.std.specs.Prelude.{◌≡◌, ℕ, zero, suc, ◌+◌, Bool, false, nat_le, if◌then◌else◌, List, sum_by, slice_index}
+use Rattle.std.specs.Prelude.{◌≡◌, ℕ, zero, suc, ◌+◌, ◌<◌, ◌≤◌, Bool, true, false, nat_le, if◌then◌else◌, List, length, sum_by, slice_index}
+use Rattle.flow_design.specs.declared.limits.TheConstants.{FIFO_DEPTH}
 use Rattle.flow_design.specs.declared.plan.Plan.{Plan}
 use Rattle.flow_design.specs.declared.report.Verdict.{Verdict}
 use Rattle.flow_design.specs.declared.report.Verdict.TheVariants.{Done, Deadlock, Cycles, Ops}
@@ -18,6 +19,13 @@ is_done_by clock (Ops c) = false
 -- so they are with this depth for channel f
 abbrev pub is_in_time : Plan → ℕ → ℕ → ℕ → Bool
 is_in_time p clock f depth = is_done_by clock (verdict (with_depth p f depth))
+
+-- channel f of the plan is a FIFO, and has a depth that the language allows
+pub record HasDepth (p : Plan) (f : ℕ) : Type 0 where
+  pub fifo : is_fifo (kind_at p f) ≡ true
+  pub entry : f < length p.depths
+  pub least : 1 ≤ slice_index p.depths f
+  pub most : slice_index p.depths f ≤ FIFO_DEPTH
 
 -- what halving finds for channel f, from 1 to the depth that it has
 abbrev pub least_for : Plan → ℕ → ℕ → Found

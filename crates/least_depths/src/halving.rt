@@ -1,9 +1,10 @@
 //! Depths lowered in a session of edits.
-ghost use Rattle.std.specs.Prelude.{◌≡◌, ◌+◌, ◌*◌, ◌<◌, ◌≤◌, true, length, slice_index, IfOk, OnOk};
+ghost use Rattle.std.specs.Prelude.{◌≡◌, ◌+◌, ◌<◌, ◌≤◌, true, length, IfOk, OnOk};
 ghost use Rattle.flow_design.specs.declared.limits.TheConstants.{FIFO_DEPTH};
 ghost use Rattle.flow_design.specs.Plans.{EditFits, is_fifo, kind_at, with_depth};
 ghost use Rattle.flow_design.specs.StaticRules.{FitsEngine};
-ghost use Rattle.least_depths.specs.Lowering.{is_done_by, is_in_time, least_for, lowered};
+ghost use Rattle.depth_order.specs.Depths.{AsksNothing};
+ghost use Rattle.least_depths.specs.Lowering.{HasDepth, is_done_by, is_in_time, least_for, lowered};
 
 use depth_session::{DepthSession, Runner};
 use flow_design::{Edit, Verdict};
@@ -15,7 +16,8 @@ use std::thread::Threads;
 /// Lowers the depth of each FIFO in turn, in order of declaration, to what halving finds with an end by this clock. How many depths
 /// were tried.
 ///
-/// An error leaves the session with some of the depths.
+/// The runner is called once at most for each depth that is tried and for each channel. An error leaves the session with some of the
+/// depths.
 pub(crate) fn lower_all<R: Threads + Wait + Sync, U: Runner>(
     rt: &R,
     alloc: Global,
@@ -29,6 +31,9 @@ pub(crate) fn lower_all<R: Threads + Wait + Sync, U: Runner>(
     ensures live { OnOk result (session.new.live ≡ true) }
     ensures plan { OnOk result (session.new.plan ≡ (lowered session.old.plan clock (length session.old.plan.design.channels)).plan) }
     ensures tries { IfOk result (λ tries. tries ≡ (lowered session.old.plan clock (length session.old.plan.design.channels)).tries) }
+    ensures made { U.made runner.new ≤ U.made runner.old
+        + (lowered session.old.plan clock (length session.old.plan.design.channels)).tries + length session.old.plan.design.channels }
+    ensures quiet { AsksNothing session.old.plan → U.made runner.new ≡ U.made runner.old }
 {
     let channels = session.plan().design.channels.len();
     let mut tries = 0;
@@ -63,15 +68,14 @@ fn lower<R: Threads + Wait + Sync, U: Runner>(
 ) -> Result<u64, OutOfMemory>
     requires live { session.old.live ≡ true }
     requires runs { session.old.count.runs + FIFO_DEPTH < u64.MAX }
-    requires fifo { is_fifo (kind_at session.old.plan channel) ≡ true }
-    requires entry { channel < length session.old.plan.depths }
-    requires least { 1 ≤ slice_index session.old.plan.depths channel }
-    requires most { slice_index session.old.plan.depths channel ≤ FIFO_DEPTH }
+    requires depth { HasDepth session.old.plan channel }
     ensures live { OnOk result (session.new.live ≡ true) }
     ensures plan { OnOk result (session.new.plan ≡ with_depth session.old.plan channel (least_for session.old.plan clock channel).number) }
     ensures tries { IfOk result (λ tries. tries ≡ (least_for session.old.plan clock channel).tries) }
     ensures few { IfOk result (λ tries. tries < FIFO_DEPTH) }
     ensures runs { OnOk result (session.new.count.runs ≤ session.old.count.runs + FIFO_DEPTH) }
+    ensures made { U.made runner.new ≤ U.made runner.old + (least_for session.old.plan clock channel).tries + 1 }
+    ensures quiet { AsksNothing session.old.plan → U.made runner.new ≡ U.made runner.old }
 {
     let mut least = 1;
     let mut most = session.plan().depths.as_slice()[channel as usize];
@@ -112,6 +116,8 @@ fn is_in_time<R: Threads + Wait + Sync, U: Runner>(
     ensures plan { OnOk result (session.new.plan ≡ with_depth session.old.plan edit.now.channel edit.now.depth) }
     ensures runs { OnOk result (session.new.count.runs ≤ session.old.count.runs + 1) }
     ensures in_time { IfOk result (λ in_time. in_time ≡ is_in_time session.old.plan clock edit.now.channel edit.now.depth) }
+    ensures made { U.made runner.new ≤ U.made runner.old + 1 }
+    ensures quiet { AsksNothing session.old.plan → U.made runner.new ≡ U.made runner.old }
 {
     session.edit(rt, alloc, edit, runner)?;
     let report = session.report(alloc, false)?;

@@ -1,7 +1,8 @@
 //! The text of the sizes.
-ghost use Rattle.std.specs.Prelude.{◌≡◌, IfOk};
+ghost use Rattle.std.specs.Prelude.{◌≡◌, ◌+◌, ◌≤◌, length, IfOk, OnOk};
 ghost use Rattle.flow_design.specs.StaticRules.{FitsEngine};
-ghost use Rattle.least_depths.specs.Least.{sizes};
+ghost use Rattle.depth_order.specs.Depths.{AsksNothing};
+ghost use Rattle.least_depths.specs.Least.{sizes, first_runs};
 ghost use Rattle.least_depths.specs.SizeText.{size_text};
 
 use crate::sizing::find_sizes;
@@ -38,7 +39,7 @@ impl SizeText {
 
 /// The text of the smallest FIFOs that lose nothing, which are those of `find_sizes`.
 ///
-/// It takes memory for what `find_sizes` does and for the text. An error leaves nothing.
+/// It calls the runner as often as `find_sizes`. It takes memory for what that does and for the text. An error leaves nothing.
 #[tactic(auto, unfolding(crate::specs::SizeText::size_text))]
 pub fn tell_sizes<R: Threads + Wait + Sync, U: Runner>(
     rt: &R,
@@ -49,6 +50,9 @@ pub fn tell_sizes<R: Threads + Wait + Sync, U: Runner>(
     requires { FitsEngine plan.now }
     ensures text { IfOk result (λ told. told.text ≡ size_text plan.now) }
     ensures verdict { IfOk result (λ told. told.verdict ≡ (sizes plan.now).verdict) }
+    ensures made { U.made runner.new ≤ U.made runner.old + 2 + (sizes plan.now).tries + length plan.now.design.channels }
+    ensures quiet { AsksNothing plan.now → U.made runner.old + 2 ≤ u64.MAX
+        → OnOk result (U.made runner.new ≡ U.made runner.old + first_runs (sizes plan.now).verdict) }
 {
     let found = find_sizes(rt, alloc, plan, runner)?;
     let mut text = List::from_slice(alloc, b"size\n")?;

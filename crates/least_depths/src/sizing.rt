@@ -1,9 +1,9 @@
 //! The sizes of a plan's FIFOs.
-ghost use Rattle.std.specs.Prelude.{◌≡◌, length, IfOk};
+ghost use Rattle.std.specs.Prelude.{◌≡◌, ◌+◌, ◌<◌, ◌≤◌, length, IfOk, OnOk};
 ghost use Rattle.flow_design.specs.StaticRules.{FitsEngine};
-ghost use Rattle.depth_order.specs.Depths.{with_depths};
+ghost use Rattle.depth_order.specs.Depths.{with_depths, AsksNothing};
 ghost use Rattle.least_depths.specs.Lowering.{lowered};
-ghost use Rattle.least_depths.specs.Least.{sizes_of, sizes};
+ghost use Rattle.least_depths.specs.Least.{sizes_of, sizes, first_runs};
 
 use crate::halving::lower_all;
 use depth_advice::advise;
@@ -38,8 +38,9 @@ impl Drop for Sizes {
 /// order of declaration, each to what halving finds between 1 and its advised depth with an end by that clock. Else the depths are the
 /// advised ones.
 ///
-/// `sizes_lose_nothing` says what that means. It is two runs of the runner and an edit for each depth that is tried and each FIFO; an
-/// edit is a run more where a query finds another outcome than before. It takes memory for the runs, their reports and the edits. An
+/// `sizes_lose_nothing` says what that means. It calls the runner twice at most, and once more at most for each depth that is tried and
+/// for each channel, since an edit may turn the outcome of a query. Where no operation is a query, it calls the runner once for the
+/// advice, and once more where the plan with the advised depths is done. It takes memory for the runs, their reports and the edits. An
 /// error leaves nothing.
 pub fn find_sizes<R: Threads + Wait + Sync, U: Runner>(
     rt: &R,
@@ -48,7 +49,10 @@ pub fn find_sizes<R: Threads + Wait + Sync, U: Runner>(
     runner: &mut U,
 ) -> Result<Sizes, OutOfMemory>
     requires { FitsEngine plan.now }
-    ensures { IfOk result (λ found. found ≡ sizes plan.now) }
+    ensures found { IfOk result (λ found. found ≡ sizes plan.now) }
+    ensures made { U.made runner.new ≤ U.made runner.old + 2 + (sizes plan.now).tries + length plan.now.design.channels }
+    ensures quiet { AsksNothing plan.now → U.made runner.old + 2 ≤ u64.MAX
+        → OnOk result (U.made runner.new ≡ U.made runner.old + first_runs (sizes plan.now).verdict) }
 {
     let own = copy_plan(alloc, plan)?;
     let advice = advise(rt, alloc, own, runner)?;
@@ -74,8 +78,11 @@ fn lower_depths<R: Threads + Wait + Sync, U: Runner>(
     runner: &mut U,
 ) -> Result<Sizes, OutOfMemory>
     requires { FitsEngine (with_depths plan.now depths) }
-    ensures { IfOk result (λ found. found
+    ensures found { IfOk result (λ found. found
         ≡ sizes_of (lowered (with_depths plan.now depths) clock (length plan.now.design.channels))) }
+    ensures made { U.made runner.new ≤ U.made runner.old + 1
+        + (lowered (with_depths plan.now depths) clock (length plan.now.design.channels)).tries + length plan.now.design.channels }
+    ensures quiet { AsksNothing plan.now → U.made runner.old < u64.MAX → OnOk result (U.made runner.new ≡ U.made runner.old + 1) }
 {
     let mut own = copy_plan(alloc, plan)?;
     own.depths = depths;

@@ -1,9 +1,10 @@
-use Rattle.std.proofs.Common.{◌≡◌, ◌∙◌, sym, ap, subst, arith, ℕ, ◌+◌, List}
+use Rattle.std.proofs.Common.{◌≡◌, ◌∙◌, refl, sym, ap, subst, arith, ℕ, ◌+◌, List}
 use Rattle.flow_design.specs.declared.plan.Plan.{Plan}
 use Rattle.flow_design.specs.Plans.{with_depth}
 use Rattle.std.specs.Prelude.{slice_index}
+use Rattle.depth_order.specs.Depths.{AsksNothing}
 use Rattle.least_depths.specs.Halving.{middle}
-use Rattle.least_depths.proofs.Trying.{IsHalving, begun, halves_lower, halves_upper, halving_ends, alike_fits}
+use Rattle.least_depths.proofs.Trying.{IsHalving, begun, halves_lower, halves_upper, halving_ends, tries_so_far, alike_fits}
 use Rattle.least_depths.proofs.Sessions.{edited_plan, edited_runs}
 use Rattle.least_depths.proofs.halving.lower.Goals as goal
 use Rattle.least_depths.proofs.halving.lower.Goals.{then-branch, else-branch}
@@ -15,15 +16,17 @@ loop-least-init g c =
     record {
       live = c.requires.live;
       runs = omega arith;
+      made = omega arith;
+      quiet = λ none. (refl, none);
       halving = subst (λ (ds : List ℕ). IsHalving p c.args.channel c.args.clock p 1 (slice_index ds c.args.channel) 0) (sym same)
-          (begun p c.args.channel c.args.clock c.requires.least);
+          (begun p c.args.channel c.args.clock c.requires.depth.least);
     }
 
 pub overflow_add-depth : goal.overflow_add-depth
 overflow_add-depth g c =
     let high = c.loop-least.invariant.halving.high in
     let low = c.loop-least.invariant.halving.ordered in
-    let most = c.requires.most in
+    let most = c.requires.depth.most in
     omega arith
 
 pub is_in_time-requires-clause-fits : goal.is_in_time-requires-clause-fits
@@ -31,9 +34,9 @@ is_in_time-requires-clause-fits g c = λ κs outlives.
     let x = c.loop-least.invariant.halving in
     let low = x.low in
     let high = x.high in
-    let most = c.requires.most in
+    let most = c.requires.depth.most in
     alike_fits c.args.session.now.plan c.args.channel c.loop-least.session.plan (middle c.loop-least.least c.loop-least.most) x.alike
-    c.requires.fifo c.requires.entry (omega (arith, c.loop-least-test.true)) (omega (arith, c.loop-least-test.true))
+    c.requires.depth.fifo c.requires.depth.entry (omega (arith, c.loop-least-test.true)) (omega (arith, c.loop-least-test.true))
 
 pub loop-least-preserved : goal.loop-least-preserved
 loop-least-preserved g c =
@@ -49,9 +52,15 @@ loop-least-preserved g c =
     let ok = c.in_ok-is_in_time.ensures in
     let runs = c.loop-least.invariant.runs in
     let more = ok.runs in
+    let made = c.loop-least.invariant.made in
+    let one = c.is_in_time.ensures.made in
     record {
       live = ok.live;
       runs = omega arith;
+      made = omega arith;
+      quiet = λ none.
+          let (same, still) = c.loop-least.invariant.quiet none in
+          (c.is_in_time.ensures.quiet still ∙ same, subst AsksNothing (sym ok.plan) still);
       halving = elim c.if-branch.branch [
         | then-branch w ↦
             subst (λ (n : ℕ). IsHalving p f clock r n c.if-branch.most (tries + 1)) (sym w.least-is)
@@ -69,8 +78,8 @@ edit-requires-clause-fits g c = λ κs outlives.
     let x = c.loop-least.invariant.halving in
     let ordered = x.ordered in
     let high = x.high in
-    let most = c.requires.most in
-    alike_fits c.args.session.now.plan c.args.channel c.loop-least.session.plan c.loop-least.least x.alike c.requires.fifo c.requires.entry
+    let most = c.requires.depth.most in
+    alike_fits c.args.session.now.plan c.args.channel c.loop-least.session.plan c.loop-least.least x.alike c.requires.depth.fifo c.requires.depth.entry
     x.low (omega arith)
 
 pub returns-clause-plan : goal.returns-clause-plan
@@ -93,8 +102,26 @@ returns-clause-runs g c =
     let x = c.loop-least.invariant.halving in
     let few = x.few in
     let ordered = x.ordered in
-    let most = c.requires.most in
+    let most = c.requires.depth.most in
     let runs = c.loop-least.invariant.runs in
     let last = edited_runs c.loop-least.session c.edit.new.self (record { channel = c.args.channel; depth = c.loop-least.least })
     c.in_ok-edit.ensures.edited in
+    omega arith
+
+pub returns-in_err-is_in_time-clause-made : goal.returns-in_err-is_in_time-clause-made
+returns-in_err-is_in_time-clause-made g c =
+    let x = c.loop-least.invariant.halving in
+    let tries = tries_so_far c.args.session.now.plan c.args.channel c.args.clock c.loop-least.session.plan c.loop-least.least
+    c.loop-least.most c.loop-least.tries x in
+    let before = c.loop-least.invariant.made in
+    let more = c.is_in_time.ensures.made in
+    omega arith
+
+pub returns-clause-made : goal.returns-clause-made
+returns-clause-made g c =
+    let x = c.loop-least.invariant.halving in
+    let tries = tries_so_far c.args.session.now.plan c.args.channel c.args.clock c.loop-least.session.plan c.loop-least.least
+    c.loop-least.most c.loop-least.tries x in
+    let before = c.loop-least.invariant.made in
+    let more = c.edit.ensures.few in
     omega arith

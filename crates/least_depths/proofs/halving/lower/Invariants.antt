@@ -1,4 +1,5 @@
 use Rattle.std.specs.Prelude.{◌≡◌, ◌≤◌, ◌+◌, ◌-◌, true}
+use Rattle.depth_order.specs.Depths.{AsksNothing}
 use Rattle.least_depths.proofs.Trying.{IsHalving}
 use Rattle.least_depths.proofs.halving.lower.Given as goal
 
@@ -7,6 +8,8 @@ invariant-loop-least g l =
     record {
       live : l.session.live ≡ true;
       runs : l.session.count.runs ≤ l.fn.session.count.runs + l.tries;
+      made : g.U.Runner.made l.runner ≤ g.U.Runner.made l.fn.runner + l.tries;
+      quiet : AsksNothing l.fn.session.plan → (g.U.Runner.made l.runner ≡ g.U.Runner.made l.fn.runner) × AsksNothing l.session.plan;
       halving : IsHalving l.fn.session.plan l.channel l.clock l.session.plan l.least l.most l.tries;
     }
 

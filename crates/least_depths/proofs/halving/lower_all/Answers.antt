@@ -2,8 +2,9 @@ use Rattle.std.proofs.Common.{◌∙◌, sym, ap, subst, arith, refl, ℕ, ◌+�
 use Rattle.flow_design.specs.declared.plan.Plan.{Plan}
 use Rattle.flow_design.specs.declared.limits.TheConstants.{FIFO_DEPTH}
 use Rattle.depth_session.specs.Sessions.{Session}
-use Rattle.least_depths.specs.Lowering.{Lowered, lowered}
-use Rattle.least_depths.proofs.Channels.{same_channels, next_depth, fifo_plan, fifo_tries, other_lowered}
+use Rattle.depth_order.specs.Depths.{AsksNothing}
+use Rattle.least_depths.specs.Lowering.{Lowered, least_for, lowered}
+use Rattle.least_depths.proofs.Channels.{same_channels, next_depth, fifo_plan, fifo_tries, tries_within, other_lowered}
 use Rattle.least_depths.proofs.halving.lower_all.Goals as goal
 use Rattle.least_depths.proofs.halving.lower_all.Goals.{then-is_fifo+in_ok-tries, else-is_fifo}
 
@@ -13,6 +14,8 @@ loop-channel-init g c = record {
   live = c.requires.live;
   runs = omega (arith, c.requires.few);
   few = omega arith;
+  made = omega arith;
+  quiet = λ none. (refl, none);
   plan = refl;
   tries = refl;
 }
@@ -24,23 +27,11 @@ is_fifo-requires g c =
     let count = c.len-channels.ensures ∙ ap (λ (p : Plan). length p.design.channels) c.plan.ensures in
     omega (arith, c.loop-channel-test.true)
 
-pub lower-requires-clause-entry : goal.lower-requires-clause-entry
-lower-requires-clause-entry g c = λ κs outlives. (next_depth c.args.session.now.plan c.requires.fits c.args.clock c.loop-channel.channel
+pub lower-requires-clause-depth : goal.lower-requires-clause-depth
+lower-requires-clause-depth g c = λ κs outlives. next_depth c.args.session.now.plan c.requires.fits c.args.clock c.loop-channel.channel
     c.loop-channel.session.plan c.loop-channel.invariant.plan
     (let count = c.len-channels.ensures ∙ ap (λ (p : Plan). length p.design.channels) c.plan.ensures in
-    omega (arith, c.loop-channel-test.true)) (sym c.is_fifo.ensures ∙ c.if-is_fifo.true)).entry
-
-pub lower-requires-clause-least : goal.lower-requires-clause-least
-lower-requires-clause-least g c = λ κs outlives. (next_depth c.args.session.now.plan c.requires.fits c.args.clock c.loop-channel.channel
-    c.loop-channel.session.plan c.loop-channel.invariant.plan
-    (let count = c.len-channels.ensures ∙ ap (λ (p : Plan). length p.design.channels) c.plan.ensures in
-    omega (arith, c.loop-channel-test.true)) (sym c.is_fifo.ensures ∙ c.if-is_fifo.true)).least
-
-pub lower-requires-clause-most : goal.lower-requires-clause-most
-lower-requires-clause-most g c = λ κs outlives. (next_depth c.args.session.now.plan c.requires.fits c.args.clock c.loop-channel.channel
-    c.loop-channel.session.plan c.loop-channel.invariant.plan
-    (let count = c.len-channels.ensures ∙ ap (λ (p : Plan). length p.design.channels) c.plan.ensures in
-    omega (arith, c.loop-channel-test.true)) (sym c.is_fifo.ensures ∙ c.if-is_fifo.true)).most
+    omega (arith, c.loop-channel-test.true)) (sym c.is_fifo.ensures ∙ c.if-is_fifo.true)
 
 pub loop-channel-preserved : goal.loop-channel-preserved
 loop-channel-preserved g c =
@@ -59,6 +50,17 @@ loop-channel-preserved g c =
             live = ap (λ (s : Session). s.live) w.session-is ∙ ok.live;
             runs = subst (λ (s : Session). s.count.runs ≤ 1 + (n + 1) * FIFO_DEPTH) (sym w.session-is) (omega (arith, x.runs));
             few = subst (λ (t : ℕ). t ≤ (n + 1) * FIFO_DEPTH) (sym w.tries-is) (omega (arith, x.few));
+            made =
+                let runner = ap g.U.Runner.made w.runner-is in
+                let made = w.lower.ensures.made in
+                let tries = ok.tries in
+                let sum = w.tries-is in
+                omega (arith, x.made);
+            quiet = λ none.
+                let (same, still) = x.quiet none in (
+                  ap g.U.Runner.made w.runner-is ∙ (w.lower.ensures.quiet still ∙ same),
+                  subst (λ (s : Session). AsksNothing s.plan) (sym w.session-is) (subst AsksNothing (sym ok.plan) still),
+                );
             plan = ap (λ (s : Session). s.plan) w.session-is
                 ∙ fifo_plan p c.requires.fits clock n q w.lower.new.session.plan x.plan fifo ok.plan;
             tries = w.tries-is
@@ -71,7 +73,26 @@ loop-channel-preserved g c =
             live = ap (λ (s : Session). s.live) w.session-is ∙ x.live;
             runs = subst (λ (s : Session). s.count.runs ≤ 1 + (n + 1) * FIFO_DEPTH) (sym w.session-is) (omega (arith, x.runs));
             few = subst (λ (t : ℕ). t ≤ (n + 1) * FIFO_DEPTH) (sym w.tries-is) (omega (arith, x.few));
+            made =
+                let runner = ap g.U.Runner.made w.runner-is in
+                let sum = w.tries-is in
+                omega (arith, x.made);
+            quiet = λ none.
+                let (same, still) = x.quiet none in
+                (ap g.U.Runner.made w.runner-is ∙ same, subst (λ (s : Session). AsksNothing s.plan) (sym w.session-is) still);
             plan = ap (λ (s : Session). s.plan) w.session-is ∙ (x.plan ∙ ap (λ (y : Lowered). y.plan) same);
             tries = w.tries-is ∙ (x.tries ∙ ap (λ (y : Lowered). y.tries) same);
           }
     ]
+
+pub returns-in_err-tries-clause-made : goal.returns-in_err-tries-clause-made
+returns-in_err-tries-clause-made g c =
+    let x = c.loop-channel.invariant in
+    let n = c.loop-channel.channel in
+    let count = c.len-channels.ensures ∙ ap (λ (p : Plan). length p.design.channels) c.plan.ensures in
+    let inside = c.loop-channel-test.true in
+    let tries = tries_within c.args.session.now.plan c.requires.fits c.args.clock n (length c.args.session.now.plan.design.channels)
+    c.loop-channel.session.plan c.loop-channel.tries (least_for c.loop-channel.session.plan c.args.clock n).tries (omega arith) x.plan
+    (sym c.is_fifo.ensures ∙ c.if-is_fifo.true) x.tries refl in
+    let more = c.lower.ensures.made in
+    omega (arith, x.made)

@@ -1,5 +1,6 @@
 use Rattle.std.specs.Prelude.{◌≡◌, ◌≤◌, ◌+◌, ◌*◌, true}
 use Rattle.flow_design.specs.declared.limits.TheConstants.{FIFO_DEPTH}
+use Rattle.depth_order.specs.Depths.{AsksNothing}
 use Rattle.least_depths.specs.Lowering.{lowered}
 use Rattle.least_depths.proofs.halving.lower_all.Given as goal
 
@@ -9,6 +10,8 @@ invariant-loop-channel g l =
       live : l.session.live ≡ true;
       runs : l.session.count.runs ≤ 1 + l.channel * FIFO_DEPTH;
       few : l.tries ≤ l.channel * FIFO_DEPTH;
+      made : g.U.Runner.made l.runner ≤ g.U.Runner.made l.fn.runner + l.tries + l.channel;
+      quiet : AsksNothing l.fn.session.plan → (g.U.Runner.made l.runner ≡ g.U.Runner.made l.fn.runner) × AsksNothing l.session.plan;
       plan : l.session.plan ≡ (lowered l.fn.session.plan l.clock l.channel).plan;
       tries : l.tries ≡ (lowered l.fn.session.plan l.clock l.channel).tries;
     }

@@ -1,13 +1,15 @@
-use Rattle.std.proofs.Common.{◌≡◌, ◌∙◌, ap, refl, length, false}
+use Rattle.std.proofs.Common.{◌≡◌, ◌∙◌, ap, refl, length, false, arith}
 use Rattle.flow_design.specs.declared.plan.Plan.{Plan}
 use Rattle.depth_session.specs.Sessions.{Session}
 use Rattle.depth_order.specs.Depths.{with_depths}
+use Rattle.least_depths.specs.Lowering.{lowered}
+use Rattle.least_depths.proofs.Sized.{one_run_more}
 use Rattle.least_depths.proofs.Sessions.{verdict_told}
 use Rattle.least_depths.proofs.Channels.{lowered_of}
 use Rattle.least_depths.proofs.sizing.lower_depths.Goals as goal
 
-pub returns : goal.returns
-returns g c =
+pub returns-clause-found : goal.returns-clause-found
+returns-clause-found g c =
     let p = c.args.plan.now in
     let q = with_depths p c.args.depths in
     let start : c.in_ok-session.session.plan ≡ q =
@@ -17,3 +19,39 @@ returns g c =
     (length p.design.channels) start c.in_ok-tries.ensures.plan c.in_ok-tries.ensures.tries refl
     (verdict_told false last c.in_ok-report.report c.in_ok-report.ensures)
     (c.in_ok-from_slice.ensures ∙ (c.as_slice.ensures ∙ ap (λ (r : Plan). r.depths) c.plan.ensures))
+
+pub returns-in_err-report-clause-made : goal.returns-in_err-report-clause-made
+returns-in_err-report-clause-made g c =
+    let p = c.args.plan.now in
+    let q = with_depths p c.args.depths in
+    let start : c.in_ok-session.session.plan ≡ q =
+    ap (λ (s : Session). s.plan) c.in_ok-session.ensures.opened ∙ ap (λ (r : Plan). with_depths r c.args.depths) c.in_ok-own.ensures in
+    let tries = ap (λ (r : Plan). (lowered r c.args.clock (length r.design.channels)).tries) start in
+    let count = ap (λ (r : Plan). length r.design.channels) start in
+    let made = c.lower_all.ensures.made in
+    let first = one_run_more _ _ _ c.new.ensures.counted c.new.ensures.stays in
+    omega arith
+
+pub returns-in_err-from_slice-clause-made : goal.returns-in_err-from_slice-clause-made
+returns-in_err-from_slice-clause-made g c =
+    let p = c.args.plan.now in
+    let q = with_depths p c.args.depths in
+    let start : c.in_ok-session.session.plan ≡ q =
+    ap (λ (s : Session). s.plan) c.in_ok-session.ensures.opened ∙ ap (λ (r : Plan). with_depths r c.args.depths) c.in_ok-own.ensures in
+    let tries = ap (λ (r : Plan). (lowered r c.args.clock (length r.design.channels)).tries) start in
+    let count = ap (λ (r : Plan). length r.design.channels) start in
+    let made = c.lower_all.ensures.made in
+    let first = one_run_more _ _ _ c.new.ensures.counted c.new.ensures.stays in
+    omega arith
+
+pub returns-clause-made : goal.returns-clause-made
+returns-clause-made g c =
+    let p = c.args.plan.now in
+    let q = with_depths p c.args.depths in
+    let start : c.in_ok-session.session.plan ≡ q =
+    ap (λ (s : Session). s.plan) c.in_ok-session.ensures.opened ∙ ap (λ (r : Plan). with_depths r c.args.depths) c.in_ok-own.ensures in
+    let tries = ap (λ (r : Plan). (lowered r c.args.clock (length r.design.channels)).tries) start in
+    let count = ap (λ (r : Plan). length r.design.channels) start in
+    let made = c.lower_all.ensures.made in
+    let first = one_run_more _ _ _ c.new.ensures.counted c.new.ensures.stays in
+    omega arith

@@ -1,4 +1,5 @@
 pub mod Printed
 pub mod Links
+pub mod Sums
 pub mod Counting
 pub mod Whole

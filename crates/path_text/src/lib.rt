@@ -3,7 +3,9 @@
 #![tactic(auto)]
 
 mod counts;
+mod laws;
 mod lines;
 mod text;
 
+pub use laws::numbers_add_up;
 pub use text::path_text;

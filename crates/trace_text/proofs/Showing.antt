@@ -237,11 +237,12 @@ listed p i =
     }
 
 -- so these are the spans
-pub spans_are : (p : Plan) (i : ℕ) (ss : List Span) → AreSpans p i ss → ss ≡ spans_of p i
+pub are_the_spans : (p : Plan) (i : ℕ) → AreSpans p i (spans_of p i)
 unfolding spans_of
-spans_are p i ss a =
-    only_spans p i (last_clock p) ss (made p i (last_clock p)) a
-    (listed_spans p i (last_clock p) (made p i (last_clock p)) (listed p i))
+are_the_spans p i = listed_spans p i (last_clock p) (made p i (last_clock p)) (listed p i)
+
+pub spans_are : (p : Plan) (i : ℕ) (ss : List Span) → AreSpans p i ss → ss ≡ spans_of p i
+spans_are p i ss a = only_spans p i (last_clock p) ss (spans_of p i) a (are_the_spans p i)
 
 -- ---- what is drawn of them
 

@@ -3,6 +3,8 @@
 
 mod events;
 mod fills;
+mod laws;
 mod text;
 
+pub use laws::tracks_have_the_spans;
 pub use text::trace_text;

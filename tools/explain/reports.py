@@ -4,6 +4,7 @@ import re
 from explain.budgets import most_ops_reached, out_of_operations
 from explain.language import count_of, plain, table
 from explain.session import asks_outcomes
+from flow.circles import circles_of
 
 
 def report_of(lines):
@@ -28,27 +29,13 @@ def reason_of(session, module, waiting, spent):
     return f'which {other} would give, and {other} has ended' + (' or is out of operations' if spent else '')
 
 
-def circles_of(session, waiting):
-    """The circles of modules that wait for each other."""
-    told = set()
-    for start in waiting:
-        path, module = [], start
-        while module in waiting and module not in path:
-            path.append(module)
-            module = session.awaited(*waiting[module])
-        if module in path and module not in told:
-            circle = path[path.index(module):]
-            told.update(circle)
-            yield circle
-
-
 def tell_waits(session, held, spent):
     """Tells what each blocked module waits for, and who waits for whom in a circle. Some module may be out of operations."""
     waiting = {module: (side, channel) for module, side, channel in held}
     for module, (side, channel) in waiting.items():
         want = 'an element in' if side == 'empty' else 'a place in'
         print(f'  {module} waits for {want} {channel}, {reason_of(session, module, waiting, spent)}.')
-    for circle in circles_of(session, waiting):
+    for circle in circles_of({module: session.awaited(*wait) for module, wait in waiting.items()}):
         links = [f'{one} waits for {other}' for one, other in zip(circle, circle[1:] + circle[:1])]
         print('  In a circle: ' + ', '.join(links) + '.')
 

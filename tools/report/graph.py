@@ -3,7 +3,7 @@ from dataclasses import dataclass, field
 
 from report.layout import Box, lay_out
 from report.tables import by_side
-from report.waits import circles_of
+from report.waits import circles
 
 LONGEST = 24  # characters of a name in a box
 NAME, SMALL = 7.6, 6.2  # pixels of a character
@@ -127,7 +127,7 @@ def end_node(facts, channel):
 
 def circle_ends(waits):
     """The ends of channels on a circle of modules that wait for each other: pairs of a module and a channel."""
-    inside = {module for circle in circles_of(waits) for module in circle}
+    inside = {module for circle in circles(waits) for module in circle}
     circle = [wait for wait in waits if wait.module in inside]
     return [(module, wait.channel) for wait in circle for module in (wait.module, wait.other)]
 

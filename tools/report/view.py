@@ -8,7 +8,7 @@ from report.facts import bits_of, too_shallow
 from report.graph import graph_of
 from report.summary import edit_rows, figures, headline_of, output_rows
 from report.tables import crossed_rows, fifo_rows, module_rows, port_row, size_note, spent_rows
-from report.waits import circles_of
+from report.waits import circles
 
 FOLDER = os.path.dirname(os.path.realpath(__file__))
 SCRIPTS = ('series', 'frame', 'choice', 'lanes', 'fill', 'begin')
@@ -75,7 +75,7 @@ def view_of(facts, explored):
         'headline': headline, 'headline_kind': gravity, 'figures': figures(facts), 'words': facts.words,
         'outputs': outputs, 'long_outputs': any(row['last'] for row in outputs), 'edits': edit_rows(facts),
         'runs': count_of(facts.run.runs, 'simulation'), 'graph': graph_of(facts, too_shallow(facts)),
-        'stuck': bool(circles_of(facts.waits())), 'modules': module_rows(facts),
+        'stuck': bool(circles(facts.waits())), 'modules': module_rows(facts),
         'ports': [port_row(facts.session, port) for port in facts.stalls.ports], 'fifos': fifo_rows(facts),
         'size_note': size_note(facts), 'bits': told(bits[0]), 'size_bits': told_or_dash(bits[1]),
         'spent': spent_rows(facts.path), 'crossed': crossed_rows(facts.path),

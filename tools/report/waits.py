@@ -1,6 +1,8 @@
 """Who waits for whom at the end of a run."""
 from dataclasses import dataclass
 
+from flow.circles import circles_of
+
 
 @dataclass(frozen=True)
 class Wait:
@@ -11,16 +13,6 @@ class Wait:
     other: str
 
 
-def circles_of(waits):
+def circles(waits):
     """The modules that wait for each other in a circle, circle by circle."""
-    waiting = {wait.module: wait.other for wait in waits}
-    told, circles = set(), []
-    for start in waiting:
-        path, module = [], start
-        while module in waiting and module not in path:
-            path.append(module)
-            module = waiting[module]
-        if module in path and module not in told:
-            circles.append(path[path.index(module):])
-            told.update(circles[-1])
-    return circles
+    return circles_of({wait.module: wait.other for wait in waits})

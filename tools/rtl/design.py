@@ -148,12 +148,15 @@ class DesignText:
                  f'  longint unsigned cycle_limit = {number(session.cycles, 64)};',
                  f'  logic {vector(COUNT)}ops_limit = {number(session.ops, COUNT)};']
         lines += [f'  logic [20:0] {fifo.name}_depth = {number(fifo.depth, 21)};' for fifo in session.fifos()]
-        lines += ['  string file;', '  initial begin', '    if ($value$plusargs("cycles=%d", cycle_limit)) begin end',
+        lines += ['  string file;', '  longint unsigned given, named;', '  initial begin', '    named = 0;',
+                  '    if ($value$plusargs("cycles=%d", cycle_limit)) begin end',
                   '    if ($value$plusargs("ops=%d", ops_limit)) begin end']
         for fifo in session.fifos():
             most = places(session, fifo)
-            lines += [f'    if ($value$plusargs("depth_{fifo.name}=%d", {fifo.name}_depth)) begin end',
-                      f'    if ({fifo.name}_depth > {most}) $fatal(1, "FIFO {fifo.name} has at most {most} places; raise its MAX_DEPTH");']
+            lines += [f'    if ($value$plusargs("depth_{fifo.name}=%d", given)) begin', '      named = named + 1;',
+                      f'      if (given < 1 || given > {most}) $fatal(1, "FIFO {fifo.name} has 1 to {most} places; raise its MAX_DEPTH");',
+                      f'      {fifo.name}_depth = given[20:0];', '    end']
+        lines += ['    if ($test$plusargs("depth_") != 0 && named == 0) $fatal(1, "+depth_ names no FIFO of the design");']
         return lines + ['    if ($value$plusargs("vcd=%s", file)) begin', '      $dumpfile(file);',
                         f'      $dumpvars(0, {self.testbench});', '    end', '  end']
 

@@ -7,7 +7,7 @@ from flow.program import NoAnswer, TookTooLong
 from report.facts import Facts
 from report.timeline import Timeline
 from report.words import explained, words_of
-from rtl.session import read_session
+from flow.session import read_session
 
 AT_ONCE = 3  # programs
 AFTERWARDS = 1  # seconds that ./explain has beyond those of `size`

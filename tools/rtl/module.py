@@ -1,5 +1,5 @@
 """One module of a session as a SystemVerilog module."""
-from .session import POPS, PUSHES
+from flow.session import POPS, PUSHES
 from .words import Expressions, Names, bits, cast, number, vector
 
 COUNT = 18  # bits of an operation count, which ends below 2^18

@@ -6,7 +6,7 @@ import unittest
 from desk import command
 from explain import budgets, language
 from flow import design
-from rtl import session
+from flow import session
 
 TOP = os.path.dirname(os.path.dirname(os.path.dirname(os.path.realpath(__file__))))
 

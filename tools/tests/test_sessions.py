@@ -1,7 +1,7 @@
 """The reader of sessions that ./rtl uses."""
 import unittest
 
-from rtl.session import SessionFault, read_session
+from flow.session import SessionFault, read_session
 
 LINE = '''flow 2
 source a 4   # cut to 4 bits

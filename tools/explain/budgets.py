@@ -1,6 +1,5 @@
 """Where operations went: which modules used theirs up, and loops that never end."""
-from explain.program import ask
-from explain.session import PUSHING
+from explain.program import answer
 from flow.depths import with_depths
 
 MOST_OPS = 200_000
@@ -24,14 +23,14 @@ def with_ops(options, ops):
 
 def clocks_of(options, text):
     """Of each module the clocks in which it moves and in which it stalls."""
-    lines, _ = ask(['stalls'] + options, text)
-    return {line.split()[1]: line.split()[2:] for line in lines if line.startswith('module ')}
+    found = answer('stalls', options, text)
+    return {entry.module: (entry.moved, entry.still) for entry in found.modules} if found else {}
 
 
 def out_of_operations(options, text, session, held):
     """Names the modules that used up their operations: those that go further with more. With the greatest limit some of the
     modules named may have ended in their own time."""
-    blocked = {entry[0] for entry in held}
+    blocked = {entry.module for entry in held}
     over = [module.name for module in session.modules if module.name not in blocked]
     if most_ops_reached(options, session):
         return f'Out of operations{"" if len(over) == 1 else ", or ended"}: {", ".join(over)}.'
@@ -42,17 +41,16 @@ def out_of_operations(options, text, session, held):
 
 def ports_of(options, text):
     """How many elements passed each port, by channel and side."""
-    lines, _ = ask(['stalls'] + options, text)
-    ports = (line.split() for line in lines if line.startswith('port '))
-    return {(words[3], words[2]): int(words[4]) for words in ports}
+    found = answer('stalls', options, text)
+    return {(port.channel, port.side): port.count for port in found.ports} if found else {}
 
 
 def endless_pushes(options, text, session, held, depths):
     """Of a design that uses up its operations with depths that never block: who pushes on although its reader has stopped."""
     ports = ports_of(options, with_depths(text.decode('ascii', 'replace'), depths).encode())
-    for module, side, channel in held:
-        readers = session.users(channel, ('read', 'tryread'))
-        if side == 'full' and readers and not any(entry[0] == readers[0] for entry in held):
-            pushed, popped = ports.get((channel, PUSHING), 0), ports.get((channel, 'pop'), 0)
-            yield (f'{module} pushed {pushed:,} elements on {channel} and would go on; {readers[0]} stopped after {popped:,}. That is '
-                   f'no question of depths: let the loop of {module} end, or {readers[0]} read on.')
+    for entry in held:
+        readers = session.users(entry.channel, ('read', 'tryread'))
+        if entry.side == 'full' and readers and not any(other.module == readers[0] for other in held):
+            pushed, popped = (ports.get((entry.channel, side), 0) for side in ('push', 'pop'))
+            yield (f'{entry.module} pushed {pushed:,} elements on {entry.channel} and would go on; {readers[0]} stopped after '
+                   f'{popped:,}. That is no question of depths: let the loop of {entry.module} end, or {readers[0]} read on.')

@@ -5,11 +5,12 @@ import sys
 
 from explain.faults import tell_refused
 from explain.language import count_of
-from explain.program import ask
-from explain.reports import report_of, tell_report
+from explain.program import ANSWERED, ask
+from explain.reports import tell_report
 from explain.session import Session, asks_outcomes
 from explain.slips import tell_slips
 from explain.times import tell_depths, tell_time
+from flow.answers import read_run
 
 ABOUT = '''Tells in words what OmniSim answers to a session.'''
 DETAILS = '''If the session is refused: each faulty line, what is wrong with it, what was expected, and what to do. Otherwise: what the
@@ -37,20 +38,17 @@ def text_of(path):
         return file.read()
 
 
-def tell_reports(lines, options, text, session):
+def tell_reports(found, options, text, session):
     """Tells the reports of an answer of `run`, one after the other."""
     known = {}
-    starts = [at for at, line in enumerate(lines) if line.startswith('report ')] + [len(lines) - 1]
-    for number, (start, end) in enumerate(zip(starts, starts[1:])):
-        parts = report_of(lines[start:end])
-        tell_report(number, parts, options, text, session, known)
-        if number == 0 and parts['verdict'][0] == 'done':
-            tell_time(options, text, session)
-        elif number == 0 and any(side == 'full' for _, side, _ in parts['held']):
-            tell_depths(options, text, session, parts['held'])
-    runs = int(lines[-1].split()[1])
+    for report in found.reports:
+        tell_report(report, options, text, session, known)
+        if report.number == 0 and report.verdict.is_done:
+            tell_time(options, text, session, report.verdict)
+        elif report.number == 0 and any(entry.side == 'full' for entry in report.held):
+            tell_depths(options, text, session, report.held)
     if session.edits and asks_outcomes(session):
-        print(f'{runs - 1} of {count_of(len(session.edits), "edit")} changed the outcome of a query, so that the design was '
+        print(f'{found.runs - 1} of {count_of(len(session.edits), "edit")} changed the outcome of a query, so that the design was '
               'simulated afresh.')
 
 
@@ -59,19 +57,18 @@ def explain(path, options):
     text = text_of(path)
     name = 'standard input' if path == '-' else path
     source = text.decode('ascii', 'replace').split('\n')
-    lines, status = ask(['check'], text)
+    told, status = ask(['check'], text)
     if status == 2:
-        tell_refused(lines, source, name)
+        tell_refused(told.splitlines(), source, name)
     if status != 0:
         return status
     session = Session(source)
-    lines, status = ask(['run'] + options, text)
-    if status not in (0, 3, 4, 5):
-        print('\n'.join(lines))
+    told, status = ask(['run'] + options, text)
+    if status not in ANSWERED:
+        print(told, end='')
         return status
-    orders, _ = ask(['order'], text)
-    tell_slips(session, orders, name)
-    tell_reports(lines, options, text, session)
+    tell_slips(session, ask(['order'], text)[0].splitlines(), name)
+    tell_reports(read_run(told), options, text, session)
     return status
 
 

@@ -282,6 +282,7 @@ def tell_refused(answer, lines, path):
             break
         numbers = numbers or code == 4
         lines[number - 1] = better
-        answer, status = ask(['check'], '\n'.join(lines).encode('ascii', 'replace'))
+        told_next, status = ask(['check'], '\n'.join(lines).encode('ascii', 'replace'))
         if status != 2:
             break
+        answer = told_next.splitlines()

@@ -4,7 +4,6 @@ import re
 from explain.language import POPS, PUSHES
 
 QUERIES = ('tryread', 'trywrite', 'empty', 'full')
-PUSHING = 'push'  # the word of a port that `stalls` tells
 
 
 def tokens_of(line):

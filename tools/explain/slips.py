@@ -103,22 +103,38 @@ def slips_of(session):
             yield from crowded_memories(body)
 
 
-def late_decisions(session, orders):
-    """The loops that set their register too late, off the lines of `order`: (line, text)."""
+def late_decision(module, body, words):
+    """A loop that sets its register too late: (line, text)."""
+    return body.operations[int(words[4])][0], (
+        f'loop {body.name} of {module.name} sets its register {body.again} too late for the next decision: decide at an offset below '
+        f'{body.interval}')
+
+
+def wide_use(session, module, body, words):
+    """A use that reaches further than the interval of its loop: (line, text)."""
+    kind, number = words[4], int(words[5])
+    names = {'register': list(module.registers), 'memory': list(module.memories)}.get(kind, list(session.channels))
+    name, line = names[number], next(line for line, _, _, operation in body.operations if names[number] in operation)
+    what = f'{kind} {name}' if kind in ('register', 'memory') else f'the {kind} end of {name}'
+    return line, (f'loop {body.name} of {module.name} uses {what} at offsets that are too far apart for its interval {body.interval}: an '
+                  'iteration may change what the one before still needs (omnisim order)')
+
+
+def order_slips(session, orders):
+    """What the lines of `order` say of loops, with names: (line, text)."""
     for line in orders:
         words = line.split()
+        module = next(module for module in session.modules if module.name == words[1])
         if words[2] == 'late':
-            module = next(module for module in session.modules if module.name == words[1])
-            body = module.bodies[int(words[3])]
-            yield body.operations[int(words[4])][0], (
-                f'loop {body.name} of {module.name} sets its register {body.again} too late for the next decision: decide at an '
-                f'offset below {body.interval}')
+            yield late_decision(module, module.bodies[int(words[3])], words)
+        elif words[2] == 'wide':
+            yield wide_use(session, module, module.bodies[int(words[3])], words)
 
 
 def tell_slips(session, orders, path):
     """Tells each slip once, at its first line, with how many more lines have it."""
     lines = {}
-    for number, told in [*slips_of(session), *late_decisions(session, orders)]:
+    for number, told in [*slips_of(session), *order_slips(session, orders)]:
         lines.setdefault(told, []).append(number)
     for told, numbers in lines.items():
         more = f' (and on {count_of(len(numbers) - 1, "more line")})' if len(numbers) > 1 else ''

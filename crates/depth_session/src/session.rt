@@ -3,6 +3,7 @@ ghost use Rattle.std.specs.Prelude.{◌≡◌, ◌+◌, ◌<◌, ◌≤◌, true
 ghost use Rattle.flow_design.specs.Plans.{EditFits};
 ghost use Rattle.flow_design.specs.StaticRules.{FitsEngine};
 ghost use Rattle.lockstep_defs.specs.Report.{report};
+ghost use Rattle.lockstep_defs.specs.Verdict as lockstep;
 ghost use Rattle.engine_report.specs.Finished.{report_with};
 ghost use Rattle.depth_order.specs.Depths.{AsksNothing};
 ghost use Rattle.depth_session.specs.Records.{RepeatsAnswers};
@@ -10,7 +11,7 @@ ghost use Rattle.depth_session.specs.Sessions.{opened, plan_behind, with_edit, I
 
 use crate::following::{first_core, follow};
 use crate::runner::Runner;
-use flow_design::{Edit, Plan, Report};
+use flow_design::{Edit, Plan, Report, Verdict};
 use flow_word::OutOfMemory;
 use sim_core::Core;
 use std::alloc::Global;
@@ -121,6 +122,14 @@ impl DepthSession {
         ensures { IfOk result (λ report. report ≡ report_with with_events self.now.plan) }
     {
         self.core.report(alloc, with_events)
+    }
+
+    /// The verdict of the plan that stands: the lockstep machine's. It takes no memory, and counts no run.
+    pub fn verdict(&self) -> Verdict
+        requires { self.now.live ≡ true }
+        ensures { result ≡ lockstep.verdict self.now.plan }
+    {
+        self.core.verdict()
     }
 
     /// The plan that stands.

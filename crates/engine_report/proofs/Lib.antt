@@ -8,3 +8,5 @@ pub mod Ending
 pub mod Sinks
 pub mod Happening
 pub mod Whole
+pub mod Together
+pub mod Verdicts

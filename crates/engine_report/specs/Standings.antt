@@ -1,5 +1,5 @@
 -- How modules stand at the end of a run, and the verdict.
-use Rattle.std.specs.Prelude.{ℕ, ◌+◌, max, nat_lt, is_some, unwrap_or, Bool, true, false, ◌||◌, if◌then◌else◌, List, fold, slice_index_or}
+use Rattle.std.specs.Prelude.{ℕ, ◌+◌, max, nat_lt, is_some, unwrap_or, Bool, true, false, ◌||◌, ◌&&◌, if◌then◌else◌, List, fold, slice_index_or}
 use Rattle.std.specs.Prelude.{Option, Some, None}
 use Rattle.std.specs.List.{list_any, list_all}
 use Rattle.flow_word.specs.declared.access.Step.{Step as StepOf}
@@ -62,9 +62,31 @@ standing_at lanes channels ends i = standing_by lanes channels (end_at ends i) i
 abbrev pub last_stop : List Standing → ℕ
 last_stop standings = fold (λ clock s. max clock s.stop) 0 standings
 
+-- how all of these stand together: at the last stop, ended where each is, spent or determined where one is
+abbrev pub together : List Standing → Standing
+together standings = record {
+  stop = last_stop standings;
+  ended = list_all (λ s. s.ended) standings;
+  spent = list_any (λ s. s.spent) standings;
+  determined = list_any (λ s. s.determined) standings;
+}
+
+-- how modules that stand together so stand with one more
+abbrev pub joined : Standing → Standing → Standing
+joined all one = record {
+  stop = max all.stop one.stop;
+  ended = all.ended && one.ended;
+  spent = all.spent || one.spent;
+  determined = all.determined || one.determined;
+}
+
 -- the cycle limit where a step is determined, so at the limit or later, or one stops above it; else by how they ended
+abbrev pub verdict_for : ℕ → Standing → Verdict
+verdict_for limit all =
+    if all.determined || nat_lt limit all.stop then Cycles limit
+    else (if all.ended then Done all.stop
+    else (if all.spent then Ops all.stop else Deadlock all.stop))
+
+-- the verdict where the modules stand so
 abbrev pub verdict_by : ℕ → List Standing → Verdict
-verdict_by limit standings =
-    if list_any (λ s. s.determined) standings || nat_lt limit (last_stop standings) then Cycles limit
-    else (if list_all (λ s. s.ended) standings then Done (last_stop standings)
-    else (if list_any (λ s. s.spent) standings then Ops (last_stop standings) else Deadlock (last_stop standings)))
+verdict_by limit standings = verdict_for limit (together standings)

@@ -9,4 +9,4 @@ mod report;
 mod verdict;
 
 pub use events::{TimedStep, sorted_steps};
-pub use report::report_of;
+pub use report::{report_of, verdict_of};

@@ -1,5 +1,6 @@
 //! The report.
 ghost use Rattle.std.specs.Prelude.{◌≡◌, true, false, [], map, is_some, IfOk};
+ghost use Rattle.lockstep_defs.specs.Verdict as lockstep;
 ghost use Rattle.engine_view.specs.Engines.{held_in};
 ghost use Rattle.engine_report.specs.Finished.{IsFinished, report_with};
 ghost use Rattle.engine_report.specs.Read.{AreEvents};
@@ -11,7 +12,7 @@ use crate::outputs::outputs;
 use crate::verdict::verdict;
 use engine_view::Engine;
 use event_graph::Graph;
-use flow_design::{Advance, EventLine, Plan, Report};
+use flow_design::{Advance, EventLine, Plan, Report, Verdict};
 use flow_word::{List, OutOfMemory};
 use std::alloc::Global;
 use timing_bridge::{every_report, steps_in_order};
@@ -34,7 +35,7 @@ pub fn report_of(
 {
     every_report();
     steps_in_order();
-    let verdict = verdict(alloc, engine, ends, plan.cycles)?;
+    let verdict = verdict(engine, ends, plan.cycles);
     Ok(Report {
         verdict,
         outputs: outputs(alloc, plan, engine)?,
@@ -42,6 +43,16 @@ pub fn report_of(
         events: events_if(alloc, &engine.graph, with_events)?,
         answers: answers(alloc, engine)?,
     })
+}
+
+/// The verdict of a plan, read off what an engine holds when nothing is left to do: the lockstep machine's. It takes no memory.
+pub fn verdict_of(plan: &Plan, engine: &Engine, ends: &[Option<Advance>]) -> Verdict
+    requires { IsFinished plan.now (held_in engine.now (map is_some ends.now)) ends.now }
+    ensures { result ≡ lockstep.verdict plan.now }
+{
+    every_report();
+    steps_in_order();
+    verdict(engine, ends, plan.cycles)
 }
 
 /// The events where they are asked for, and else none.

@@ -1,17 +1,15 @@
 //! How the modules stand at the end, and the verdict.
-ghost use Rattle.std.specs.Prelude.{◌≡◌, ℕ, ◌<◌, ◌≤◌, ◌||◌, length, map, fold, max, is_some, IfOk};
-ghost use Rattle.std.specs.List.{list_any, list_all};
+ghost use Rattle.std.specs.Prelude.{◌≡◌, ℕ, ◌<◌, ◌≤◌, [], length, map, is_some};
 ghost use Rattle.event_graph.specs.Lanes.{cycle_bound, gap_bound};
 ghost use Rattle.time_engine.specs.Conditions.{HasAccesses, HasPlaces};
 ghost use Rattle.time_engine.specs.Cycles.{determined};
 ghost use Rattle.engine_report.specs.Read.{owners};
-ghost use Rattle.engine_report.specs.Standings.{end_at, gap_of, standing_behind, standing_at, last_stop, verdict_by};
+ghost use Rattle.engine_report.specs.Standings.{end_at, gap_of, standing_behind, standing_at, together, joined};
+ghost use Rattle.engine_report.specs.Standings.{verdict_for, verdict_by};
 
 use engine_view::Engine;
 use event_graph::Place;
 use flow_design::{Advance, Verdict};
-use flow_word::{List, OutOfMemory};
-use std::alloc::Global;
 use time_engine::{Candidate, candidate, last_cycle};
 
 /// How a module stands at the end of a run.
@@ -27,28 +25,49 @@ pub struct Standing {
     pub determined: bool,
 }
 
+impl Standing {
+    /// How no modules stand together.
+    fn of_none() -> Standing
+        ensures { result ≡ together [] }
+    {
+        Standing {
+            stop: 0,
+            ended: true,
+            spent: false,
+            determined: false,
+        }
+    }
+
+    /// How modules that stand together so stand with one more.
+    fn with(self, one: Standing) -> Standing
+        ensures { result ≡ joined self one }
+    {
+        Standing {
+            stop: self.stop.max(one.stop),
+            ended: self.ended && one.ended,
+            spent: self.spent || one.spent,
+            determined: self.determined || one.determined,
+        }
+    }
+}
+
 /// The verdict: the cycle limit where a step is determined or a module stops above that limit, and else the last stop, by how the
-/// modules ended.
-#[tactic(auto, using(crate::proofs::Loops::mapped_more))]
-pub fn verdict(
-    alloc: Global,
-    engine: &Engine,
-    ends: &[Option<Advance>],
-    limit: u64,
-) -> Result<Verdict, OutOfMemory>
+/// modules ended. It takes no memory.
+#[tactic(auto, using(crate::proofs::Together::together_more))]
+pub fn verdict(engine: &Engine, ends: &[Option<Advance>], limit: u64) -> Verdict
     requires ends { length ends.now ≡ length engine.now.graph.lanes }
     requires gaps { (i : ℕ) → gap_of (end_at ends.now i) < gap_bound }
     requires accesses { HasAccesses engine.now.graph.lanes engine.now.fifos.channels }
     requires places { HasPlaces engine.now.graph.lanes engine.now.fifos.channels }
     requires limit { limit ≤ cycle_bound }
-    ensures { IfOk result (λ verdict. verdict ≡ verdict_by limit
-        (map (standing_at engine.now.graph.lanes engine.now.fifos.channels ends.now) (owners engine.now.graph.lanes))) }
+    ensures { result ≡ verdict_by limit
+        (map (standing_at engine.now.graph.lanes engine.now.fifos.channels ends.now) (owners engine.now.graph.lanes)) }
 {
-    let mut standings = List::with_room(alloc, engine.graph.modules() as u64)?;
+    let mut all = Standing::of_none();
     for owner in 0..engine.graph.modules() {
-        standings.push(stand(engine, ends, owner, limit))?;
+        all = all.with(stand(engine, ends, owner, limit));
     }
-    Ok(verdict_by(limit, standings.as_slice()))
+    verdict_for(limit, all)
 }
 
 /// How a module stands.
@@ -113,48 +132,17 @@ fn is_determined(engine: &Engine, owner: u32, limit: u64) -> bool
     }
 }
 
-/// The verdict, by how the modules stand.
-fn verdict_by(limit: u64, standings: &[Standing]) -> Verdict
-    ensures { result ≡ verdict_by limit standings.now }
+/// The verdict, by how all modules stand together.
+fn verdict_for(limit: u64, all: Standing) -> Verdict
+    ensures { result ≡ verdict_for limit all }
 {
-    let last = last_stop(standings);
-    if any_determined(standings) || limit < last {
+    if all.determined || limit < all.stop {
         Verdict::Cycles(limit)
-    } else if all_ended(standings) {
-        Verdict::Done(last)
-    } else if any_spent(standings) {
-        Verdict::Ops(last)
+    } else if all.ended {
+        Verdict::Done(all.stop)
+    } else if all.spent {
+        Verdict::Ops(all.stop)
     } else {
-        Verdict::Deadlock(last)
+        Verdict::Deadlock(all.stop)
     }
-}
-
-/// Whether the cycle of a step is determined.
-fn any_determined(standings: &[Standing]) -> bool
-    ensures { result ≡ list_any (λ s. s.determined) standings.now }
-{
-    standings.iter().any(|standing| standing.determined)
-}
-
-/// Whether all modules are ended.
-fn all_ended(standings: &[Standing]) -> bool
-    ensures { result ≡ list_all (λ s. s.ended) standings.now }
-{
-    standings.iter().all(|standing| standing.ended)
-}
-
-/// Whether a module is spent.
-fn any_spent(standings: &[Standing]) -> bool
-    ensures { result ≡ list_any (λ s. s.spent) standings.now }
-{
-    standings.iter().any(|standing| standing.spent)
-}
-
-/// The last clock in which a module stops.
-fn last_stop(standings: &[Standing]) -> u64
-    ensures { result ≡ last_stop standings.now }
-{
-    standings
-        .iter()
-        .fold(0, |last, standing| last.max(standing.stop))
 }

@@ -1,17 +1,26 @@
 //! The report of a final core.
 ghost use Rattle.std.specs.Prelude.{◌≡◌, IfOk, IfSome, IsNone, OnErr, OnSome};
 ghost use Rattle.event_timing.specs.Actions.{IsFinal};
+ghost use Rattle.lockstep_defs.specs.Verdict as lockstep;
 ghost use Rattle.timing_bridge.specs.Designs.{design};
 ghost use Rattle.engine_report.specs.Finished.{report_with};
 ghost use Rattle.sim_core.specs.Views.{theory_of};
 
 use crate::machine::Core;
-use engine_report::report_of;
-use flow_design::Report;
+use engine_report::{report_of, verdict_of};
+use flow_design::{Report, Verdict};
 use flow_word::OutOfMemory;
 use std::alloc::Global;
 
 impl Core {
+    /// The verdict of a core that is final: the lockstep machine's. It takes no memory.
+    pub fn verdict(&self) -> Verdict
+        requires { IsFinal (design self.now.plan) self.now.plan.cycles (theory_of self.now) }
+        ensures { result ≡ lockstep.verdict self.now.plan }
+    {
+        verdict_of(&self.plan, &self.engine, &self.ends)
+    }
+
     /// The report of a core that is final: the lockstep machine's, with its events where they are asked for and else with none.
     ///
     /// It takes memory for the report, and for one key of each step where the events are asked for. An error leaves nothing.

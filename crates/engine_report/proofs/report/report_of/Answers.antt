@@ -16,14 +16,14 @@ returns c =
     (c.steps_in_order.ensures.sorted p p.cycles x f.agreed)
     (c.steps_in_order.ensures.history p f.fits p.cycles x f.agreed f.final)
     (record {
-      verdict = c.in_ok-verdict.verdict;
+      verdict = c.verdict-verdict.result;
       outputs = c.in_ok-outputs.field-0;
       held = c.in_ok-held_with.field-0;
       events = c.in_ok-events_if.field-0;
       answers = c.in_ok-answers.field-0;
     })
     (record {
-      verdict = c.in_ok-verdict.ensures;
+      verdict = c.verdict-verdict.ensures;
       outputs = c.in_ok-outputs.ensures;
       held = c.in_ok-held_with.ensures;
       answers = c.in_ok-answers.ensures;

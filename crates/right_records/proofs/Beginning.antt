@@ -1,22 +1,19 @@
--- Each step of a final core that agrees is right.
-use Rattle.std.proofs.Common.{◌≡◌, ℕ, ◌<◌, ◌≤◌, arith}
-use Rattle.flow_word.specs.declared.access.Side.TheVariants.{Push}
+-- Each step of a final core that agrees is right, and of those without a cycle none with a query is verified.
+use Rattle.std.proofs.Common.{◌≡◌, ℕ, suc, ◌<◌, ◌≤◌, true, false, inl, inr, arith}
+use Rattle.std.proofs.lemmas.Bool.{cases_Bool, cases_eq}
 use Rattle.event_timing.specs.Machines.{Design, IsDesign}
 use Rattle.event_timing.specs.Histories.{Trace, IsHistory}
-use Rattle.event_timing.specs.Steps.{done}
-use Rattle.event_timing.specs.Core.{Core}
+use Rattle.event_timing.specs.Core.{Core, core_accesses, has_query}
 use Rattle.event_timing.specs.Actions.{IsFinal}
 use Rattle.event_timing.specs.Agreement.{IsAgreed}
-use Rattle.event_timing.specs.Edits.{edited, IsUntouchedByCycles, kept, after_edit}
+use Rattle.event_timing.specs.Edits.{kept, after_edit}
 use Rattle.event_timing.proofs.Agreement.{final_complete}
-use Rattle.event_timing.proofs.Editing.{cycles_rise, done_alike, edit_agrees, edit_design, kept_same}
-use Rattle.event_timing.proofs.Steps.{done_mono}
-use Rattle.event_timing.proofs.Touched.{untouched}
+use Rattle.event_timing.proofs.Editing.{cycles_rise, kept_same}
+use Rattle.event_timing.proofs.Steps.{done_more}
 use Rattle.event_timing.proofs.Fronts.{IsDone}
 use Rattle.right_records.specs.Records.{IsRight}
-use Rattle.right_records.proofs.Keeping.{kept_all, kept_beyond}
+use Rattle.right_records.proofs.Keeping.{kept_all}
 use Rattle.right_records.proofs.Begun.{begun_right}
-use Rattle.right_records.proofs.Marks.{marks_on}
 
 module _ {S : Type 0} (d : Design S) (h : Trace S) (i : IsDesign d) (y : IsHistory d h) (limit : ℕ) (x : Core S) (a : IsAgreed d h limit x)
     (f : IsFinal d limit x) where
@@ -38,25 +35,16 @@ module _ {S : Type 0} (d : Design S) (h : Trace S) (i : IsDesign d) (y : IsHisto
       begun_right d h i y x a.marks (λ n j e p q. cycles_rise d h limit x a.time n j e p q) limit whole_done
       (λ n. omega (arith, all_stay n, final_complete d h i y limit x a f n limit (omega arith))) m k (omega (arith, all_stay m))
 
-  -- a step before clock t stays, where the record is cut there
-  stays_before : (t m k : ℕ) → k < x.timed m → x.cycle m k < t → k < kept (x.cycle m) t (x.timed m)
-  stays_before t m k l q = grind (arith, kept_beyond (x.cycle m) t (x.timed m) k)
-
-  -- up to clock t the history has no step but those that stay
-  none_more : (t : ℕ) → t ≤ limit → (m : ℕ) → done d h m t ≤ kept (x.cycle m) t (x.timed m)
-  none_more t q m =
-      let n : ℕ = kept (x.cycle m) t (x.timed m) in
-      let far = kept_beyond (x.cycle m) t (x.timed m) n (omega arith) in
-      grind (arith, final_complete d h i y limit x a f m t q, done_mono d h m t (x.cycle m n), a.time.done_then m n)
-
-  module _ (one : (ch : ℕ) → d.lag Push ch ≡ 1) (fifo depth t : ℕ) (l : t ≤ limit) (u : IsUntouchedByCycles d x fifo depth t)
-      (g : Trace S) (z : IsHistory (edited d fifo depth) g) where
-    pub edited_right : (m k : ℕ) → k < x.timed m → x.cycle m k < t → IsRight (edited d fifo depth) x m k
-    edited_right m k q c =
-        let v = untouched d h i y limit x a f fifo depth t l u in
-        let w = edit_agrees d h g i y fifo depth t z one v limit x a in
-        let same = done_alike d h g i y fifo depth t z one v in
-        begun_right (edited d fifo depth) g (edit_design d fifo depth i) z x (marks_on d x a.marks fifo depth x.cycle)
-        (λ n j e p r. cycles_rise d h limit x a.time n j e p r) t
-        (record { within = w.time.within; steps_then = w.time.steps_then; done_then = w.time.done_then; reply_then = w.time.reply_then })
-        (λ n. omega (arith, same n t (omega arith), none_more t l n)) m k (stays_before t m k q c)
+  -- of the steps without a cycle none with a query is verified
+  pub final_plain : (m k : ℕ) → x.timed m ≤ k → k < x.emitted m → x.verified m k ≡ true → has_query (core_accesses d x m k) ≡ false
+  final_plain m k l q v =
+      elim (cases_Bool (has_query (core_accesses d x m k))) [
+        | inr p ↦ p
+        | inl p ↦ elim (cases_eq k (x.timed m)) [
+          | inr w ↦ a.time.later_plain m k (omega arith) q v
+          | inl w ↦
+              let (c, b, e) = a.time.first_happens m (omega arith) (rw w at v) (rw w at p) in
+              let next = e.1 in
+              absurd (omega (arith, done_more d h m c e.0, final_complete d h i y limit x a f m (suc c) (omega arith)))
+        ]
+      ]

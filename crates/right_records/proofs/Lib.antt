@@ -1,7 +1,6 @@
 mod Beginning
 mod Begun
 mod Cutting
-mod Edited
 pub mod Enabled
 pub mod Final
 pub mod Keeping

@@ -9,8 +9,7 @@ use Rattle.event_timing.specs.Agreement.{IsAgreed}
 use Rattle.event_timing.specs.Edits.{edited}
 use Rattle.event_timing.proofs.Verdict.{determined_late}
 use Rattle.right_records.specs.Records.{IsChecked, IsRight, IsRightRecord, with_cycles}
-use Rattle.right_records.proofs.Beginning.{final_right}
-use Rattle.right_records.proofs.Edited.{final_plain}
+use Rattle.right_records.proofs.Beginning.{final_right, final_plain}
 use Rattle.right_records.proofs.Marks.{marks_on}
 use Rattle.right_records.proofs.Local.{beside_right, still_right}
 

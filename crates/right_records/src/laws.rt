@@ -1,12 +1,11 @@
 //! The laws, for any design `d` over states of any type `S`, and any history `h` of it.
 ghost use Rattle.std.specs.Prelude.{Bool, ◌⊎◌, ◌≡◌, ℕ, ◌-◌, ◌<◌, ◌≤◌, Some};
-ghost use Rattle.flow_word.specs.declared.access.Side.TheVariants.{Push};
 ghost use Rattle.event_timing.specs.Machines.{Access, Design, IsDesign};
 ghost use Rattle.event_timing.specs.Histories.{Trace, IsHistory};
 ghost use Rattle.event_timing.specs.Core.{Core};
 ghost use Rattle.event_timing.specs.Actions.{IsFinal};
 ghost use Rattle.event_timing.specs.Agreement.{IsAgreed};
-ghost use Rattle.event_timing.specs.Edits.{edited, IsUntouchedByCycles};
+ghost use Rattle.event_timing.specs.Edits.{edited};
 ghost use Rattle.event_timing.specs.Core.{view};
 ghost use Rattle.event_timing.specs.Enablers.{candidate};
 ghost use Rattle.right_records.specs.Records.{IsRightRecord, IsRight, with_cycles, IsStill, IsBeside, IsChecked, HasSlack, IsTaking};
@@ -55,29 +54,4 @@ pub fn records_go_on<S>()
         → ((m k : ℕ) → k < x.timed m → cycles m k < limit)
         → ((m c : ℕ) → candidate (edited d fifo depth) (view (edited d fifo depth) (with_cycles x cycles)) m ≡ Some c → limit ≤ c)
         → IsRightRecord (edited d fifo depth) limit (with_cycles x cycles) }
-{}
-
-/// After an edit of a final core, up to whose clock t neither depth was ever felt, new cycles are those of the edited design's history
-/// `g` where each step that does not stay as it was, and each access at the FIFO's pushing end from t on, is found to be right in them,
-/// and nothing else is determined.
-pub fn checked_edits<S>()
-    ensures { (d : Design S) (h : Trace S) → IsDesign d → IsHistory d h → ((ch : ℕ) → d.lag Push ch ≡ 1) → (limit : ℕ) (x : Core S)
-        → IsAgreed d h limit x → IsFinal d limit x → (fifo depth t : ℕ) → t ≤ limit → IsUntouchedByCycles d x fifo depth t
-        → (cycles : ℕ → ℕ → ℕ)
-        → ((m k : ℕ) → k < x.timed m → IsChecked d x cycles fifo depth t m k)
-        → ((m k : ℕ) → k < x.timed m → cycles m k < limit)
-        → ((m c : ℕ) → candidate (edited d fifo depth) (view (edited d fifo depth) (with_cycles x cycles)) m ≡ Some c → limit ≤ c)
-        → (g : Trace S) → IsHistory (edited d fifo depth) g
-        → IsAgreed (edited d fifo depth) g limit (with_cycles x cycles) × IsFinal (edited d fifo depth) limit (with_cycles x cycles) }
-{}
-
-/// In a final core that agrees with the history each step with a cycle is right; and it is right under another depth too, if its cycle
-/// is before a clock up to which neither depth was ever felt.
-pub fn steps_are_right<S>()
-    ensures edited { (d : Design S) (h : Trace S) → IsDesign d → IsHistory d h → ((ch : ℕ) → d.lag Push ch ≡ 1) → (limit : ℕ) (x : Core S)
-        → IsAgreed d h limit x → IsFinal d limit x → (fifo depth t : ℕ) → t ≤ limit → IsUntouchedByCycles d x fifo depth t
-        → (g : Trace S) → IsHistory (edited d fifo depth) g
-        → (m k : ℕ) → k < x.timed m → x.cycle m k < t → IsRight (edited d fifo depth) x m k }
-    ensures is_final { (d : Design S) (h : Trace S) → IsDesign d → IsHistory d h → (limit : ℕ) (x : Core S) → IsAgreed d h limit x
-        → IsFinal d limit x → (m k : ℕ) → k < x.timed m → IsRight d x m k }
 {}

@@ -4,4 +4,4 @@
 
 mod laws;
 
-pub use laws::{checked_edits, local_changes, records_go_on, right_records, steps_are_right};
+pub use laws::{local_changes, records_go_on, right_records};

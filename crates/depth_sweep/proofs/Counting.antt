@@ -1,5 +1,5 @@
 -- The FIFOs of a plan, and other depths for them.
-use Rattle.std.proofs.Common.{◌≡◌, sym, ◌∙◌, ap, subst, arith, ℕ, zero, ◌+◌, ◌<◌, ◌≤◌, Bool, true, false, cond, List, [], ◌∷◌, ◌++◌}
+use Rattle.std.proofs.Common.{◌≡◌, sym, ◌∙◌, ap, subst, arith, ℕ, ◌+◌, ◌<◌, ◌≤◌, Bool, true, false, cond, List, [], ◌∷◌, ◌++◌}
 use Rattle.std.proofs.Common.{length, get_or, take, All, add-one, zero-add, append-nil}
 use Rattle.std.specs.List.{range_with_len, filter, zip, enumerate_from}
 use Rattle.std.proofs.lemmas.List.{take_more, take_all, length-append, length-map, get_or-map}

@@ -28,7 +28,7 @@ impl Drop for Point {
 }
 
 /// The point of these depths of a plan whose FIFOs are these channels, simulated on a copy of the plan.
-#[tactic(auto, unfolding(crate::specs::Grid::point))]
+#[tactic(auto, unfolding(crate::specs::Grid::point, lockstep_defs::specs::Report::report))]
 pub(crate) fn simulate(
     alloc: Global,
     plan: &Plan,
@@ -44,9 +44,8 @@ pub(crate) fn simulate(
     let mut own = copy_plan(alloc, plan)?;
     set_depths(&mut own, channels, depths.as_slice());
     let core = run_alone(alloc, own)?;
-    let outcome = core.report(alloc, false)?;
     Ok(Point {
         depths,
-        verdict: outcome.verdict,
+        verdict: core.verdict(),
     })
 }

@@ -1,7 +1,7 @@
 -- How modules stand together, one more at a time.
-use Rattle.std.proofs.Common.{◌≡◌, refl, ℕ, ◌+◌, List, map, ◌++◌, [], ◌∷◌, fold}
-use Rattle.std.specs.Prelude.{max, ◌&&◌, ◌||◌}
-use Rattle.std.specs.List.{list_any, list_all, range_with_len}
+use Rattle.std.proofs.Common.{◌≡◌, refl, ℕ, ◌+◌, map, [], ◌∷◌}
+use Rattle.std.specs.Prelude.{max}
+use Rattle.std.specs.List.{range_with_len}
 use Rattle.std.proofs.Math.Bool.{and-true, or-false}
 use Rattle.std.proofs.lemmas.List.Folds.{list_any-append, list_all-append}
 use Rattle.std.proofs.lemmas.List.Sums.{fold-append}

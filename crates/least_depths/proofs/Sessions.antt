@@ -1,5 +1,5 @@
--- A session with an edit more, and the verdict that its report tells.
-use Rattle.std.proofs.Common.{◌≡◌, ◌+◌, ◌≤◌, Bool, true, false, List, sym, ap, subst, arith, inl, inr, refl, ◌∙◌}
+-- A session with an edit more, and the verdict that a report tells.
+use Rattle.std.proofs.Common.{◌≡◌, ◌+◌, ◌≤◌, Bool, List, sym, ap, subst, arith, inl, inr}
 use Rattle.std.proofs.lemmas.Bool.{cases_Bool}
 use Rattle.flow_design.specs.declared.plan.Edit.{Edit}
 use Rattle.flow_design.specs.Plans.{with_depth}
@@ -7,7 +7,6 @@ use Rattle.flow_design.specs.declared.plan.Plan.{Plan}
 use Rattle.flow_design.specs.declared.report.Report.{Report}
 use Rattle.lockstep_defs.specs.Report.{report}
 use Rattle.lockstep_defs.specs.Verdict.{verdict}
-use Rattle.engine_report.specs.Finished.{report_with}
 use Rattle.edit_runs.specs.declared.count.RunCount.{RunCount}
 use Rattle.edit_runs.specs.Runs.{all_go_on, next_counts}
 use Rattle.depth_session.specs.Sessions.{Session, plan_behind, with_edit}
@@ -23,13 +22,6 @@ pub edited_runs : (s t : Session) (e : Edit) → t ≡ with_edit s e → t.count
 edited_runs s t e is =
     subst (λ (v : Session). v.count.runs ≤ s.count.runs + 1) (sym is) (runs_more s.count (report (plan_behind s e)).answers)
 
-told : (events : Bool) (p : Plan) → (report_with events p).verdict ≡ verdict p
-unfolding report
-told true p = refl
-told false p = refl
-
-pub verdict_told : (events : Bool) (p : Plan) (r : Report) → r ≡ report_with events p → r.verdict ≡ verdict p
-verdict_told events p r e = ap (λ (x : Report). x.verdict) e ∙ told events p
-
 pub report_told : (p : Plan) (r : Report) → report p ≡ r → verdict p ≡ r.verdict
-report_told p r e = sym (told true p) ∙ ap (λ (x : Report). x.verdict) e
+unfolding report
+report_told p r e = ap (λ (x : Report). x.verdict) e

@@ -120,8 +120,7 @@ fn is_in_time<R: Threads + Wait + Sync, U: Runner>(
     ensures quiet { AsksNothing session.old.plan → U.made runner.new ≡ U.made runner.old }
 {
     session.edit(rt, alloc, edit, runner)?;
-    let report = session.report(alloc, false)?;
-    Ok(is_done_by(report.verdict, clock))
+    Ok(is_done_by(session.verdict(), clock))
 }
 
 /// Whether all modules are ended in this clock or before.

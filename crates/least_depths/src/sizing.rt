@@ -88,9 +88,8 @@ fn lower_depths<R: Threads + Wait + Sync, U: Runner>(
     own.depths = depths;
     let mut session = DepthSession::new(rt, alloc, own, runner)?;
     let tries = lower_all(rt, alloc, &mut session, clock, runner)?;
-    let report = session.report(alloc, false)?;
     Ok(Sizes {
-        verdict: report.verdict,
+        verdict: session.verdict(),
         depths: List::from_slice(alloc, session.plan().depths.as_slice())?,
         tries,
     })

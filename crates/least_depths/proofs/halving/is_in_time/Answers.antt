@@ -1,8 +1,8 @@
-use Rattle.std.proofs.Common.{◌∙◌, ap, false}
+use Rattle.std.proofs.Common.{◌∙◌, ap}
 use Rattle.flow_design.specs.declared.plan.Plan.{Plan}
 use Rattle.lockstep_defs.specs.Verdict.{verdict}
 use Rattle.least_depths.specs.Lowering.{is_done_by}
-use Rattle.least_depths.proofs.Sessions.{edited_plan, edited_runs, verdict_told}
+use Rattle.least_depths.proofs.Sessions.{edited_plan, edited_runs}
 use Rattle.least_depths.proofs.halving.is_in_time.Goals as goal
 
 pub returns-clause-runs : goal.returns-clause-runs
@@ -12,5 +12,5 @@ pub returns-clause-in_time : goal.returns-clause-in_time
 returns-clause-in_time g c =
     let new = c.edit.new.self in
     c.is_done_by.ensures
-    ∙ ap (is_done_by c.args.clock) (verdict_told false new.plan c.in_ok-report.report c.in_ok-report.ensures
+    ∙ ap (is_done_by c.args.clock) (c.verdict.ensures
     ∙ ap (λ (p : Plan). verdict p) (edited_plan c.args.session.now new c.args.edit.now c.in_ok-edit.ensures.edited))

@@ -84,7 +84,7 @@ stop
 end
 ";
 
-/// The same, and whether there is another iteration is known too late.
+/// Such a register, in a loop that also learns too late whether there is another iteration.
 const LATE_DECISION: &[u8] = b"\
 flow 1
 source a 8

@@ -63,7 +63,7 @@ fn a_burst_that_is_short(rt: HostRuntime) -> Result<(), Fail> {
 struct Meeting {
     first: AtomicBool,
     second: AtomicBool,
-    /// One of them waited in vain.
+    /// Whether one of the two waited in vain.
     missed: AtomicBool,
 }
 

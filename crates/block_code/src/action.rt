@@ -139,7 +139,7 @@ impl Action {
         }
     }
 
-    /// Whether it is that of a FIFO operation, which takes a reply.
+    /// Whether the action is that of a FIFO operation, which takes a reply.
     #[inline(always)]
     pub fn takes_reply(&self) -> bool
         ensures { result ≡ takes_reply self.now }

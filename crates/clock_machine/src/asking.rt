@@ -75,7 +75,7 @@ pub fn note_one(
     Ok(())
 }
 
-/// Whether it is known of a module that it stalls, and it still does in this clock.
+/// Whether a module is known to stall, and still stalls in this clock.
 fn still_stalls(plan: &Plan, clock: u64, contents: &[Queue<Element>], stalled: &Stalled) -> bool
     ensures { result ≡ (stalled.now.known && list_any (stalls plan.now clock contents.now) stalled.now.requests) }
 {

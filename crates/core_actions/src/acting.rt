@@ -39,7 +39,7 @@ pub fn act<L: Ledger>(
     Ok(guard)
 }
 
-/// The same, where it is permitted.
+/// Does an action that is permitted.
 fn act_now<L: Ledger>(
     core: &mut Core,
     action: Action,

@@ -47,7 +47,7 @@ pub enum Cause {
 /// Why an action was not done.
 #[derive(Clone, Copy, Debug, PartialEq, Eq, Error)]
 pub enum ActFault {
-    /// It is not permitted: this is the first of its conditions that fails.
+    /// The action is not permitted: this is the first of its conditions that fails.
     #[error("the action is not permitted")]
     NotPermitted(Cause),
     /// There was no memory.

@@ -43,7 +43,7 @@ depth b 5
 end
 ";
 
-/// The same, of depth one.
+/// A session that begins at depth one.
 const THROUGH_DEPTH_ONE: &[u8] = b"\
 flow 1
 fifo b 8 1

@@ -18,7 +18,7 @@ use worked_sessions::{
     BOTH_ENDS_IN_ONE_MODULE, LATER_STALL, POLLING_LOOP, TIE_ONE_LATER, TWO_LEAST_QUERIES, read_plan,
 };
 
-/// Which module acts next, of those with a permitted action.
+/// Which of the modules with a permitted action acts next.
 #[derive(Clone, Copy, Debug, PartialEq, Eq)]
 enum Order {
     Last,
@@ -145,7 +145,7 @@ fn report_in<R: AllocGlobal + Abort>(
     Ok(core.final_report(rt.alloc(), true)?)
 }
 
-/// In this order a session is reported as the lockstep machine reports it.
+/// Whether a session that is done in this order has the lockstep machine's report.
 fn is_reported<R: AllocGlobal + Abort>(rt: &R, order: Order, text: &[u8]) -> Result<(), Fail> {
     let plan = read_plan(rt.alloc(), text)?;
     let expected = clock_run(rt.alloc(), &plan)?;

@@ -26,7 +26,7 @@ use std::sync::ledger::{Blank, Ledger};
 /// takes to give a step its cycle.
 const SEARCHED_PART: u64 = 16;
 
-/// And so many in any case.
+/// How many steps a search may visit in any case.
 const SEARCHED_ALWAYS: u64 = 64;
 
 /// Sets a FIFO's depth and gives those steps new cycles whose cycles change, where these are found, and are found right.
@@ -189,7 +189,7 @@ fn are_found_right(engine: &Engine, seeds: &[Place], puts: &[Put], limit: u64) -
     are_late(engine, limit)
 }
 
-/// So many ticks.
+/// Ticks so many times.
 fn tick_each<L: Ledger>(count: u64, steps: &mut Steps<L>)
     ensures { steps.new ≡ steps.old + count }
 {

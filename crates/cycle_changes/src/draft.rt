@@ -72,7 +72,7 @@ impl Draft {
         self.fresh = false;
     }
 
-    /// Whether it has as many cycles of each module as the graph.
+    /// Whether the draft has as many cycles of each module as the graph.
     fn fits(&self, graph: &Graph) -> bool {
         if self.lanes.len() != graph.modules() as usize {
             return false;

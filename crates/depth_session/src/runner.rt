@@ -130,7 +130,7 @@ fn simulate<R: Threads + Wait + Sync, G: Gate + Sync>(
     }
 }
 
-/// The same with threads.
+/// Finishes a core with threads, which meet at this gate.
 fn run_by_threads<R: Threads + Wait + Sync, G: Gate + Sync>(
     rt: &R,
     alloc: Global,
@@ -161,7 +161,7 @@ pub struct AloneRunner {
 }
 
 impl AloneRunner {
-    /// It was asked for no run yet.
+    /// A runner that was asked for no run yet.
     pub fn new() -> AloneRunner
         ensures { result.runs ≡ 0 }
     {
@@ -204,7 +204,7 @@ pub struct ThreadRunner<'g, G> {
 }
 
 impl<'g, G: Gate + Sync> ThreadRunner<'g, G> {
-    /// It was asked for no run yet.
+    /// A runner that was asked for no run yet.
     pub fn new(gate: &'g G) -> ThreadRunner<'g, G>
         ensures runs { result.runs ≡ 0 }
         ensures gate { result.gate.now ≡ gate.now }

@@ -126,7 +126,7 @@ fn point_numbered(
     simulate(alloc, plan, channels, depths)
 }
 
-/// The same points as a list.
+/// These points as a list.
 fn listed(alloc: Global, points: Vec<Point>) -> Result<List<Point>, OutOfMemory>
     ensures { IfOk result (λ list. list ≡ points.items) }
 {

@@ -10,7 +10,7 @@ use flow_design::Verdict;
 /// A point that is done.
 #[derive(Clone, Copy, Debug)]
 pub(crate) struct Finish {
-    /// Its place among the points.
+    /// The point's place among the points.
     place: u64,
     /// When it is done, in clocks.
     latency: u64,

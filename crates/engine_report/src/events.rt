@@ -15,7 +15,7 @@ pub struct TimedStep {
     /// The clock in which it is done.
     pub cycle: u64,
     pub module: u32,
-    /// Its number among the steps of its module, from 0 on.
+    /// The step's number among those of its module, from 0 on.
     pub step: u64,
 }
 

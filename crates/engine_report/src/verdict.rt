@@ -17,9 +17,9 @@ use time_engine::{Candidate, candidate, last_cycle};
 pub struct Standing {
     /// The clock in which it comes to its first step without a cycle, if nothing blocks that, or to its end.
     pub stop: u64,
-    /// It has no such step, and is ended.
+    /// The module has no such step, and is ended.
     pub ended: bool,
-    /// It has no such step, and is spent.
+    /// The module has no such step, and is spent.
     pub spent: bool,
     /// The cycle of such a step is determined.
     pub determined: bool,

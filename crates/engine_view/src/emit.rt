@@ -29,7 +29,7 @@ impl Engine {
         let _ = self.graph.push_step(owner, step);
     }
 
-    /// The same with a copy of a step of one access or two, whose numbers fit 32 bits.
+    /// Emits a copy of a step of one access or two, whose numbers fit 32 bits.
     #[inline(always)]
     pub fn emit_few(&mut self, owner: u32, step: &StepView<'_>)
         requires few { IsFewStep (whole step.now) }

@@ -111,7 +111,7 @@ fn outcome_in(graph: &Graph, fifos: &FifoTable, access: &Access, cycle: u64) -> 
     is_possible(graph, fifos, access, cycle) != late(access.kind)
 }
 
-/// Whether it is decided that the query is possible.
+/// Whether the query is known to be possible.
 fn is_possible(graph: &Graph, fifos: &FifoTable, access: &Access, cycle: u64) -> bool
     requires access { IsAccess fifos.now.channels access.now }
     requires places { HasPlaces graph.now.lanes fifos.now.channels }

@@ -23,7 +23,7 @@ use time_engine::{assign, candidate_and_queries};
 /// What was done of a module's first step without a cycle.
 #[derive(Clone, Copy, Debug, PartialEq, Eq)]
 pub enum Timing {
-    /// It has this cycle.
+    /// The step has this cycle.
     Assigned(u64),
     /// Its queries were answered in this clock, as far as they had no verified outcome.
     Answered(u64),
@@ -60,7 +60,7 @@ impl Engine {
         self.time_asking(owner, cycle, queries, steps)
     }
 
-    /// The same, where the step's cycle is determined, and so many of its accesses are queries.
+    /// Times a step whose cycle is determined, and so many of whose accesses are queries.
     #[inline(never)]
     fn time_asking<L: Ledger>(
         &mut self,
@@ -149,7 +149,7 @@ fn all_decided(graph: &Graph, fifos: &FifoTable, accesses: &[Access]) -> bool
     true
 }
 
-/// Whether it is decided if the access is possible, in whatever clock.
+/// Whether it is known if the access is possible, in whatever clock.
 fn is_decided(graph: &Graph, fifos: &FifoTable, access: &Access) -> bool
     requires access { IsAccess fifos.now.channels access.now }
     requires places { HasPlaces graph.now.lanes fifos.now.channels }

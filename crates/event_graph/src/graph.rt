@@ -47,7 +47,7 @@ impl Model for Graph {
 }
 
 impl Graph {
-    /// So many lanes without a step.
+    /// A graph of so many lanes without a step.
     pub fn new(alloc: Global, modules: u32) -> Result<Graph, OutOfMemory>
         ensures { IfOk result (λ graph. graph.lanes ≡ replicate modules no_lane) }
     {
@@ -87,7 +87,7 @@ impl Graph {
         self.lanes[owner as usize].push_step(step)
     }
 
-    /// The same with a copy of a step of one access or two, whose numbers fit 32 bits.
+    /// Appends a copy of a step of one access or two, whose numbers fit 32 bits.
     #[inline(always)]
     pub fn push_few(&mut self, owner: u32, step: &StepView<'_>) -> Result<(), OutOfMemory>
         requires owner { owner < length self.old.lanes }

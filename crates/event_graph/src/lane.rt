@@ -66,7 +66,7 @@ impl RoomyLane {
         self.steps.get(at)
     }
 
-    /// The same, of which each access is read where it is asked for.
+    /// The step at this place, each access of which is read where it is asked for.
     #[inline(always)]
     pub fn look(&self, at: u64) -> LaneStep<'_>
         requires { at < length self.now.lane.steps }
@@ -120,7 +120,7 @@ impl RoomyLane {
         Ok(())
     }
 
-    /// The same with a copy of a step of one access or two, whose numbers fit 32 bits.
+    /// Appends a copy of a step of one access or two, whose numbers fit 32 bits.
     #[inline(always)]
     pub fn push_few(&mut self, step: &StepView<'_>) -> Result<(), OutOfMemory>
         requires few { IsFewStep (whole step.now) }

@@ -21,7 +21,7 @@ const MOST: u64 = 0xffff_ffff;
 pub struct Head {
     pub gap: u32,
     pub first_query: u32,
-    /// Where its words begin.
+    /// Where the step's words begin.
     pub at: u32,
 }
 
@@ -87,7 +87,7 @@ impl StepList {
         }
     }
 
-    /// The same, of which each access is read where it is asked for.
+    /// The step at this place, each access of which is read where it is asked for.
     #[inline(always)]
     pub fn look(&self, at: u64) -> LaneStep<'_>
         requires { at < length self.now.items }
@@ -173,7 +173,7 @@ fn view_kept(step: &Step) -> StepView<'_>
     }
 }
 
-/// The same, where it stands.
+/// The step that is kept whole, each access of which is read where it is asked for.
 fn look_kept(step: &Step) -> LaneStep<'_>
     ensures { in_lane result ≡ step.now }
 {

@@ -31,7 +31,7 @@ impl<'a> Model for AccessesView<'a> {
 }
 
 impl<'a> AccessesView<'a> {
-    /// These accesses.
+    /// A view of these accesses.
     #[inline(always)]
     pub fn new(items: &'a [Access]) -> AccessesView<'a>
         ensures { result ≡ items.now }
@@ -119,7 +119,7 @@ impl<'a> Model for LaneAccesses<'a> {
 }
 
 impl<'a> LaneAccesses<'a> {
-    /// Those that begin these words.
+    /// The accesses that begin these words.
     #[inline(always)]
     pub(crate) fn of_words(words: &'a [u64]) -> LaneAccesses<'a>
         requires some { HasAccess words.now }
@@ -131,7 +131,7 @@ impl<'a> LaneAccesses<'a> {
         }
     }
 
-    /// These accesses.
+    /// A view of these accesses.
     #[inline(always)]
     pub(crate) fn of_slice(items: &'a [Access]) -> LaneAccesses<'a>
         ensures { result ≡ items.now }

@@ -24,11 +24,11 @@ use std::marker::Model;
 pub(crate) struct EventWalk<'a> {
     plan: &'a Plan,
     events: &'a [EventLine],
-    /// Of each module the outcomes of its queries.
+    /// For each module the outcomes of its queries.
     answers: &'a [Flags],
-    /// Of each channel its place among the FIFOs, if it is one.
+    /// For each channel its place among the FIFOs, if it is a FIFO.
     places: List<Option<u32>>,
-    /// Of each module how many queries the walk has passed.
+    /// For each module how many of its queries the walk has passed.
     queries: Words,
     /// What each FIFO holds, in elements.
     fills: Words,
@@ -114,7 +114,7 @@ fn count_fifos(channels: &[Channel]) -> usize
         .count()
 }
 
-/// Of each channel its place among the FIFOs, if it is one.
+/// For each channel its place among the FIFOs, if it is a FIFO.
 fn places(alloc: Global, channels: &[Channel]) -> Result<List<Option<u32>>, OutOfMemory>
     requires few { length channels.now < 2 ^ 32 }
     ensures { IfOk result (λ placed. placed ≡ table.places channels.now) }

@@ -5,9 +5,9 @@
 pub enum Spot {
     /// The statement that begins it.
     Head,
-    /// Its operation of this number.
+    /// The body's operation of this number.
     Operation(u64),
-    /// Its terminator.
+    /// The body's terminator.
     Terminator,
 }
 
@@ -18,6 +18,6 @@ pub enum Item {
     Limits,
     /// The channel of this number.
     Channel(u64),
-    /// In the module of this number, in its block of this number, this.
+    /// This place in the module and the block of these numbers.
     InModule(u64, (u64, Spot)),
 }

@@ -18,7 +18,7 @@ pub enum Verdict {
 }
 
 impl Verdict {
-    /// Its clock.
+    /// The clock of the verdict.
     pub fn clock(self) -> u64
         ensures { result ≡ clock_of self }
     {

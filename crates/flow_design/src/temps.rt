@@ -137,7 +137,7 @@ fn slot(len: u64, first: u64, after: u64) -> u64
     }
 }
 
-/// So many zeros, in the place of what the list held.
+/// Puts so many zeros in the place of what the list held.
 #[inline(always)]
 fn zero(words: &mut Words, len: u64) -> Result<(), OutOfMemory>
     ensures { OnOk result (words.new ≡ replicate len 0) }
@@ -149,7 +149,7 @@ fn zero(words: &mut Words, len: u64) -> Result<(), OutOfMemory>
     refill(words, len)
 }
 
-/// The same for a list of any length.
+/// Puts so many zeros in the place of what the list held, whatever its length.
 #[inline(never)]
 fn refill(words: &mut Words, len: u64) -> Result<(), OutOfMemory>
     ensures { OnOk result (words.new ≡ replicate len 0) }

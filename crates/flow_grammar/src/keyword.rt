@@ -28,7 +28,7 @@ pub enum Keyword {
 }
 
 impl Keyword {
-    /// Its letters.
+    /// The keyword's letters.
     pub fn word(self) -> &'static [u8]
         ensures { result.now ≡ keyword_word self }
     {
@@ -70,7 +70,7 @@ pub enum Verb {
 }
 
 impl Verb {
-    /// Its letters.
+    /// The keyword's letters.
     pub fn word(self) -> &'static [u8]
         ensures { result.now ≡ verb_word self }
     {

@@ -19,7 +19,7 @@ pub enum Operator {
 }
 
 impl Operator {
-    /// Its token.
+    /// The operator's token.
     pub fn word(self) -> &'static [u8]
         ensures { result.now ≡ operator_word self }
     {

@@ -117,7 +117,7 @@ impl<T: Copy> List<T> {
 }
 
 impl List<u64> {
-    /// So many zeros.
+    /// A list of so many zeros.
     pub fn zeros(alloc: Global, len: u64) -> Result<List<u64>, OutOfMemory>
         ensures { IfOk result (λ list. list ≡ replicate len 0) }
     {

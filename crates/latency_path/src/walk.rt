@@ -79,7 +79,7 @@ fn with_module(last: Option<At>, owner: u32, end: Option<u64>) -> Option<At>
     }
 }
 
-/// Where the chain goes on before a link.
+/// The place at which the chain goes on before a link.
 fn before_link(plan: &Plan, poppers: &[u32], pushers: &[u32], link: &Link) -> Option<At>
     requires poppers { poppers.now ≡ owners plan.now side.Pop }
     requires pushers { pushers.now ≡ owners plan.now side.Push }

@@ -50,7 +50,7 @@ impl Path {
         Ok(rests)
     }
 
-    /// Where the clock has gone up, the loop decides and the block may end.
+    /// After the clock has gone up, lets the loop decide and the block end.
     #[inline(always)]
     fn settle(&mut self) -> Result<(), OutOfMemory>
         requires path { IsPath self.old }

@@ -80,7 +80,7 @@ fn decide(alloc: Global, block: &Block, state: &mut ModuleState) -> Result<(), O
     Ok(())
 }
 
-/// Where the block is over, its terminator leads on.
+/// Goes on by the block's terminator, where the block is over.
 #[tactic(auto, unfolding(lockstep_defs::specs::Machine::finished))]
 #[inline(always)]
 fn finish(

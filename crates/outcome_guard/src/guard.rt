@@ -6,7 +6,7 @@ use query_log::Query;
 /// What is found of outcomes that were assumed.
 #[derive(Clone, Copy, Debug, PartialEq, Eq)]
 pub enum Guard {
-    /// They are as they were assumed.
+    /// The outcomes are as they were assumed.
     Same,
     /// The outcome of this query is not as it was assumed.
     Differs(Query),

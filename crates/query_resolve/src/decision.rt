@@ -13,7 +13,7 @@ use time_engine::{Known, known_of};
 pub enum Decision {
     Yes,
     No,
-    /// Its enabler has no cycle.
+    /// The access's enabler has no cycle.
     Undecided,
 }
 

@@ -43,7 +43,7 @@ pub struct Task {
 pub struct Burst {
     pub run: ModuleRun,
     pub emitted: List<Advance>,
-    /// It stopped for want of memory.
+    /// Whether the burst stopped for want of memory.
     pub short: bool,
     /// What is left of the mail: the values that the run has not taken. The outcomes are those that it had.
     pub mail: Mail,

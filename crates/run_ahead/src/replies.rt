@@ -12,7 +12,7 @@ use module_interp::Reply;
 
 /// What gives the values to pops.
 pub trait Values {
-    /// It may be asked about this access.
+    /// That the table may be asked about this access.
     ghost knows: { Self → AccessOf → Type 0 };
 
     /// What it gives for an access.

@@ -52,7 +52,7 @@ impl Bell {
         self.wanted.store(concern.bits(), Ordering::SeqCst);
     }
 
-    /// Whether it rang for news that are wanted.
+    /// Whether the bell rang for news that are wanted.
     fn calls(&self) -> bool {
         self.rang.load(Ordering::SeqCst) & self.wanted.load(Ordering::SeqCst) != 0
     }
@@ -101,7 +101,7 @@ impl Bell {
 #[derive(Drop)]
 struct Place {
     bell: Bell,
-    /// Its thread is to answer its pass undriven.
+    /// Whether the module's thread is to answer its pass undriven.
     undriven: AtomicBool,
     /// The caller drives it.
     handed_over: AtomicBool,
@@ -112,7 +112,7 @@ struct Place {
 pub struct Bells {
     caller: Bell,
     modules: Vec<Place>,
-    /// Of each module those that pop what it pushes.
+    /// For each module the modules that pop what it pushes.
     readers: Vec<Vec<u32>>,
     /// A module's thread was not started.
     unstarted: AtomicBool,

@@ -47,7 +47,7 @@ pub enum End {
     Over,
     /// Memory was wanted.
     Short,
-    /// Its thread was not started, or hands the module over to the caller.
+    /// The module's thread was not started, or hands the module over to the caller.
     Undriven,
 }
 

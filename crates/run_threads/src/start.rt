@@ -34,7 +34,7 @@ impl Promise<Answered> for Comes {
 pub enum Slot {
     There(PromisedHandle<Answered, Comes>),
     Here(ModulePass),
-    /// It is being looked at.
+    /// The thread is being looked at.
     Gone,
 }
 

@@ -14,7 +14,7 @@ pub enum Used {
 /// Whether a module is serial, or else the first rule that it breaks.
 #[derive(Clone, Copy, Debug, PartialEq, Eq)]
 pub enum Order {
-    /// Its pipelined loops do what they would do with one iteration after the other.
+    /// The module's pipelined loops do what they would do with one iteration after the other.
     Serial,
     /// In this block this operation, counted from 0 in text order, is a query.
     Query { block: u32, operation: u32 },

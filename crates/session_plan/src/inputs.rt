@@ -53,7 +53,7 @@ fn add_values(
     Ok(())
 }
 
-/// So many empty lists.
+/// A list of so many empty lists.
 fn no_inputs(alloc: Global, count: u64) -> Result<List<Words>, OutOfMemory>
     ensures { IfOk result (λ inputs. inputs ≡ replicate count []) }
 {

@@ -16,7 +16,7 @@ use std::alloc::Global;
 #[derive(Debug, Drop, PartialEq)]
 pub struct Checked {
     pub plan: Plan,
-    /// In order, none of them applied to the plan.
+    /// The session's edits in order, none of them applied to the plan.
     pub edits: List<Edit>,
 }
 

@@ -37,7 +37,7 @@ fn block_of_tests(
     })
 }
 
-/// Where a module stands in the block.
+/// A module that stands at this clock of the block.
 fn standing(clock: u64, newest: u64, looping: bool) -> Control
     ensures { result ≡ record { block = 0; clock = clock; newest = newest; looping = looping } }
 {

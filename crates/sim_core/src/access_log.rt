@@ -23,7 +23,7 @@ use timing_bridge::steps_in_order;
 /// An access that was done, and what it gave.
 #[derive(Clone, Copy, Debug, PartialEq, Eq)]
 pub struct LoggedAccess {
-    /// Its module, kind and channel, and its clock.
+    /// The access's module, kind and channel, and its clock.
     pub event: EventLine,
     /// The outcome of a query; true of a read or a write.
     pub outcome: bool,

@@ -45,7 +45,7 @@ fn bits_across(plan: &Plan, ports: &[Port], readers: &[u32], writers: &[u32]) ->
     bits
 }
 
-/// Of each module the others that use one of its channels, as bits.
+/// For each module the others that use one of its channels, as bits.
 pub(crate) fn find_beside(
     alloc: Global,
     plan: &Plan,

@@ -34,7 +34,7 @@ pub struct Core {
     pub(crate) runs: Vec<Option<ModuleRun>>,
     /// Who stands where.
     pub(crate) wiring: Wiring,
-    /// Of each channel what came back unread with the run that pops it.
+    /// For each channel what came back unread with the run that pops it.
     pub(crate) unread: List<Unread>,
     /// The modules of which an Assign or an Answer may be permitted, as bits.
     pub(crate) asking: u64,
@@ -126,7 +126,7 @@ impl Core {
         ports_of(&self.wiring.ports, owner)
     }
 
-    /// Of each channel the module that pops it; the number of modules where none does.
+    /// For each channel the module that pops it; the number of modules where none does.
     pub fn readers(&self) -> &[u32]
         ensures { AreReaders self.now.plan result.now }
     {

@@ -148,7 +148,7 @@ fn take_run(runs: &mut Vec<Option<ModuleRun>>, at: usize) -> Option<ModuleRun>
     }
 }
 
-/// So many modules that did not come to their end.
+/// The end marks of so many modules that did not come to their end.
 fn no_ends(alloc: Global, modules: u32) -> Result<Vec<Option<Advance>>, OutOfMemory>
     ensures { IfOk result (λ ends. ends.items ≡ replicate modules None) }
 {
@@ -159,7 +159,7 @@ fn no_ends(alloc: Global, modules: u32) -> Result<Vec<Option<Advance>>, OutOfMem
     Ok(ends)
 }
 
-/// So many candidates, of modules without a step.
+/// The candidates of so many modules without a step.
 fn no_candidates(alloc: Global, modules: u32) -> Result<Vec<Candidate>, OutOfMemory>
     ensures { IfOk result (λ candidates. length candidates.items ≡ modules) }
 {
@@ -183,7 +183,7 @@ fn make_kinds(alloc: Global, plan: &Plan) -> Result<List<TableChannel>, OutOfMem
     Ok(kinds)
 }
 
-/// One of them.
+/// The table's channel for a channel of the plan.
 fn make_kind(alloc: Global, plan: &Plan, i: usize) -> Result<TableChannel, OutOfMemory>
     requires fits { FitsEngine plan.now }
     requires within { i < length plan.now.design.channels }

@@ -63,7 +63,7 @@ impl Core {
         self.runs[owner as usize] = Some(run);
     }
 
-    /// The same with the module's run, which is out of the core.
+    /// Runs a module by its own run, which is out of the core.
     #[inline(always)]
     pub(crate) fn run_with(&mut self, owner: u32, run: &mut ModuleRun) -> Result<bool, OutOfMemory>
         requires out { IsOut self.old owner run.old }
@@ -85,7 +85,7 @@ impl Core {
         }
     }
 
-    /// The same, but memory may be wanted where it is not permitted too.
+    /// Runs a module by its own run; memory may be wanted even where no Run is permitted.
     #[inline(always)]
     fn try_with(&mut self, owner: u32, run: &mut ModuleRun) -> Result<bool, OutOfMemory>
         requires out { IsOut self.old owner run.old }

@@ -31,7 +31,7 @@ pub(crate) struct Inlets<'a> {
     pub(crate) owner: u32,
     /// The ports of the module.
     pub(crate) ports: &'a [Port],
-    /// Of each channel the module that pops it.
+    /// For each channel the module that pops it.
     pub(crate) readers: &'a [u32],
 }
 

@@ -77,7 +77,7 @@ impl Core {
         woken
     }
 
-    /// The same with the module's run, which is out of the core.
+    /// Runs a stretch of a module by its own run, which is out of the core.
     fn run_stretch<L: Ledger>(
         &mut self,
         owner: u32,
@@ -143,7 +143,7 @@ impl Core {
                 .is_some_and(|access| !access.kind.is_blocking())
     }
 
-    /// One of them.
+    /// Does one Run of a stretch, where it is permitted.
     fn run_once(&mut self, owner: u32, run: &mut ModuleRun) -> Result<Option<u64>, OutOfMemory>
         requires out { IsOut self.old owner run.old }
         ensures some { IfOk result (λ woken. IfSome woken (λ bits. (n : ℕ) → GoesOn self.old n self.new n)) }
@@ -194,7 +194,7 @@ impl Core {
         self.engine.graph.frontier(owner) == self.engine.graph.len(owner)
     }
 
-    /// One of them; where it is an Answer, the Assign of the same step after it.
+    /// Does one action other than a Run; after an Answer it does the Assign of the same step too.
     #[inline(always)]
     fn time_once<L: Ledger>(&mut self, owner: u32, steps: &mut Steps<L>) -> Visit
         requires { owner < length self.old.plan.design.modules }

@@ -16,9 +16,9 @@ use std::alloc::Global;
 pub(crate) struct Wiring {
     /// The ports of each module.
     pub(crate) ports: List<List<Port>>,
-    /// Of each channel the module that pops it; the number of modules where none does.
+    /// For each channel the module that pops it; the number of modules where none does.
     pub(crate) readers: Vec<u32>,
-    /// Of each module the others that access one of its channels, as bits.
+    /// For each module the others that access one of its channels, as bits.
     pub(crate) beside: Words,
 }
 

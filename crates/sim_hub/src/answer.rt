@@ -18,7 +18,7 @@ pub enum Desk {
 /// What the performance pass gets.
 #[derive(Clone, Copy, Debug, PartialEq, Eq)]
 pub enum PerfAnswer {
-    /// So many actions were done.
+    /// The visit did so many actions.
     Did(u64),
     /// No action but a Run is permitted, after so many entries.
     Idle(u64),

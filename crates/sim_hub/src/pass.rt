@@ -33,7 +33,7 @@ pub struct ModulePass {
 }
 
 impl ModulePass {
-    /// Which module's pass it is.
+    /// The module whose pass this is.
     pub fn which(&self) -> u32
         ensures { result ≡ self.now.which }
     {

@@ -5,7 +5,7 @@ use flow_word::Port;
 #[derive(Clone, Copy, Debug, PartialEq, Eq)]
 pub enum Doing {
     Moves,
-    /// It stands still, since it cannot pop, or push, at this port.
+    /// The module stands still, since it cannot pop, or push, at this port.
     Still(Port),
 }
 

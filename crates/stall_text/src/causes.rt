@@ -17,9 +17,9 @@ use std::alloc::Global;
 /// The clocks of a module below the verdict's.
 #[derive(Clone, Copy, Debug, PartialEq, Eq)]
 pub(crate) struct Clocks {
-    /// In how many it moves.
+    /// The clocks in which the module moves.
     pub(crate) moved: u64,
-    /// In how many it stands still.
+    /// The clocks in which the module stands still.
     pub(crate) still: u64,
 }
 
@@ -42,7 +42,7 @@ pub(crate) fn clocks_of(spans: &[Span]) -> Clocks
     Clocks { moved, still }
 }
 
-/// Of each channel the clocks of spans in which the module stands still at this side of it.
+/// For each channel the clocks of spans in which the module stands still at this side of it.
 pub(crate) fn still_clocks(
     alloc: Global,
     channels: usize,

@@ -21,9 +21,9 @@ use std::alloc::Global;
 struct Filling {
     /// How many elements it holds at most.
     most: u64,
-    /// In how many clocks it holds none that can be popped.
+    /// The clocks in which the FIFO holds no element that can be popped.
     empty: u64,
-    /// In how many clocks it is full.
+    /// The clocks in which the FIFO is full.
     full: u64,
 }
 

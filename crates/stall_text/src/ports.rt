@@ -44,7 +44,7 @@ pub(crate) fn uses_at(
     Ok(uses)
 }
 
-/// Of each channel a side that no element has passed.
+/// For each channel a side that no element has passed.
 fn no_uses(alloc: Global, channels: usize) -> Result<List<PortUse>, OutOfMemory>
     ensures { IfOk result (λ uses. uses ≡ replicate channels unused) }
 {

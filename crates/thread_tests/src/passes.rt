@@ -26,7 +26,7 @@ pub struct Passes {
 pub enum Answer {
     /// A desk was lent, and returned with so many marks.
     Made(u64),
-    /// So many actions were done.
+    /// The visit did so many actions.
     Did(u64),
     /// Nothing was permitted, after so many entries.
     Waits(u64),

@@ -92,7 +92,7 @@ fn reports_as_lockstep<R: AllocGlobal + Wait + Abort>(
     closes_with(rt, hub, passes, report)
 }
 
-/// The same of each of these sessions.
+/// Whether each of these sessions has the lockstep machine's report.
 fn report_as_lockstep<R: AllocGlobal + Wait + Abort>(
     rt: &R,
     table: &[Worked],

@@ -35,7 +35,7 @@ pub fn candidate(graph: &Graph, fifos: &FifoTable, owner: u32, limit: u64) -> Ca
     candidate_and_queries(graph, fifos, owner, limit).0
 }
 
-/// The same, and how many of the step's accesses are queries, where none waits.
+/// The candidate of a module's next step, and how many of the step's accesses are queries where none waits.
 #[inline(always)]
 pub fn candidate_and_queries(
     graph: &Graph,
@@ -121,7 +121,7 @@ pub fn latest(
     Ok(cycle)
 }
 
-/// The same, and how many of the accesses are queries.
+/// The latest clock of these accesses, and how many of them are queries.
 #[inline(always)]
 fn latest_and_queries(
     graph: &Graph,

@@ -5,9 +5,9 @@
 pub enum HubTurn {
     /// The run of this module was lent to the pass.
     Lent { pass: u32, module: u32 },
-    /// So many Runs of this module were made, and it came back.
+    /// The pass made so many Runs of this module, and gave the run back.
     Ran { pass: u32, module: u32, runs: u64 },
-    /// So many actions other than a Run were made.
+    /// The pass made so many actions other than a Run.
     Timed { pass: u32, actions: u64 },
     /// Memory was wanted.
     Short(u32),

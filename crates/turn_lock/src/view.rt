@@ -4,7 +4,7 @@ use std::collections::LinkedList;
 /// A pass that was joined into the first.
 pub struct Joined<E> {
     pub number: u64,
-    /// Its own entries.
+    /// The pass's own entries.
     pub own: LinkedList<E>,
     /// The history that it had seen.
     pub seen: LinkedList<E>,

@@ -56,7 +56,7 @@ fn faults_repeated(
     ])
 }
 
-/// As many bytes as may be, and one more.
+/// A text of as many bytes as may be, and one of one more.
 #[test]
 fn length_of_a_text(rt: HostRuntime) -> Result<(), Fail> {
     for (length, wanted) in [(4_194_304, (1, 12)), (4_194_305, (0, 1))] {

@@ -25,7 +25,7 @@ fn two_tests_at_once(rt: HostRuntime) -> Result<(), Fail> {
     Ok(())
 }
 
-/// The same in an operation.
+/// Two tests that an operation fails: the first one counts.
 #[test]
 fn two_tests_of_an_operation(rt: HostRuntime) -> Result<(), Fail> {
     let rows = [
@@ -75,7 +75,7 @@ fn counts_last(rt: HostRuntime) -> Result<(), Fail> {
     Ok(())
 }
 
-/// So they do in operations: one operation too many, and an expression that is too deep.
+/// In operations sizes come last: one operation too many, and an expression that is too deep.
 #[test]
 fn sizes_of_operations_last(rt: HostRuntime) -> Result<(), Fail> {
     let body = "module m\nreg x 8\nblock k 1\n";

@@ -87,7 +87,7 @@ same_access x y kind channel ordinal value =
     ap₂ access (ap₂ (λ (a : Kind) (b : ℕ). (a, b)) kind channel) (ap₂ (λ (a b : ℕ). (a, b)) ordinal value)
 
 -- accesses as the theory sees them, with the ordinals that it counts, are those of the requests
-same_accesses : (before : List Exchange) (t : Side → ℕ → ℕ) (rs : List Request) (xs : List Access) → map bridge.seen rs ≡ map seen xs
+pub same_accesses : (before : List Exchange) (t : Side → ℕ → ℕ) (rs : List Request) (xs : List Access) → map bridge.seen rs ≡ map seen xs
     → ((r : Request) → (access_of before r).ordinal ≡ suc (t (side_of r.kind) r.channel))
     → All (λ (a : Access). a.ordinal ≡ suc (t (side_of a.kind) a.channel)) xs → map (access_of before) rs ≡ xs
 same_accesses before t [] [] e f o = refl

@@ -43,3 +43,4 @@ pub mod Given
 pub mod SetFew
 pub mod SameSteps
 pub mod Asking
+pub mod OwnMarks

@@ -17,3 +17,4 @@ pub mod Returned
 pub mod AccessLog
 pub mod Costs
 pub mod Asking
+pub mod OwnMarks

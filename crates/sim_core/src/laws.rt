@@ -1,5 +1,5 @@
 //! The laws of the actions on a core, for any plan `p` that the engine takes and every list of actions.
-ghost use Rattle.std.specs.Prelude.{◌≡◌, ◌+◌, ◌*◌, ◌≤◌, List, length};
+ghost use Rattle.std.specs.Prelude.{◌≡◌, ℕ, ◌+◌, ◌*◌, ◌<◌, ◌≤◌, List, length};
 ghost use Rattle.flow_design.specs.declared.plan.Plan.{Plan};
 ghost use Rattle.flow_design.specs.declared.state.ModuleState.{ModuleState};
 ghost use Rattle.flow_design.specs.StaticRules.{FitsEngine};
@@ -10,7 +10,9 @@ ghost use Rattle.event_timing.specs.Actions.{Action, ActsAll, IsFinal};
 ghost use Rattle.event_timing.specs.Agreement.{IsAgreed};
 ghost use Rattle.timing_bridge.specs.Designs.{design, lockstep_run};
 ghost use Rattle.timing_bridge.specs.CoreReports.{core_report, core_verdict, AreInOrder};
+ghost use Rattle.sim_core.specs.OwnMarks.{TellsOwnRun};
 
+use crate::machine::Core as EngineCore;
 use timing_bridge::{every_order_agrees, every_report, few_actions};
 
 /// Whatever list of permitted actions leads from the opening core to another: that one agrees with the plan's lockstep run; where it
@@ -28,4 +30,13 @@ pub fn every_order()
     every_order_agrees();
     every_report();
     few_actions();
+}
+
+/// The steps that a core has emitted of a module are the marks of the module's own run on the core's replies, each with its gap in
+/// local clocks, its accesses with their ordinals, and the number of its first query: the replies to the first k steps give k + 1 of
+/// them. Where the module's end was emitted, the own run comes to one mark more behind all of them, which is its end or spent mark.
+pub fn steps_are_own_marks(core: &EngineCore)
+    ensures { (i : ℕ) → i < length core.now.plan.design.modules → TellsOwnRun core.now i }
+{
+    let _count = core.modules();
 }

@@ -28,7 +28,7 @@ pub use access_log::LoggedAccess;
 pub use alone::{finish_alone, run_alone};
 pub use bursts::bursts_are_runs;
 pub use flow_design::Plan;
-pub use laws::every_order;
+pub use laws::{every_order, steps_are_own_marks};
 pub use machine::Core;
 pub use outcome_guard::{Guard, Query};
 pub use records::{edits_set_few, records_are_answers};

@@ -1,3 +1,4 @@
 pub mod Driving
 pub mod Slots
 pub mod Leading
+pub mod Lights

@@ -21,6 +21,12 @@ SlotIs hub m (slot.There child) = (child.promise.hub.value ≡ hub) × (child.pr
 SlotIs hub m (slot.Here pass) = IsHere hub m pass
 SlotIs hub m slot.Gone = ⊥
 
+-- the caller has the module's pass, which no thread drives
+abbrev pub IsKept : Slot → Type 0
+IsKept (slot.There child) = ⊥
+IsKept (slot.Here pass) = Unit {0}
+IsKept slot.Gone = ⊥
+
 -- the slots of the modules, in order
 abbrev pub AreSlots : Hub → List Slot → Type 0
 AreSlots hub slots = (k : ℕ) (s : Slot) → slice_get slots k ≡ Some s → SlotIs hub k s

@@ -3,7 +3,8 @@ ghost use Rattle.std.specs.Prelude.{◌≡◌, ◌≤◌, [], length, map, IfOk,
 ghost use Rattle.sim_hub.specs.Places.{HasNoDeskOut};
 ghost use Rattle.sim_hub.specs.Hubs.{IsOfHub, module_of, module_view};
 ghost use Rattle.run_threads.specs.Driving.{IsBack};
-ghost use Rattle.run_threads.specs.Slots.{SlotIs, AreSlots, AreHere, passes_in};
+ghost use Rattle.run_threads.specs.Lights.{IsNamed};
+ghost use Rattle.run_threads.specs.Slots.{SlotIs, IsKept, AreSlots, AreHere, passes_in};
 
 use crate::bells::Bells;
 use crate::drive::{Answered, Seat, drive};
@@ -102,7 +103,8 @@ fn place_one<'s, 'e, G: Gate + Sync, R: Threads + Wait + Sync>(
 ) -> Slot
     requires own { IsOfHub hub.now seat.pass }
     requires home { HasNoDeskOut (module_of seat.pass) (module_view seat.pass) }
-    ensures { SlotIs hub.now (module_of seat.pass) result }
+    ensures slot { SlotIs hub.now (module_of seat.pass) result }
+    ensures kept { IsNamed light (module_of seat.pass) → IsKept result }
 {
     let which = seat.pass.which();
     if light.has(which) {

@@ -38,7 +38,7 @@ loop-seat-preserved g c =
     let which : module_of s.pass ≡ length ss = (c.requires.here (length ys) s.pass (here c.args.seats.items ys s rest all)).1 ∙ sym i.0 in
     let e = c.push_reserved.ensures in (
       omega (arith, ap length e.items, length-append ss (slot ∷ []), length-append ys (s ∷ [])),
-      subst (AreSlots h) (sym e.items) (all-snoc (SlotIs h) ss slot i.1 (subst (λ n. SlotIs h n slot) which c.place_one.ensures)),
+      subst (AreSlots h) (sym e.items) (all-snoc (SlotIs h) ss slot i.1 (subst (λ n. SlotIs h n slot) which c.place_one.ensures.slot)),
       all ∙ sym (append_assoc ys (s ∷ []) rest),
       i.3 ∙ sym e.capacity,
     )

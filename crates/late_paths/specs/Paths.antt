@@ -1,0 +1,30 @@
+-- Paths of waits: by how many clocks one module comes after another, with any depths.
+use Rattle.std.specs.Prelude.{◌≡◌, ℕ, zero, suc, ◌+◌, ◌≤◌, Bool, true, false, ◌&&◌, ◌||◌, eqb, List, [], ◌∷◌}
+use Rattle.flow_word.specs.declared.access.Side.{Side}
+use Rattle.flow_word.specs.Kinds.{other_side, same_side}
+use Rattle.event_timing.specs.Machines.{Access, Design}
+use Rattle.event_timing.specs.Histories.{Trace, moves}
+
+-- the access waits at this side of the channel, where it is not possible
+abbrev pub blocks_at : Side → ℕ → Access → Bool
+blocks_at side ch a = a.blocks && (same_side a.side side && eqb a.channel ch)
+
+-- one of these accesses does
+abbrev pub waits_at : Side → ℕ → List Access → Bool
+waits_at side ch [] = false
+waits_at side ch (a ∷ xs) = blocks_at side ch a || waits_at side ch xs
+
+-- In any run of the design with these numbers of elements and places to begin with, module n goes on from where it stands in clock f of
+-- the run h at least w clocks after module m goes on from where it stands in clock e of h:
+--   it is the same module and clock; or
+--   so it is of an earlier clock than f; or
+--   so it is, with one clock less, of the clock before f, in which n moves in h; or
+--   n waits in clock f at a side of a channel, of which it has taken all that is there as long as the module at the other side does not
+--   go on from where it stands in clock a; and of that one and clock a it is so with no fewer clocks than w without the channel's lag.
+pub data IsAfter {S : Type 0} (d : Design S) (start : Side → ℕ → ℕ) (h : Trace S) (m e : ℕ) : ℕ → ℕ → ℕ → Type 0 where
+  Same : IsAfter d start h m e m e zero
+  Later : (n f g w : ℕ) → f ≤ g → IsAfter d start h m e n f w → IsAfter d start h m e n g w
+  Own : (n f w : ℕ) → moves d h f n ≡ true → IsAfter d start h m e n f w → IsAfter d start h m e n (suc f) (suc w)
+  Waits : (n f w a b ch : ℕ) (side : Side) → waits_at side ch (d.accesses n (h.state f n)) ≡ true → d.unlimited side ch ≡ false
+      → start side ch + h.taken a (other_side side) ch ≤ h.taken f side ch → w ≤ b + d.lag side ch
+      → IsAfter d start h m e (d.owner (other_side side) ch) a b → IsAfter d start h m e n f w

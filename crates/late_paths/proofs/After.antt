@@ -49,8 +49,8 @@ owned_there {S} d m ch side (a ∷ xs) owned e = by_test (cases_Bool (blocks_at 
     by_test (inr other) rest = rest (sym (ap (λ (b : Bool). b || waits_at side ch xs) other) ∙ e)
 
 -- fewer were done than the start and the other side's together
-fewer : {S : Type 0} → (d : Design S) (h : Trace S) (c ch : ℕ) (side : Side) → d.unlimited side ch ≡ false → is_possible d h c side ch ≡ true
-    → h.taken c side ch < d.start side ch + h.taken (suc c - d.lag side ch) (other_side side) ch
+fewer : {S : Type 0} → (d : Design S) (h : Trace S) (c ch : ℕ) (side : Side) → d.unlimited side ch ≡ false
+    → is_possible d h c side ch ≡ true → h.taken c side ch < d.start side ch + h.taken (suc c - d.lag side ch) (other_side side) ch
 fewer {S} d h c ch side limited e =
     let bound = ap (λ (b : Bool). b || ltb (h.taken c side ch) (d.start side ch + h.taken (suc c - d.lag side ch) (other_side side) ch))
     (sym limited) in

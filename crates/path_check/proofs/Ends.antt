@@ -1,0 +1,165 @@
+-- What a path of steps says of the end of the plan with the edit.
+use Rattle.std.proofs.Common.{◌≡◌, ℕ, zero, suc, ◌+◌, ◌-◌, ◌<◌, ◌≤◌, List, length, map, Option, None, Some, refl, sym, ◌∙◌, arith}
+use Rattle.std.proofs.Common.{inl, inr}
+use Rattle.std.specs.Prelude.{is_some}
+use Rattle.std.proofs.lemmas.Bool.{cases_lt, lt-ltb, le-ltb}
+use Rattle.flow_word.specs.declared.access.Place.{Place}
+use Rattle.flow_design.specs.declared.plan.Edit.{Edit}
+use Rattle.flow_design.specs.declared.plan.Plan.{Plan}
+use Rattle.flow_design.specs.declared.report.Verdict.TheVariants.{Done}
+use Rattle.flow_design.specs.declared.state.Advance.{Advance}
+use Rattle.flow_design.specs.declared.state.Advance.TheVariants.{Step, Ended, Spent}
+use Rattle.lockstep_defs.specs.Verdict.{verdict}
+use Rattle.event_graph.specs.Lanes.{lane_at}
+use Rattle.event_timing.specs.Views.{own}
+use Rattle.event_timing.specs.Core.{core_reply}
+use Rattle.timing_bridge.specs.Designs.{design, lockstep_run, start_in}
+use Rattle.timing_bridge.proofs.History.{plan_is_design, run_is_history, moves_same}
+use Rattle.stall_spans.proofs.Waits.{cycle_moves}
+use Rattle.depth_order.specs.Depths.{with_depths}
+use Rattle.engine_view.specs.declared.engine.Engine.{Engine}
+use Rattle.engine_view.specs.Engines.{held_in}
+use Rattle.engine_view.specs.Held.{Held, core_of, emitted_of}
+use Rattle.engine_view.proofs.Knowing.{timed_within}
+use Rattle.engine_report.specs.Finished.{IsFinished, IsEndMark}
+use Rattle.engine_report.specs.Standings.{end_at, gap_of}
+use Rattle.late_paths.specs.Paths.{Same}
+use Rattle.late_paths.proofs.Late.{ends_later, never_ends}
+use Rattle.path_check.specs.Waits.{depths_with, IsTried, cycle_at, IsTimed, ComesAfter, Adds, IsAlong, place_at, moves_behind}
+use Rattle.path_check.proofs.Steps.{moves_on, moves_last}
+
+-- ---- behind the last step
+
+mark_is : (p : Plan) (h : Held) (i k : ℕ) (o : Option Advance) → emitted_of h i ≡ suc k
+    → ((mark : Advance) → o ≡ Some mark → IsEndMark p (core_of (design p) h) i mark)
+    → gap_of o ≤ suc ((design p).quiet i (own (design p) i (core_reply (design p) (core_of (design p) h) i) (suc k)))
+mark_is p h i k None e each = omega arith
+mark_is p h i k (Some (Step step)) e each = omega arith
+mark_is p h i k (Some (Ended gap)) e each = let gap = rw e at (each (Ended gap) refl).1 in omega arith
+mark_is p h i k (Some (Spent gap)) e each = let gap = rw e at (each (Spent gap) refl).1 in omega arith
+
+-- the clocks behind a step are among those quiet clocks
+behind_quiet : (p : Plan) (h : Held) (ends : List (Option Advance)) → IsFinished p h ends → (last : Place) → IsTimed h.lanes last
+    → moves_behind h.lanes ends last
+    ≤ (design p).quiet last.module (own (design p) last.module (core_reply (design p) (core_of (design p) h) last.module) (suc last.step))
+behind_quiet p h ends f last timed =
+    elim (cases_lt (last.step + 1) (length (lane_at h.lanes last.module).steps)) [
+      | inl l ↦ rw (lt-ltb (last.step + 1) (length (lane_at h.lanes last.module).steps) l) (omega arith)
+      | inr l ↦
+          let within = timed_within (design p) h f.sound last.module in
+          let its = timed.timed in
+          let made = timed.step in
+          let all : emitted_of h last.module ≡ suc last.step = omega arith in
+          let gap = mark_is p h last.module last.step (end_at ends last.module) all (f.marks.each last.module) in
+          rw (le-ltb (last.step + 1) (length (lane_at h.lanes last.module).steps) l) (omega arith)
+    ]
+
+-- ---- the end
+
+module _ (p : Plan) (h : Held) (ends : List (Option Advance)) (edit : Edit) (t : IsTried p h ends edit) (from last : Place) (clocks : ℕ)
+    (timed : IsTimed h.lanes last) (c : ComesAfter p h edit from last clocks) where
+  -- the module of the last step moves so many clocks after it, and is not ended before
+  late_by : (j : ℕ)
+      → j ≤ (design p).quiet last.module (own (design p) last.module (core_reply (design p) (core_of (design p) h) last.module)
+      (suc last.step))
+      → (end : ℕ) → verdict (with_depths p (depths_with p edit)) ≡ Done end → suc (cycle_at h.lanes from + (c.path + j)) ≤ end
+  late_by zero q end done =
+      let f = t.finished in
+      let d = design p in
+      let w = lockstep_run p in
+      let x = core_of d h in
+      let cycle = cycle_at h.lanes last in
+      let move = cycle_moves d w p.cycles x f.agreed last.module last.step timed.timed in
+      let late = ends_later p f.fits t.quiet (depths_with p edit) t.depths t.lower from.module (cycle_at h.lanes from) last.module cycle
+      c.path c.after (sym (moves_same p f.fits cycle last.module) ∙ move) end done in
+      omega arith
+  late_by (suc j) q end done =
+      let f = t.finished in
+      let d = design p in
+      let w = lockstep_run p in
+      let x = core_of d h in
+      let i = plan_is_design p f.fits in
+      let y = run_is_history p f.fits in
+      let start = start_in (with_depths p (depths_with p edit)) in
+      let cycle = cycle_at h.lanes last in
+      let after = moves_on d start w i y p.cycles x f.agreed from.module (cycle_at h.lanes from) last.module last.step j c.path timed.timed
+      (omega arith) c.after in
+      let move = moves_last d start w i y p.cycles x f.agreed from.module (cycle_at h.lanes from) last.module last.step j timed.timed
+      (omega arith) in
+      let late = ends_later p f.fits t.quiet (depths_with p edit) t.depths t.lower from.module (cycle_at h.lanes from) last.module
+      (j + suc cycle) (j + suc c.path) after (sym (moves_same p f.fits (j + suc cycle) last.module) ∙ move) end done in
+      omega arith
+
+  pub late_end : (clock : ℕ) → clock ≤ cycle_at h.lanes from + clocks + moves_behind h.lanes ends last → (end : ℕ)
+      → verdict (with_depths p (depths_with p edit)) ≡ Done end → clock < end
+  late_end clock l end done =
+      let late = late_by (moves_behind h.lanes ends last) (behind_quiet p h ends t.finished last timed) end done in
+      let long = c.long in
+      omega arith
+
+  pub no_end : 0 < clocks → from ≡ last → (end : ℕ) → verdict (with_depths p (depths_with p edit)) ≡ Done end → ⊥
+  no_end some round end done =
+      let f = t.finished in
+      let d = design p in
+      let w = lockstep_run p in
+      let x = core_of d h in
+      let cycle = cycle_at h.lanes last in
+      let long = c.long in
+      let more : suc (c.path - 1) ≡ c.path = omega arith in
+      let move = cycle_moves d w p.cycles x f.agreed last.module last.step timed.timed in
+      let after = rw (round, ← more) at c.after in
+      never_ends p f.fits t.quiet (depths_with p edit) t.depths last.module cycle (c.path - 1) after
+      (sym (moves_same p f.fits cycle last.module) ∙ move) end done
+
+-- ---- along a path
+
+pub comes_first : (p : Plan) (h : Held) (edit : Edit) (place : Place) → ComesAfter p h edit place place 0
+comes_first p h edit place = record { path = 0; long = omega arith; after = Same }
+
+pub fewer_clocks : (p : Plan) (h : Held) (edit : Edit) (from to : Place) (less clocks : ℕ) → less ≤ clocks
+    → ComesAfter p h edit from to clocks → ComesAfter p h edit from to less
+fewer_clocks p h edit from to less clocks l c = let long = c.long in record { path = c.path; long = omega arith; after = c.after }
+
+pub along_first : (e : Engine) (edit : Edit) (path : List Place) → 0 < length path → IsTimed e.graph.lanes (place_at path 0)
+    → IsAlong e edit path 1 0
+along_first e edit path l timed = record {
+  some = omega arith;
+  within = omega arith;
+  first = timed;
+  last = timed;
+  along = λ p ends t. comes_first p (held_in e (map is_some ends)) edit (place_at path 0);
+}
+
+pub along_more : (e : Engine) (edit : Edit) (path : List Place) (n clocks more all : ℕ) → n < length path → all ≤ clocks + more
+    → IsTimed e.graph.lanes (place_at path n)
+    → ((p : Plan) (ends : List (Option Advance)) → IsTried p (held_in e (map is_some ends)) ends edit
+    → Adds p (held_in e (map is_some ends)) edit (place_at path (n - 1)) (place_at path n) more)
+    → IsAlong e edit path n clocks → IsAlong e edit path (n + 1) all
+along_more e edit path n clocks more all l few timed adds a =
+    let at : (n + 1) - 1 ≡ n = omega arith in
+    record {
+      some = omega arith;
+      within = omega arith;
+      first = a.first;
+      last = rw at timed;
+      along = λ p ends t. rw at (fewer_clocks p (held_in e (map is_some ends)) edit (place_at path 0) (place_at path n) all (clocks + more)
+          few (adds p ends t (place_at path 0) clocks (a.along p ends t)));
+    }
+
+-- ---- what is answered
+
+pub path_ends_late : (e : Engine) (edit : Edit) (path : List Place) (clocks : ℕ) → IsAlong e edit path (length path) clocks
+    → (ends : List (Option Advance)) (clock : ℕ)
+    → clock ≤ cycle_at e.graph.lanes (place_at path 0) + clocks + moves_behind e.graph.lanes ends (place_at path (length path - 1))
+    → (p : Plan) → IsTried p (held_in e (map is_some ends)) ends edit → (end : ℕ) → verdict (with_depths p (depths_with p edit)) ≡ Done end
+    → clock < end
+path_ends_late e edit path clocks a ends clock l p t end done =
+    late_end p (held_in e (map is_some ends)) ends edit t (place_at path 0) (place_at path (length path - 1)) clocks a.last
+    (a.along p ends t) clock l end done
+
+pub path_never_ends : (e : Engine) (edit : Edit) (path : List Place) (clocks : ℕ) → IsAlong e edit path (length path) clocks → 0 < clocks
+    → place_at path 0 ≡ place_at path (length path - 1) → (p : Plan) (ends : List (Option Advance))
+    → IsTried p (held_in e (map is_some ends)) ends edit → (end : ℕ) → verdict (with_depths p (depths_with p edit)) ≡ Done end → ⊥
+path_never_ends e edit path clocks a some round p ends t end done =
+    no_end p (held_in e (map is_some ends)) ends edit t (place_at path 0) (place_at path (length path - 1)) clocks a.last (a.along p ends t)
+    some round end done

@@ -1,0 +1,9 @@
+use Rattle.std.proofs.Common.{ℕ, ap₂}
+use Rattle.std.proofs.lemmas.Bool.{eqb-true}
+use Rattle.flow_word.specs.declared.access.Place.{Place}
+use Rattle.path_check.proofs.paths.is_same.Goals as goal
+
+pub returns-then-first-last : goal.returns-then-first-last
+returns-then-first-last c = λ e.
+    let make : ℕ → ℕ → Place = λ m k. record { «module» = m; step = k } in
+    ap₂ make c.if-first-last.true (eqb-true c.args.first.step c.args.last.step e)

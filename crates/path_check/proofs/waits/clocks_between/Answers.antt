@@ -1,0 +1,40 @@
+use Rattle.std.proofs.Common.{◌≡◌, suc, sym, ap, ◌∙◌, subst, arith}
+use Rattle.std.specs.Prelude.{All}
+use Rattle.std.proofs.lemmas.Option.{get_or_from_slice_get}
+use Rattle.flow_word.specs.declared.access.Step.{Step}
+use Rattle.event_graph.specs.Lanes.{lane_at, no_lane}
+use Rattle.event_graph.specs.Packed.{whole}
+use Rattle.time_engine.specs.Conditions.{IsAccess}
+use Rattle.engine_view.specs.Held.{no_step}
+use Rattle.path_check.proofs.Reading.{lags_add, gaps_add}
+use Rattle.path_check.proofs.waits.clocks_between.Goals as goal
+
+pub step-step-requires : goal.step-step-requires
+step-step-requires c = record { owner = c.requires.next.owner; step = c.requires.next.step }
+
+pub returns-then-next-before-eq1 : goal.returns-then-next-before-eq1
+returns-then-next-before-eq1 c =
+    let step = whole c.step-step.result in
+    let steps = (lane_at c.args.engine.now.graph.lanes c.args.next.module).steps in
+    let is = get_or_from_slice_get steps c.args.next.step step no_step c.step-step.ensures.step in
+    let next : c.args.next.step ≡ suc c.args.before.step = omega (arith, c.if-before-next.true, c.if-next-before-eq1.true) in
+    gaps_add c.args.engine.now c.args.edit.now c.args.before c.args.next c.step-step.result.gap (sym (ap (λ (s : Step). s.gap) is))
+    c.requires.next c.if-next-before.true next
+
+pub find_lag-requires : goal.find_lag-requires
+find_lag-requires c =
+    let step = whole c.step-step.result in
+    let steps = (lane_at c.args.engine.now.graph.lanes c.args.next.module).steps in
+    subst (All (IsAccess c.args.engine.now.fifos.channels))
+    (ap (λ (s : Step). s.accesses) (get_or_from_slice_get steps c.args.next.step step step c.step-step.ensures.step)
+    ∙ sym c.as_slice.ensures)
+    (c.requires.accesses c.args.next.module no_lane c.requires.next.owner c.args.next.step step c.requires.next.step)
+
+pub returns : goal.returns
+returns c =
+    let step = whole c.step-step.result in
+    let steps = (lane_at c.args.engine.now.graph.lanes c.args.next.module).steps in
+    let is = ap (λ (s : Step). s.accesses) (get_or_from_slice_get steps c.args.next.step step no_step c.step-step.ensures.step)
+    ∙ sym c.as_slice.ensures in
+    lags_add c.args.engine.now c.args.edit.now c.args.before c.args.next c.find_lag.result c.requires.before c.requires.next
+    (rw is c.find_lag.ensures)

@@ -1,0 +1,131 @@
+//! Paths of steps.
+ghost use Rattle.std.specs.Prelude.{◌≡◌, ◌≢◌, ℕ, ◌<◌, true, length, map, is_some, Option, IfSome, List as Items};
+ghost use Rattle.flow_design.specs.declared.plan.Plan.{Plan};
+ghost use Rattle.flow_design.specs.declared.report.Verdict.TheVariants.{Done};
+ghost use Rattle.flow_design.specs.declared.state.Advance.{Advance};
+ghost use Rattle.flow_design.specs.Plans.{with_depth};
+ghost use Rattle.lockstep_defs.specs.Verdict.{verdict};
+ghost use Rattle.time_engine.specs.Conditions.{HasAccesses};
+ghost use Rattle.engine_view.specs.Engines.{held_in};
+ghost use Rattle.engine_report.specs.Standings.{gap_of};
+ghost use Rattle.path_check.specs.Waits.{IsTried, IsTimed, IsAlong, cycle_at, place_at, moves_behind};
+
+use crate::waits::{clocks_between, is_timed};
+use engine_view::Engine;
+use flow_design::{Advance, Edit};
+use flow_word::Place;
+
+/// Whether a path of steps shows that a plan ends after a clock where a FIFO has the edit's depth: its steps wait each for the one before
+/// it, the first is done no earlier than with the depths that stand, and the module of the last one is not ended by then.
+///
+/// The engine holds the end of the plan's run, and no operation is a query. It looks at the accesses of each step once, and takes no
+/// memory.
+pub fn ends_after(
+    engine: &Engine,
+    ends: &[Option<Advance>],
+    edit: &Edit,
+    path: &[Place],
+    clock: u64,
+) -> bool
+    requires { HasAccesses engine.now.graph.lanes engine.now.fifos.channels }
+    ensures { result ≡ true → (p : Plan) → IsTried p (held_in engine.now (map is_some ends.now)) ends.now edit.now
+        → (end : ℕ) → verdict (with_depth p edit.now.channel edit.now.depth) ≡ Done end → clock < end }
+{
+    match clocks_along(engine, edit, path) {
+        Some(clocks) => {
+            let first = cycle_of(engine, place_at(path, 0));
+            let behind = clocks_behind(engine, ends, place_at(path, path.len() - 1));
+            clock <= first.saturating_add(clocks).saturating_add(behind)
+        }
+        None => false,
+    }
+}
+
+/// Whether a path of steps, each of which waits for the one before it, leads back to where it began in a clock or more, so that the plan
+/// never ends where a FIFO has the edit's depth.
+///
+/// The engine holds the end of the plan's run, and no operation is a query. It looks at the accesses of each step once, and takes no
+/// memory.
+pub fn never_ends(engine: &Engine, edit: &Edit, path: &[Place]) -> bool
+    requires { HasAccesses engine.now.graph.lanes engine.now.fifos.channels }
+    ensures { result ≡ true → (p : Plan) (ends : Items (Option Advance))
+        → IsTried p (held_in engine.now (map is_some ends)) ends edit.now
+        → (end : ℕ) → verdict (with_depth p edit.now.channel edit.now.depth) ≢ Done end }
+{
+    match clocks_along(engine, edit, path) {
+        Some(clocks) => {
+            if clocks == 0 {
+                return false;
+            }
+            is_same(place_at(path, 0), place_at(path, path.len() - 1))
+        }
+        None => false,
+    }
+}
+
+/// How many clocks the last step of a path comes after the first, where each waits for the one before it.
+fn clocks_along(engine: &Engine, edit: &Edit, path: &[Place]) -> Option<u64>
+    requires { HasAccesses engine.now.graph.lanes engine.now.fifos.channels }
+    ensures { IfSome result (λ clocks. IsAlong engine.now edit.now path.now (length path.now) clocks) }
+{
+    if path.is_empty() || !is_timed(engine, place_at(path, 0)) {
+        return None;
+    }
+    let mut clocks = 0u64;
+    for at in 1..path.len() {
+        let next = place_at(path, at);
+        if !is_timed(engine, next) {
+            return None;
+        }
+        let more = clocks_between(engine, edit, place_at(path, at - 1), next)?;
+        clocks = clocks.saturating_add(more);
+    }
+    Some(clocks)
+}
+
+/// The place of this number in a path.
+fn place_at(path: &[Place], at: usize) -> Place
+    requires { at < length path.now }
+    ensures { result ≡ place_at path.now at }
+{
+    path[at]
+}
+
+/// Whether two places are one.
+fn is_same(first: Place, last: Place) -> bool
+    ensures { result ≡ true → first ≡ last }
+{
+    first.module == last.module && first.step == last.step
+}
+
+/// The cycle of a step that has one.
+fn cycle_of(engine: &Engine, place: Place) -> u64
+    requires { IsTimed engine.now.graph.lanes place }
+    ensures { result ≡ cycle_at engine.now.graph.lanes place }
+{
+    engine.graph.cycle_of(place).unwrap_or(0)
+}
+
+/// How many clocks after a step its module still moves, before its end or its next step.
+fn clocks_behind(engine: &Engine, ends: &[Option<Advance>], last: Place) -> u64
+    requires { IsTimed engine.now.graph.lanes last }
+    ensures { result ≡ moves_behind engine.now.graph.lanes ends.now last }
+{
+    if 1 < engine.graph.len(last.module).saturating_sub(last.step) {
+        return 0;
+    }
+    match ends.get(last.module as usize) {
+        Some(end) => gap_of(end).saturating_sub(1),
+        None => 0,
+    }
+}
+
+/// The local clocks from a module's last step to its end.
+fn gap_of(end: &Option<Advance>) -> u64
+    ensures { result ≡ gap_of end.now }
+{
+    match end {
+        Some(Advance::Ended(gap)) | Some(Advance::Spent(gap)) => *gap,
+        Some(Advance::Step(_)) | None => 0,
+    }
+}

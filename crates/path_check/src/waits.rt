@@ -1,0 +1,88 @@
+//! Whether a step waits for another.
+ghost use Rattle.std.specs.Prelude.{◌≡◌, ◌<◌, true, length, map, is_some, All, Option, IfSome, List as Items};
+ghost use Rattle.flow_design.specs.declared.plan.Plan.{Plan};
+ghost use Rattle.flow_design.specs.declared.state.Advance.{Advance};
+ghost use Rattle.time_engine.specs.Conditions.{IsAccess, HasAccesses};
+ghost use Rattle.engine_view.specs.Engines.{held_in};
+ghost use Rattle.path_check.specs.Waits.{IsTried, free_with, WaitsFor, OneWaits, IsTimed, Adds};
+
+use engine_view::Engine;
+use flow_design::Edit;
+use flow_word::{Access, Place, Side};
+
+/// Whether a place is that of a step with a cycle.
+pub(crate) fn is_timed(engine: &Engine, place: Place) -> bool
+    ensures { result ≡ true → IsTimed engine.now.graph.lanes place }
+{
+    place.module < engine.graph.modules() && place.step < engine.graph.frontier(place.module)
+}
+
+/// How many clocks a step comes after another that it waits for: the next step of the same module, or a step with an access that waits
+/// for a pop or a push in the other one or in a later one of its module, where a FIFO has the edit's depth. None where it is neither.
+///
+/// It looks at each access of the step once.
+pub(crate) fn clocks_between(
+    engine: &Engine,
+    edit: &Edit,
+    before: Place,
+    next: Place,
+) -> Option<u64>
+    requires accesses { HasAccesses engine.now.graph.lanes engine.now.fifos.channels }
+    requires before { IsTimed engine.now.graph.lanes before }
+    requires next { IsTimed engine.now.graph.lanes next }
+    ensures { IfSome result (λ clocks. (p : Plan) (ends : Items (Option Advance))
+        → IsTried p (held_in engine.now (map is_some ends)) ends edit.now
+        → Adds p (held_in engine.now (map is_some ends)) edit.now before next clocks) }
+{
+    let step = engine.graph.step(next);
+    if next.module == before.module && before.step < next.step && next.step - before.step == 1 {
+        return Some(step.gap);
+    }
+    find_lag(engine, edit, step.accesses.as_slice(), before)
+}
+
+/// The lag of the first of these accesses that waits for the step at a place, or for a later one of its module.
+fn find_lag(engine: &Engine, edit: &Edit, accesses: &[Access], place: Place) -> Option<u64>
+    requires { All (IsAccess engine.now.fifos.channels) accesses.now }
+    ensures { IfSome result (λ lag. OneWaits engine.now.fifos.channels edit.now accesses.now place lag) }
+{
+    for access in accesses {
+        if let Some(lag) = lag_behind(engine, edit, access, place) {
+            return Some(lag);
+        }
+    }
+    None
+}
+
+/// How many clocks an access is possible after the step at a place, where it waits for that step or a later one of its module.
+fn lag_behind(engine: &Engine, edit: &Edit, access: &Access, place: Place) -> Option<u64>
+    requires { IsAccess engine.now.fifos.channels access.now }
+    ensures { IfSome result (λ lag. WaitsFor engine.now.fifos.channels edit.now access.now place lag) }
+{
+    let fifos = &engine.fifos;
+    if !access.kind.is_blocking() || !fifos.is_fifo(access.channel) {
+        return None;
+    }
+    let side = access.kind.side();
+    let free = free_with(engine, edit, side, access.channel);
+    if access.ordinal <= free {
+        return None;
+    }
+    match fifos.place(access.channel, side.other(), access.ordinal - free - 1) {
+        Some(at) if at.module == place.module && place.step <= at.step => {
+            Some(fifos.lag(access.channel, side))
+        }
+        Some(_) | None => None,
+    }
+}
+
+/// How many pops, or pushes, of a channel wait for nobody with the edit.
+fn free_with(engine: &Engine, edit: &Edit, side: Side, channel: u32) -> u64
+    requires { channel < length engine.now.fifos.channels }
+    ensures { result ≡ free_with engine.now.fifos.channels edit.now side channel }
+{
+    if side == Side::Push && channel == edit.channel {
+        return edit.depth;
+    }
+    engine.fifos.free(channel, side)
+}

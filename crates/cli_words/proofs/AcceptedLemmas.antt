@@ -6,7 +6,8 @@ use Rattle.std.proofs.lemmas.Bool.Decides.{nat_tests}
 use Rattle.cli_words.specs.declared.Command.{Command}
 use Rattle.cli_words.specs.declared.rules.CommandName.{CommandName}
 use Rattle.cli_words.specs.declared.rules.CommandName.TheVariants as name
-use Rattle.cli_words.specs.CommandWords.{Key, Cycles, Ops, Said, Text, Word, End, Events, Takes, Has, Positional, Unknown, after_word}
+use Rattle.cli_words.specs.CommandWords.{Key, Cycles, Ops, Said, Text, Word, End, Events, Polls, Lone, Takes, Has, Positional, Unknown}
+use Rattle.cli_words.specs.CommandWords.{after_word}
 use Rattle.cli_words.specs.CommandWords.{command_by, command_named, command_of, name_of, options_of, said_from}
 use Rattle.cli_words.specs.CommandWords.{with_option, with_positionals, word_of}
 
@@ -54,7 +55,8 @@ doomed_stays (word ∷ rest) None said d = by (word_of word) (doomed_stays rest)
     by : (w : Word) → ((waiting : Option Key) (now : Said) → is_doomed now ≡ true → given (said_from waiting now rest) ≡ None)
         → given (after_word w word rest said (λ waiting now. said_from waiting now rest)) ≡ None
     by End stays = doomed_none (with_positionals rest said) (grind (arith, nat_tests, length-append said.positionals rest))
-    by Events stays = let used = stays None (record said { events = true }) (grind arith) in grind arith
+    by (Lone Events) stays = let used = stays None (record said { events = true }) (grind arith) in grind arith
+    by (Lone Polls) stays = let used = stays None (record said { polls = true }) (grind arith) in grind arith
     by (Takes key) stays = stays (Some key) said d
     by (Has Cycles value) stays = let used = stays None (record said { cycles = Some value }) in grind arith
     by (Has Ops value) stays = let used = stays None (record said { ops = Some value }) in grind arith

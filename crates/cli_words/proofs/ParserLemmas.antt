@@ -15,10 +15,11 @@ use Rattle.clap.specs.declared.builder.value_parser.Reading.TheVariants.{AsWritt
 use Rattle.clap.proofs.FaultLemmas.{leaf_fault}
 use Rattle.clap.proofs.SimpleLemmas.{is_nil}
 use Rattle.cli_words.specs.Parser.{parser}
-use Rattle.cli_words.specs.CommandWords.{Said, Text, accepted, command_of, nothing, said_from}
-use Rattle.cli_words.proofs.RowLemmas.{AtEvents, Rows, Slot, has_row-row_at, id_of, missing, other, own, row, row_at, rules, text_said}
+use Rattle.cli_words.specs.CommandWords.{Events, Flag, Polls, Said, Text, accepted, command_of, nothing, said_from}
+use Rattle.cli_words.proofs.RowLemmas.{AtEvents, AtPolls, Rows, Slot, has_row-row_at, id_of, missing, other, own, row, row_at, rules}
+use Rattle.cli_words.proofs.RowLemmas.{text_said}
 use Rattle.cli_words.proofs.RowLemmas.{value_row}
-use Rattle.cli_words.proofs.WalkSteps.{AtMostThree, Ends, Holds, at, clear, end_of, events_filled, fails, fault_at, first_clear, passes}
+use Rattle.cli_words.proofs.WalkSteps.{AtMostThree, Ends, Holds, at, clear, end_of, fails, fault_at, first_clear, flag_at, passes}
 use Rattle.cli_words.proofs.WalkSteps.{rows_in, second_clear, settle_at}
 use Rattle.cli_words.proofs.ReadLemmas.{both_read}
 
@@ -41,66 +42,94 @@ no_defaults rows (a ∷ rs) e =
     let own = no_default_row rows a in let clear = no_default_fault rows a in let later = no_defaults rows rs in
     (grind arith, grind arith)
 
--- the rows at the end: the flag has its default
+-- where it was not given, a flag has its default
+abbrev defaulted : Flag → List Row → List Row
+defaulted f rows = with_default rows (flag_at f)
+
+-- the rows at the end
 abbrev completed : List Row → List Row
-completed rows = with_default rows events_filled
+completed rows = defaulted Polls (defaulted Events rows)
 
 module _ (rows : List Row) where
-  events_default : default_fault rows events_filled ≡ []
+  events_default : default_fault rows (flag_at Events) ≡ []
   events_default = grind arith
+
+  polls_default : default_fault (defaulted Events rows) (flag_at Polls) ≡ []
+  polls_default = grind arith
 
   defaults_clear : defaults_fault rows rules ≡ []
   unfolding defaults_fault
-  defaults_clear = clear _ _ events_default (no_defaults (completed rows) (drop 1 rules) refl).0
+  defaults_clear = clear _ _ events_default (clear _ _ polls_default (no_defaults (completed rows) (drop 2 rules) refl).0)
 
   completed_is : fold with_default rows rules ≡ completed rows
-  completed_is = (no_defaults (completed rows) (drop 1 rules) refl).1
+  completed_is = (no_defaults (completed rows) (drop 2 rules) refl).1
 
 -- ---- what the getters read
 
+abbrev slot_of : Flag → Slot
+slot_of Events = AtEvents
+slot_of Polls = AtPolls
+
+abbrev flag_said : Said → Flag → Bool
+flag_said said Events = said.events
+flag_said said Polls = said.polls
+
 pub record Final (said : Said) (rows : List Row) : Type 0 where
-  pub events : one_of (codes "events") rows ≡ Some (bool_text said.events)
-  pub values : (k : Slot) → bytes_eq (codes "events") (id_of k) ≡ false → first_of (id_of k) rows ≡ text_said said k
+  pub flags : (f : Flag) → one_of (id_of (slot_of f)) rows ≡ Some (bool_text (flag_said said f))
+  pub values : (k : Slot) → bytes_eq (codes "events") (id_of k) ≡ false → bytes_eq (codes "polls") (id_of k) ≡ false
+      → first_of (id_of k) rows ≡ text_said said k
 
 first_is : (id : Text) (o : Option Text) (rows : List Row) → row_at id rows ≡ value_row id o
     → first_of id rows ≡ o
 first_is id o rows e = grind arith
 
-abbrev no_row : Row
-no_row =
-    record { id = codes "events"; values = codes "false" ∷ []; count = None; source = Some DefaultValue; reading = AsWritten }
+abbrev flag_text : Bool → Option Text
+flag_text b = cond b (Some (codes "true")) None
+
+abbrev no_row : Text → Row
+no_row id = record { id = id; values = codes "false" ∷ []; count = None; source = Some DefaultValue; reading = AsWritten }
+
+-- with its default a flag is what was said, and the other rows are as they were
+record Completes (id : Text) (b : Bool) (rows new : List Row) : Type 0 where
+  told : one_of id new ≡ Some (bool_text b)
+  others : (other : Text) → bytes_eq id other ≡ false → row_at other new ≡ row_at other rows
+
+abbrev with_false : Text → List Row → List Row
+with_false id rows = cond (has_row id rows) rows (with_values id AsWritten DefaultValue (codes "false" ∷ []) rows)
+
+completes : (id : Text) → bytes_eq id id ≡ true → (b : Bool) (rows : List Row) → row_at id rows ≡ value_row id (flag_text b)
+    → Completes id b rows (with_false id rows)
+completes id self true rows e =
+    let has : has_row id rows ≡ true = has_row-row_at id rows ∙ ap is_some e in
+    let same : with_false id rows ≡ rows = ap
+    (λ b. cond b rows (with_values id AsWritten DefaultValue (codes "false" ∷ []) rows)) has in
+    subst (Completes id true rows) (sym same) (record { told = ap (option_and_then row_text) e; others = λ other differs. refl })
+completes id self false rows e =
+    let has : has_row id rows ≡ false = has_row-row_at id rows ∙ ap is_some e in
+    let same : with_false id rows ≡ rows ++ no_row id ∷ [] =
+    ap (λ b. cond b rows (with_values id AsWritten DefaultValue (codes "false" ∷ []) rows)) has
+    ∙ missing id (more_values DefaultValue (codes "false" ∷ [])) (no_row id ∷ []) rows e in
+    subst (Completes id false rows) (sym same) (record {
+      told = ap (option_and_then row_text) (own id (no_row id) rows self e);
+      others = λ other_id differs. other other_id (no_row id) rows differs;
+    })
 
 final : (said : Said) (rows : List Row) → Rows said rows → Final said (completed rows)
-final said rows h = go said.events refl
+final said rows h =
+    let events = completes (codes "events") refl said.events rows (h AtEvents) in
+    let first = defaulted Events rows in
+    let polls = completes (codes "polls") refl said.polls first (events.others (codes "polls") refl ∙ h AtPolls) in
+    record {
+      flags = by_flag (ap (option_and_then row_text) (polls.others (codes "events") refl) ∙ events.told) polls.told;
+      values = λ k a b.
+          first_is (id_of k) (text_said said k) (completed rows) (polls.others (id_of k) b ∙ (events.others (id_of k) a ∙ h k));
+    }
   where
-    go : (b : Bool) → said.events ≡ b → Final said (completed rows)
-    go true e =
-        let said_so : row_at (codes "events") rows ≡ Some (row (codes "events") (codes "true")) =
-        h AtEvents ∙ ap (λ b. value_row (codes "events") (cond b (Some (codes "true")) None)) e in
-        let has : has_row (codes "events") rows ≡ true = has_row-row_at (codes "events") rows ∙ ap is_some said_so in
-        let same : completed rows ≡ rows = ap
-        (λ b. cond b rows
-        (with_values (codes "events") AsWritten DefaultValue (codes "false" ∷ []) rows)) has in
-        subst (Final said) (sym same) (record {
-          events = ap (option_and_then row_text) said_so ∙ ap (λ b. Some (bool_text b)) (sym e);
-          values = λ k differs. first_is (id_of k) (text_said said k) rows (h k);
-        })
-    go false e =
-        let none : row_at (codes "events") rows ≡ None =
-        h AtEvents ∙ ap (λ b. value_row (codes "events") (cond b (Some (codes "true")) None)) e in
-        let has : has_row (codes "events") rows ≡ false = has_row-row_at (codes "events") rows
-        ∙ ap is_some none in
-        let same : completed rows ≡ rows ++ no_row ∷ [] =
-        ap (λ b. cond b rows
-        (with_values (codes "events") AsWritten DefaultValue (codes "false" ∷ []) rows)) has
-        ∙ missing (codes "events") (more_values DefaultValue (codes "false" ∷ [])) (no_row ∷ []) rows none in
-        subst (Final said) (sym same) (record {
-          events =
-              ap (option_and_then row_text) (own (codes "events") no_row rows refl none)
-              ∙ ap (λ b. Some (bool_text b)) (sym e);
-          values = λ k differs. first_is (id_of k) (text_said said k) (rows ++ no_row ∷ [])
-              (other (id_of k) no_row rows differs ∙ h k);
-        })
+    by_flag : one_of (codes "events") (completed rows) ≡ Some (bool_text said.events)
+        → one_of (codes "polls") (completed rows) ≡ Some (bool_text said.polls)
+        → (f : Flag) → one_of (id_of (slot_of f)) (completed rows) ≡ Some (bool_text (flag_said said f))
+    by_flag e p Events = e
+    by_flag e p Polls = p
 
 -- ---- the whole parse
 
@@ -115,6 +144,7 @@ starts = record { skip = refl; settles = refl; rows = none_yet }
   where
     none_yet : Rows nothing []
     none_yet AtEvents = refl
+    none_yet AtPolls = refl
     none_yet k = refl
 
 fault_is : (words : List Text)

@@ -8,13 +8,14 @@ use Rattle.clap.specs.Walk.{Held, Row, Rule, Walk, arg_by_long, idle, option, re
 use Rattle.clap.specs.Kinds.{or_else}
 use Rattle.clap.specs.Faults.{turn_fault, use_fault, walk_fault}
 use Rattle.clap.specs.declared.error.kind.ErrorKind.TheVariants as kind
-use Rattle.cli_words.specs.CommandWords.{Cycles, Key, Ops, Positional, Said, Text, Word, after_word, command_of, option_named, said_from}
-use Rattle.cli_words.specs.CommandWords.{with_events, with_option, with_positionals}
+use Rattle.cli_words.specs.CommandWords.{Cycles, Events, Key, Ops, Polls, Positional, Said, Text, Word, after_word, command_of}
+use Rattle.cli_words.specs.CommandWords.{option_named, said_from}
+use Rattle.cli_words.specs.CommandWords.{Flag, with_flag, with_option, with_positionals}
 use Rattle.cli_words.proofs.RowLemmas.{Rows, rules, top}
 use Rattle.cli_words.proofs.AcceptedLemmas.{given, doomed_none, doomed_stays, hyphen, hyphen_dooms}
 use Rattle.std.proofs.lemmas.Bool.{or_right, lt-ltb}
 use Rattle.cli_words.proofs.WalkSteps.{AtMostThree, Ends, fails, passes, Holds, Named, flag, keyed, unnamed, Placed, placed, stray}
-use Rattle.cli_words.proofs.WalkSteps.{Used, repeated, unused, at, clear, events_filled, first_clear, flagging, named, placing}
+use Rattle.cli_words.proofs.WalkSteps.{Used, repeated, unused, at, clear, first_clear, flag_at, flagging, named, placing}
 use Rattle.cli_words.proofs.WalkSteps.{rows_in, rule_at, second_clear, settle_at, some_kind, step_fails, step_passes, using}
 use Rattle.cli_words.proofs.WordLemmas.{IsPlain, View, after_ends, as_plain, awaiting, behind_end, between, dash, ends, has_flags}
 use Rattle.cli_words.proofs.WordLemmas.{hyphen_plain, long, long_refused, long_turn, long_turn_is, long_walk, long_walk_is, long_word_of}
@@ -30,7 +31,7 @@ trails [] said h holds few =
     passes said refl holds few
     (ap (λ ps. command_of (record said { positionals = ps })) (append-nil said.positionals))
 trails (w ∷ ws) said h holds few =
-    go (placing said.events said.cycles said.ops true h w said.positionals holds few)
+    go (placing said.events said.polls said.cycles said.ops true h w said.positionals holds few)
     (λ now. trails ws (with_positionals (w ∷ []) said) now)
   where
     go : Placed said true h w
@@ -69,7 +70,7 @@ plain_step : (word : Text) (rest : List Text) (said : Said) (h : Held) → Holds
     → Reads rest → IsPlain word
     → Ends (between said h) (word ∷ rest) (after_word Positional word rest said (rest_of rest))
 plain_step word rest said h holds few reads plain =
-    go (placing said.events said.cycles said.ops false h word said.positionals holds few)
+    go (placing said.events said.polls said.cycles said.ops false h word said.positionals holds few)
   where
     p : ℕ
     p = suc (length said.positionals)
@@ -139,10 +140,16 @@ module _ (word : Text) (rest : List Text) (said : Said) (h : Held) (holds : Hold
   attached k t turn is =
       used_here (rule_at k) (t ∷ []) _ (using k t said (rows_in h) holds.rows) (turn ∙ turned k t) (is ∙ went k t)
 
-  -- `--events`
-  flagged : Turns (Some events_filled) None → Walks (Some events_filled) None
-      → here (option_and_then (rest_of rest None) (with_events said))
-  flagged turn is = used_here events_filled [] _ (flagging said (rows_in h) holds.rows) turn is
+  -- `--events` or `--polls`
+  flagged : (f : Flag) → Turns (Some (flag_at f)) None → Walks (Some (flag_at f)) None
+      → here (option_and_then (rest_of rest None) (with_flag f said))
+  flagged Events turn is = used_here (flag_at Events) [] _ (flagging Events said (rows_in h) holds.rows) turn is
+  flagged Polls turn is = used_here (flag_at Polls) [] _ (flagging Polls said (rows_in h) holds.rows) turn is
+
+  -- with a value it is refused
+  valued : (f : Flag) (t : Text) → Turns (Some (flag_at f)) (Some t) → turn_fault top [] (at idle p false h) word ≡ [] → ⊥
+  valued Events t turn e = some_kind kind.TooManyValues [] (sym turn ∙ e)
+  valued Polls t turn e = some_kind kind.TooManyValues [] (sym turn ∙ e)
 
   -- `--cycles`
   apart : Awaits rest → (k : Key) → Turns (Some (rule_at k)) None → Walks (Some (rule_at k)) None
@@ -159,12 +166,11 @@ module _ (word : Text) (rest : List Text) (said : Said) (h : Held) (holds : Hold
 
   long_step : Awaits rest → (v : Option Text) (o : Option Rule) (w : Word) → Named v o w → Turns o v → Walks o v
       → here (after_word w word rest said (rest_of rest))
-  long_step awaits None o w (flag eo ew) turn is =
+  long_step awaits None o w (flag f eo ew) turn is =
       subst (λ x. here (after_word x word rest said (rest_of rest))) (sym ew)
-      (flagged (subst (λ x. Turns x None) eo turn) (subst (λ x. Walks x None) eo is))
-  long_step awaits (Some t) o w (flag eo ew) turn is =
-      step_fails _ word rest _
-      (λ e. some_kind kind.TooManyValues [] (sym (subst (λ x. Turns x (Some t)) eo turn) ∙ e))
+      (flagged f (subst (λ x. Turns x None) eo turn) (subst (λ x. Walks x None) eo is))
+  long_step awaits (Some t) o w (flag f eo ew) turn is =
+      step_fails _ word rest _ (valued f t (subst (λ x. Turns x (Some t)) eo turn))
       (ap (λ x. given (after_word x word rest said (rest_of rest))) ew)
   long_step awaits None o w (keyed k eo ew) turn is =
       subst (λ x. here (after_word x word rest said (rest_of rest))) (sym ew)

@@ -60,10 +60,11 @@ own id r (x ∷ xs) e none = let later = own id r xs e in grind arith
 
 -- what has a row
 pub data Slot : Type 0 where
-  AtEvents AtCycles AtOps AtCommand AtSecond AtThird : Slot
+  AtEvents AtPolls AtCycles AtOps AtCommand AtSecond AtThird : Slot
 
 abbrev pub id_of : Slot → Text
 id_of AtEvents = codes "events"
+id_of AtPolls = codes "polls"
 id_of AtCycles = codes "cycles"
 id_of AtOps = codes "ops"
 id_of AtCommand = codes "command"
@@ -73,6 +74,7 @@ id_of AtThird = codes "third"
 -- the text that was said for it
 abbrev pub text_said : Said → Slot → Option Text
 text_said said AtEvents = cond said.events (Some (codes "true")) None
+text_said said AtPolls = cond said.polls (Some (codes "true")) None
 text_said said AtCycles = said.cycles
 text_said said AtOps = said.ops
 text_said said AtCommand = slice_get said.positionals 0
@@ -106,15 +108,18 @@ rows_more k v said now rows h none some same j =
 pub events_same : (said : Said) → SameBut AtEvents said (record said { events = true })
 events_same said j e = grind arith
 
+pub polls_same : (said : Said) → SameBut AtPolls said (record said { polls = true })
+polls_same said j e = grind arith
+
 pub cycles_same : (said : Said) (v : Text) → SameBut AtCycles said (record said { cycles = Some v })
 cycles_same said v j e = grind arith
 
 pub ops_same : (said : Said) (v : Text) → SameBut AtOps said (record said { ops = Some v })
 ops_same said v j e = grind arith
 
-module _ (events : Bool) (cycles ops : Option Text) where
+module _ (events polls : Bool) (cycles ops : Option Text) where
   abbrev pub having : List Text → Said
-  having ps = record { events = events; cycles = cycles; ops = ops; positionals = ps }
+  having ps = record { events = events; polls = polls; cycles = cycles; ops = ops; positionals = ps }
 
   pub first_same : (v : Text) → SameBut AtCommand (having []) (having (v ∷ []))
   first_same v j e = grind arith

@@ -23,6 +23,11 @@ Text = List ℕ
 
 -- ---- one word
 
+-- the options that stand alone
+pub data Flag : Type 0 where
+  Events : Flag
+  Polls : Flag
+
 -- the options that take a value
 pub data Key : Type 0 where
   Cycles : Key
@@ -32,8 +37,8 @@ pub data Key : Type 0 where
 pub data Word : Type 0 where
   -- `--`
   End : Word
-  -- `--events`
-  Events : Word
+  -- `--events` or `--polls`
+  Lone : Flag → Word
   -- `--cycles` or `--ops`, which take the next word
   Takes : Key → Word
   -- `--cycles=V` or `--ops=V`
@@ -56,10 +61,10 @@ abbrev pub value_in : Text → Option Text
 value_in word =
     if list_any is_equals word then Some (after_first is_equals word) else None
 
--- `--events` takes no value
-abbrev pub without_value : Option Text → Word
-without_value None = Events
-without_value (Some value) = Unknown
+-- an option that stands alone takes no value
+abbrev pub without_value : Flag → Option Text → Word
+without_value flag None = Lone flag
+without_value flag (Some value) = Unknown
 
 -- an option's value stands after its `=`, or is the next word
 abbrev pub with_value : Key → Option Text → Word
@@ -69,7 +74,8 @@ with_value key (Some value) = Has key value
 -- an option, by its name and what stands after its `=`
 abbrev pub option_named : Text → Option Text → Word
 option_named name value =
-    if bytes_eq (codes "--events") name then without_value value
+    if bytes_eq (codes "--events") name then without_value Events value
+    else if bytes_eq (codes "--polls") name then without_value Polls value
     else if bytes_eq (codes "--cycles") name then with_value Cycles value
     else if bytes_eq (codes "--ops") name then with_value Ops value
     else Unknown
@@ -86,17 +92,19 @@ word_of word =
 -- what the words said so far
 pub record Said : Type 0 where
   pub events : Bool
+  pub polls : Bool
   pub cycles : Option Text
   pub ops : Option Text
   pub positionals : List Text
 
 -- before the first word
 abbrev pub nothing : Said
-nothing = record { events = false; cycles = None; ops = None; positionals = [] }
+nothing = record { events = false; polls = false; cycles = None; ops = None; positionals = [] }
 
--- `--events` occurs at most once
-abbrev pub with_events : Said → Option Said
-with_events said = if said.events then None else Some (record said { events = true })
+-- `--events` and `--polls` occur at most once
+abbrev pub with_flag : Flag → Said → Option Said
+with_flag Events said = if said.events then None else Some (record said { events = true })
+with_flag Polls said = if said.polls then None else Some (record said { polls = true })
 
 -- so do `--cycles` and `--ops`
 abbrev pub with_option : Key → Text → Said → Option Said
@@ -114,7 +122,7 @@ with_positionals words said = record said { positionals = said.positionals ++ wo
 abbrev pub after_word : Word → Text → List Text → Said → (Option Key → Said → Option Said)
     → Option Said
 after_word End word rest said next = Some (with_positionals rest said)
-after_word Events word rest said next = option_and_then (next None) (with_events said)
+after_word (Lone flag) word rest said next = option_and_then (next None) (with_flag flag said)
 after_word (Takes key) word rest said next = next (Some key) said
 after_word (Has key value) word rest said next =
     option_and_then (next None) (with_option key value said)
@@ -177,7 +185,7 @@ no_more (word ∷ words) found = None
 
 -- an option is given
 abbrev pub has_options : Said → Bool
-has_options said = said.events || (is_some said.cycles || is_some said.ops)
+has_options said = said.events || (said.polls || (is_some said.cycles || is_some said.ops))
 
 -- no option
 abbrev pub without_option : {T : Type 0} → Said → Option T → Option T
@@ -192,23 +200,28 @@ both f (Some x) b = option_map (f x) b
 abbrev pub options_of : Said → Option Options
 options_of said = both (λ cycles ops. record {
   events = said.events;
+  polls = said.polls;
   cycles = cycles;
   ops = ops;
 }) (limit_in (10 ^ 15) said.cycles) (limit_in 200_000 said.ops)
 
--- `--events` is not given
-abbrev pub without_events : {T : Type 0} → Said → Option T → Option T
-without_events said found = if said.events then None else found
+-- nothing where an option is given that the command does not take
+abbrev pub if_taken : {T : Type 0} → Bool → Bool → Option T → Option T
+if_taken takes given found = if given && not takes then None else found
 
--- the options of a command that has no further positional, and that takes `--events` or does not
-abbrev pub options_alone : Bool → Said → List Text → Option Options
-options_alone true said rest = no_more rest (options_of said)
-options_alone false said rest = without_events said (no_more rest (options_of said))
+-- the options of a command that has no further positional, by whether it takes `--events` and `--polls`
+abbrev pub options_alone : Bool → Bool → Said → List Text → Option Options
+options_alone events polls said rest = if_taken events said.events (if_taken polls said.polls (no_more rest (options_of said)))
 
 -- `path` takes `--events`, for its links; no other view does
 abbrev pub tells_events : View → Bool
 tells_events Path = true
 tells_events _ = false
+
+-- `stalls` takes `--polls`, for what modules poll; no other view does
+abbrev pub tells_polls : View → Bool
+tells_polls Stalls = true
+tells_polls _ = false
 
 -- `gen` has two further positionals: a seed of 0 to 65,535 and 1 to 64 modules
 abbrev pub gen_of : List Text → Option Command
@@ -223,19 +236,21 @@ range_in lo hi = option_and_then (λ l. option_map (λ h. (l, h)) (number_in l 6
 -- `sweep` has two further positionals, the least depth and the greatest
 abbrev pub sweep_of : Said → List Text → Option Command
 sweep_of said (lo ∷ hi ∷ []) =
-    without_events said (both (λ range o. Of (Sweep range.0 range.1 o)) (range_in lo hi) (options_of said))
+    if_taken false said.events (if_taken false said.polls
+    (both (λ range o. Of (Sweep range.0 range.1 o)) (range_in lo hi) (options_of said)))
 sweep_of said _ = None
 
 -- the rule of each command, on what was said and on the positionals behind the name
 abbrev pub command_named : Said → List Text → CommandName → Option Command
-command_named said rest (name.Simulate by) = option_map (λ o. Of (Simulate by o)) (options_alone true said rest)
+command_named said rest (name.Simulate by) = option_map (λ o. Of (Simulate by o)) (options_alone true false said rest)
 command_named said rest name.Check = without_option said (no_more rest (Some (Of Check)))
 command_named said rest name.Gen = without_option said (gen_of rest)
-command_named said rest name.Advise = option_map (λ o. Of (Advise o)) (options_alone false said rest)
-command_named said rest (name.Show view) = option_map (λ o. Of (Show view o)) (options_alone (tells_events view) said rest)
+command_named said rest name.Advise = option_map (λ o. Of (Advise o)) (options_alone false false said rest)
+command_named said rest (name.Show view) =
+    option_map (λ o. Of (Show view o)) (options_alone (tells_events view) (tells_polls view) said rest)
 command_named said rest name.Order = without_option said (no_more rest (Some (Of Order)))
 command_named said rest name.Sweep = sweep_of said rest
-command_named said rest name.Size = option_map (λ o. Of (Size o)) (options_alone false said rest)
+command_named said rest name.Size = option_map (λ o. Of (Size o)) (options_alone false false said rest)
 
 -- the first positional is the command's name
 abbrev pub command_by : Said → List Text → Option Command

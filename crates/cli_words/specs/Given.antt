@@ -29,6 +29,7 @@ positionals_of (Some word) second third = word ∷ further_of second third
 abbrev pub said_of : Given → Said
 said_of g = record {
   events = g.events;
+  polls = g.polls;
   cycles = text_of g.cycles;
   ops = text_of g.ops;
   positionals = positionals_of (text_of g.command) (text_of g.second) (text_of g.third);

@@ -15,6 +15,8 @@ use thiserror::Error;
 pub struct Options {
     /// Whether the report tells every FIFO operation.
     pub events: bool,
+    /// Whether it is told how the modules poll.
+    pub polls: bool,
     /// The cycle limit, in clocks, in place of the session's.
     pub cycles: Option<u64>,
     /// The operation limit, in place of the session's.

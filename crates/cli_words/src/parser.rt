@@ -13,6 +13,7 @@ use std::alloc::Global;
 #[derive(Clone, Copy)]
 pub struct Given<'a> {
     pub events: bool,
+    pub polls: bool,
     pub cycles: Option<&'a str>,
     pub ops: Option<&'a str>,
     pub command: Option<&'a str>,
@@ -27,6 +28,7 @@ pub fn parse<'a>(alloc: Global, words: &'a [String]) -> Result<Given<'a>, WordFa
     match matches(alloc, words) {
         Ok(matches) => Ok(Given {
             events: matches.get_flag("events"),
+            polls: matches.get_flag("polls"),
             cycles: matches.get_str("cycles"),
             ops: matches.get_str("ops"),
             command: matches.get_str("command"),
@@ -37,7 +39,7 @@ pub fn parse<'a>(alloc: Global, words: &'a [String]) -> Result<Given<'a>, WordFa
     }
 }
 
-/// The words, read as three options and at most three positionals.
+/// The words, read as four options and at most three positionals.
 fn matches<'a>(alloc: Global, words: &'a [String]) -> Result<ArgMatches<'a>, clap::Error>
     ensures fails { FailsBy (fault_of parser (map string_bytes words.entry.now)) result }
     ensures rows { IfOk result (λ m. rows_of (found_of m)
@@ -45,6 +47,7 @@ fn matches<'a>(alloc: Global, words: &'a [String]) -> Result<ArgMatches<'a>, cla
 {
     let parser = bare_parser(alloc)
         .arg(flag(alloc, "events"))?
+        .arg(flag(alloc, "polls"))?
         .arg(option(alloc, "cycles"))?
         .arg(option(alloc, "ops"))?
         .arg(positional(alloc, "command"))?

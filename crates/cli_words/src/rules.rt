@@ -2,7 +2,7 @@
 ghost use Rattle.std.specs.Prelude.{◌≡◌, ◌≤◌, IfSome, Some};
 ghost use Rattle.cli_words.specs.CommandWords.{AreLimits, IsInRange, IsLimit};
 ghost use Rattle.cli_words.specs.CommandWords.{command_of, gen_of, has_options, limit_in, name_of, no_more};
-ghost use Rattle.cli_words.specs.CommandWords.{number_in, options_alone, options_of, sweep_of, tells_events, without_option};
+ghost use Rattle.cli_words.specs.CommandWords.{number_in, options_alone, options_of, sweep_of, tells_events, tells_polls, without_option};
 ghost use Rattle.cli_words.specs.Given.{rest_of, said_of, text_of};
 
 use crate::parser::Given;
@@ -39,20 +39,26 @@ pub fn command_of(given: &Given<'_>) -> Option<Command>
 {
     match name_of(given.command?)? {
         CommandName::Simulate(by) => {
-            let options = options_alone(given, true)?;
+            let options = options_alone(given, true, false)?;
             Some(Command::Of(Task::Simulate(by, options)))
         }
         CommandName::Check => bare(given, Task::Check),
         CommandName::Gen if has_options(given) => None,
         CommandName::Gen => gen_of(given),
-        CommandName::Advise => Some(Command::Of(Task::Advise(options_alone(given, false)?))),
+        CommandName::Advise => {
+            let options = options_alone(given, false, false)?;
+            Some(Command::Of(Task::Advise(options)))
+        }
         CommandName::Show(view) => {
-            let options = options_alone(given, tells_events(view))?;
+            let options = options_alone(given, tells_events(view), tells_polls(view))?;
             Some(Command::Of(Task::Show(view, options)))
         }
         CommandName::Order => bare(given, Task::Order),
         CommandName::Sweep => sweep_of(given),
-        CommandName::Size => Some(Command::Of(Task::Size(options_alone(given, false)?))),
+        CommandName::Size => {
+            let options = options_alone(given, false, false)?;
+            Some(Command::Of(Task::Size(options)))
+        }
     }
 }
 
@@ -81,7 +87,7 @@ fn name_of(word: &str) -> Option<CommandName>
 fn has_options(given: &Given<'_>) -> bool
     ensures { result ≡ has_options (said_of given.now) }
 {
-    given.events || given.cycles.is_some() || given.ops.is_some()
+    given.events || given.polls || given.cycles.is_some() || given.ops.is_some()
 }
 
 /// A task of a command that takes no option and no further positional.
@@ -95,12 +101,13 @@ fn bare(given: &Given<'_>, task: Task) -> Option<Command>
     Some(Command::Of(task))
 }
 
-/// The options of a command without further positionals, which takes `--events` or does not.
-fn options_alone(given: &Given<'_>, takes_events: bool) -> Option<Options>
-    ensures options { result ≡ options_alone takes_events (said_of given.now) (rest_of given.now) }
+/// The options of a command without further positionals, by whether it takes `--events` and `--polls`.
+fn options_alone(given: &Given<'_>, takes_events: bool, takes_polls: bool) -> Option<Options>
+    ensures options { result ≡ options_alone takes_events takes_polls (said_of given.now) (rest_of given.now) }
     ensures range { IfSome result AreLimits }
 {
-    if given.second.is_some() || given.events && !takes_events {
+    let untaken = given.events && !takes_events || given.polls && !takes_polls;
+    if given.second.is_some() || untaken {
         return None;
     }
     options_of(given)
@@ -113,6 +120,13 @@ fn tells_events(view: View) -> bool
     matches!(view, View::Path)
 }
 
+/// Whether `--polls` adds to what is shown.
+fn tells_polls(view: View) -> bool
+    ensures { result ≡ tells_polls view }
+{
+    matches!(view, View::Stalls)
+}
+
 /// The options, each in its bounds.
 fn options_of(given: &Given<'_>) -> Option<Options>
     ensures options { result ≡ options_of (said_of given.now) }
@@ -120,6 +134,7 @@ fn options_of(given: &Given<'_>) -> Option<Options>
 {
     Some(Options {
         events: given.events,
+        polls: given.polls,
         cycles: limit(MOST_CYCLES, given.cycles)?,
         ops: limit(MOST_OPERATIONS, given.ops)?,
     })
@@ -151,7 +166,7 @@ fn sweep_of(given: &Given<'_>) -> Option<Command>
     ensures command { result ≡ sweep_of (said_of given.now) (rest_of given.now) }
     ensures range { IfSome result IsInRange }
 {
-    if given.events {
+    if given.events || given.polls {
         return None;
     }
     let lo = number(1, MOST_SWEPT, given.second?)?;

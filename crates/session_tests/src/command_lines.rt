@@ -5,6 +5,7 @@ use std::test::Fail;
 
 const NOTHING: Options = Options {
     events: false,
+    polls: false,
     cycles: None,
     ops: None,
 };
@@ -25,8 +26,14 @@ fn accepted_and_refused(rt: HostRuntime) -> Result<(), Fail> {
         cycles: Some(3),
         ..NOTHING
     };
+    let polled = Options {
+        polls: true,
+        cycles: Some(3),
+        ..NOTHING
+    };
     let all = Options {
         events: true,
+        polls: false,
         cycles: Some(1_000_000_000_000_000),
         ops: Some(200_000),
     };
@@ -51,6 +58,10 @@ fn accepted_and_refused(rt: HostRuntime) -> Result<(), Fail> {
         ),
         ("log", Command::Of(Task::Show(View::Log, NOTHING))),
         ("stalls", Command::Of(Task::Show(View::Stalls, NOTHING))),
+        (
+            "--polls stalls --cycles 3",
+            Command::Of(Task::Show(View::Stalls, polled)),
+        ),
         (
             "path --events --ops=200000 --cycles 1000000000000000",
             Command::Of(Task::Show(View::Path, all)),
@@ -106,6 +117,14 @@ fn accepted_and_refused(rt: HostRuntime) -> Result<(), Fail> {
         "run -- --events",
         "run --help",
         "run -e",
+        "stalls --polls --polls",
+        "stalls --polls=1",
+        "stalls --polls --events",
+        "run --polls",
+        "trace --polls",
+        "size --polls",
+        "gen 1 1 --polls",
+        "check --polls",
         "check --events",
         "log --events",
         "size 3",

@@ -10,6 +10,8 @@ returns-in-Ok c =
     (found_of c.in-Ok.matches) c.in-Ok.ensures.fails c.in-Ok.ensures.rows _
     (by_flag (one_text (found_of c.in-Ok.matches)
     (codes "events")) c.get_flag.result c.get_flag.ensures.value c.get_flag.ensures.other)
+    (by_flag (one_text (found_of c.in-Ok.matches)
+    (codes "polls")) c.get_flag-in-Ok.result c.get_flag-in-Ok.ensures.value c.get_flag-in-Ok.ensures.other)
     c.get_str.ensures c.get_str-in-Ok.ensures c.get_str-in-Ok-2.ensures c.get_str-in-Ok-3.ensures c.get_str-in-Ok-4.ensures
 
 pub returns-in-Err : goal.returns-in-Err

@@ -25,6 +25,7 @@ use Rattle.lockstep_defs.specs.Channels.{HistoryStep, Exchange, moved_value, mov
 use Rattle.lockstep_defs.specs.Lockstep.{requests_of, moves, answered, step_with, step_of, steps_in, numbered, state, history}
 use Rattle.lockstep_defs.specs.Ports.{StandsAtPort}
 use Rattle.lockstep_defs.proofs.Queue.{all-append}
+use Rattle.lockstep_defs.proofs.Order.{history_numbers}
 use Rattle.timing_bridge.proofs.Requests.{stand}
 use Rattle.fifo_fills.specs.Passed.{Act, acts_in, acts_before, acts, moved_in}
 use Rattle.fifo_fills.specs.Fills.{last_clock}
@@ -37,9 +38,9 @@ use Rattle.stall_text.specs.Stalls.{moved_at, clocks_of}
 abbrev pub logged_act : Act → LoggedAccess
 logged_act a = logged a.0 a.1
 
--- the clocks of those that moved an element at a port
-abbrev pub clock_list : Port → List Act → List ℕ
-clock_list port done = clocks_of (filter (moved_at port) (map logged_act done))
+-- the clocks of those that pass a test
+abbrev pub clock_list : (LoggedAccess → Bool) → List Act → List ℕ
+clock_list test done = clocks_of (filter test (map logged_act done))
 
 abbrev pub on : Side → ℕ → Port
 on side f = record { side = side; channel = f }
@@ -120,7 +121,7 @@ one_more : (b : Bool) (a : LoggedAccess) (xs : List LoggedAccess) → length (cl
 one_more true a xs = omega arith
 one_more false a xs = omega arith
 
-pub counted_acts : (side : Side) (f : ℕ) (done : List Act) → length (clock_list (on side f) done) ≡ length (moved_in side f done)
+pub counted_acts : (side : Side) (f : ℕ) (done : List Act) → length (clock_list (moved_at (on side f)) done) ≡ length (moved_in side f done)
 counted_acts side f [] = refl
 counted_acts side f (a ∷ done) =
     let one = moved_one side f a.0 a.1 in
@@ -131,23 +132,22 @@ counted_acts side f (a ∷ done) =
 
 -- ---- when
 
-pub all_clocks : (P : ℕ → Type 0) (port : Port) (done : List Act) → AllByRecursion (λ (a : Act). P (a.0).clock) done
-    → AllByRecursion P (clock_list port done)
-all_clocks P port [] h = tt
-all_clocks P port (a ∷ done) h = by_test (moved_at port (logged_act a)) (all_clocks P port done h.1)
+pub all_clocks : (P : ℕ → Type 0) (test : LoggedAccess → Bool) (done : List Act) → AllByRecursion (λ (a : Act). P (a.0).clock) done
+    → AllByRecursion P (clock_list test done)
+all_clocks P test [] h = tt
+all_clocks P test (a ∷ done) h = by_test (test (logged_act a)) (all_clocks P test done h.1)
   where
-    by_test : (b : Bool) → AllByRecursion P (clock_list port done)
-        → AllByRecursion P (clocks_of (cond b (logged_act a ∷ filter (moved_at port) (map logged_act done))
-        (filter (moved_at port) (map logged_act done))))
+    by_test : (b : Bool) → AllByRecursion P (clock_list test done)
+        → AllByRecursion P (clocks_of (cond b (logged_act a ∷ filter test (map logged_act done))
+        (filter test (map logged_act done))))
     by_test true rest = (h.0, rest)
     by_test false rest = rest
 
-pub list-append : (port : Port) (xs ys : List Act) → clock_list port (xs ++ ys) ≡ clock_list port xs ++ clock_list port ys
-list-append port xs ys =
-    ap (λ (l : List LoggedAccess). clocks_of (filter (moved_at port) l)) (map-append logged_act xs ys)
-    ∙ (ap clocks_of (filter-append (moved_at port) (map logged_act xs) (map logged_act ys))
-    ∙ map-append (λ (a : LoggedAccess). a.event.cycle) (filter (moved_at port) (map logged_act xs))
-    (filter (moved_at port) (map logged_act ys)))
+pub list-append : (test : LoggedAccess → Bool) (xs ys : List Act) → clock_list test (xs ++ ys) ≡ clock_list test xs ++ clock_list test ys
+list-append test xs ys =
+    ap (λ (l : List LoggedAccess). clocks_of (filter test l)) (map-append logged_act xs ys)
+    ∙ (ap clocks_of (filter-append test (map logged_act xs) (map logged_act ys))
+    ∙ map-append (λ (a : LoggedAccess). a.event.cycle) (filter test (map logged_act xs)) (filter test (map logged_act ys)))
 
 abbrev one_if : Bool → ℕ
 one_if b = cond b 1 0
@@ -164,17 +164,17 @@ none_before (x ∷ xs) c h =
 
 -- those before a clock are as many as the elements moved before it
 pub counted_before : (p : Plan) (side : Side) (f c n : ℕ)
-    → before (clock_list (on side f) (acts_before p (n + c))) c ≡ length (moved side f (history p c))
+    → before (clock_list (moved_at (on side f)) (acts_before p (n + c))) c ≡ length (moved side f (history p c))
 counted_before p side f c n =
     let (later, e) = begins p c n in
-    let port = on side f in
+    let test = moved_at (on side f) in
     let late_acts = subst (λ (l : List Act). AllByRecursion (λ (a : Act). c ≤ (a.0).clock) l)
     (ap (drop (length (acts_before p c))) e ∙ drop-append_seam (acts_before p c) later) (late p c n) in
-    let whole = ap (λ (l : List Act). before (clock_list port l) c) e
-    ∙ (ap (λ (l : List ℕ). before l c) (list-append port (acts_before p c) later)
-    ∙ sum_by-append (λ (y : ℕ). cond (ltb y c) 1 0) (clock_list port (acts_before p c)) (clock_list port later)) in
-    let front = all_before (clock_list port (acts_before p c)) c (all_clocks (λ x. x < c) port (acts_before p c) (early p c)) in
-    let rest = none_before (clock_list port later) c (all_clocks (λ x. c ≤ x) port later late_acts) in
+    let whole = ap (λ (l : List Act). before (clock_list test l) c) e
+    ∙ (ap (λ (l : List ℕ). before l c) (list-append test (acts_before p c) later)
+    ∙ sum_by-append (λ (y : ℕ). cond (ltb y c) 1 0) (clock_list test (acts_before p c)) (clock_list test later)) in
+    let front = all_before (clock_list test (acts_before p c)) c (all_clocks (λ x. x < c) test (acts_before p c) (early p c)) in
+    let rest = none_before (clock_list test later) c (all_clocks (λ x. c ≤ x) test later late_acts) in
     let count = counted_acts side f (acts_before p c) in
     let elements = ap length (moved_are side f (history p c)) in
     omega arith
@@ -205,20 +205,20 @@ parts : {X : Type 0} (P : X → Type 0) (xs ys : List X) → AllByRecursion P (x
 parts P [] ys h = h
 parts P (x ∷ xs) ys h = parts P xs ys h.1
 
-climbs : (p : Plan) (port : Port) (c : ℕ) → Climbs (clock_list port (acts_before p c))
-climbs p port zero = subst (λ (l : List Act). Climbs (clock_list port l)) (sym (acts-zero p)) tt
-climbs p port (suc c) =
+pub climbs : (p : Plan) (test : LoggedAccess → Bool) (c : ℕ) → Climbs (clock_list test (acts_before p c))
+climbs p test zero = subst (λ (l : List Act). Climbs (clock_list test l)) (sym (acts-zero p)) tt
+climbs p test (suc c) =
     let now = acts_in (steps_in p c (state p c)) in
     let soon = parts (λ (a : Act). (a.0).clock < suc c) (acts_before p c) now
     (subst (AllByRecursion (λ (a : Act). (a.0).clock < suc c)) (acts-suc p c) (early p (suc c))) in
     let next : acts_before p (1 + c) ≡ acts_before p c ++ now = ap (acts_before p) (omega arith) ∙ acts-suc p c in
     let at_last = subst (λ (l : List Act). AllByRecursion (λ (a : Act). c ≤ (a.0).clock) l)
     (ap (drop (length (acts_before p c))) next ∙ drop-append_seam (acts_before p c) now) (late p c 1) in
-    let last = all_clocks (λ x. c ≤ x) port now at_last in
-    subst Climbs (sym (ap (clock_list port) (acts-suc p c) ∙ list-append port (acts_before p c) now))
-    (climbs-append c (clock_list port (acts_before p c)) (clock_list port now) (climbs p port c)
-    (level c (clock_list port now) (all_clocks (λ x. x < suc c) port now soon) last)
-    (all_clocks (λ x. x < c) port (acts_before p c) (early p c)) last)
+    let last = all_clocks (λ x. c ≤ x) test now at_last in
+    subst Climbs (sym (ap (clock_list test) (acts-suc p c) ∙ list-append test (acts_before p c) now))
+    (climbs-append c (clock_list test (acts_before p c)) (clock_list test now) (climbs p test c)
+    (level c (clock_list test now) (all_clocks (λ x. x < suc c) test now soon) last)
+    (all_clocks (λ x. x < c) test (acts_before p c) (early p c)) last)
 
 pairs : (xs : List ℕ) → Climbs xs → AllPairs (λ a b. a ≤ b) xs
 pairs [] h i j d l m = absurd (omega arith)
@@ -227,12 +227,12 @@ pairs (x ∷ xs) h zero (suc j) d l m = All-from_recursion (λ y. x ≤ y) xs h.
 pairs (x ∷ xs) h (suc i) zero d l m = absurd (omega arith)
 pairs (x ∷ xs) h (suc i) (suc j) d l m = pairs xs h.1 i j d (omega arith) (omega arith)
 
-pub list_rises : (p : Plan) (port : Port) (c : ℕ) → AllPairs (λ a b. a ≤ b) (clock_list port (acts_before p c))
-list_rises p port c = pairs (clock_list port (acts_before p c)) (climbs p port c)
+pub list_rises : (p : Plan) (test : LoggedAccess → Bool) (c : ℕ) → AllPairs (λ a b. a ≤ b) (clock_list test (acts_before p c))
+list_rises p test c = pairs (clock_list test (acts_before p c)) (climbs p test c)
 
-pub list_below : (p : Plan) (port : Port) (c : ℕ) → All (λ x. x < c) (clock_list port (acts_before p c))
-list_below p port c = All-from_recursion (λ x. x < c) (clock_list port (acts_before p c))
-    (all_clocks (λ x. x < c) port (acts_before p c) (early p c))
+pub list_below : (p : Plan) (test : LoggedAccess → Bool) (c : ℕ) → All (λ x. x < c) (clock_list test (acts_before p c))
+list_below p test c = All-from_recursion (λ x. x < c) (clock_list test (acts_before p c))
+    (all_clocks (λ x. x < c) test (acts_before p c) (early p c))
 
 -- ---- where
 
@@ -273,6 +273,31 @@ all_stand p fits (suc c) =
     subst (AllByRecursion (ActStands p)) (sym (acts-suc p c))
     (all-append (ActStands p) (acts_before p c) (acts_in (steps_in p c (state p c))) (all_stand p fits c)
     (stand_steps p fits c (state p c).contents (numbered (state p c))))
+
+acts_numbered : (n : ℕ) (steps : List HistoryStep) → AllByRecursion (λ s. s.«module» < n) steps
+    → AllByRecursion (λ (a : Act). (a.0).«module» < n) (acts_in steps)
+acts_numbered n [] h = tt
+acts_numbered n (s ∷ steps) h =
+    all-append (λ (a : Act). (a.0).«module» < n) (map (λ x. (s, x)) s.exchanges) (acts_in steps) (each s.exchanges)
+    (acts_numbered n steps h.1)
+  where
+    each : (xs : List Exchange) → AllByRecursion (λ (a : Act). (a.0).«module» < n) (map (λ x. (s, x)) xs)
+    each [] = tt
+    each (x ∷ xs) = (h.0, each xs)
+
+numbered_log : (n : ℕ) (done : List Act) → AllByRecursion (λ (a : Act). (a.0).«module» < n) done
+    → AllByRecursion (λ (a : LoggedAccess). a.event.«module» < n) (map logged_act done)
+numbered_log n [] h = tt
+numbered_log n (a ∷ done) h = (h.0, numbered_log n done h.1)
+
+-- a log names modules of the plan
+pub log_modules : (p : Plan) → All (λ (a : LoggedAccess). a.event.«module» < length p.design.modules) (log_of p)
+unfolding acts
+log_modules p =
+    let n = length p.design.modules in
+    All-from_recursion (λ (a : LoggedAccess). a.event.«module» < n) (log_of p)
+    (subst (AllByRecursion (λ (a : LoggedAccess). a.event.«module» < n)) (sym (log_is p))
+    (numbered_log n (acts p) (acts_numbered n (history p (last_clock p)) (history_numbers p (last_clock p)))))
 
 in_range : (p : Plan) (done : List Act) → AllByRecursion (ActStands p) done
     → AllByRecursion (λ (a : LoggedAccess). a.event.channel < length p.design.channels) (map logged_act done)

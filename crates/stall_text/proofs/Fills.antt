@@ -122,7 +122,7 @@ full_test depth held popped pushed e = elim (cases_lt held depth) [
 
 -- ---- a FIFO of a plan
 
-pub uses_are : (p : Plan) (port : Port) → (use_at (log_of p) port).clocks ≡ clock_list port (acts p)
+pub uses_are : (p : Plan) (port : Port) → (use_at (log_of p) port).clocks ≡ clock_list (moved_at port) (acts p)
 unfolding use_at
 uses_are p port = ap (λ (log : List LoggedAccess). clocks_of (filter (moved_at port) log)) (log_is p)
 
@@ -138,7 +138,7 @@ module _ (p : Plan) (fits : FitsEngine p) (f : ℕ) (l : f < length p.design.cha
   unfolding acts
   moved_then side c m =
       ap (λ (xs : List ℕ). before xs c) (uses_are p (on side f))
-      ∙ subst (λ (e : ℕ). before (clock_list (on side f) (acts_before p e)) c ≡ length (moved side f (history p c)))
+      ∙ subst (λ (e : ℕ). before (clock_list (moved_at (on side f)) (acts_before p e)) c ≡ length (moved side f (history p c)))
       (let z : (last_clock p - c) + c ≡ last_clock p = omega arith in z)
       (counted_before p side f c (last_clock p - c))
 
@@ -199,8 +199,8 @@ uses_fit p side uses h = record {
   clocks = λ f l.
       let e = ap (λ (u : PortUse). u.clocks) (h.each f l) ∙ uses_are p (on side f) in
       subst (AreClocks (last_clock p)) (sym e) (record {
-        rise = list_rises p (on side f) (last_clock p);
-        below = list_below p (on side f) (last_clock p);
+        rise = list_rises p (moved_at (on side f)) (last_clock p);
+        below = list_below p (moved_at (on side f)) (last_clock p);
       });
 }
 

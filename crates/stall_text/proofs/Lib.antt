@@ -1,5 +1,7 @@
 pub mod Accesses
 pub mod Uses
+pub mod Polled
+pub mod Asked
 pub mod Lines
 pub mod Totals
 pub mod Fills

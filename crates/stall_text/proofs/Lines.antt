@@ -11,6 +11,10 @@ use Rattle.flow_word.specs.declared.access.Side.{Side}
 use Rattle.flow_word.specs.declared.access.Side.TheVariants.{Pop, Push}
 use Rattle.report_text.specs.Lines.{Token, line, text_of_lines}
 use Rattle.report_text.proofs.LineLemmas.{line_of_five, text-append, numbers_more}
+use Rattle.flow_word.specs.declared.access.Kind.{Kind}
+use Rattle.flow_word.specs.declared.access.Kind.TheVariants.{TryRead, TryWrite, Empty, Full}
+use Rattle.flow_word.specs.Kinds.{is_blocking}
+use Rattle.stall_text.specs.Polls.{query_word, query_lines, at_each_query}
 use Rattle.stall_text.specs.StallText.{side_word, cause_word, cause_lines, port_lines, last_of, at_each_side}
 use Rattle.flow_word.proofs.Ranges.{range_last}
 
@@ -37,6 +41,26 @@ cause_line text name channel word t u v w x y side clocks some is p q r s o n =
     (r ∙ ap (λ (l : List ℕ). u ++ 32 ∷ l) is) s o n
     ∙ ap (λ (l : List ℕ). text ++ l)
     (sym (text-one tokens) ∙ sym (ap (λ (b : Bool). text_of_lines (cond b [] (tokens ∷ []))) (ne_eqb clocks 0 some)))
+
+line_of_six : (text a b c d e f : List ℕ)
+    → ((((((text ++ a) ++ 32 ∷ b) ++ 32 ∷ c) ++ 32 ∷ d) ++ 32 ∷ e) ++ 32 ∷ f) ++ 10 ∷ [] ≡ text ++ line (a ∷ b ∷ c ∷ d ∷ e ∷ f ∷ [])
+line_of_six text a b c d e f =
+    let four = (((text ++ a) ++ 32 ∷ b) ++ 32 ∷ c) ++ 32 ∷ d in
+    ap (λ (l : List ℕ). l ++ 10 ∷ []) (append_assoc four (32 ∷ e) (32 ∷ f)) ∙ line_of_five text a b c d (e ++ 32 ∷ f)
+
+pub query_line : (text name channel word t u v w x y z : List ℕ) (of : Kind) (tried missed : ℕ) → tried ≢ 0 → word ≡ query_word of
+    → t ≡ text ++ codes "poll" → u ≡ t ++ 32 ∷ name → v ≡ u ++ 32 ∷ word → w ≡ v ++ 32 ∷ channel → x ≡ w ++ 32 ∷ decimal tried
+    → y ≡ x ++ 32 ∷ decimal missed → z ≡ y ++ 10 ∷ [] → z ≡ text ++ text_of_lines (query_lines name of channel tried missed)
+query_line text name channel word t u v w x y z of tried missed some is p q r s a b d =
+    let tokens = codes "poll" ∷ name ∷ query_word of ∷ channel ∷ decimal tried ∷ decimal missed ∷ [] in
+    d
+    ∙ (ap (λ (l : List ℕ). l ++ 10 ∷ []) (b
+    ∙ ap (λ (l : List ℕ). l ++ 32 ∷ decimal missed) (a
+    ∙ ap (λ (l : List ℕ). l ++ 32 ∷ decimal tried) (s
+    ∙ ap (λ (l : List ℕ). l ++ 32 ∷ channel) (r ∙ ap₂ (λ (l k : List ℕ). l ++ 32 ∷ k) (q ∙ ap (λ (l : List ℕ). l ++ 32 ∷ name) p) is))))
+    ∙ (line_of_six text (codes "poll") name (query_word of) channel (decimal tried) (decimal missed)
+    ∙ ap (λ (l : List ℕ). text ++ l)
+    (sym (text-one tokens) ∙ sym (ap (λ (b : Bool). text_of_lines (cond b [] (tokens ∷ []))) (ne_eqb tried 0 some)))))
 
 line_of_seven : (text a b c d e f g : List ℕ)
     → (((((((text ++ a) ++ 32 ∷ b) ++ 32 ∷ c) ++ 32 ∷ d) ++ 32 ∷ e) ++ 32 ∷ f) ++ 32 ∷ g) ++ 10 ∷ []
@@ -80,7 +104,7 @@ port_line text name channel word side clocks last t u v w x y z n some is p q r 
 
 -- ---- many
 
-two_more : (text t u : List ℕ) (xs ys : List (List Token)) → t ≡ text ++ text_of_lines xs → u ≡ t ++ text_of_lines ys
+pub two_more : (text t u : List ℕ) (xs ys : List (List Token)) → t ≡ text ++ text_of_lines xs → u ≡ t ++ text_of_lines ys
     → u ≡ text ++ text_of_lines (xs ++ ys)
 two_more text t u xs ys p q =
     q ∙ (ap (λ (l : List ℕ). l ++ text_of_lines ys) p
@@ -93,6 +117,17 @@ pub sides_more : (lines : ℕ → Side → List (List Token)) (n : ℕ) (first t
 sides_more lines n first text t u e p q =
     numbers_more (λ f. lines f Pop ++ lines f Push) n first text u e (two_more text t u (lines n Pop) (lines n Push) p q)
 
+-- the lines of all kinds of queries on one channel more
+pub queries_more : (lines : ℕ → Kind → List (List Token)) (n : ℕ) (first text t u v w : List ℕ)
+    → text ≡ first ++ text_of_lines (at_each_query n lines) → t ≡ text ++ text_of_lines (lines n TryRead)
+    → u ≡ t ++ text_of_lines (lines n TryWrite) → v ≡ u ++ text_of_lines (lines n Empty) → w ≡ v ++ text_of_lines (lines n Full)
+    → w ≡ first ++ text_of_lines (at_each_query (n + 1) lines)
+queries_more lines n first text t u v w e p q r s =
+    numbers_more (λ f. ((lines f TryRead ++ lines f TryWrite) ++ lines f Empty) ++ lines f Full) n first text w e
+    (two_more text v w ((lines n TryRead ++ lines n TryWrite) ++ lines n Empty) (lines n Full)
+    (two_more text u v (lines n TryRead ++ lines n TryWrite) (lines n Empty)
+    (two_more text t u (lines n TryRead) (lines n TryWrite) p q) r) s)
+
 same_from : (g h : ℕ → List (List Token)) (a n : ℕ) → ((f : ℕ) → f < a + n → g f ≡ h f)
     → flat_map g (range_with_len a n) ≡ flat_map h (range_with_len a n)
 same_from g h a zero e = refl
@@ -103,6 +138,13 @@ pub same_sides : (n : ℕ) (g h : ℕ → Side → List (List Token)) → ((f : 
     → at_each_side n g ≡ at_each_side n h
 same_sides n g h e =
     same_from _ _ 0 n (λ f l. ap₂ (λ (xs ys : List (List Token)). xs ++ ys) (e f (omega arith) Pop) (e f (omega arith) Push))
+
+pub same_queries : (n : ℕ) (g h : ℕ → Kind → List (List Token)) → ((f : ℕ) → f < n → (kind : Kind) → is_blocking kind ≡ false
+    → g f kind ≡ h f kind) → at_each_query n g ≡ at_each_query n h
+same_queries n g h e =
+    same_from _ _ 0 n (λ f l.
+    let inside : f < n = omega arith in
+    λ i. ((e f inside TryRead refl i ++ e f inside TryWrite refl i) ++ e f inside Empty refl i) ++ e f inside Full refl i)
 
 -- the line of one number more that passes a test
 pub tested_more : (g : ℕ → List Token) (test : ℕ → Bool) (n : ℕ) (first text next : List ℕ)

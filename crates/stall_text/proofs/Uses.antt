@@ -28,7 +28,7 @@ use Rattle.event_timing.proofs.OwnRuns.{same_side_is}
 
 -- ---- one access more
 
-last_is : (m : ℕ) (xs : List LoggedAccess) (a : LoggedAccess) → last_module m (xs ++ a ∷ []) ≡ a.event.«module»
+pub last_is : (m : ℕ) (xs : List LoggedAccess) (a : LoggedAccess) → last_module m (xs ++ a ∷ []) ≡ a.event.«module»
 last_is m [] a = refl
 last_is m (x ∷ xs) a = last_is x.event.«module» xs a
 
@@ -117,7 +117,7 @@ used_yes side channels log k d uses new l inside e h q =
 
 -- ---- one module's ports
 
-abbrev Owns : Plan → LoggedAccess → Type 0
+abbrev pub Owns : Plan → LoggedAccess → Type 0
 Owns p a = owner p (record { side = side_of a.event.kind; channel = a.event.channel }) ≡ a.event.«module»
 
 owned : (p : Plan) (done : List Act) → AllByRecursion (ActStands p) done → AllByRecursion (Owns p) (map logged_act done)
@@ -131,23 +131,23 @@ moved_owner p port a h e =
     sym (ap₂ (λ (s : Side) (f : ℕ). owner p (record { side = s; channel = f })) (same_side_is port.side (side_of a.event.kind) parts.0)
     (eqb-true port.channel a.event.channel parts.1) ∙ h)
 
-module _ (p : Plan) (i : ℕ) (port : Port) where
-  abbrev o : ℕ
-  o = owner p port
-
+-- those that pass a test are one module's
+module _ (i o : ℕ) (test : LoggedAccess → Bool) where
   abbrev there : List LoggedAccess → List LoggedAccess
-  there log = filter (moved_at port) log
+  there log = filter test log
 
   abbrev IsOwn : LoggedAccess → Type 0
   IsOwn a = a.event.«module» ≡ o
 
-  all_own : (log : List LoggedAccess) → AllByRecursion (Owns p) log → AllByRecursion IsOwn (there log)
+  abbrev pub Passes : LoggedAccess → Type 0
+  Passes a = test a ≡ true → IsOwn a
+
+  pub all_own : (log : List LoggedAccess) → AllByRecursion Passes log → AllByRecursion IsOwn (there log)
   all_own [] h = tt
-  all_own (a ∷ log) h = by_test (moved_at port a) refl (all_own log h.1)
+  all_own (a ∷ log) h = by_test (test a) refl (all_own log h.1)
     where
-      by_test : (b : Bool) → moved_at port a ≡ b → AllByRecursion IsOwn (there log)
-          → AllByRecursion IsOwn (cond b (a ∷ there log) (there log))
-      by_test true e rest = (moved_owner p port a h.0 e, rest)
+      by_test : (b : Bool) → test a ≡ b → AllByRecursion IsOwn (there log) → AllByRecursion IsOwn (cond b (a ∷ there log) (there log))
+      by_test true e rest = (h.0 e, rest)
       by_test false e rest = rest
 
   by_tests : (own moved : Bool) (a : LoggedAccess) (xs : List LoggedAccess) (b : Bool) → (moved ≡ true → own ≡ b)
@@ -164,23 +164,22 @@ module _ (p : Plan) (i : ℕ) (port : Port) where
   abbrev nothing : List LoggedAccess
   nothing = []
 
-  all_or_none : (log : List LoggedAccess) → AllByRecursion (Owns p) log
-      → filter (λ a. a.event.«module» == i && moved_at port a) log ≡ cond (o == i) (there log) []
+  pub all_or_none : (log : List LoggedAccess) → AllByRecursion Passes log
+      → filter (λ a. a.event.«module» == i && test a) log ≡ cond (o == i) (there log) []
   all_or_none [] h = by_bool (o == i)
     where
       by_bool : (b : Bool) → nothing ≡ cond b nothing nothing
       by_bool true = refl
       by_bool false = refl
   all_or_none (a ∷ log) h =
-      ap (λ (xs : List LoggedAccess). cond (a.event.«module» == i && moved_at port a) (a ∷ xs) xs) (all_or_none log h.1)
-      ∙ by_tests (a.event.«module» == i) (moved_at port a) a (there log) (o == i)
-      (λ e. ap (λ (m : ℕ). m == i) (moved_owner p port a h.0 e))
+      ap (λ (xs : List LoggedAccess). cond (a.event.«module» == i && test a) (a ∷ xs) xs) (all_or_none log h.1)
+      ∙ by_tests (a.event.«module» == i) (test a) a (there log) (o == i) (λ e. ap (λ (m : ℕ). m == i) (h.0 e))
 
-  last_owner : (m : ℕ) (x : LoggedAccess) (xs : List LoggedAccess) → AllByRecursion IsOwn (x ∷ xs) → last_module m (x ∷ xs) ≡ o
+  pub last_owner : (m : ℕ) (x : LoggedAccess) (xs : List LoggedAccess) → AllByRecursion IsOwn (x ∷ xs) → last_module m (x ∷ xs) ≡ o
   last_owner m x [] h = h.0
   last_owner m x (y ∷ ys) h = last_owner x.event.«module» y ys h.1
 
-  by_last : (xs : List LoggedAccess) → AllByRecursion IsOwn xs → clocks_of (cond (o == i) xs [])
+  pub by_last : (xs : List LoggedAccess) → AllByRecursion IsOwn xs → clocks_of (cond (o == i) xs [])
       ≡ cond (last_module 0 xs == i) (clocks_of xs) []
   by_last [] h = by_both (o == i) (0 == i)
     where
@@ -196,12 +195,24 @@ module _ (p : Plan) (i : ℕ) (port : Port) where
       by_bool true = refl
       by_bool false = refl
 
-  pub own_clocks : FitsEngine p
-      → port_clocks p i port ≡ cond ((use_at (log_of p) port).owner == i) (use_at (log_of p) port).clocks []
-  unfolding port_clocks use_at acts
-  own_clocks fits =
-      let all = subst (AllByRecursion (Owns p)) (sym (log_is p)) (owned p (acts p) (all_stand p fits (last_clock p))) in
-      ap clocks_of (all_or_none (log_of p) all) ∙ by_last (there (log_of p)) (all_own (log_of p) all)
+-- each access of a log stands at a port of its module
+pub log_owned : (p : Plan) → FitsEngine p → AllByRecursion (Owns p) (log_of p)
+unfolding acts
+log_owned p fits = subst (AllByRecursion (Owns p)) (sym (log_is p)) (owned p (acts p) (all_stand p fits (last_clock p)))
+
+pub passing : (p : Plan) (o : ℕ) (test : LoggedAccess → Bool) → ((a : LoggedAccess) → Owns p a → test a ≡ true → a.event.«module» ≡ o)
+    → (log : List LoggedAccess) → AllByRecursion (Owns p) log → AllByRecursion (Passes 0 o test) log
+passing p o test f [] h = tt
+passing p o test f (a ∷ log) h = (f a h.0, passing p o test f log h.1)
+
+pub own_clocks : (p : Plan) (i : ℕ) (port : Port) → FitsEngine p
+    → port_clocks p i port ≡ cond ((use_at (log_of p) port).owner == i) (use_at (log_of p) port).clocks []
+unfolding port_clocks use_at
+own_clocks p i port fits =
+    let o = owner p port in
+    let all = passing p o (moved_at port) (moved_owner p port) (log_of p) (log_owned p fits) in
+    ap clocks_of (all_or_none i o (moved_at port) (log_of p) all)
+    ∙ by_last i o (moved_at port) (filter (moved_at port) (log_of p)) (all_own i o (moved_at port) (log_of p) all)
 
 -- so the lines of a module's ports are those of the ports that it used last
 own_port : (name channel : Token) (side : Side) (b : Bool) (clocks : List ℕ)

@@ -1,6 +1,7 @@
 -- The whole text, and the lines of a module and of a FIFO.
-use Rattle.std.proofs.Common.{◌≡◌, ℕ, ◌+◌, ◌<◌, ◌≤◌, List, ◌++◌, refl, sym, ap, ap₂, ◌∙◌, arith, length, map, get_or, append_assoc}
-use Rattle.std.specs.Prelude.{codes}
+use Rattle.std.proofs.Common.{◌≡◌, ℕ, ◌+◌, ◌<◌, ◌≤◌, Bool, Option, Some, None, cond, is_some, List, [], ◌++◌, refl, sym, ap, ap₂}
+use Rattle.std.proofs.Common.{◌∙◌, arith, length, map, get_or, append_assoc}
+use Rattle.std.specs.Prelude.{codes, IfSome}
 use Rattle.std.specs.List.{flat_map, range_with_len}
 use Rattle.flow_word.specs.declared.access.Side.{Side}
 use Rattle.flow_word.specs.declared.access.Side.TheVariants.{Pop, Push}
@@ -31,7 +32,15 @@ use Rattle.stall_text.specs.StallText.{stalls_text}
 use Rattle.stall_text.specs.Causes.{causes_by}
 use Rattle.stall_text.specs.Ports.{own_lines, AreUsesOf, unused, use_at}
 use Rattle.stall_text.specs.Filling.{empty_by, clocks_at, filled_at, AreUses}
-use Rattle.stall_text.proofs.Lines.{same_sides}
+use Rattle.stall_text.proofs.Lines.{same_sides, same_queries, two_more}
+use Rattle.stall_text.proofs.Asked.{own_tries}
+use Rattle.stall_text.proofs.Polled.{polled_is}
+use Rattle.stall_text.specs.declared.polls.Polls.{Polls}
+use Rattle.stall_text.specs.Polls.{poll_lines, polls_lines, tries_of}
+use Rattle.stall_text.specs.Polling.{ArePollings, ArePollsOf, AreQueries, HavePolls, all_queries, polled_so_far, polling_lines}
+use Rattle.flow_word.specs.declared.access.Kind.{Kind}
+use Rattle.flow_word.specs.declared.access.Kind.TheVariants.{Read, Write, TryRead, TryWrite, Empty, Full}
+use Rattle.flow_word.specs.Kinds.{is_blocking}
 use Rattle.stall_text.proofs.Uses.{own_is}
 use Rattle.stall_text.proofs.Fills.{fifos_are, uses_fit}
 use Rattle.report_text.proofs.LineLemmas.{text-append, numbers_more}
@@ -67,19 +76,39 @@ module_text p i moved still empty full text t u a b m s q r =
     (same_sides (length p.design.channels) (causes_by p.design i empty full) (causes_of p i) (causes_are p i empty full a b))
     ∙ append_assoc text (line (module_tokens (module_name p.design i) (moved_clocks p i) (still_clocks p i))) causes)
 
-pub module_more : (p : Plan) → FitsEngine p → (i : ℕ) (pops pushes : List PortUse) → AreUsesOf p Pop pops → AreUsesOf p Push pushes
-    → (first text t u : List ℕ) → text ≡ first ++ text_of_lines (flat_map (module_lines p) (range_with_len 0 i))
+-- the lines of how a module polls
+polling_is : (p : Plan) → FitsEngine p → (i : ℕ) → i < length p.design.modules → (polls : Option Polls) → ArePollsOf p polls
+    → polling_lines p.design i polls ≡ cond (is_some polls) (poll_lines p i) []
+polling_is p fits i l None h = refl
+polling_is p fits i l (Some polls) h =
+    let clocks = ap polled_so_far (h.0.each i l) ∙ polled_is p i in
+    ap₂ (λ (n : ℕ) (ls : List (List Token)). polls_lines (module_name p.design i) n ++ ls) clocks
+    (same_queries (length p.design.channels) (all_queries p.design i polls.queries) (tries_of p i) by_kind)
+  where
+    by_kind : (f : ℕ) → f < length p.design.channels → (kind : Kind) → is_blocking kind ≡ false
+        → all_queries p.design i polls.queries f kind ≡ tries_of p i f kind
+    by_kind f m TryRead e = own_tries p fits i f TryRead polls.queries.tryreads m h.1.tryreads
+    by_kind f m TryWrite e = own_tries p fits i f TryWrite polls.queries.trywrites m h.1.trywrites
+    by_kind f m Empty e = own_tries p fits i f Empty polls.queries.empties m h.1.empties
+    by_kind f m Full e = own_tries p fits i f Full polls.queries.fulls m h.1.fulls
+    by_kind f m Read e = absurd cc
+    by_kind f m Write e = absurd cc
+
+pub module_more : (p : Plan) → FitsEngine p → (i : ℕ) → i < length p.design.modules → (pops pushes : List PortUse) → AreUsesOf p Pop pops
+    → AreUsesOf p Push pushes → (polls : Option Polls) → ArePollsOf p polls
+    → (first text t u v : List ℕ) → text ≡ first ++ text_of_lines (flat_map (module_lines (is_some polls) p) (range_with_len 0 i))
     → t ≡ text ++ text_of_lines (clock_lines p i)
     → u ≡ t ++ text_of_lines (at_each_side (length p.design.channels) (own_lines p.design i pops pushes))
-    → u ≡ first ++ text_of_lines (flat_map (module_lines p) (range_with_len 0 (i + 1)))
-module_more p fits i pops pushes h k first text t u e q r =
+    → v ≡ u ++ text_of_lines (polling_lines p.design i polls)
+    → v ≡ first ++ text_of_lines (flat_map (module_lines (is_some polls) p) (range_with_len 0 (i + 1)))
+module_more p fits i l pops pushes h k polls y first text t u v e q r s =
     let ports = at_each_side (length p.design.channels) (ports_of p i) in
-    numbers_more (module_lines p) i first text u e
-    (r
-    ∙ (ap₂ (λ (x : List ℕ) (ls : List (List Token)). x ++ text_of_lines ls) q
-    (same_sides (length p.design.channels) (own_lines p.design i pops pushes) (ports_of p i) (own_is p fits i pops pushes h k))
-    ∙ (append_assoc text (text_of_lines (clock_lines p i)) (text_of_lines ports)
-    ∙ ap (λ (l : List ℕ). text ++ l) (sym (text-append (clock_lines p i) ports)))))
+    let own = r ∙ ap (λ (ls : List (List Token)). t ++ text_of_lines ls)
+    (same_sides (length p.design.channels) (own_lines p.design i pops pushes) (ports_of p i) (own_is p fits i pops pushes h k)) in
+    let polled = s ∙ ap (λ (ls : List (List Token)). u ++ text_of_lines ls) (polling_is p fits i l polls y) in
+    numbers_more (module_lines (is_some polls) p) i first text v e
+    (two_more text u v (clock_lines p i ++ ports) (cond (is_some polls) (poll_lines p i) [])
+    (two_more text t u (clock_lines p i) ports q own) polled)
 
 -- ---- a FIFO
 
@@ -116,14 +145,14 @@ fit_uses p q side xs clock h e c =
 
 -- ---- all of them
 
-pub whole_text : (p : Plan) → FitsEngine p → (pops pushes : List PortUse) → AreUsesOf p Pop pops → AreUsesOf p Push pushes
+pub whole_text : (p : Plan) (polls : Bool) → FitsEngine p → (pops pushes : List PortUse) → AreUsesOf p Pop pops → AreUsesOf p Push pushes
     → (v : Verdict) (clock : ℕ) (t u w x : List ℕ) → v ≡ verdict p → clock ≡ last_clock p → t ≡ codes "stalls\n"
     → u ≡ t ++ line (verdict_tokens v)
-    → w ≡ u ++ text_of_lines (flat_map (module_lines p) (range_with_len 0 (length p.design.modules)))
-    → x ≡ w ++ text_of_lines (map (filled_at p clock pops pushes) (fifos p)) → x ≡ stalls_text p
+    → w ≡ u ++ text_of_lines (flat_map (module_lines polls p) (range_with_len 0 (length p.design.modules)))
+    → x ≡ w ++ text_of_lines (map (filled_at p clock pops pushes) (fifos p)) → x ≡ stalls_text polls p
 unfolding stalls_text
-whole_text p fits pops pushes h k v clock t u w x vs cs a b c d =
-    let ms = flat_map (module_lines p) (range_with_len 0 (length p.design.modules)) in
+whole_text p polls fits pops pushes h k v clock t u w x vs cs a b c d =
+    let ms = flat_map (module_lines polls p) (range_with_len 0 (length p.design.modules)) in
     let fs = map (fifo_line p) (fifos p) in
     let first = codes "stalls\n" in
     let second = line (verdict_tokens (verdict p)) in
@@ -134,3 +163,29 @@ whole_text p fits pops pushes h k v clock t u w x vs cs a b c d =
     ∙ (append_assoc (first ++ second) (text_of_lines ms) (text_of_lines fs)
     ∙ (append_assoc first second (text_of_lines ms ++ text_of_lines fs)
     ∙ ap (λ (l : List ℕ). first ++ (second ++ l)) (sym (text-append ms fs)))))
+
+-- ---- how modules poll
+
+pub polls_kept : (p : Plan) (modules channels : ℕ) (log : List LoggedAccess) (polls : Option Polls) → modules ≡ length p.design.modules
+    → channels ≡ length p.design.channels → log ≡ log_of p
+    → IfSome polls (λ x. ArePollings modules log x.modules × AreQueries channels log x.queries) → ArePollsOf p polls
+polls_kept p modules channels log None m n e h = tt
+polls_kept p modules channels log (Some polls) m n e h = (
+  subst (λ (k : ℕ). ArePollings k (log_of p) polls.modules) m
+      (subst (λ (l : List LoggedAccess). ArePollings modules l polls.modules) e h.0),
+  subst (λ (k : ℕ). AreQueries k (log_of p) polls.queries) n (subst (λ (l : List LoggedAccess). AreQueries channels l polls.queries) e h.1),
+)
+
+pub have_polls : (p q : Plan) (polls : Option Polls) → ArePollsOf p polls → q ≡ p → IfSome polls (HavePolls q.design)
+have_polls p q None h e = tt
+have_polls p q (Some polls) h e =
+    subst (λ (r : Plan). HavePolls r.design polls) (sym e) (record {
+      modules = h.0.count;
+      channels = record {
+        tryreads = h.1.tryreads.count;
+        trywrites = h.1.trywrites.count;
+        empties = h.1.empties.count;
+        fulls = h.1.fulls.count;
+      };
+      few = h.0.few;
+    })

@@ -3,3 +3,5 @@ pub mod StallText
 pub mod Ports
 pub mod Causes
 pub mod Filling
+pub mod Polls
+pub mod Polling

@@ -1,5 +1,5 @@
 -- The text of `stalls`.
-use Rattle.std.specs.Prelude.{ℕ, ◌==◌, if◌then◌else◌, List, [], ◌∷◌, ◌++◌, map, length, codes, decimal}
+use Rattle.std.specs.Prelude.{ℕ, ◌==◌, Bool, if◌then◌else◌, List, [], ◌∷◌, ◌++◌, map, length, codes, decimal}
 use Rattle.std.specs.List.{flat_map, range_with_len}
 use Rattle.flow_word.specs.declared.access.Side.{Side}
 use Rattle.flow_word.specs.declared.access.Side.TheVariants.{Pop, Push}
@@ -10,6 +10,7 @@ use Rattle.report_text.specs.ReportText.{module_name, channel_name}
 use Rattle.fifo_fills.specs.Fills.{fifos}
 use Rattle.stall_spans.specs.Totals.{moved_clocks, still_clocks, still_clocks_at}
 use Rattle.stall_text.specs.Stalls.{port_clocks, most, empty_clocks, full_clocks}
+use Rattle.stall_text.specs.Polls.{poll_lines}
 
 abbrev pub side_word : Side → Token
 side_word Pop = codes "pop"
@@ -57,9 +58,10 @@ abbrev pub clock_lines : Plan → ℕ → List (List Token)
 clock_lines p i =
     module_tokens (module_name p.design i) (moved_clocks p i) (still_clocks p i) ∷ at_each_side (length p.design.channels) (causes_of p i)
 
--- and then its ports
-abbrev pub module_lines : Plan → ℕ → List (List Token)
-module_lines p i = clock_lines p i ++ at_each_side (length p.design.channels) (ports_of p i)
+-- and then its ports, and where they are asked for its polls
+abbrev pub module_lines : Bool → Plan → ℕ → List (List Token)
+module_lines polls p i =
+    (clock_lines p i ++ at_each_side (length p.design.channels) (ports_of p i)) ++ (if polls then poll_lines p i else [])
 
 -- `fifo F MOST EMPTY FULL`
 abbrev pub fifo_tokens : Token → ℕ → ℕ → ℕ → List Token
@@ -68,10 +70,11 @@ fifo_tokens name most empty full = codes "fifo" ∷ name ∷ decimal most ∷ de
 abbrev pub fifo_line : Plan → ℕ → List Token
 fifo_line p f = fifo_tokens (channel_name p.design f) (most p f) (empty_clocks p f) (full_clocks p f)
 
-abbrev pub stall_lines : Plan → List (List Token)
-stall_lines p =
+abbrev pub stall_lines : Bool → Plan → List (List Token)
+stall_lines polls p =
     (codes "stalls" ∷ []) ∷ verdict_tokens (verdict p)
-    ∷ flat_map (module_lines p) (range_with_len 0 (length p.design.modules)) ++ map (fifo_line p) (fifos p)
+    ∷ flat_map (module_lines polls p) (range_with_len 0 (length p.design.modules)) ++ map (fifo_line p) (fifos p)
 
-unfoldable pub stalls_text : Plan → List ℕ
-stalls_text p = text_of_lines (stall_lines p)
+-- with the lines of polls or without them
+unfoldable pub stalls_text : Bool → Plan → List ℕ
+stalls_text polls p = text_of_lines (stall_lines polls p)

@@ -3,7 +3,9 @@
 
 mod causes;
 mod fifos;
+mod polls;
 mod ports;
+mod queries;
 mod text;
 
 pub use text::stalls_text;

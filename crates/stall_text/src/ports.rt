@@ -23,6 +23,13 @@ pub(crate) struct PortUse {
     pub(crate) clocks: Words,
 }
 
+/// The uses of both sides of each channel.
+#[derive(Drop)]
+pub(crate) struct Uses {
+    pub(crate) pops: List<PortUse>,
+    pub(crate) pushes: List<PortUse>,
+}
+
 /// The uses of one side of each channel, by what each access gave.
 pub(crate) fn uses_at(
     alloc: Global,

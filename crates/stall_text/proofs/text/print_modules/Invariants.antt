@@ -1,8 +1,9 @@
-use Rattle.std.proofs.Common.{◌≡◌, ◌++◌}
+use Rattle.std.proofs.Common.{◌≡◌, ◌++◌, is_some}
 use Rattle.std.specs.List.{flat_map, range_with_len}
 use Rattle.report_text.specs.Lines.{text_of_lines}
 use Rattle.stall_text.specs.StallText.{module_lines}
 use Rattle.stall_text.proofs.text.print_modules.Given as goal
 
 abbrev pub invariant-loop-owner : goal.invariant-loop-owner
-invariant-loop-owner l = l.text ≡ l.fn.text ++ text_of_lines (flat_map (module_lines l.core.plan) (range_with_len 0 l.owner))
+invariant-loop-owner l = l.text
+    ≡ l.fn.text ++ text_of_lines (flat_map (module_lines (is_some l.polls) l.core.plan) (range_with_len 0 l.owner))

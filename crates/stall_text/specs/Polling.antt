@@ -1,0 +1,130 @@
+-- What is kept of modules that poll, by the accesses of a log.
+use Rattle.std.specs.Prelude.{ℕ, ◌≡◌, ◌<◌, ◌+◌, ◌^◌, ◌==◌, ⊤, Bool, false, ◌&&◌, if◌then◌else◌, Option, Some, None, List, [], ◌++◌}
+use Rattle.std.specs.Prelude.{count_by, filter, fold, length, slice_index_or}
+use Rattle.flow_word.specs.declared.access.Kind.{Kind}
+use Rattle.flow_word.specs.declared.access.Kind.TheVariants.{TryRead, TryWrite, Empty, Full}
+use Rattle.flow_design.specs.declared.design.Design.{Design}
+use Rattle.flow_design.specs.declared.plan.Plan.{Plan}
+use Rattle.report_text.specs.Lines.{Token}
+use Rattle.report_text.specs.ReportText.{module_name, channel_name}
+use Rattle.sim_core.specs.AccessLog.{log_of}
+use Rattle.sim_core.specs.declared.access_log.LoggedAccess.{LoggedAccess}
+use Rattle.stall_text.specs.declared.queries.Queries.{Queries}
+use Rattle.stall_text.specs.declared.queries.AllQueries.{AllQueries}
+use Rattle.stall_text.specs.declared.polls.Polling.{Polling}
+use Rattle.stall_text.specs.declared.polls.Polls.{Polls}
+use Rattle.stall_text.specs.Polls.{asks, at_each_query, is_missed, is_of, polls_lines, query_lines}
+use Rattle.stall_text.specs.Ports.{last_module}
+
+-- ---- a module
+
+-- before its first access
+abbrev pub unpolled : Polling
+unpolled = record { before = 0; last = None; missing = false }
+
+abbrev pub one_if : Bool → ℕ
+one_if b = if b then 1 else 0
+
+-- in which clocks it polled so far
+abbrev pub polled_so_far : Polling → ℕ
+polled_so_far m = m.before + one_if m.missing
+
+-- the last clock with an access is this one
+abbrev pub is_last : Option ℕ → ℕ → Bool
+is_last None c = false
+is_last (Some l) c = l == c
+
+-- one access more
+abbrev pub polling_with : Polling → LoggedAccess → Polling
+polling_with m a =
+    if is_last m.last a.event.cycle then record { before = m.before; last = m.last; missing = m.missing && is_missed a }
+    else record { before = polled_so_far m; last = Some a.event.cycle; missing = is_missed a }
+
+-- after these accesses of a module
+abbrev pub polling_of : List LoggedAccess → Polling
+polling_of accesses = fold polling_with unpolled accesses
+
+-- ---- the queries of a kind on a channel
+
+-- none
+abbrev pub unasked : Queries
+unasked = record { owner = 0; tried = 0; missed = 0 }
+
+-- of these queries the module that made the last, and how many there are and were missed
+abbrev pub queries_in : List LoggedAccess → Queries
+queries_in queries = record { owner = last_module 0 queries; tried = length queries; missed = count_by is_missed queries }
+
+-- one query more
+abbrev pub asked_by : LoggedAccess → Queries → Queries
+asked_by a q = record { owner = a.event.«module»; tried = q.tried + 1; missed = q.missed + one_if (is_missed a) }
+
+-- those of a log
+unfoldable pub asked_at : List LoggedAccess → Kind → ℕ → Queries
+asked_at log kind f = queries_in (filter (asks kind f) log)
+
+-- the line of those queries, if they are the module's
+abbrev pub own_queries : ℕ → Token → Kind → Token → Queries → List (List Token)
+own_queries i name kind channel q = if q.owner == i then query_lines name kind channel q.tried q.missed else []
+
+-- the queries of this kind on each channel in a log
+pub record AreAsked (channels : ℕ) (kind : Kind) (log : List LoggedAccess) (queries : List Queries) : Type 0 where
+  pub count : length queries ≡ channels
+  pub each : (f : ℕ) → f < channels → slice_index_or queries f unasked ≡ asked_at log kind f
+
+-- those of a kind; none of a read or a write
+abbrev pub of_kind : AllQueries → Kind → List Queries
+of_kind all TryRead = all.tryreads
+of_kind all TryWrite = all.trywrites
+of_kind all Empty = all.empties
+of_kind all Full = all.fulls
+of_kind all _ = []
+
+-- by the queries of all kinds, those on channel f
+abbrev pub all_queries : Design → ℕ → AllQueries → ℕ → Kind → List (List Token)
+all_queries design i all f kind =
+    own_queries i (module_name design i) kind (channel_name design f) (slice_index_or (of_kind all kind) f unasked)
+
+-- ---- all modules
+
+-- the lines that are printed of what is kept
+abbrev pub kept_lines : Design → ℕ → Polls → List (List Token)
+kept_lines design i polls =
+    polls_lines (module_name design i) (polled_so_far (slice_index_or polls.modules i unpolled))
+    ++ at_each_query (length design.channels) (all_queries design i polls.queries)
+
+-- none where polls are not asked for
+abbrev pub polling_lines : Design → ℕ → Option Polls → List (List Token)
+polling_lines design i None = []
+polling_lines design i (Some polls) = kept_lines design i polls
+
+-- what is kept of queries has as many channels as the design
+pub record HaveChannels (channels : ℕ) (all : AllQueries) : Type 0 where
+  pub tryreads : length all.tryreads ≡ channels
+  pub trywrites : length all.trywrites ≡ channels
+  pub empties : length all.empties ≡ channels
+  pub fulls : length all.fulls ≡ channels
+
+-- and of modules as many as it has
+pub record HavePolls (design : Design) (polls : Polls) : Type 0 where
+  pub modules : length polls.modules ≡ length design.modules
+  pub channels : HaveChannels (length design.channels) polls.queries
+  pub few : (i : ℕ) → i < length design.modules → polled_so_far (slice_index_or polls.modules i unpolled) < 2 ^ 64
+
+-- this is what is kept of the queries in a log
+pub record AreQueries (channels : ℕ) (log : List LoggedAccess) (all : AllQueries) : Type 0 where
+  pub tryreads : AreAsked channels TryRead log all.tryreads
+  pub trywrites : AreAsked channels TryWrite log all.trywrites
+  pub empties : AreAsked channels Empty log all.empties
+  pub fulls : AreAsked channels Full log all.fulls
+
+-- and of the modules
+pub record ArePollings (modules : ℕ) (log : List LoggedAccess) (pollings : List Polling) : Type 0 where
+  pub count : length pollings ≡ modules
+  pub each : (i : ℕ) → i < modules → slice_index_or pollings i unpolled ≡ polling_of (filter (is_of i) log)
+  pub few : (i : ℕ) → i < modules → polled_so_far (slice_index_or pollings i unpolled) < 2 ^ 64
+
+-- of the log of a plan, where polls are asked for
+abbrev pub ArePollsOf : Plan → Option Polls → Type 0
+ArePollsOf p None = ⊤
+ArePollsOf p (Some polls) =
+    ArePollings (length p.design.modules) (log_of p) polls.modules × AreQueries (length p.design.channels) (log_of p) polls.queries

@@ -1,0 +1,94 @@
+-- Modules that poll: they move, and get nothing.
+use Rattle.std.specs.Prelude.{ℕ, ◌==◌, Bool, true, false, not, ◌&&◌, if◌then◌else◌, List, [], ◌∷◌, ◌++◌, length, codes, decimal}
+use Rattle.std.specs.Prelude.{count_by, filter}
+use Rattle.std.specs.List.{flat_map, list_any, range_with_len}
+use Rattle.flow_word.specs.declared.access.Kind.{Kind}
+use Rattle.flow_word.specs.declared.access.Kind.TheVariants.{Read, Write, TryRead, TryWrite, Empty, Full}
+use Rattle.flow_design.specs.declared.plan.Plan.{Plan}
+use Rattle.fifo_fills.specs.Fills.{last_clock}
+use Rattle.report_text.specs.Lines.{Token}
+use Rattle.report_text.specs.ReportText.{module_name, channel_name}
+use Rattle.sim_core.specs.AccessLog.{log_of}
+use Rattle.sim_core.specs.declared.access_log.LoggedAccess.{LoggedAccess}
+
+-- ---- missed queries
+
+-- a query whose outcome tells that it was not possible: it moved nothing, or the channel was empty or full
+abbrev pub misses : Kind → Bool → Bool
+misses Read outcome = false
+misses Write outcome = false
+misses TryRead outcome = not outcome
+misses TryWrite outcome = not outcome
+misses Empty outcome = outcome
+misses Full outcome = outcome
+
+abbrev pub is_missed : LoggedAccess → Bool
+is_missed a = misses a.event.kind a.outcome
+
+-- ---- one module
+
+abbrev pub is_of : ℕ → LoggedAccess → Bool
+is_of i a = a.event.«module» == i
+
+-- what the accesses of module i gave, in order
+abbrev pub accesses_of : Plan → ℕ → List LoggedAccess
+accesses_of p i = filter (is_of i) (log_of p)
+
+-- in this clock one of these accesses was done, and none but missed queries
+abbrev pub polls_in : List LoggedAccess → ℕ → Bool
+polls_in accesses c =
+    list_any (λ a. a.event.cycle == c) accesses && not (list_any (λ a. (a.event.cycle == c) && not (is_missed a)) accesses)
+
+-- in how many clocks below the verdict's module i polls
+unfoldable pub polled_clocks : Plan → ℕ → ℕ
+polled_clocks p i = count_by (polls_in (accesses_of p i)) (range_with_len 0 (last_clock p))
+
+-- ---- queries of a kind on a channel
+
+-- two kinds of queries are one
+abbrev pub same_query : Kind → Kind → Bool
+same_query TryRead TryRead = true
+same_query TryWrite TryWrite = true
+same_query Empty Empty = true
+same_query Full Full = true
+same_query _ _ = false
+
+abbrev pub asks : Kind → ℕ → LoggedAccess → Bool
+asks kind f a = same_query kind a.event.kind && (f == a.event.channel)
+
+-- those that module i makes
+abbrev pub queries_of : Plan → ℕ → Kind → ℕ → List LoggedAccess
+queries_of p i kind f = filter (λ a. is_of i a && asks kind f a) (log_of p)
+
+-- ---- lines
+
+-- `polls M N`, where N is not 0
+abbrev pub polls_lines : Token → ℕ → List (List Token)
+polls_lines name n = if n == 0 then [] else (codes "polls" ∷ name ∷ decimal n ∷ []) ∷ []
+
+abbrev pub query_word : Kind → Token
+query_word Read = codes "read"
+query_word Write = codes "write"
+query_word TryRead = codes "tryread"
+query_word TryWrite = codes "trywrite"
+query_word Empty = codes "empty"
+query_word Full = codes "full"
+
+-- `poll M KIND F TRIED MISSED`, where TRIED is not 0
+abbrev pub query_lines : Token → Kind → Token → ℕ → ℕ → List (List Token)
+query_lines name kind channel tried missed =
+    if tried == 0 then [] else (codes "poll" ∷ name ∷ query_word kind ∷ channel ∷ decimal tried ∷ decimal missed ∷ []) ∷ []
+
+-- of each channel, in order of declaration, the lines of each kind of query
+abbrev pub at_each_query : ℕ → (ℕ → Kind → List (List Token)) → List (List Token)
+at_each_query channels lines =
+    flat_map (λ f. ((lines f TryRead ++ lines f TryWrite) ++ lines f Empty) ++ lines f Full) (range_with_len 0 channels)
+
+abbrev pub tries_of : Plan → ℕ → ℕ → Kind → List (List Token)
+tries_of p i f kind =
+    let queries = queries_of p i kind f in
+    query_lines (module_name p.design i) kind (channel_name p.design f) (length queries) (count_by is_missed queries)
+
+-- the lines of a module that `--polls` adds
+abbrev pub poll_lines : Plan → ℕ → List (List Token)
+poll_lines p i = polls_lines (module_name p.design i) (polled_clocks p i) ++ at_each_query (length p.design.channels) (tries_of p i)

@@ -1,0 +1,171 @@
+//! Modules that poll.
+ghost use Rattle.std.specs.Prelude.{◌≡◌, ◌<◌, ◌^◌, ◌++◌, length, replicate, slice_index_or, slice_set};
+ghost use Rattle.std.specs.Prelude.{All, IfOk, IfSome, OnOk, is_some};
+ghost use Rattle.report_text.specs.Lines.{text_of_lines};
+ghost use Rattle.stall_text.specs.Polls.{polls_lines};
+ghost use Rattle.stall_text.specs.Polling.{ArePollings, AreQueries, HavePolls, kept_lines, polling_lines, unpolled};
+ghost use Rattle.stall_text.specs.Polling.{polled_so_far as polled, polling_with};
+
+use crate::queries::{AllQueries, all_queries, is_missed, print_queries};
+use flow_design::Design;
+use flow_word::{List, OutOfMemory};
+use report_text::{module_name, push_token, push_value};
+use sim_core::LoggedAccess;
+use std::alloc::Global;
+
+/// What is known of a module that may poll.
+#[derive(Clone, Copy, Debug, PartialEq, Eq)]
+pub(crate) struct Polling {
+    /// In how many clocks before the last one with an access each access was a missed query.
+    pub(crate) before: u64,
+    /// The last clock with an access.
+    pub(crate) last: Option<u64>,
+    /// Whether each access of that clock was a missed query.
+    pub(crate) missing: bool,
+}
+
+/// How the modules of a design poll.
+#[derive(Drop)]
+pub(crate) struct Polls {
+    /// Of each module.
+    pub(crate) modules: List<Polling>,
+    pub(crate) queries: AllQueries,
+}
+
+/// How so many modules poll so many channels, by what each access gave; nothing where it is not asked for.
+pub(crate) fn polls_if(
+    alloc: Global,
+    asked: bool,
+    modules: u32,
+    channels: usize,
+    log: &[LoggedAccess],
+) -> Result<Option<Polls>, OutOfMemory>
+    requires modules { All (λ a. a.event.module < modules) log.now }
+    requires channels { All (λ a. a.event.channel < channels) log.now }
+    ensures asked { IfOk result (λ polls. is_some polls ≡ asked) }
+    ensures polls { IfOk result (λ polls. IfSome polls (λ x. ArePollings modules log.now x.modules
+        × AreQueries channels log.now x.queries)) }
+{
+    if !asked {
+        return Ok(None);
+    }
+    Ok(Some(Polls {
+        modules: pollings(alloc, modules, log)?,
+        queries: all_queries(alloc, channels, log)?,
+    }))
+}
+
+/// Adds the lines of how a module polls, where it is asked for.
+pub(crate) fn print_polling(
+    text: &mut List<u8>,
+    design: &Design,
+    owner: u32,
+    polls: &Option<Polls>,
+) -> Result<(), OutOfMemory>
+    requires owner { owner < length design.now.modules }
+    requires polls { IfSome polls.now (HavePolls design.now) }
+    requires few { length design.now.channels < 2 ^ 32 }
+    ensures { OnOk result (text.new ≡ text.old ++ text_of_lines (polling_lines design.now owner polls.now)) }
+{
+    match polls {
+        Some(kept) => print_kept(text, design, owner, kept),
+        None => Ok(()),
+    }
+}
+
+/// Adds the lines of how a module polls.
+fn print_kept(
+    text: &mut List<u8>,
+    design: &Design,
+    owner: u32,
+    kept: &Polls,
+) -> Result<(), OutOfMemory>
+    requires owner { owner < length design.now.modules }
+    requires polls { HavePolls design.now kept.now }
+    requires few { length design.now.channels < 2 ^ 32 }
+    ensures { OnOk result (text.new ≡ text.old ++ text_of_lines (kept_lines design.now owner kept.now)) }
+{
+    let of = kept.modules.as_slice()[owner as usize];
+    print_polls(text, module_name(design, owner), polled_so_far(of))?;
+    print_queries(text, design, owner, &kept.queries)
+}
+
+/// How each of so many modules polls, by what each access gave.
+fn pollings(alloc: Global, modules: u32, log: &[LoggedAccess]) -> Result<List<Polling>, OutOfMemory>
+    requires inside { All (λ a. a.event.module < modules) log.now }
+    ensures { IfOk result (ArePollings modules log.now) }
+{
+    let mut pollings = no_pollings(alloc, modules)?;
+    for access in log {
+        count_access(&mut pollings, access);
+    }
+    Ok(pollings)
+}
+
+/// Of each module no access.
+fn no_pollings(alloc: Global, modules: u32) -> Result<List<Polling>, OutOfMemory>
+    ensures { IfOk result (λ pollings. pollings ≡ replicate modules unpolled) }
+{
+    let mut pollings = List::with_room(alloc, modules as u64)?;
+    for _at in 0..modules {
+        pollings.push(Polling {
+            before: 0,
+            last: None,
+            missing: false,
+        })?;
+    }
+    Ok(pollings)
+}
+
+/// A module makes an access more.
+fn count_access(pollings: &mut List<Polling>, access: &LoggedAccess)
+    requires inside { access.now.event.module < length pollings.old }
+    requires few { polled (slice_index_or pollings.old access.now.event.module unpolled) < 2 ^ 64 }
+    ensures { pollings.new ≡ slice_set pollings.old access.now.event.module
+        (polling_with (slice_index_or pollings.old access.now.event.module unpolled) access.now) }
+{
+    let of = &mut pollings.as_mut_slice()[access.event.module as usize];
+    *of = polling_with(*of, access);
+}
+
+/// How a module polls with an access more.
+fn polling_with(of: Polling, access: &LoggedAccess) -> Polling
+    requires { polled of < 2 ^ 64 }
+    ensures { result ≡ polling_with of access.now }
+{
+    let clock = access.event.cycle;
+    let missed = is_missed(access);
+    match of.last {
+        Some(last) if last == clock => Polling {
+            before: of.before,
+            last: of.last,
+            missing: of.missing && missed,
+        },
+        Some(_) | None => Polling {
+            before: polled_so_far(of),
+            last: Some(clock),
+            missing: missed,
+        },
+    }
+}
+
+/// In how many clocks a module polls.
+fn polled_so_far(of: Polling) -> u64
+    requires { polled of < 2 ^ 64 }
+    ensures { result ≡ polled of }
+{
+    of.before + of.missing as u64
+}
+
+/// Adds the line of a module that polls in so many clocks, if there are any.
+fn print_polls(text: &mut List<u8>, name: &[u8], clocks: u64) -> Result<(), OutOfMemory>
+    ensures { OnOk result (text.new ≡ text.old ++ text_of_lines (polls_lines name.now clocks)) }
+{
+    if clocks == 0 {
+        return Ok(());
+    }
+    text.extend_from_slice(b"polls")?;
+    push_token(text, name)?;
+    push_value(text, clocks)?;
+    text.push(b'\n')
+}

@@ -1,0 +1,203 @@
+//! The queries of each kind on each channel.
+ghost use Rattle.std.specs.Prelude.{◌≡◌, ◌≢◌, ◌<◌, ◌+◌, ◌^◌, ◌++◌, length, replicate, slice_set, slice_index_or};
+ghost use Rattle.std.specs.Prelude.{All, IfOk, OnOk};
+ghost use Rattle.report_text.specs.Lines.{text_of_lines};
+ghost use Rattle.stall_text.specs.Polls as form;
+ghost use Rattle.stall_text.specs.Polling.{asked_by, unasked, own_queries, AreAsked, AreQueries, HaveChannels, all_queries as queries_in};
+
+use flow_design::Design;
+use flow_word::{Kind, List, OutOfMemory};
+use report_text::{channel_name, module_name, push_token, push_value};
+use sim_core::LoggedAccess;
+use std::alloc::Global;
+
+/// What is known of the queries of one kind on a channel.
+#[derive(Clone, Copy, Debug, PartialEq, Eq)]
+pub(crate) struct Queries {
+    /// The module that made the last of them; 0 where there is none.
+    pub(crate) owner: u32,
+    /// How many there are.
+    pub(crate) tried: u64,
+    /// How many of them were missed.
+    pub(crate) missed: u64,
+}
+
+/// The queries of each kind, on each channel.
+#[derive(Drop)]
+pub(crate) struct AllQueries {
+    pub(crate) tryreads: List<Queries>,
+    pub(crate) trywrites: List<Queries>,
+    pub(crate) empties: List<Queries>,
+    pub(crate) fulls: List<Queries>,
+}
+
+/// The queries of all kinds on so many channels, by what each access gave.
+pub(crate) fn all_queries(
+    alloc: Global,
+    channels: usize,
+    log: &[LoggedAccess],
+) -> Result<AllQueries, OutOfMemory>
+    requires inside { All (λ a. a.event.channel < channels) log.now }
+    ensures { IfOk result (AreQueries channels log.now) }
+{
+    Ok(AllQueries {
+        tryreads: queries_at(alloc, channels, Kind::TryRead, log)?,
+        trywrites: queries_at(alloc, channels, Kind::TryWrite, log)?,
+        empties: queries_at(alloc, channels, Kind::Empty, log)?,
+        fulls: queries_at(alloc, channels, Kind::Full, log)?,
+    })
+}
+
+/// The queries of one kind on each channel, by what each access gave.
+fn queries_at(
+    alloc: Global,
+    channels: usize,
+    kind: Kind,
+    log: &[LoggedAccess],
+) -> Result<List<Queries>, OutOfMemory>
+    requires inside { All (λ a. a.event.channel < channels) log.now }
+    ensures { IfOk result (AreAsked channels kind log.now) }
+{
+    let mut queries = no_queries(alloc, channels)?;
+    for access in log {
+        if same_query(kind, access.event.kind) {
+            count_query(&mut queries, access);
+        }
+    }
+    Ok(queries)
+}
+
+/// Of each channel no query.
+fn no_queries(alloc: Global, channels: usize) -> Result<List<Queries>, OutOfMemory>
+    ensures { IfOk result (λ queries. queries ≡ replicate channels unasked) }
+{
+    let mut queries = List::with_room(alloc, channels as u64)?;
+    for _at in 0..channels {
+        queries.push(Queries {
+            owner: 0,
+            tried: 0,
+            missed: 0,
+        })?;
+    }
+    Ok(queries)
+}
+
+/// Whether an access is a query of this kind; false of a read and of a write.
+fn same_query(kind: Kind, other: Kind) -> bool
+    ensures { result ≡ form.same_query kind other }
+{
+    !kind.is_blocking() && kind == other
+}
+
+/// Counts a query on its channel.
+fn count_query(queries: &mut List<Queries>, access: &LoggedAccess)
+    requires inside { access.now.event.channel < length queries.old }
+    requires few_tried { (slice_index_or queries.old access.now.event.channel unasked).tried + 1 < 2 ^ 64 }
+    requires few_missed { (slice_index_or queries.old access.now.event.channel unasked).missed + 1 < 2 ^ 64 }
+    ensures { queries.new ≡ slice_set queries.old access.now.event.channel
+        (asked_by access.now (slice_index_or queries.old access.now.event.channel unasked)) }
+{
+    let of = &mut queries.as_mut_slice()[access.event.channel as usize];
+    of.owner = access.event.module;
+    of.tried += 1;
+    of.missed += is_missed(access) as u64;
+}
+
+/// Whether an access is a query that was not possible in its clock.
+pub(crate) fn is_missed(access: &LoggedAccess) -> bool
+    ensures { result ≡ form.is_missed access.now }
+{
+    match access.event.kind {
+        Kind::Read | Kind::Write => false,
+        Kind::TryRead | Kind::TryWrite => !access.outcome,
+        Kind::Empty | Kind::Full => access.outcome,
+    }
+}
+
+/// Adds the lines of a module's queries.
+pub(crate) fn print_queries(
+    text: &mut List<u8>,
+    design: &Design,
+    owner: u32,
+    all: &AllQueries,
+) -> Result<(), OutOfMemory>
+    requires owner { owner < length design.now.modules }
+    requires channels { HaveChannels (length design.now.channels) all.now }
+    requires few { length design.now.channels < 2 ^ 32 }
+    ensures { OnOk result (text.new ≡ text.old ++ text_of_lines (form.at_each_query (length design.now.channels)
+        (queries_in design.now owner all.now))) }
+{
+    let name = module_name(design, owner);
+    let count = design.channels.len() as u32;
+    for number in 0..count {
+        let channel = channel_name(design, number);
+        let tryreads = queries_on(&all.tryreads, number);
+        let trywrites = queries_on(&all.trywrites, number);
+        let empties = queries_on(&all.empties, number);
+        let fulls = queries_on(&all.fulls, number);
+        print_own(text, owner, name, Kind::TryRead, channel, tryreads)?;
+        print_own(text, owner, name, Kind::TryWrite, channel, trywrites)?;
+        print_own(text, owner, name, Kind::Empty, channel, empties)?;
+        print_own(text, owner, name, Kind::Full, channel, fulls)?;
+    }
+    Ok(())
+}
+
+/// The queries on a channel.
+fn queries_on(queries: &List<Queries>, channel: u32) -> Queries
+    requires { channel < length queries.now }
+    ensures { result ≡ slice_index_or queries.now channel unasked }
+{
+    queries.as_slice()[channel as usize]
+}
+
+/// Adds the line of queries, if they are the module's.
+fn print_own(
+    text: &mut List<u8>,
+    owner: u32,
+    name: &[u8],
+    kind: Kind,
+    channel: &[u8],
+    of: Queries,
+) -> Result<(), OutOfMemory>
+    ensures { OnOk result (text.new ≡ text.old ++ text_of_lines (own_queries owner name.now kind channel.now of)) }
+{
+    if of.owner == owner && of.tried != 0 {
+        return print_query(text, name, kind, channel, of);
+    }
+    Ok(())
+}
+
+/// Adds the line of queries that are made.
+fn print_query(
+    text: &mut List<u8>,
+    name: &[u8],
+    kind: Kind,
+    channel: &[u8],
+    of: Queries,
+) -> Result<(), OutOfMemory>
+    requires { of.tried ≢ 0 }
+    ensures { OnOk result (text.new ≡ text.old ++ text_of_lines (form.query_lines name.now kind channel.now of.tried of.missed)) }
+{
+    text.extend_from_slice(b"poll")?;
+    push_token(text, name)?;
+    push_token(text, query_word(kind))?;
+    push_token(text, channel)?;
+    push_value(text, of.tried)?;
+    push_value(text, of.missed)?;
+    text.push(b'\n')
+}
+
+/// The word for a kind of access.
+fn query_word(kind: Kind) -> &'static [u8]
+    ensures { result.now ≡ form.query_word kind }
+{
+    match kind {
+        Kind::Read => b"read",
+        Kind::Write => b"write",
+        Kind::TryRead => b"tryread",
+        Kind::TryWrite => b"trywrite",
+        Kind::Empty => b"empty",
+        Kind::Full => b"full",
+    }
+}

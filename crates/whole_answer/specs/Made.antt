@@ -95,7 +95,7 @@ abbrev pub made : Task → List Statement → Answer
 made (Simulate by o) statements = simulated o statements
 made Check statements = canonical statements
 made (Advise o) statements = advice (with_limits o (plan_of statements))
-made (Show view o) statements = shown view o.events (with_limits o (plan_of statements))
+made (Show view o) statements = shown view o (with_limits o (plan_of statements))
 made Order statements = ordered (plan_of statements).design
 made (Sweep lo hi o) statements = swept lo hi (with_limits o (plan_of statements))
 made (Size o) statements = sized (with_limits o (plan_of statements))

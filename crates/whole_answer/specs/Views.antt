@@ -1,7 +1,8 @@
 -- What is shown of a plan's simulation.
-use Rattle.std.specs.Prelude.{ℕ, List, Bool}
+use Rattle.std.specs.Prelude.{ℕ, List}
 use Rattle.flow_design.specs.declared.plan.Plan.{Plan}
 use Rattle.lockstep_defs.specs.Report.{report}
+use Rattle.cli_words.specs.declared.Options.{Options}
 use Rattle.cli_words.specs.declared.View.{View}
 use Rattle.cli_words.specs.declared.View.TheVariants.{Wave, Log, Stalls, Path, Trace}
 use Rattle.log_text.specs.LogText.{log_text}
@@ -13,14 +14,14 @@ use Rattle.vcd_wave.specs.WaveText.{wave_text}
 use Rattle.whole_answer.specs.declared.answer.Answer.{Answer}
 use Rattle.whole_answer.specs.Job.{status_of}
 
--- the text of a view; `path` with its links or without them
-abbrev pub view_text : View → Bool → Plan → List ℕ
-view_text Wave events p = wave_text (wave_of p)
-view_text Log events p = log_text p
-view_text Stalls events p = stalls_text p
-view_text Path events p = path_text events p
-view_text Trace events p = trace_text p
+-- the text of a view, with what the options ask for: `stalls` with polls, `path` with its links
+abbrev pub view_text : View → Options → Plan → List ℕ
+view_text Wave o p = wave_text (wave_of p)
+view_text Log o p = log_text p
+view_text Stalls o p = stalls_text o.polls p
+view_text Path o p = path_text o.events p
+view_text Trace o p = trace_text p
 
 -- with the status of the verdict
-unfoldable pub shown : View → Bool → Plan → Answer
-shown view events p = record { text = view_text view events p; status = status_of (report p).verdict }
+unfoldable pub shown : View → Options → Plan → Answer
+shown view o p = record { text = view_text view o p; status = status_of (report p).verdict }

@@ -52,7 +52,7 @@ pub(crate) fn make<R: Threads + Wait + Sync, G: Gate + Sync>(
         Task::Advise(options) => advise_depths(rt, alloc, limited(checked, options), gate),
         Task::Show(view, options) => {
             let plan = limited(checked, options);
-            show(rt, alloc, *view, options.events, plan, gate)
+            show(rt, alloc, *view, options, plan, gate)
         }
         Task::Order => order_modules(alloc, &checked.plan),
         Task::Sweep { lo, hi, options } => {

@@ -9,7 +9,7 @@ ghost use Rattle.whole_answer.specs.Views.{shown, view_text};
 
 use crate::answer::Answer;
 use crate::status::Status;
-use cli_words::View;
+use cli_words::{Options, View};
 use depth_session::{Runner, ThreadRunner};
 use flow_design::Plan;
 use flow_word::{List, OutOfMemory};
@@ -30,32 +30,37 @@ pub(crate) fn show<R: Threads + Wait + Sync, G: Gate + Sync>(
     rt: &R,
     alloc: Global,
     view: View,
-    events: bool,
+    options: &Options,
     plan: Plan,
     gate: &G,
 ) -> Result<Answer, OutOfMemory>
     requires { FitsEngine plan }
-    ensures shown { IfOk result (λ whole. whole ≡ shown view events plan) }
+    ensures shown { IfOk result (λ whole. whole ≡ shown view options.now plan) }
     ensures status { IfOk result (λ whole. IsAnswer whole.status) }
 {
     let core = ThreadRunner::new(gate).run_plan(rt, alloc, plan)?;
     let outcome = core.report(alloc, false)?;
     Ok(Answer {
-        text: view_text(alloc, view, events, &core)?,
+        text: view_text(alloc, view, options, &core)?,
         status: Status::of(outcome.verdict),
     })
 }
 
-/// The text of a view of a final core's plan; `path` with its links or without them.
-fn view_text(alloc: Global, view: View, events: bool, core: &Core) -> Result<List<u8>, OutOfMemory>
+/// The text of a view of a final core's plan, with what the options ask for: `stalls` with polls, `path` with its links.
+fn view_text(
+    alloc: Global,
+    view: View,
+    options: &Options,
+    core: &Core,
+) -> Result<List<u8>, OutOfMemory>
     requires { IsFinal (design core.now.plan) core.now.plan.cycles (theory_of core.now) }
-    ensures { IfOk result (λ text. text ≡ view_text view events core.now.plan) }
+    ensures { IfOk result (λ text. text ≡ view_text view options.now core.now.plan) }
 {
     match view {
         View::Wave => wave_text(alloc, &core.plan().design, core),
         View::Log => log_text(alloc, core),
-        View::Stalls => stalls_text(alloc, core),
-        View::Path => path_text(alloc, core, events),
+        View::Stalls => stalls_text(alloc, core, options.polls),
+        View::Path => path_text(alloc, core, options.events),
         View::Trace => trace_text(alloc, core),
     }
 }

@@ -93,6 +93,23 @@ class Port:
 
 
 @dataclass(frozen=True)
+class Polls:
+    """In how many clocks a module moves, has accesses due, and each of them is a query that was missed."""
+    module: str
+    clocks: int
+
+
+@dataclass(frozen=True)
+class Query:
+    """The queries of one kind that a module makes on a channel: how many, and how many of them were missed."""
+    module: str
+    kind: str  # tryread, trywrite, empty or full
+    channel: str
+    tried: int
+    missed: int
+
+
+@dataclass(frozen=True)
 class FifoTime:
     """The most elements that a FIFO held, and the clocks in which it was empty and full."""
     fifo: str
@@ -108,6 +125,8 @@ class Stalls:
     stalls: list = field(default_factory=list)
     ports: list = field(default_factory=list)
     fifos: list = field(default_factory=list)
+    polls: list = field(default_factory=list)  # with --polls
+    queries: list = field(default_factory=list)  # with --polls
 
 
 @dataclass(frozen=True)
@@ -243,7 +262,7 @@ def read_run(text):
 
 
 def read_stalls(text):
-    """The answer to `stalls`."""
+    """The answer to `stalls`, with `--polls` or without."""
     lines = Lines('stalls', text)
     lines.take('stalls', 0)
     found = Stalls(lines.verdict())
@@ -252,6 +271,8 @@ def read_stalls(text):
         found.modules.append(ModuleTime(name, lines.number(moved), lines.number(still)))
         found.stalls += lines.all_of('stall', 4, lambda *words: Stall(*words[:3], lines.number(words[3])))
         found.ports += lines.all_of('port', 6, lambda *words: Port(*words[:3], *lines.numbers(words[3:])))
+        found.polls += lines.all_of('polls', 2, lambda name, clocks: Polls(name, lines.number(clocks)))
+        found.queries += lines.all_of('poll', 5, lambda *words: Query(*words[:3], *lines.numbers(words[3:])))
     found.fifos = lines.all_of('fifo', 4, lambda name, *rest: FifoTime(name, *lines.numbers(rest)))
     lines.end()
     return found

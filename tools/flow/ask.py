@@ -24,9 +24,9 @@ def run(text, events=False, cycles=None, ops=None):
     return read_run(told(['run'] + ['--events'] * events, text, cycles, ops))
 
 
-def stalls(text, cycles=None, ops=None):
-    """Where time is lost: Stalls."""
-    return read_stalls(told(['stalls'], text, cycles, ops))
+def stalls(text, cycles=None, ops=None, polls=False):
+    """Where time is lost: Stalls, with `polls` also how the modules poll."""
+    return read_stalls(told(['stalls'] + ['--polls'] * polls, text, cycles, ops))
 
 
 def path(text, events=False, cycles=None, ops=None):

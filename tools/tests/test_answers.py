@@ -2,8 +2,8 @@
 import io
 import unittest
 
-from flow.answers import (Access, BadAnswer, Cross, Event, FifoTime, Held, Link, Port, Spend, Stall, TraceTaker, Verdict,
-                          read_depths, read_log, read_path, read_run, read_stalls, read_sweep, take_trace)
+from flow.answers import (Access, BadAnswer, Cross, Event, FifoTime, Held, Link, Polls, Port, Query, Spend, Stall,
+                          TraceTaker, Verdict, read_depths, read_log, read_path, read_run, read_stalls, read_sweep, take_trace)
 
 RUN = '''report 0
 verdict deadlock 2
@@ -58,6 +58,12 @@ class ReadsAnswers(unittest.TestCase):
         self.assertEqual(run.reports[0].held, [Held('p', 'full', 'b')])
         self.assertEqual(run.reports[0].events, [Event('p', 'write', 'b', 0)])
         self.assertEqual(run.runs, 2)
+
+    def test_polls(self):
+        found = read_stalls(STALLS.replace('fifo b', 'polls q 5\npoll q tryread b 13 7\nfifo b'))
+        self.assertEqual(found.polls, [Polls('q', 5)])
+        self.assertEqual(found.queries, [Query('q', 'tryread', 'b', 13, 7)])
+        self.assertEqual(found.fifos, [FifoTime('b', 1, 44, 16)])
 
     def test_stalls(self):
         found = read_stalls(STALLS)

@@ -9,15 +9,29 @@ MOST_NAMED = 8  # FIFOs in one sentence
 MOST_STALLS = 5  # that are told
 
 
-def tell_stalls(options, text):
-    """Tells the modules that stall most, and FIFOs that nothing goes through."""
-    found = answer('stalls', options, text)
+def missed_by(module, queries):
+    """The queries that a module made in vain, in words."""
+    return ', '.join(f'{query.missed:,} of {query.tried:,} {query.kind} of {query.channel}'
+                     for query in queries if query.module == module and query.missed)
+
+
+def tell_polls(found):
+    """Tells the modules that poll longest, and what for."""
+    for polls in sorted(found.polls, key=lambda entry: -entry.clocks)[:MOST_STALLS]:
+        print(f'  {polls.module} polls in vain for {count_of(polls.clocks, "clock")}: {missed_by(polls.module, found.queries)} '
+              '(omnisim stalls --polls).')
+
+
+def tell_stalls(options, text, session):
+    """Tells the modules that stall most, those that poll, and FIFOs that nothing goes through."""
+    found = answer('stalls', options + ['--polls'] * asks_outcomes(session), text)
     if found is None:
         return
     for stall in sorted(found.stalls, key=lambda entry: -entry.clocks)[:MOST_STALLS]:
         print(f'  {stall.module} stalls for {count_of(stall.clocks, "clock")}: {stall.channel} is {stall.side}.')
     if not found.stalls:
         print('  No module ever stalls.')
+    tell_polls(found)
     for fifo in found.fifos:
         if fifo.most == 0:
             print(f'  Nothing ever goes through {fifo.fifo}.')
@@ -33,7 +47,8 @@ def tell_chain(options, text, session):
     if where:
         print(f'  The chain that makes the latency spends {", ".join(where)} (omnisim path).')
     if asks_outcomes(session):
-        return  # a poll that misses counts as moving, so the chain alone tells nothing of depths
+        print('  A poll in vain counts as a move there: look at what the modules that poll wait for.')
+        return
     if full:
         print(f'  Deepening can help at {", ".join(full)}: there the chain that makes the latency waits for a place.')
     elif session.depths:
@@ -42,7 +57,7 @@ def tell_chain(options, text, session):
 
 def tell_time(options, text, session, verdict):
     """Of a design that is done: where time is lost, what makes the latency, and whether FIFO depths matter."""
-    tell_stalls(options, text)
+    tell_stalls(options, text, session)
     tell_chain(options, text, session)
     tell_places(options, text, session, verdict)
 

@@ -97,7 +97,7 @@ from_first bits first o h is m l =
       )
       | inr ones ↦ (
         λ named. elim (cases_lt m first) [
-          | inl below ↦ absurd (zero_one (bit_at bits m) (sym (ap (λ (b : ℕ). bit_at b m) ones.0 ∙ bit_at_mask_below first 64 m below)) named)
+          | inl low ↦ absurd (zero_one (bit_at bits m) (sym (ap (λ (b : ℕ). bit_at b m) ones.0 ∙ bit_at_mask_below first 64 m low)) named)
           | inr le ↦ le
         ],
         λ le. ap (λ (b : ℕ). bit_at b m) ones.0 ∙ bit_at_mask_inside first 64 m le l,

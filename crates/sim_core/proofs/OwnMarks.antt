@@ -1,15 +1,10 @@
 -- The steps that a core has emitted are the marks of its modules' own runs.
-use Rattle.std.proofs.Common.{◌≡◌, refl, sym, ap, ap₂, subst, ◌∙◌, ℕ, zero, suc, ◌+◌, ◌-◌, ◌<◌, ◌≤◌, Bool, true, false, cond, ◌||◌}
-use Rattle.std.proofs.Common.{List, [], ◌∷◌, ◌++◌, length, map, take, get_or, inl, inr, arith}
-use Rattle.std.specs.Prelude.{slice_index_or}
-use Rattle.std.specs.List.{range_with_len}
+use Rattle.std.proofs.Common.{◌≡◌, refl, sym, ap, ap₂, subst, ◌∙◌, ℕ, zero, suc, ◌+◌, ◌<◌, ◌≤◌, Bool, true, false, cond, ◌||◌}
+use Rattle.std.proofs.Common.{List, [], ◌∷◌, ◌++◌, length, map, take, get_or, arith}
 use Rattle.std.proofs.Math.Seq.{take-suc}
-use Rattle.std.proofs.lemmas.Bool.{cases_lt}
-use Rattle.std.proofs.lemmas.List.{get_or-map, length-map, take_all, get_or_past}
+use Rattle.std.proofs.lemmas.List.{get_or-map, length-map, take_all}
 use Rattle.std.proofs.lemmas.List.FromFn.{length-map-range_with_len}
-use Rattle.flow_word.specs.declared.access.Access.{Access}
 use Rattle.flow_word.specs.declared.access.Step.{Step as StepOf}
-use Rattle.flow_word.specs.Kinds.{side_of}
 use Rattle.flow_design.specs.declared.plan.Plan.{Plan}
 use Rattle.flow_design.specs.declared.state.Advance.{Advance}
 use Rattle.flow_design.specs.declared.state.Advance.TheVariants.{Step, Ended, Spent}
@@ -19,25 +14,23 @@ use Rattle.flow_design.specs.StaticRules.{FitsEngine}
 use Rattle.lockstep_defs.specs.Channels.{Exchange}
 use Rattle.lockstep_defs.specs.Machine.{is_over, is_spent}
 use Rattle.lockstep_defs.specs.Lockstep.{requests_of}
-use Rattle.lockstep_defs.specs.OwnRun.{Own, access_of, marks}
+use Rattle.lockstep_defs.specs.OwnRun.{access_of, marks}
 use Rattle.lockstep_defs.specs.Quiet.{quiet}
 use Rattle.lockstep_defs.specs.Report.{queries}
 use Rattle.module_interp.specs.Chains.{rest_at, clock_at, marks_before, GoesTo}
 use Rattle.module_interp.specs.OwnRests.{done_in, accesses_at, mark_at}
 use Rattle.module_interp.specs.Runs.{is_step}
 use Rattle.module_interp.proofs.Chains.{marks_are_own}
-use Rattle.event_timing.specs.Machines.{ready}
 use Rattle.event_timing.specs.Views.{own}
 use Rattle.event_timing.specs.Core.{Core, core_reply, core_tally}
 use Rattle.event_timing.specs.Agreement.{IsAgreed}
 use Rattle.timing_bridge.specs.Designs.{design, lockstep_run}
 use Rattle.timing_bridge.specs.OwnRuns.{clocks_of_steps, core_replies}
 use Rattle.event_graph.specs.Lanes.{lane_at}
-use Rattle.engine_view.specs.Held.{Held, no_step, step_of, emitted_of, waited, core_of}
+use Rattle.engine_view.specs.Held.{no_step, step_of, emitted_of, waited}
 use Rattle.engine_view.specs.Shown.{IsSound}
 use Rattle.engine_view.proofs.Bounds.{lane_apart}
 use Rattle.engine_report.proofs.Ending.{waited_is}
-use Rattle.sim_core.specs.Marks.{IsRestBehind}
 use Rattle.sim_core.specs.OwnMarks.{TellsOwnRun, held_marks}
 use Rattle.sim_core.specs.Views.{CoreView, theory_of}
 use Rattle.sim_core.proofs.Fed.{same_accesses, seen_same}
@@ -98,7 +91,8 @@ module _ (v : CoreView) (fits : FitsEngine v.plan) (sound : IsSound (design v.pl
       let rest = rest_is p fits x b i inside k n le within in
       let state : o.state ≡ x.state i k = rest.state ∙ sym (b.own_step i k less) in
       let lives = ap (λ (s : ModuleState). is_over p.ops s) state ∙ b.lives i k less in
-      let gap : clocks_of_steps k + waited k step.gap ≡ step.gap = waited_is k step.gap (lane_apart v.held.lanes sound.sound_lanes i k less) in
+      let gap : clocks_of_steps k + waited k step.gap ≡ step.gap =
+      waited_is k step.gap (lane_apart v.held.lanes sound.sound_lanes i k less) in
       let wait : waited k step.gap ≡ quiet p i (own d i (core_reply d x i) k) = b.own_wait i k less in
       let since : o.since ≡ step.gap = rest.since ∙ (ap (λ (c : ℕ). clocks_of_steps k + c) (sym wait) ∙ gap) in
       let asked : accesses_at p i o ≡ map (access_of (done_in o.steps)) (requests_of p (i, x.state i k)) =

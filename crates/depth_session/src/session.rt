@@ -4,7 +4,10 @@ ghost use Rattle.flow_design.specs.Plans.{EditFits};
 ghost use Rattle.flow_design.specs.StaticRules.{FitsEngine};
 ghost use Rattle.lockstep_defs.specs.Report.{report};
 ghost use Rattle.lockstep_defs.specs.Verdict as lockstep;
+ghost use Rattle.event_timing.specs.Actions.{IsFinal};
+ghost use Rattle.timing_bridge.specs.Designs.{design};
 ghost use Rattle.engine_report.specs.Finished.{report_with};
+ghost use Rattle.sim_core.specs.Views.{theory_of};
 ghost use Rattle.depth_order.specs.Depths.{AsksNothing};
 ghost use Rattle.depth_session.specs.Records.{RepeatsAnswers};
 ghost use Rattle.depth_session.specs.Sessions.{opened, plan_behind, with_edit, IsBroken};
@@ -130,6 +133,15 @@ impl DepthSession {
         ensures { result ≡ lockstep.verdict self.now.plan }
     {
         self.core.verdict()
+    }
+
+    /// The core of the plan that stands: a final one.
+    pub fn core(&self) -> &Core
+        requires { self.now.live ≡ true }
+        ensures plan { result.now.plan ≡ self.now.plan }
+        ensures final { IsFinal (design result.now.plan) result.now.plan.cycles (theory_of result.now) }
+    {
+        &self.core
     }
 
     /// The plan that stands.

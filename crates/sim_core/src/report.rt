@@ -3,12 +3,12 @@ ghost use Rattle.std.specs.Prelude.{◌≡◌, IfOk, IfSome, IsNone, OnErr, OnSo
 ghost use Rattle.event_timing.specs.Actions.{IsFinal};
 ghost use Rattle.lockstep_defs.specs.Verdict as lockstep;
 ghost use Rattle.timing_bridge.specs.Designs.{design};
-ghost use Rattle.engine_report.specs.Finished.{report_with};
+ghost use Rattle.engine_report.specs.Finished.{IsFinished, report_with};
 ghost use Rattle.sim_core.specs.Views.{theory_of};
 
 use crate::machine::Core;
 use engine_report::{report_of, verdict_of};
-use flow_design::{Report, Verdict};
+use flow_design::{Advance, Report, Verdict};
 use flow_word::OutOfMemory;
 use std::alloc::Global;
 
@@ -19,6 +19,15 @@ impl Core {
         ensures { result ≡ lockstep.verdict self.now.plan }
     {
         verdict_of(&self.plan, &self.engine, &self.ends)
+    }
+
+    /// The end mark of each module of a core that is final; none of a module that waits for good or until the cycle limit. With what
+    /// the engine holds, this is the end of the plan's simulation.
+    pub fn ends(&self) -> &[Option<Advance>]
+        requires { IsFinal (design self.now.plan) self.now.plan.cycles (theory_of self.now) }
+        ensures { IsFinished self.now.plan self.now.held result.now }
+    {
+        self.ends.as_slice()
     }
 
     /// The report of a core that is final: the lockstep machine's, with its events where they are asked for and else with none.

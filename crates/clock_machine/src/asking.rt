@@ -8,17 +8,19 @@ ghost use Rattle.lockstep_defs.specs.Channels.{all_ready, stalls, reply};
 ghost use Rattle.lockstep_defs.specs.Lockstep.{module_at, numbered, moves, answered};
 ghost use Rattle.lockstep_defs.specs.Verdict.{is_settled, some_moves};
 ghost use Rattle.clock_machine.specs.Parts.{part_of, exchanges_of, all_exchanges, outcomes_in, popped, pushed};
-ghost use Rattle.clock_machine.specs.Parts.{AreFit, AreFitInTime, AreCodes};
+ghost use Rattle.clock_machine.specs.Parts.{AreFitInTime, AreCodes};
 ghost use Rattle.clock_machine.specs.Quiet.{AreQuiet};
 ghost use Rattle.clock_machine.specs.Stalls.{IsKnown, AreKnown, AreStill};
+ghost use Rattle.clock_machine.specs.Clocks.{Stands, HasAdded, HasRoom, HasAsked};
 ghost use Rattle.module_move.specs.Sound.{IsStateSound};
 ghost use Rattle.module_move.specs.Moves.{notes_of};
 
 use crate::channels::{answer_one, any_stalls, any_stalls_ever};
-use crate::part::{Part, Pushed, Scratch, Stalled};
-use block_code::{BlockCode, Noted};
-use flow_design::{ClockState, Element, Module, ModuleState, Plan, Reply, Request};
-use flow_word::{Flags, List, OutOfMemory, Queue, Words};
+use crate::compiled::{Channels, Compiled, Standing};
+use crate::part::{Part, Room, Scratch, Stalled, Traffic};
+use block_code::Noted;
+use flow_design::{ClockState, Module, ModuleState, Plan, Reply, Request};
+use flow_word::{Flags, List, OutOfMemory, Words};
 use module_move::{is_over, note};
 use std::mem::swap;
 
@@ -44,28 +46,27 @@ pub fn state_at(state: &ClockState, i: usize) -> &ModuleState
 /// among them.
 #[inline(always)]
 pub fn note_one(
-    plan: &Plan,
-    codes: &[List<BlockCode>],
+    of: &Compiled<'_>,
     i: usize,
     state: &ModuleState,
     words: &mut Words,
     noted: &mut List<Noted>,
     asked: &mut List<Request>,
 ) -> Result<(), OutOfMemory>
-    requires fits { FitsEngine plan.now }
-    requires codes { AreCodes plan.now codes.now }
-    requires within { i < length plan.now.design.modules }
-    requires sound { IsStateSound (module_at plan.now i) state.now }
+    requires fits { FitsEngine of.now.plan.now }
+    requires codes { AreCodes of.now.plan.now of.now.codes.now }
+    requires within { i < length of.now.plan.now.design.modules }
+    requires sound { IsStateSound (module_at of.now.plan.now i) state.now }
     requires small { state.now.control.clock < 2 ^ 60 }
-    ensures noted { OnOk result (noted.new ≡ notes_of (module_at plan.now i) state.now) }
-    ensures asked { OnOk result (asked.new ≡ requests plan.now.design.channels (module_at plan.now i) state.now) }
+    ensures noted { OnOk result (noted.new ≡ notes_of (module_at of.now.plan.now i) state.now) }
+    ensures asked { OnOk result (asked.new ≡ requests of.now.plan.now.design.channels (module_at of.now.plan.now i) state.now) }
 {
-    let own = &codes[i];
+    let own = &of.codes[i];
     let code = &own.as_slice()[state.control.block as usize];
-    let channels = plan.design.channels.as_slice();
+    let channels = of.plan.design.channels.as_slice();
     note(
         channels,
-        module_at(plan, i),
+        module_at(of.plan, i),
         code,
         state,
         words,
@@ -76,31 +77,32 @@ pub fn note_one(
 }
 
 /// Whether a module is known to stall, and still stalls in this clock.
-fn still_stalls(plan: &Plan, clock: u64, contents: &[Queue<Element>], stalled: &Stalled) -> bool
-    ensures { result ≡ (stalled.now.known && list_any (stalls plan.now clock contents.now) stalled.now.requests) }
+fn still_stalls(at: &Channels<'_>, stalled: &Stalled) -> bool
+    ensures { result ≡ (stalled.now.known
+        && list_any (stalls at.now.plan.now at.now.clock at.now.contents.now) stalled.now.requests) }
 {
-    stalled.known && any_stalls(plan, clock, contents, stalled.requests.as_slice())
+    stalled.known && any_stalls(at, stalled.requests.as_slice())
 }
 
 /// As `note_one`, into a part: of a module that has stalled, what was noted then is taken over.
 #[inline(always)]
 fn note_part(
-    plan: &Plan,
-    codes: &[List<BlockCode>],
+    of: &Compiled<'_>,
     i: usize,
     state: &ModuleState,
     words: &mut Words,
     stalled: &mut Stalled,
     part: &mut Part,
 ) -> Result<(), OutOfMemory>
-    requires fits { FitsEngine plan.now }
-    requires codes { AreCodes plan.now codes.now }
-    requires within { i < length plan.now.design.modules }
-    requires sound { IsStateSound (module_at plan.now i) state.now }
+    requires fits { FitsEngine of.now.plan.now }
+    requires codes { AreCodes of.now.plan.now of.now.codes.now }
+    requires within { i < length of.now.plan.now.design.modules }
+    requires sound { IsStateSound (module_at of.now.plan.now i) state.now }
     requires small { state.now.control.clock < 2 ^ 60 }
-    requires known { IsKnown plan.now (i, state.now) stalled.old }
-    ensures noted { OnOk result (part.new.noted ≡ notes_of (module_at plan.now i) state.now) }
-    ensures asked { OnOk result (part.new.requests ≡ requests plan.now.design.channels (module_at plan.now i) state.now) }
+    requires known { IsKnown of.now.plan.now (i, state.now) stalled.old }
+    ensures noted { OnOk result (part.new.noted ≡ notes_of (module_at of.now.plan.now i) state.now) }
+    ensures asked { OnOk result (part.new.requests
+        ≡ requests of.now.plan.now.design.channels (module_at of.now.plan.now i) state.now) }
     ensures unknown { OnOk result (stalled.new.known ≡ false) }
 {
     if stalled.known {
@@ -109,15 +111,7 @@ fn note_part(
         swap(&mut part.requests, &mut stalled.requests);
         return Ok(());
     }
-    note_one(
-        plan,
-        codes,
-        i,
-        state,
-        words,
-        &mut part.noted,
-        &mut part.requests,
-    )?;
+    note_one(of, i, state, words, &mut part.noted, &mut part.requests)?;
     Ok(())
 }
 
@@ -125,38 +119,33 @@ fn note_part(
 /// the queries among them, and what they pop and push is added.
 #[inline(always)]
 fn answer(
-    plan: &Plan,
-    clock: u64,
-    contents: &[Queue<Element>],
+    at: &Channels<'_>,
     requests: &[Request],
     replies: &mut List<Reply>,
     outcomes: &mut Flags,
-    queried: &mut bool,
-    pops: &mut List<u32>,
-    pushes: &mut List<Pushed>,
+    traffic: &mut Traffic,
 ) -> Result<bool, OutOfMemory>
-    ensures goes { IfOk result (λ goes. goes ≡ not (list_any (stalls plan.now clock contents.now) requests.now)) }
-    ensures replies { IfOk result (λ goes. goes ≡ true → replies.new ≡ map (reply plan.now clock contents.now) requests.now) }
+    ensures goes { IfOk result (λ goes. goes ≡ not (list_any (stalls at.now.plan.now at.now.clock at.now.contents.now) requests.now)) }
+    ensures replies { IfOk result (λ goes. goes ≡ true
+        → replies.new ≡ map (reply at.now.plan.now at.now.clock at.now.contents.now) requests.now) }
     ensures outcomes { IfOk result (λ goes. goes ≡ true
-        → outcomes.new ≡ outcomes_in (map (answered plan.now clock contents.now) requests.now)) }
-    ensures quiet { IfOk result (λ goes. goes ≡ true → queried.new ≡ false → outcomes.new ≡ []) }
-    ensures queried { OnOk result (queried.new ≡ false → queried.old ≡ false) }
-    ensures pops { IfOk result (λ goes. pops.new
-        ≡ pops.old ++ (if goes then popped (map (answered plan.now clock contents.now) requests.now) else [])) }
-    ensures pushes { IfOk result (λ goes. pushes.new
-        ≡ pushes.old ++ (if goes then pushed (map (answered plan.now clock contents.now) requests.now) else [])) }
+        → outcomes.new ≡ outcomes_in (map (answered at.now.plan.now at.now.clock at.now.contents.now) requests.now)) }
+    ensures quiet { IfOk result (λ goes. goes ≡ true → traffic.new.queried ≡ false → outcomes.new ≡ []) }
+    ensures queried { OnOk result (traffic.new.queried ≡ false → traffic.old.queried ≡ false) }
+    ensures pops { IfOk result (λ goes. traffic.new.pops ≡ traffic.old.pops
+        ++ (if goes then popped (map (answered at.now.plan.now at.now.clock at.now.contents.now) requests.now) else [])) }
+    ensures pushes { IfOk result (λ goes. traffic.new.pushes ≡ traffic.old.pushes
+        ++ (if goes then pushed (map (answered at.now.plan.now at.now.clock at.now.contents.now) requests.now) else [])) }
 {
-    let popped_before = pops.len();
-    let pushed_before = pushes.len();
+    let popped_before = traffic.pops.len();
+    let pushed_before = traffic.pushes.len();
     replies.truncate(0);
     outcomes.truncate(0);
     for request in requests {
-        match answer_one(
-            plan, clock, contents, request, outcomes, queried, pops, pushes,
-        )? {
+        match answer_one(at, request, outcomes, traffic)? {
             None => {
-                pops.truncate(popped_before);
-                pushes.truncate(pushed_before);
+                traffic.pops.truncate(popped_before);
+                traffic.pushes.truncate(pushed_before);
                 return Ok(false);
             }
             Some(reply) => replies.push(reply)?,
@@ -165,58 +154,62 @@ fn answer(
     Ok(true)
 }
 
+/// What the channels hold.
+#[inline(always)]
+fn channels_at<'a>(at: &Standing<'a>) -> Channels<'a>
+    ensures plan { result.plan.now ≡ at.now.compiled.now.plan.now }
+    ensures clock { result.clock ≡ at.now.clock }
+    ensures contents { result.contents.now ≡ at.now.state.now.contents }
+{
+    Channels {
+        plan: at.compiled.plan,
+        clock: at.clock,
+        contents: at.state.contents.as_slice(),
+    }
+}
+
 /// The part of one module: no part where it is ended, spent or stalls, else what it has due, and the replies. Adds what it pops and
 /// pushes. What was noted of a module that stalls is kept.
 #[inline(always)]
 fn take_part(
-    plan: &Plan,
-    codes: &[List<BlockCode>],
-    clock: u64,
-    state: &ClockState,
+    at: &Standing<'_>,
     i: usize,
     words: &mut Words,
-    queried: &mut bool,
-    pops: &mut List<u32>,
-    pushes: &mut List<Pushed>,
+    traffic: &mut Traffic,
     stalled: &mut Stalled,
     part: &mut Part,
 ) -> Result<(), OutOfMemory>
-    requires fits { FitsEngine plan.now }
-    requires codes { AreCodes plan.now codes.now }
-    requires fit { AreFit plan.now clock state.now.modules }
-    requires early { clock ≤ plan.now.cycles }
-    requires within { i < length state.now.modules }
-    requires known { IsKnown plan.now (i, slice_index_or state.now.modules i nobody) stalled.old }
-    ensures part { OnOk result (part.new ≡ part_of plan.now clock state.now.contents (i, slice_index_or state.now.modules i nobody)) }
-    ensures quiet { OnOk result (queried.new ≡ false → part.new.outcomes ≡ []) }
-    ensures queried { OnOk result (queried.new ≡ false → queried.old ≡ false) }
-    ensures pops { OnOk result (pops.new ≡ pops.old ++ popped (exchanges_of part.new)) }
-    ensures pushes { OnOk result (pushes.new ≡ pushes.old ++ pushed (exchanges_of part.new)) }
-    ensures known { OnOk result (IsKnown plan.now (i, slice_index_or state.now.modules i nobody) stalled.new) }
+    requires stands { Stands at.now.compiled.now.plan.now at.now.compiled.now.codes.now at.now.clock at.now.state.now }
+    requires within { i < length at.now.state.now.modules }
+    requires known { IsKnown at.now.compiled.now.plan.now (i, slice_index_or at.now.state.now.modules i nobody) stalled.old }
+    ensures part { OnOk result (part.new ≡ part_of at.now.compiled.now.plan.now at.now.clock at.now.state.now.contents
+        (i, slice_index_or at.now.state.now.modules i nobody)) }
+    ensures quiet { OnOk result (traffic.new.queried ≡ false → part.new.outcomes ≡ []) }
+    ensures queried { OnOk result (traffic.new.queried ≡ false → traffic.old.queried ≡ false) }
+    ensures pops { OnOk result (traffic.new.pops ≡ traffic.old.pops ++ popped (exchanges_of part.new)) }
+    ensures pushes { OnOk result (traffic.new.pushes ≡ traffic.old.pushes ++ pushed (exchanges_of part.new)) }
+    ensures known { OnOk result (IsKnown at.now.compiled.now.plan.now (i, slice_index_or at.now.state.now.modules i nobody) stalled.new) }
     ensures still { OnOk result (stalled.new.known ≡ true → part.new.moves ≡ false) }
 {
-    let module = state_at(state, i);
+    let plan = at.compiled.plan;
+    let module = state_at(at.state, i);
     if is_over(plan.ops, module) {
         part.clear();
         return Ok(());
     }
-    let contents = state.contents.as_slice();
-    if still_stalls(plan, clock, contents, stalled) {
+    let channels = channels_at(at);
+    if still_stalls(&channels, stalled) {
         part.clear();
         return Ok(());
     }
-    note_part(plan, codes, i, module, words, stalled, part)?;
+    note_part(at.compiled, i, module, words, stalled, part)?;
     let requests = part.requests.as_slice();
     part.moves = answer(
-        plan,
-        clock,
-        contents,
+        &channels,
         requests,
         &mut part.replies,
         &mut part.outcomes,
-        queried,
-        pops,
-        pushes,
+        traffic,
     )?;
     if !part.moves {
         stalled.keep(part);
@@ -226,83 +219,74 @@ fn take_part(
 
 /// The parts of all modules, in order. Adds what they pop and push.
 fn take_parts(
-    plan: &Plan,
-    codes: &[List<BlockCode>],
-    clock: u64,
-    state: &ClockState,
+    at: &Standing<'_>,
     words: &mut Words,
-    queried: &mut bool,
-    pops: &mut List<u32>,
-    pushes: &mut List<Pushed>,
+    traffic: &mut Traffic,
     stalls: &mut [Stalled],
     parts: &mut [Part],
 ) -> Result<(), OutOfMemory>
-    requires fits { FitsEngine plan.now }
-    requires codes { AreCodes plan.now codes.now }
-    requires fit { AreFit plan.now clock state.now.modules }
-    requires early { clock ≤ plan.now.cycles }
-    requires count { length parts.old ≡ length state.now.modules }
-    requires stalls { length stalls.old ≡ length state.now.modules }
-    requires known { AreKnown plan.now state.now.modules stalls.old }
-    ensures parts { OnOk result (parts.new ≡ map (part_of plan.now clock state.now.contents) (numbered state.now)) }
-    ensures quiet { OnOk result (queried.new ≡ false → AreQuiet parts.new) }
-    ensures pops { OnOk result (pops.new ≡ pops.old ++ popped (all_exchanges parts.new)) }
-    ensures pushes { OnOk result (pushes.new ≡ pushes.old ++ pushed (all_exchanges parts.new)) }
-    ensures known { OnOk result (AreKnown plan.now state.now.modules stalls.new) }
+    requires stands { Stands at.now.compiled.now.plan.now at.now.compiled.now.codes.now at.now.clock at.now.state.now }
+    requires count { length parts.old ≡ length at.now.state.now.modules }
+    requires known { AreKnown at.now.compiled.now.plan.now at.now.state.now.modules stalls.old }
+    requires stalls { length stalls.old ≡ length at.now.state.now.modules }
+    ensures parts { OnOk result (parts.new
+        ≡ map (part_of at.now.compiled.now.plan.now at.now.clock at.now.state.now.contents) (numbered at.now.state.now)) }
+    ensures quiet { OnOk result (traffic.new.queried ≡ false → AreQuiet parts.new) }
+    ensures traffic { OnOk result (HasAdded traffic.old traffic.new (all_exchanges parts.new)) }
+    ensures known { OnOk result (AreKnown at.now.compiled.now.plan.now at.now.state.now.modules stalls.new) }
     ensures still { OnOk result (AreStill parts.new stalls.new) }
 {
     for (i, part) in parts.iter_mut().enumerate() {
         let stalled = &mut stalls[i];
-        take_part(
-            plan, codes, clock, state, i, words, queried, pops, pushes, stalled, part,
-        )?;
+        take_part(at, i, words, traffic, stalled, part)?;
     }
     Ok(())
 }
 
 /// Whether module number i would move if every element could be popped.
 fn would_move(
-    plan: &Plan,
-    codes: &[List<BlockCode>],
+    of: &Compiled<'_>,
     state: &ClockState,
     i: usize,
-    words: &mut Words,
-    noted: &mut List<Noted>,
-    requests: &mut List<Request>,
+    room: &mut Room,
 ) -> Result<bool, OutOfMemory>
-    requires fits { FitsEngine plan.now }
-    requires codes { AreCodes plan.now codes.now }
-    requires fit { AreFitInTime plan.now state.now.modules }
+    requires fits { FitsEngine of.now.plan.now }
+    requires codes { AreCodes of.now.plan.now of.now.codes.now }
+    requires fit { AreFitInTime of.now.plan.now state.now.modules }
     requires within { i < length state.now.modules }
     ensures { IfOk result (λ moving. moving
-        ≡ moves plan.now 0 (all_ready state.now.contents) (i, slice_index_or state.now.modules i nobody)) }
+        ≡ moves of.now.plan.now 0 (all_ready state.now.contents) (i, slice_index_or state.now.modules i nobody)) }
 {
     let module = state_at(state, i);
-    if is_over(plan.ops, module) {
+    if is_over(of.plan.ops, module) {
         return Ok(false);
     }
-    note_one(plan, codes, i, module, words, noted, requests)?;
+    note_one(
+        of,
+        i,
+        module,
+        &mut room.words,
+        &mut room.noted,
+        &mut room.requests,
+    )?;
     let contents = state.contents.as_slice();
-    Ok(!any_stalls_ever(plan, contents, requests.as_slice()))
+    Ok(!any_stalls_ever(of.plan, contents, room.requests.as_slice()))
 }
 
 /// Whether a module would move if every element could be popped.
 fn any_would_move(
-    plan: &Plan,
-    codes: &[List<BlockCode>],
+    of: &Compiled<'_>,
     state: &ClockState,
-    words: &mut Words,
-    noted: &mut List<Noted>,
-    requests: &mut List<Request>,
+    room: &mut Room,
 ) -> Result<bool, OutOfMemory>
-    requires fits { FitsEngine plan.now }
-    requires codes { AreCodes plan.now codes.now }
-    requires fit { AreFitInTime plan.now state.now.modules }
-    ensures { IfOk result (λ moving. moving ≡ some_moves plan.now 0 (all_ready state.now.contents) state.now) }
+    requires fits { FitsEngine of.now.plan.now }
+    requires codes { AreCodes of.now.plan.now of.now.codes.now }
+    requires fit { AreFitInTime of.now.plan.now state.now.modules }
+    ensures { IfOk result (λ moving. moving ≡ some_moves of.now.plan.now 0 (all_ready state.now.contents) state.now) }
 {
     let count = state.modules.as_slice().len();
     for i in 0..count {
-        if would_move(plan, codes, state, i, words, noted, requests)? {
+        if would_move(of, state, i, room)? {
             return Ok(true);
         }
     }
@@ -319,53 +303,32 @@ fn any_moves(parts: &[Part]) -> bool
 /// Fills in the parts of all modules and what they pop and push, and says whether the clock is settled: whether none moves, and
 /// none would if every element could be popped.
 pub fn ask_all(
-    plan: &Plan,
-    codes: &[List<BlockCode>],
+    of: &Compiled<'_>,
     clock: u64,
     state: &ClockState,
     scratch: &mut Scratch,
 ) -> Result<bool, OutOfMemory>
-    requires fits { FitsEngine plan.now }
-    requires codes { AreCodes plan.now codes.now }
-    requires fit { AreFit plan.now clock state.now.modules }
-    requires early { clock ≤ plan.now.cycles }
-    requires count { length scratch.old.parts ≡ length state.now.modules }
-    requires stalls { length scratch.old.stalls ≡ length state.now.modules }
-    requires known { AreKnown plan.now state.now.modules scratch.old.stalls }
-    ensures settled { IfOk result (λ settled. settled ≡ is_settled plan.now clock state.now) }
-    ensures parts { OnOk result (scratch.new.parts ≡ map (part_of plan.now clock state.now.contents) (numbered state.now)) }
-    ensures quiet { OnOk result (scratch.new.queried ≡ false → AreQuiet scratch.new.parts) }
-    ensures pops { OnOk result (scratch.new.pops ≡ popped (all_exchanges scratch.new.parts)) }
-    ensures pushes { OnOk result (scratch.new.pushes ≡ pushed (all_exchanges scratch.new.parts)) }
-    ensures stalls { OnOk result (length scratch.new.stalls ≡ length state.now.modules) }
-    ensures known { OnOk result (AreKnown plan.now state.now.modules scratch.new.stalls) }
-    ensures still { OnOk result (AreStill scratch.new.parts scratch.new.stalls) }
+    requires stands { Stands of.now.plan.now of.now.codes.now clock state.now }
+    requires room { HasRoom of.now.plan.now state.now scratch.old }
+    ensures settled { IfOk result (λ settled. settled ≡ is_settled of.now.plan.now clock state.now) }
+    ensures asked { OnOk result (HasAsked of.now.plan.now clock state.now scratch.new) }
 {
-    scratch.pops.truncate(0);
-    scratch.pushes.truncate(0);
-    scratch.queried = false;
-    take_parts(
-        plan,
-        codes,
+    scratch.traffic.clear();
+    let at = Standing {
+        compiled: of,
         clock,
         state,
-        &mut scratch.words,
-        &mut scratch.queried,
-        &mut scratch.pops,
-        &mut scratch.pushes,
+    };
+    take_parts(
+        &at,
+        &mut scratch.room.words,
+        &mut scratch.traffic,
         scratch.stalls.as_mut_slice(),
         scratch.parts.as_mut_slice(),
     )?;
     if any_moves(scratch.parts.as_slice()) {
         return Ok(false);
     }
-    let moving = any_would_move(
-        plan,
-        codes,
-        state,
-        &mut scratch.words,
-        &mut scratch.noted,
-        &mut scratch.requests,
-    )?;
+    let moving = any_would_move(of, state, &mut scratch.room)?;
     Ok(!moving)
 }

@@ -8,7 +8,8 @@ ghost use Rattle.flow_design.specs.declared.state.Reply.TheVariants.{Flag};
 ghost use Rattle.lockstep_defs.specs.Lockstep.{answered};
 ghost use Rattle.clock_machine.specs.Parts.{outcomes_in, popped, pushed};
 
-use crate::part::Pushed;
+use crate::compiled::Channels;
+use crate::part::{Pushed, Traffic};
 use flow_design::{ChannelKind, Element, Plan, Reply, Request};
 use flow_word::{Flags, Kind, List, OutOfMemory, Queue, Side};
 
@@ -109,42 +110,29 @@ fn is_full(plan: &Plan, contents: &[Queue<Element>], channel: u32) -> bool
 
 /// Whether a channel has an element to pop in this clock, or else a place to push.
 #[inline(always)]
-fn is_possible(
-    plan: &Plan,
-    clock: u64,
-    contents: &[Queue<Element>],
-    side: Side,
-    channel: u32,
-) -> bool
-    ensures { result ≡ is_possible plan.now clock contents.now side channel }
+fn is_possible(at: &Channels<'_>, side: Side, channel: u32) -> bool
+    ensures { result ≡ is_possible at.now.plan.now at.now.clock at.now.contents.now side channel }
 {
     match side {
-        Side::Pop => !is_empty(clock, contents, channel),
-        Side::Push => !is_full(plan, contents, channel),
+        Side::Pop => !is_empty(at.clock, at.contents, channel),
+        Side::Push => !is_full(at.plan, at.contents, channel),
     }
 }
 
 /// Whether an operation blocks and cannot be done in this clock.
 #[inline(always)]
-fn stalls(plan: &Plan, clock: u64, contents: &[Queue<Element>], request: &Request) -> bool
-    ensures { result ≡ stalls plan.now clock contents.now request.now }
+fn stalls(at: &Channels<'_>, request: &Request) -> bool
+    ensures { result ≡ stalls at.now.plan.now at.now.clock at.now.contents.now request.now }
 {
     let kind = request.kind;
-    kind.is_blocking() && !is_possible(plan, clock, contents, kind.side(), request.channel)
+    kind.is_blocking() && !is_possible(at, kind.side(), request.channel)
 }
 
 /// Whether one of these operations blocks and cannot be done in this clock.
-pub fn any_stalls(
-    plan: &Plan,
-    clock: u64,
-    contents: &[Queue<Element>],
-    requests: &[Request],
-) -> bool
-    ensures { result ≡ list_any (stalls plan.now clock contents.now) requests.now }
+pub fn any_stalls(at: &Channels<'_>, requests: &[Request]) -> bool
+    ensures { result ≡ list_any (stalls at.now.plan.now at.now.clock at.now.contents.now) requests.now }
 {
-    requests
-        .iter()
-        .any(|request| stalls(plan, clock, contents, request))
+    requests.iter().any(|request| stalls(at, request))
 }
 
 /// Whether a channel would have an element to pop, or else a place to push, if every element could be popped. The clock does not
@@ -205,28 +193,34 @@ fn flag(
 #[tactic(auto, unfolding(lockstep_defs::specs::Channels::reply))]
 #[inline(always)]
 pub fn answer_one(
-    plan: &Plan,
-    clock: u64,
-    contents: &[Queue<Element>],
+    at: &Channels<'_>,
     request: &Request,
     outcomes: &mut Flags,
-    queried: &mut bool,
-    pops: &mut List<u32>,
-    pushes: &mut List<Pushed>,
+    traffic: &mut Traffic,
 ) -> Result<Option<Reply>, OutOfMemory>
-    ensures reply { IfOk result (λ answer. answer
-        ≡ (if stalls plan.now clock contents.now request.now then None else Some (reply plan.now clock contents.now request.now))) }
+    ensures reply { IfOk result (λ answer. answer ≡ (if stalls at.now.plan.now at.now.clock at.now.contents.now request.now
+        then None else Some (reply at.now.plan.now at.now.clock at.now.contents.now request.now))) }
     ensures outcomes { IfOk result (λ answer. is_some answer ≡ true
-        → outcomes.new ≡ outcomes.old ++ outcomes_in (answered plan.now clock contents.now request.now ∷ [])) }
-    ensures pops { IfOk result (λ answer. is_some answer ≡ true
-        → pops.new ≡ pops.old ++ popped (answered plan.now clock contents.now request.now ∷ [])) }
-    ensures pushes { IfOk result (λ answer. is_some answer ≡ true
-        → pushes.new ≡ pushes.old ++ pushed (answered plan.now clock contents.now request.now ∷ [])) }
-    ensures quiet { IfOk result (λ answer. queried.new ≡ false → outcomes.new ≡ outcomes.old) }
-    ensures queried { IfOk result (λ answer. queried.new ≡ false → queried.old ≡ false) }
-    ensures no_pop { IfOk result (λ answer. is_some answer ≡ false → pops.new ≡ pops.old) }
-    ensures no_push { IfOk result (λ answer. is_some answer ≡ false → pushes.new ≡ pushes.old) }
+        → outcomes.new ≡ outcomes.old ++ outcomes_in (answered at.now.plan.now at.now.clock at.now.contents.now request.now ∷ [])) }
+    ensures pops { IfOk result (λ answer. is_some answer ≡ true → traffic.new.pops
+        ≡ traffic.old.pops ++ popped (answered at.now.plan.now at.now.clock at.now.contents.now request.now ∷ [])) }
+    ensures pushes { IfOk result (λ answer. is_some answer ≡ true → traffic.new.pushes
+        ≡ traffic.old.pushes ++ pushed (answered at.now.plan.now at.now.clock at.now.contents.now request.now ∷ [])) }
+    ensures quiet { IfOk result (λ answer. traffic.new.queried ≡ false → outcomes.new ≡ outcomes.old) }
+    ensures queried { IfOk result (λ answer. traffic.new.queried ≡ false → traffic.old.queried ≡ false) }
+    ensures no_pop { IfOk result (λ answer. is_some answer ≡ false → traffic.new.pops ≡ traffic.old.pops) }
+    ensures no_push { IfOk result (λ answer. is_some answer ≡ false → traffic.new.pushes ≡ traffic.old.pushes) }
 {
+    let Channels {
+        plan,
+        clock,
+        contents,
+    } = *at;
+    let Traffic {
+        pops,
+        pushes,
+        queried,
+    } = traffic;
     let channel = request.channel;
     let value = request.value;
     match request.kind {

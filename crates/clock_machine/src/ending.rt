@@ -9,15 +9,18 @@ ghost use Rattle.lockstep_defs.specs.Verdict.{settled_verdict, held_at, held_by,
 ghost use Rattle.flow_design.specs.Reports.{clock_of};
 ghost use Rattle.lockstep_defs.specs.Report.{sinks, outputs_in};
 ghost use Rattle.flow_design.specs.Plans.{is_sink};
-ghost use Rattle.clock_machine.specs.Parts.{AreFit, AreFitInTime, AreCodes, report_from};
+ghost use Rattle.clock_machine.specs.Parts.{AreFitInTime, AreCodes, report_from};
+ghost use Rattle.clock_machine.specs.Clocks.{Stands};
 
 use crate::asking::{note_one, state_at};
 use crate::channels::stalls_ever;
-use block_code::{BlockCode, Noted};
+use crate::compiled::Compiled;
+use crate::part::Room;
+use crate::telling::Told;
 use flow_design::{
-    ChannelKind, ClockState, Element, EventLine, Held, ModuleState, Plan, Report, Request, Verdict,
+    ChannelKind, ClockState, Element, Held, ModuleState, Plan, Report, Request, Verdict,
 };
-use flow_word::{Flags, List, OutOfMemory, Queue, Side, Words};
+use flow_word::{List, OutOfMemory, Queue, Side, Words};
 use module_move::{is_over, is_spent};
 use std::alloc::Global;
 
@@ -75,63 +78,51 @@ fn hold_by(i: u32, request: Request) -> Held
 
 /// Adds how module number i is held, if it is neither ended nor spent.
 fn hold_one(
-    plan: &Plan,
-    codes: &[List<BlockCode>],
+    of: &Compiled<'_>,
     state: &ClockState,
     i: usize,
-    words: &mut Words,
-    noted: &mut List<Noted>,
-    requests: &mut List<Request>,
+    room: &mut Room,
     held: &mut List<Held>,
 ) -> Result<(), OutOfMemory>
-    requires fits { FitsEngine plan.now }
-    requires codes { AreCodes plan.now codes.now }
-    requires fit { AreFitInTime plan.now state.now.modules }
+    requires fits { FitsEngine of.now.plan.now }
+    requires codes { AreCodes of.now.plan.now of.now.codes.now }
+    requires fit { AreFitInTime of.now.plan.now state.now.modules }
     requires within { i < length state.now.modules }
     ensures { OnOk result (held.new
-        ≡ held.old ++ filter_map (held_by plan.now 0 (all_ready state.now.contents))
+        ≡ held.old ++ filter_map (held_by of.now.plan.now 0 (all_ready state.now.contents))
         ((i, slice_index_or state.now.modules i nobody) ∷ [])) }
 {
     let module = state_at(state, i);
-    if is_over(plan.ops, module) {
+    if is_over(of.plan.ops, module) {
         return Ok(());
     }
-    note_one(plan, codes, i, module, words, noted, requests)?;
+    note_one(
+        of,
+        i,
+        module,
+        &mut room.words,
+        &mut room.noted,
+        &mut room.requests,
+    )?;
     let contents = state.contents.as_slice();
-    if let Some(request) = first_stall(plan, contents, requests.as_slice()) {
+    if let Some(request) = first_stall(of.plan, contents, room.requests.as_slice()) {
         held.push(hold_by(i as u32, request))?;
     }
     Ok(())
 }
 
 /// How the modules are held, in order, in whatever clock that is.
-fn hold_all(
-    alloc: Global,
-    plan: &Plan,
-    codes: &[List<BlockCode>],
-    state: &ClockState,
-) -> Result<List<Held>, OutOfMemory>
-    requires fits { FitsEngine plan.now }
-    requires codes { AreCodes plan.now codes.now }
-    requires fit { AreFitInTime plan.now state.now.modules }
-    ensures { IfOk result (λ list. (clock : ℕ) → list ≡ held_in plan.now clock state.now) }
+fn hold_all(alloc: Global, of: &Compiled<'_>, state: &ClockState) -> Result<List<Held>, OutOfMemory>
+    requires fits { FitsEngine of.now.plan.now }
+    requires codes { AreCodes of.now.plan.now of.now.codes.now }
+    requires fit { AreFitInTime of.now.plan.now state.now.modules }
+    ensures { IfOk result (λ list. (clock : ℕ) → list ≡ held_in of.now.plan.now clock state.now) }
 {
     let mut held = List::new(alloc);
-    let mut words = List::new(alloc);
-    let mut noted = List::new(alloc);
-    let mut requests = List::new(alloc);
+    let mut room = Room::new(alloc);
     let count = state.modules.as_slice().len();
     for i in 0..count {
-        hold_one(
-            plan,
-            codes,
-            state,
-            i,
-            &mut words,
-            &mut noted,
-            &mut requests,
-            &mut held,
-        )?;
+        hold_one(of, state, i, &mut room, &mut held)?;
     }
     Ok(held)
 }
@@ -139,21 +130,17 @@ fn hold_all(
 /// How the modules are held at a verdict: not at all where all are ended or the cycle limit was reached.
 fn held_with(
     alloc: Global,
-    plan: &Plan,
-    codes: &[List<BlockCode>],
+    of: &Compiled<'_>,
     verdict: Verdict,
     state: &ClockState,
 ) -> Result<List<Held>, OutOfMemory>
-    requires fits { FitsEngine plan.now }
-    requires codes { AreCodes plan.now codes.now }
-    requires fit { AreFit plan.now (clock_of verdict) state.now.modules }
-    requires early { clock_of verdict ≤ plan.now.cycles }
-    ensures { IfOk result (λ list. list ≡ held plan.now verdict state.now) }
+    requires { Stands of.now.plan.now of.now.codes.now (clock_of verdict) state.now }
+    ensures { IfOk result (λ list. list ≡ held of.now.plan.now verdict state.now) }
 {
     match verdict {
         Verdict::Done(_) | Verdict::Cycles(_) => Ok(List::new(alloc)),
         Verdict::Deadlock(_) | Verdict::Ops(_) => {
-            let held = hold_all(alloc, plan, codes, state)?;
+            let held = hold_all(alloc, of, state)?;
             Ok(held)
         }
     }
@@ -230,24 +217,24 @@ fn outputs(
     Ok(outputs)
 }
 
-/// The report at a verdict, on the state in its clock and what was done before it.
+/// The report at a verdict, on the state in its clock and what was told before it.
 pub fn report_at(
     alloc: Global,
-    plan: &Plan,
-    codes: &[List<BlockCode>],
+    of: &Compiled<'_>,
     verdict: Verdict,
     mut state: ClockState,
-    events: List<EventLine>,
-    answers: List<Flags>,
+    told: Told,
 ) -> Result<Report, OutOfMemory>
-    requires fits { FitsEngine plan.now }
-    requires codes { AreCodes plan.now codes.now }
-    requires fit { AreFit plan.now (clock_of verdict) state.modules }
-    requires early { clock_of verdict ≤ plan.now.cycles }
-    ensures { IfOk result (λ report. report ≡ report_from plan.now verdict state events answers) }
+    requires { Stands of.now.plan.now of.now.codes.now (clock_of verdict) state }
+    ensures { IfOk result (λ report. report ≡ report_from of.now.plan.now verdict state told.events told.answers) }
 {
-    let held = held_with(alloc, plan, codes, verdict, &state)?;
-    let outputs = outputs(alloc, plan, state.contents.as_mut_slice())?;
+    let held = held_with(alloc, of, verdict, &state)?;
+    let outputs = outputs(alloc, of.plan, state.contents.as_mut_slice())?;
+    let Told {
+        keep: _keep,
+        events,
+        answers,
+    } = told;
     Ok(Report {
         verdict,
         outputs,
@@ -260,19 +247,15 @@ pub fn report_at(
 /// The report of a run that comes to a settled clock.
 pub fn settled_report(
     alloc: Global,
-    plan: &Plan,
-    codes: &[List<BlockCode>],
+    of: &Compiled<'_>,
     clock: u64,
     state: ClockState,
-    events: List<EventLine>,
-    answers: List<Flags>,
+    told: Told,
 ) -> Result<Report, OutOfMemory>
-    requires fits { FitsEngine plan.now }
-    requires codes { AreCodes plan.now codes.now }
-    requires fit { AreFit plan.now clock state.modules }
-    requires early { clock ≤ plan.now.cycles }
-    ensures { IfOk result (λ report. report ≡ report_from plan.now (settled_verdict plan.now clock state) state events answers) }
+    requires { Stands of.now.plan.now of.now.codes.now clock state }
+    ensures { IfOk result (λ report. report
+        ≡ report_from of.now.plan.now (settled_verdict of.now.plan.now clock state) state told.events told.answers) }
 {
-    let verdict = settled_verdict(plan, clock, &state);
-    report_at(alloc, plan, codes, verdict, state, events, answers)
+    let verdict = settled_verdict(of.plan, clock, &state);
+    report_at(alloc, of, verdict, state, told)
 }

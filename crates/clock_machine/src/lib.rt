@@ -3,6 +3,7 @@
 
 mod asking;
 mod channels;
+mod compiled;
 mod contents;
 mod ending;
 mod moving;

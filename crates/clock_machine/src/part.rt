@@ -1,5 +1,5 @@
 //! What a module does in a clock.
-ghost use Rattle.std.specs.Prelude.{◌≡◌, IfOk, length, replicate};
+ghost use Rattle.std.specs.Prelude.{◌≡◌, false, [], IfOk, length, replicate};
 ghost use Rattle.clock_machine.specs.Parts.{no_part};
 ghost use Rattle.clock_machine.specs.Stalls.{no_stall, stalled_on};
 
@@ -41,6 +41,28 @@ pub struct Stalled {
     pub requests: List<Request>,
 }
 
+/// What modules do in a clock, beside their own parts.
+#[derive(Drop)]
+pub struct Traffic {
+    /// The channels that they pop, each as often as it is popped.
+    pub pops: List<u32>,
+    /// What they push.
+    pub pushes: List<Pushed>,
+    /// Whether one of them has a query.
+    pub queried: bool,
+}
+
+/// Room for what is noted of one module.
+#[derive(Drop)]
+pub struct Room {
+    /// The due operations, in commit order.
+    pub noted: List<Noted>,
+    /// The FIFO operations among them.
+    pub requests: List<Request>,
+    /// For the results of expressions.
+    pub words: Words,
+}
+
 /// Room that is used anew in each clock, and what stays known of the modules that stall.
 #[derive(Drop)]
 pub struct Scratch {
@@ -48,16 +70,10 @@ pub struct Scratch {
     pub parts: List<Part>,
     /// What is known of each module from earlier clocks.
     pub stalls: List<Stalled>,
-    /// The channels that all modules pop in a clock, each as often as it is popped.
-    pub pops: List<u32>,
-    /// What all modules push in a clock.
-    pub pushes: List<Pushed>,
-    /// Whether a module has a query in a clock.
-    pub queried: bool,
-    pub noted: List<Noted>,
-    pub requests: List<Request>,
-    /// For the results of expressions.
-    pub words: Words,
+    /// What all modules do in a clock.
+    pub traffic: Traffic,
+    /// For a module that has no part.
+    pub room: Room,
 }
 
 impl Part {
@@ -110,6 +126,37 @@ impl Stalled {
     }
 }
 
+impl Traffic {
+    /// Nothing is done, which takes no memory.
+    pub fn new(alloc: Global) -> Traffic {
+        Traffic {
+            pops: List::new(alloc),
+            pushes: List::new(alloc),
+            queried: false,
+        }
+    }
+
+    /// Takes all out. The lists keep their room.
+    pub fn clear(&mut self)
+        ensures { self.new ≡ record { pops = []; pushes = []; queried = false } }
+    {
+        self.pops.truncate(0);
+        self.pushes.truncate(0);
+        self.queried = false;
+    }
+}
+
+impl Room {
+    /// Nothing is noted, which takes no memory.
+    pub fn new(alloc: Global) -> Room {
+        Room {
+            noted: List::new(alloc),
+            requests: List::new(alloc),
+            words: List::new(alloc),
+        }
+    }
+}
+
 /// Nothing known of so many modules.
 fn no_stalls(alloc: Global, modules: u64) -> Result<List<Stalled>, OutOfMemory>
     ensures { IfOk result (λ stalls. stalls ≡ replicate modules no_stall) }
@@ -134,11 +181,7 @@ pub fn new_scratch(alloc: Global, modules: u64) -> Result<Scratch, OutOfMemory>
     Ok(Scratch {
         parts,
         stalls,
-        pops: List::new(alloc),
-        pushes: List::new(alloc),
-        queried: false,
-        noted: List::new(alloc),
-        requests: List::new(alloc),
-        words: List::new(alloc),
+        traffic: Traffic::new(alloc),
+        room: Room::new(alloc),
     })
 }

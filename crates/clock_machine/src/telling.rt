@@ -8,6 +8,17 @@ use crate::part::Part;
 use flow_design::{EventLine, Request};
 use flow_word::{Flags, List, OutOfMemory};
 
+/// What a run tells on its way.
+#[derive(Drop)]
+pub struct Told {
+    /// Whether events are kept.
+    pub keep: bool,
+    /// The events, where they are kept.
+    pub events: List<EventLine>,
+    /// The outcomes of each module's queries.
+    pub answers: List<Flags>,
+}
+
 /// Adds the events of one module's operations in a clock.
 fn tell_events(
     events: &mut List<EventLine>,

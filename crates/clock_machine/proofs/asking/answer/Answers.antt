@@ -19,31 +19,32 @@ goes_on false a x y e f = (refl, cc)
 
 pub loop-request-preserved : goal.loop-request-preserved
 loop-request-preserved c =
-    let p = c.args.plan.now in
-    let contents = c.args.contents.now in
+    let p = c.args.at.now.plan.now in
+    let clock = c.args.at.now.clock in
+    let contents = c.args.at.now.contents.now in
     let i = c.loop-request.request-index in
     let asked = c.args.requests.now in
     let none : Request = record { kind = Read; channel = 0; value = 0 } in
     let r = get_or asked i none in
     let has = ap is_some c.in-Some.is in
-    let goes = goes_on (stalls p c.args.clock contents r) c.in_ok-answer_one.field-0 (reply p c.args.clock contents r) c.in-Some.reply
+    let goes = goes_on (stalls p clock contents r) c.in_ok-answer_one.field-0 (reply p clock contents r) c.in-Some.reply
     c.in_ok-answer_one.ensures.reply c.in-Some.is in
-    let so_far = map (answered p c.args.clock contents) (take i asked) in
-    let here = answered p c.args.clock contents r ∷ [] in
-    let more = map_more (answered p c.args.clock contents) asked i none c.loop-request-test.true in
-    let still : list_any (stalls p c.args.clock contents) (take i asked ++ r ∷ []) ≡ false =
-    list_any-append (stalls p c.args.clock contents) (take i asked) (r ∷ []) ∙ rw (c.loop-request.invariant.free, goes.0) refl in
+    let so_far = map (answered p clock contents) (take i asked) in
+    let here = answered p clock contents r ∷ [] in
+    let more = map_more (answered p clock contents) asked i none c.loop-request-test.true in
+    let still : list_any (stalls p clock contents) (take i asked ++ r ∷ []) ≡ false =
+    list_any-append (stalls p clock contents) (take i asked) (r ∷ []) ∙ rw (c.loop-request.invariant.free, goes.0) refl in
     record {
-      free = ap (list_any (stalls p c.args.clock contents)) (take_more asked i none c.loop-request-test.true) ∙ still;
+      free = ap (list_any (stalls p clock contents)) (take_more asked i none c.loop-request-test.true) ∙ still;
       replies = c.in_ok-push-in-Some.ensures.ok ∙ (ap (λ l. l ++ c.in-Some.reply ∷ []) c.loop-request.invariant.replies
-          ∙ (ap (λ (y : Reply). map (reply p c.args.clock contents) (take i asked) ++ y ∷ []) goes.1
-          ∙ sym (map_more (reply p c.args.clock contents) asked i none c.loop-request-test.true)));
+          ∙ (ap (λ (y : Reply). map (reply p clock contents) (take i asked) ++ y ∷ []) goes.1
+          ∙ sym (map_more (reply p clock contents) asked i none c.loop-request-test.true)));
       outcomes = added outcomes_in outcomes_add [] c.loop-request.outcomes c.answer_one.new.outcomes so_far here _ more
           c.loop-request.invariant.outcomes (c.in_ok-answer_one.ensures.outcomes has);
       quiet = λ e. c.in_ok-answer_one.ensures.quiet e ∙ c.loop-request.invariant.quiet (c.in_ok-answer_one.ensures.queried e);
       queried = λ e. c.loop-request.invariant.queried (c.in_ok-answer_one.ensures.queried e);
-      pops = added popped popped_adds c.args.pops.now c.loop-request.pops c.answer_one.new.pops so_far here _ more
+      pops = added popped popped_adds c.args.traffic.now.pops c.loop-request.traffic.pops c.answer_one.new.traffic.pops so_far here _ more
           c.loop-request.invariant.pops (c.in_ok-answer_one.ensures.pops has);
-      pushes = added pushed pushed_adds c.args.pushes.now c.loop-request.pushes c.answer_one.new.pushes so_far here _ more
-          c.loop-request.invariant.pushes (c.in_ok-answer_one.ensures.pushes has);
+      pushes = added pushed pushed_adds c.args.traffic.now.pushes c.loop-request.traffic.pushes c.answer_one.new.traffic.pushes so_far here
+          _ more c.loop-request.invariant.pushes (c.in_ok-answer_one.ensures.pushes has);
     }

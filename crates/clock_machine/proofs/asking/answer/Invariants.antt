@@ -7,13 +7,13 @@ use Rattle.clock_machine.proofs.asking.answer.Given as goal
 
 abbrev pub invariant-loop-request : goal.invariant-loop-request
 invariant-loop-request l =
-    let so_far = map (answered l.plan l.clock l.contents) (take l.request-index l.requests) in
+    let so_far = map (answered l.at.plan.now l.at.clock l.at.contents.now) (take l.request-index l.requests) in
     record {
-      free : list_any (stalls l.plan l.clock l.contents) (take l.request-index l.requests) ≡ false;
-      replies : l.replies ≡ map (reply l.plan l.clock l.contents) (take l.request-index l.requests);
+      free : list_any (stalls l.at.plan.now l.at.clock l.at.contents.now) (take l.request-index l.requests) ≡ false;
+      replies : l.replies ≡ map (reply l.at.plan.now l.at.clock l.at.contents.now) (take l.request-index l.requests);
       outcomes : l.outcomes ≡ outcomes_in so_far;
-      quiet : l.queried ≡ false → l.outcomes ≡ [];
-      queried : l.queried ≡ false → l.initial.queried ≡ false;
-      pops : l.pops ≡ l.initial.pops ++ popped so_far;
-      pushes : l.pushes ≡ l.initial.pushes ++ pushed so_far;
+      quiet : l.traffic.queried ≡ false → l.outcomes ≡ [];
+      queried : l.traffic.queried ≡ false → l.initial.traffic.queried ≡ false;
+      pops : l.traffic.pops ≡ l.initial.traffic.pops ++ popped so_far;
+      pushes : l.traffic.pushes ≡ l.initial.traffic.pushes ++ pushed so_far;
     }

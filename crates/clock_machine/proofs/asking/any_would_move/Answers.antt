@@ -8,16 +8,16 @@ use Rattle.clock_machine.proofs.asking.any_would_move.Goals as goal
 
 pub returns-then-branch : goal.returns-then-branch
 returns-then-branch c =
-    sym (some_at (moves c.args.plan.now 0 (all_ready c.args.state.now.contents)) c.args.state.now.modules c.loop-i.i nobody
+    sym (some_at (moves c.args.of.now.plan.now 0 (all_ready c.args.state.now.contents)) c.args.state.now.modules c.loop-i.i nobody
     (omega (arith, ap length c.as_slice-count.ensures)) (sym c.in_ok-would_move.ensures ∙ c.if-branch.true))
 
 pub loop-i-preserved : goal.loop-i-preserved
 loop-i-preserved c =
-    none_more (moves c.args.plan.now 0 (all_ready c.args.state.now.contents)) c.args.state.now.modules c.loop-i.i nobody
+    none_more (moves c.args.of.now.plan.now 0 (all_ready c.args.state.now.contents)) c.args.state.now.modules c.loop-i.i nobody
     (omega (arith, ap length c.as_slice-count.ensures)) c.loop-i.invariant (sym c.in_ok-would_move.ensures ∙ c.if-branch.false)
 
 pub returns : goal.returns
 returns c =
-    sym (ap (list_any (moves c.args.plan.now 0 (all_ready c.args.state.now.contents)))
+    sym (ap (list_any (moves c.args.of.now.plan.now 0 (all_ready c.args.state.now.contents)))
     (sym (numbered_all c.args.state.now.modules c.loop-i.i (omega (arith, ap length c.as_slice-count.ensures))))
     ∙ c.loop-i.invariant)

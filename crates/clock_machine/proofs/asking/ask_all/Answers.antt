@@ -17,14 +17,14 @@ parts_are p clock st before parts read e count is =
 
 pub returns-then-any_moves-clause-settled : goal.returns-then-any_moves-clause-settled
 returns-then-any_moves-clause-settled c =
-    sym (moving_unsettled c.args.plan.now c.args.clock c.args.state.now c.as_slice.result.now
-    (parts_are c.args.plan.now c.args.clock c.args.state.now c.args.scratch.now.parts c.take_parts.new.parts c.as_slice.result.now
-    c.as_slice.ensures c.requires.count c.in_ok-take_parts.ensures.parts)
+    sym (moving_unsettled c.args.of.now.plan.now c.args.clock c.args.state.now c.as_slice.result.now
+    (parts_are c.args.of.now.plan.now c.args.clock c.args.state.now c.args.scratch.now.parts c.take_parts.new.parts c.as_slice.result.now
+    c.as_slice.ensures c.requires.room.parts c.in_ok-take_parts.ensures.parts)
     (sym c.any_moves.ensures ∙ c.if-any_moves.true))
 
 pub returns-clause-settled : goal.returns-clause-settled
 returns-clause-settled c =
-    sym (still_settled c.args.plan.now c.args.clock c.args.state.now c.as_slice.result.now c.in_ok-moving.moving
-    (parts_are c.args.plan.now c.args.clock c.args.state.now c.args.scratch.now.parts c.take_parts.new.parts c.as_slice.result.now
-    c.as_slice.ensures c.requires.count c.in_ok-take_parts.ensures.parts)
+    sym (still_settled c.args.of.now.plan.now c.args.clock c.args.state.now c.as_slice.result.now c.in_ok-moving.moving
+    (parts_are c.args.of.now.plan.now c.args.clock c.args.state.now c.args.scratch.now.parts c.take_parts.new.parts c.as_slice.result.now
+    c.as_slice.ensures c.requires.room.parts c.in_ok-take_parts.ensures.parts)
     (sym c.any_moves.ensures ∙ c.if-any_moves.false) c.in_ok-moving.ensures)

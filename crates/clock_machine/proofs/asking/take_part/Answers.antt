@@ -16,9 +16,13 @@ flipped false c d h k = ap not (sym h ∙ k)
 
 pub returns-then-is_over-clause-part : goal.returns-then-is_over-clause-part
 returns-then-is_over-clause-part c =
-    c.clear.ensures ∙ sym (over_part c.args.plan.now c.args.clock c.args.state.now.contents
-    (c.args.i, get_or c.args.state.now.modules c.args.i nobody)
-    (ap (is_over c.args.plan.now.ops) (sym c.state_at-module.ensures) ∙ (sym c.is_over.ensures ∙ c.if-is_over.true)))
+    let p = c.args.at.now.compiled.now.plan.now in
+    let clock = c.args.at.now.clock in
+    let st = c.args.at.now.state.now in
+    let i = c.args.i in
+    c.clear.ensures ∙ sym (over_part p clock st.contents
+    (i, get_or st.modules i nobody)
+    (ap (is_over p.ops) (sym c.state_at-module.ensures) ∙ (sym c.is_over.ensures ∙ c.if-is_over.true)))
 
 both : (b d : Bool) → (b && d) ≡ true → (b ≡ true) × (d ≡ true)
 both true d h = (refl, h)
@@ -26,77 +30,105 @@ both false d h = cc
 
 pub returns-then-still_stalls-clause-part : goal.returns-then-still_stalls-clause-part
 returns-then-still_stalls-clause-part c =
-    let m : ℕ × ModuleState = (c.args.i, get_or c.args.state.now.modules c.args.i nobody) in
-    let running : is_over c.args.plan.now.ops m.1 ≡ false =
-    ap (is_over c.args.plan.now.ops) (sym c.state_at-module.ensures) ∙ (sym c.is_over.ensures ∙ c.if-is_over.false) in
+    let p = c.args.at.now.compiled.now.plan.now in
+    let clock = c.args.at.now.clock in
+    let st = c.args.at.now.state.now in
+    let i = c.args.i in
+    let found = c.channels_at-channels in
+    let m : ℕ × ModuleState = (i, get_or st.modules i nobody) in
+    let running : is_over p.ops m.1 ≡ false =
+    ap (is_over p.ops) (sym c.state_at-module.ensures) ∙ (sym c.is_over.ensures ∙ c.if-is_over.false) in
     let known = both c.args.stalled.now.known _ (sym c.still_stalls.ensures ∙ c.if-still_stalls.true) in
-    let stalled : list_any (stalls c.args.plan.now c.args.clock c.args.state.now.contents) (requests_of c.args.plan.now m) ≡ true =
-    rw (← c.requires.known.requests known.0, ← c.as_slice-contents.ensures) known.1 in
-    c.clear-then-still_stalls.ensures ∙ sym (stalled_part c.args.plan.now c.args.clock c.args.state.now.contents m running stalled)
+    let stalled : list_any (stalls p clock st.contents) (requests_of p m) ≡ true =
+    rw (← c.requires.known.requests known.0, ← found.ensures.contents, ← found.ensures.plan, ← found.ensures.clock) known.1 in
+    c.clear-then-still_stalls.ensures ∙ sym (stalled_part p clock st.contents m running stalled)
 
 pub note_part-requires-clause-sound : goal.note_part-requires-clause-sound
 note_part-requires-clause-sound c =
-    sound_of c.args.plan.now c.args.clock c.args.state.now c.args.i (module_at c.args.plan.now c.args.i) c.state_at-module.result.now
-    c.requires.fit (omega arith)
+    let p = c.args.at.now.compiled.now.plan.now in
+    let clock = c.args.at.now.clock in
+    let st = c.args.at.now.state.now in
+    let i = c.args.i in
+    sound_of p clock st i (module_at p i) c.state_at-module.result.now
+    c.requires.stands.fit (omega arith)
     refl c.state_at-module.ensures (sym c.is_over.ensures ∙ c.if-is_over.false)
 
 pub note_part-requires-clause-known : goal.note_part-requires-clause-known
 note_part-requires-clause-known c =
-    subst (λ (s : ModuleState). IsKnown c.args.plan.now (c.args.i, s) c.args.stalled.now) (sym c.state_at-module.ensures) c.requires.known
+    let p = c.args.at.now.compiled.now.plan.now in
+    let i = c.args.i in
+    subst (λ (s : ModuleState). IsKnown p (i, s) c.args.stalled.now) (sym c.state_at-module.ensures) c.requires.known
 
 pub returns-then-not-part-clause-part : goal.returns-then-not-part-clause-part
 returns-then-not-part-clause-part c =
-    let asked = asked_by c.args.plan.now c.args.state.now c.args.i (module_at c.args.plan.now c.args.i) c.state_at-module.result.now
+    let p = c.args.at.now.compiled.now.plan.now in
+    let clock = c.args.at.now.clock in
+    let st = c.args.at.now.state.now in
+    let i = c.args.i in
+    let found = c.channels_at-channels in
+    let asked = asked_by p st i (module_at p i) c.state_at-module.result.now
     c.note_part.new.part.requests
     refl c.state_at-module.ensures c.in_ok-note_part.ensures.asked in
-    let running : is_over c.args.plan.now.ops (get_or c.args.state.now.modules c.args.i nobody) ≡ false =
-    ap (is_over c.args.plan.now.ops) (sym c.state_at-module.ensures) ∙ (sym c.is_over.ensures ∙ c.if-is_over.false) in
-    let stalled : list_any (stalls c.args.plan.now c.args.clock c.args.state.now.contents)
-    (requests_of c.args.plan.now (c.args.i, get_or c.args.state.now.modules c.args.i nobody)) ≡ true =
-    rw (← asked, ← c.as_slice-contents.ensures, ← c.as_slice-requests.ensures)
+    let running : is_over p.ops (get_or st.modules i nobody) ≡ false =
+    ap (is_over p.ops) (sym c.state_at-module.ensures) ∙ (sym c.is_over.ensures ∙ c.if-is_over.false) in
+    let stalled : list_any (stalls p clock st.contents)
+    (requests_of p (i, get_or st.modules i nobody)) ≡ true =
+    rw (← asked, ← found.ensures.contents, ← found.ensures.plan, ← found.ensures.clock, ← c.as_slice-requests.ensures)
     (flipped _ c.in_ok-part.field-0 false c.in_ok-part.ensures.goes c.if-not-part.true) in
     c.keep.ensures.part
-    ∙ sym (stalled_part c.args.plan.now c.args.clock c.args.state.now.contents
-    (c.args.i, get_or c.args.state.now.modules c.args.i nobody) running stalled)
+    ∙ sym (stalled_part p clock st.contents
+    (i, get_or st.modules i nobody) running stalled)
 
 pub returns-then-not-part-clause-known : goal.returns-then-not-part-clause-known
 returns-then-not-part-clause-known c =
-    let asked = asked_by c.args.plan.now c.args.state.now c.args.i (module_at c.args.plan.now c.args.i) c.state_at-module.result.now
+    let p = c.args.at.now.compiled.now.plan.now in
+    let st = c.args.at.now.state.now in
+    let i = c.args.i in
+    let asked = asked_by p st i (module_at p i) c.state_at-module.result.now
     c.note_part.new.part.requests refl c.state_at-module.ensures c.in_ok-note_part.ensures.asked in
     let noted : c.note_part.new.part.noted
-    ≡ notes_of (module_at c.args.plan.now c.args.i) (get_or c.args.state.now.modules c.args.i nobody) =
+    ≡ notes_of (module_at p i) (get_or st.modules i nobody) =
     rw (← c.state_at-module.ensures) c.in_ok-note_part.ensures.noted in
-    subst (IsKnown c.args.plan.now (c.args.i, get_or c.args.state.now.modules c.args.i nobody)) (sym c.keep.ensures.stalled)
+    subst (IsKnown p (i, get_or st.modules i nobody)) (sym c.keep.ensures.stalled)
     (record { noted = λ e. noted; requests = λ e. asked })
 
 pub returns-else-not-part-clause-part : goal.returns-else-not-part-clause-part
 returns-else-not-part-clause-part c =
-    let asked = asked_by c.args.plan.now c.args.state.now c.args.i (module_at c.args.plan.now c.args.i) c.state_at-module.result.now
+    let p = c.args.at.now.compiled.now.plan.now in
+    let clock = c.args.at.now.clock in
+    let st = c.args.at.now.state.now in
+    let i = c.args.i in
+    let found = c.channels_at-channels in
+    let asked = asked_by p st i (module_at p i) c.state_at-module.result.now
     c.note_part.new.part.requests
     refl c.state_at-module.ensures c.in_ok-note_part.ensures.asked in
-    let running : is_over c.args.plan.now.ops (get_or c.args.state.now.modules c.args.i nobody) ≡ false =
-    ap (is_over c.args.plan.now.ops) (sym c.state_at-module.ensures) ∙ (sym c.is_over.ensures ∙ c.if-is_over.false) in
+    let running : is_over p.ops (get_or st.modules i nobody) ≡ false =
+    ap (is_over p.ops) (sym c.state_at-module.ensures) ∙ (sym c.is_over.ensures ∙ c.if-is_over.false) in
     let noted : c.note_part.new.part.noted
-    ≡ notes_of (module_at c.args.plan.now c.args.i) (get_or c.args.state.now.modules c.args.i nobody) =
+    ≡ notes_of (module_at p i) (get_or st.modules i nobody) =
     rw (← c.state_at-module.ensures) c.in_ok-note_part.ensures.noted in
-    answered_part c.args.plan.now c.args.clock c.args.state.now.contents (c.args.i, get_or c.args.state.now.modules c.args.i nobody)
+    answered_part p clock st.contents (i, get_or st.modules i nobody)
     c.note_part.new.part.requests _ running
-    (rw (← c.as_slice-contents.ensures, ← c.as_slice-requests.ensures)
+    (rw (← found.ensures.contents, ← found.ensures.plan, ← found.ensures.clock, ← c.as_slice-requests.ensures)
     (flipped _ c.in_ok-part.field-0 true c.in_ok-part.ensures.goes c.if-not-part.false))
     asked c.if-not-part.false noted refl
-    (rw (← c.as_slice-contents.ensures, ← c.as_slice-requests.ensures) (c.in_ok-part.ensures.replies c.if-not-part.false))
-    (rw (← c.as_slice-contents.ensures, ← c.as_slice-requests.ensures) (c.in_ok-part.ensures.outcomes c.if-not-part.false))
+    (rw (← found.ensures.contents, ← found.ensures.plan, ← found.ensures.clock, ← c.as_slice-requests.ensures)
+    (c.in_ok-part.ensures.replies c.if-not-part.false))
+    (rw (← found.ensures.contents, ← found.ensures.plan, ← found.ensures.clock, ← c.as_slice-requests.ensures)
+    (c.in_ok-part.ensures.outcomes c.if-not-part.false))
 
 pub returns-else-not-part-clause-pops : goal.returns-else-not-part-clause-pops
 returns-else-not-part-clause-pops c =
+    let found = c.channels_at-channels in
     rw (← c.as_slice-requests.ensures)
-    (given popped c.args.plan.now c.args.clock c.as_slice-contents.result.now c.as_slice-requests.result.now c.answer.new.replies
-    c.in_ok-part.field-0 c.args.pops.now c.answer.new.pops c.if-not-part.false (c.in_ok-part.ensures.replies c.if-not-part.false)
-    c.in_ok-part.ensures.pops)
+    (given popped found.result.plan.now found.result.clock found.result.contents.now c.as_slice-requests.result.now c.answer.new.replies
+    c.in_ok-part.field-0 c.args.traffic.now.pops c.answer.new.traffic.pops c.if-not-part.false
+    (c.in_ok-part.ensures.replies c.if-not-part.false) c.in_ok-part.ensures.pops)
 
 pub returns-else-not-part-clause-pushes : goal.returns-else-not-part-clause-pushes
 returns-else-not-part-clause-pushes c =
+    let found = c.channels_at-channels in
     rw (← c.as_slice-requests.ensures)
-    (given pushed c.args.plan.now c.args.clock c.as_slice-contents.result.now c.as_slice-requests.result.now c.answer.new.replies
-    c.in_ok-part.field-0 c.args.pushes.now c.answer.new.pushes c.if-not-part.false (c.in_ok-part.ensures.replies c.if-not-part.false)
-    c.in_ok-part.ensures.pushes)
+    (given pushed found.result.plan.now found.result.clock found.result.contents.now c.as_slice-requests.result.now c.answer.new.replies
+    c.in_ok-part.field-0 c.args.traffic.now.pushes c.answer.new.traffic.pushes c.if-not-part.false
+    (c.in_ok-part.ensures.replies c.if-not-part.false) c.in_ok-part.ensures.pushes)

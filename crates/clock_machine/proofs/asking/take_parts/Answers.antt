@@ -21,36 +21,40 @@ part_more parts i part h =
 
 pub loop-i-preserved : goal.loop-i-preserved
 loop-i-preserved c =
+    let p = c.args.at.now.compiled.now.plan.now in
+    let clock = c.args.at.now.clock in
+    let st = c.args.at.now.state.now in
     let i = c.loop-i.i in
     let more = part_more c.loop-i.parts i c.take_part.new.part (omega arith) in
     let so_far = all_exchanges (take i c.loop-i.parts) in
     let here = exchanges_of c.take_part.new.part in record {
-      parts = written_more (part_of c.args.plan.now c.args.clock c.args.state.now.contents) c.args.state.now.modules c.loop-i.parts i
+      parts = written_more (part_of p clock st.contents) st.modules c.loop-i.parts i
           c.take_part.new.part nobody
           (omega arith) (omega arith) c.loop-i.invariant.parts c.in_ok-take_part.ensures.part;
       quiet = λ e. held_more (λ (k : ℕ) (part : Part). part.outcomes ≡ []) c.loop-i.parts i c.take_part.new.part no_part (omega arith)
           (c.loop-i.invariant.quiet (c.in_ok-take_part.ensures.queried e)) (c.in_ok-take_part.ensures.quiet e);
-      known = known_more (λ (k : ℕ) (stalled : Stalled). IsKnown c.args.plan.now (k, get_or c.args.state.now.modules k nobody) stalled)
+      known = known_more (λ (k : ℕ) (stalled : Stalled). IsKnown p (k, get_or st.modules k nobody) stalled)
           c.loop-i.stalls i c.take_part.new.stalled no_stall (omega arith) c.loop-i.invariant.known c.in_ok-take_part.ensures.known;
       still = still_more c.loop-i.parts c.loop-i.stalls i c.take_part.new.part c.take_part.new.stalled (omega arith) (omega arith)
           c.loop-i.invariant.still c.in_ok-take_part.ensures.still;
-      pops = added popped popped_adds c.args.pops.now c.loop-i.pops c.take_part.new.pops so_far here _ more
+      pops = added popped popped_adds c.args.traffic.now.pops c.loop-i.traffic.pops c.take_part.new.traffic.pops so_far here _ more
           c.loop-i.invariant.pops c.in_ok-take_part.ensures.pops;
-      pushes = added pushed pushed_adds c.args.pushes.now c.loop-i.pushes c.take_part.new.pushes so_far here _ more
+      pushes = added pushed pushed_adds c.args.traffic.now.pushes c.loop-i.traffic.pushes c.take_part.new.traffic.pushes so_far here _ more
           c.loop-i.invariant.pushes c.in_ok-take_part.ensures.pushes;
     }
 
 pub returns-clause-parts : goal.returns-clause-parts
 returns-clause-parts c =
-    written_all (part_of c.args.plan.now c.args.clock c.args.state.now.contents) c.args.state.now.modules c.loop-i.parts c.loop-i.i
+    let p = c.args.at.now.compiled.now.plan.now in
+    let clock = c.args.at.now.clock in
+    let st = c.args.at.now.state.now in
+    written_all (part_of p clock st.contents) st.modules c.loop-i.parts c.loop-i.i
     (omega arith) (omega arith) c.loop-i.invariant.parts
 
-pub returns-clause-pops : goal.returns-clause-pops
-returns-clause-pops c =
-    c.loop-i.invariant.pops
-    ∙ ap (λ (ps : List Part). c.args.pops.now ++ popped (all_exchanges ps)) (take_all c.loop-i.i c.loop-i.parts (omega arith))
-
-pub returns-clause-pushes : goal.returns-clause-pushes
-returns-clause-pushes c =
-    c.loop-i.invariant.pushes
-    ∙ ap (λ (ps : List Part). c.args.pushes.now ++ pushed (all_exchanges ps)) (take_all c.loop-i.i c.loop-i.parts (omega arith))
+pub returns-clause-traffic : goal.returns-clause-traffic
+returns-clause-traffic c = record {
+  pops = c.loop-i.invariant.pops
+      ∙ ap (λ (ps : List Part). c.args.traffic.now.pops ++ popped (all_exchanges ps)) (take_all c.loop-i.i c.loop-i.parts (omega arith));
+  pushes = c.loop-i.invariant.pushes
+      ∙ ap (λ (ps : List Part). c.args.traffic.now.pushes ++ pushed (all_exchanges ps)) (take_all c.loop-i.i c.loop-i.parts (omega arith));
+}

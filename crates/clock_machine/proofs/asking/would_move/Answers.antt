@@ -7,18 +7,21 @@ use Rattle.clock_machine.proofs.asking.would_move.Goals as goal
 
 pub returns-then-is_over : goal.returns-then-is_over
 returns-then-is_over c =
-    sym (over_stays c.args.plan.now 0 (all_ready c.args.state.now.contents) (c.args.i, get_or c.args.state.now.modules c.args.i nobody)
-    (ap (is_over c.args.plan.now.ops) (sym c.state_at-module.ensures) ∙ (sym c.is_over.ensures ∙ c.if-is_over.true)))
+    let p = c.args.of.now.plan.now in
+    sym (over_stays p 0 (all_ready c.args.state.now.contents) (c.args.i, get_or c.args.state.now.modules c.args.i nobody)
+    (ap (is_over p.ops) (sym c.state_at-module.ensures) ∙ (sym c.is_over.ensures ∙ c.if-is_over.true)))
 
 pub note_one-requires-clause-sound : goal.note_one-requires-clause-sound
 note_one-requires-clause-sound c =
-    sound_of c.args.plan.now c.requires.fit.clock c.args.state.now c.args.i (module_at c.args.plan.now c.args.i)
+    let p = c.args.of.now.plan.now in
+    sound_of p c.requires.fit.clock c.args.state.now c.args.i (module_at p c.args.i)
     c.state_at-module.result.now
     c.requires.fit.fit (omega arith) refl c.state_at-module.ensures (sym c.is_over.ensures ∙ c.if-is_over.false)
 
 pub returns : goal.returns
 returns c =
-    let p = c.args.plan.now in
+    let p = c.args.of.now.plan.now in
+    let p = p in
     let st = c.args.state.now in
     let asked = asked_by p st c.args.i (module_at p c.args.i) c.state_at-module.result.now c.note_one.new.asked
     refl c.state_at-module.ensures c.in_ok-note_one.ensures.asked in

@@ -10,12 +10,14 @@ use Rattle.clock_machine.proofs.ending.hold_all.Goals as goal
 
 pub loop-i-preserved : goal.loop-i-preserved
 loop-i-preserved c =
-    kept_more (held_by c.args.plan.now 0 (all_ready c.args.state.now.contents)) c.args.state.now.modules c.loop-i.i nobody c.loop-i.held
+    let p = c.args.of.now.plan.now in
+    kept_more (held_by p 0 (all_ready c.args.state.now.contents)) c.args.state.now.modules c.loop-i.i nobody c.loop-i.held
     c.hold_one.new.held (omega (arith, ap length c.as_slice-count.ensures)) c.loop-i.invariant c.in_ok-hold_one.ensures
 
 pub returns : goal.returns
 returns c clock =
+    let p = c.args.of.now.plan.now in
     c.loop-i.invariant
-    ∙ (ap (filter_map (held_by c.args.plan.now 0 (all_ready c.args.state.now.contents)))
+    ∙ (ap (filter_map (held_by p 0 (all_ready c.args.state.now.contents)))
     (numbered_all c.args.state.now.modules c.loop-i.i (omega (arith, ap length c.as_slice-count.ensures)))
-    ∙ held_ever c.args.plan.now clock c.args.state.now.contents (numbered c.args.state.now))
+    ∙ held_ever p clock c.args.state.now.contents (numbered c.args.state.now))

@@ -40,25 +40,27 @@ can_commit p codes clock i s part own code fits are inside fit ready moving own_
 
 pub bounds-as_slice-state : goal.bounds-as_slice-state
 bounds-as_slice-state c =
-    let p = c.args.plan.now in
+    let p = c.args.of.now.plan.now in
     let sound = runs p c.args.clock c.args.i c.args.state.now c.args.part.now c.requires.fit c.requires.ready c.if-not-part.false in
-    let own = c.index-codes-i.result in
-    let all = subst (λ (cs : List BlockCode). AreCodesOf p.design.channels (module_at p c.args.i) cs) (sym c.index-codes-i.is)
+    let own = c.index-of-i.result in
+    let all = subst (λ (cs : List BlockCode). AreCodesOf p.design.channels (module_at p c.args.i) cs) (sym c.index-of-i.is)
     (c.requires.codes.each c.args.i own c.requires.within) in
     let count = all.count in
+    let same = ap length c.index-of-i.is in
     let block = sound.state.block in
     rw c.as_slice.ensures (omega arith)
 
 pub make_move-requires-clause-can : goal.make_move-requires-clause-can
 make_move-requires-clause-can c =
-    let p = c.args.plan.now in
+    let p = c.args.of.now.plan.now in
     let s = c.args.state.now in
     let code = c.index-as_slice-state.result in
-    let can = can_commit p c.args.codes.now c.args.clock c.args.i s c.args.part.now c.index-codes-i.result code c.requires.fits
+    let can = can_commit p c.args.of.now.codes.now c.args.clock c.args.i s c.args.part.now c.index-of-i.result code c.requires.fits
     c.requires.codes
-    c.requires.within c.requires.fit c.requires.ready c.if-not-part.false c.index-codes-i.is
-    (c.index-as_slice-state.is ∙ ap (λ (cs : List BlockCode). get_or cs s.control.block code) c.as_slice.ensures) in (
+    c.requires.within c.requires.fit c.requires.ready c.if-not-part.false c.index-of-i.is
+    (c.index-as_slice-state.is ∙ ap (λ (cs : List BlockCode). get_or cs s.control.block code)
+    (c.as_slice.ensures ∙ sym c.index-of-i.is)) in (
       p.design.channels,
-      subst (λ (m : Module). CanCommit p.design.channels m s code c.as_slice-2.result.now) (sym c.module_at-of.ensures)
+      subst (λ (m : Module). CanCommit p.design.channels m s code c.as_slice-2.result.now) (sym c.module_at-module.ensures)
           (subst (λ (ns : List Noted). CanCommit p.design.channels (module_at p c.args.i) s code ns) (sym c.as_slice-2.ensures) can),
     )

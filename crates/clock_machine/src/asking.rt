@@ -186,8 +186,7 @@ fn take_part(
         (i, slice_index_or at.now.state.now.modules i nobody)) }
     ensures quiet { OnOk result (traffic.new.queried ≡ false → part.new.outcomes ≡ []) }
     ensures queried { OnOk result (traffic.new.queried ≡ false → traffic.old.queried ≡ false) }
-    ensures pops { OnOk result (traffic.new.pops ≡ traffic.old.pops ++ popped (exchanges_of part.new)) }
-    ensures pushes { OnOk result (traffic.new.pushes ≡ traffic.old.pushes ++ pushed (exchanges_of part.new)) }
+    ensures traffic { OnOk result (HasAdded traffic.old traffic.new (exchanges_of part.new)) }
     ensures known { OnOk result (IsKnown at.now.compiled.now.plan.now (i, slice_index_or at.now.state.now.modules i nobody) stalled.new) }
     ensures still { OnOk result (stalled.new.known ≡ true → part.new.moves ≡ false) }
 {

@@ -211,52 +211,42 @@ pub fn answer_one(
     ensures no_pop { IfOk result (λ answer. is_some answer ≡ false → traffic.new.pops ≡ traffic.old.pops) }
     ensures no_push { IfOk result (λ answer. is_some answer ≡ false → traffic.new.pushes ≡ traffic.old.pushes) }
 {
-    let Channels {
-        plan,
-        clock,
-        contents,
-    } = *at;
-    let Traffic {
-        pops,
-        pushes,
-        queried,
-    } = traffic;
-    let channel = request.channel;
-    let value = request.value;
+    let queried = &mut traffic.queried;
+    let Request { channel, value, .. } = *request;
     match request.kind {
-        Kind::Read => match ready(clock, contents, channel) {
+        Kind::Read => match ready(at.clock, at.contents, channel) {
             None => Ok(None),
             Some(value) => {
-                pops.push(channel)?;
+                traffic.pops.push(channel)?;
                 Ok(Some(Reply::Value(value)))
             }
         },
         Kind::Write => {
-            if is_full(plan, contents, channel) {
+            if is_full(at.plan, at.contents, channel) {
                 return Ok(None);
             }
-            pushes.push(Pushed { channel, value })?;
+            traffic.pushes.push(Pushed { channel, value })?;
             Ok(Some(Reply::Done))
         }
-        Kind::TryRead => match ready(clock, contents, channel) {
+        Kind::TryRead => match ready(at.clock, at.contents, channel) {
             None => {
                 tell(outcomes, queried, false)?;
                 Ok(Some(Reply::Missed))
             }
             Some(value) => {
                 tell(outcomes, queried, true)?;
-                pops.push(channel)?;
+                traffic.pops.push(channel)?;
                 Ok(Some(Reply::Took(value)))
             }
         },
         Kind::TryWrite => {
-            let free = !is_full(plan, contents, channel);
+            let free = !is_full(at.plan, at.contents, channel);
             if free {
-                pushes.push(Pushed { channel, value })?;
+                traffic.pushes.push(Pushed { channel, value })?;
             }
             flag(outcomes, queried, free)
         }
-        Kind::Empty => flag(outcomes, queried, is_empty(clock, contents, channel)),
-        Kind::Full => flag(outcomes, queried, is_full(plan, contents, channel)),
+        Kind::Empty => flag(outcomes, queried, is_empty(at.clock, at.contents, channel)),
+        Kind::Full => flag(outcomes, queried, is_full(at.plan, at.contents, channel)),
     }
 }

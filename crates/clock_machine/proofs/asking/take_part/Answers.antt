@@ -117,18 +117,15 @@ returns-else-not-part-clause-part c =
     (rw (← found.ensures.contents, ← found.ensures.plan, ← found.ensures.clock, ← c.as_slice-requests.ensures)
     (c.in_ok-part.ensures.outcomes c.if-not-part.false))
 
-pub returns-else-not-part-clause-pops : goal.returns-else-not-part-clause-pops
-returns-else-not-part-clause-pops c =
+pub returns-else-not-part-clause-traffic : goal.returns-else-not-part-clause-traffic
+returns-else-not-part-clause-traffic c =
     let found = c.channels_at-channels in
-    rw (← c.as_slice-requests.ensures)
-    (given popped found.result.plan.now found.result.clock found.result.contents.now c.as_slice-requests.result.now c.answer.new.replies
-    c.in_ok-part.field-0 c.args.traffic.now.pops c.answer.new.traffic.pops c.if-not-part.false
-    (c.in_ok-part.ensures.replies c.if-not-part.false) c.in_ok-part.ensures.pops)
-
-pub returns-else-not-part-clause-pushes : goal.returns-else-not-part-clause-pushes
-returns-else-not-part-clause-pushes c =
-    let found = c.channels_at-channels in
-    rw (← c.as_slice-requests.ensures)
-    (given pushed found.result.plan.now found.result.clock found.result.contents.now c.as_slice-requests.result.now c.answer.new.replies
-    c.in_ok-part.field-0 c.args.traffic.now.pushes c.answer.new.traffic.pushes c.if-not-part.false
-    (c.in_ok-part.ensures.replies c.if-not-part.false) c.in_ok-part.ensures.pushes)
+    let told = c.in_ok-part.ensures.replies c.if-not-part.false in
+    rw (← c.as_slice-requests.ensures) (record {
+      pops = given popped found.result.plan.now found.result.clock found.result.contents.now c.as_slice-requests.result.now
+          c.answer.new.replies c.in_ok-part.field-0 c.args.traffic.now.pops c.answer.new.traffic.pops c.if-not-part.false told
+          c.in_ok-part.ensures.pops;
+      pushes = given pushed found.result.plan.now found.result.clock found.result.contents.now c.as_slice-requests.result.now
+          c.answer.new.replies c.in_ok-part.field-0 c.args.traffic.now.pushes c.answer.new.traffic.pushes c.if-not-part.false told
+          c.in_ok-part.ensures.pushes;
+    })

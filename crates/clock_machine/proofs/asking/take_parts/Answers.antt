@@ -38,9 +38,9 @@ loop-i-preserved c =
       still = still_more c.loop-i.parts c.loop-i.stalls i c.take_part.new.part c.take_part.new.stalled (omega arith) (omega arith)
           c.loop-i.invariant.still c.in_ok-take_part.ensures.still;
       pops = added popped popped_adds c.args.traffic.now.pops c.loop-i.traffic.pops c.take_part.new.traffic.pops so_far here _ more
-          c.loop-i.invariant.pops c.in_ok-take_part.ensures.pops;
+          c.loop-i.invariant.pops c.in_ok-take_part.ensures.traffic.pops;
       pushes = added pushed pushed_adds c.args.traffic.now.pushes c.loop-i.traffic.pushes c.take_part.new.traffic.pushes so_far here _ more
-          c.loop-i.invariant.pushes c.in_ok-take_part.ensures.pushes;
+          c.loop-i.invariant.pushes c.in_ok-take_part.ensures.traffic.pushes;
     }
 
 pub returns-clause-parts : goal.returns-clause-parts

@@ -9,3 +9,5 @@ mod again;
 mod edits;
 #[cfg(test)]
 mod orders;
+#[cfg(test)]
+mod ticks;

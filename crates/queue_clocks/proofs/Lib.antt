@@ -1,2 +1,3 @@
 pub mod Counts
 pub mod Most
+pub mod Counting

@@ -86,10 +86,10 @@ none_ahead xs ys s n most e h =
 
 -- ---- the greatest
 
-abbrev greatest : (ℕ → ℕ) → ℕ → ℕ
+abbrev pub greatest : (ℕ → ℕ) → ℕ → ℕ
 greatest g n = fold max 0 (map g (range_with_len 0 n))
 
-greatest_more : (g : ℕ → ℕ) (n : ℕ) → greatest g (suc n) ≡ max (greatest g n) (g n)
+pub greatest_more : (g : ℕ → ℕ) (n : ℕ) → greatest g (suc n) ≡ max (greatest g n) (g n)
 greatest_more g n =
     ap (greatest g) (sym (add-one n))
     ∙ (ap (fold max 0) (map-range_with_len_more g 0 n n (zero-add n)) ∙ fold-append max 0 (map g (range_with_len 0 n)) (g n ∷ []))

@@ -1,5 +1,5 @@
 -- Two lists of clocks, and by how many one is ahead of the other.
-use Rattle.std.specs.Prelude.{ℕ, ◌+◌, ◌-◌, nat_lt, nat_le, Bool, List, map, max, fold, count_by}
+use Rattle.std.specs.Prelude.{ℕ, ◌+◌, ◌-◌, ◌<◌, ◌≤◌, nat_lt, nat_le, Bool, List, map, max, fold, count_by, All, AllPairs}
 use Rattle.std.specs.List.{range_with_len}
 
 -- how many of these clocks are before clock c
@@ -17,3 +17,8 @@ ahead_clocks margin xs ys clock = count_by (is_ahead margin xs ys) (range_with_l
 -- by how many the first are ahead of the second at most, in the clocks up to this one
 unfoldable pub most_ahead : List ℕ → List ℕ → ℕ → ℕ
 most_ahead xs ys clock = fold max 0 (map (λ c. before xs c - before ys c) (range_with_len 0 (clock + 1)))
+
+-- clocks below one, in order
+pub record AreClocks (end : ℕ) (clocks : List ℕ) : Type 0 where
+  pub rise : AllPairs (λ a b. a ≤ b) clocks
+  pub below : All (λ c. c < end) clocks

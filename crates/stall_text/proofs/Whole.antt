@@ -1,53 +1,43 @@
 -- The whole text, and the lines of a module and of a FIFO.
-use Rattle.std.proofs.Common.{◌≡◌, ℕ, ◌+◌, ◌<◌, ◌≤◌, Bool, Option, Some, None, cond, is_some, List, [], ◌++◌, refl, sym, ap, ap₂}
-use Rattle.std.proofs.Common.{◌∙◌, arith, length, map, get_or, append_assoc}
-use Rattle.std.specs.Prelude.{codes, IfSome}
+use Rattle.std.proofs.Common.{◌≡◌, ℕ, ◌+◌, ◌<◌, ◌≤◌, Bool, true, false, Option, Some, None, cond, is_some, List, [], ◌++◌, refl, sym, ap, ap₂}
+use Rattle.std.proofs.Common.{◌∙◌, arith, length, map, get_or, append_assoc, subst}
+use Rattle.std.specs.Prelude.{codes, IfOk, IfSome, Result, Ok, Err}
 use Rattle.std.specs.List.{flat_map, range_with_len}
 use Rattle.flow_word.specs.declared.access.Side.{Side}
 use Rattle.flow_word.specs.declared.access.Side.TheVariants.{Pop, Push}
+use Rattle.flow_word.specs.declared.access.Kind.{Kind}
+use Rattle.flow_word.specs.declared.access.Kind.TheVariants.{Read, Write, TryRead, TryWrite, Empty, Full}
+use Rattle.flow_word.specs.Kinds.{is_blocking}
+use Rattle.flow_design.specs.declared.design.ChannelKind.{ChannelKind}
+use Rattle.flow_design.specs.declared.design.ChannelKind.TheVariants.{Fifo}
 use Rattle.flow_design.specs.declared.limits.TheConstants.{CYCLES}
 use Rattle.flow_design.specs.declared.plan.Plan.{Plan}
-use Rattle.flow_design.specs.declared.report.Report.{Report}
 use Rattle.flow_design.specs.declared.report.Verdict.{Verdict}
-use Rattle.flow_design.specs.Plans.{delay_at, is_fifo}
+use Rattle.flow_design.specs.Plans.{delay_at, delay_of, is_fifo, kind_at}
 use Rattle.flow_design.specs.StaticRules.{FitsEngine}
-use Rattle.lockstep_defs.specs.Report.{report}
 use Rattle.lockstep_defs.specs.Verdict.{verdict}
-use Rattle.engine_report.specs.Finished.{report_with}
-use Rattle.std.proofs.Common.{false, subst}
-use Rattle.flow_design.specs.declared.design.ChannelKind.{ChannelKind}
-use Rattle.flow_design.specs.declared.design.ChannelKind.TheVariants.{Source, Sink, Fifo}
 use Rattle.sim_core.specs.AccessLog.{log_of}
 use Rattle.sim_core.specs.declared.access_log.LoggedAccess.{LoggedAccess}
 use Rattle.report_text.specs.Lines.{Token, line, text_of_lines, verdict_tokens}
 use Rattle.report_text.specs.ReportText.{module_name, channel_name}
+use Rattle.report_text.proofs.LineLemmas.{text-append, numbers_more}
 use Rattle.fifo_fills.specs.Fills.{fifos, last_clock}
 use Rattle.fifo_fills.proofs.Ending.{last_within}
 use Rattle.queue_clocks.specs.Leads.{most_ahead, ahead_clocks}
+use Rattle.port_clocks.specs.Clocks.{ArePortClocks}
 use Rattle.stall_spans.specs.Totals.{moved_clocks, still_clocks, still_clocks_at}
-use Rattle.stall_text.specs.declared.ports.PortUse.{PortUse}
+use Rattle.stall_text.specs.declared.fifos.Filling.{Filling}
+use Rattle.stall_text.specs.declared.polls.Polls.{Polls}
 use Rattle.stall_text.specs.StallText.{module_tokens, cause_lines, at_each_side, causes_of, ports_of, clock_lines, module_lines}
-use Rattle.stall_text.specs.StallText.{fifo_tokens, fifo_line}
-use Rattle.stall_text.specs.StallText.{stalls_text}
+use Rattle.stall_text.specs.StallText.{fifo_tokens, fifo_line, stalls_text}
 use Rattle.stall_text.specs.Causes.{causes_by}
-use Rattle.stall_text.specs.Ports.{own_lines, AreUsesOf, unused, use_at}
-use Rattle.stall_text.specs.Filling.{empty_by, clocks_at, filled_at, AreUses}
+use Rattle.stall_text.specs.Filling.{empty_by, IsFilling}
+use Rattle.stall_text.specs.Polls.{poll_lines, polls_lines, tries_of}
+use Rattle.stall_text.specs.Polling.{ArePollings, ArePollsOf, AreQueries, HavePolls, all_queries, polled_so_far, polling_lines}
 use Rattle.stall_text.proofs.Lines.{same_sides, same_queries, two_more}
 use Rattle.stall_text.proofs.Asked.{own_tries}
 use Rattle.stall_text.proofs.Polled.{polled_is}
-use Rattle.stall_text.specs.declared.polls.Polls.{Polls}
-use Rattle.stall_text.specs.Polls.{poll_lines, polls_lines, tries_of}
-use Rattle.stall_text.specs.Polling.{ArePollings, ArePollsOf, AreQueries, HavePolls, all_queries, polled_so_far, polling_lines}
-use Rattle.flow_word.specs.declared.access.Kind.{Kind}
-use Rattle.flow_word.specs.declared.access.Kind.TheVariants.{Read, Write, TryRead, TryWrite, Empty, Full}
-use Rattle.flow_word.specs.Kinds.{is_blocking}
-use Rattle.stall_text.proofs.Uses.{own_is}
-use Rattle.stall_text.proofs.Fills.{fifos_are, uses_fit}
-use Rattle.report_text.proofs.LineLemmas.{text-append, numbers_more}
-
-pub verdict_is : (p : Plan) (r : Report) → r ≡ report_with false p → r.verdict ≡ verdict p
-unfolding report
-verdict_is p r e = ap (λ (x : Report). x.verdict) e
+use Rattle.stall_text.proofs.Fills.{most_is, empty_clocks_are, full_clocks_are}
 
 pub clock_few : (p : Plan) → FitsEngine p → (clock : ℕ) → clock ≡ last_clock p → clock ≤ CYCLES
 clock_few p fits clock e = let most = fits.cycles in omega (arith, last_within p)
@@ -94,72 +84,70 @@ polling_is p fits i l (Some polls) h =
     by_kind f m Read e = absurd cc
     by_kind f m Write e = absurd cc
 
-pub module_more : (p : Plan) → FitsEngine p → (i : ℕ) → i < length p.design.modules → (pops pushes : List PortUse) → AreUsesOf p Pop pops
-    → AreUsesOf p Push pushes → (polls : Option Polls) → ArePollsOf p polls
+pub module_more : (p : Plan) → FitsEngine p → (i : ℕ) → i < length p.design.modules → (polls : Option Polls) → ArePollsOf p polls
     → (first text t u v : List ℕ) → text ≡ first ++ text_of_lines (flat_map (module_lines (is_some polls) p) (range_with_len 0 i))
     → t ≡ text ++ text_of_lines (clock_lines p i)
-    → u ≡ t ++ text_of_lines (at_each_side (length p.design.channels) (own_lines p.design i pops pushes))
+    → u ≡ t ++ text_of_lines (at_each_side (length p.design.channels) (ports_of p i))
     → v ≡ u ++ text_of_lines (polling_lines p.design i polls)
     → v ≡ first ++ text_of_lines (flat_map (module_lines (is_some polls) p) (range_with_len 0 (i + 1)))
-module_more p fits i l pops pushes h k polls y first text t u v e q r s =
+module_more p fits i l polls y first text t u v e q r s =
     let ports = at_each_side (length p.design.channels) (ports_of p i) in
-    let own = r ∙ ap (λ (ls : List (List Token)). t ++ text_of_lines ls)
-    (same_sides (length p.design.channels) (own_lines p.design i pops pushes) (ports_of p i) (own_is p fits i pops pushes h k)) in
     let polled = s ∙ ap (λ (ls : List (List Token)). u ++ text_of_lines ls) (polling_is p fits i l polls y) in
     numbers_more (module_lines (is_some polls) p) i first text v e
     (two_more text u v (clock_lines p i ++ ports) (cond (is_some polls) (poll_lines p i) [])
-    (two_more text t u (clock_lines p i) ports q own) polled)
+    (two_more text t u (clock_lines p i) ports q r) polled)
 
 -- ---- a FIFO
 
-pub fill_line : (p : Plan) (clock : ℕ) (pops pushes : List PortUse) (f : ℕ) (name : Token) (depth delay : ℕ) (xs ys : List ℕ) (m e u : ℕ)
-    → name ≡ channel_name p.design f → depth ≡ get_or p.depths f 0 → delay ≡ delay_at p f → xs ≡ clocks_at pops f → ys ≡ clocks_at pushes f
-    → m ≡ most_ahead ys xs clock → e ≡ empty_by delay clock xs ys → u ≡ ahead_clocks depth ys xs clock
-    → fifo_tokens name m e u ≡ filled_at p clock pops pushes f
-fill_line p clock pops pushes f name depth delay xs ys m e u n d w x y a b c =
-    let most = a ∙ ap₂ (λ (q r : List ℕ). most_ahead q r clock) y x in
-    let empty = b ∙ (ap₂ (empty_by delay clock) x y ∙ ap (λ (z : ℕ). empty_by z clock (clocks_at pops f) (clocks_at pushes f)) w) in
-    let full = c ∙ (ap₂ (λ (q r : List ℕ). ahead_clocks depth q r clock) y x
-    ∙ ap (λ (z : ℕ). ahead_clocks z (clocks_at pushes f) (clocks_at pops f) clock) d) in
+-- what tells how full it is makes its line
+pub filled_line : (p : Plan) (f : ℕ) (name : Token) (filling : Filling) → name ≡ channel_name p.design f → IsFilling p f filling
+    → fifo_tokens name filling.most filling.empty filling.full ≡ fifo_line p f
+filled_line p f name filling n h =
+    let most = h.most in
+    let empty = h.empty in
+    let full = h.full in
     λ i. fifo_tokens (n i) (most i) (empty i) (full i)
 
-pub not_fifo : (k : ChannelKind) → ((depth delay : ℕ) → k ≡ Fifo depth delay → ⊥) → is_fifo k ≡ false
-not_fifo Source h = refl
-not_fifo Sink h = refl
-not_fifo (Fifo depth delay) h = absurd (h depth delay refl)
+pub fifo_kind : (k : ChannelKind) (delay : ℕ) (depth : ℕ) → k ≡ Fifo depth delay → (is_fifo k ≡ true) × (delay ≡ delay_of k)
+fifo_kind k delay depth e = (ap is_fifo e, sym (ap delay_of e))
 
--- ---- the uses of all ports
+pub filling_is : (p : Plan) → FitsEngine p → (f : ℕ) → f < length p.design.channels → is_fifo (kind_at p f) ≡ true → (clock : ℕ)
+    → clock ≡ last_clock p → (pops pushes : List ℕ) → ArePortClocks p (record { side = Pop; channel = f }) pops
+    → ArePortClocks p (record { side = Push; channel = f }) pushes → (filling : Filling) → filling.most ≡ most_ahead pushes pops clock
+    → filling.empty ≡ empty_by (delay_at p f) clock pops pushes
+    → filling.full ≡ ahead_clocks (get_or p.depths f 0) pushes pops clock → IsFilling p f filling
+filling_is p fits f l fifo clock last pops pushes h k filling a b c = record {
+  most = a ∙ (ap (most_ahead pushes pops) last ∙ sym (most_is p fits f l fifo pops pushes h k));
+  empty = b ∙ (ap (λ (n : ℕ). empty_by (delay_at p f) n pops pushes) last ∙ sym (empty_clocks_are p fits f l fifo pops pushes h k));
+  full = c ∙ (ap (ahead_clocks (get_or p.depths f 0) pushes pops) last ∙ sym (full_clocks_are p fits f l fifo pops pushes h k));
+}
 
-pub are_uses : (p : Plan) (side : Side) (uses xs : List PortUse) → xs ≡ uses → (n : ℕ) → n ≡ length p.design.channels
-    → (log : List LoggedAccess) → log ≡ log_of p → length uses ≡ n
-    → ((f : ℕ) → f < n → get_or uses f unused ≡ use_at log (record { side = side; channel = f })) → AreUsesOf p side xs
-are_uses p side uses xs e n m log q count each = subst (AreUsesOf p side) (sym e) (record {
-  count = count ∙ m;
-  each = λ f l. each f (omega arith) ∙ ap (λ (xs : List LoggedAccess). use_at xs (record { side = side; channel = f })) q;
-})
-
-pub fit_uses : (p q : Plan) (side : Side) (xs : List PortUse) (clock : ℕ) → AreUsesOf p side xs → q ≡ p → clock ≡ last_clock p
-    → AreUses q clock xs
-fit_uses p q side xs clock h e c =
-    subst (λ (r : Plan). AreUses r clock xs) (sym e) (subst (λ (n : ℕ). AreUses p n xs) (sym c) (uses_fit p side xs h))
+pub filling_told : {E : Type 0} (p : Plan) → FitsEngine p → (f : ℕ) → f < length p.design.channels → is_fifo (kind_at p f) ≡ true
+    → (clock depth delay : ℕ) → clock ≡ last_clock p → depth ≡ get_or p.depths f 0 → delay ≡ delay_at p f → (pops pushes : List ℕ)
+    → ArePortClocks p (record { side = Pop; channel = f }) pops → ArePortClocks p (record { side = Push; channel = f }) pushes
+    → (r : Result Filling E) → IfOk r (λ filling. filling.most ≡ most_ahead pushes pops clock)
+    → IfOk r (λ filling. filling.empty ≡ empty_by delay clock pops pushes)
+    → IfOk r (λ filling. filling.full ≡ ahead_clocks depth pushes pops clock) → IfOk r (IsFilling p f)
+filling_told p fits f l fifo clock depth delay last d w pops pushes h k (Ok filling) a b c =
+    filling_is p fits f l fifo clock last pops pushes h k filling a (b ∙ ap (λ (n : ℕ). empty_by n clock pops pushes) w)
+    (c ∙ ap (λ (n : ℕ). ahead_clocks n pushes pops clock) d)
+filling_told p fits f l fifo clock depth delay last d w pops pushes h k (Err e) a b c = tt
 
 -- ---- all of them
 
-pub whole_text : (p : Plan) (polls : Bool) → FitsEngine p → (pops pushes : List PortUse) → AreUsesOf p Pop pops → AreUsesOf p Push pushes
-    → (v : Verdict) (clock : ℕ) (t u w x : List ℕ) → v ≡ verdict p → clock ≡ last_clock p → t ≡ codes "stalls\n"
+pub whole_text : (p : Plan) (polls : Bool) (v : Verdict) (t u w x : List ℕ) → v ≡ verdict p → t ≡ codes "stalls\n"
     → u ≡ t ++ line (verdict_tokens v)
     → w ≡ u ++ text_of_lines (flat_map (module_lines polls p) (range_with_len 0 (length p.design.modules)))
-    → x ≡ w ++ text_of_lines (map (filled_at p clock pops pushes) (fifos p)) → x ≡ stalls_text polls p
+    → x ≡ w ++ text_of_lines (map (fifo_line p) (fifos p)) → x ≡ stalls_text polls p
 unfolding stalls_text
-whole_text p polls fits pops pushes h k v clock t u w x vs cs a b c d =
+whole_text p polls v t u w x vs a b c d =
     let ms = flat_map (module_lines polls p) (range_with_len 0 (length p.design.modules)) in
     let fs = map (fifo_line p) (fifos p) in
     let first = codes "stalls\n" in
     let second = line (verdict_tokens (verdict p)) in
     let start : u ≡ first ++ second = b ∙ ap₂ (λ (y : List ℕ) (z : Verdict). y ++ line (verdict_tokens z)) a vs in
     d
-    ∙ (ap₂ (λ (y : List ℕ) (ls : List (List Token)). y ++ text_of_lines ls) (c ∙ ap (λ (y : List ℕ). y ++ text_of_lines ms) start)
-    (ap (λ (n : ℕ). map (filled_at p n pops pushes) (fifos p)) cs ∙ fifos_are p fits pops pushes h k)
+    ∙ (ap (λ (y : List ℕ). y ++ text_of_lines fs) (c ∙ ap (λ (y : List ℕ). y ++ text_of_lines ms) start)
     ∙ (append_assoc (first ++ second) (text_of_lines ms) (text_of_lines fs)
     ∙ (append_assoc first second (text_of_lines ms ++ text_of_lines fs)
     ∙ ap (λ (l : List ℕ). first ++ (second ++ l)) (sym (text-append ms fs)))))

@@ -1,6 +1,5 @@
 pub mod Stalls
 pub mod StallText
-pub mod Ports
 pub mod Causes
 pub mod Filling
 pub mod Polls

@@ -1,5 +1,5 @@
 -- What is kept of modules that poll, by the accesses of a log.
-use Rattle.std.specs.Prelude.{ℕ, ◌≡◌, ◌<◌, ◌+◌, ◌^◌, ◌==◌, ⊤, Bool, false, ◌&&◌, if◌then◌else◌, Option, Some, None, List, [], ◌++◌}
+use Rattle.std.specs.Prelude.{ℕ, ◌≡◌, ◌<◌, ◌+◌, ◌^◌, ◌==◌, ⊤, Bool, false, ◌&&◌, if◌then◌else◌, Option, Some, None, List, [], ◌∷◌, ◌++◌}
 use Rattle.std.specs.Prelude.{count_by, filter, fold, length, slice_index_or}
 use Rattle.flow_word.specs.declared.access.Kind.{Kind}
 use Rattle.flow_word.specs.declared.access.Kind.TheVariants.{TryRead, TryWrite, Empty, Full}
@@ -14,7 +14,6 @@ use Rattle.stall_text.specs.declared.queries.AllQueries.{AllQueries}
 use Rattle.stall_text.specs.declared.polls.Polling.{Polling}
 use Rattle.stall_text.specs.declared.polls.Polls.{Polls}
 use Rattle.stall_text.specs.Polls.{asks, at_each_query, is_missed, is_of, polls_lines, query_lines}
-use Rattle.stall_text.specs.Ports.{last_module}
 
 -- ---- a module
 
@@ -45,6 +44,11 @@ abbrev pub polling_of : List LoggedAccess → Polling
 polling_of accesses = fold polling_with unpolled accesses
 
 -- ---- the queries of a kind on a channel
+
+-- the module of the last of these accesses, and i where there is none
+abbrev pub last_module : ℕ → List LoggedAccess → ℕ
+last_module i [] = i
+last_module i (a ∷ accesses) = last_module a.event.«module» accesses
 
 -- none
 abbrev pub unasked : Queries

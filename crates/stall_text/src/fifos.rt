@@ -1,19 +1,24 @@
 //! How full each FIFO is.
-ghost use Rattle.std.specs.Prelude.{◌≡◌, ◌<◌, ◌≤◌, ◌^◌, ◌++◌, map};
+ghost use Rattle.std.specs.Prelude.{◌≡◌, ◌<◌, ◌≤◌, ◌++◌, [], true, if◌then◌else◌, length, map, slice_index};
 ghost use Rattle.std.specs.Prelude.{All, IfOk, OnOk};
+ghost use Rattle.event_timing.specs.Actions.{IsFinal};
+ghost use Rattle.timing_bridge.specs.Designs.{design};
 ghost use Rattle.flow_design.specs.declared.limits.TheConstants.{CYCLES, FIFO_DELAY, FIFO_DEPTH};
-ghost use Rattle.flow_design.specs.StaticRules.{FitsEngine};
+ghost use Rattle.flow_design.specs.Plans.{delay_at, is_fifo, kind_at};
 ghost use Rattle.report_text.specs.Lines.{line, text_of_lines};
-ghost use Rattle.fifo_fills.specs.Fills.{fifos};
+ghost use Rattle.fifo_fills.specs.Fills.{fifos, last_clock};
+ghost use Rattle.sim_core.specs.Views.{theory_of};
 ghost use Rattle.queue_clocks.specs.Leads as counts;
-ghost use Rattle.stall_text.specs.StallText.{fifo_tokens};
-ghost use Rattle.stall_text.specs.Filling.{AreClocks, AreUses, later, empty_by, filled_at};
+ghost use Rattle.queue_clocks.specs.Leads.{AreClocks};
+ghost use Rattle.stall_text.specs.StallText.{fifo_line, fifo_tokens};
+ghost use Rattle.stall_text.specs.Filling.{IsFilling, later, empty_by};
 
-use crate::ports::PortUse;
-use flow_design::{ChannelKind, Plan};
-use flow_word::{List, OutOfMemory, Words};
+use flow_design::ChannelKind;
+use flow_word::{List, OutOfMemory, Port, Side, Words};
+use port_clocks::clocks_at;
 use queue_clocks::{ahead_clocks, most_ahead};
 use report_text::{channel_name, push_token, push_value};
+use sim_core::Core;
 use std::alloc::Global;
 
 /// How full a FIFO is.
@@ -27,31 +32,84 @@ struct Filling {
     full: u64,
 }
 
-/// Adds the line of each FIFO, by the uses of the popping sides and of the pushing sides below a clock.
+/// Adds the line of each FIFO of a final core's plan, where this is the clock of its verdict.
 pub(crate) fn print_fifos(
     alloc: Global,
     text: &mut List<u8>,
-    plan: &Plan,
-    pops: &[PortUse],
-    pushes: &[PortUse],
+    core: &Core,
     clock: u64,
 ) -> Result<(), OutOfMemory>
-    requires fits { FitsEngine plan.now }
-    requires pops { AreUses plan.now clock pops.now }
-    requires pushes { AreUses plan.now clock pushes.now }
-    requires clock { clock ≤ CYCLES }
-    ensures { OnOk result (text.new ≡ text.old ++ text_of_lines (map (filled_at plan.now clock pops.now pushes.now) (fifos plan.now))) }
+    requires is_final { IsFinal (design core.now.plan) core.now.plan.cycles (theory_of core.now) }
+    requires clock { clock ≡ last_clock core.now.plan }
+    ensures { OnOk result (text.new ≡ text.old ++ text_of_lines (map (fifo_line core.now.plan) (fifos core.now.plan))) }
 {
-    let depths = plan.depths.as_slice();
-    for (at, channel) in plan.design.channels.as_slice().iter().enumerate() {
-        if let ChannelKind::Fifo { delay, .. } = channel.kind {
-            let popped = pops[at].clocks.as_slice();
-            let pushed = pushes[at].clocks.as_slice();
-            let filling = filling_of(alloc, depths[at], delay, popped, pushed, clock)?;
-            print_filling(text, channel_name(&plan.design, at as u32), filling)?;
-        }
+    let _modules = core.modules();
+    let count = core.plan().design.channels.len() as u32;
+    for channel in 0..count {
+        print_fifo(alloc, text, core, channel, clock)?;
     }
     Ok(())
+}
+
+/// Adds the line of a channel, if it is a FIFO.
+fn print_fifo(
+    alloc: Global,
+    text: &mut List<u8>,
+    core: &Core,
+    channel: u32,
+    clock: u64,
+) -> Result<(), OutOfMemory>
+    requires is_final { IsFinal (design core.now.plan) core.now.plan.cycles (theory_of core.now) }
+    requires channel { channel < length core.now.plan.design.channels }
+    requires clock { clock ≡ last_clock core.now.plan }
+    ensures { OnOk result (text.new
+        ≡ text.old ++ (if is_fifo (kind_at core.now.plan channel) then line (fifo_line core.now.plan channel) else [])) }
+{
+    let design = &core.plan().design;
+    match design.channels.as_slice()[channel as usize].kind {
+        ChannelKind::Fifo { delay, .. } => {
+            let filling = filling_at(alloc, core, channel, delay, clock)?;
+            print_filling(text, channel_name(design, channel), filling)
+        }
+        ChannelKind::Source | ChannelKind::Sink => Ok(()),
+    }
+}
+
+/// How full a FIFO of this delay is.
+fn filling_at(
+    alloc: Global,
+    core: &Core,
+    channel: u32,
+    delay: u64,
+    clock: u64,
+) -> Result<Filling, OutOfMemory>
+    requires is_final { IsFinal (design core.now.plan) core.now.plan.cycles (theory_of core.now) }
+    requires channel { channel < length core.now.plan.design.channels }
+    requires fifo { is_fifo (kind_at core.now.plan channel) ≡ true }
+    requires delay { delay ≡ delay_at core.now.plan channel }
+    requires clock { clock ≡ last_clock core.now.plan }
+    ensures { IfOk result (IsFilling core.now.plan channel) }
+{
+    let _modules = core.modules();
+    let depth = core.plan().depths.as_slice()[channel as usize];
+    let pop = Port {
+        side: Side::Pop,
+        channel,
+    };
+    let push = Port {
+        side: Side::Push,
+        channel,
+    };
+    let pops = clocks_at(alloc, core, pop)?;
+    let pushes = clocks_at(alloc, core, push)?;
+    filling_of(
+        alloc,
+        depth,
+        delay,
+        pops.as_slice(),
+        pushes.as_slice(),
+        clock,
+    )
 }
 
 /// How full a FIFO of this depth and delay is below a clock, by the clocks of its pops and pushes.

@@ -1,16 +1,19 @@
 //! Modules that poll.
 ghost use Rattle.std.specs.Prelude.{◌≡◌, ◌<◌, ◌^◌, ◌++◌, length, replicate, slice_index_or, slice_set};
 ghost use Rattle.std.specs.Prelude.{All, IfOk, IfSome, OnOk, is_some};
+ghost use Rattle.event_timing.specs.Actions.{IsFinal};
+ghost use Rattle.timing_bridge.specs.Designs.{design as design_of};
 ghost use Rattle.report_text.specs.Lines.{text_of_lines};
+ghost use Rattle.sim_core.specs.Views.{theory_of};
 ghost use Rattle.stall_text.specs.Polls.{polls_lines};
-ghost use Rattle.stall_text.specs.Polling.{ArePollings, AreQueries, HavePolls, kept_lines, polling_lines, unpolled};
+ghost use Rattle.stall_text.specs.Polling.{ArePollings, ArePollsOf, HavePolls, kept_lines, polling_lines, unpolled};
 ghost use Rattle.stall_text.specs.Polling.{polled_so_far as polled, polling_with};
 
 use crate::queries::{AllQueries, all_queries, is_missed, print_queries};
 use flow_design::Design;
 use flow_word::{List, OutOfMemory};
 use report_text::{module_name, push_token, push_value};
-use sim_core::LoggedAccess;
+use sim_core::{Core, LoggedAccess};
 use std::alloc::Global;
 
 /// What is known of a module that may poll.
@@ -32,26 +35,27 @@ pub(crate) struct Polls {
     pub(crate) queries: AllQueries,
 }
 
-/// How so many modules poll so many channels, by what each access gave; nothing where it is not asked for.
+/// How the modules of a final core's plan poll; nothing where it is not asked for.
+///
+/// It takes memory for what each access gave, where it is asked for.
 pub(crate) fn polls_if(
     alloc: Global,
     asked: bool,
-    modules: u32,
-    channels: usize,
-    log: &[LoggedAccess],
+    core: &Core,
 ) -> Result<Option<Polls>, OutOfMemory>
-    requires modules { All (λ a. a.event.module < modules) log.now }
-    requires channels { All (λ a. a.event.channel < channels) log.now }
+    requires { IsFinal (design_of core.now.plan) core.now.plan.cycles (theory_of core.now) }
     ensures asked { IfOk result (λ polls. is_some polls ≡ asked) }
-    ensures polls { IfOk result (λ polls. IfSome polls (λ x. ArePollings modules log.now x.modules
-        × AreQueries channels log.now x.queries)) }
+    ensures polls { IfOk result (ArePollsOf core.now.plan) }
 {
     if !asked {
         return Ok(None);
     }
+    let modules = core.modules();
+    let channels = core.plan().design.channels.as_slice().len();
+    let log = core.access_log(alloc)?;
     Ok(Some(Polls {
-        modules: pollings(alloc, modules, log)?,
-        queries: all_queries(alloc, channels, log)?,
+        modules: pollings(alloc, modules, log.as_slice())?,
+        queries: all_queries(alloc, channels, log.as_slice())?,
     }))
 }
 

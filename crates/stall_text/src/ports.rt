@@ -1,128 +1,75 @@
 //! The elements that pass each port.
-ghost use Rattle.std.specs.Prelude.{ℕ, ◌≡◌, ◌<◌, ◌^◌, ◌++◌, ◌==◌, if◌then◌else◌, [], ◌∷◌, length, replicate, slice_set, slice_index_or};
-ghost use Rattle.std.specs.Prelude.{All, IfOk, OnOk};
+ghost use Rattle.std.specs.Prelude.{◌≡◌, ◌<◌, ◌++◌, length, IfOk, OnOk};
+ghost use Rattle.event_timing.specs.Actions.{IsFinal};
+ghost use Rattle.timing_bridge.specs.Designs.{design};
 ghost use Rattle.report_text.specs.Lines.{text_of_lines};
-ghost use Rattle.report_text.specs.ReportText.{channel_name as channel_in, module_name as module_in};
-ghost use Rattle.flow_word.specs.declared.access.Port.{Port};
-ghost use Rattle.stall_text.specs.Stalls.{moved_at};
-ghost use Rattle.stall_text.specs.StallText.{port_lines, at_each_side, side_word};
-ghost use Rattle.stall_text.specs.Ports.{use_at, unused, used_by, own_lines};
+ghost use Rattle.sim_core.specs.Views.{theory_of};
+ghost use Rattle.stall_text.specs.Stalls.{port_clocks};
+ghost use Rattle.stall_text.specs.StallText.{port_lines, ports_of, at_each_side, side_word};
 
-use flow_design::{Design, EventLine};
-use flow_word::{List, OutOfMemory, Side, Words};
+use flow_word::{List, OutOfMemory, Port, Side, Words};
+use port_clocks::own_clocks;
 use report_text::{channel_name, module_name, push_token, push_value};
-use sim_core::LoggedAccess;
+use sim_core::Core;
 use std::alloc::Global;
 
-/// What is known of a port.
-#[derive(Drop)]
-pub(crate) struct PortUse {
-    /// The module that moved an element there last; 0 where no element has passed.
-    pub(crate) owner: u32,
-    /// The clocks in which it moved one, in order.
-    pub(crate) clocks: Words,
-}
-
-/// The uses of both sides of each channel.
-#[derive(Drop)]
-pub(crate) struct Uses {
-    pub(crate) pops: List<PortUse>,
-    pub(crate) pushes: List<PortUse>,
-}
-
-/// The uses of one side of each channel, by what each access gave.
-pub(crate) fn uses_at(
-    alloc: Global,
-    channels: usize,
-    side: Side,
-    log: &[LoggedAccess],
-) -> Result<List<PortUse>, OutOfMemory>
-    requires inside { All (λ a. a.event.channel < channels) log.now }
-    ensures count { IfOk result (λ uses. length uses ≡ channels) }
-    ensures each { IfOk result (λ uses. (f : ℕ) → f < channels
-        → slice_index_or uses f unused ≡ use_at log.now (record { side = side; channel = f })) }
-{
-    let mut uses = no_uses(alloc, channels)?;
-    for access in log {
-        if moved_at(side, access) {
-            use_port(&mut uses, access.event)?;
-        }
-    }
-    Ok(uses)
-}
-
-/// For each channel a side that no element has passed.
-fn no_uses(alloc: Global, channels: usize) -> Result<List<PortUse>, OutOfMemory>
-    ensures { IfOk result (λ uses. uses ≡ replicate channels unused) }
-{
-    let mut uses = List::with_room(alloc, channels as u64)?;
-    for _at in 0..channels {
-        let clocks = List::new(alloc);
-        uses.push(PortUse { owner: 0, clocks })?;
-    }
-    Ok(uses)
-}
-
-/// Whether an access moved an element at this side of its channel.
-fn moved_at(side: Side, access: &LoggedAccess) -> bool
-    ensures { result ≡ moved_at (record { side = side; channel = access.now.event.channel }) access.now }
-{
-    access.value.is_some() && access.event.kind.side() == side
-}
-
-/// An access used the port of a channel.
-fn use_port(uses: &mut List<PortUse>, event: EventLine) -> Result<(), OutOfMemory>
-    requires { event.channel < length uses.old }
-    ensures { OnOk result (uses.new ≡ slice_set uses.old event.channel (used_by event (slice_index_or uses.old event.channel unused))) }
-{
-    let port = &mut uses.as_mut_slice()[event.channel as usize];
-    port.owner = event.module;
-    port.clocks.push(event.cycle)
-}
-
-/// Adds the lines of a module's ports, by the uses of the popping sides and of the pushing sides.
+/// Adds the lines of a module's ports.
 pub(crate) fn print_ports(
+    alloc: Global,
     text: &mut List<u8>,
-    design: &Design,
+    core: &Core,
     owner: u32,
-    pops: &[PortUse],
-    pushes: &[PortUse],
 ) -> Result<(), OutOfMemory>
-    requires owner { owner < length design.now.modules }
-    requires pops { length pops.now ≡ length design.now.channels }
-    requires pushes { length pushes.now ≡ length design.now.channels }
-    requires few { length design.now.channels < 2 ^ 32 }
-    ensures { OnOk result (text.new ≡ text.old ++ text_of_lines (at_each_side (length design.now.channels)
-        (own_lines design.now owner pops.now pushes.now))) }
+    requires is_final { IsFinal (design core.now.plan) core.now.plan.cycles (theory_of core.now) }
+    requires owner { owner < length core.now.plan.design.modules }
+    ensures { OnOk result (text.new
+        ≡ text.old ++ text_of_lines (at_each_side (length core.now.plan.design.channels) (ports_of core.now.plan owner))) }
 {
-    let name = module_name(design, owner);
-    let count = design.channels.len() as u32;
-    for number in 0..count {
-        let channel = channel_name(design, number);
-        let pop = &pops[number as usize];
-        let push = &pushes[number as usize];
-        print_own(text, owner, name, channel, Side::Pop, pop)?;
-        print_own(text, owner, name, channel, Side::Push, push)?;
+    let _modules = core.modules();
+    let count = core.plan().design.channels.len() as u32;
+    for channel in 0..count {
+        let pop = Port {
+            side: Side::Pop,
+            channel,
+        };
+        let push = Port {
+            side: Side::Push,
+            channel,
+        };
+        print_own(alloc, text, core, owner, pop)?;
+        print_own(alloc, text, core, owner, push)?;
     }
     Ok(())
 }
 
-/// Adds the line of a port, if it is the module's.
+/// Adds the line of a port, if the module moves elements there.
 fn print_own(
+    alloc: Global,
     text: &mut List<u8>,
+    core: &Core,
     owner: u32,
-    name: &[u8],
-    channel: &[u8],
-    side: Side,
-    port: &PortUse,
+    port: Port,
 ) -> Result<(), OutOfMemory>
-    ensures { OnOk result (text.new ≡ text.old ++ text_of_lines
-        (if port.now.owner == owner then port_lines name.now channel.now side port.now.clocks else [])) }
+    requires is_final { IsFinal (design core.now.plan) core.now.plan.cycles (theory_of core.now) }
+    requires owner { owner < length core.now.plan.design.modules }
+    requires channel { port.channel < length core.now.plan.design.channels }
+    ensures { OnOk result (text.new ≡ text.old ++ text_of_lines (ports_of core.now.plan owner port.channel port.side)) }
 {
-    if port.owner == owner {
-        return print_port(text, name, channel, side, port.clocks.as_slice());
-    }
-    Ok(())
+    let clocks = clocks_of(alloc, core, owner, port)?;
+    let design = &core.plan().design;
+    let name = module_name(design, owner);
+    let channel = channel_name(design, port.channel);
+    print_port(text, name, channel, port.side, clocks.as_slice())
+}
+
+/// The clocks in which a module moves elements at a port.
+fn clocks_of(alloc: Global, core: &Core, owner: u32, port: Port) -> Result<Words, OutOfMemory>
+    requires is_final { IsFinal (design core.now.plan) core.now.plan.cycles (theory_of core.now) }
+    requires channel { port.channel < length core.now.plan.design.channels }
+    ensures { IfOk result (λ clocks. clocks ≡ port_clocks core.now.plan owner port) }
+{
+    let _modules = core.modules();
+    own_clocks(alloc, core, owner, port)
 }
 
 /// Adds the line of a port, if an element has passed it in one of these clocks.

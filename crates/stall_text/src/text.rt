@@ -5,17 +5,15 @@ ghost use Rattle.event_timing.specs.Actions.{IsFinal};
 ghost use Rattle.timing_bridge.specs.Designs.{design as design_of};
 ghost use Rattle.sim_core.specs.Views.{theory_of};
 ghost use Rattle.fifo_fills.specs.Fills.{last_clock};
-ghost use Rattle.flow_word.specs.declared.access.Side.TheVariants.{Pop, Push};
 ghost use Rattle.report_text.specs.Lines.{text_of_lines};
 ghost use Rattle.stall_text.specs.StallText.{module_lines};
 ghost use Rattle.stall_text.specs.StallText as form;
-ghost use Rattle.stall_text.specs.Ports.{AreUsesOf};
 ghost use Rattle.stall_text.specs.Polling.{ArePollsOf};
 
 use crate::causes::{clocks_of, print_causes, print_clocks, still_clocks};
 use crate::fifos::print_fifos;
 use crate::polls::{Polls, polls_if, print_polling};
-use crate::ports::{Uses, print_ports, uses_at};
+use crate::ports::print_ports;
 use flow_word::{List, OutOfMemory, Side};
 use report_text::{module_name, print_verdict};
 use sim_core::Core;
@@ -24,49 +22,33 @@ use std::alloc::Global;
 /// The text of `stalls` for a final core's plan: the clocks in which each module moves and stands still, the causes of its stalls and
 /// the elements at its ports, and how full each FIFO is; with `polls` also how each module polls.
 ///
-/// It takes memory for the report without its events, for what each access gave, for the clocks in which each element moved, for the
-/// spans of one module at a time, for two numbers of each channel, and for the text; with `polls` also for a few numbers of each module
-/// and of each channel. An error leaves nothing.
+/// It takes memory for the spans of one module at a time, for the clocks of one FIFO's pushes and pops at a time, for two numbers of each
+/// channel, and for the text; with `polls` also for what each access gave, and for a few numbers of each module and of each channel. An
+/// error leaves nothing.
 pub fn stalls_text(alloc: Global, core: &Core, polls: bool) -> Result<List<u8>, OutOfMemory>
     requires { IsFinal (design_of core.now.plan) core.now.plan.cycles (theory_of core.now) }
     ensures { IfOk result (λ text. text ≡ form.stalls_text polls core.now.plan) }
 {
-    let modules = core.modules();
-    let report = core.report(alloc, false)?;
-    let log = core.access_log(alloc)?;
-    let channels = core.plan().design.channels.as_slice().len();
-    let pops = uses_at(alloc, channels, Side::Pop, log.as_slice())?;
-    let pushes = uses_at(alloc, channels, Side::Push, log.as_slice())?;
-    let uses = Uses { pops, pushes };
-    let polled = polls_if(alloc, polls, modules, channels, log.as_slice())?;
-    let clock = report.verdict.clock();
+    let polled = polls_if(alloc, polls, core)?;
+    let verdict = core.verdict();
+    let clock = verdict.clock();
     let mut text = List::from_slice(alloc, b"stalls\n")?;
-    print_verdict(&mut text, report.verdict)?;
-    print_modules(alloc, &mut text, core, clock, &uses, &polled)?;
-    print_fifos(
-        alloc,
-        &mut text,
-        core.plan(),
-        uses.pops.as_slice(),
-        uses.pushes.as_slice(),
-        clock,
-    )?;
+    print_verdict(&mut text, verdict)?;
+    print_modules(alloc, &mut text, core, clock, &polled)?;
+    print_fifos(alloc, &mut text, core, clock)?;
     Ok(text)
 }
 
-/// Adds the lines of each module, by the uses of both sides of the channels, and by how the modules poll where that is asked for.
+/// Adds the lines of each module, and how the modules poll where that is asked for.
 fn print_modules(
     alloc: Global,
     text: &mut List<u8>,
     core: &Core,
     clock: u64,
-    uses: &Uses,
     polls: &Option<Polls>,
 ) -> Result<(), OutOfMemory>
     requires is_final { IsFinal (design_of core.now.plan) core.now.plan.cycles (theory_of core.now) }
     requires clock { clock ≡ last_clock core.now.plan }
-    requires pops { AreUsesOf core.now.plan Pop uses.now.pops }
-    requires pushes { AreUsesOf core.now.plan Push uses.now.pushes }
     requires polls { ArePollsOf core.now.plan polls.now }
     ensures { OnOk result (text.new
         ≡ text.old ++ text_of_lines (flat_map (module_lines (is_some polls.now) core.now.plan)
@@ -74,15 +56,8 @@ fn print_modules(
 {
     for owner in 0..core.modules() {
         print_module(alloc, text, core, owner, clock)?;
-        let design = &core.plan().design;
-        print_ports(
-            text,
-            design,
-            owner,
-            uses.pops.as_slice(),
-            uses.pushes.as_slice(),
-        )?;
-        print_polling(text, design, owner, polls)?;
+        print_ports(alloc, text, core, owner)?;
+        print_polling(text, &core.plan().design, owner, polls)?;
     }
     Ok(())
 }

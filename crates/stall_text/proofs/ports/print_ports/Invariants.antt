@@ -1,8 +1,7 @@
 use Rattle.std.proofs.Common.{◌≡◌, ◌++◌}
 use Rattle.report_text.specs.Lines.{text_of_lines}
-use Rattle.stall_text.specs.StallText.{at_each_side}
-use Rattle.stall_text.specs.Ports.{own_lines}
+use Rattle.stall_text.specs.StallText.{at_each_side, ports_of}
 use Rattle.stall_text.proofs.ports.print_ports.Given as goal
 
-abbrev pub invariant-loop-number : goal.invariant-loop-number
-invariant-loop-number l = l.text ≡ l.fn.text ++ text_of_lines (at_each_side l.number (own_lines l.design l.owner l.pops l.pushes))
+abbrev pub invariant-loop-channel : goal.invariant-loop-channel
+invariant-loop-channel l = l.text ≡ l.fn.text ++ text_of_lines (at_each_side l.channel (ports_of l.core.plan l.owner))

@@ -1,8 +1,6 @@
 use Rattle.std.proofs.Common.{◌∙◌, ◌<◌, ap, ◌++◌, length, arith}
 use Rattle.flow_design.specs.declared.plan.Plan.{Plan}
 use Rattle.report_text.specs.Lines.{text_of_lines}
-use Rattle.stall_text.specs.StallText.{at_each_side}
-use Rattle.stall_text.specs.Ports.{own_lines}
 use Rattle.stall_text.specs.Polling.{polling_lines}
 use Rattle.stall_text.proofs.Whole.{have_polls, module_more}
 use Rattle.stall_text.proofs.text.print_modules.Goals as goal
@@ -15,14 +13,9 @@ pub loop-owner-preserved : goal.loop-owner-preserved
 loop-owner-preserved c =
     let i = c.loop-owner.owner in
     let p = c.args.core.now.plan in
-    let uses = c.args.uses.now in
     let inside : i < length p.design.modules = let l = c.loop-owner-test.true in let n = c.modules-owner-end.ensures.count in omega arith in
-    module_more p c.modules-owner-end.ensures.fits i inside uses.pops uses.pushes c.requires.pops c.requires.pushes
-    c.args.polls.now c.requires.polls c.args.text.now c.loop-owner.text c.print_module.new.text c.print_ports.new.text
-    c.print_polling.new.text c.loop-owner.invariant c.in_ok-print_module.ensures
-    (c.in_ok-print_ports.ensures
-    ∙ (λ j. c.print_module.new.text
-    ++ text_of_lines (at_each_side (length (c.plan.ensures j).design.channels)
-    (own_lines (c.plan.ensures j).design i (c.as_slice.ensures j) (c.as_slice-in-loop-owner.ensures j)))))
+    module_more p c.modules-owner-end.ensures.fits i inside c.args.polls.now c.requires.polls c.args.text.now c.loop-owner.text
+    c.print_module.new.text c.print_ports.new.text c.print_polling.new.text c.loop-owner.invariant c.in_ok-print_module.ensures
+    c.in_ok-print_ports.ensures
     (c.in_ok-print_polling.ensures
     ∙ ap (λ (q : Plan). c.print_ports.new.text ++ text_of_lines (polling_lines q.design i c.args.polls.now)) c.plan.ensures)

@@ -1,0 +1,20 @@
+//! What the clocks of a FIFO's ports tell.
+ghost use Rattle.std.specs.Prelude.{◌≡◌, ◌+◌, ◌<◌, ◌≤◌, ℕ, true, length, List as Items};
+ghost use Rattle.flow_word.specs.declared.access.Port.{Port};
+ghost use Rattle.flow_word.specs.declared.access.Side.TheVariants.{Pop, Push};
+ghost use Rattle.flow_design.specs.declared.plan.Plan.{Plan};
+ghost use Rattle.flow_design.specs.Plans.{is_fifo, kind_at};
+ghost use Rattle.flow_design.specs.StaticRules.{FitsEngine};
+ghost use Rattle.fifo_fills.specs.Fills.{fill, last_clock};
+ghost use Rattle.queue_clocks.specs.Leads.{before};
+ghost use Rattle.port_clocks.specs.Clocks.{ArePortClocks};
+
+/// No other clocks are those of a port. In each clock up to the verdict's a FIFO holds so many elements as clocks of its pushes come
+/// before that clock, less those of its pops.
+pub fn clocks_tell_fills()
+    ensures one { (p : Plan) (port : Port) (xs ys : Items ℕ) → ArePortClocks p port xs → ArePortClocks p port ys → xs ≡ ys }
+    ensures fills { (p : Plan) → FitsEngine p → (f : ℕ) → f < length p.design.channels → is_fifo (kind_at p f) ≡ true
+        → (pops pushes : Items ℕ) → ArePortClocks p (record { side = Pop; channel = f }) pops
+        → ArePortClocks p (record { side = Push; channel = f }) pushes
+        → (clock : ℕ) → clock ≤ last_clock p → fill p f clock + before pops clock ≡ before pushes clock }
+{}

@@ -1,0 +1,9 @@
+//! The clocks in which elements pass the ports of a plan, read off what a core holds at its end.
+#![tactic(auto)]
+
+mod laws;
+mod ports;
+mod reading;
+
+pub use laws::clocks_tell_fills;
+pub use ports::{clocks_at, own_clocks};

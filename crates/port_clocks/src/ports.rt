@@ -1,0 +1,40 @@
+//! The clocks of a port.
+ghost use Rattle.std.specs.Prelude.{◌≡◌, ◌≢◌, ◌<◌, [], length, IfOk};
+ghost use Rattle.lockstep_defs.specs.Ports as lockstep;
+ghost use Rattle.event_timing.specs.Actions.{IsFinal};
+ghost use Rattle.timing_bridge.specs.Designs.{design};
+ghost use Rattle.sim_core.specs.Views.{theory_of};
+ghost use Rattle.port_clocks.specs.Clocks.{ArePortClocks};
+
+use crate::reading::{cycles_at, uses};
+use flow_word::{List, OutOfMemory, Port, Words};
+use sim_core::Core;
+use std::alloc::Global;
+
+/// The clocks in which elements pass a port of a final core's plan, in order: one for each element that is popped there, or pushed.
+///
+/// It looks at each step that uses the port once, and takes memory for the clocks. An error leaves nothing.
+pub fn clocks_at(alloc: Global, core: &Core, port: Port) -> Result<Words, OutOfMemory>
+    requires is_final { IsFinal (design core.now.plan) core.now.plan.cycles (theory_of core.now) }
+    requires channel { port.channel < length core.now.plan.design.channels }
+    ensures { IfOk result (ArePortClocks core.now.plan port) }
+{
+    let _ends = core.ends();
+    cycles_at(alloc, core.engine(), port)
+}
+
+/// The clocks in which a module moves elements at a port of a final core's plan, in order; none where the port is another module's.
+///
+/// It looks at each step that uses the port at most once, and takes memory for the clocks. An error leaves nothing.
+pub fn own_clocks(alloc: Global, core: &Core, owner: u32, port: Port) -> Result<Words, OutOfMemory>
+    requires is_final { IsFinal (design core.now.plan) core.now.plan.cycles (theory_of core.now) }
+    requires channel { port.channel < length core.now.plan.design.channels }
+    ensures own { lockstep.owner core.now.plan port ≡ owner → IfOk result (ArePortClocks core.now.plan port) }
+    ensures other { lockstep.owner core.now.plan port ≢ owner → IfOk result (λ clocks. clocks ≡ []) }
+{
+    let _ends = core.ends();
+    if !uses(core.engine(), owner, port) {
+        return Ok(List::new(alloc));
+    }
+    clocks_at(alloc, core, port)
+}

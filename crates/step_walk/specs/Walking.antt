@@ -1,0 +1,54 @@
+-- Where a walk over the steps of a graph stands, and what it has given.
+use Rattle.std.specs.Prelude.{ℕ, ◌≡◌, ◌-◌, ◌<◌, ◌≤◌, ◌^◌, List, [], ◌∷◌, ◌++◌, Option, Some, None, length, map, sum, sum_by, slice_index, slice_index_or}
+use Rattle.std.specs.List.{range_with_len}
+use Rattle.flow_design.specs.declared.plan.Plan.{Plan}
+use Rattle.event_graph.specs.Lanes.{Lane, lane_at}
+use Rattle.timing_bridge.specs.Designs.{design}
+use Rattle.timing_bridge.specs.CoreReports.{steps_at}
+use Rattle.engine_view.specs.Held.{Held, core_of}
+use Rattle.engine_report.specs.declared.events.TimedStep.{TimedStep}
+use Rattle.engine_report.specs.Keys.{place_of, IsTimedKey}
+use Rattle.step_order.specs.Walks.{IsWalked}
+use Rattle.step_walk.specs.declared.walk.StepWalk.{StepWalk}
+
+-- later than each cycle
+abbrev pub never : ℕ
+never = 2 ^ 64 - 1
+
+-- the cycle of a module's step of this number, and `never` where it has none
+abbrev pub next_cycle : List Lane → ℕ → ℕ → ℕ
+next_cycle lanes i k = slice_index_or (lane_at lanes i).cycles k never
+
+-- that of each module's first step
+abbrev pub first_cycles : List Lane → List ℕ
+first_cycles lanes = map (λ i. next_cycle lanes i 0) (range_with_len 0 (length lanes))
+
+-- what a walk keeps
+pub record IsWalk (lanes : List Lane) (walk : StepWalk) : Type 0 where
+  pub givens : length walk.given ≡ length lanes
+  pub nexts : length walk.next ≡ length lanes
+  pub turn : walk.module ≤ length lanes
+  -- of each module the cycle of the step after those that were given
+  pub each : (i : ℕ) → i < length lanes → slice_index walk.next i ≡ next_cycle lanes i (slice_index walk.given i)
+  pub within : (i : ℕ) → i < length lanes → slice_index walk.given i ≤ length (lane_at lanes i).cycles
+  -- those modules that have had their turn do nothing more up to a later clock, and the others nothing before the round's
+  pub later : walk.clock < walk.later
+  pub bound : walk.later ≤ never
+  pub early : (i : ℕ) → i < walk.module → walk.later ≤ slice_index walk.next i
+  pub due : (i : ℕ) → walk.module ≤ i → i < length lanes → walk.clock ≤ slice_index walk.next i
+
+-- it has given these steps: for each core whose steps have the cycles of the graph, they are what a walk has done that stands there
+pub record HasGiven (lanes : List Lane) (walk : StepWalk) (steps : List TimedStep) : Type 0 where
+  pub done : (p : Plan) (held : Held) → held.lanes ≡ lanes → let x = core_of (design p) held in
+      IsWalked p x (steps_at p x (map place_of steps)) walk.given walk.clock walk.module
+
+-- how many steps it has not given
+abbrev pub left : List Lane → StepWalk → ℕ
+left lanes walk = sum_by (λ lane. length lane.cycles) lanes - sum walk.given
+
+-- what a search in one round finds, and where it leaves the walk: behind all modules where it finds nothing
+abbrev pub FoundIn : List Lane → StepWalk → Option TimedStep → StepWalk → Type 0
+FoundIn lanes old None new = (new.module ≡ length lanes) × (new.given ≡ old.given)
+    × ((steps : List TimedStep) → HasGiven lanes old steps → HasGiven lanes new steps)
+FoundIn lanes old (Some step) new = IsTimedKey lanes step × (left lanes new < left lanes old)
+    × ((steps : List TimedStep) → HasGiven lanes old steps → HasGiven lanes new (steps ++ step ∷ []))

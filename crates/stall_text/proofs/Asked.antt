@@ -146,7 +146,7 @@ same_side_of Empty Empty e = refl
 same_side_of Full Full e = refl
 same_side_of kind other e = grind arith
 
-asks_owner : (p : Plan) (kind : Kind) (f : ℕ) (a : LoggedAccess) → Owns p a → asks kind f a ≡ true
+pub asks_owner : (p : Plan) (kind : Kind) (f : ℕ) (a : LoggedAccess) → Owns p a → asks kind f a ≡ true
     → a.event.«module» ≡ owner p (record { side = side_of kind; channel = f })
 asks_owner p kind f a h e =
     let parts = and_parts (same_query kind a.event.kind) (eqb f a.event.channel) e in

@@ -61,7 +61,7 @@ later_test x c d l = elim (cases_lt (x + (d - 1)) c) [
   | inr w ↦ le-ltb (x + (d - 1)) c w ∙ sym (le-ltb x (suc c - d) (omega arith))
 ]
 
-later_before : (xs : List ℕ) (c d : ℕ) → 1 ≤ d → before (later (d - 1) xs) c ≡ before xs (suc c - d)
+pub later_before : (xs : List ℕ) (c d : ℕ) → 1 ≤ d → before (later (d - 1) xs) c ≡ before xs (suc c - d)
 later_before [] c d l = refl
 later_before (x ∷ xs) c d l =
     sum_by-cons (λ (y : ℕ). cond (ltb y c) 1 0) (x + (d - 1)) (later (d - 1) xs)
@@ -173,7 +173,7 @@ module _ (p : Plan) (fits : FitsEngine p) (f : ℕ) (l : f < length p.design.cha
   abbrev d : ℕ
   d = delay_at p f
 
-  empty_is : (c : ℕ) → c ≤ last_clock p
+  pub empty_is : (c : ℕ) → c ≤ last_clock p
       → is_empty c (contents_of (state p c).contents f) ≡ not (is_ahead 1 (later (d - 1) pushes) pops c)
   empty_is c m =
       let positive = delay_positive p fits f l in

@@ -124,7 +124,7 @@ owned : (p : Plan) (done : List Act) → AllByRecursion (ActStands p) done → A
 owned p [] h = tt
 owned p (a ∷ done) h = ((h.0).owned, owned p done h.1)
 
-moved_owner : (p : Plan) (port : Port) (a : LoggedAccess) → Owns p a → moved_at port a ≡ true → a.event.«module» ≡ owner p port
+pub moved_owner : (p : Plan) (port : Port) (a : LoggedAccess) → Owns p a → moved_at port a ≡ true → a.event.«module» ≡ owner p port
 moved_owner p port a h e =
     let both = and_parts (is_some a.value) (same_port port (record { side = side_of a.event.kind; channel = a.event.channel })) e in
     let parts = and_parts (same_side port.side (side_of a.event.kind)) (eqb port.channel a.event.channel) both.1 in

@@ -8,4 +8,6 @@ mod ports;
 mod queries;
 mod text;
 
+pub use ports::{PortUse, uses_at};
+pub use queries::is_missed;
 pub use text::stalls_text;

@@ -16,11 +16,11 @@ use std::alloc::Global;
 
 /// What is known of a port.
 #[derive(Drop)]
-pub(crate) struct PortUse {
+pub struct PortUse {
     /// The module that moved an element there last; 0 where no element has passed.
-    pub(crate) owner: u32,
+    pub owner: u32,
     /// The clocks in which it moved one, in order.
-    pub(crate) clocks: Words,
+    pub clocks: Words,
 }
 
 /// The uses of both sides of each channel.
@@ -31,7 +31,7 @@ pub(crate) struct Uses {
 }
 
 /// The uses of one side of each channel, by what each access gave.
-pub(crate) fn uses_at(
+pub fn uses_at(
     alloc: Global,
     channels: usize,
     side: Side,

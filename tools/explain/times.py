@@ -39,15 +39,15 @@ def tell_stalls(options, text, session):
 
 def tell_chain(options, text, session):
     """Tells what makes the latency, and, of a design without queries, whether depths can change it."""
-    found = answer('path', options, text)
+    polls = ['--polls'] * asks_outcomes(session)
+    found = answer('path', options + polls, text)
     if found is None:
         return
     where = [f'{count_of(entry.clocks, "clock")} in {entry.module}' for entry in sorted(found.spent, key=lambda entry: -entry.clocks)]
     full = [entry.channel for entry in found.crossed if entry.side == 'full']
     if where:
-        print(f'  The chain that makes the latency spends {", ".join(where)} (omnisim path).')
+        print(f'  The chain that makes the latency spends {", ".join(where)} ({" ".join(["omnisim path"] + polls)}).')
     if asks_outcomes(session):
-        print('  A poll in vain counts as a move there: look at what the modules that poll wait for.')
         return
     if full:
         print(f'  Deepening can help at {", ".join(full)}: there the chain that makes the latency waits for a place.')

@@ -145,6 +145,15 @@ class Cross:
 
 
 @dataclass(frozen=True)
+class Poll:
+    """How often the chain went back to the push of an element of a channel that was polled for, and the clocks in which such
+    elements waited in all."""
+    channel: str
+    count: int
+    waiting: int
+
+
+@dataclass(frozen=True)
 class Link:
     """The chain is in a module from clock `first` to clock `last`."""
     module: str
@@ -154,11 +163,17 @@ class Link:
 
 @dataclass
 class Path:
-    """The chain that makes the latency; its links come under `--events`."""
+    """The chain that makes the latency; its links come under `--events`, what was polled for along it under `--polls`."""
     verdict: Verdict
     spent: list = field(default_factory=list)
     crossed: list = field(default_factory=list)
+    polled: list = field(default_factory=list)
     links: list = field(default_factory=list)
+
+    @property
+    def channels(self):
+        """The channels that the chain goes through."""
+        return {entry.channel for entry in self.crossed + self.polled}
 
 
 @dataclass(frozen=True)
@@ -279,12 +294,14 @@ def read_stalls(text):
 
 
 def read_path(text):
-    """The answer to `path`, with `--events` or without."""
+    """The answer to `path`, with `--events` and `--polls` or without."""
     lines = Lines('path', text)
     lines.take('path', 0)
     found = Path(lines.verdict())
     found.spent = lines.all_of('spend', 2, lambda name, clocks: Spend(name, lines.number(clocks)))
-    found.crossed = lines.all_of('cross', 3, lambda side, name, count: Cross(side, name, lines.number(count)))
+    while lines.next_is('cross') or lines.next_is('poll'):
+        found.crossed += lines.all_of('cross', 3, lambda side, name, count: Cross(side, name, lines.number(count)))
+        found.polled += lines.all_of('poll', 4, lambda side, name, *counts: Poll(name, *lines.numbers(counts)))
     found.links = lines.all_of('link', 3, lambda name, *clocks: Link(name, *lines.numbers(clocks)))
     lines.end()
     return found

@@ -29,9 +29,9 @@ def stalls(text, cycles=None, ops=None, polls=False):
     return read_stalls(told(['stalls'] + ['--polls'] * polls, text, cycles, ops))
 
 
-def path(text, events=False, cycles=None, ops=None):
-    """What makes the latency: a Path."""
-    return read_path(told(['path'] + ['--events'] * events, text, cycles, ops))
+def path(text, events=False, cycles=None, ops=None, polls=False):
+    """What makes the latency: a Path, which with `polls` follows what modules poll for."""
+    return read_path(told(['path'] + ['--events'] * events + ['--polls'] * polls, text, cycles, ops))
 
 
 def log(text, cycles=None, ops=None):

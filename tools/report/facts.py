@@ -9,6 +9,11 @@ from report.words import Words
 QUERIES = ('tryread', 'trywrite', 'empty', 'full')
 
 
+def asks_outcomes(session):
+    """Whether some operation is a query, so that what a module does may depend on clocks."""
+    return any(made.kind in QUERIES for module in session.modules for block in module.blocks for made in block.operations)
+
+
 @dataclass
 class Facts:
     """The answers to a session; in `run` those after each edit, too, and elsewhere the design as it is."""
@@ -35,9 +40,8 @@ class Facts:
 
     @property
     def asks_outcomes(self):
-        """Whether some operation is a query, so that what a module does may depend on clocks."""
-        return any(made.kind in QUERIES for module in self.session.modules for block in module.blocks
-                   for made in block.operations)
+        """Whether the design asks outcomes."""
+        return asks_outcomes(self.session)
 
     @property
     def depths(self):

@@ -4,7 +4,7 @@ from concurrent.futures import ThreadPoolExecutor
 
 from flow import answers
 from flow.program import NoAnswer, TookTooLong
-from report.facts import Facts
+from report.facts import Facts, asks_outcomes
 from report.timeline import Timeline
 from report.words import explained, words_of
 from flow.session import read_session
@@ -51,7 +51,8 @@ def gather(program, path, text, canonical, limits, wait):
         lines = pool.submit(explained, program.top, path, text, options, wait + AFTERWARDS)
         run, advise = (pool.submit(program.answer, [command] + options, text) for command in ('run', 'advise'))
         stalls = answers.read_stalls(program.answer(['stalls'] + options, text))
-        chain = answers.read_path(program.answer(['path', '--events'] + options, text))
+        polls = ['--polls'] * asks_outcomes(session)
+        chain = answers.read_path(program.answer(['path', '--events'] + polls + options, text))
         timeline = timeline_of(program, options, text, stalls.verdict.clock, session, chain)
         return Facts(
             title_of(path), session, answers.read_run(run.result()), stalls, chain, size.result(),

@@ -138,7 +138,7 @@ def nodes_of(facts, waits, shallow, stuck):
     for channel in facts.session.channels.values():
         made = fifo_node(facts, channel, shallow) if channel.kind == 'fifo' else end_node(facts, channel)
         nodes[f'channel {channel.name}'] = made
-    for channel in {cross.channel for cross in facts.path.crossed}:
+    for channel in facts.path.channels:
         nodes[f'channel {channel}'].look += ' bold'
     for module, channel in stuck:
         nodes[f'module {module}'].look += ' stuck'
@@ -166,7 +166,7 @@ def look_of(facts, channel):
 
 def lines_between(facts, stuck):
     """The lines of the graph: the keys of the ends, and an edge that has no path yet."""
-    crossed = {cross.channel for cross in facts.path.crossed}
+    crossed = facts.path.channels
     for channel in facts.session.channels.values():
         look, share = look_of(facts, channel.name)
         for module, keys in ends_of(channel):

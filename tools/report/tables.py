@@ -117,4 +117,6 @@ def spent_rows(path):
 
 
 def crossed_rows(path):
-    return [{'side': cross.side, 'channel': cross.channel, 'count': told(cross.count)} for cross in path.crossed]
+    """The channels that the chain crosses, and then those that it goes back through to what was polled for."""
+    crossed = [{'side': cross.side, 'channel': cross.channel, 'count': told(cross.count)} for cross in path.crossed]
+    return crossed + [{'side': 'polled', 'channel': poll.channel, 'count': told(poll.count)} for poll in path.polled]

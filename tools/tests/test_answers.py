@@ -2,7 +2,7 @@
 import io
 import unittest
 
-from flow.answers import (Access, BadAnswer, Cross, Event, FifoTime, Held, Link, Polls, Port, Query, Spend, Stall,
+from flow.answers import (Access, BadAnswer, Cross, Event, FifoTime, Held, Link, Poll, Polls, Port, Query, Spend, Stall,
                           TraceTaker, Verdict, read_depths, read_log, read_path, read_run, read_stalls, read_sweep, take_trace)
 
 RUN = '''report 0
@@ -76,6 +76,12 @@ class ReadsAnswers(unittest.TestCase):
     def test_chain(self):
         found = read_path(PATH)
         self.assertEqual((found.spent, found.crossed), ([Spend('p', 4), Spend('q', 2)], [Cross('empty', 'b', 1)]))
+        self.assertEqual(found.links, [Link('p', 0, 3), Link('q', 4, 5)])
+
+    def test_chain_with_polls(self):
+        found = read_path(PATH.replace('cross empty b 1\n', 'cross empty b 1\npoll empty b 2 5\ncross full c 1\npoll empty d 1 0\n'))
+        self.assertEqual(found.polled, [Poll('b', 2, 5), Poll('d', 1, 0)])
+        self.assertEqual(found.crossed, [Cross('empty', 'b', 1), Cross('full', 'c', 1)])
         self.assertEqual(found.links, [Link('p', 0, 3), Link('q', 4, 5)])
 
     def test_accesses_with_and_without_a_value(self):

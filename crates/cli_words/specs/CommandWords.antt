@@ -218,9 +218,10 @@ abbrev pub tells_events : View → Bool
 tells_events Path = true
 tells_events _ = false
 
--- `stalls` takes `--polls`, for what modules poll; no other view does
+-- `stalls` and `path` take `--polls`, for what modules poll; no other view does
 abbrev pub tells_polls : View → Bool
 tells_polls Stalls = true
+tells_polls Path = true
 tells_polls _ = false
 
 -- `gen` has two further positionals: a seed of 0 to 65,535 and 1 to 64 modules

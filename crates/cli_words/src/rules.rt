@@ -124,7 +124,7 @@ fn tells_events(view: View) -> bool
 fn tells_polls(view: View) -> bool
     ensures { result ≡ tells_polls view }
 {
-    matches!(view, View::Stalls)
+    matches!(view, View::Stalls | View::Path)
 }
 
 /// The options, each in its bounds.

@@ -1,6 +1,6 @@
 -- The last clock in which a module moves.
 use Rattle.std.proofs.Common.{◌≡◌, ◌≢◌, ℕ, zero, suc, ◌+◌, ◌-◌, ◌<◌, ◌≤◌, Bool, true, false, cond, Option, Some, None, List, [], ◌∷◌}
-use Rattle.std.proofs.Common.{length, get_or, refl, sym, ◌∙◌, ap, subst, arith, inl, inr, ◌⊎◌}
+use Rattle.std.proofs.Common.{length, get_or, refl, sym, ◌∙◌, ap, ap₂, subst, arith, inl, inr, ◌⊎◌}
 use Rattle.std.specs.Prelude.{find, fold}
 use Rattle.std.specs.List.{range_with_len}
 use Rattle.std.proofs.lemmas.Bool.{cases_Bool, cases_lt, cases_eq, le-leb, lt-leb}
@@ -12,10 +12,11 @@ use Rattle.stall_spans.specs.declared.span.Span.{Span}
 use Rattle.stall_spans.specs.Spans.{IsBefore, AreSpansBelow}
 use Rattle.stall_spans.proofs.Lists.{Member, Rising, all_of}
 use Rattle.stall_spans.proofs.Extending.{Listed, spans_listed}
-use Rattle.depth_order.specs.Chain.{moves_at, first_mover, chain_from, chain, path}
-use Rattle.depth_order.proofs.Chained.{find_any, none_among, path_more}
+use Rattle.depth_order.specs.Chain.{moves_at, first_mover}
+use Rattle.depth_order.proofs.Chained.{find_any, none_among}
 use Rattle.latency_path.specs.declared.walk.At.{At}
-use Rattle.latency_path.specs.Walks.{end_by, end_with, moving_end, HasSpans, IsLastMove, with_module, chain_at}
+use Rattle.latency_path.specs.Walks.{end_by, end_with, moving_end, HasSpans, IsLastMove, with_module}
+use Rattle.latency_path.specs.Polls.{last_move, move_by}
 use Rattle.latency_path.proofs.Doings.{doing_moves, moves_doing, mover_inside}
 use Rattle.latency_path.proofs.Covered.{covered}
 use Rattle.stall_spans.proofs.Lists.{contains_member}
@@ -174,7 +175,7 @@ last_more p end n (Some at) (Some until) all h =
       })
     ]
 
--- ---- where the path begins
+-- ---- where the chain begins
 
 -- the first number in a range that passes
 record IsFirstOf (P : ℕ → Bool) (a n m : ℕ) : Type 0 where
@@ -208,24 +209,45 @@ first_of P a (suc n) m e = by_test (P a) refl (first_of P (a + 1) n m) e
           none = λ k l b. elim (cases_eq k a) [ inl same ↦ rw same at | inr other ↦ x.none k (omega arith) b ];
         }
 
-path_none : (p : Plan) → path p zero ≡ []
-unfolding path
-path_none p = refl
-
 nobody_in : (p : Plan) (c m : ℕ) → first_mover p c ≡ None → m < length p.design.modules → moves_at p c m ≡ false
 nobody_in p c m e l =
     let at : 0 + m ≡ m = omega arith in
     subst (λ (k : ℕ). moves_at p c k ≡ false) at
     (none_among (moves_at p c) 0 (length p.design.modules) (find_any (moves_at p c) (range_with_len 0 (length p.design.modules)) e) m l)
 
-pub path_is : (p : Plan) (end : ℕ) (o : Option At) → IsLastMove p end (length p.design.modules) o → path p end ≡ chain_at p o
-path_is p zero None all = path_none p
-path_is p zero (Some at) all = let below = all.below in absurd (omega arith)
-path_is p (suc c) o all = path_more p c ∙ by_mover (first_mover p c) refl o all (path_is p c)
+last_more_move : (p : Plan) (c : ℕ) → last_move p (suc c) ≡ move_by c (first_mover p c) (last_move p c)
+unfolding last_move
+last_more_move p c = refl
+
+no_last_move : (p : Plan) → last_move p zero ≡ None
+unfolding last_move
+no_last_move p = refl
+
+pub last_is : (p : Plan) (end : ℕ) (o : Option At) → IsLastMove p end (length p.design.modules) o → last_move p end ≡ o
+last_is p zero None all = no_last_move p
+last_is p zero (Some at) all = let below = all.below in absurd (omega arith)
+last_is p (suc c) o all = last_more_move p c ∙ by_mover (first_mover p c) refl o all (last_is p c)
   where
+    by_module : (m : ℕ) → first_mover p c ≡ Some m → (at : At) → IsLastMove p (suc c) (length p.design.modules) (Some at)
+        → (m < at.module) ⊎ (at.module ≤ m) → (at.module < m) ⊎ (m ≤ at.module) → at.clock ≡ c
+        → Some (record { «module» = m; clock = c }) ≡ Some at
+    by_module m e at all (inl l) k same =
+        let x = first_of (moves_at p c) 0 (length p.design.modules) m e in
+        let nobody = rw same at (all.none_before m l) in
+        let moves = x.passes in
+        absurd (cc)
+    by_module m e at all (inr l) (inl k) same =
+        let x = first_of (moves_at p c) 0 (length p.design.modules) m e in
+        let nobody = x.none at.module (omega arith) k in
+        let moves = rw same at all.moves in
+        absurd (cc)
+    by_module m e at all (inr l) (inr k) same =
+        let one : m ≡ at.module = omega arith in
+        ap₂ (λ (k b : ℕ). Some (record { «module» = k; clock = b })) one (sym same)
+
     by_mover : (f : Option ℕ) → first_mover p c ≡ f → (o : Option At) → IsLastMove p (suc c) (length p.design.modules) o
-        → ((o : Option At) → IsLastMove p c (length p.design.modules) o → path p c ≡ chain_at p o)
-        → chain_from p c f (path p c) ≡ chain_at p o
+        → ((o : Option At) → IsLastMove p c (length p.design.modules) o → last_move p c ≡ o)
+        → move_by c f (last_move p c) ≡ o
     by_mover None e None all rest = rest None (λ m k l b. all m k l (omega arith))
     by_mover None e (Some at) all rest =
         let below = all.below in
@@ -257,24 +279,8 @@ path_is p (suc c) o all = path_more p c ∙ by_mover (first_mover p c) refl o al
               absurd (cc)
           | inr late ↦
               let same : at.clock ≡ c = omega arith in
-              by_module (cases_lt m at.module) (cases_lt at.module m) same
+              by_module m e at all (cases_lt m at.module) (cases_lt at.module m) same
         ]
-      where
-        by_module : (m < at.module) ⊎ (at.module ≤ m) → (at.module < m) ⊎ (m ≤ at.module) → at.clock ≡ c
-            → chain p (suc c) m c ≡ chain p (suc at.clock) at.module at.clock
-        by_module (inl l) k same =
-            let x = first_of (moves_at p c) 0 (length p.design.modules) m e in
-            let nobody = rw same at (all.none_before m l) in
-            let moves = x.passes in
-            absurd (cc)
-        by_module (inr l) (inl k) same =
-            let x = first_of (moves_at p c) 0 (length p.design.modules) m e in
-            let nobody = x.none at.module (omega arith) k in
-            let moves = rw same at all.moves in
-            absurd (cc)
-        by_module (inr l) (inr k) same =
-            let one : at.module ≡ m = omega arith in
-            rw same (rw one refl)
 
 -- ---- with the spans of one module more
 

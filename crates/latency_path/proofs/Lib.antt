@@ -6,3 +6,10 @@ pub mod Last
 pub mod Owned
 pub mod Searched
 pub mod Walked
+pub mod Logged
+pub mod Fronts
+pub mod Latest
+pub mod Missed
+pub mod Moved
+pub mod Found
+pub mod Followed

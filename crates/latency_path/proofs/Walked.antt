@@ -7,10 +7,13 @@ use Rattle.stall_spans.specs.Spans.{AreSpansBelow}
 use Rattle.depth_order.specs.declared.link.Link.{Link}
 use Rattle.depth_order.specs.Chain.{moves_at}
 use Rattle.latency_path.specs.declared.walk.At.{At}
-use Rattle.latency_path.specs.Walks.{HasSpans, IsLastMove, MovesBefore, chain_at}
+use Rattle.latency_path.specs.Walks.{HasSpans, IsLastMove, MovesBefore}
+use Rattle.latency_path.specs.declared.link.Polled.{Polled}
+use Rattle.latency_path.specs.Polls.{links_in, polled_from, polls_in}
+use Rattle.sim_core.specs.declared.access_log.LoggedAccess.{LoggedAccess}
 use Rattle.latency_path.proofs.Doings.{mover_inside}
-use Rattle.latency_path.proofs.Last.{path_is}
-use Rattle.latency_path.proofs.Chains.{IsWalk}
+use Rattle.latency_path.proofs.Last.{last_is}
+use Rattle.latency_path.proofs.Followed.{IsWalk}
 
 -- the spans of a module that moves
 pub spans_at : (p : Plan) (end : ℕ) (at : At) (spans : List (List Span)) (found slice : List Span) → moves_at p at.clock at.module ≡ true
@@ -21,13 +24,16 @@ spans_at p end at spans found slice move h there same =
     let l : at.module < length spans = omega arith in
     subst (AreSpansBelow p at.module end) (sym (same ∙ (there ∙ get_or_default spans at.module found [] l))) (h.each at.module l)
 
-last_moves : (p : Plan) (end n : ℕ) (o : Option At) → IsLastMove p end n o → MovesBefore p end o
-last_moves p end n None all = tt
-last_moves p end n (Some at) all = (all.below, all.moves)
+begins : (p : Plan) (end n : ℕ) (o : Option At) → IsLastMove p end n o → MovesBefore p end o
+begins p end n None all = tt
+begins p end n (Some at) all = (all.below, all.moves)
 
-pub walk_begins : (p : Plan) (end : ℕ) (links : List Link) (o : Option At) → links ≡ []
-    → IsLastMove p end (length p.design.modules) o → IsWalk p end links o
-walk_begins p end links o none all = record {
-  whole = ap (λ (ls : List Link). ls ++ chain_at p o) none ∙ sym (path_is p end o all);
-  there = last_moves p end (length p.design.modules) o all;
-}
+pub walk_begins : (p : Plan) (log : List LoggedAccess) (end : ℕ) (links : List Link) (polls : List Polled) (o : Option At) → links ≡ []
+    → polls ≡ [] → IsLastMove p end (length p.design.modules) o → IsWalk p log end links polls o
+walk_begins p log end links polls o none nothing all =
+    let from = ap (polled_from p log) (sym (last_is p end o all)) in
+    record {
+      links_are = ap (λ (ls : List Link). ls ++ links_in (polled_from p log o)) none ∙ ap links_in from;
+      polls_are = ap (λ (qs : List Polled). qs ++ polls_in (polled_from p log o)) nothing ∙ ap polls_in from;
+      there = begins p end (length p.design.modules) o all;
+    }

@@ -1,2 +1,4 @@
 pub mod Walks
 pub mod Owners
+pub mod Polls
+pub mod Finds

@@ -11,7 +11,7 @@ use Rattle.stall_spans.specs.declared.span.Doing.TheVariants.{Moves, Still}
 use Rattle.stall_spans.specs.declared.span.Span.{Span}
 use Rattle.stall_spans.specs.Spans.{IsBefore, AreSpansBelow}
 use Rattle.depth_order.specs.declared.link.Link.{Link}
-use Rattle.depth_order.specs.Chain.{moves_at, span_start, stood_at, chain}
+use Rattle.depth_order.specs.Chain.{moves_at, span_start, stood_at}
 use Rattle.latency_path.specs.declared.walk.At.{At}
 
 -- ---- links
@@ -26,11 +26,6 @@ before_link p l = option_map (λ a. record {
   «module» = owner p (record { side = other_side a.side; channel = a.channel });
   clock = l.first - lag_in p a.side a.channel;
 }) l.crossed
-
--- the chain back from there
-abbrev pub chain_at : Plan → Option At → List Link
-chain_at p None = []
-chain_at p (Some at) = chain p (suc at.clock) at.module at.clock
 
 -- a module moves there, before this clock
 abbrev pub MovesBefore : Plan → ℕ → Option At → Type 0

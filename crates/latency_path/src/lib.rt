@@ -1,8 +1,13 @@
-//! What makes the latency of a plan: the chain of clocks that goes back from its end.
+//! What makes the latency of a plan: the chain of clocks that goes back from its end, and where modules poll to what they poll for.
 #![tactic(auto)]
 
+mod finds;
+mod link;
+mod moved;
 mod owners;
+mod search;
 mod spans;
 mod walk;
 
-pub use walk::find_path;
+pub use link::{Path, Polled, PolledLink};
+pub use walk::{At, find_path};

@@ -1,5 +1,5 @@
 //! The walk along the chain.
-ghost use Rattle.std.specs.Prelude.{◌≡◌, ℕ, ◌<◌, ◌≤◌, length, IfOk, IfSome};
+ghost use Rattle.std.specs.Prelude.{◌≡◌, ℕ, ◌<◌, ◌≤◌, ◌++◌, filter, length, IfOk, IfSome, OnOk};
 ghost use Rattle.flow_word.specs.declared.access.Side.TheVariants as side;
 ghost use Rattle.flow_design.specs.declared.plan.Plan.{Plan};
 ghost use Rattle.flow_design.specs.Plans.{delay_of};
@@ -7,47 +7,104 @@ ghost use Rattle.flow_design.specs.StaticRules.{FitsEngine};
 ghost use Rattle.timing_bridge.specs.Designs.{lag_in};
 ghost use Rattle.lockstep_defs.specs.Verdict.{verdict};
 ghost use Rattle.flow_design.specs.Reports.{clock_of};
-ghost use Rattle.depth_order.specs.Chain.{path};
 ghost use Rattle.latency_path.specs.Owners.{owners};
 ghost use Rattle.latency_path.specs.Walks.{HasSpans, IsLastMove, before_link, with_module};
+ghost use Rattle.latency_path.specs.Polls.{AreAccesses, before_polled as goes_on_at, from_query as begins_with, if_some};
+ghost use Rattle.latency_path.specs.Polls.{latest as latest_of, links_in, polled_path, polls_in};
+ghost use Rattle.latency_path.specs.Finds.{AreInOrder, by_find, find_clock, is_within};
 
+use crate::finds::{Find, finds};
+use crate::link::{Path, Polled, PolledLink};
 use crate::owners::owners;
+use crate::search::latest;
 use crate::spans::{link_to, moving_end};
 use depth_order::Link;
 use flow_design::{ChannelKind, Plan};
 use flow_word::{List, OutOfMemory, Side};
+use sim_core::LoggedAccess;
 use stall_spans::Span;
 use std::alloc::Global;
 
 /// A clock in which a module moves.
 #[derive(Clone, Copy, Debug, PartialEq, Eq)]
-pub(crate) struct At {
+pub struct At {
     pub module: u32,
     pub clock: u64,
 }
 
-/// The chain that makes the latency of a plan, the latest link first, by the spans of its modules below the verdict's clock.
+/// The chain that makes the latency of a plan, by the spans of its modules below the verdict's clock; it follows polls where `log` is
+/// what each access gave, and none where `log` is empty.
 ///
-/// It takes memory for the links and for two numbers of each channel. For each link it looks at a few spans. An error leaves nothing.
+/// It takes memory for the links, for two numbers of each channel, and with a log for the clocks in which each element moved and for the
+/// queries that found an element. It looks at each access once, at each such query at most once, and for each link at a few spans. An
+/// error leaves nothing.
 pub fn find_path(
     alloc: Global,
     plan: &Plan,
     spans: &[List<Span>],
-) -> Result<List<Link>, OutOfMemory>
+    log: &[LoggedAccess],
+) -> Result<Path, OutOfMemory>
     requires fits { FitsEngine plan.now }
     requires spans { HasSpans plan.now (clock_of (verdict plan.now)) spans.now }
-    ensures { IfOk result (λ links. links ≡ path plan.now (clock_of (verdict plan.now))) }
+    requires log { AreAccesses plan.now log.now }
+    ensures links { IfOk result (λ path. path.links ≡ links_in (polled_path plan.now log.now (clock_of (verdict plan.now)))) }
+    ensures polls { IfOk result (λ path. path.polls ≡ polls_in (polled_path plan.now log.now (clock_of (verdict plan.now)))) }
 {
+    let kept = finds(alloc, plan, log)?;
     let poppers = owners(alloc, plan, Side::Pop)?;
     let pushers = owners(alloc, plan, Side::Push)?;
     let mut links = List::new(alloc);
+    let mut polls = List::new(alloc);
     let mut next = last_move(spans);
     while let Some(at) = next {
         let link = link_to(spans[at.module as usize].as_slice(), at.module, at.clock);
-        links.push(link)?;
-        next = before_link(plan, poppers.as_slice(), pushers.as_slice(), &link);
+        let step = polled_link(kept.as_slice(), link);
+        links.push(step.link)?;
+        push_poll(&mut polls, step.polled)?;
+        next = before_polled(plan, poppers.as_slice(), pushers.as_slice(), &step);
     }
-    Ok(links)
+    Ok(Path { links, polls })
+}
+
+/// The link, from the query on that ended the last poll of its module in its clocks; whole where there is none.
+fn polled_link(finds: &[Find], link: Link) -> PolledLink
+    requires { AreInOrder finds.now }
+    ensures { result ≡ by_find link (latest_of find_clock (filter (is_within link) finds.now)) }
+{
+    match latest(finds, &link) {
+        Some(find) => from_query(link, find),
+        None => PolledLink { link, polled: None },
+    }
+}
+
+/// The link that begins with a query.
+fn from_query(link: Link, find: Find) -> PolledLink
+    ensures { result ≡ begins_with link find.access find.pushed }
+{
+    let found = find.access.event.cycle;
+    PolledLink {
+        link: Link {
+            module: link.module,
+            first: found,
+            last: link.last,
+            crossed: None,
+        },
+        polled: Some(Polled {
+            channel: find.access.event.channel,
+            pushed: find.pushed,
+            found,
+        }),
+    }
+}
+
+/// Adds what was polled for, if something was.
+fn push_poll(polls: &mut List<Polled>, polled: Option<Polled>) -> Result<(), OutOfMemory>
+    ensures { OnOk result (polls.new ≡ polls.old ++ if_some polled) }
+{
+    match polled {
+        Some(poll) => polls.push(poll),
+        None => Ok(()),
+    }
 }
 
 /// The last clock in which a module moves, and the first module that moves in it.
@@ -76,6 +133,24 @@ fn with_module(last: Option<At>, owner: u32, end: Option<u64>) -> Option<At>
             module: owner,
             clock,
         }),
+    }
+}
+
+/// The place at which the chain goes on before a link: at the push of what was polled for, or where it goes on without polls.
+fn before_polled(plan: &Plan, poppers: &[u32], pushers: &[u32], step: &PolledLink) -> Option<At>
+    requires poppers { poppers.now ≡ owners plan.now side.Pop }
+    requires pushers { pushers.now ≡ owners plan.now side.Push }
+    requires polled { IfSome step.now.polled (λ q. q.channel < length plan.now.design.channels) }
+    requires crossed { IfSome step.now.link.crossed (λ a. a.channel < length plan.now.design.channels) }
+    requires later { IfSome step.now.link.crossed (λ a. lag_in plan.now a.side a.channel ≤ step.now.link.first) }
+    ensures { result ≡ goes_on_at plan.now step.now }
+{
+    match step.polled {
+        Some(polled) => Some(At {
+            module: pushers[polled.channel as usize],
+            clock: polled.pushed,
+        }),
+        None => before_link(plan, poppers, pushers, &step.link),
     }
 }
 

@@ -1,9 +1,10 @@
--- The clocks of a module, as they grow link by link.
+-- The clocks of a module and the waiting on a channel, as they grow link by link.
 use Rattle.std.proofs.Common.{ℕ, ◌+◌, ◌<◌, ◌≤◌, Bool, true, false, cond, eqb, List, length, take, get_or, arith}
 use Rattle.std.specs.Prelude.{sum_by}
 use Rattle.std.proofs.lemmas.List.Sums.{sum_by_more_le_part}
 use Rattle.depth_order.specs.declared.link.Link.{Link}
-use Rattle.path_text.specs.Counts.{clocks_of, clocks_at, clocks_in}
+use Rattle.latency_path.specs.declared.link.Polled.{Polled}
+use Rattle.path_text.specs.Counts.{clocks_of, clocks_at, clocks_in, clocks_waited, waiting, waiting_at}
 
 part : (m : ℕ) (l : Link) → clocks_at m l ≤ clocks_of l
 part m l = by_test (eqb l.module m)
@@ -16,3 +17,15 @@ part m l = by_test (eqb l.module m)
 pub clocks_within : (links : List Link) (i m : ℕ) (l : Link) → i < length links
     → clocks_in (take i links) m + clocks_of (get_or links i l) ≤ sum_by clocks_of links
 clocks_within links i m l inside = sum_by_more_le_part (clocks_at m) clocks_of links i l inside (part m)
+
+waiting_part : (f : ℕ) (q : Polled) → waiting_at f q ≤ waiting q
+waiting_part f q = by_test (eqb q.channel f)
+  where
+    by_test : (b : Bool) → cond b (waiting q) 0 ≤ waiting q
+    by_test true = omega arith
+    by_test false = omega arith
+
+-- the waiting so far and that of one poll more are within that of all
+pub waiting_within : (polls : List Polled) (i f : ℕ) (q : Polled) → i < length polls
+    → clocks_waited (take i polls) f + waiting (get_or polls i q) ≤ sum_by waiting polls
+waiting_within polls i f q inside = sum_by_more_le_part (waiting_at f) waiting polls i q inside (waiting_part f)

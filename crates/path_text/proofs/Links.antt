@@ -1,56 +1,26 @@
--- What the links of the chain are, and how many clocks they have.
-use Rattle.std.proofs.Common.{◌≡◌, ℕ, zero, suc, ◌+◌, ◌-◌, ◌<◌, ◌≤◌, true, Option, Some, None, List, [], ◌∷◌, length, refl, ap, ◌∙◌, arith}
-use Rattle.std.proofs.Common.{inl, inr}
-use Rattle.std.specs.Prelude.{sum_by}
-use Rattle.std.specs.List.{AllByRecursion, range_with_len}
+-- What the links of the chain and what it polls for are, and how many clocks they have.
+use Rattle.std.proofs.Common.{◌≡◌, ℕ, ◌+◌, ◌≤◌, true, Option, Some, None, List, [], ◌∷◌, ◌++◌, refl, ap, ◌∙◌, arith}
+use Rattle.std.specs.Prelude.{sum_by, IfSome}
+use Rattle.std.specs.List.{AllByRecursion}
 use Rattle.std.proofs.lemmas.List.Elements.{All-from_recursion}
 use Rattle.std.proofs.lemmas.List.Sums.{sum_by-cons}
-use Rattle.flow_word.specs.Kinds.{other_side}
+use Rattle.flow_design.specs.declared.design.Design.{Design}
 use Rattle.flow_design.specs.declared.plan.Plan.{Plan}
 use Rattle.flow_design.specs.StaticRules.{FitsEngine}
-use Rattle.lockstep_defs.specs.Ports.{owner}
-use Rattle.timing_bridge.specs.Designs.{lag_in}
+use Rattle.sim_core.specs.declared.access_log.LoggedAccess.{LoggedAccess}
 use Rattle.depth_order.specs.declared.link.Link.{Link}
-use Rattle.depth_order.specs.Chain.{moves_at, span_start, stood_at, goes_on, chain, first_mover, chain_from, path}
+use Rattle.depth_order.specs.Chain.{moves_at}
 use Rattle.depth_order.specs.Sums.{spent}
-use Rattle.depth_order.proofs.Chained.{starts, chain_more, path_more, found_true}
-use Rattle.depth_order.proofs.Adds.{adds_up}
+use Rattle.depth_order.proofs.Chained.{starts}
+use Rattle.latency_path.specs.declared.link.Polled.{Polled}
+use Rattle.latency_path.specs.declared.link.PolledLink.{PolledLink}
+use Rattle.latency_path.specs.Walks.{link_at}
+use Rattle.latency_path.specs.Polls.{AreAccesses, if_some, last_poll, link_by, links_in, polled_link, polled_path, polls_in}
 use Rattle.latency_path.proofs.Doings.{mover_inside}
-use Rattle.latency_path.proofs.Chains.{crossed_at, crossing_inside}
-use Rattle.path_text.specs.Counts.{clocks_of, IsLinkOf, AreLinksOf}
-
--- ---- the links
-
-chain_links : (p : Plan) → FitsEngine p → (n m t : ℕ) → t < n → moves_at p t m ≡ true → AllByRecursion (IsLinkOf p.design) (chain p n m t)
-chain_links p h zero m t l move = absurd (omega arith)
-chain_links p h (suc n) m t l move =
-    let start = starts p m t move in
-    let x = span_start p m t in
-    let within = start.within in
-    let rest : AllByRecursion (IsLinkOf p.design) (goes_on p (λ k c. chain p n k c) x (stood_at p x m)) =
-    elim (crossed_at p h m x start.moves start.still) [
-      | inl none ↦ rw none tt
-      | inr (a, y) ↦
-          let earlier = y.earlier in
-          rw y.is (chain_links p h n (owner p (record { side = other_side a.side; channel = a.channel })) (x - lag_in p a.side a.channel)
-          (omega arith) y.moves)
-    ] in
-    rw (chain_more p n m t)
-    (record { order = within; mover = mover_inside p t m move; crossed = crossing_inside p h m t move }, rest)
-
-links_each : (p : Plan) → FitsEngine p → (c : ℕ) → AllByRecursion (IsLinkOf p.design) (path p c)
-unfolding path
-links_each p h zero = tt
-links_each p h (suc c) = rw (path_more p c) (by_mover (first_mover p c) refl (links_each p h c))
-  where
-    by_mover : (o : Option ℕ) → first_mover p c ≡ o → AllByRecursion (IsLinkOf p.design) (path p c)
-        → AllByRecursion (IsLinkOf p.design) (chain_from p c o (path p c))
-    by_mover None e before = before
-    by_mover (Some m) e before =
-        chain_links p h (suc c) m c (omega arith) (found_true (moves_at p c) (range_with_len 0 (length p.design.modules)) m e)
-
-pub path_links : (p : Plan) → FitsEngine p → (c : ℕ) → AreLinksOf p.design (path p c)
-path_links p h c = All-from_recursion (IsLinkOf p.design) (path p c) (links_each p h c)
+use Rattle.latency_path.proofs.Chains.{crossing_inside}
+use Rattle.latency_path.proofs.Followed.{all_in_path, poll_is}
+use Rattle.path_text.specs.Counts.{clocks_of, waiting, IsLinkOf, AreLinksOf, IsPollOf, ArePollsOf}
+use Rattle.path_text.proofs.Totals.{left_within, polled_total}
 
 -- ---- their clocks
 
@@ -58,17 +28,64 @@ clocks_spent : (links : List Link) → sum_by clocks_of links ≡ spent links
 clocks_spent [] = refl
 clocks_spent (l ∷ ls) = sum_by-cons clocks_of l ls ∙ ap (λ (n : ℕ). clocks_of l + n) (clocks_spent ls)
 
-spent_within : (p : Plan) → FitsEngine p → (c : ℕ) → spent (path p c) ≤ c
-unfolding path
-spent_within p h zero = omega arith
-spent_within p h (suc c) = rw (path_more p c) (by_mover (first_mover p c) refl (spent_within p h c))
-  where
-    by_mover : (o : Option ℕ) → first_mover p c ≡ o → spent (path p c) ≤ c → spent (chain_from p c o (path p c)) ≤ suc c
-    by_mover None e before = omega arith
-    by_mover (Some m) e before =
-        let sum = adds_up p h (suc c) m c (omega arith)
-        (found_true (moves_at p c) (range_with_len 0 (length p.design.modules)) m e) in
-        omega arith
+-- ---- the links and the polls
 
-pub path_few : (p : Plan) → FitsEngine p → (c : ℕ) → sum_by clocks_of (path p c) ≤ c
-path_few p h c = let same = clocks_spent (path p c) in let few = spent_within p h c in omega arith
+-- a link and what was polled for are the design's
+abbrev IsStepOf : Design → PolledLink → Type 0
+IsStepOf design l = IsLinkOf design l.link × IfSome l.polled (IsPollOf design)
+
+each_link : (p : Plan) → FitsEngine p → (log : List LoggedAccess) → AreAccesses p log → (m t : ℕ) → moves_at p t m ≡ true
+    → IsStepOf p.design (polled_link p log (link_at p m t))
+each_link p h log ac m t move = by_poll (last_poll p log (link_at p m t)) refl
+  where
+    by_poll : (o : Option LoggedAccess) → last_poll p log (link_at p m t) ≡ o → IsStepOf p.design (link_by log (link_at p m t) o)
+    by_poll None e =
+        let within = (starts p m t move).within in (
+          record { order = within; mover = mover_inside p t m move; crossed = crossing_inside p h m t move },
+          tt,
+        )
+    by_poll (Some a) e =
+        let x = poll_is p h log ac (link_at p m t) a e in (
+          record { order = x.within; mover = mover_inside p t m move; crossed = tt },
+          record { inside = x.told.inside; later = x.front.earlier },
+        )
+
+links_of : (design : Design) (chain : List PolledLink) → AllByRecursion (IsStepOf design) chain
+    → AllByRecursion (IsLinkOf design) (links_in chain)
+links_of design [] h = tt
+links_of design (l ∷ chain) h = ((h.0).0, links_of design chain h.1)
+
+polls_of : (design : Design) (chain : List PolledLink) → AllByRecursion (IsStepOf design) chain
+    → AllByRecursion (IsPollOf design) (polls_in chain)
+polls_of design [] h = tt
+polls_of design (l ∷ chain) h = by_poll l.polled (h.0).1 (polls_of design chain h.1)
+  where
+    by_poll : (o : Option Polled) → IfSome o (IsPollOf design) → AllByRecursion (IsPollOf design) (polls_in chain)
+        → AllByRecursion (IsPollOf design) (if_some o ++ polls_in chain)
+    by_poll None q rest = rest
+    by_poll (Some poll) q rest = (q, rest)
+
+steps : (p : Plan) → FitsEngine p → (log : List LoggedAccess) → AreAccesses p log → (c : ℕ)
+    → AllByRecursion (IsStepOf p.design) (polled_path p log c)
+steps p h log ac c = all_in_path p h log ac (IsStepOf p.design) (each_link p h log ac) c
+
+pub polled_links : (p : Plan) → FitsEngine p → (log : List LoggedAccess) → AreAccesses p log → (c : ℕ)
+    → AreLinksOf p.design (links_in (polled_path p log c))
+polled_links p h log ac c =
+    All-from_recursion (IsLinkOf p.design) (links_in (polled_path p log c))
+    (links_of p.design (polled_path p log c) (steps p h log ac c))
+
+pub path_polls : (p : Plan) → FitsEngine p → (log : List LoggedAccess) → AreAccesses p log → (c : ℕ)
+    → ArePollsOf p.design (polls_in (polled_path p log c))
+path_polls p h log ac c =
+    All-from_recursion (IsPollOf p.design) (polls_in (polled_path p log c))
+    (polls_of p.design (polled_path p log c) (steps p h log ac c))
+
+-- their clocks
+pub polled_few : (p : Plan) → FitsEngine p → (log : List LoggedAccess) → AreAccesses p log → (c : ℕ)
+    → (sum_by clocks_of (links_in (polled_path p log c)) ≤ c) × (sum_by waiting (polls_in (polled_path p log c)) ≤ c)
+polled_few p h log ac c =
+    let same = clocks_spent (links_in (polled_path p log c)) in
+    let all = polled_total p h log ac c in
+    let most = left_within p c in
+    (omega arith, omega arith)

@@ -1,5 +1,5 @@
 -- Lines that grow.
-use Rattle.std.proofs.Common.{◌≡◌, ℕ, zero, suc, ◌+◌, ◌<◌, List, [], ◌∷◌, ◌++◌, refl, sym, ap, ap₂, ◌∙◌, arith, length}
+use Rattle.std.proofs.Common.{◌≡◌, ℕ, zero, suc, ◌+◌, ◌<◌, List, ◌∷◌, ◌++◌, refl, sym, ap, ap₂, ◌∙◌, arith, length}
 use Rattle.std.proofs.Common.{append_assoc}
 use Rattle.std.specs.List.{flat_map, range_with_len}
 use Rattle.flow_word.specs.declared.access.Side.{Side}
@@ -7,7 +7,7 @@ use Rattle.flow_word.specs.declared.access.Side.TheVariants.{Pop, Push}
 use Rattle.flow_design.specs.declared.design.Design.{Design}
 use Rattle.report_text.specs.Lines.{Token, line, text_of_lines}
 use Rattle.report_text.specs.ReportText.{module_name, channel_name}
-use Rattle.path_text.specs.PathText.{spend_lines, cross_lines, module_lines, channel_lines}
+use Rattle.path_text.specs.PathText.{spend_lines, cross_lines, poll_lines, lines_at, module_lines, channel_lines}
 use Rattle.report_text.proofs.LineLemmas.{text-append}
 
 -- two groups of lines
@@ -39,12 +39,15 @@ modules_same design f g h =
     flat_same (λ m. spend_lines (module_name design m) (f m)) (λ m. spend_lines (module_name design m) (g m)) 0 (length design.modules)
     (λ k l. ap (spend_lines (module_name design k)) (h k (omega arith)))
 
-pub channels_same : (design : Design) (f g : Side → ℕ → ℕ) → ((k : ℕ) → k < length design.channels → f Pop k ≡ g Pop k)
-    → ((k : ℕ) → k < length design.channels → f Push k ≡ g Push k) → channel_lines design f ≡ channel_lines design g
-channels_same design f g popped pushed =
-    flat_same (λ k. cross_lines Pop (channel_name design k) (f Pop k) ++ cross_lines Push (channel_name design k) (f Push k))
-    (λ k. cross_lines Pop (channel_name design k) (g Pop k) ++ cross_lines Push (channel_name design k) (g Push k)) 0
-    (length design.channels)
+pub channels_same : (design : Design) (f g : Side → ℕ → ℕ) (polls times waits waited : ℕ → ℕ)
+    → ((k : ℕ) → k < length design.channels → f Pop k ≡ g Pop k) → ((k : ℕ) → k < length design.channels → f Push k ≡ g Push k)
+    → ((k : ℕ) → k < length design.channels → polls k ≡ times k) → ((k : ℕ) → k < length design.channels → waits k ≡ waited k)
+    → channel_lines design f polls waits ≡ channel_lines design g times waited
+channels_same design f g polls times waits waited popped pushed polled waiting =
+    flat_same (λ k. lines_at (channel_name design k) (λ side. f side k) (polls k) (waits k))
+    (λ k. lines_at (channel_name design k) (λ side. g side k) (times k) (waited k)) 0 (length design.channels)
     (λ k l.
-    ap₂ (λ (x y : ℕ). cross_lines Pop (channel_name design k) x ++ cross_lines Push (channel_name design k) y) (popped k (omega arith))
-    (pushed k (omega arith)))
+    let name = channel_name design k in
+    ap₂ (λ (xs ys : List (List Token)). xs ++ ys)
+    (ap₂ (λ (x y : ℕ). cross_lines Pop name x ++ cross_lines Push name y) (popped k (omega arith)) (pushed k (omega arith)))
+    (ap₂ (poll_lines name) (polled k (omega arith)) (waiting k (omega arith))))

@@ -18,12 +18,15 @@ use Rattle.flow_design.specs.StaticRules.{FitsEngine, is_port}
 use Rattle.lockstep_defs.specs.Verdict.{verdict}
 use Rattle.timing_bridge.specs.Designs.{lag_in}
 use Rattle.depth_order.specs.declared.link.Link.{Link}
-use Rattle.depth_order.specs.Chain.{path}
+use Rattle.latency_path.specs.declared.link.Polled.{Polled}
+use Rattle.sim_core.specs.AccessLog.{log_of}
 use Rattle.depth_order.specs.Sums.{spent, clocks_across, under_way, chain_clocks, IsEnd, MovesLast, NoneMoves}
 use Rattle.depth_order.proofs.Adds.{whole_chain, chain_to, no_chain}
-use Rattle.path_text.specs.Counts.{clocks_of, clocks_at, clocks_in, crossings, IsLinkOf}
-use Rattle.path_text.specs.Sums.{spent_clocks, crossed_clocks}
-use Rattle.path_text.proofs.Links.{path_links}
+use Rattle.path_text.specs.Counts.{clocks_of, clocks_at, clocks_in, clocks_waited, crossings, waiting, waiting_at, IsLinkOf, IsPollOf}
+use Rattle.path_text.specs.PathText.{told_links, told_polls}
+use Rattle.path_text.specs.Sums.{spent_clocks, crossed_clocks, told_clocks}
+use Rattle.path_text.proofs.Told.{told_links_are, told_polls_are}
+use Rattle.path_text.proofs.Totals.{chain_total, polled_total}
 
 -- ---- sums over the first numbers
 
@@ -114,23 +117,58 @@ under_way_in_channels p (l ∷ ls) h =
       under_way_in_channels p ls h.1,
     )
 
--- ---- all of them
+-- ---- the waiting on each channel
 
-numbers_are : (p : Plan) → FitsEngine p → spent_clocks p + crossed_clocks p ≡ chain_clocks p (clock_of (verdict p))
-numbers_are p h =
-    let links = recursion_from_All (IsLinkOf p.design) (path p (clock_of (verdict p))) (path_links p h (clock_of (verdict p))) in
+waiting_here : (q : Polled) → waiting_at q.channel q ≡ waiting q
+waiting_here q = rw (eq-eqb q.channel q.channel refl) refl
+
+waiting_elsewhere : (q : Polled) (f : ℕ) → f ≢ q.channel → waiting_at f q ≡ 0
+waiting_elsewhere q f n = rw (ne_eqb q.channel f (λ e. n (sym e))) refl
+
+waited_on_channels : (design : Design) (polls : List Polled) → AllByRecursion (IsPollOf design) polls
+    → sum_by (clocks_waited polls) (range_with_len 0 (length design.channels)) ≡ sum_by waiting polls
+waited_on_channels design [] h = sum_zero (clocks_waited []) (range_with_len 0 (length design.channels)) (λ f. refl)
+waited_on_channels design (q ∷ polls) h =
     omega (
       arith,
-      spent_in_modules p.design (path p (clock_of (verdict p))) links,
-      under_way_in_channels p (path p (clock_of (verdict p))) links,
+      sum_by-cons waiting q polls,
+      sum_more (clocks_waited polls) (clocks_waited (q ∷ polls)) (λ f. waiting_at f q) (range_with_len 0 (length design.channels))
+          (λ f. omega (arith, sum_by-cons (waiting_at f) q polls)),
+      sum_one (λ f. waiting_at f q) q.channel (length design.channels) (waiting q) h.0.inside (waiting_here q) (waiting_elsewhere q),
+      waited_on_channels design polls h.1,
     )
 
-pub numbers_to : (p : Plan) → FitsEngine p → (t : ℕ) → MovesLast p (clock_of (verdict p)) t → spent_clocks p + crossed_clocks p ≡ suc t
-numbers_to p h t l = numbers_are p h ∙ chain_to p h (clock_of (verdict p)) t l
+-- ---- all of them
 
-pub no_numbers : (p : Plan) → FitsEngine p → NoneMoves p (clock_of (verdict p)) → spent_clocks p + crossed_clocks p ≡ 0
-no_numbers p h none =
-    numbers_are p h ∙ ap (λ (links : List Link). spent links + under_way p links) (no_chain p (clock_of (verdict p)) none)
+told_total : (p : Plan) → FitsEngine p → (polls : Bool) → told_clocks polls p
+    ≡ spent (told_links polls p) + under_way p (told_links polls p) + sum_by waiting (told_polls polls p)
+told_total p h polls =
+    let links = recursion_from_All (IsLinkOf p.design) (told_links polls p) (told_links_are p h polls) in
+    let found = recursion_from_All (IsPollOf p.design) (told_polls polls p) (told_polls_are p h polls) in
+    omega (
+      arith,
+      spent_in_modules p.design (told_links polls p) links,
+      under_way_in_channels p (told_links polls p) links,
+      waited_on_channels p.design (told_polls polls p) found,
+    )
 
-pub numbers_whole : (p : Plan) → FitsEngine p → IsEnd (verdict p) → spent_clocks p + crossed_clocks p ≡ clock_of (verdict p)
-numbers_whole p h ends = numbers_are p h ∙ whole_chain p h ends
+numbers_are : (p : Plan) → FitsEngine p → (polls : Bool) → told_clocks polls p ≡ chain_clocks p (clock_of (verdict p))
+numbers_are p h false = told_total p h false ∙ omega arith
+numbers_are p h true =
+    told_total p h true
+    ∙ (polled_total p h (log_of p) (inr refl) (clock_of (verdict p)) ∙ sym (chain_total p h (clock_of (verdict p))))
+
+pub numbers_to : (p : Plan) → FitsEngine p → (polls : Bool) (t : ℕ) → MovesLast p (clock_of (verdict p)) t → told_clocks polls p ≡ suc t
+numbers_to p h polls t l = numbers_are p h polls ∙ chain_to p h (clock_of (verdict p)) t l
+
+pub no_numbers : (p : Plan) → FitsEngine p → (polls : Bool) → NoneMoves p (clock_of (verdict p)) → told_clocks polls p ≡ 0
+no_numbers p h polls none =
+    numbers_are p h polls ∙ ap (λ (links : List Link). spent links + under_way p links) (no_chain p (clock_of (verdict p)) none)
+
+pub numbers_whole : (p : Plan) → FitsEngine p → (polls : Bool) → IsEnd (verdict p) → told_clocks polls p ≡ clock_of (verdict p)
+numbers_whole p h polls ends = numbers_are p h polls ∙ whole_chain p h ends
+
+pub no_waiting : (p : Plan) → told_clocks false p ≡ spent_clocks false p + crossed_clocks false p
+no_waiting p =
+    let none = sum_zero (clocks_waited []) (range_with_len 0 (length p.design.channels)) (λ f. refl) in
+    omega arith

@@ -10,15 +10,13 @@ use Rattle.flow_design.specs.declared.report.Report.{Report}
 use Rattle.flow_design.specs.StaticRules.{FitsEngine}
 use Rattle.lockstep_defs.specs.Report.{report}
 use Rattle.lockstep_defs.specs.Verdict.{verdict}
-use Rattle.flow_design.specs.Reports.{clock_of}
 use Rattle.engine_report.specs.Finished.{report_with}
 use Rattle.stall_spans.specs.declared.span.Span.{Span}
 use Rattle.stall_spans.specs.Spans.{AreSpansBelow}
 use Rattle.report_text.specs.Lines.{line, text_of_lines, verdict_tokens}
 use Rattle.depth_order.specs.declared.link.Link.{Link}
-use Rattle.depth_order.specs.Chain.{path}
-use Rattle.path_text.specs.Counts.{clocks_in, crossings, AreLinksOf}
-use Rattle.path_text.specs.PathText.{module_lines, channel_lines, link_lines, path_text}
+use Rattle.path_text.specs.Counts.{AreLinksOf}
+use Rattle.path_text.specs.PathText.{count_lines, link_lines, path_text, told_links, told_polls}
 use Rattle.path_text.proofs.Printed.{whole}
 
 -- ---- what the text is made from
@@ -55,14 +53,10 @@ movers_inside design links all k d l = (all k d l).mover
 
 -- ---- and the text
 
-abbrev pub path_of : Plan → List Link
-path_of p = path p (clock_of (verdict p))
-
-pub whole_path : (p : Plan) (events : Bool) (s t u v : List ℕ) → s ≡ codes "path\n" → t ≡ s ++ line (verdict_tokens (verdict p))
-    → u ≡ t ++ text_of_lines (module_lines p.design (clocks_in (path_of p)) ++ channel_lines p.design (crossings (path_of p)))
-    → v ≡ u ++ text_of_lines (link_lines p.design events (path_of p)) → v ≡ path_text events p
+pub whole_path : (p : Plan) (events polls : Bool) (s t u v : List ℕ) → s ≡ codes "path\n" → t ≡ s ++ line (verdict_tokens (verdict p))
+    → u ≡ t ++ text_of_lines (count_lines p.design (told_links polls p) (told_polls polls p))
+    → v ≡ u ++ text_of_lines (link_lines p.design events (told_links polls p)) → v ≡ path_text events polls p
 unfolding path_text
-whole_path p events s t u v e f g h =
-    whole (codes "path" ∷ []) (verdict_tokens (verdict p))
-    (module_lines p.design (clocks_in (path_of p)) ++ channel_lines p.design (crossings (path_of p)))
-    (link_lines p.design events (path_of p)) s t u v e f g h
+whole_path p events polls s t u v e f g h =
+    whole (codes "path" ∷ []) (verdict_tokens (verdict p)) (count_lines p.design (told_links polls p) (told_polls polls p))
+    (link_lines p.design events (told_links polls p)) s t u v e f g h

@@ -5,6 +5,7 @@ use Rattle.flow_word.specs.declared.access.Side.TheVariants.{Pop, Push}
 use Rattle.flow_design.specs.declared.design.Design.{Design}
 use Rattle.flow_design.specs.StaticRules.{is_port}
 use Rattle.depth_order.specs.declared.link.Link.{Link}
+use Rattle.latency_path.specs.declared.link.Polled.{Polled}
 
 -- the clocks of a link
 abbrev pub clocks_of : Link → ℕ
@@ -26,6 +27,30 @@ crossings links side f = count_by (λ l. is_port (record { side = side; channel 
 abbrev pub at_sides : List ℕ → List ℕ → Side → ℕ → ℕ
 at_sides popped pushed Pop f = slice_index popped f
 at_sides popped pushed Push f = slice_index pushed f
+
+-- the clocks in which an element waits for the query that finds it: those between its push and the query
+abbrev pub waiting : Polled → ℕ
+waiting q = (q.found - q.pushed) - 1
+
+-- how often a chain goes back to a push on channel f that was polled for
+abbrev pub times_polled : List Polled → ℕ → ℕ
+times_polled polls f = count_by (λ q. f == q.channel) polls
+
+-- the waiting of an element that was polled for on channel f
+abbrev pub waiting_at : ℕ → Polled → ℕ
+waiting_at f q = if q.channel == f then waiting q else 0
+
+-- the waiting of them all
+abbrev pub clocks_waited : List Polled → ℕ → ℕ
+clocks_waited polls f = sum_by (waiting_at f) polls
+
+-- a poll is on a channel of the design, and the query comes after the push
+pub record IsPollOf (design : Design) (q : Polled) : Type 0 where
+  pub inside : q.channel < length design.channels
+  pub later : q.pushed < q.found
+
+abbrev pub ArePollsOf : Design → List Polled → Type 0
+ArePollsOf design polls = All (IsPollOf design) polls
 
 -- a link's clocks are in order, and its module and channel are the design's
 pub record IsLinkOf (design : Design) (l : Link) : Type 0 where

@@ -1,23 +1,25 @@
 -- What the numbers of the text add up to.
-use Rattle.std.specs.Prelude.{ℕ, ◌*◌, ◌-◌, List, length, sum_by}
+use Rattle.std.specs.Prelude.{ℕ, ◌+◌, ◌*◌, ◌-◌, Bool, length, sum_by}
 use Rattle.std.specs.List.{range_with_len}
 use Rattle.flow_word.specs.declared.access.Side.TheVariants.{Pop}
 use Rattle.flow_design.specs.declared.plan.Plan.{Plan}
 use Rattle.flow_design.specs.Plans.{delay_at}
-use Rattle.flow_design.specs.Reports.{clock_of}
-use Rattle.lockstep_defs.specs.Verdict.{verdict}
-use Rattle.depth_order.specs.declared.link.Link.{Link}
-use Rattle.depth_order.specs.Chain.{path}
-use Rattle.path_text.specs.Counts.{clocks_in, crossings}
-
--- the chain that the text tells
-abbrev pub told_chain : Plan → List Link
-told_chain p = path p (clock_of (verdict p))
+use Rattle.path_text.specs.Counts.{clocks_in, clocks_waited, crossings}
+use Rattle.path_text.specs.PathText.{told_links, told_polls}
 
 -- the clocks of all lines `spend M N`
-abbrev pub spent_clocks : Plan → ℕ
-spent_clocks p = sum_by (clocks_in (told_chain p)) (range_with_len 0 (length p.design.modules))
+abbrev pub spent_clocks : Bool → Plan → ℕ
+spent_clocks polls p = sum_by (clocks_in (told_links polls p)) (range_with_len 0 (length p.design.modules))
 
 -- of each line `cross empty F N`, N times the clocks that an element is under way in F after the clock of its push
-abbrev pub crossed_clocks : Plan → ℕ
-crossed_clocks p = sum_by (λ f. crossings (told_chain p) Pop f * (delay_at p f - 1)) (range_with_len 0 (length p.design.channels))
+abbrev pub crossed_clocks : Bool → Plan → ℕ
+crossed_clocks polls p =
+    sum_by (λ f. crossings (told_links polls p) Pop f * (delay_at p f - 1)) (range_with_len 0 (length p.design.channels))
+
+-- of each line `poll empty F N W` the clocks of waiting
+abbrev pub waited_clocks : Bool → Plan → ℕ
+waited_clocks polls p = sum_by (clocks_waited (told_polls polls p)) (range_with_len 0 (length p.design.channels))
+
+-- the clocks of them all
+abbrev pub told_clocks : Bool → Plan → ℕ
+told_clocks polls p = spent_clocks polls p + crossed_clocks polls p + waited_clocks polls p

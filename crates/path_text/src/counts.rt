@@ -1,10 +1,11 @@
-//! What the links of a chain add up to.
-ghost use Rattle.std.specs.Prelude.{◌≡◌, ℕ, ◌<◌, ◌≤◌, ◌^◌, ◌+◌, All, IfOk, IfSome, if◌then◌else◌, length, slice_index, sum_by};
+//! What the links of a chain, and the polls that it follows, add up to.
+ghost use Rattle.std.specs.Prelude.{◌≡◌, ◌==◌, ℕ, ◌<◌, ◌≤◌, ◌^◌, ◌+◌, All, IfOk, IfSome, if◌then◌else◌, length, slice_index, sum_by};
 ghost use Rattle.flow_design.specs.StaticRules.{is_port};
-ghost use Rattle.path_text.specs.Counts.{clocks_of, clocks_at, clocks_in, crossings};
+ghost use Rattle.path_text.specs.Counts.{clocks_of, clocks_at, clocks_in, clocks_waited, crossings, times_polled, waiting, waiting_at};
 
 use depth_order::Link;
 use flow_word::{List, OutOfMemory, Port, Side};
+use latency_path::Polled;
 use std::alloc::Global;
 
 /// How many clocks a chain spends in each of so many modules.
@@ -69,4 +70,63 @@ fn count_crossing(times: &mut [u64], side: Side, crossed: Option<Port>)
             times[port.channel as usize] += 1;
         }
     }
+}
+
+/// How often a chain goes back to a push that was polled for, on each of so many channels.
+pub(crate) fn polls_by_channel(
+    alloc: Global,
+    channels: u64,
+    polls: &[Polled],
+) -> Result<List<u64>, OutOfMemory>
+    requires { All (λ q. q.channel < channels) polls.now }
+    ensures count { IfOk result (λ times. length times ≡ channels) }
+    ensures each { IfOk result (λ times. (f : ℕ) → f < channels → slice_index times f ≡ times_polled polls.now f) }
+{
+    let mut times = List::zeros(alloc, channels)?;
+    for poll in polls {
+        count_poll(times.as_mut_slice(), poll.channel);
+    }
+    Ok(times)
+}
+
+/// Counts a poll on a channel.
+fn count_poll(times: &mut [u64], channel: u32)
+    requires inside { channel < length times.old }
+    requires few { slice_index times.old channel + 1 < 2 ^ 64 }
+    ensures count { length times.new ≡ length times.old }
+    ensures each { (f : ℕ) → f < length times.old → slice_index times.new f
+        ≡ slice_index times.old f + (if f == channel then 1 else 0) }
+{
+    times[channel as usize] += 1;
+}
+
+/// How many clocks the elements waited that were polled for, on each of so many channels.
+pub(crate) fn waiting_by_channel(
+    alloc: Global,
+    channels: u64,
+    polls: &[Polled],
+) -> Result<List<u64>, OutOfMemory>
+    requires later { All (λ q. q.pushed < q.found) polls.now }
+    requires inside { All (λ q. q.channel < channels) polls.now }
+    requires few { sum_by waiting polls.now < 2 ^ 64 }
+    ensures count { IfOk result (λ clocks. length clocks ≡ channels) }
+    ensures each { IfOk result (λ clocks. (f : ℕ) → f < channels → slice_index clocks f ≡ clocks_waited polls.now f) }
+{
+    let mut clocks = List::zeros(alloc, channels)?;
+    for poll in polls {
+        add_waiting(clocks.as_mut_slice(), poll);
+    }
+    Ok(clocks)
+}
+
+/// Adds the waiting of an element that was polled for to that of its channel.
+fn add_waiting(clocks: &mut [u64], poll: &Polled)
+    requires later { poll.now.pushed < poll.now.found }
+    requires inside { poll.now.channel < length clocks.old }
+    requires few { (f : ℕ) → f < length clocks.old → slice_index clocks.old f + waiting poll.now < 2 ^ 64 }
+    ensures count { length clocks.new ≡ length clocks.old }
+    ensures each { (f : ℕ) → f < length clocks.old → slice_index clocks.new f
+        ≡ slice_index clocks.old f + waiting_at f poll.now }
+{
+    clocks[poll.channel as usize] += poll.found - poll.pushed - 1;
 }

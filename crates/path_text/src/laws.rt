@@ -1,18 +1,26 @@
-//! The law of the numbers.
-ghost use Rattle.std.specs.Prelude.{◌≡◌, ℕ, suc, ◌+◌};
+//! The laws of the text.
+ghost use Rattle.std.specs.Prelude.{◌≡◌, ℕ, suc, ◌+◌, Bool, true, false};
 ghost use Rattle.flow_design.specs.declared.plan.Plan.{Plan};
 ghost use Rattle.flow_design.specs.Reports.{clock_of};
 ghost use Rattle.flow_design.specs.StaticRules.{FitsEngine};
 ghost use Rattle.lockstep_defs.specs.Verdict.{verdict};
+ghost use Rattle.depth_order.specs.Depths.{AsksNothing};
 ghost use Rattle.depth_order.specs.Sums.{IsEnd, MovesLast, NoneMoves};
-ghost use Rattle.path_text.specs.Sums.{spent_clocks, crossed_clocks};
+ghost use Rattle.path_text.specs.PathText.{path_text};
+ghost use Rattle.path_text.specs.Sums.{crossed_clocks, spent_clocks, told_clocks};
 
-/// Whatever the verdict is, the clocks of the lines `spend`, and of each line `cross empty` its number times the FIFO's delay less 1,
-/// add up to the last clock in which a module moves, and one; to 0 where no module moves. That is the verdict's clock, unless it is the
-/// cycle limit.
+/// Whatever the verdict is, the clocks of the lines `spend`, of each line `cross empty` its number times the FIFO's delay less 1, and
+/// the clocks of waiting of the lines `poll empty` add up to the last clock in which a module moves, and one; to 0 where no module moves.
+/// That is the verdict's clock, unless it is the cycle limit. Where polls are not asked for, there is no waiting.
 pub fn numbers_add_up()
-    ensures last_move { (p : Plan) → FitsEngine p → (t : ℕ) → MovesLast p (clock_of (verdict p)) t
-        → spent_clocks p + crossed_clocks p ≡ suc t }
-    ensures none { (p : Plan) → FitsEngine p → NoneMoves p (clock_of (verdict p)) → spent_clocks p + crossed_clocks p ≡ 0 }
-    ensures whole { (p : Plan) → FitsEngine p → IsEnd (verdict p) → spent_clocks p + crossed_clocks p ≡ clock_of (verdict p) }
+    ensures last_move { (p : Plan) → FitsEngine p → (polls : Bool) (t : ℕ) → MovesLast p (clock_of (verdict p)) t
+        → told_clocks polls p ≡ suc t }
+    ensures none { (p : Plan) → FitsEngine p → (polls : Bool) → NoneMoves p (clock_of (verdict p)) → told_clocks polls p ≡ 0 }
+    ensures whole { (p : Plan) → FitsEngine p → (polls : Bool) → IsEnd (verdict p) → told_clocks polls p ≡ clock_of (verdict p) }
+    ensures without_polls { (p : Plan) → told_clocks false p ≡ spent_clocks false p + crossed_clocks false p }
+{}
+
+/// Where no operation is a query, the text is the same with polls and without them.
+pub fn nothing_is_polled()
+    ensures { (p : Plan) → FitsEngine p → AsksNothing p → (events : Bool) → path_text events true p ≡ path_text events false p }
 {}

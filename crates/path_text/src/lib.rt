@@ -1,5 +1,5 @@
 //! The text of what makes a plan's latency: the modules in which the chain back from its end spends clocks, and the channels that it
-//! crosses.
+//! crosses; where that is asked for, also the polls that it follows.
 #![tactic(auto)]
 
 mod counts;
@@ -7,5 +7,5 @@ mod laws;
 mod lines;
 mod text;
 
-pub use laws::numbers_add_up;
+pub use laws::{nothing_is_polled, numbers_add_up};
 pub use text::path_text;

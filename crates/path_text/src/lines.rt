@@ -3,7 +3,7 @@ ghost use Rattle.std.specs.Prelude.{◌≡◌, ◌<◌, ◌^◌, ◌++◌, lengt
 ghost use Rattle.report_text.specs.Lines.{line, text_of_lines};
 ghost use Rattle.path_text.specs.Counts.{at_sides};
 ghost use Rattle.path_text.specs.PathText.{spend_lines, side_word as word_of, cross_lines};
-ghost use Rattle.path_text.specs.PathText.{module_lines, channel_lines, link_tokens, link_lines};
+ghost use Rattle.path_text.specs.PathText.{module_lines, channel_lines, link_tokens, link_lines, poll_lines};
 
 use depth_order::Link;
 use flow_design::Design;
@@ -68,25 +68,50 @@ pub(crate) fn print_modules(
     Ok(())
 }
 
-/// Adds the lines of each channel that the chain crosses, by how often it crosses each where a module could not pop, and where one
-/// could not push.
+/// Adds the lines of each channel that the chain crosses, by how often it crosses each where a module could not pop and where one could
+/// not push, how often it goes back to a push there that was polled for, and how many clocks the elements waited that were.
 pub(crate) fn print_channels(
     text: &mut List<u8>,
     design: &Design,
     popped: &[u64],
     pushed: &[u64],
+    polled: &[u64],
+    waited: &[u64],
 ) -> Result<(), OutOfMemory>
     requires few { length design.now.channels < 2 ^ 32 }
     requires popped { length popped.now ≡ length design.now.channels }
     requires pushed { length pushed.now ≡ length design.now.channels }
-    ensures { OnOk result (text.new ≡ text.old ++ text_of_lines (channel_lines design.now (at_sides popped.now pushed.now))) }
+    requires polled { length polled.now ≡ length design.now.channels }
+    requires waited { length waited.now ≡ length design.now.channels }
+    ensures { OnOk result (text.new ≡ text.old ++ text_of_lines (channel_lines design.now (at_sides popped.now pushed.now)
+        (slice_index polled.now) (slice_index waited.now))) }
 {
     for number in 0..popped.len() {
         let name = channel_name(design, number as u32);
         print_crossed(text, Side::Pop, name, popped[number])?;
         print_crossed(text, Side::Push, name, pushed[number])?;
+        print_polled(text, name, polled[number], waited[number])?;
     }
     Ok(())
+}
+
+/// Adds the line of a channel on which something was polled for so many times and waited so many clocks, if it was.
+fn print_polled(
+    text: &mut List<u8>,
+    name: &[u8],
+    times: u64,
+    waited: u64,
+) -> Result<(), OutOfMemory>
+    ensures { OnOk result (text.new ≡ text.old ++ text_of_lines (poll_lines name.now times waited)) }
+{
+    if times == 0 {
+        return Ok(());
+    }
+    text.extend_from_slice(b"poll empty")?;
+    push_token(text, name)?;
+    push_value(text, times)?;
+    push_value(text, waited)?;
+    text.push(b'\n')
 }
 
 /// Adds the line of a link.

@@ -1,5 +1,5 @@
 //! The text of a core's plan.
-ghost use Rattle.std.specs.Prelude.{◌≡◌, ◌++◌, ◌<◌, ◌^◌, IfOk, OnOk, length, sum_by};
+ghost use Rattle.std.specs.Prelude.{◌≡◌, ◌++◌, ◌<◌, ◌^◌, [], IfOk, OnOk, if◌then◌else◌, length, sum_by};
 ghost use Rattle.lockstep_defs.specs.Verdict.{verdict as verdict_of};
 ghost use Rattle.flow_design.specs.Reports.{clock_of as clock_in};
 ghost use Rattle.event_timing.specs.Actions.{IsFinal};
@@ -7,40 +7,65 @@ ghost use Rattle.timing_bridge.specs.Designs.{design as design_of};
 ghost use Rattle.sim_core.specs.Views.{theory_of};
 ghost use Rattle.latency_path.specs.Walks.{HasSpans};
 ghost use Rattle.report_text.specs.Lines.{text_of_lines};
-ghost use Rattle.path_text.specs.Counts.{clocks_of, clocks_in, crossings, AreLinksOf};
-ghost use Rattle.path_text.specs.PathText.{module_lines, channel_lines};
+ghost use Rattle.sim_core.specs.AccessLog.{log_of};
+ghost use Rattle.path_text.specs.Counts.{clocks_of, waiting, AreLinksOf, ArePollsOf};
+ghost use Rattle.path_text.specs.PathText.{count_lines};
 ghost use Rattle.path_text.specs.PathText as form;
 
-use crate::counts::{clocks_by_module, crossings_by_channel};
+use crate::counts::{clocks_by_module, crossings_by_channel, polls_by_channel, waiting_by_channel};
 use crate::lines::{print_channels, print_links, print_modules};
-use depth_order::Link;
 use flow_design::Design;
 use flow_word::{List, OutOfMemory, Side};
-use latency_path::find_path;
+use latency_path::{Path, find_path};
 use report_text::print_verdict;
-use sim_core::Core;
+use sim_core::{Core, LoggedAccess};
 use stall_spans::Span;
 use std::alloc::Global;
 
 /// The text of what makes the latency of a final core's plan: the modules in which the chain back from its end spends clocks, and the
-/// channels that it crosses; with `events` also the links of the chain.
+/// channels that it crosses; with `events` also the links of the chain. With `polls` the chain goes back from a query that ended a poll to
+/// the push of the element that it found.
 ///
 /// It takes memory for the report without its events, for the spans of all modules, for the links, for a few numbers of each module
-/// and each channel, and for the text. An error leaves nothing.
-pub fn path_text(alloc: Global, core: &Core, events: bool) -> Result<List<u8>, OutOfMemory>
+/// and each channel, and for the text; with `polls` also for what each access gave, and for the clocks in which each element moved. An
+/// error leaves nothing.
+pub fn path_text(
+    alloc: Global,
+    core: &Core,
+    events: bool,
+    polls: bool,
+) -> Result<List<u8>, OutOfMemory>
     requires { IsFinal (design_of core.now.plan) core.now.plan.cycles (theory_of core.now) }
-    ensures { IfOk result (λ text. text ≡ form.path_text events core.now.plan) }
+    ensures { IfOk result (λ text. text ≡ form.path_text events polls core.now.plan) }
 {
     let modules = core.modules();
     let report = core.report(alloc, false)?;
     let verdict = report.verdict;
     let spans = all_spans(alloc, core, modules, verdict.clock())?;
-    let links = find_path(alloc, core.plan(), spans.as_slice())?;
+    let log = log_if(alloc, core, polls)?;
+    let path = find_path(alloc, core.plan(), spans.as_slice(), log.as_slice())?;
     let mut text = List::from_slice(alloc, b"path\n")?;
     print_verdict(&mut text, verdict)?;
-    print_counts(alloc, &mut text, &core.plan().design, links.as_slice())?;
-    print_links(&mut text, &core.plan().design, events, links.as_slice())?;
+    print_counts(alloc, &mut text, &core.plan().design, &path)?;
+    print_links(
+        &mut text,
+        &core.plan().design,
+        events,
+        path.links.as_slice(),
+    )?;
     Ok(text)
+}
+
+/// What each access of a final core's plan gave, where it is asked for; else nothing.
+fn log_if(alloc: Global, core: &Core, asked: bool) -> Result<List<LoggedAccess>, OutOfMemory>
+    requires { IsFinal (design_of core.now.plan) core.now.plan.cycles (theory_of core.now) }
+    ensures { IfOk result (λ log. log ≡ (if asked then log_of core.now.plan else [])) }
+{
+    if asked {
+        core.access_log(alloc)
+    } else {
+        Ok(List::new(alloc))
+    }
 }
 
 /// The spans of each module below the clock of the plan's verdict.
@@ -67,19 +92,31 @@ fn print_counts(
     alloc: Global,
     text: &mut List<u8>,
     design: &Design,
-    links: &[Link],
+    path: &Path,
 ) -> Result<(), OutOfMemory>
     requires modules { length design.now.modules < 2 ^ 32 }
     requires channels { length design.now.channels < 2 ^ 32 }
-    requires links { AreLinksOf design.now links.now }
-    requires few { sum_by clocks_of links.now < 2 ^ 64 }
-    ensures { OnOk result (text.new ≡ text.old
-        ++ text_of_lines (module_lines design.now (clocks_in links.now) ++ channel_lines design.now (crossings links.now))) }
+    requires links { AreLinksOf design.now path.now.links }
+    requires polls { ArePollsOf design.now path.now.polls }
+    requires spent { sum_by clocks_of path.now.links < 2 ^ 64 }
+    requires waited { sum_by waiting path.now.polls < 2 ^ 64 }
+    ensures { OnOk result (text.new ≡ text.old ++ text_of_lines (count_lines design.now path.now.links path.now.polls)) }
 {
     let channels = design.channels.len();
+    let links = path.links.as_slice();
+    let polls = path.polls.as_slice();
     let clocks = clocks_by_module(alloc, design.modules.len(), links)?;
     let popped = crossings_by_channel(alloc, channels, Side::Pop, links)?;
     let pushed = crossings_by_channel(alloc, channels, Side::Push, links)?;
+    let polled = polls_by_channel(alloc, channels, polls)?;
+    let waited = waiting_by_channel(alloc, channels, polls)?;
     print_modules(text, design, clocks.as_slice())?;
-    print_channels(text, design, popped.as_slice(), pushed.as_slice())
+    print_channels(
+        text,
+        design,
+        popped.as_slice(),
+        pushed.as_slice(),
+        polled.as_slice(),
+        waited.as_slice(),
+    )
 }

@@ -8,4 +8,5 @@ mod ports;
 mod queries;
 mod text;
 
+pub use queries::is_missed;
 pub use text::stalls_text;

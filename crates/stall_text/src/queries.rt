@@ -104,7 +104,7 @@ fn count_query(queries: &mut List<Queries>, access: &LoggedAccess)
 }
 
 /// Whether an access is a query that was not possible in its clock.
-pub(crate) fn is_missed(access: &LoggedAccess) -> bool
+pub fn is_missed(access: &LoggedAccess) -> bool
     ensures { result ≡ form.is_missed access.now }
 {
     match access.event.kind {

@@ -19,7 +19,7 @@ abbrev pub view_text : View → Options → Plan → List ℕ
 view_text Wave o p = wave_text (wave_of p)
 view_text Log o p = log_text p
 view_text Stalls o p = stalls_text o.polls p
-view_text Path o p = path_text o.events p
+view_text Path o p = path_text o.events o.polls p
 view_text Trace o p = trace_text p
 
 -- with the status of the verdict

@@ -60,7 +60,7 @@ fn view_text(
         View::Wave => wave_text(alloc, &core.plan().design, core),
         View::Log => log_text(alloc, core),
         View::Stalls => stalls_text(alloc, core, options.polls),
-        View::Path => path_text(alloc, core, options.events),
+        View::Path => path_text(alloc, core, options.events, options.polls),
         View::Trace => trace_text(alloc, core),
     }
 }

@@ -1,10 +1,10 @@
 use Rattle.lockstep_defs.specs.Verdict.{verdict}
 use Rattle.flow_design.specs.Reports.{clock_of}
-use Rattle.latency_path.proofs.Chains.{IsWalk, left}
+use Rattle.latency_path.proofs.Followed.{IsWalk, left}
 use Rattle.latency_path.proofs.walk.find_path.Given as goal
 
 abbrev pub invariant-loop-next : goal.invariant-loop-next
-invariant-loop-next l = IsWalk l.plan (clock_of (verdict l.plan)) l.links l.next
+invariant-loop-next l = IsWalk l.plan l.log (clock_of (verdict l.plan)) l.links l.polls l.next
 
 abbrev pub decreases-loop-next : goal.decreases-loop-next
 decreases-loop-next l = left l.next

@@ -7,12 +7,14 @@ use Rattle.lockstep_defs.specs.Verdict.{verdict}
 use Rattle.flow_design.specs.Reports.{clock_of}
 use Rattle.stall_spans.specs.declared.span.Span.{Span}
 use Rattle.latency_path.specs.Walks.{HasSpans}
+use Rattle.latency_path.specs.Polls.{AreAccesses, links_in, polled_path, polls_in}
+use Rattle.latency_path.specs.declared.link.Polled.{Polled}
 use Rattle.depth_order.specs.declared.link.Link.{Link}
 use Rattle.report_text.specs.Lines.{line, text_of_lines, verdict_tokens}
-use Rattle.path_text.specs.Counts.{clocks_of, clocks_in, crossings, AreLinksOf}
-use Rattle.path_text.specs.PathText.{module_lines, channel_lines, link_lines}
-use Rattle.path_text.proofs.Links.{path_links, path_few}
-use Rattle.path_text.proofs.Whole.{verdict_is, few_modules, few_channels, movers_inside, path_of, whole_path}
+use Rattle.path_text.specs.Counts.{clocks_of, waiting, AreLinksOf, ArePollsOf}
+use Rattle.path_text.specs.PathText.{count_lines, link_lines}
+use Rattle.path_text.proofs.Told.{links_told, polls_told, told_few, told_links_are, told_log, told_polls_are}
+use Rattle.path_text.proofs.Whole.{verdict_is, few_modules, few_channels, movers_inside, whole_path}
 use Rattle.path_text.proofs.text.path_text.Goals as goal
 
 pub all_spans-requires-clause-clock : goal.all_spans-requires-clause-clock
@@ -30,6 +32,12 @@ find_path-requires-clause-spans c =
     (subst (λ (ss : List (List Span)). HasSpans p (clock_of (verdict p)) ss) (sym c.as_slice.ensures)
     (subst (λ (k : ℕ). HasSpans p k c.in_ok-spans.spans) clock c.in_ok-spans.ensures))
 
+pub find_path-requires-clause-log : goal.find_path-requires-clause-log
+find_path-requires-clause-log c =
+    let p = c.args.core.now.plan in
+    subst (λ (q : Plan). AreAccesses q c.as_slice-2.result.now) (sym c.plan.ensures)
+    (told_log p c.args.polls c.as_slice-2.result.now (c.as_slice-2.ensures ∙ c.in_ok-log.ensures))
+
 pub print_counts-requires-clause-modules : goal.print_counts-requires-clause-modules
 print_counts-requires-clause-modules c =
     subst (λ (q : Plan). length q.design.modules < 2 ^ 32) (sym c.plan-2.ensures)
@@ -43,15 +51,37 @@ print_counts-requires-clause-channels c =
 pub print_counts-requires-clause-links : goal.print_counts-requires-clause-links
 print_counts-requires-clause-links c =
     let p = c.args.core.now.plan in
-    let links = c.as_slice-2.ensures ∙ (c.in_ok-links.ensures ∙ ap path_of c.plan.ensures) in
-    subst (λ (q : Plan). AreLinksOf q.design c.as_slice-2.result.now) (sym c.plan-2.ensures)
-    (subst (AreLinksOf p.design) (sym links) (path_links p c.modules-modules.ensures.fits (clock_of (verdict p))))
+    let links = c.in_ok-path.ensures.links ∙ (ap (λ (q : Plan). links_in (polled_path q c.as_slice-2.result.now (clock_of (verdict q))))
+    c.plan.ensures ∙ links_told p c.args.polls c.as_slice-2.result.now (c.as_slice-2.ensures ∙ c.in_ok-log.ensures)) in
+    subst (λ (q : Plan). AreLinksOf q.design c.in_ok-path.path.links) (sym c.plan-2.ensures)
+    (subst (AreLinksOf p.design) (sym links) (told_links_are p c.modules-modules.ensures.fits c.args.polls))
 
-pub print_counts-requires-clause-few : goal.print_counts-requires-clause-few
-print_counts-requires-clause-few c =
+pub print_counts-requires-clause-polls : goal.print_counts-requires-clause-polls
+print_counts-requires-clause-polls c =
     let p = c.args.core.now.plan in
-    let links = ap (sum_by clocks_of) (c.as_slice-2.ensures ∙ (c.in_ok-links.ensures ∙ ap path_of c.plan.ensures)) in
-    let few = path_few p c.modules-modules.ensures.fits (clock_of (verdict p)) in
+    let polls = c.in_ok-path.ensures.polls ∙ (ap (λ (q : Plan). polls_in (polled_path q c.as_slice-2.result.now (clock_of (verdict q))))
+    c.plan.ensures ∙ polls_told p c.args.polls c.as_slice-2.result.now (c.as_slice-2.ensures ∙ c.in_ok-log.ensures)) in
+    subst (λ (q : Plan). ArePollsOf q.design c.in_ok-path.path.polls) (sym c.plan-2.ensures)
+    (subst (ArePollsOf p.design) (sym polls) (told_polls_are p c.modules-modules.ensures.fits c.args.polls))
+
+pub print_counts-requires-clause-spent : goal.print_counts-requires-clause-spent
+print_counts-requires-clause-spent c =
+    let p = c.args.core.now.plan in
+    let links = ap (sum_by clocks_of) (c.in_ok-path.ensures.links
+    ∙ (ap (λ (q : Plan). links_in (polled_path q c.as_slice-2.result.now (clock_of (verdict q)))) c.plan.ensures
+    ∙ links_told p c.args.polls c.as_slice-2.result.now (c.as_slice-2.ensures ∙ c.in_ok-log.ensures))) in
+    let few = (told_few p c.modules-modules.ensures.fits c.args.polls).0 in
+    let clock = c.clock.ensures ∙ ap clock_of (verdict_is p c.in_ok-report.report c.in_ok-report.ensures) in
+    let fits = c.clock.type_inv in
+    omega arith
+
+pub print_counts-requires-clause-waited : goal.print_counts-requires-clause-waited
+print_counts-requires-clause-waited c =
+    let p = c.args.core.now.plan in
+    let polls = ap (sum_by waiting) (c.in_ok-path.ensures.polls
+    ∙ (ap (λ (q : Plan). polls_in (polled_path q c.as_slice-2.result.now (clock_of (verdict q)))) c.plan.ensures
+    ∙ polls_told p c.args.polls c.as_slice-2.result.now (c.as_slice-2.ensures ∙ c.in_ok-log.ensures))) in
+    let few = (told_few p c.modules-modules.ensures.fits c.args.polls).1 in
     let clock = c.clock.ensures ∙ ap clock_of (verdict_is p c.in_ok-report.report c.in_ok-report.ensures) in
     let fits = c.clock.type_inv in
     omega arith
@@ -59,23 +89,30 @@ print_counts-requires-clause-few c =
 pub print_links-requires : goal.print_links-requires
 print_links-requires c =
     let p = c.args.core.now.plan in
-    let links = c.as_slice-3.ensures ∙ (c.in_ok-links.ensures ∙ ap path_of c.plan.ensures) in
+    let links = c.as_slice-3.ensures ∙ (c.in_ok-path.ensures.links
+    ∙ (ap (λ (q : Plan). links_in (polled_path q c.as_slice-2.result.now (clock_of (verdict q)))) c.plan.ensures
+    ∙ links_told p c.args.polls c.as_slice-2.result.now (c.as_slice-2.ensures ∙ c.in_ok-log.ensures))) in
     subst (λ (q : Plan). All (λ (l : Link). l.module < length q.design.modules) c.as_slice-3.result.now) (sym c.plan-3.ensures)
     (movers_inside p.design c.as_slice-3.result.now
-    (subst (AreLinksOf p.design) (sym links) (path_links p c.modules-modules.ensures.fits (clock_of (verdict p)))))
+    (subst (AreLinksOf p.design) (sym links) (told_links_are p c.modules-modules.ensures.fits c.args.polls)))
 
 pub returns : goal.returns
 returns c =
     let p = c.args.core.now.plan in
-    let links = c.in_ok-links.ensures ∙ ap path_of c.plan.ensures in
-    whole_path p c.args.events c.in_ok-text.text c.print_verdict.new.text c.print_counts.new.text c.print_links.new.text
+    let log = c.as_slice-2.result.now in
+    let same = c.as_slice-2.ensures ∙ c.in_ok-log.ensures in
+    let links = c.in_ok-path.ensures.links
+    ∙ (ap (λ (q : Plan). links_in (polled_path q log (clock_of (verdict q)))) c.plan.ensures ∙ links_told p c.args.polls log same) in
+    let polls = c.in_ok-path.ensures.polls
+    ∙ (ap (λ (q : Plan). polls_in (polled_path q log (clock_of (verdict q)))) c.plan.ensures ∙ polls_told p c.args.polls log same) in
+    whole_path p c.args.events c.args.polls c.in_ok-text.text c.print_verdict.new.text c.print_counts.new.text c.print_links.new.text
     c.in_ok-text.ensures
     (c.in_ok-print_verdict.ensures.ok
     ∙ ap (λ (v : Verdict). c.in_ok-text.text ++ line (verdict_tokens v)) (verdict_is p c.in_ok-report.report c.in_ok-report.ensures))
     (c.in_ok-print_counts.ensures
-    ∙ ap₂ (λ (q : Plan) (ls : List Link). c.print_verdict.new.text
-    ++ text_of_lines (module_lines q.design (clocks_in ls) ++ channel_lines q.design (crossings ls))) c.plan-2.ensures
-    (c.as_slice-2.ensures ∙ links))
+    ∙ (ap (λ (q : Plan). c.print_verdict.new.text ++ text_of_lines (count_lines q.design c.in_ok-path.path.links c.in_ok-path.path.polls))
+    c.plan-2.ensures
+    ∙ ap₂ (λ (ls : List Link) (qs : List Polled). c.print_verdict.new.text ++ text_of_lines (count_lines p.design ls qs)) links polls))
     (c.in_ok-print_links.ensures
     ∙ ap₂ (λ (q : Plan) (ls : List Link). c.print_counts.new.text ++ text_of_lines (link_lines q.design c.args.events ls)) c.plan-3.ensures
     (c.as_slice-3.ensures ∙ links))

@@ -1,0 +1,128 @@
+-- The clocks of a chain that follows polls are as many as those of one that does not.
+use Rattle.std.proofs.Common.{◌≡◌, ℕ, zero, suc, ◌+◌, ◌-◌, ◌<◌, ◌≤◌, true, List, ◌∷◌, ◌++◌, length, refl, sym, ◌∙◌, ap, arith}
+use Rattle.std.proofs.Common.{inl, inr, Option, Some, None}
+use Rattle.std.specs.Prelude.{sum_by}
+use Rattle.std.specs.List.{range_with_len}
+use Rattle.std.proofs.lemmas.List.Sums.{sum_by-cons}
+use Rattle.flow_word.specs.Kinds.{other_side}
+use Rattle.flow_design.specs.declared.plan.Plan.{Plan}
+use Rattle.flow_design.specs.StaticRules.{FitsEngine}
+use Rattle.lockstep_defs.specs.Ports.{owner}
+use Rattle.timing_bridge.specs.Designs.{lag_in}
+use Rattle.sim_core.specs.declared.access_log.LoggedAccess.{LoggedAccess}
+use Rattle.depth_order.specs.declared.link.Link.{Link}
+use Rattle.depth_order.specs.Chain.{moves_at, span_start, stood_at, goes_on, chain, first_mover, chain_from, path}
+use Rattle.depth_order.specs.Sums.{spent, clocks_across, under_way, chain_clocks}
+use Rattle.depth_order.proofs.Chained.{starts, chain_more, found_true}
+use Rattle.depth_order.proofs.Adds.{adds_up}
+use Rattle.latency_path.specs.declared.walk.At.{At}
+use Rattle.latency_path.specs.declared.link.Polled.{Polled}
+use Rattle.latency_path.specs.declared.link.PolledLink.{PolledLink}
+use Rattle.latency_path.specs.Walks.{before_link, link_at, MovesBefore}
+use Rattle.latency_path.specs.Polls.{AreAccesses, before_polled, going_on, if_some, last_move, last_poll, link_by, links_in, move_by}
+use Rattle.latency_path.specs.Polls.{polled_chain, polled_from, polled_link, polled_path, polls_in}
+use Rattle.latency_path.proofs.Chains.{crossed_at}
+use Rattle.latency_path.proofs.Followed.{last_moves, left, next_polled, poll_is, polled_more}
+use Rattle.path_text.specs.Counts.{waiting}
+
+-- ---- one link
+
+-- what the chain has before a link is as long as the clocks up to where it goes on
+rest_sum : (p : Plan) → FitsEngine p → (m t : ℕ) → moves_at p t m ≡ true
+    → let rest = goes_on p (λ k c. chain p t k c) (span_start p m t) (stood_at p (span_start p m t) m) in
+    spent rest + under_way p rest ≡ left (before_link p (link_at p m t))
+rest_sum p h m t move =
+    let start = starts p m t move in
+    let x = span_start p m t in
+    let within = start.within in
+    elim (crossed_at p h m x start.moves start.still) [
+      | inl none ↦ rw none refl
+      | inr (a, y) ↦
+          let earlier = y.earlier in
+          rw y.is (adds_up p h t (owner p (record { side = other_side a.side; channel = a.channel })) (x - lag_in p a.side a.channel)
+          (omega arith) y.moves)
+    ]
+
+link_sum : (p : Plan) → FitsEngine p → (m t : ℕ) → moves_at p t m ≡ true
+    → (suc t - span_start p m t) + clocks_across p (stood_at p (span_start p m t) m) + left (before_link p (link_at p m t)) ≡ suc t
+link_sum p h m t move =
+    let whole = ap (λ (ls : List Link). spent ls + under_way p ls) (sym (chain_more p t m t)) ∙ adds_up p h (suc t) m t (omega arith) move in
+    let rest = rest_sum p h m t move in
+    omega arith
+
+-- ---- all links
+
+-- of a chain the clocks spent, those of elements under way, and those of waiting
+abbrev pub total : Plan → List PolledLink → ℕ
+total p chain = spent (links_in chain) + under_way p (links_in chain) + sum_by waiting (polls_in chain)
+
+abbrev waits : Option Polled → ℕ
+waits None = 0
+waits (Some q) = waiting q
+
+waits_more : (o : Option Polled) (polls : List Polled) → sum_by waiting (if_some o ++ polls) ≡ waits o + sum_by waiting polls
+waits_more None polls = omega arith
+waits_more (Some q) polls = sum_by-cons waiting q polls
+
+total_more : (p : Plan) (l : PolledLink) (chain : List PolledLink) → total p (l ∷ chain)
+    ≡ (suc l.link.last - l.link.first) + clocks_across p l.link.crossed + waits l.polled + total p chain
+total_more p l chain = let more = waits_more l.polled (polls_in chain) in omega arith
+
+-- what is to be shown of each shorter chain
+abbrev AddUp : Plan → List LoggedAccess → ℕ → Type 0
+AddUp p log n = (at : At) → at.clock < n → moves_at p at.clock at.module ≡ true → total p (polled_chain p log n at) ≡ suc at.clock
+
+add_up : (p : Plan) → FitsEngine p → (log : List LoggedAccess) → AreAccesses p log → (n : ℕ) → AddUp p log n
+add_up p h log ac zero at l move = absurd (omega arith)
+add_up p h log ac (suc n) at l move =
+    ap (total p) (polled_more p log n at)
+    ∙ (total_more p step (going_on (λ before. polled_chain p log n before) (before_polled p step))
+    ∙ (ap (λ (k : ℕ). (suc step.link.last - step.link.first) + clocks_across p step.link.crossed + waits step.polled + k)
+    (rest (add_up p h log ac n) (before_polled p step) (next_polled p h log ac at.module at.clock move))
+    ∙ by_poll (last_poll p log (link_at p at.module at.clock)) refl))
+  where
+    step : PolledLink
+    step = polled_link p log (link_at p at.module at.clock)
+
+    rest : AddUp p log n → (o : Option At) → MovesBefore p at.clock o
+        → total p (going_on (λ before. polled_chain p log n before) o) ≡ left o
+    rest all None b = refl
+    rest all (Some before) b = let below = b.0 in all before (omega arith) b.1
+
+    by_poll : (o : Option LoggedAccess) → last_poll p log (link_at p at.module at.clock) ≡ o
+        → let s = link_by log (link_at p at.module at.clock) o in
+        (suc s.link.last - s.link.first) + clocks_across p s.link.crossed + waits s.polled + left (before_polled p s) ≡ suc at.clock
+    by_poll None e = let sum = link_sum p h at.module at.clock move in omega arith
+    by_poll (Some a) e =
+        let x = poll_is p h log ac (link_at p at.module at.clock) a e in
+        let within = x.within in
+        let earlier = x.front.earlier in
+        omega arith
+
+-- ---- the whole path
+
+pub polled_total : (p : Plan) → FitsEngine p → (log : List LoggedAccess) → AreAccesses p log → (c : ℕ)
+    → total p (polled_path p log c) ≡ left (last_move p c)
+polled_total p h log ac c = by_last (last_move p c) (last_moves p c)
+  where
+    by_last : (o : Option At) → MovesBefore p c o → total p (polled_from p log o) ≡ left o
+    by_last None b = refl
+    by_last (Some at) b = add_up p h log ac (suc at.clock) at (omega arith) b.1
+
+pub chain_total : (p : Plan) → FitsEngine p → (c : ℕ) → chain_clocks p c ≡ left (last_move p c)
+unfolding path last_move
+chain_total p h zero = refl
+chain_total p h (suc c) = by_mover (first_mover p c) refl (chain_total p h c)
+  where
+    by_mover : (o : Option ℕ) → first_mover p c ≡ o → chain_clocks p c ≡ left (last_move p c)
+        → spent (chain_from p c o (path p c)) + under_way p (chain_from p c o (path p c)) ≡ left (move_by c o (last_move p c))
+    by_mover None e before = before
+    by_mover (Some m) e before =
+        adds_up p h (suc c) m c (omega arith) (found_true (moves_at p c) (range_with_len 0 (length p.design.modules)) m e)
+
+pub left_within : (p : Plan) (c : ℕ) → left (last_move p c) ≤ c
+left_within p c = by_last (last_move p c) (last_moves p c)
+  where
+    by_last : (o : Option At) → MovesBefore p c o → left o ≤ c
+    by_last None b = omega arith
+    by_last (Some at) b = let below = b.0 in omega arith

@@ -2,11 +2,13 @@
 #![tactic(auto)]
 
 mod finds;
+mod laws;
 mod link;
 mod owners;
 mod search;
 mod spans;
 mod walk;
 
+pub use laws::chains_go_back;
 pub use link::{Path, Polled, PolledLink};
 pub use walk::{At, find_path};

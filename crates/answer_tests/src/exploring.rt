@@ -377,9 +377,48 @@ best
     },
 ];
 
+/// A push in clock 4, which the poll in that clock is too early for and the next one, in clock 6, finds.
+const POLLED_TWICE: &[u8] = b"\
+flow 1
+fifo q 8
+sink tries 1
+module producer
+block late 5
+at 4 write q 9
+stop
+module poller
+reg v 8
+reg ok 1
+reg n 8
+reg go 1
+loop poll 2 2 while go
+at 0 tryread q v ok
+at 0 set n + n 1
+at 0 set go <u n 3
+at 1 write tries ok
+stop
+end
+";
+
+const POLLED: &[Asked] = &[Asked {
+    command: "path",
+    options: &["--polls", "--events"],
+    text: POLLED_TWICE,
+    told: b"\
+path
+verdict done 8
+spend producer 5
+spend poller 2
+poll empty q 1 1
+link producer 0 4
+link poller 6 7
+",
+    status: Status::Done,
+}];
+
 #[test]
 fn worked_sessions_explored(rt: HostRuntime) -> Result<(), Fail> {
-    for table in [ADVISED, WAVES, ORDERED, SWEPT, LONG_BLOCKS] {
+    for table in [ADVISED, WAVES, ORDERED, SWEPT, LONG_BLOCKS, POLLED] {
         for asked in table {
             let Asked {
                 command,

@@ -53,14 +53,15 @@ crossed_at p h m (suc b) move still = by_found (find (stalls p b (state p b).con
 
 -- ---- before a link
 
--- where the chain goes on, a module moves in an earlier clock
-pub next_moves : (p : Plan) → FitsEngine p → (m t : ℕ) → moves_at p t m ≡ true → MovesBefore p t (before_link p (link_at p m t))
+-- where the chain goes on, a module moves in a clock before the link
+pub next_moves : (p : Plan) → FitsEngine p → (m t : ℕ) → moves_at p t m ≡ true
+    → MovesBefore p (span_start p m t) (before_link p (link_at p m t))
 next_moves p h m t move =
     let start = starts p m t move in
     let within = start.within in
     elim (crossed_at p h m (span_start p m t) start.moves start.still) [
       | inl none ↦ rw none tt
-      | inr (a, y) ↦ let earlier = y.earlier in rw y.is (omega arith, y.moves)
+      | inr (a, y) ↦ rw y.is (y.earlier, y.moves)
     ]
 
 -- ---- what the next step asks for

@@ -1,27 +1,28 @@
 -- The chain that follows polls, link by link.
 use Rattle.std.proofs.Common.{◌≡◌, ℕ, zero, suc, ◌<◌, ◌≤◌, true, ◌&&◌, List, [], ◌∷◌, ◌++◌, append_assoc, length, refl, sym}
 use Rattle.std.proofs.Common.{◌∙◌, ap, ap₂, subst, arith, inl, inr, leb, Option, Some, None}
-use Rattle.std.specs.Prelude.{IfSome}
+use Rattle.std.specs.Prelude.{AllPairs, IfSome}
 use Rattle.std.specs.List.{filter, list_any, AllByRecursion, range_with_len}
 use Rattle.std.proofs.lemmas.Bool.{and_parts, leb-true}
 use Rattle.flow_word.specs.declared.access.Port.{Port}
 use Rattle.flow_design.specs.declared.plan.Plan.{Plan}
 use Rattle.flow_design.specs.StaticRules.{FitsEngine}
+use Rattle.sim_core.specs.AccessLog.{log_of}
 use Rattle.sim_core.specs.declared.access_log.LoggedAccess.{LoggedAccess}
 use Rattle.stall_text.specs.Polls.{is_of}
 use Rattle.depth_order.specs.declared.link.Link.{Link}
 use Rattle.depth_order.specs.Chain.{moves_at, first_mover}
-use Rattle.depth_order.proofs.Chained.{found_true}
+use Rattle.depth_order.proofs.Chained.{found_true, starts}
 use Rattle.latency_path.specs.declared.walk.At.{At}
 use Rattle.latency_path.specs.declared.link.Polled.{Polled}
 use Rattle.latency_path.specs.declared.link.PolledLink.{PolledLink}
 use Rattle.latency_path.specs.Walks.{link_at, MovesBefore}
-use Rattle.latency_path.specs.Polls.{AreAccesses, before_polled, clock_of, ends_poll, going_on, if_some, is_hit, last_move, last_poll}
+use Rattle.latency_path.specs.Polls.{AreAccesses, before_polled, clock_of, ends_poll, going_on, if_some, is_hit, last_move, last_poll, EndsEarlier}
 use Rattle.latency_path.specs.Polls.{link_by, links_in, missed_before, move_by, polled_chain, polled_from, polled_link, polled_path, polls_in}
 use Rattle.latency_path.proofs.Chains.{next_moves}
 use Rattle.latency_path.proofs.Logged.{IsTold}
 use Rattle.latency_path.proofs.Fronts.{IsFront, accesses_told, front_is}
-use Rattle.latency_path.proofs.Latest.{all_filter, of_all}
+use Rattle.latency_path.proofs.Latest.{all_filter, in_turn, of_all, InTurn}
 
 -- ---- what a module polled for
 
@@ -56,18 +57,34 @@ poll_is p fits log (inr is) l a e =
 
 -- ---- before a link
 
-pub next_polled : (p : Plan) → FitsEngine p → (log : List LoggedAccess) → AreAccesses p log → (m t : ℕ) → moves_at p t m ≡ true
-    → MovesBefore p t (before_polled p (polled_link p log (link_at p m t)))
-next_polled p fits log ac m t move = by_poll (last_poll p log (link_at p m t)) refl
+next_first : (p : Plan) → FitsEngine p → (log : List LoggedAccess) → AreAccesses p log → (m t : ℕ) → moves_at p t m ≡ true
+    → MovesBefore p (polled_link p log (link_at p m t)).link.first (before_polled p (polled_link p log (link_at p m t)))
+next_first p fits log ac m t move = by_poll (last_poll p log (link_at p m t)) refl
   where
     by_poll : (o : Option LoggedAccess) → last_poll p log (link_at p m t) ≡ o
-        → MovesBefore p t (before_polled p (link_by log (link_at p m t) o))
+        → MovesBefore p (link_by log (link_at p m t) o).link.first (before_polled p (link_by log (link_at p m t) o))
     by_poll None e = next_moves p fits m t move
     by_poll (Some a) e =
         let x = poll_is p fits log ac (link_at p m t) a e in
-        let within = x.within in
-        let earlier = x.front.earlier in
-        (omega arith, x.front.moves)
+        (x.front.earlier, x.front.moves)
+
+first_within : (p : Plan) → FitsEngine p → (log : List LoggedAccess) → AreAccesses p log → (m t : ℕ) → moves_at p t m ≡ true
+    → (polled_link p log (link_at p m t)).link.first ≤ t
+first_within p fits log ac m t move = by_poll (last_poll p log (link_at p m t)) refl
+  where
+    by_poll : (o : Option LoggedAccess) → last_poll p log (link_at p m t) ≡ o → (link_by log (link_at p m t) o).link.first ≤ t
+    by_poll None e = (starts p m t move).within
+    by_poll (Some a) e = (poll_is p fits log ac (link_at p m t) a e).within
+
+pub sooner : (p : Plan) (a b : ℕ) (o : Option At) → a ≤ b → MovesBefore p a o → MovesBefore p b o
+sooner p a b None l h = tt
+sooner p a b (Some at) l h = let below = h.0 in (omega arith, h.1)
+
+pub next_polled : (p : Plan) → FitsEngine p → (log : List LoggedAccess) → AreAccesses p log → (m t : ℕ) → moves_at p t m ≡ true
+    → MovesBefore p t (before_polled p (polled_link p log (link_at p m t)))
+next_polled p fits log ac m t move =
+    let step = polled_link p log (link_at p m t) in
+    sooner p step.link.first t (before_polled p step) (first_within p fits log ac m t move) (next_first p fits log ac m t move)
 
 pub polled_more : (p : Plan) (log : List LoggedAccess) (n : ℕ) (at : At) → polled_chain p log (suc n) at
     ≡ polled_link p log (link_at p at.module at.clock)
@@ -169,6 +186,55 @@ all_in_path p fits log ac P each c = by_last (last_move p c) (last_moves p c)
     by_last None h = tt
     by_last (Some at) h = all_links p fits log ac P each (suc at.clock) at h.1
 
+-- ---- back in time
+
+last_is : (log : List LoggedAccess) (l : Link) (o : Option LoggedAccess) → (link_by log l o).link.last ≡ l.last
+last_is log l None = refl
+last_is log l (Some a) = refl
+
+-- the links of a chain end by the clock that it goes back from, and each ends before those that the list has before it begin
+chain_back : (p : Plan) → FitsEngine p → (log : List LoggedAccess) → AreAccesses p log → (n : ℕ) (at : At)
+    → moves_at p at.clock at.module ≡ true
+    → AllByRecursion (λ l. l.last ≤ at.clock) (links_in (polled_chain p log n at)) × InTurn EndsEarlier (links_in (polled_chain p log n at))
+unfolding polled_chain
+chain_back p fits log ac zero at move = (tt, tt)
+chain_back p fits log ac (suc n) at move =
+    let l = link_at p at.module at.clock in
+    let step = polled_link p log l in
+    let rest = going_on (λ before. polled_chain p log n before) (before_polled p step) in
+    let back = on (chain_back p fits log ac n) step.link.first (before_polled p step) (next_first p fits log ac at.module at.clock move) in
+    let within = first_within p fits log ac at.module at.clock move in
+    let last = last_is log l (last_poll p log l) in (
+      (omega arith, all_within step.link.first at.clock within (links_in rest) back.0),
+      (back.0, back.1),
+    )
+  where
+    all_within : (c d : ℕ) → c ≤ d → (links : List Link) → AllByRecursion (λ k. k.last < c) links → AllByRecursion (λ k. k.last ≤ d) links
+    all_within c d l [] h = tt
+    all_within c d l (k ∷ links) h = (let below = h.0 in omega arith, all_within c d l links h.1)
+
+    all_before : (c d : ℕ) → c < d → (links : List Link) → AllByRecursion (λ k. k.last ≤ c) links → AllByRecursion (λ k. k.last < d) links
+    all_before c d l [] h = tt
+    all_before c d l (k ∷ links) h = (let below = h.0 in omega arith, all_before c d l links h.1)
+
+    on : ((next : At) → moves_at p next.clock next.module ≡ true
+        → AllByRecursion (λ l. l.last ≤ next.clock) (links_in (polled_chain p log n next))
+        × InTurn EndsEarlier (links_in (polled_chain p log n next)))
+        → (c : ℕ) (o : Option At) → MovesBefore p c o
+        → let links = links_in (going_on (λ before. polled_chain p log n before) o) in
+        AllByRecursion (λ k. k.last < c) links × InTurn EndsEarlier links
+    on all c None h = (tt, tt)
+    on all c (Some next) h =
+        let x = all next h.1 in
+        (all_before next.clock c h.0 (links_in (polled_chain p log n next)) x.0, x.1)
+
+pub path_back : (p : Plan) → FitsEngine p → (c : ℕ) → AllPairs EndsEarlier (links_in (polled_path p (log_of p) c))
+path_back p fits c = in_turn EndsEarlier (links_in (polled_path p (log_of p) c)) (by_last (last_move p c) (last_moves p c))
+  where
+    by_last : (o : Option At) → MovesBefore p c o → InTurn EndsEarlier (links_in (polled_from p (log_of p) o))
+    by_last None h = tt
+    by_last (Some at) h = (chain_back p fits (log_of p) (inr refl) (suc at.clock) at h.1).1
+
 -- ---- a walk along the chain
 
 -- these links and polls, and those of the chain back from where it goes on, are the whole path's
@@ -180,10 +246,6 @@ pub record IsWalk (p : Plan) (log : List LoggedAccess) (end : ℕ) (links : List
 abbrev pub left : Option At → ℕ
 left None = 0
 left (Some at) = suc at.clock
-
-pub sooner : (p : Plan) (a b : ℕ) (o : Option At) → a ≤ b → MovesBefore p a o → MovesBefore p b o
-sooner p a b None l h = tt
-sooner p a b (Some at) l h = let below = h.0 in (omega arith, h.1)
 
 pub walk_on : (p : Plan) → FitsEngine p → (log : List LoggedAccess) → AreAccesses p log → (end : ℕ) (links new : List Link)
     (polls more : List Polled) (at : At) (l : PolledLink) (o : Option At) → IsWalk p log end links polls (Some at)

@@ -27,7 +27,7 @@ use Rattle.latency_path.specs.Finds.{AreFinds, AreInOrder, AreMissed, by_find, f
 use Rattle.latency_path.specs.Finds.{unmissed}
 use Rattle.latency_path.proofs.Logged.{IsTold, Orderly, log_orderly}
 use Rattle.latency_path.proofs.Fronts.{accesses_told, clocks_rise, front_is, hit_parts}
-use Rattle.latency_path.proofs.Latest.{all_filter, mapped, of_all}
+use Rattle.latency_path.proofs.Latest.{all_filter, in_turn, mapped, of_all, InTurn}
 use Rattle.latency_path.proofs.Missed.{UpTo, is_from, last_bounded, missed_is}
 
 -- ---- an access between those before it and those after it
@@ -68,8 +68,7 @@ accesses_orderly p log (inr e) = subst Orderly (sym e) (log_orderly p)
 -- ---- what is kept so far
 
 abbrev FindsRise : List Find → Type 0
-FindsRise [] = Unit {0}
-FindsRise (f ∷ finds) = AllByRecursion (λ g. find_clock f ≤ find_clock g) finds × FindsRise finds
+FindsRise finds = InTurn (λ f g. f.access.event.cycle ≤ g.access.event.cycle) finds
 
 -- of the first k accesses
 pub record AreFindsOf (p : Plan) (log : List LoggedAccess) (k : ℕ) (finds : List Find) : Type 0 where
@@ -84,13 +83,6 @@ rise_more : (finds more : List Find) → FindsRise finds → FindsRise more
 rise_more [] more h k l = k
 rise_more (f ∷ finds) more h k l =
     (all-append (λ g. find_clock f ≤ find_clock g) finds more h.0 l.0, rise_more finds more h.1 k l.1)
-
-pairs : (finds : List Find) → FindsRise finds → AreInOrder finds
-pairs [] h i j d l m = absurd (omega arith)
-pairs (f ∷ finds) h zero zero d l m = absurd (omega arith)
-pairs (f ∷ finds) h zero (suc j) d l m = All-from_recursion (λ g. find_clock f ≤ find_clock g) finds h.0 j d (omega arith)
-pairs (f ∷ finds) h (suc i) zero d l m = absurd (omega arith)
-pairs (f ∷ finds) h (suc i) (suc j) d l m = pairs finds h.1 i j d (omega arith) (omega arith)
 
 -- ---- one access more
 
@@ -259,7 +251,7 @@ pub finds_all : (p : Plan) (log : List LoggedAccess) (finds : List Find) (k : �
 finds_all p log finds k e h =
     let all = take_all k log (omega arith) in
     record {
-      in_order = pairs finds h.in_order;
+      in_order = in_turn (λ f g. f.access.event.cycle ≤ g.access.event.cycle) finds h.in_order;
       pushed = All-from_recursion (λ f. f.pushed ≡ front_pushed log f.access.event.channel f.access.event.cycle) finds h.pushed;
       each = λ l. h.each l
           ∙ ap (λ (xs : List LoggedAccess). filter (ends_poll p (filter (is_of l.«module») log) l.first l.last) (filter (is_of l.«module») xs)) all;

@@ -1,9 +1,10 @@
 -- The latest of some items, found from the last one back.
-use Rattle.std.proofs.Common.{◌≡◌, ℕ, ◌<◌, List, [], ◌∷◌, ◌++◌, map, Bool, true, false}
-use Rattle.std.proofs.Common.{cond, refl, ◌∙◌, ap, subst, ltb, Option, Some, None}
-use Rattle.std.specs.Prelude.{option_map}
+use Rattle.std.proofs.Common.{◌≡◌, ℕ, zero, suc, ◌<◌, List, [], ◌∷◌, ◌++◌, map, Bool, true, false}
+use Rattle.std.proofs.Common.{arith, cond, refl, ◌∙◌, ap, subst, ltb, Option, Some, None}
+use Rattle.std.specs.Prelude.{option_map, AllPairs}
 use Rattle.std.specs.List.{filter, AllByRecursion}
 use Rattle.std.proofs.lemmas.Bool.{lt-ltb}
+use Rattle.std.proofs.lemmas.List.Elements.{All-from_recursion}
 use Rattle.latency_path.specs.Polls.{later, latest}
 
 module _ {X : Type 0} (clock : X → ℕ) where
@@ -66,3 +67,17 @@ mapped {X} {Y} f clock (x ∷ xs) = by_rest (latest (λ x. clock (f x)) xs) ∙ 
         by_test : (b : Bool) → option_map f (cond b (Some y) (Some x)) ≡ cond b (Some (f y)) (Some (f x))
         by_test true = refl
         by_test false = refl
+
+-- ---- pairs
+
+-- each of them stands so to all after it
+abbrev pub InTurn : {X : Type 0} → (X → X → Type 0) → List X → Type 0
+InTurn R [] = Unit {0}
+InTurn R (x ∷ xs) = AllByRecursion (R x) xs × InTurn R xs
+
+pub in_turn : {X : Type 0} (R : X → X → Type 0) (xs : List X) → InTurn R xs → AllPairs R xs
+in_turn R [] h i j d l m = absurd (omega arith)
+in_turn R (x ∷ xs) h zero zero d l m = absurd (omega arith)
+in_turn R (x ∷ xs) h zero (suc j) d l m = All-from_recursion (R x) xs h.0 j d (omega arith)
+in_turn R (x ∷ xs) h (suc i) zero d l m = absurd (omega arith)
+in_turn R (x ∷ xs) h (suc i) (suc j) d l m = in_turn R xs h.1 i j d (omega arith) (omega arith)

@@ -1,5 +1,5 @@
 -- What a module polls for, and the chain that follows it to where that was pushed.
-use Rattle.std.specs.Prelude.{◌≡◌, ℕ, zero, suc, nat_le, nat_lt, Bool, true, false, not, ◌&&◌, ◌⊎◌, if◌then◌else◌}
+use Rattle.std.specs.Prelude.{◌<◌, ◌≡◌, ℕ, zero, suc, nat_le, nat_lt, Bool, true, false, not, ◌&&◌, ◌⊎◌, if◌then◌else◌}
 use Rattle.std.specs.Prelude.{Option, Some, None, List, [], ◌∷◌, ◌++◌, filter, map, slice_index}
 use Rattle.std.specs.List.{list_any}
 use Rattle.flow_word.specs.declared.access.Kind.{Kind}
@@ -133,6 +133,10 @@ if_some (Some x) = x ∷ []
 abbrev pub polls_in : List PolledLink → List Polled
 polls_in [] = []
 polls_in (l ∷ chain) = if_some l.polled ++ polls_in chain
+
+-- the second link ends before the first begins
+abbrev pub EndsEarlier : Link → Link → Type 0
+EndsEarlier l k = k.last < l.first
 
 -- none, or what each access of the plan gave
 abbrev pub AreAccesses : Plan → List LoggedAccess → Type 0

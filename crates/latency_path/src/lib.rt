@@ -2,6 +2,7 @@
 #![tactic(auto)]
 
 mod finds;
+mod laws;
 mod link;
 mod moved;
 mod owners;
@@ -9,5 +10,6 @@ mod search;
 mod spans;
 mod walk;
 
+pub use laws::chains_go_back;
 pub use link::{Path, Polled, PolledLink};
 pub use walk::{At, find_path};

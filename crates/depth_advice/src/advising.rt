@@ -8,10 +8,10 @@ ghost use Rattle.sim_core.specs.Views.{theory_of};
 ghost use Rattle.depth_order.specs.Depths.{with_depths, AreDepths, AsksNothing};
 ghost use Rattle.depth_advice.specs.Advice.{depths_by, peak, wide, advised, AreFastest};
 
-use crate::peaks::{depths_above, find_peaks};
+use crate::peaks::depths_above;
 use crate::widening::widen;
 use depth_session::{Core, Runner};
-use flow_design::{Plan, Report};
+use flow_design::{Plan, Report, Verdict};
 use flow_word::{OutOfMemory, Words};
 use std::alloc::Global;
 use std::sync::Wait;
@@ -53,8 +53,8 @@ impl Advice {
 /// The plan with these depths has the report of the plan with the greatest ones. Where no operation is a query and any depths lead to
 /// an end, these lead to one that is as early.
 ///
-/// It is one run of the runner, whether there is memory or not. It takes memory for that run, for its report with the events, and
-/// for a number of each channel and each module. An error leaves nothing, and the plan is gone.
+/// It is one run of the runner, whether there is memory or not. It takes memory for that run, for its report with the events, for the
+/// clocks of one FIFO's pushes and pops at a time, and for a number of each channel. An error leaves nothing, and the plan is gone.
 pub fn advise<R: Threads + Wait + Sync, U: Runner>(
     rt: &R,
     alloc: Global,
@@ -75,16 +75,56 @@ pub fn advise<R: Threads + Wait + Sync, U: Runner>(
     read_advice(alloc, &core)
 }
 
+/// The verdict of a plan where no FIFO blocks, and depths with which none does.
+#[derive(Drop)]
+pub struct DepthAdvice {
+    /// The verdict of the plan with each FIFO as deep as the language allows.
+    pub verdict: Verdict,
+    /// One entry per channel: the advised depth of a FIFO, in elements, and 0 of the other channels.
+    pub depths: Words,
+}
+
+/// The depths of `advise`, and the verdict alone in place of the report.
+///
+/// It is one run of the runner, whether there is memory or not. It takes memory for that run, for the clocks of one FIFO's pushes and pops
+/// at a time, and for a number of each channel. An error leaves nothing, and the plan is gone.
+pub fn advised_depths<R: Threads + Wait + Sync, U: Runner>(
+    rt: &R,
+    alloc: Global,
+    mut plan: Plan,
+    runner: &mut U,
+) -> Result<DepthAdvice, OutOfMemory>
+    requires { FitsEngine plan }
+    ensures verdict { IfOk result (λ advice. advice.verdict ≡ (lockstep.report (wide plan)).verdict) }
+    ensures depths { IfOk result (λ advice. advice.depths ≡ advised plan) }
+    ensures counted { U.made runner.old < u64.MAX → U.made runner.new ≡ U.made runner.old + 1 }
+    ensures stays { u64.MAX ≤ U.made runner.old → U.made runner.new ≡ U.made runner.old }
+{
+    widen(&mut plan);
+    let core = runner.run_plan(rt, alloc, plan)?;
+    read_depths(alloc, &core)
+}
+
+/// The verdict of a final core, and depths above the peaks of its plan's FIFOs.
+fn read_depths(alloc: Global, core: &Core) -> Result<DepthAdvice, OutOfMemory>
+    requires { IsFinal (design core.now.plan) core.now.plan.cycles (theory_of core.now) }
+    ensures verdict { IfOk result (λ advice. advice.verdict ≡ (lockstep.report core.now.plan).verdict) }
+    ensures depths { IfOk result (λ advice. advice.depths ≡ depths_by core.now.plan (λ f. peak core.now.plan f + 1)) }
+{
+    Ok(DepthAdvice {
+        verdict: core.verdict(),
+        depths: depths_above(alloc, core)?,
+    })
+}
+
 /// The report of a final core, and depths above the peaks of its plan's FIFOs.
 fn read_advice(alloc: Global, core: &Core) -> Result<Advice, OutOfMemory>
-    requires fits { FitsEngine core.now.plan }
-    requires done { IsFinal (design core.now.plan) core.now.plan.cycles (theory_of core.now) }
+    requires { IsFinal (design core.now.plan) core.now.plan.cycles (theory_of core.now) }
     ensures report { IfOk result (λ advice. advice.report ≡ lockstep.report core.now.plan) }
     ensures depths { IfOk result (λ advice. advice.depths ≡ depths_by core.now.plan (λ f. peak core.now.plan f + 1)) }
 {
-    let plan = core.plan();
-    let report = core.report(alloc, true)?;
-    let peaks = find_peaks(alloc, plan, &report)?;
-    let depths = depths_above(alloc, plan, peaks.as_slice())?;
-    Ok(Advice { report, depths })
+    Ok(Advice {
+        report: core.report(alloc, true)?,
+        depths: depths_above(alloc, core)?,
+    })
 }

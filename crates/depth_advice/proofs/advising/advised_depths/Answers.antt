@@ -1,0 +1,22 @@
+use Rattle.std.proofs.Common.{◌∙◌, ap, sym, subst}
+use Rattle.std.proofs.lemmas.Result.{IfOk-weaker}
+use Rattle.flow_design.specs.declared.plan.Plan.{Plan}
+use Rattle.flow_design.specs.StaticRules.{FitsEngine}
+use Rattle.lockstep_defs.specs.Report.{report}
+use Rattle.depth_advice.proofs.Depths.{wide_fits}
+use Rattle.depth_advice.proofs.Finding.{advised_by}
+use Rattle.depth_advice.proofs.advising.advised_depths.Goals as goal
+
+pub run_plan-requires-after_bounds : goal.run_plan-requires-after_bounds
+run_plan-requires-after_bounds g c κs within = subst FitsEngine (sym c.widen.ensures) (wide_fits c.args.plan c.requires)
+
+pub returns-clause-verdict : goal.returns-clause-verdict
+returns-clause-verdict g c =
+    IfOk-weaker c.read_depths.result _ _ (λ a told. told ∙ ap (λ (q : Plan). (report q).verdict) (c.in_ok-core.ensures.plan ∙ c.widen.ensures))
+    c.read_depths.ensures.verdict
+
+pub returns-clause-depths : goal.returns-clause-depths
+returns-clause-depths g c =
+    IfOk-weaker c.read_depths.result _ _
+    (λ a found. advised_by c.args.plan c.in_ok-core.core.plan a.depths (c.in_ok-core.ensures.plan ∙ c.widen.ensures) found)
+    c.read_depths.ensures.depths

@@ -10,6 +10,6 @@ pub mod Logged
 pub mod Fronts
 pub mod Latest
 pub mod Missed
-pub mod Moved
+pub mod MovedClocks
 pub mod Found
 pub mod Followed

@@ -1,6 +1,6 @@
 use Rattle.std.proofs.Common.{◌∙◌, sym, subst, take, ◌+◌}
 use Rattle.latency_path.specs.Finds.{AreMoved}
-use Rattle.latency_path.proofs.Moved.{moved_none, moved_no, moved_yes}
+use Rattle.latency_path.proofs.MovedClocks.{moved_none, moved_no, moved_yes}
 use Rattle.latency_path.proofs.moved.moved_clocks.Goals as goal
 use Rattle.latency_path.proofs.moved.moved_clocks.Goals.{then-is_moved+in_ok-push_clock, else-is_moved}
 

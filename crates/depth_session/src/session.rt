@@ -139,7 +139,7 @@ impl DepthSession {
     pub fn core(&self) -> &Core
         requires { self.now.live ≡ true }
         ensures plan { result.now.plan ≡ self.now.plan }
-        ensures final { IsFinal (design result.now.plan) result.now.plan.cycles (theory_of result.now) }
+        ensures is_final { IsFinal (design result.now.plan) result.now.plan.cycles (theory_of result.now) }
     {
         &self.core
     }

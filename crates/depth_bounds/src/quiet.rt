@@ -9,7 +9,8 @@ use flow_design::{Block, Module, Op, Plan};
 ///
 /// It looks at each operation once, and takes no memory.
 pub fn asks_nothing(plan: &Plan) -> bool
-    ensures { result ≡ true → AsksNothing plan.now }
+    ensures quiet { result ≡ true → AsksNothing plan.now }
+    ensures asks { result ≡ false → AsksNothing plan.now → ⊥ }
 {
     plan.design
         .modules
@@ -20,14 +21,16 @@ pub fn asks_nothing(plan: &Plan) -> bool
 
 /// Whether no operation of a module is a query.
 fn asks_none(module: &Module) -> bool
-    ensures { result ≡ true → All (λ b. All (λ t. is_query t.op ≡ false) b.ops) «module».now.blocks }
+    ensures quiet { result ≡ true → All (λ b. All (λ t. is_query t.op ≡ false) b.ops) «module».now.blocks }
+    ensures asks { result ≡ false → All (λ b. All (λ t. is_query t.op ≡ false) b.ops) «module».now.blocks → ⊥ }
 {
     module.blocks.as_slice().iter().all(|block| is_quiet(block))
 }
 
 /// Whether no operation of a block is a query.
 fn is_quiet(block: &Block) -> bool
-    ensures { result ≡ true → All (λ t. is_query t.op ≡ false) block.now.ops }
+    ensures quiet { result ≡ true → All (λ t. is_query t.op ≡ false) block.now.ops }
+    ensures asks { result ≡ false → All (λ t. is_query t.op ≡ false) block.now.ops → ⊥ }
 {
     block
         .ops

@@ -1,0 +1,111 @@
+//! Depths that are too small.
+ghost use Rattle.std.specs.Prelude.{◌≡◌, ◌<◌, ◌≤◌, true, length, map, is_some, IfOk};
+ghost use Rattle.flow_design.specs.declared.plan.Plan.{Plan};
+ghost use Rattle.flow_design.specs.Plans.{is_fifo, kind_at};
+ghost use Rattle.time_engine.specs.Conditions.{HasAccesses};
+ghost use Rattle.depth_order.specs.Depths.{AsksNothing};
+ghost use Rattle.engine_view.specs.Engines.{held_in};
+ghost use Rattle.engine_report.specs.Finished.{IsFinished};
+ghost use Rattle.depth_bounds.specs.Late.{IsLateBelow};
+
+use crate::events::is_timed;
+use crate::latest::Latest;
+use crate::trails::find_trail;
+use engine_view::Engine;
+use flow_design::{Advance, Edit};
+use flow_word::{OutOfMemory, Place, Side};
+use path_check::ends_after;
+use std::alloc::Global;
+
+/// A depth of a FIFO below which the plan ends after a clock, where the others have their own depths. 1 where none is found, and of a
+/// channel that is none.
+///
+/// The engine holds the end of the plan's run, and no operation is a query. The latest clocks may be those of the plan with deeper FIFOs:
+/// a depth above 1 is shown by a path of steps, which is checked. It looks at each access to the FIFO and each step of the path a few
+/// times, and takes memory for the path. An error leaves nothing.
+pub fn late_depth(
+    alloc: Global,
+    engine: &Engine,
+    ends: &[Option<Advance>],
+    clock: u64,
+    latest: &Latest,
+    channel: u32,
+) -> Result<u64, OutOfMemory>
+    requires { HasAccesses engine.now.graph.lanes engine.now.fifos.channels }
+    ensures { IfOk result (λ depth. (p : Plan) → IsFinished p (held_in engine.now (map is_some ends.now)) ends.now → AsksNothing p
+        → is_fifo (kind_at p channel) ≡ true → IsLateBelow p clock channel depth) }
+{
+    if engine.fifos.len() <= channel || !engine.fifos.is_fifo(channel) {
+        return Ok(1);
+    }
+    let Some(few) = too_few(engine, latest, channel) else {
+        return Ok(1);
+    };
+    if few.depth == 0 || engine.fifos.depth(channel) <= few.depth {
+        return Ok(1);
+    }
+    let edit = Edit {
+        channel,
+        depth: few.depth,
+    };
+    let path = find_trail(alloc, engine, ends, clock, latest, &few)?;
+    if ends_after(engine, ends, &edit, path.as_slice(), clock) {
+        return Ok(few.depth + 1);
+    }
+    Ok(1)
+}
+
+/// A depth of a FIFO with which one of its pushes comes too late.
+#[derive(Clone, Copy)]
+pub(crate) struct TooFew {
+    pub(crate) depth: u64,
+    /// The push.
+    pub(crate) push: Place,
+    /// The pop that it waits for.
+    pub(crate) pop: Place,
+}
+
+/// The greatest depth of a FIFO with which a push waits for a pop that comes no sooner than the push's latest clock. None where each
+/// depth is enough.
+fn too_few(engine: &Engine, latest: &Latest, channel: u32) -> Option<TooFew>
+    requires { channel < length engine.now.fifos.channels }
+{
+    let mut found = None;
+    let mut depth = 1u64;
+    let mut popped = 0u64;
+    for pushed in 0..engine.fifos.pushes(channel) {
+        let push = engine.fifos.place(channel, Side::Push, pushed)?;
+        popped = popped_before(engine, channel, popped, pushed, latest.at(push));
+        let room = pushed - popped;
+        if depth <= room {
+            depth = room;
+            let pop = engine.fifos.place(channel, Side::Pop, popped)?;
+            found = Some(TooFew { depth, push, pop });
+        }
+    }
+    found
+}
+
+/// How many of a FIFO's first pops, but no more than `most`, come before a clock, where this many do already.
+fn popped_before(engine: &Engine, channel: u32, popped: u64, most: u64, clock: u64) -> u64
+    requires channel { channel < length engine.now.fifos.channels }
+    requires most { popped ≤ most }
+    ensures { result ≤ most }
+{
+    for before in popped..most {
+        if !is_before(engine, channel, before, clock) {
+            return before;
+        }
+    }
+    most
+}
+
+/// Whether the pop of a FIFO with so many before it is done before a clock.
+fn is_before(engine: &Engine, channel: u32, before: u64, clock: u64) -> bool
+    requires { channel < length engine.now.fifos.channels }
+{
+    match engine.fifos.place(channel, Side::Pop, before) {
+        Some(pop) if is_timed(engine, pop) => { engine.graph.cycle_of(pop).unwrap_or(0) < clock }
+        Some(_) | None => false,
+    }
+}

@@ -1,0 +1,38 @@
+//! What waits for a step.
+ghost use Rattle.std.specs.Prelude.{◌≡◌, true};
+ghost use Rattle.event_graph.specs.Lanes.{HasStep};
+ghost use Rattle.time_engine.specs.Conditions.{IsAccess};
+
+use engine_view::Engine;
+use flow_word::{Access, Place};
+
+/// A step that waits for another, and how many clocks it comes after it.
+#[derive(Clone, Copy)]
+pub(crate) struct Waiting {
+    pub(crate) place: Place,
+    pub(crate) clocks: u64,
+}
+
+/// The step that waits for an access: of a push the one that pops its element, and of a pop the one that pushes into its place.
+pub(crate) fn waiting_for(engine: &Engine, access: &Access) -> Option<Waiting>
+    requires { IsAccess engine.now.fifos.channels access.now }
+{
+    let fifos = &engine.fifos;
+    if !fifos.is_fifo(access.channel) {
+        return None;
+    }
+    let side = access.kind.side().other();
+    let before = (access.ordinal - 1).saturating_add(fifos.free(access.channel, side));
+    let place = fifos.place(access.channel, side, before)?;
+    Some(Waiting {
+        place,
+        clocks: fifos.lag(access.channel, side),
+    })
+}
+
+/// Whether a place is that of a step with a cycle.
+pub(crate) fn is_timed(engine: &Engine, place: Place) -> bool
+    ensures { result ≡ true → HasStep engine.now.graph.lanes place }
+{
+    place.module < engine.graph.modules() && place.step < engine.graph.frontier(place.module)
+}

@@ -1,0 +1,242 @@
+//! The latest clock of each step with which a plan ends by a clock.
+ghost use Rattle.std.specs.Prelude.{◌≡◌, true, All};
+ghost use Rattle.event_graph.specs.Lanes.{HasStep};
+ghost use Rattle.time_engine.specs.Conditions.{IsAccess, HasAccesses};
+
+use crate::events::waiting_for;
+use engine_view::Engine;
+use flow_design::Advance;
+use flow_word::{Access, List, OutOfMemory, Place, Words};
+use std::alloc::Global;
+
+/// The clock of a step that is not found yet.
+const UNKNOWN: u64 = u64::MAX;
+
+/// Of each module the latest clocks of its steps with a cycle, and how many of them are not found yet: the first ones. Nothing is said of
+/// these clocks: they guide a search, and what it finds is checked.
+pub struct Latest {
+    lanes: List<Words>,
+    left: Words,
+}
+
+impl Drop for Latest {
+    fn drop(self) {
+        let Latest {
+            lanes: _lanes,
+            left: _left,
+        } = self;
+    }
+}
+
+/// What comes so many clocks after a step, or later.
+#[derive(Clone, Copy)]
+pub(crate) struct Successor {
+    /// The step; none for the end of the plan.
+    pub(crate) place: Option<Place>,
+    /// The latest clock of the step before it.
+    pub(crate) latest: u64,
+}
+
+impl Latest {
+    /// No clock is found yet.
+    fn new(alloc: Global, engine: &Engine) -> Result<Latest, OutOfMemory> {
+        let mut lanes = List::new(alloc);
+        let mut left = List::new(alloc);
+        for owner in 0..engine.graph.modules() {
+            let steps = engine.graph.frontier(owner);
+            lanes.push(List::zeros(alloc, steps)?)?;
+            left.push(steps)?;
+        }
+        Ok(Latest { lanes, left })
+    }
+
+    /// How many steps of a module are not found yet.
+    fn left(&self, owner: u32) -> u64 {
+        item(self.left.as_slice(), owner as u64)
+    }
+
+    /// The clock of a step; `UNKNOWN` where it is not found.
+    pub(crate) fn at(&self, place: Place) -> u64 {
+        match self.lanes.as_slice().get(place.module as usize) {
+            Some(lane) if self.left(place.module) <= place.step => item(
+                lane.as_slice(),
+                place.step,
+            ),
+            Some(_) | None => UNKNOWN,
+        }
+    }
+
+    /// Sets the clock of a module's last step that is not found.
+    fn set(&mut self, place: Place, clock: u64) {
+        let lanes = self.lanes.as_mut_slice();
+        if (place.module as usize) < lanes.len() {
+            put(
+                lanes[place.module as usize].as_mut_slice(),
+                place.step,
+                clock,
+            );
+        }
+        put(self.left.as_mut_slice(), place.module as u64, place.step);
+    }
+}
+
+/// The item of a number, and `UNKNOWN` where there is none.
+fn item(items: &[u64], number: u64) -> u64 {
+    items.get(number as usize).copied().unwrap_or(UNKNOWN)
+}
+
+/// Sets the item of a number, where there is one.
+fn put(items: &mut [u64], number: u64, item: u64) {
+    if number < items.len() as u64 {
+        items[number as usize] = item;
+    }
+}
+
+/// The latest clock of each step with which all modules are ended by a clock. Where it finds no more, some are not found.
+///
+/// It goes back over the modules in turn, each as far as its successors are found, and takes memory for a number of each step. An error
+/// leaves nothing.
+pub fn find_latest(
+    alloc: Global,
+    engine: &Engine,
+    ends: &[Option<Advance>],
+    clock: u64,
+) -> Result<Latest, OutOfMemory>
+    requires { HasAccesses engine.now.graph.lanes engine.now.fifos.channels }
+{
+    let mut latest = Latest::new(alloc, engine)?;
+    for _ in 0..u64::MAX {
+        if !go_back(engine, ends, clock, &mut latest) {
+            break;
+        }
+    }
+    Ok(latest)
+}
+
+/// One round over the modules, from the last to the first. Whether it found a clock.
+fn go_back(engine: &Engine, ends: &[Option<Advance>], clock: u64, latest: &mut Latest) -> bool
+    requires { HasAccesses engine.now.graph.lanes engine.now.fifos.channels }
+{
+    let mut found = false;
+    let modules = engine.graph.modules();
+    for behind in 0..modules {
+        let owner = modules - 1 - behind;
+        if find_lane(engine, ends, clock, owner, latest) {
+            found = true;
+        }
+    }
+    found
+}
+
+/// The last steps of a module that are not found, as far as their successors are. Whether it found one.
+fn find_lane(
+    engine: &Engine,
+    ends: &[Option<Advance>],
+    clock: u64,
+    owner: u32,
+    latest: &mut Latest,
+) -> bool
+    requires { HasAccesses engine.now.graph.lanes engine.now.fifos.channels }
+{
+    let all = latest.left(owner);
+    for behind in 0..all {
+        let place = Place {
+            module: owner,
+            step: all - behind - 1,
+        };
+        match latest_of(engine, ends, clock, latest, place) {
+            Some(successor) => latest.set(place, successor.latest),
+            None => return 0 < behind,
+        }
+    }
+    0 < all
+}
+
+/// What makes the latest clock of a step: the least of the latest clocks of what comes after it, each without the clocks between. None
+/// where one of them is not found yet.
+pub(crate) fn latest_of(
+    engine: &Engine,
+    ends: &[Option<Advance>],
+    clock: u64,
+    latest: &Latest,
+    place: Place,
+) -> Option<Successor>
+    requires accesses { HasAccesses engine.now.graph.lanes engine.now.fifos.channels }
+{
+    if !has_step(engine, place) {
+        return None;
+    }
+    let next = after_step(engine, ends, clock, latest, place)?;
+    let step = engine.graph.step(place);
+    let waiting = first_waiting(engine, latest, step.accesses.as_slice())?;
+    if waiting.latest < next.latest {
+        return Some(waiting);
+    }
+    Some(next)
+}
+
+/// Whether a place is that of a step.
+fn has_step(engine: &Engine, place: Place) -> bool
+    ensures { result ≡ true → HasStep engine.now.graph.lanes place }
+{
+    place.module < engine.graph.modules() && place.step < engine.graph.len(place.module)
+}
+
+/// What follows a step in its module: the next step, or the end.
+fn after_step(
+    engine: &Engine,
+    ends: &[Option<Advance>],
+    clock: u64,
+    latest: &Latest,
+    place: Place,
+) -> Option<Successor>
+    requires { HasStep engine.now.graph.lanes place }
+{
+    if 1 < engine.graph.len(place.module).saturating_sub(place.step) {
+        let next = Place {
+            module: place.module,
+            step: place.step + 1,
+        };
+        let gap = engine.graph.step(next).gap;
+        return found_at(latest, next, gap);
+    }
+    let gap = match ends.get(place.module as usize) {
+        Some(Some(Advance::Ended(gap))) => *gap,
+        Some(_) | None => 0,
+    };
+    Some(Successor {
+        place: None,
+        latest: clock.saturating_sub(gap),
+    })
+}
+
+/// The latest clock so many clocks before a step's latest one, where that is found.
+fn found_at(latest: &Latest, place: Place, clocks: u64) -> Option<Successor> {
+    let found = latest.at(place);
+    if found == UNKNOWN {
+        return None;
+    }
+    Some(Successor {
+        place: Some(place),
+        latest: found.saturating_sub(clocks),
+    })
+}
+
+/// Of the steps that wait for these accesses what makes the least clock. None where one of them is not found yet.
+fn first_waiting(engine: &Engine, latest: &Latest, accesses: &[Access]) -> Option<Successor>
+    requires { All (IsAccess engine.now.fifos.channels) accesses.now }
+{
+    let mut least = Successor {
+        place: None,
+        latest: UNKNOWN,
+    };
+    for access in accesses {
+        if let Some(waiting) = waiting_for(engine, access) {
+            let found = found_at(latest, waiting.place, waiting.clocks)?;
+            if found.latest < least.latest {
+                least = found;
+            }
+        }
+    }
+    Some(least)
+}

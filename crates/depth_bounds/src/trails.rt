@@ -1,0 +1,38 @@
+//! The path from a pop that comes too late to the end.
+ghost use Rattle.std.specs.Prelude.{◌≡◌};
+ghost use Rattle.time_engine.specs.Conditions.{HasAccesses};
+
+use crate::bounds::TooFew;
+use crate::latest::{Latest, latest_of};
+use engine_view::Engine;
+use flow_design::Advance;
+use flow_word::{List, OutOfMemory, Place};
+use std::alloc::Global;
+
+/// A path of steps: a pop, the push that waits for it, and from each step on what makes its latest clock.
+///
+/// It has no more steps than the plan's run. It takes memory for the path. An error leaves nothing.
+pub(crate) fn find_trail(
+    alloc: Global,
+    engine: &Engine,
+    ends: &[Option<Advance>],
+    clock: u64,
+    latest: &Latest,
+    few: &TooFew,
+) -> Result<List<Place>, OutOfMemory>
+    requires { HasAccesses engine.now.graph.lanes engine.now.fifos.channels }
+{
+    let mut path = List::from_slice(alloc, &[few.pop])?;
+    let mut at = few.push;
+    for _ in 0..u64::MAX {
+        path.push(at)?;
+        match latest_of(engine, ends, clock, latest, at) {
+            Some(after) => match after.place {
+                Some(next) => at = next,
+                None => break,
+            },
+            None => break,
+        }
+    }
+    Ok(path)
+}

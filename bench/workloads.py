@@ -118,6 +118,27 @@ def staggered(modules, values):
     return '\n'.join(lines) + '\n'
 
 
+def branching(seed):
+    """Modules at random without queries, each of which reads from earlier ones and writes to later ones, in bursts or value by value."""
+    draw = random.Random(seed)
+    modules, values = draw.randint(2, 6), draw.choice((4, 8, 16, 32))
+    edges = [(before, behind) for behind in range(1, modules) for before in draw.sample(range(behind), min(behind, draw.choice((1, 1, 2, 3))))]
+    lines = ['flow 2'] + [f'fifo f{k} 32 {draw.randint(1, 8)} {draw.choice((1, 1, 2, 5))}' for k in range(len(edges))]
+    for module in range(modules):
+        burst = draw.choice((1, 1, 1, 2, 4))
+        reads = [f'read f{k} x' for k, (_, behind) in enumerate(edges) if behind == module]
+        writes = [f'write f{k} x' for k, (before, _) in enumerate(edges) if before == module]
+        timed, clock = [], 0
+        for operation in draw.sample(reads, len(reads)) + draw.sample(writes, len(writes)):
+            clock += draw.choice((0, 1, 1, 2))
+            timed += [(clock + value, operation) for value in range(burst)]
+        length = max(at for at, _ in timed) + 2
+        interval = min(draw.choice((burst, burst + 1, 2 * burst, length)), length)
+        lines += [f'module m{module}', 'reg x 32', 'reg n 32', 'reg go 1', f'loop l {interval} {length} while go', 'at 0 set n + n 1',
+                  f'at 0 set go <u n {values // burst - 1}', *(f'at {at} {operation}' for at, operation in sorted(timed)), 'stop']
+    return '\n'.join(lines + ['limits 1000000000 200000', 'end']) + '\n'
+
+
 def edited_at_random(text, fifos, edits, seed):
     """The same session with so many edits, each of one of these FIFOs to a depth from 1 to 8, small ones more often."""
     draw = random.Random(seed)

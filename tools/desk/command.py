@@ -75,6 +75,7 @@ def parsed(words):
     parser.add_argument('--events', action='store_true')
     parser.add_argument('--cycles')
     parser.add_argument('--ops')
+    parser.add_argument('--slack')
     return parser.parse_intermixed_args(words)
 
 
@@ -85,7 +86,8 @@ def session_of(found):
     if len(files) > 1:
         raise Refused(f'{found.command} takes one session, and not {files[0]} and {files[1]}')
     events = ['--events'] if found.events else []
-    return [found.command, *numbers, *events, *limits_of(found)], files[0] if files else '-'
+    slack = ['--slack', found.slack] if found.slack is not None else []
+    return [found.command, *numbers, *events, *slack, *limits_of(found)], files[0] if files else '-'
 
 
 def apply(command, answer, status, text):
@@ -115,7 +117,7 @@ def as_json(command, answer, status):
 
 def differ(found):
     """Tells the first difference of two sessions, or of one before and after other depths."""
-    if found.apply or found.json or found.events:
+    if found.apply or found.json or found.events or found.slack is not None:
         raise Refused('diff takes --depth, --cycles and --ops alone')
     if len(found.rest) == 2 and not found.depth:
         texts = [read(path) for path in found.rest]

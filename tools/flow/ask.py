@@ -39,9 +39,9 @@ def log(text, cycles=None, ops=None):
     return read_log(told(['log'], text, cycles, ops))
 
 
-def size(text, cycles=None, ops=None):
-    """The smallest depths that lose no time: Depths."""
-    return read_depths('size', told(['size'], text, cycles, ops))
+def size(text, cycles=None, ops=None, slack=0):
+    """The smallest depths that lose at most `slack` clocks: Depths."""
+    return read_depths('size', told(['size'] + ['--slack', str(slack)] * bool(slack), text, cycles, ops))
 
 
 def advise(text, cycles=None, ops=None):

@@ -301,5 +301,7 @@ fn views_up_to_a_limit(rt: HostRuntime) -> Result<(), Fail> {
         BURSTS,
         sized,
         Status::Done,
-    )
+    )?;
+    let later = b"size\nverdict done 52\ndepth burst 2\n";
+    answers(&rt, "size", &["--slack", "4"], BURSTS, later, Status::Done)
 }

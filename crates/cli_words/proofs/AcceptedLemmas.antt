@@ -1,25 +1,29 @@
 -- What can give no command, whatever words follow.
-use Rattle.std.proofs.Common.{◌≡◌, List, [], ◌∷◌, ◌||◌, Option, Some, None, refl, true, false, subst, Bool, cond, length}
+use Rattle.std.proofs.Common.{◌≡◌, List, [], ◌∷◌, ◌&&◌, ◌||◌, Option, Some, None, refl, true, false, subst, Bool, cond, length}
 use Rattle.std.proofs.Common.{arith, length-append, is_some}
 use Rattle.std.specs.Prelude.{option_and_then, nat_lt, not}
 use Rattle.std.proofs.lemmas.Bool.Decides.{nat_tests}
 use Rattle.cli_words.specs.declared.Command.{Command}
 use Rattle.cli_words.specs.declared.rules.CommandName.{CommandName}
 use Rattle.cli_words.specs.declared.rules.CommandName.TheVariants as name
-use Rattle.cli_words.specs.CommandWords.{Key, Cycles, Ops, Said, Text, Word, End, Events, Polls, Lone, Takes, Has, Positional, Unknown}
+use Rattle.cli_words.specs.CommandWords.{Key, Cycles, Ops, Slack, Said, Text, Word, End, Events, Polls, Lone, Takes, Has, Positional, Unknown}
 use Rattle.cli_words.specs.CommandWords.{after_word}
-use Rattle.cli_words.specs.CommandWords.{command_by, command_named, command_of, name_of, options_of, said_from}
+use Rattle.cli_words.specs.CommandWords.{command_by, command_named, command_of, name_of, options_of, said_from, slack_in}
 use Rattle.cli_words.specs.CommandWords.{with_option, with_positionals, word_of}
 
--- the values of the options are out of bounds, or there are more than three positionals
+-- the values of the options are in bounds
+abbrev pub has_values : Said → Bool
+has_values said = is_some (options_of said) && is_some (slack_in said.slack)
+
+-- they are not, or there are more than three positionals
 abbrev pub is_doomed : Said → Bool
-is_doomed said = not (is_some (options_of said)) || nat_lt 3 (length said.positionals)
+is_doomed said = not (has_values said) || nat_lt 3 (length said.positionals)
 
 abbrev pub given : Option Said → Option Command
 given = option_and_then command_of
 
 -- no command takes options whose values are out of bounds
-options_fail : (said : Said) (rest : List Text) → is_some (options_of said) ≡ false → (n : CommandName) → command_named said rest n ≡ None
+options_fail : (said : Said) (rest : List Text) → has_values said ≡ false → (n : CommandName) → command_named said rest n ≡ None
 options_fail said rest bad name.Check = grind arith
 options_fail said rest bad n = grind arith
 
@@ -28,7 +32,7 @@ many_fail : (said : Said) (b c d : Text) (rest : List Text) (n : CommandName) �
 many_fail said b c d rest name.Check = grind arith
 many_fail said b c d rest n = grind arith
 
-named_none : (said : Said) (rest : List Text) → not (is_some (options_of said)) || nat_lt 2 (length rest) ≡ true
+named_none : (said : Said) (rest : List Text) → not (has_values said) || nat_lt 2 (length rest) ≡ true
     → (n : CommandName) → command_named said rest n ≡ None
 named_none said (b ∷ c ∷ d ∷ rest) h n = many_fail said b c d rest n
 named_none said rest h n = options_fail said rest (grind (arith, nat_tests)) n
@@ -41,7 +45,7 @@ doomed_none said d = by said.positionals d
     by_name rest None none = refl
     by_name rest (Some n) none = none n
 
-    by : (ps : List Text) → not (is_some (options_of said)) || nat_lt 3 (length ps) ≡ true → command_by said ps ≡ None
+    by : (ps : List Text) → not (has_values said) || nat_lt 3 (length ps) ≡ true → command_by said ps ≡ None
     by [] h = refl
     by (word ∷ rest) h = by_name rest (name_of word) (named_none said rest (grind (arith, nat_tests)))
 
@@ -60,6 +64,7 @@ doomed_stays (word ∷ rest) None said d = by (word_of word) (doomed_stays rest)
     by (Takes key) stays = stays (Some key) said d
     by (Has Cycles value) stays = let used = stays None (record said { cycles = Some value }) in grind arith
     by (Has Ops value) stays = let used = stays None (record said { ops = Some value }) in grind arith
+    by (Has Slack value) stays = let used = stays None (record said { slack = Some value }) in grind arith
     by Positional stays =
         stays None (with_positionals (word ∷ []) said) (grind (arith, nat_tests, length-append said.positionals (word ∷ [])))
     by Unknown stays = refl
@@ -67,6 +72,8 @@ doomed_stays (value ∷ rest) (Some Cycles) said d =
     let used = doomed_stays rest None (record said { cycles = Some value }) in grind arith
 doomed_stays (value ∷ rest) (Some Ops) said d =
     let used = doomed_stays rest None (record said { ops = Some value }) in grind arith
+doomed_stays (value ∷ rest) (Some Slack) said d =
+    let used = doomed_stays rest None (record said { slack = Some value }) in grind arith
 
 -- a hyphen alone
 abbrev pub hyphen : Text
@@ -83,3 +90,4 @@ hyphen_dooms k said now e = by k e
     by : (k : Key) → with_option k hyphen said ≡ Some now → is_doomed now ≡ true
     by Cycles q = taken (is_some said.cycles) _ q refl
     by Ops q = taken (is_some said.ops) _ q (grind arith)
+    by Slack q = taken (is_some said.slack) _ q (grind arith)

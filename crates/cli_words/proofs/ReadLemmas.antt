@@ -8,7 +8,7 @@ use Rattle.clap.specs.Walk.{Held, Row, Rule, Walk, arg_by_long, idle, option, re
 use Rattle.clap.specs.Kinds.{or_else}
 use Rattle.clap.specs.Faults.{turn_fault, use_fault, walk_fault}
 use Rattle.clap.specs.declared.error.kind.ErrorKind.TheVariants as kind
-use Rattle.cli_words.specs.CommandWords.{Cycles, Events, Key, Ops, Polls, Positional, Said, Text, Word, after_word, command_of}
+use Rattle.cli_words.specs.CommandWords.{Cycles, Events, Key, Ops, Polls, Positional, Said, Slack, Text, Word, after_word, command_of}
 use Rattle.cli_words.specs.CommandWords.{option_named, said_from}
 use Rattle.cli_words.specs.CommandWords.{Flag, with_flag, with_option, with_positionals}
 use Rattle.cli_words.proofs.RowLemmas.{Rows, rules, top}
@@ -31,7 +31,7 @@ trails [] said h holds few =
     passes said refl holds few
     (ap (λ ps. command_of (record said { positionals = ps })) (append-nil said.positionals))
 trails (w ∷ ws) said h holds few =
-    go (placing said.events said.polls said.cycles said.ops true h w said.positionals holds few)
+    go (placing said.events said.polls said.cycles said.ops said.slack true h w said.positionals holds few)
     (λ now. trails ws (with_positionals (w ∷ []) said) now)
   where
     go : Placed said true h w
@@ -70,7 +70,7 @@ plain_step : (word : Text) (rest : List Text) (said : Said) (h : Held) → Holds
     → Reads rest → IsPlain word
     → Ends (between said h) (word ∷ rest) (after_word Positional word rest said (rest_of rest))
 plain_step word rest said h holds few reads plain =
-    go (placing said.events said.polls said.cycles said.ops false h word said.positionals holds few)
+    go (placing said.events said.polls said.cycles said.ops said.slack false h word said.positionals holds few)
   where
     p : ℕ
     p = suc (length said.positionals)
@@ -114,6 +114,7 @@ module _ (word : Text) (rest : List Text) (said : Said) (h : Held) (holds : Hold
       ≡ or_else (or_else (settle_at h) (use_fault false (rule_at k) (t ∷ []) (rows_in h))) []
   turned Cycles t = refl
   turned Ops t = refl
+  turned Slack t = refl
 
   -- an option that is used, by whatever it takes
   used_here : (a : Rule) (values : List Text) (next : Option Said) → Used a values next said (rows_in h)
@@ -133,6 +134,7 @@ module _ (word : Text) (rest : List Text) (said : Said) (h : Held) (holds : Hold
       → long_walk word p h (Some (rule_at k)) (Some t) ≡ at idle p false (reacted rules (rule_at k) (t ∷ []) h)
   went Cycles t = refl
   went Ops t = refl
+  went Slack t = refl
 
   -- `--cycles=V`
   attached : (k : Key) (t : Text) → Turns (Some (rule_at k)) (Some t) → Walks (Some (rule_at k)) (Some t)
@@ -163,6 +165,10 @@ module _ (word : Text) (rest : List Text) (said : Said) (h : Held) (holds : Hold
       step_passes _ (at (option (rule_at Ops).id) p false (waiting_for Ops (rows_in h) h.skip)) word rest _
       (turn ∙ clear _ _ holds.settles refl) is
       (awaits Ops said (rows_in h) h.skip holds.skip holds.rows few)
+  apart awaits Slack turn is =
+      step_passes _ (at (option (rule_at Slack).id) p false (waiting_for Slack (rows_in h) h.skip)) word rest _
+      (turn ∙ clear _ _ holds.settles refl) is
+      (awaits Slack said (rows_in h) h.skip holds.skip holds.rows few)
 
   long_step : Awaits rest → (v : Option Text) (o : Option Rule) (w : Word) → Named v o w → Turns o v → Walks o v
       → here (after_word w word rest said (rest_of rest))
@@ -220,11 +226,13 @@ settled_value : (k : Key) (word : Text) (rows : List Row) (skip : ℕ)
     → settle_at (with_word k word rows skip) ≡ use_fault false (rule_at k) (word ∷ []) rows
 settled_value Cycles word rows skip = refl
 settled_value Ops word rows skip = refl
+settled_value Slack word rows skip = refl
 
 settled_rows_are : (k : Key) (word : Text) (rows : List Row) (skip : ℕ)
     → rows_in (with_word k word rows skip) ≡ used (rule_at k) (word ∷ []) rows
 settled_rows_are Cycles word rows skip = refl
 settled_rows_are Ops word rows skip = refl
+settled_rows_are Slack word rows skip = refl
 
 module _ (word : Text) (rest : List Text) (u : AllByRecursion IsUtf8 rest) (k : Key) (said : Said)
     (rows : List Row) (skip : ℕ) (zero_skip : skip ≡ 0) (said_rows : Rows said rows)
@@ -270,6 +278,7 @@ module _ (word : Text) (rest : List Text) (u : AllByRecursion IsUtf8 rest) (k : 
 no_value : (k : Key) (rows : List Row) (skip : ℕ) → settle_at (waiting_for k rows skip) ≡ [] → ⊥
 no_value Cycles rows skip e = some_kind _ _ e
 no_value Ops rows skip e = some_kind _ _ e
+no_value Slack rows skip e = some_kind _ _ e
 
 await_word : (word : Text) (rest : List Text) → IsUtf8 word → AllByRecursion IsUtf8 rest → View word
     → Reads rest → Awaits (word ∷ rest)

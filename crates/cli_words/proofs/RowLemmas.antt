@@ -60,13 +60,14 @@ own id r (x ∷ xs) e none = let later = own id r xs e in grind arith
 
 -- what has a row
 pub data Slot : Type 0 where
-  AtEvents AtPolls AtCycles AtOps AtCommand AtSecond AtThird : Slot
+  AtEvents AtPolls AtCycles AtOps AtSlack AtCommand AtSecond AtThird : Slot
 
 abbrev pub id_of : Slot → Text
 id_of AtEvents = codes "events"
 id_of AtPolls = codes "polls"
 id_of AtCycles = codes "cycles"
 id_of AtOps = codes "ops"
+id_of AtSlack = codes "slack"
 id_of AtCommand = codes "command"
 id_of AtSecond = codes "second"
 id_of AtThird = codes "third"
@@ -77,6 +78,7 @@ text_said said AtEvents = cond said.events (Some (codes "true")) None
 text_said said AtPolls = cond said.polls (Some (codes "true")) None
 text_said said AtCycles = said.cycles
 text_said said AtOps = said.ops
+text_said said AtSlack = said.slack
 text_said said AtCommand = slice_get said.positionals 0
 text_said said AtSecond = slice_get said.positionals 1
 text_said said AtThird = slice_get said.positionals 2
@@ -117,9 +119,12 @@ cycles_same said v j e = grind arith
 pub ops_same : (said : Said) (v : Text) → SameBut AtOps said (record said { ops = Some v })
 ops_same said v j e = grind arith
 
-module _ (events polls : Bool) (cycles ops : Option Text) where
+pub slack_same : (said : Said) (v : Text) → SameBut AtSlack said (record said { slack = Some v })
+slack_same said v j e = grind arith
+
+module _ (events polls : Bool) (cycles ops slack : Option Text) where
   abbrev pub having : List Text → Said
-  having ps = record { events = events; polls = polls; cycles = cycles; ops = ops; positionals = ps }
+  having ps = record { events = events; polls = polls; cycles = cycles; ops = ops; slack = slack; positionals = ps }
 
   pub first_same : (v : Text) → SameBut AtCommand (having []) (having (v ∷ []))
   first_same v j e = grind arith

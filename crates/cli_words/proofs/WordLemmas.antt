@@ -17,7 +17,7 @@ use Rattle.clap.specs.Kinds.{Kinds, or_else}
 use Rattle.clap.specs.Faults.{bundle_fault, bundle_step_fault, option_fault, flag_word_fault, flags_fault, long_fault}
 use Rattle.clap.specs.Faults.{react_fault, step_fault, turn_fault, walk_fault, word_fault}
 use Rattle.clap.specs.declared.error.kind.ErrorKind.TheVariants as kind
-use Rattle.cli_words.specs.CommandWords.{Cycles, Key, Ops, Positional, Said, Text, Unknown, begins_with_hyphen, is_equals}
+use Rattle.cli_words.specs.CommandWords.{Cycles, Key, Ops, Positional, Said, Slack, Text, Unknown, begins_with_hyphen, is_equals}
 use Rattle.cli_words.specs.CommandWords.{option_named, value_in, word_of}
 use Rattle.cli_words.proofs.RowLemmas.{rules, top}
 use Rattle.cli_words.proofs.AcceptedLemmas.{hyphen}
@@ -160,6 +160,7 @@ taken_word : (key : Key) (word : Text) (rows : List Row) (skip : ℕ)
     ≡ (with_word key word rows skip, next idle)
 taken_word Cycles word rows skip = refl
 taken_word Ops word rows skip = refl
+taken_word Slack word rows skip = refl
 
 pub turn_taken : (key : Key) (p : ℕ) (word : Text) (rows : List Row) (skip : ℕ) → IsPlain word
     → turn_fault top [] (at (option (rule_at key).id) p false (waiting_for key rows skip)) word ≡ []

@@ -32,6 +32,7 @@ pub data Flag : Type 0 where
 pub data Key : Type 0 where
   Cycles : Key
   Ops : Key
+  Slack : Key
 
 -- what a word is that stands before `--` and is no option's value
 pub data Word : Type 0 where
@@ -39,9 +40,9 @@ pub data Word : Type 0 where
   End : Word
   -- `--events` or `--polls`
   Lone : Flag → Word
-  -- `--cycles` or `--ops`, which take the next word
+  -- `--cycles`, `--ops` or `--slack`, which take the next word
   Takes : Key → Word
-  -- `--cycles=V` or `--ops=V`
+  -- `--cycles=V`, `--ops=V` or `--slack=V`
   Has : Key → Text → Word
   Positional : Word
   -- it begins with `-`, and is none of these
@@ -78,6 +79,7 @@ option_named name value =
     else if bytes_eq (codes "--polls") name then without_value Polls value
     else if bytes_eq (codes "--cycles") name then with_value Cycles value
     else if bytes_eq (codes "--ops") name then with_value Ops value
+    else if bytes_eq (codes "--slack") name then with_value Slack value
     else Unknown
 
 -- what a word is; the single hyphen is a positional
@@ -95,23 +97,26 @@ pub record Said : Type 0 where
   pub polls : Bool
   pub cycles : Option Text
   pub ops : Option Text
+  pub slack : Option Text
   pub positionals : List Text
 
 -- before the first word
 abbrev pub nothing : Said
-nothing = record { events = false; polls = false; cycles = None; ops = None; positionals = [] }
+nothing = record { events = false; polls = false; cycles = None; ops = None; slack = None; positionals = [] }
 
 -- `--events` and `--polls` occur at most once
 abbrev pub with_flag : Flag → Said → Option Said
 with_flag Events said = if said.events then None else Some (record said { events = true })
 with_flag Polls said = if said.polls then None else Some (record said { polls = true })
 
--- so do `--cycles` and `--ops`
+-- so do `--cycles`, `--ops` and `--slack`
 abbrev pub with_option : Key → Text → Said → Option Said
 with_option Cycles value said =
     if is_some said.cycles then None else Some (record said { cycles = Some value })
 with_option Ops value said =
     if is_some said.ops then None else Some (record said { ops = Some value })
+with_option Slack value said =
+    if is_some said.slack then None else Some (record said { slack = Some value })
 
 -- positionals come in the order of the words
 abbrev pub with_positionals : List Text → Said → Said
@@ -185,7 +190,7 @@ no_more (word ∷ words) found = None
 
 -- an option is given
 abbrev pub has_options : Said → Bool
-has_options said = said.events || (said.polls || (is_some said.cycles || is_some said.ops))
+has_options said = said.events || (said.polls || (is_some said.cycles || (is_some said.ops || is_some said.slack)))
 
 -- no option
 abbrev pub without_option : {T : Type 0} → Said → Option T → Option T
@@ -209,9 +214,10 @@ options_of said = both (λ cycles ops. record {
 abbrev pub if_taken : {T : Type 0} → Bool → Bool → Option T → Option T
 if_taken takes given found = if given && not takes then None else found
 
--- the options of a command that has no further positional, by whether it takes `--events` and `--polls`
+-- the options of a command that has no further positional and no `--slack`, by whether it takes `--events` and `--polls`
 abbrev pub options_alone : Bool → Bool → Said → List Text → Option Options
-options_alone events polls said rest = if_taken events said.events (if_taken polls said.polls (no_more rest (options_of said)))
+options_alone events polls said rest =
+    if_taken events said.events (if_taken polls said.polls (if_taken false (is_some said.slack) (no_more rest (options_of said))))
 
 -- `path` takes `--events`, for its links; no other view does
 abbrev pub tells_events : View → Bool
@@ -237,9 +243,20 @@ range_in lo hi = option_and_then (λ l. option_map (λ h. (l, h)) (number_in l 6
 -- `sweep` has two further positionals, the least depth and the greatest
 abbrev pub sweep_of : Said → List Text → Option Command
 sweep_of said (lo ∷ hi ∷ []) =
-    if_taken false said.events (if_taken false said.polls
-    (both (λ range o. Of (Sweep range.0 range.1 o)) (range_in lo hi) (options_of said)))
+    if_taken false said.events (if_taken false said.polls (if_taken false (is_some said.slack)
+    (both (λ range o. Of (Sweep range.0 range.1 o)) (range_in lo hi) (options_of said))))
 sweep_of said _ = None
+
+-- the value of `--slack`, of 0 to 10^15, and 0 where it is not given
+abbrev pub slack_in : Option Text → Option ℕ
+slack_in None = Some 0
+slack_in (Some text) = number_in 0 (10 ^ 15) text
+
+-- `size` takes `--slack`, and has no further positional
+abbrev pub size_of : Said → List Text → Option Command
+size_of said rest =
+    if_taken false said.events (if_taken false said.polls
+    (no_more rest (both (λ slack o. Of (Size slack o)) (slack_in said.slack) (options_of said))))
 
 -- the rule of each command, on what was said and on the positionals behind the name
 abbrev pub command_named : Said → List Text → CommandName → Option Command
@@ -251,7 +268,7 @@ command_named said rest (name.Show view) =
     option_map (λ o. Of (Show view o)) (options_alone (tells_events view) (tells_polls view) said rest)
 command_named said rest name.Order = without_option said (no_more rest (Some (Of Order)))
 command_named said rest name.Sweep = sweep_of said rest
-command_named said rest name.Size = option_map (λ o. Of (Size o)) (options_alone false false said rest)
+command_named said rest name.Size = size_of said rest
 
 -- the first positional is the command's name
 abbrev pub command_by : Said → List Text → Option Command
@@ -286,7 +303,7 @@ IsSound (Advise options) = AreLimits options
 IsSound (Show view options) = AreLimits options
 IsSound Order = Unit {0}
 IsSound (Sweep lo hi options) = (1 ≤ lo) × (lo ≤ hi) × (hi ≤ 64) × AreLimits options
-IsSound (Size options) = AreLimits options
+IsSound (Size slack options) = (slack ≤ 10 ^ 15) × AreLimits options
 
 -- the numbers of a command are within their bounds
 abbrev pub IsInRange : Command → Type 0

@@ -32,6 +32,7 @@ said_of g = record {
   polls = g.polls;
   cycles = text_of g.cycles;
   ops = text_of g.ops;
+  slack = text_of g.slack;
   positionals = positionals_of (text_of g.command) (text_of g.second) (text_of g.third);
 }
 

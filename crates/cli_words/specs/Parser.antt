@@ -11,7 +11,7 @@ flag_rule name = record (new_rule name) { long = Some name; action = Some SetTru
 abbrev pub option_rule : Text → Rule
 option_rule name = record (new_rule name) { long = Some name }
 
--- the four options
+-- the five options
 abbrev pub events_rule : Rule
 events_rule = flag_rule (codes "events")
 
@@ -24,6 +24,9 @@ cycles_rule = option_rule (codes "cycles")
 abbrev pub ops_rule : Rule
 ops_rule = option_rule (codes "ops")
 
+abbrev pub slack_rule : Rule
+slack_rule = option_rule (codes "slack")
+
 -- no program's name before the words, no help and no version
 abbrev pub bare_parser : App
 bare_parser = let a = new_app (codes "omnisim") in record {
@@ -35,9 +38,9 @@ bare_parser = let a = new_app (codes "omnisim") in record {
   subs = [];
 }
 
--- four options and three positionals
+-- five options and three positionals
 abbrev pub parser : App
 parser =
-    with_rule (with_rule (with_rule (with_rule (with_rule (with_rule (with_rule bare_parser events_rule) polls_rule)
-    cycles_rule) ops_rule) (new_rule (codes "command"))) (new_rule (codes "second")))
+    with_rule (with_rule (with_rule (with_rule (with_rule (with_rule (with_rule (with_rule bare_parser events_rule) polls_rule)
+    cycles_rule) ops_rule) slack_rule) (new_rule (codes "command"))) (new_rule (codes "second")))
     (new_rule (codes "third"))

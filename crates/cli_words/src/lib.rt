@@ -64,8 +64,8 @@ pub enum Task {
     Order,
     /// Simulate it with all depths from the one to the other for its FIFOs.
     Sweep { lo: u64, hi: u64, options: Options },
-    /// Find the smallest FIFOs that lose nothing.
-    Size(Options),
+    /// Find the smallest FIFOs that lose no more than this many clocks.
+    Size { slack: u64, options: Options },
 }
 
 /// What the words ask for.

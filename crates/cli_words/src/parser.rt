@@ -16,6 +16,7 @@ pub struct Given<'a> {
     pub polls: bool,
     pub cycles: Option<&'a str>,
     pub ops: Option<&'a str>,
+    pub slack: Option<&'a str>,
     pub command: Option<&'a str>,
     pub second: Option<&'a str>,
     pub third: Option<&'a str>,
@@ -31,6 +32,7 @@ pub fn parse<'a>(alloc: Global, words: &'a [String]) -> Result<Given<'a>, WordFa
             polls: matches.get_flag("polls"),
             cycles: matches.get_str("cycles"),
             ops: matches.get_str("ops"),
+            slack: matches.get_str("slack"),
             command: matches.get_str("command"),
             second: matches.get_str("second"),
             third: matches.get_str("third"),
@@ -39,7 +41,7 @@ pub fn parse<'a>(alloc: Global, words: &'a [String]) -> Result<Given<'a>, WordFa
     }
 }
 
-/// The words, read as four options and at most three positionals.
+/// The words, read as five options and at most three positionals.
 fn matches<'a>(alloc: Global, words: &'a [String]) -> Result<ArgMatches<'a>, clap::Error>
     ensures fails { FailsBy (fault_of parser (map string_bytes words.entry.now)) result }
     ensures rows { IfOk result (λ m. rows_of (found_of m)
@@ -50,6 +52,7 @@ fn matches<'a>(alloc: Global, words: &'a [String]) -> Result<ArgMatches<'a>, cla
         .arg(flag(alloc, "polls"))?
         .arg(option(alloc, "cycles"))?
         .arg(option(alloc, "ops"))?
+        .arg(option(alloc, "slack"))?
         .arg(positional(alloc, "command"))?
         .arg(positional(alloc, "second"))?
         .arg(positional(alloc, "third"))?;

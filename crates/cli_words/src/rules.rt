@@ -2,7 +2,7 @@
 ghost use Rattle.std.specs.Prelude.{◌≡◌, ◌≤◌, IfSome, Some};
 ghost use Rattle.cli_words.specs.CommandWords.{AreLimits, IsInRange, IsLimit};
 ghost use Rattle.cli_words.specs.CommandWords.{command_of, gen_of, has_options, limit_in, name_of, no_more};
-ghost use Rattle.cli_words.specs.CommandWords.{number_in, options_alone, options_of, sweep_of, tells_events, tells_polls, without_option};
+ghost use Rattle.cli_words.specs.CommandWords.{number_in, options_alone, options_of, size_of, sweep_of, tells_events, tells_polls, without_option};
 ghost use Rattle.cli_words.specs.Given.{rest_of, said_of, text_of};
 
 use crate::parser::Given;
@@ -12,6 +12,8 @@ use flow_word::read_number;
 const MOST_CYCLES: u64 = 1_000_000_000_000_000;
 
 const MOST_OPERATIONS: u64 = 200_000;
+
+const MOST_SLACK: u64 = 1_000_000_000_000_000;
 
 const MOST_SEED: u64 = 65_535;
 
@@ -55,10 +57,7 @@ pub fn command_of(given: &Given<'_>) -> Option<Command>
         }
         CommandName::Order => bare(given, Task::Order),
         CommandName::Sweep => sweep_of(given),
-        CommandName::Size => {
-            let options = options_alone(given, false, false)?;
-            Some(Command::Of(Task::Size(options)))
-        }
+        CommandName::Size => size_of(given),
     }
 }
 
@@ -87,7 +86,11 @@ fn name_of(word: &str) -> Option<CommandName>
 fn has_options(given: &Given<'_>) -> bool
     ensures { result ≡ has_options (said_of given.now) }
 {
-    given.events || given.polls || given.cycles.is_some() || given.ops.is_some()
+    given.events
+        || given.polls
+        || given.cycles.is_some()
+        || given.ops.is_some()
+        || given.slack.is_some()
 }
 
 /// A task of a command that takes no option and no further positional.
@@ -107,7 +110,7 @@ fn options_alone(given: &Given<'_>, takes_events: bool, takes_polls: bool) -> Op
     ensures range { IfSome result AreLimits }
 {
     let untaken = given.events && !takes_events || given.polls && !takes_polls;
-    if given.second.is_some() || untaken {
+    if given.second.is_some() || untaken || given.slack.is_some() {
         return None;
     }
     options_of(given)
@@ -166,13 +169,29 @@ fn sweep_of(given: &Given<'_>) -> Option<Command>
     ensures command { result ≡ sweep_of (said_of given.now) (rest_of given.now) }
     ensures range { IfSome result IsInRange }
 {
-    if given.events || given.polls {
+    if given.events || given.polls || given.slack.is_some() {
         return None;
     }
     let lo = number(1, MOST_SWEPT, given.second?)?;
     let hi = number(lo, MOST_SWEPT, given.third?)?;
     let options = options_of(given)?;
     Some(Command::Of(Task::Sweep { lo, hi, options }))
+}
+
+/// How much later the end may be, and the limits.
+fn size_of(given: &Given<'_>) -> Option<Command>
+    ensures command { result ≡ size_of (said_of given.now) (rest_of given.now) }
+    ensures range { IfSome result IsInRange }
+{
+    if given.events || given.polls || given.second.is_some() {
+        return None;
+    }
+    let slack = match given.slack {
+        Some(text) => number(0, MOST_SLACK, text)?,
+        None => 0,
+    };
+    let options = options_of(given)?;
+    Some(Command::Of(Task::Size { slack, options }))
 }
 
 /// The number that the digits write, if it lies in the bounds.

@@ -11,7 +11,7 @@ use Rattle.flow_design.specs.StaticRules.{FitsEngine}
 use Rattle.least_depths.specs.Halving.{digits, bits}
 use Rattle.least_depths.specs.Lowering.{is_in_time, least_for, lowered, all_bits}
 use Rattle.least_depths.proofs.Halves.{few_tries}
-use Rattle.least_depths.proofs.Least.{own_depths}
+use Rattle.depth_bounds.proofs.Depths.{own_depths}
 
 below_digits : (k n : ℕ) → n ≤ k → n < 2 ^ digits k n
 below_digits zero n l = omega arith

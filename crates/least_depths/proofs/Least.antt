@@ -1,46 +1,21 @@
 -- The lowered depths are done in time, and no lower ones are.
 use Rattle.std.proofs.Common.{◌≡◌, ℕ, zero, suc, ◌<◌, ◌≤◌, true, false, List, length, refl, sym, ◌∙◌, ap, subst, arith, inl, inr}
-use Rattle.std.specs.Prelude.{slice_index, slice_index_or, slice_set, []}
+use Rattle.std.specs.Prelude.{slice_index, slice_set}
 use Rattle.std.proofs.lemmas.Bool.{cases_Bool, cases_eq, cases_lt}
-use Rattle.std.proofs.lemmas.List.{get_or-set_same, get_or-set_other, set-get_or, ext_get_or, get_or_past}
+use Rattle.std.proofs.lemmas.List.{get_or-set_same, get_or-set_other, set-get_or, ext_get_or}
 use Rattle.std.proofs.Math.Seq.{set-set}
 use Rattle.flow_design.specs.declared.limits.TheConstants.{FIFO_DEPTH}
 use Rattle.flow_design.specs.declared.plan.Plan.{Plan}
 use Rattle.flow_design.specs.Plans.{is_fifo, kind_at, with_depth}
-use Rattle.flow_design.specs.StaticRules.{FitsEngine, AreEntriesSound}
-use Rattle.flow_design.specs.declared.design.ChannelKind.{ChannelKind}
-use Rattle.flow_design.specs.declared.design.ChannelKind.TheVariants.{Source, Sink, Fifo}
+use Rattle.flow_design.specs.StaticRules.{FitsEngine}
 use Rattle.lockstep_defs.specs.Verdict.{verdict}
 use Rattle.depth_order.specs.Depths.{with_depths, AreDepths, AreDeeper, AsksNothing, IsDoneBy}
 use Rattle.depth_order.proofs.Plans.{fifo_inside}
 use Rattle.least_depths.specs.Halving.{Found}
 use Rattle.least_depths.specs.Lowering.{is_done_by, is_in_time, least_for, lowered, AreLeast}
 use Rattle.least_depths.proofs.Halves.{found_within, found_fits, none_fits_below}
-use Rattle.least_depths.proofs.Depths.{depth_inside, set_depths, set_deeper, set_lower, test_done_by, done_by_test, no_later}
-
--- ---- the plan's own depths
-
-own_entry : (k : ChannelKind) (inputs : List ℕ) (depth : ℕ) → AreEntriesSound k inputs depth
-    → (is_fifo k ≡ true → (1 ≤ depth) × (depth ≤ FIFO_DEPTH)) × (is_fifo k ≡ false → depth ≡ 0)
-own_entry Source inputs depth h = (λ e. absurd (cc), λ e. h)
-own_entry Sink inputs depth h = (λ e. absurd (cc), λ e. h.1)
-own_entry (Fifo declared delay) inputs depth h = (λ e. (h.1, h.2), λ e. absurd (cc))
-
-pub own_depths : (p : Plan) → FitsEngine p → AreDepths p p.depths
-own_depths p h = record {
-  count = h.depths;
-  least = λ f e. ((entry f (fifo_inside p f e)).0 e).0;
-  most = λ f e. ((entry f (fifo_inside p f e)).0 e).1;
-  others = λ f e. elim (cases_lt f (length p.design.channels)) [
-    | inl l ↦ (entry f l).1 e
-    | inr l ↦ let count = h.depths in get_or_past p.depths f 0 (omega arith)
-  ];
-}
-  where
-    entry : (f : ℕ) → f < length p.design.channels
-        → (is_fifo (kind_at p f) ≡ true → (1 ≤ slice_index p.depths f) × (slice_index p.depths f ≤ FIFO_DEPTH))
-        × (is_fifo (kind_at p f) ≡ false → slice_index p.depths f ≡ 0)
-    entry f l = own_entry (kind_at p f) (slice_index_or p.inputs f []) (slice_index p.depths f) (h.channels f l).entries
+use Rattle.depth_bounds.proofs.Depths.{depth_inside, set_depths, set_deeper, set_lower, own_depths}
+use Rattle.least_depths.proofs.Depths.{test_done_by, done_by_test, no_later}
 
 -- ---- one FIFO lowered
 
@@ -51,7 +26,7 @@ pub record IsLower (p : Plan) (q : Plan) : Type 0 where
   pub lower : AreDeeper p q.depths p.depths
 
 -- where greater depths of the FIFO are done in time too
-in_time_more : (p : Plan) → FitsEngine p → AsksNothing p → (ds : List ℕ) → AreDepths p ds → (f : ℕ) → is_fifo (kind_at p f) ≡ true
+pub in_time_more : (p : Plan) → FitsEngine p → AsksNothing p → (ds : List ℕ) → AreDepths p ds → (f : ℕ) → is_fifo (kind_at p f) ≡ true
     → (clock a b : ℕ) → 1 ≤ a → a ≤ b → b ≤ FIFO_DEPTH → is_in_time (with_depths p ds) clock f a ≡ true
     → is_in_time (with_depths p ds) clock f b ≡ true
 in_time_more p h none ds x f e clock a b low l high t =

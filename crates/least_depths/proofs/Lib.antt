@@ -6,3 +6,4 @@ pub mod Sized
 pub mod Trying
 pub mod Sessions
 pub mod Channels
+pub mod Known

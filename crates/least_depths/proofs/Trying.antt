@@ -8,17 +8,15 @@ use Rattle.flow_design.specs.declared.plan.Plan.{Plan}
 use Rattle.flow_design.specs.declared.limits.TheConstants.{FIFO_DEPTH}
 use Rattle.flow_design.specs.Plans.{is_fifo, kind_at, with_depth, EditFits}
 use Rattle.lockstep_defs.specs.Verdict.{verdict}
+use Rattle.depth_order.specs.Depths.{AsksNothing}
 use Rattle.least_depths.specs.Halving.{Found, halved, tried_one_more, middle}
+use Rattle.least_depths.specs.Known.{IsAlike}
 use Rattle.least_depths.specs.Lowering.{is_done_by, is_in_time, least_for}
 use Rattle.least_depths.proofs.Halves.{lower_half, upper_half, none_left, enough_tries}
 
 -- with so many tries more
 abbrev pub tried_more : ℕ → Found → Found
 tried_more n x = record { number = x.number; tries = n + x.tries }
-
--- the plan with another depth for channel f alone
-abbrev pub IsAlike : Plan → ℕ → Plan → Type 0
-IsAlike p f q = (d : ℕ) → with_depth q f d ≡ with_depth p f d
 
 -- halving of a FIFO's depth stands between these depths after so many tries
 pub record IsHalving (p : Plan) (f clock : ℕ) (q : Plan) (least most tries : ℕ) : Type 0 where
@@ -32,9 +30,10 @@ pub record IsHalving (p : Plan) (f clock : ℕ) (q : Plan) (least most tries : �
 tried_none : (x : Found) → tried_more 0 x ≡ x
 tried_none x = let sum : 0 + x.tries ≡ x.tries = omega arith in ap (λ (n : ℕ). record { number = x.number; tries = n }) sum
 
-pub begun : (p : Plan) (f clock : ℕ) → 1 ≤ slice_index p.depths f → IsHalving p f clock p 1 (slice_index p.depths f) 0
-begun p f clock low = record {
-  alike = λ d. refl;
+pub begun : (p : Plan) (f clock : ℕ) (q : Plan) → IsAlike p f q → 1 ≤ slice_index p.depths f
+    → IsHalving p f clock q 1 (slice_index p.depths f) 0
+begun p f clock q alike low = record {
+  alike = alike;
   low = omega arith;
   ordered = low;
   high = omega arith;
@@ -43,11 +42,17 @@ begun p f clock low = record {
       (slice_index p.depths f - 1) (omega arith));
 }
 
--- another edit of the same channel
-pub alike_more : (p : Plan) (f : ℕ) (q r : Plan) (depth : ℕ) → IsAlike p f q → r ≡ with_depth q f depth → IsAlike p f r
-alike_more p f q r depth a e d =
-    ap (λ (s : Plan). with_depth s f d) e
-    ∙ (ap (λ (ds : List ℕ). record q { depths = ds }) (set-set q.depths f depth d) ∙ a d)
+-- one edit of the channel
+pub edited_alike : (p : Plan) (f : ℕ) (q : Plan) (depth : ℕ) → q ≡ with_depth p f depth → IsAlike p f q
+edited_alike p f q depth e d =
+    ap (λ (s : Plan). with_depth s f d) e ∙ ap (λ (ds : List ℕ). record p { depths = ds }) (set-set p.depths f depth d)
+
+-- edits one after the other
+pub alike_more : (p : Plan) (f : ℕ) (q r : Plan) → IsAlike p f q → IsAlike q f r → IsAlike p f r
+alike_more p f q r a b d = b d ∙ a d
+
+pub alike_quiet : (p : Plan) (f : ℕ) (q : Plan) → IsAlike p f q → AsksNothing p → AsksNothing q
+alike_quiet p f q a none = subst AsksNothing (sym (a 0)) none
 
 -- whether the tried depth is in time
 pub same_time : (p : Plan) (f clock : ℕ) (q : Plan) (depth : ℕ) → IsAlike p f q → is_in_time q clock f depth ≡ is_in_time p clock f depth
@@ -60,14 +65,14 @@ more tries x y e =
     ap (λ (n : ℕ). record { number = y.number; tries = n }) sum ∙ ap (tried_more tries) (sym e)
 
 pub halves_lower : (p : Plan) (f clock : ℕ) (q r : Plan) (least most tries : ℕ) → least < most → IsHalving p f clock q least most tries
-    → r ≡ with_depth q f (middle least most) → is_in_time q clock f (middle least most) ≡ true
+    → IsAlike q f r → is_in_time q clock f (middle least most) ≡ true
     → IsHalving p f clock r least (middle least most) (tries + 1)
 halves_lower p f clock q r least most tries l x e t =
     let few = x.few in
     let low = x.low in
     let high = x.high in
     record {
-      alike = alike_more p f q r (middle least most) x.alike e;
+      alike = alike_more p f q r x.alike e;
       low = x.low;
       ordered = omega arith;
       high = omega arith;
@@ -77,7 +82,7 @@ halves_lower p f clock q r least most tries l x e t =
     }
 
 pub halves_upper : (p : Plan) (f clock : ℕ) (q r : Plan) (least most tries : ℕ) → least < most → IsHalving p f clock q least most tries
-    → r ≡ with_depth q f (middle least most) → is_in_time q clock f (middle least most) ≡ false
+    → IsAlike q f r → is_in_time q clock f (middle least most) ≡ false
     → IsHalving p f clock r (middle least most + 1) most (tries + 1)
 halves_upper p f clock q r least most tries l x e t =
     let few = x.few in
@@ -85,7 +90,7 @@ halves_upper p f clock q r least most tries l x e t =
     let high = x.high in
     let next : suc (middle least most) ≡ middle least most + 1 = omega arith in
     subst (λ (n : ℕ). IsHalving p f clock r n most (tries + 1)) next (record {
-      alike = alike_more p f q r (middle least most) x.alike e;
+      alike = alike_more p f q r x.alike e;
       low = omega arith;
       ordered = omega arith;
       high = omega arith;

@@ -1,5 +1,5 @@
--- The smallest FIFOs that lose nothing.
-use Rattle.std.specs.Prelude.{◌≡◌, ⊤, ℕ, List, length}
+-- The smallest FIFOs that lose nothing, or no more than some clocks.
+use Rattle.std.specs.Prelude.{◌≡◌, ⊤, ℕ, ◌+◌, ◌^◌, List, length}
 use Rattle.flow_design.specs.declared.plan.Plan.{Plan}
 use Rattle.flow_design.specs.declared.report.Verdict.{Verdict}
 use Rattle.flow_design.specs.declared.report.Verdict.TheVariants.{Done, Deadlock, Cycles, Ops}
@@ -13,19 +13,23 @@ use Rattle.least_depths.specs.declared.sizing.Sizes.{Sizes}
 abbrev pub sizes_of : Lowered → Sizes
 sizes_of x = record { verdict = verdict x.plan; depths = x.plan.depths; tries = x.tries }
 
--- the depths of all FIFOs, lowered where the plan is done
-abbrev pub sized_by : Plan → Verdict → Sizes
-sized_by p (Done clock) = sizes_of (lowered p clock (length p.design.channels))
-sized_by p (Deadlock clock) = sizes_of (untouched p)
-sized_by p (Cycles clock) = sizes_of (untouched p)
-sized_by p (Ops clock) = sizes_of (untouched p)
+-- the depths of all FIFOs, lowered where the plan is done, with an end at most so many clocks later
+abbrev pub sized_by : ℕ → Plan → Verdict → Sizes
+sized_by slack p (Done clock) = sizes_of (lowered p (clock + slack) (length p.design.channels))
+sized_by slack p (Deadlock clock) = sizes_of (untouched p)
+sized_by slack p (Cycles clock) = sizes_of (untouched p)
+sized_by slack p (Ops clock) = sizes_of (untouched p)
 
-abbrev pub sized : Plan → Sizes
-sized p = sized_by p (verdict p)
+abbrev pub sized : ℕ → Plan → Sizes
+sized slack p = sized_by slack p (verdict p)
 
 -- from the advised depths on
-unfoldable pub sizes : Plan → Sizes
-sizes p = sized (with_depths p (advised p))
+unfoldable pub sizes : ℕ → Plan → Sizes
+sizes slack p = sized slack (with_depths p (advised p))
+
+-- no more clocks than this are to be lost: 10^15
+abbrev pub most_slack : ℕ
+most_slack = 10 ^ 15
 
 -- how many plans are simulated for these sizes from the beginning, where no operation is a query: one for the advised depths, and where
 -- that one is done, one more before depths are tried
@@ -37,13 +41,13 @@ first_runs (Ops clock) = 1
 
 -- ---- what they are
 
--- an end in the same clock or before, where the first is an end
-abbrev pub IsNoLater : Verdict → Verdict → Type 0
-IsNoLater (Done clock) found = IsDoneBy clock found
-IsNoLater (Deadlock clock) found = ⊤
-IsNoLater (Cycles clock) found = ⊤
-IsNoLater (Ops clock) found = ⊤
+-- an end at most so many clocks later, where the first is an end
+abbrev pub IsNoLater : ℕ → Verdict → Verdict → Type 0
+IsNoLater slack (Done clock) found = IsDoneBy (clock + slack) found
+IsNoLater slack (Deadlock clock) found = ⊤
+IsNoLater slack (Cycles clock) found = ⊤
+IsNoLater slack (Ops clock) found = ⊤
 
--- if they are done, no lower depths are done as early
-abbrev pub IsLeast : Plan → Verdict → List ℕ → Type 0
-IsLeast p found depths = (clock : ℕ) → found ≡ Done clock → AreLeast p clock depths
+-- where the first is an end, no lower depths are done by so many clocks after it
+abbrev pub IsLeast : Plan → ℕ → Verdict → List ℕ → Type 0
+IsLeast p slack first depths = (clock : ℕ) → first ≡ Done clock → AreLeast p (clock + slack) depths

@@ -6,5 +6,7 @@ use Rattle.depth_advice.specs.DepthLines.{depth_lines}
 use Rattle.least_depths.specs.Least.{sizes}
 
 -- `size`, the verdict, and `depth NAME D` for each FIFO in order of declaration
-unfoldable pub size_text : Plan → List ℕ
-size_text p = text_of_lines ((codes "size" ∷ []) ∷ verdict_tokens (sizes p).verdict ∷ depth_lines p.design.channels (sizes p).depths)
+unfoldable pub size_text : ℕ → Plan → List ℕ
+size_text slack p =
+    text_of_lines
+    ((codes "size" ∷ []) ∷ verdict_tokens (sizes slack p).verdict ∷ depth_lines p.design.channels (sizes slack p).depths)

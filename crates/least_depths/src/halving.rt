@@ -1,11 +1,15 @@
 //! Depths lowered in a session of edits.
-ghost use Rattle.std.specs.Prelude.{◌≡◌, ◌+◌, ◌<◌, ◌≤◌, true, length, IfOk, OnOk};
+ghost use Rattle.std.specs.Prelude.{◌≡◌, ◌+◌, ◌<◌, ◌≤◌, true, false, length, IsSome, IfOk, OnOk};
 ghost use Rattle.flow_design.specs.declared.limits.TheConstants.{FIFO_DEPTH};
 ghost use Rattle.flow_design.specs.Plans.{EditFits, is_fifo, kind_at, with_depth};
 ghost use Rattle.flow_design.specs.StaticRules.{FitsEngine};
 ghost use Rattle.depth_order.specs.Depths.{AsksNothing};
+ghost use Rattle.depth_bounds.specs.Late.{IsLateBelow};
 ghost use Rattle.least_depths.specs.Lowering.{HasDepth, is_done_by, is_in_time, least_for, lowered};
+ghost use Rattle.least_depths.specs.Known.{AreKnown, IsAlike};
 
+use crate::bounds::late_below;
+use depth_bounds::Latest;
 use depth_session::{DepthSession, Runner};
 use flow_design::{Edit, Verdict};
 use flow_word::OutOfMemory;
@@ -14,20 +18,23 @@ use std::sync::Wait;
 use std::thread::Threads;
 
 /// Lowers the depth of each FIFO in turn, in order of declaration, to what halving finds with an end by this clock. How many depths
-/// were tried.
+/// halving tries.
 ///
-/// The runner is called once at most for each depth that is tried and for each channel. An error leaves the session with some of the
-/// depths.
+/// The plan is edited to those depths alone of which it is not known whether they are in time. The latest clocks are those of the plan
+/// with its depths before. The runner is called once at most for each depth that halving tries and for each channel. An error leaves the
+/// session with some of the depths.
 pub(crate) fn lower_all<R: Threads + Wait + Sync, U: Runner>(
     rt: &R,
     alloc: Global,
     session: &mut DepthSession,
+    latest: &Option<Latest>,
     clock: u64,
     runner: &mut U,
 ) -> Result<u64, OutOfMemory>
     requires live { session.old.live ≡ true }
     requires few { session.old.count.runs ≤ 1 }
     requires fits { FitsEngine session.old.plan }
+    requires latest { IsSome latest.now → AsksNothing session.old.plan }
     ensures live { OnOk result (session.new.live ≡ true) }
     ensures plan { OnOk result (session.new.plan ≡ (lowered session.old.plan clock (length session.old.plan.design.channels)).plan) }
     ensures tries { IfOk result (λ tries. tries ≡ (lowered session.old.plan clock (length session.old.plan.design.channels)).tries) }
@@ -39,7 +46,11 @@ pub(crate) fn lower_all<R: Threads + Wait + Sync, U: Runner>(
     let mut tries = 0;
     for channel in 0..channels {
         if is_fifo(session, channel) {
-            tries += lower(rt, alloc, session, channel as u32, clock, runner)?;
+            let target = Target {
+                channel: channel as u32,
+                clock,
+            };
+            tries += lower(rt, alloc, session, &target, latest, runner)?;
         }
     }
     Ok(tries)
@@ -55,35 +66,61 @@ fn is_fifo(session: &DepthSession, channel: u64) -> bool
         .is_fifo()
 }
 
-/// Lowers the depth of one FIFO to what halving finds. How many depths were tried.
+/// A FIFO that is to be lowered with an end by a clock.
+#[derive(Clone, Copy)]
+pub(crate) struct Target {
+    pub(crate) channel: u32,
+    pub(crate) clock: u64,
+}
+
+/// What is known of the depths of a FIFO that is to be lowered with an end by a clock.
+#[derive(Clone, Copy)]
+pub(crate) struct Known {
+    pub(crate) clock: u64,
+    /// With a depth below this one the plan is too late.
+    pub(crate) late_below: u64,
+    /// With a depth from this one on, but below the one that stood at first, it is in time.
+    pub(crate) timely_from: u64,
+}
+
+/// Lowers the depth of one FIFO to what halving finds. How many depths halving tries.
 ///
-/// An error leaves the session with some depth for that FIFO.
+/// The latest clocks may be those of the plan with deeper FIFOs. An error leaves the session with some depth for that FIFO.
 fn lower<R: Threads + Wait + Sync, U: Runner>(
     rt: &R,
     alloc: Global,
     session: &mut DepthSession,
-    channel: u32,
-    clock: u64,
+    target: &Target,
+    latest: &Option<Latest>,
     runner: &mut U,
 ) -> Result<u64, OutOfMemory>
     requires live { session.old.live ≡ true }
-    requires runs { session.old.count.runs + FIFO_DEPTH < u64.MAX }
-    requires depth { HasDepth session.old.plan channel }
+    requires runs { session.old.count.runs + FIFO_DEPTH + 1 < u64.MAX }
+    requires fits { FitsEngine session.old.plan }
+    requires depth { HasDepth session.old.plan target.now.channel }
+    requires latest { IsSome latest.now → AsksNothing session.old.plan }
     ensures live { OnOk result (session.new.live ≡ true) }
-    ensures plan { OnOk result (session.new.plan ≡ with_depth session.old.plan channel (least_for session.old.plan clock channel).number) }
-    ensures tries { IfOk result (λ tries. tries ≡ (least_for session.old.plan clock channel).tries) }
+    ensures plan { OnOk result (session.new.plan ≡ with_depth session.old.plan target.now.channel
+        (least_for session.old.plan target.now.clock target.now.channel).number) }
+    ensures tries { IfOk result (λ tries. tries ≡ (least_for session.old.plan target.now.clock target.now.channel).tries) }
     ensures few { IfOk result (λ tries. tries < FIFO_DEPTH) }
-    ensures runs { OnOk result (session.new.count.runs ≤ session.old.count.runs + FIFO_DEPTH) }
-    ensures made { U.made runner.new ≤ U.made runner.old + (least_for session.old.plan clock channel).tries + 1 }
+    ensures runs { OnOk result (session.new.count.runs ≤ session.old.count.runs + FIFO_DEPTH + 1) }
+    ensures made { U.made runner.new
+        ≤ U.made runner.old + (least_for session.old.plan target.now.clock target.now.channel).tries + 1 }
     ensures quiet { AsksNothing session.old.plan → U.made runner.new ≡ U.made runner.old }
 {
     let mut least = 1;
-    let mut most = session.plan().depths.as_slice()[channel as usize];
+    let mut most = session.plan().depths.as_slice()[target.channel as usize];
     let mut tries = 0;
+    let late_below = late_below(alloc, session, latest, target);
+    let known = try_bound(rt, alloc, session, target, late_below, runner)?;
     while least < most {
         let depth = (least + most) / 2;
-        let edit = Edit { channel, depth };
-        if is_in_time(rt, alloc, session, &edit, clock, runner)? {
+        let edit = Edit {
+            channel: target.channel,
+            depth,
+        };
+        if is_timely(rt, alloc, session, &edit, &known, runner)? {
             most = depth;
         } else {
             least = depth + 1;
@@ -91,11 +128,96 @@ fn lower<R: Threads + Wait + Sync, U: Runner>(
         tries += 1;
     }
     let edit = Edit {
-        channel,
+        channel: target.channel,
         depth: least,
     };
     session.edit(rt, alloc, &edit, runner)?;
     Ok(tries)
+}
+
+/// Tries the least depth of a FIFO that is not known to be too late, where something is known.
+///
+/// An error leaves the session with some depth for that FIFO.
+fn try_bound<R: Threads + Wait + Sync, U: Runner>(
+    rt: &R,
+    alloc: Global,
+    session: &mut DepthSession,
+    target: &Target,
+    late_below: u64,
+    runner: &mut U,
+) -> Result<Known, OutOfMemory>
+    requires live { session.old.live ≡ true }
+    requires runs { session.old.count.runs < u64.MAX }
+    requires fits { FitsEngine session.old.plan }
+    requires depth { HasDepth session.old.plan target.now.channel }
+    requires late { IsLateBelow session.old.plan target.now.clock target.now.channel late_below }
+    requires quiet { 1 < late_below → AsksNothing session.old.plan }
+    ensures live { OnOk result (session.new.live ≡ true) }
+    ensures alike { OnOk result (IsAlike session.old.plan target.now.channel session.new.plan) }
+    ensures runs { OnOk result (session.new.count.runs ≤ session.old.count.runs + 1) }
+    ensures clock { IfOk result (λ known. known.clock ≡ target.now.clock) }
+    ensures known { IfOk result (λ known. AreKnown session.old.plan target.now.channel known) }
+    ensures quiet { U.made runner.new ≡ U.made runner.old }
+{
+    let stands = session.plan().depths.as_slice()[target.channel as usize];
+    if late_below <= 1 || late_below >= stands {
+        return Ok(Known {
+            clock: target.clock,
+            late_below,
+            timely_from: stands,
+        });
+    }
+    let edit = Edit {
+        channel: target.channel,
+        depth: late_below,
+    };
+    if is_in_time(rt, alloc, session, &edit, target.clock, runner)? {
+        return Ok(Known {
+            clock: target.clock,
+            late_below,
+            timely_from: late_below,
+        });
+    }
+    Ok(Known {
+        clock: target.clock,
+        late_below: late_below + 1,
+        timely_from: stands,
+    })
+}
+
+/// Whether the plan is done in time with another depth: by what is known of that depth, and else by the edit.
+///
+/// An error leaves the plan edited.
+fn is_timely<R: Threads + Wait + Sync, U: Runner>(
+    rt: &R,
+    alloc: Global,
+    session: &mut DepthSession,
+    edit: &Edit,
+    known: &Known,
+    runner: &mut U,
+) -> Result<bool, OutOfMemory>
+    requires live { session.old.live ≡ true }
+    requires runs { session.old.count.runs < u64.MAX }
+    requires fits { EditFits session.old.plan edit.now }
+    requires late { edit.now.depth < known.now.late_below
+        → is_in_time session.old.plan known.now.clock edit.now.channel edit.now.depth ≡ false }
+    requires timely { known.now.timely_from ≤ edit.now.depth
+        → is_in_time session.old.plan known.now.clock edit.now.channel edit.now.depth ≡ true }
+    ensures live { OnOk result (session.new.live ≡ true) }
+    ensures alike { OnOk result (IsAlike session.old.plan edit.now.channel session.new.plan) }
+    ensures runs { OnOk result (session.new.count.runs ≤ session.old.count.runs + 1) }
+    ensures in_time { IfOk result (λ timely. timely
+        ≡ is_in_time session.old.plan known.now.clock edit.now.channel edit.now.depth) }
+    ensures made { U.made runner.new ≤ U.made runner.old + 1 }
+    ensures quiet { AsksNothing session.old.plan → U.made runner.new ≡ U.made runner.old }
+{
+    if known.timely_from <= edit.depth {
+        return Ok(true);
+    }
+    if edit.depth < known.late_below {
+        return Ok(false);
+    }
+    is_in_time(rt, alloc, session, edit, known.clock, runner)
 }
 
 /// Edits a depth. Whether the plan is done in this clock or before then.

@@ -1,7 +1,6 @@
 //! The laws of lowered depths, for any plan `p` that the engine takes.
 ghost use Rattle.std.specs.Prelude.{◌≡◌, ℕ, ◌≤◌, length};
 ghost use Rattle.flow_design.specs.declared.plan.Plan.{Plan};
-ghost use Rattle.flow_design.specs.declared.report.Verdict.TheVariants.{Done};
 ghost use Rattle.flow_design.specs.StaticRules.{FitsEngine};
 ghost use Rattle.lockstep_defs.specs.Verdict.{verdict};
 ghost use Rattle.depth_order.specs.Depths.{with_depths, AreDepths, AreDeeper, AsksNothing, IsDoneBy};
@@ -9,13 +8,13 @@ ghost use Rattle.depth_advice.specs.Advice.{advised};
 ghost use Rattle.least_depths.specs.Least.{sizes, IsNoLater, IsLeast};
 ghost use Rattle.least_depths.specs.Lowering.{lowered, AreLeast, all_bits};
 
-/// The lowered depths are within the language's limits, and none is greater than before. A plan that is done stays done, in the same
-/// clock or before. Where no operation is a query, no lower depths are done by that clock. Of each FIFO no more depths are tried than
+/// The lowered depths are within the language's limits, and none is greater than before. A plan that is done by the clock stays done by
+/// then. Where no operation is a query, no lower depths are done by that clock. Of each FIFO no more depths are tried than
 /// its depth has binary digits.
 pub fn lowered_depths_are_least()
     ensures depths { (p : Plan) → FitsEngine p → (clock n : ℕ) → AreDepths p (lowered p clock n).plan.depths }
     ensures lower { (p : Plan) → FitsEngine p → (clock n : ℕ) → AreDeeper p (lowered p clock n).plan.depths p.depths }
-    ensures in_time { (p : Plan) → FitsEngine p → (clock n : ℕ) → verdict p ≡ Done clock
+    ensures in_time { (p : Plan) → FitsEngine p → (clock n : ℕ) → IsDoneBy clock (verdict p)
         → IsDoneBy clock (verdict (lowered p clock n).plan) }
     ensures least { (p : Plan) → FitsEngine p → AsksNothing p → (clock : ℕ)
         → AreLeast p clock (lowered p clock (length p.design.channels)).plan.depths }
@@ -23,15 +22,17 @@ pub fn lowered_depths_are_least()
 {}
 
 /// The sizes of any plan are within the language's limits and no greater than the advised depths. If the plan with the advised depths
-/// is done, it is done with the sizes in that clock or before. Where no operation is a query, its verdict with the sizes is that with
-/// the advised depths, which no depths make earlier; and if that is an end, no lower depths end as early, so that no place is left
-/// over. No more depths are tried than the advised depths have binary digits.
+/// is done, it is done with the sizes at most so many clocks later. Where no operation is a query, no depths are done earlier than the
+/// advised ones; with no clock to spare the verdict with the sizes is theirs; and no lower depths are done at most so many clocks later,
+/// so that no place is left over. No more depths are tried than the advised depths have binary digits.
 pub fn sizes_lose_nothing()
-    ensures within { (p : Plan) → FitsEngine p → AreDepths p (sizes p).depths }
-    ensures lower { (p : Plan) → FitsEngine p → AreDeeper p (sizes p).depths (advised p) }
-    ensures told { (p : Plan) → FitsEngine p → (sizes p).verdict ≡ verdict (with_depths p (sizes p).depths) }
-    ensures in_time { (p : Plan) → FitsEngine p → IsNoLater (verdict (with_depths p (advised p))) (sizes p).verdict }
-    ensures kept { (p : Plan) → FitsEngine p → AsksNothing p → (sizes p).verdict ≡ verdict (with_depths p (advised p)) }
-    ensures least { (p : Plan) → FitsEngine p → AsksNothing p → IsLeast p (sizes p).verdict (sizes p).depths }
-    ensures few { (p : Plan) → FitsEngine p → (sizes p).tries ≤ all_bits (advised p) }
+    ensures within { (slack : ℕ) (p : Plan) → FitsEngine p → AreDepths p (sizes slack p).depths }
+    ensures lower { (slack : ℕ) (p : Plan) → FitsEngine p → AreDeeper p (sizes slack p).depths (advised p) }
+    ensures told { (slack : ℕ) (p : Plan) → FitsEngine p → (sizes slack p).verdict ≡ verdict (with_depths p (sizes slack p).depths) }
+    ensures in_time { (slack : ℕ) (p : Plan) → FitsEngine p
+        → IsNoLater slack (verdict (with_depths p (advised p))) (sizes slack p).verdict }
+    ensures kept { (p : Plan) → FitsEngine p → AsksNothing p → (sizes 0 p).verdict ≡ verdict (with_depths p (advised p)) }
+    ensures least { (slack : ℕ) (p : Plan) → FitsEngine p → AsksNothing p
+        → IsLeast p slack (verdict (with_depths p (advised p))) (sizes slack p).depths }
+    ensures few { (slack : ℕ) (p : Plan) → FitsEngine p → (sizes slack p).tries ≤ all_bits (advised p) }
 {}

@@ -1,6 +1,7 @@
 //! The smallest FIFOs that lose nothing: the advised depths lowered, FIFO after FIFO, with no later end.
 #![tactic(auto)]
 
+mod bounds;
 mod halving;
 mod laws;
 mod size_text;

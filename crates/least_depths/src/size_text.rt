@@ -2,7 +2,7 @@
 ghost use Rattle.std.specs.Prelude.{◌≡◌, ◌+◌, ◌≤◌, length, IfOk, OnOk};
 ghost use Rattle.flow_design.specs.StaticRules.{FitsEngine};
 ghost use Rattle.depth_order.specs.Depths.{AsksNothing};
-ghost use Rattle.least_depths.specs.Least.{sizes, first_runs};
+ghost use Rattle.least_depths.specs.Least.{sizes, first_runs, most_slack};
 ghost use Rattle.least_depths.specs.SizeText.{size_text};
 
 use crate::sizing::find_sizes;
@@ -37,7 +37,7 @@ impl SizeText {
     }
 }
 
-/// The text of the smallest FIFOs that lose nothing, which are those of `find_sizes`.
+/// The text of the smallest FIFOs that lose no more than so many clocks, which are those of `find_sizes`.
 ///
 /// It calls the runner as often as `find_sizes`. It takes memory for what that does and for the text. An error leaves nothing.
 #[tactic(auto, unfolding(crate::specs::SizeText::size_text))]
@@ -45,16 +45,18 @@ pub fn tell_sizes<R: Threads + Wait + Sync, U: Runner>(
     rt: &R,
     alloc: Global,
     plan: &Plan,
+    slack: u64,
     runner: &mut U,
 ) -> Result<SizeText, OutOfMemory>
-    requires { FitsEngine plan.now }
-    ensures text { IfOk result (λ told. told.text ≡ size_text plan.now) }
-    ensures verdict { IfOk result (λ told. told.verdict ≡ (sizes plan.now).verdict) }
-    ensures made { U.made runner.new ≤ U.made runner.old + 2 + (sizes plan.now).tries + length plan.now.design.channels }
+    requires fits { FitsEngine plan.now }
+    requires slack { slack ≤ most_slack }
+    ensures text { IfOk result (λ told. told.text ≡ size_text slack plan.now) }
+    ensures verdict { IfOk result (λ told. told.verdict ≡ (sizes slack plan.now).verdict) }
+    ensures made { U.made runner.new ≤ U.made runner.old + 2 + (sizes slack plan.now).tries + length plan.now.design.channels }
     ensures quiet { AsksNothing plan.now → U.made runner.old + 2 ≤ u64.MAX
-        → OnOk result (U.made runner.new ≡ U.made runner.old + first_runs (sizes plan.now).verdict) }
+        → OnOk result (U.made runner.new ≡ U.made runner.old + first_runs (sizes slack plan.now).verdict) }
 {
-    let found = find_sizes(rt, alloc, plan, runner)?;
+    let found = find_sizes(rt, alloc, plan, slack, runner)?;
     let mut text = List::from_slice(alloc, b"size\n")?;
     print_verdict(&mut text, found.verdict)?;
     print_depths(

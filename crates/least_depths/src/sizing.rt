@@ -3,8 +3,9 @@ ghost use Rattle.std.specs.Prelude.{◌≡◌, ◌+◌, ◌<◌, ◌≤◌, leng
 ghost use Rattle.flow_design.specs.StaticRules.{FitsEngine};
 ghost use Rattle.depth_order.specs.Depths.{with_depths, AsksNothing};
 ghost use Rattle.least_depths.specs.Lowering.{lowered};
-ghost use Rattle.least_depths.specs.Least.{sizes_of, sizes, first_runs};
+ghost use Rattle.least_depths.specs.Least.{sizes_of, sizes, first_runs, most_slack};
 
+use crate::bounds::latest_clocks;
 use crate::halving::lower_all;
 use depth_advice::advise;
 use depth_session::{DepthSession, Runner};
@@ -34,8 +35,9 @@ impl Drop for Sizes {
     }
 }
 
-/// The smallest FIFOs that lose nothing. Where the plan with the advised depths is done, its FIFOs are lowered one after the other, in
-/// order of declaration, each to what halving finds between 1 and its advised depth with an end by that clock. Else the depths are the
+/// The smallest FIFOs that lose no more than so many clocks. Where the plan with the advised depths is done, its FIFOs are lowered one
+/// after the other, in order of declaration, each to what halving finds between 1 and its advised depth with an end by that clock and the
+/// slack. Else the depths are the
 /// advised ones.
 ///
 /// `sizes_lose_nothing` says what that means. It calls the runner twice at most, and once more at most for each depth that is tried and
@@ -46,20 +48,22 @@ pub fn find_sizes<R: Threads + Wait + Sync, U: Runner>(
     rt: &R,
     alloc: Global,
     plan: &Plan,
+    slack: u64,
     runner: &mut U,
 ) -> Result<Sizes, OutOfMemory>
-    requires { FitsEngine plan.now }
-    ensures found { IfOk result (λ found. found ≡ sizes plan.now) }
-    ensures made { U.made runner.new ≤ U.made runner.old + 2 + (sizes plan.now).tries + length plan.now.design.channels }
+    requires fits { FitsEngine plan.now }
+    requires slack { slack ≤ most_slack }
+    ensures found { IfOk result (λ found. found ≡ sizes slack plan.now) }
+    ensures made { U.made runner.new ≤ U.made runner.old + 2 + (sizes slack plan.now).tries + length plan.now.design.channels }
     ensures quiet { AsksNothing plan.now → U.made runner.old + 2 ≤ u64.MAX
-        → OnOk result (U.made runner.new ≡ U.made runner.old + first_runs (sizes plan.now).verdict) }
+        → OnOk result (U.made runner.new ≡ U.made runner.old + first_runs (sizes slack plan.now).verdict) }
 {
     let own = copy_plan(alloc, plan)?;
     let advice = advise(rt, alloc, own, runner)?;
     let verdict = advice.report.verdict;
     let depths = advice.into_depths();
     match verdict {
-        Verdict::Done(clock) => lower_depths(rt, alloc, plan, depths, clock, runner),
+        Verdict::Done(clock) => lower_depths(rt, alloc, plan, depths, clock + slack, runner),
         Verdict::Deadlock(_) | Verdict::Cycles(_) | Verdict::Ops(_) => Ok(Sizes {
             verdict,
             depths,
@@ -87,7 +91,8 @@ fn lower_depths<R: Threads + Wait + Sync, U: Runner>(
     let mut own = copy_plan(alloc, plan)?;
     own.depths = depths;
     let mut session = DepthSession::new(rt, alloc, own, runner)?;
-    let tries = lower_all(rt, alloc, &mut session, clock, runner)?;
+    let latest = latest_clocks(alloc, &session, clock);
+    let tries = lower_all(rt, alloc, &mut session, &latest, clock, runner)?;
     Ok(Sizes {
         verdict: session.verdict(),
         depths: List::from_slice(alloc, session.plan().depths.as_slice())?,

@@ -10,6 +10,11 @@ const NOTHING: Options = Options {
     ops: None,
 };
 
+/// `size` with so many clocks to spare.
+fn size(slack: u64, options: Options) -> Command {
+    Command::Of(Task::Size { slack, options })
+}
+
 /// Reads the words of a line, which stand between its single spaces.
 fn read(alloc: Global, line: &str) -> Result<Result<Command, WordFault>, Fail> {
     let mut words = Vec::new(alloc);
@@ -67,7 +72,12 @@ fn accepted_and_refused(rt: HostRuntime) -> Result<(), Fail> {
             Command::Of(Task::Show(View::Path, all)),
         ),
         ("trace", Command::Of(Task::Show(View::Trace, NOTHING))),
-        ("size --cycles 3", Command::Of(Task::Size(three))),
+        ("size --cycles 3", size(0, three)),
+        ("size --slack 0 --cycles=3", size(0, three)),
+        (
+            "size --cycles 3 --slack=1000000000000000",
+            size(1_000_000_000_000_000, three),
+        ),
         ("order", Command::Of(Task::Order)),
         (
             "sweep 01 --cycles=3 64",
@@ -128,6 +138,14 @@ fn accepted_and_refused(rt: HostRuntime) -> Result<(), Fail> {
         "check --events",
         "log --events",
         "size 3",
+        "size --slack",
+        "size --slack=-1",
+        "size --slack 1000000000000001",
+        "size --slack 1 --slack=1",
+        "size --slack 1 2",
+        "run --slack 0",
+        "sweep 1 2 --slack 0",
+        "check --slack 0",
         "gen 0",
         "gen 0 0",
         "gen 1 65",

@@ -117,6 +117,6 @@ swept lo hi p =
 
 -- ---- `size`
 
--- the smallest FIFOs that lose nothing, with the status of the verdict with them
-unfoldable pub sized : Plan → Answer
-sized p = record { text = size_text p; status = status_of (sizes p).verdict }
+-- the smallest FIFOs that lose no more than so many clocks, with the status of the verdict with them
+unfoldable pub sized : ℕ → Plan → Answer
+sized slack p = record { text = size_text slack p; status = status_of (sizes slack p).verdict }

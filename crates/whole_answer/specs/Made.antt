@@ -98,7 +98,7 @@ made (Advise o) statements = advice (with_limits o (plan_of statements))
 made (Show view o) statements = shown view o (with_limits o (plan_of statements))
 made Order statements = ordered (plan_of statements).design
 made (Sweep lo hi o) statements = swept lo hi (with_limits o (plan_of statements))
-made (Size o) statements = sized (with_limits o (plan_of statements))
+made (Size slack o) statements = sized slack (with_limits o (plan_of statements))
 
 -- the summary of the session of this seed
 abbrev pub generated : ℕ → ℕ → Answer

@@ -58,7 +58,9 @@ pub(crate) fn make<R: Threads + Wait + Sync, G: Gate + Sync>(
         Task::Sweep { lo, hi, options } => {
             sweep_depths(rt, alloc, *lo, *hi, limited(checked, options))
         }
-        Task::Size(options) => size_fifos(rt, alloc, &limited(checked, options), gate),
+        Task::Size { slack, options } => {
+            size_fifos(rt, alloc, &limited(checked, options), *slack, gate)
+        }
     }
 }
 

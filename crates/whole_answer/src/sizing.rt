@@ -1,6 +1,7 @@
 //! What `size` answers.
-ghost use Rattle.std.specs.Prelude.{◌≡◌, IfOk};
+ghost use Rattle.std.specs.Prelude.{◌≡◌, ◌≤◌, IfOk};
 ghost use Rattle.flow_design.specs.StaticRules.{FitsEngine};
+ghost use Rattle.least_depths.specs.Least.{most_slack};
 ghost use Rattle.whole_answer.specs.Answer.{IsAnswer};
 ghost use Rattle.whole_answer.specs.Further.{sized};
 
@@ -15,19 +16,21 @@ use std::alloc::Global;
 use std::sync::Wait;
 use std::thread::Threads;
 
-/// The smallest FIFOs of a plan that lose nothing, and the status of the verdict with them.
+/// The smallest FIFOs of a plan that lose no more than so many clocks, and the status of the verdict with them.
 #[tactic(auto, unfolding(crate::specs::Further::sized))]
 pub(crate) fn size_fifos<R: Threads + Wait + Sync, G: Gate + Sync>(
     rt: &R,
     alloc: Global,
     plan: &Plan,
+    slack: u64,
     gate: &G,
 ) -> Result<Answer, OutOfMemory>
-    requires { FitsEngine plan.now }
-    ensures sized { IfOk result (λ whole. whole ≡ sized plan.now) }
+    requires fits { FitsEngine plan.now }
+    requires slack { slack ≤ most_slack }
+    ensures sized { IfOk result (λ whole. whole ≡ sized slack plan.now) }
     ensures status { IfOk result (λ whole. IsAnswer whole.status) }
 {
-    let told = tell_sizes(rt, alloc, plan, &mut ThreadRunner::new(gate))?;
+    let told = tell_sizes(rt, alloc, plan, slack, &mut ThreadRunner::new(gate))?;
     let status = Status::of(told.verdict);
     Ok(Answer {
         text: told.into_text(),

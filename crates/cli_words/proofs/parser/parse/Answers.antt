@@ -13,6 +13,7 @@ returns-in-Ok c =
     (by_flag (one_text (found_of c.in-Ok.matches)
     (codes "polls")) c.get_flag-in-Ok.result c.get_flag-in-Ok.ensures.value c.get_flag-in-Ok.ensures.other)
     c.get_str.ensures c.get_str-in-Ok.ensures c.get_str-in-Ok-2.ensures c.get_str-in-Ok-3.ensures c.get_str-in-Ok-4.ensures
+    c.get_str-in-Ok-5.ensures
 
 pub returns-in-Err : goal.returns-in-Err
 returns-in-Err c =

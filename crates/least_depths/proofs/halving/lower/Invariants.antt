@@ -7,10 +7,10 @@ abbrev pub invariant-loop-least : goal.invariant-loop-least
 invariant-loop-least g l =
     record {
       live : l.session.live ≡ true;
-      runs : l.session.count.runs ≤ l.fn.session.count.runs + l.tries;
+      runs : l.session.count.runs ≤ l.fn.session.count.runs + 1 + l.tries;
       made : g.U.Runner.made l.runner ≤ g.U.Runner.made l.fn.runner + l.tries;
       quiet : AsksNothing l.fn.session.plan → (g.U.Runner.made l.runner ≡ g.U.Runner.made l.fn.runner) × AsksNothing l.session.plan;
-      halving : IsHalving l.fn.session.plan l.channel l.clock l.session.plan l.least l.most l.tries;
+      halving : IsHalving l.fn.session.plan l.target.channel l.target.clock l.session.plan l.least l.most l.tries;
     }
 
 abbrev pub decreases-loop-least : goal.decreases-loop-least

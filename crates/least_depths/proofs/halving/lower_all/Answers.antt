@@ -5,6 +5,7 @@ use Rattle.depth_session.specs.Sessions.{Session}
 use Rattle.depth_order.specs.Depths.{AsksNothing}
 use Rattle.least_depths.specs.Lowering.{Lowered, least_for, lowered}
 use Rattle.least_depths.proofs.Channels.{same_channels, next_depth, fifo_plan, fifo_tries, tries_within, other_lowered}
+use Rattle.least_depths.proofs.Known.{lowered_fits, quiet_lowered}
 use Rattle.least_depths.proofs.halving.lower_all.Goals as goal
 use Rattle.least_depths.proofs.halving.lower_all.Goals.{then-is_fifo+in_ok-tries, else-is_fifo}
 
@@ -33,6 +34,14 @@ lower-requires-clause-depth g c = λ κs outlives. next_depth c.args.session.now
     (let count = c.len-channels.ensures ∙ ap (λ (p : Plan). length p.design.channels) c.plan.ensures in
     omega (arith, c.loop-channel-test.true)) (sym c.is_fifo.ensures ∙ c.if-is_fifo.true)
 
+pub lower-requires-clause-fits : goal.lower-requires-clause-fits
+lower-requires-clause-fits g c = λ κs outlives. lowered_fits c.args.session.now.plan c.requires.fits c.args.clock c.loop-channel.channel
+    c.loop-channel.session.plan c.loop-channel.invariant.plan
+
+pub lower-requires-clause-latest : goal.lower-requires-clause-latest
+lower-requires-clause-latest g c = λ κs outlives some. quiet_lowered c.args.session.now.plan c.requires.fits c.args.clock
+    c.loop-channel.channel c.loop-channel.session.plan c.loop-channel.invariant.plan (c.requires.latest some)
+
 pub loop-channel-preserved : goal.loop-channel-preserved
 loop-channel-preserved g c =
     let p = c.args.session.now.plan in
@@ -48,7 +57,7 @@ loop-channel-preserved g c =
           let runs = ok.runs in
           record {
             live = ap (λ (s : Session). s.live) w.session-is ∙ ok.live;
-            runs = subst (λ (s : Session). s.count.runs ≤ 1 + (n + 1) * FIFO_DEPTH) (sym w.session-is) (omega (arith, x.runs));
+            runs = subst (λ (s : Session). s.count.runs ≤ 1 + (n + 1) * (FIFO_DEPTH + 1)) (sym w.session-is) (omega (arith, x.runs));
             few = subst (λ (t : ℕ). t ≤ (n + 1) * FIFO_DEPTH) (sym w.tries-is) (omega (arith, x.few));
             made =
                 let runner = ap g.U.Runner.made w.runner-is in
@@ -71,7 +80,7 @@ loop-channel-preserved g c =
           let same = other_lowered p c.requires.fits clock n q x.plan other in
           record {
             live = ap (λ (s : Session). s.live) w.session-is ∙ x.live;
-            runs = subst (λ (s : Session). s.count.runs ≤ 1 + (n + 1) * FIFO_DEPTH) (sym w.session-is) (omega (arith, x.runs));
+            runs = subst (λ (s : Session). s.count.runs ≤ 1 + (n + 1) * (FIFO_DEPTH + 1)) (sym w.session-is) (omega (arith, x.runs));
             few = subst (λ (t : ℕ). t ≤ (n + 1) * FIFO_DEPTH) (sym w.tries-is) (omega (arith, x.few));
             made =
                 let runner = ap g.U.Runner.made w.runner-is in

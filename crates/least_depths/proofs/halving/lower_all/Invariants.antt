@@ -8,7 +8,7 @@ abbrev pub invariant-loop-channel : goal.invariant-loop-channel
 invariant-loop-channel g l =
     record {
       live : l.session.live ≡ true;
-      runs : l.session.count.runs ≤ 1 + l.channel * FIFO_DEPTH;
+      runs : l.session.count.runs ≤ 1 + l.channel * (FIFO_DEPTH + 1);
       few : l.tries ≤ l.channel * FIFO_DEPTH;
       made : g.U.Runner.made l.runner ≤ g.U.Runner.made l.fn.runner + l.tries + l.channel;
       quiet : AsksNothing l.fn.session.plan → (g.U.Runner.made l.runner ≡ g.U.Runner.made l.fn.runner) × AsksNothing l.session.plan;

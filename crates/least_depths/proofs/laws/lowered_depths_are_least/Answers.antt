@@ -1,5 +1,4 @@
-use Rattle.std.proofs.Common.{length, sym, subst, arith}
-use Rattle.depth_order.specs.Depths.{IsDoneBy}
+use Rattle.std.proofs.Common.{length}
 use Rattle.least_depths.specs.Lowering.{lowered}
 use Rattle.least_depths.proofs.Least.{lowered_first, none_lower}
 use Rattle.least_depths.proofs.Few.{few_in_all}
@@ -12,8 +11,7 @@ pub returns-clause-lower : goal.returns-clause-lower
 returns-clause-lower c p h clock n = (lowered_first p h clock n).lower.lower
 
 pub returns-clause-in_time : goal.returns-clause-in_time
-returns-clause-in_time c p h clock n e =
-    (lowered_first p h clock n).done (subst (IsDoneBy clock) (sym e) (omega arith))
+returns-clause-in_time c p h clock n = (lowered_first p h clock n).done
 
 pub returns-clause-least : goal.returns-clause-least
 returns-clause-least c p h none clock =

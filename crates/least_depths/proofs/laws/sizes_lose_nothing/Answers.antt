@@ -5,16 +5,16 @@ use Rattle.least_depths.proofs.Sized.{advised_sized, kept, least}
 use Rattle.least_depths.proofs.laws.sizes_lose_nothing.Goals as goal
 
 pub returns-clause-within : goal.returns-clause-within
-returns-clause-within c p h = same_depths p (advised p) (sizes p).depths (advised_sized p h).depths
+returns-clause-within c slack p h = same_depths p (advised p) (sizes slack p).depths (advised_sized slack p h).depths
 
 pub returns-clause-lower : goal.returns-clause-lower
-returns-clause-lower c p h = (advised_sized p h).lower
+returns-clause-lower c slack p h = (advised_sized slack p h).lower
 
 pub returns-clause-told : goal.returns-clause-told
-returns-clause-told c p h = (advised_sized p h).verdict
+returns-clause-told c slack p h = (advised_sized slack p h).verdict
 
 pub returns-clause-in_time : goal.returns-clause-in_time
-returns-clause-in_time c p h = (advised_sized p h).in_time
+returns-clause-in_time c slack p h = (advised_sized slack p h).in_time
 
 pub returns-clause-kept : goal.returns-clause-kept
 returns-clause-kept c = kept
@@ -23,4 +23,4 @@ pub returns-clause-least : goal.returns-clause-least
 returns-clause-least c = least
 
 pub returns-clause-few : goal.returns-clause-few
-returns-clause-few c p h = (advised_sized p h).few
+returns-clause-few c slack p h = (advised_sized slack p h).few

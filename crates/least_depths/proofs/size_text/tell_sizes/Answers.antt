@@ -8,4 +8,4 @@ pub print_depths-requires : goal.print_depths-requires
 print_depths-requires g c =
     let p = c.args.plan.now in
     ap (λ (ds : List ℕ). length ds) (c.as_slice-2.ensures ∙ ap (λ (s : Sizes). s.depths) c.in_ok-found.ensures.found)
-    ∙ ((advised_sized p c.requires).depths.count ∙ sym (ap (λ (cs : List Channel). length cs) c.as_slice.ensures))
+    ∙ ((advised_sized c.args.slack p c.requires.fits).depths.count ∙ sym (ap (λ (cs : List Channel). length cs) c.as_slice.ensures))

@@ -1,0 +1,72 @@
+-- What a late depth says of the depths that are tried.
+use Rattle.std.proofs.Common.{◌≡◌, ℕ, ◌+◌, ◌<◌, ◌≤◌, true, false, sym, ◌∙◌, subst, arith, inl, inr}
+use Rattle.std.specs.Prelude.{slice_index}
+use Rattle.std.proofs.lemmas.Bool.{cases_Bool, cases_lt}
+use Rattle.flow_design.specs.declared.limits.TheConstants.{FIFO_DEPTH}
+use Rattle.flow_design.specs.declared.plan.Plan.{Plan}
+use Rattle.flow_design.specs.Plans.{with_depth}
+use Rattle.flow_design.specs.StaticRules.{FitsEngine}
+use Rattle.lockstep_defs.specs.Verdict.{verdict}
+use Rattle.depth_order.specs.Depths.{AsksNothing}
+use Rattle.depth_order.proofs.Plans.{depths_fit}
+use Rattle.depth_bounds.specs.Late.{IsLateBelow}
+use Rattle.depth_bounds.proofs.Depths.{own_depths}
+use Rattle.least_depths.specs.Known.{AreKnown}
+use Rattle.least_depths.specs.Lowering.{HasDepth, is_in_time, lowered}
+use Rattle.least_depths.proofs.Depths.{test_done_by}
+use Rattle.least_depths.proofs.Least.{in_time_more, lowered_first}
+
+-- ---- the plan with the first channels lowered
+
+pub lowered_fits : (p : Plan) → FitsEngine p → (clock n : ℕ) (q : Plan) → q ≡ (lowered p clock n).plan → FitsEngine q
+lowered_fits p h clock n q e =
+    let x = (lowered_first p h clock n).lower in
+    subst FitsEngine (sym (e ∙ x.same)) (depths_fit p h (lowered p clock n).plan.depths x.depths)
+
+pub quiet_lowered : (p : Plan) → FitsEngine p → (clock n : ℕ) (q : Plan) → q ≡ (lowered p clock n).plan → AsksNothing p → AsksNothing q
+quiet_lowered p h clock n q e none = subst AsksNothing (sym (e ∙ (lowered_first p h clock n).lower.same)) none
+
+-- ---- the depths of one FIFO
+
+late_known : (p : Plan) (clock f bound d : ℕ) → IsLateBelow p clock f bound → 1 ≤ d → d ≤ FIFO_DEPTH → d < bound
+    → is_in_time p clock f d ≡ false
+late_known p clock f bound d late low high below = elim (cases_Bool (is_in_time p clock f d)) [
+  | inl e ↦ absurd (late d low high below (test_done_by clock (verdict (with_depth p f d)) e))
+  | inr e ↦ e
+]
+
+-- where none is tried
+pub known_untried : (p : Plan) (clock f bound : ℕ) → HasDepth p f → IsLateBelow p clock f bound
+    → AreKnown p f (record { clock = clock; late_below = bound; timely_from = slice_index p.depths f })
+known_untried p clock f bound x late =
+    let most = x.most in
+    record {
+      late = λ d low less below. late_known p clock f bound d late low (omega arith) below;
+      timely = λ d low less from. absurd (omega arith);
+    }
+
+-- where the bound is tried and is in time
+pub known_timely : (p : Plan) → FitsEngine p → AsksNothing p → (clock f bound : ℕ) → HasDepth p f → IsLateBelow p clock f bound
+    → 1 ≤ bound → is_in_time p clock f bound ≡ true
+    → AreKnown p f (record { clock = clock; late_below = bound; timely_from = bound })
+known_timely p h none clock f bound x late low t =
+    let most = x.most in
+    record {
+      late = λ d some less below. late_known p clock f bound d late some (omega arith) below;
+      timely = λ d some less from. in_time_more p h none p.depths (own_depths p h) f x.fifo clock bound d low from (omega arith) t;
+    }
+
+-- and where it is not
+pub known_late : (p : Plan) (clock f bound : ℕ) → HasDepth p f → IsLateBelow p clock f bound → is_in_time p clock f bound ≡ false
+    → AreKnown p f (record { clock = clock; late_below = bound + 1; timely_from = slice_index p.depths f })
+known_late p clock f bound x late t =
+    let most = x.most in
+    record {
+      late = λ d low less below. elim (cases_lt d bound) [
+        | inl lower ↦ late_known p clock f bound d late low (omega arith) lower
+        | inr at ↦
+            let same : d ≡ bound = omega arith in
+            subst (λ (k : ℕ). is_in_time p clock f k ≡ false) (sym same) t
+      ];
+      timely = λ d low less from. absurd (omega arith);
+    }

@@ -1,0 +1,56 @@
+//! Depths below which the plan of a session is known to be too late.
+ghost use Rattle.std.specs.Prelude.{◌≡◌, ◌<◌, true, IsSome};
+ghost use Rattle.flow_design.specs.Plans.{is_fifo, kind_at};
+ghost use Rattle.depth_order.specs.Depths.{AsksNothing};
+ghost use Rattle.depth_bounds.specs.Late.{IsLateBelow};
+
+use crate::halving::Target;
+use depth_bounds::{Latest, asks_nothing, find_latest, late_depth};
+use depth_session::DepthSession;
+use std::alloc::Global;
+
+/// The latest clocks of the steps of a session's plan with an end by a clock. None where an operation is a query, or memory is wanting.
+///
+/// It takes memory for a number of each step.
+pub(crate) fn latest_clocks(alloc: Global, session: &DepthSession, clock: u64) -> Option<Latest>
+    requires { session.now.live ≡ true }
+    ensures { IsSome result → AsksNothing session.now.plan }
+{
+    let core = session.core();
+    if !asks_nothing(core.plan()) {
+        return None;
+    }
+    find_latest(alloc, core.engine(), core.ends(), clock).ok()
+}
+
+/// A depth of a FIFO below which the session's plan is not done by the target's clock. 1 where none is found, or memory is wanting.
+///
+/// It takes memory for a path of steps, and lets it go.
+pub(crate) fn late_below(
+    alloc: Global,
+    session: &DepthSession,
+    latest: &Option<Latest>,
+    target: &Target,
+) -> u64
+    requires live { session.now.live ≡ true }
+    requires quiet { IsSome latest.now → AsksNothing session.now.plan }
+    requires fifo { is_fifo (kind_at session.now.plan target.now.channel) ≡ true }
+    ensures late { IsLateBelow session.now.plan target.now.clock target.now.channel result }
+    ensures quiet { 1 < result → AsksNothing session.now.plan }
+{
+    match latest {
+        Some(latest) => {
+            let core = session.core();
+            let found = late_depth(
+                alloc,
+                core.engine(),
+                core.ends(),
+                target.clock,
+                latest,
+                target.channel,
+            );
+            found.unwrap_or(1)
+        }
+        None => 1,
+    }
+}

@@ -1,6 +1,6 @@
 //! Sources and sinks that fail.
 use crate::asking::{COMMANDS, words_of};
-use sim_io::{MemSink, MemSource};
+use sim_io::{MemSink, MemSource, PIECE};
 use std::process::Abort;
 use std::sync::Wait;
 use std::test::Fail;
@@ -63,5 +63,101 @@ fn a_sink_that_fails(rt: HostRuntime) -> Result<(), Fail> {
     let (status, sink) = answer_bytewise(&rt, &[], &[], &[0], 64)?;
     assert_eq!(rt; sink.held(), b"".as_slice());
     assert_eq!(rt; status, Status::WriteFault);
+    Ok(())
+}
+
+/// A FIFO with one element, and an edit of its depth.
+const EDITED: &[u8] = b"\
+flow 1
+fifo b 8
+module P
+block k 1
+at 0 write b 7
+stop
+module Q
+reg x 8
+block k 1
+at 0 read b x
+stop
+depth b 3
+end
+";
+
+/// What is written of it after so many calls of a sink that takes all that is put, of which the next fails.
+const EDITED_PARTS: [&[u8]; 4] = [
+    b"",
+    b"report 0\nverdict done 2\n",
+    b"report 0\nverdict done 2\nreport 1\nverdict done 2\n",
+    b"report 0\nverdict done 2\nreport 1\nverdict done 2\nruns 1\n",
+];
+
+#[test]
+fn each_report_is_one_write(rt: HostRuntime) -> Result<(), Fail> {
+    let alloc = rt.alloc();
+    for command in COMMANDS {
+        let words = words_of(&rt, command, &[])?;
+        for (call, told) in EDITED_PARTS.iter().enumerate() {
+            let mut source = MemSource::new(alloc, EDITED, 64, &[])?;
+            let mut sink = MemSink::new(alloc, 64, 64, &[call as u64])?;
+            let status = omnisim(
+                &rt,
+                alloc,
+                words.as_slice(),
+                &mut source,
+                &mut sink,
+                &FreeGate,
+            );
+            assert_eq!(rt; sink.held(), *told);
+            assert_eq!(rt; status, Status::WriteFault);
+        }
+    }
+    Ok(())
+}
+
+/// A module that writes 7,000 values. A line of its log has some 150 bytes, since the names are as long as they may be.
+const LONG_LOG: &[u8] = b"\
+flow 1
+sink values_yyyyyyyyyyyyyyyyyyyyyyyyyyyyyyyyyyyyyyyyyyyyyyyyyyyyyyyyy 8
+module writer_mmmmmmmmmmmmmmmmmmmmmmmmmmmmmmmmmmmmmmmmmmmmmmmmmmmmmmmmm
+reg n 16
+reg more 1
+loop l 1 1 while more
+at 0 write values_yyyyyyyyyyyyyyyyyyyyyyyyyyyyyyyyyyyyyyyyyyyyyyyyyyyyyyyyy n
+at 0 set n + n 1
+at 0 set more <u n 6999
+stop
+end
+";
+
+#[test]
+fn a_log_is_written_in_pieces(rt: HostRuntime) -> Result<(), Fail> {
+    let alloc = rt.alloc();
+    let words = words_of(&rt, "log", &[])?;
+    let mut source = MemSource::new(alloc, LONG_LOG, 1024, &[])?;
+    let mut whole = MemSink::new(alloc, 2 << 20, 2 << 20, &[])?;
+    let status = omnisim(
+        &rt,
+        alloc,
+        words.as_slice(),
+        &mut source,
+        &mut whole,
+        &FreeGate,
+    );
+    assert_eq!(rt; status, Status::Done);
+    // the second write fails, and one piece was written: the last line makes it as long as it is
+    let mut source = MemSource::new(alloc, LONG_LOG, 1024, &[])?;
+    let mut sink = MemSink::new(alloc, 2 << 20, 2 << 20, &[1])?;
+    let status = omnisim(
+        &rt,
+        alloc,
+        words.as_slice(),
+        &mut source,
+        &mut sink,
+        &FreeGate,
+    );
+    assert_eq!(rt; status, Status::WriteFault);
+    let piece = sink.held();
+    assert!(rt; piece.len() as u64 >= PIECE && (piece.len() as u64) < PIECE + 160);
+    assert!(rt; whole.held().starts_with(piece));
     Ok(())
 }

@@ -1,12 +1,16 @@
 -- The lines of a log.
-use Rattle.std.proofs.Common.{◌≡◌, sym, ◌∙◌, ap, ℕ, List, [], ◌∷◌, ◌++◌, map, append-nil, append_assoc}
+use Rattle.std.proofs.Common.{◌≡◌, sym, ◌∙◌, ap, ap₂, ℕ, ◌+◌, ◌<◌, List, [], ◌∷◌, ◌++◌, map, length, take, get_or, append-nil, append_assoc}
+use Rattle.std.proofs.lemmas.List.{get_or_default}
 use Rattle.std.specs.Prelude.{codes}
 use Rattle.std.specs.List.{flat_map, join_with_byte}
+use Rattle.flow_design.specs.declared.design.Design.{Design}
 use Rattle.flow_design.specs.declared.plan.Plan.{Plan}
 use Rattle.flow_design.specs.declared.report.Verdict.{Verdict}
 use Rattle.lockstep_defs.specs.Report.{report}
+use Rattle.lockstep_defs.specs.Verdict.{verdict}
 use Rattle.report_text.specs.Lines.{Token, line, text_of_lines, verdict_tokens}
-use Rattle.report_text.proofs.LineLemmas.{line_of_four}
+use Rattle.report_text.proofs.LineLemmas.{line_of_four, lines_more}
+use Rattle.sim_core.specs.declared.access_log.LoggedAccess.{LoggedAccess}
 use Rattle.sim_core.specs.AccessLog.{log_of}
 use Rattle.log_text.specs.LogText.{access_tokens, log_text}
 
@@ -34,12 +38,21 @@ access_line text a b c d e f tokens =
     ∙ (line_of_four text a middle e (f ++ more)
     ∙ ap (λ (t : List ℕ). text ++ ((a ++ 32 ∷ t) ++ 10 ∷ [])) (and_more b c d (32 ∷ (e ++ 32 ∷ (f ++ more)))))))
 
--- the whole text
-pub whole_log : (p : Plan) (v : Verdict) (first second whole : List ℕ) → first ≡ codes "log\n" → second ≡ first ++ line (verdict_tokens v)
-    → v ≡ (report p).verdict → whole ≡ second ++ text_of_lines (map (access_tokens p.design) (log_of p)) → whole ≡ log_text p
-unfolding log_text
-whole_log p v first second whole named told of_report all =
+-- the lines before an access, and that one's
+pub access_more : (design : Design) (first : List ℕ) (log : List LoggedAccess) (k : ℕ) (d : LoggedAccess) → k < length log
+    → (first ++ text_of_lines (map (access_tokens design) (take k log))) ++ line (access_tokens design (get_or log k d))
+    ≡ first ++ text_of_lines (map (access_tokens design) (take (k + 1) log))
+access_more design first log k d inside =
+    lines_more (access_tokens design) first log k (get_or log k d) inside (get_or_default log k d (get_or log k d) inside)
+
+-- the whole text, with the plan and the log as they are read
+pub whole_log : (p q : Plan) (v : Verdict) (first second : List ℕ) (log read : List LoggedAccess) → first ≡ codes "log\n"
+    → second ≡ first ++ line (verdict_tokens v) → v ≡ verdict p → q ≡ p → read ≡ log → log ≡ log_of p
+    → second ++ text_of_lines (map (access_tokens q.design) read) ≡ log_text p
+unfolding log_text report
+whole_log p q v first second log read named told of_plan same is logged =
     let accesses : List ℕ = text_of_lines (map (access_tokens p.design) (log_of p)) in
-    all ∙ (ap (λ (t : List ℕ). t ++ accesses) (told ∙ ap (λ (t : List ℕ). t ++ line (verdict_tokens v)) named)
+    ap₂ (λ (x : Plan) (xs : List LoggedAccess). second ++ text_of_lines (map (access_tokens x.design) xs)) same (is ∙ logged)
+    ∙ (ap (λ (t : List ℕ). t ++ accesses) (told ∙ ap (λ (t : List ℕ). t ++ line (verdict_tokens v)) named)
     ∙ (append_assoc (codes "log\n") (line (verdict_tokens v)) accesses
-    ∙ ap (λ (u : Verdict). codes "log\n" ++ (line (verdict_tokens u) ++ accesses)) of_report))
+    ∙ ap (λ (u : Verdict). codes "log\n" ++ (line (verdict_tokens u) ++ accesses)) of_plan))

@@ -1,6 +1,8 @@
 //! The log of a core's plan.
-ghost use Rattle.std.specs.Prelude.{◌≡◌, ◌++◌, ◌∷◌, [], map, All, IfOk, OnOk};
+ghost use Rattle.std.specs.Prelude.{◌≡◌, ◌≤◌, ◌++◌, ◌∷◌, [], map, All, IfOk, IsErrOf, OnErr, OnOk};
 ghost use Rattle.std.specs.List.{flat_map};
+ghost use Rattle.sim_io.specs.Causes.{AppendsPrefix, Rose};
+ghost use Rattle.sim_io.specs.Telling.{IsTold};
 ghost use Rattle.event_timing.specs.Actions.{IsFinal};
 ghost use Rattle.timing_bridge.specs.Designs.{design as design_of};
 ghost use Rattle.report_text.specs.Lines.{line, text_of_lines};
@@ -13,35 +15,69 @@ use flow_word::{List, OutOfMemory};
 use lockstep_defs::reports_name_their_plans;
 use report_text::{channel_name, kind_word, module_name, print_verdict, push_token, push_value};
 use sim_core::{Core, LoggedAccess};
+use sim_io::{Sink, TellFault, write_full};
 use std::alloc::Global;
 
-/// The text of the log of a final core's plan: the verdict, and a line for each access that was done, in the order of the report's
-/// events.
+/// Writes the text of the log of a final core's plan in pieces, and hands out the rest: the verdict, and a line for each access that
+/// was done, in the order of the report's events.
 ///
-/// It takes memory for the report without its events, for the log, and for the text. An error leaves nothing.
-pub fn log_text(alloc: Global, core: &Core) -> Result<List<u8>, OutOfMemory>
+/// It takes memory for the log, and for a piece of the text. After an error a prefix of the text is written.
+#[tactic(auto, using(sim_io::proofs::Pending::prefix_none))]
+pub fn log_text<K: Sink>(alloc: Global, core: &Core, sink: &mut K) -> Result<List<u8>, TellFault>
     requires { IsFinal (design_of core.now.plan) core.now.plan.cycles (theory_of core.now) }
-    ensures { IfOk result (λ text. text ≡ form.log_text core.now.plan) }
+    ensures rest { IfOk result (λ rest. IsTold (K.held sink.old) (K.held sink.new) rest (form.log_text core.now.plan)) }
+    ensures prefix { OnErr result (AppendsPrefix (K.held sink.old) (K.held sink.new) (form.log_text core.now.plan)) }
+    ensures write_fault { IsErrOf result TellFault.WriteFault → Rose (K.faults sink.old) (K.faults sink.new) }
+    ensures faults { K.faults sink.old ≤ K.faults sink.new }
 {
     reports_name_their_plans();
     let _modules = core.modules();
-    let report = core.report(alloc, false)?;
     let log = core.access_log(alloc)?;
-    let mut text = List::from_slice(alloc, b"log\n")?;
-    print_verdict(&mut text, report.verdict)?;
-    print_log(&mut text, &core.plan().design, log.as_slice())?;
-    Ok(text)
+    let mut pending = List::from_slice(alloc, b"log\n")?;
+    print_verdict(&mut pending, core.verdict())?;
+    write_log(&mut pending, &core.plan().design, log.as_slice(), sink)?;
+    Ok(pending)
 }
 
-/// Adds a line for each access.
-#[tactic(auto, using(report_text::proofs::LineLemmas::lines_more))]
-fn print_log(text: &mut List<u8>, design: &Design, log: &[LoggedAccess]) -> Result<(), OutOfMemory>
+/// Adds a line for each access to what is pending, and writes that in pieces.
+fn write_log<K: Sink>(
+    pending: &mut List<u8>,
+    design: &Design,
+    log: &[LoggedAccess],
+    sink: &mut K,
+) -> Result<(), TellFault>
     requires { All (IsNamed design.now) log.now }
-    ensures { OnOk result (text.new ≡ text.old ++ text_of_lines (map (access_tokens design.now) log.now)) }
+    ensures ok { OnOk result (IsTold (K.held sink.old) (K.held sink.new) pending.new
+        (pending.old ++ text_of_lines (map (access_tokens design.now) log.now))) }
+    ensures err { OnErr result (AppendsPrefix (K.held sink.old) (K.held sink.new)
+        (pending.old ++ text_of_lines (map (access_tokens design.now) log.now))) }
+    ensures write_fault { IsErrOf result TellFault.WriteFault → Rose (K.faults sink.old) (K.faults sink.new) }
+    ensures faults { K.faults sink.old ≤ K.faults sink.new }
 {
     for access in log {
-        print_access(text, design, access)?;
+        write_access(pending, design, access, sink)?;
     }
+    Ok(())
+}
+
+/// Adds the line of an access to what is pending, and writes that where it is a piece.
+#[tactic(auto, using(sim_io::proofs::Pending::prefix_none))]
+fn write_access<K: Sink>(
+    pending: &mut List<u8>,
+    design: &Design,
+    access: &LoggedAccess,
+    sink: &mut K,
+) -> Result<(), TellFault>
+    requires { IsNamed design.now access.now }
+    ensures ok { OnOk result (IsTold (K.held sink.old) (K.held sink.new) pending.new
+        (pending.old ++ line (access_tokens design.now access.now))) }
+    ensures err { OnErr result (AppendsPrefix (K.held sink.old) (K.held sink.new)
+        (pending.old ++ line (access_tokens design.now access.now))) }
+    ensures write_fault { IsErrOf result TellFault.WriteFault → Rose (K.faults sink.old) (K.faults sink.new) }
+    ensures faults { K.faults sink.old ≤ K.faults sink.new }
+{
+    print_access(pending, design, access)?;
+    write_full(sink, pending)?;
     Ok(())
 }
 

@@ -1,10 +1,10 @@
 -- Lines that grow.
 use Rattle.std.proofs.Common.{◌≡◌, ℕ, ◌+◌, ◌<◌, List, [], ◌∷◌, ◌++◌, refl, sym, ap, ◌∙◌, arith, map, length}
-use Rattle.std.proofs.Common.{take, get_or, append_assoc, Bool, cond, zero-add, add-one, ltb}
+use Rattle.std.proofs.Common.{take, drop, get_or, append_assoc, Bool, cond, zero-add, add-one, ltb, ◌-◌, ◌≤◌}
 use Rattle.std.specs.Prelude.{codes}
 use Rattle.std.specs.List.{flat_map, filter, range_with_len, concat}
-use Rattle.std.proofs.Math.Seq.{take-suc}
-use Rattle.std.proofs.lemmas.List.{append-nil, map-append}
+use Rattle.std.proofs.Math.Seq.{take-add, take-suc}
+use Rattle.std.proofs.lemmas.List.{append-nil, map-append, take-append-drop}
 use Rattle.std.proofs.lemmas.List.Concat.{flat_map-append}
 use Rattle.std.proofs.lemmas.List.Elements.{filter-append}
 use Rattle.std.proofs.lemmas.List.Folds.{concat-append}
@@ -12,6 +12,7 @@ use Rattle.std.proofs.lemmas.Bool.{lt-ltb}
 use Rattle.std.proofs.lemmas.List.FromFn.{map-range_with_len_more, length-map-range_with_len}
 use Rattle.trace_text.specs.TraceText.{further, lines_of}
 use Rattle.flow_word.proofs.Ranges.{range_more}
+use Rattle.sim_io.proofs.Pending.{numbered_rest}
 
 pub further-append : (xs ys : List (List ℕ)) → further (xs ++ ys) ≡ further xs ++ further ys
 further-append xs ys = flat_map-append (λ (e : List ℕ). codes ",\n" ++ e) xs ys
@@ -104,6 +105,35 @@ concat_more xs k d first text next l e r =
     ∙ ap (λ (t : List ℕ). first ++ t)
     (ap (λ (t : List ℕ). concat (take k xs) ++ t) (sym (append-nil (get_or xs k d)))
     ∙ (sym (concat-append (take k xs) (get_or xs k d ∷ [])) ∙ ap concat (sym more)))))
+
+-- the bytes up to a place, and those from there up to another
+pub taken_more : (xs : List ℕ) (at end : ℕ) (first : List ℕ) → at ≤ end
+    → (first ++ take at xs) ++ take (end - at) (drop at xs) ≡ first ++ take end xs
+taken_more xs at end first most =
+    let count : at + (end - at) ≡ end = omega (arith, most) in
+    append_assoc first (take at xs) (take (end - at) (drop at xs))
+    ∙ ap (λ (t : List ℕ). first ++ t) (sym (take-add at (end - at) xs) ∙ ap (λ (n : ℕ). take n xs) count)
+
+-- and all others
+pub taken_rest : (xs : List ℕ) (at : ℕ) (first : List ℕ) → (first ++ take at xs) ++ drop at xs ≡ first ++ xs
+taken_rest xs at first =
+    append_assoc first (take at xs) (drop at xs) ∙ ap (λ (t : List ℕ). first ++ t) (take-append-drop at xs)
+
+-- the texts of the others, after those of the first
+pub concat_rest : (xs : List (List ℕ)) (k : ℕ) (first : List ℕ) → (first ++ concat (take k xs)) ++ concat (drop k xs) ≡ first ++ concat xs
+concat_rest xs k first =
+    append_assoc first (concat (take k xs)) (concat (drop k xs))
+    ∙ ap (λ (t : List ℕ). first ++ t) (sym (concat-append (take k xs) (drop k xs)) ∙ ap concat (take-append-drop k xs))
+
+-- the events of the other numbers, after those of the first
+pub numbers_rest : (g : ℕ → List (List ℕ)) (k n : ℕ) (first : List ℕ) → k ≤ n
+    → (first ++ further (flat_map g (range_with_len 0 k))) ++ further (flat_map g (range_with_len (0 + k) (n - k)))
+    ≡ first ++ further (flat_map g (range_with_len 0 n))
+numbers_rest g k n first most =
+    append_assoc first (further (flat_map g (range_with_len 0 k))) (further (flat_map g (range_with_len (0 + k) (n - k))))
+    ∙ ap (λ (t : List ℕ). first ++ t)
+    (sym (further-append (flat_map g (range_with_len 0 k)) (flat_map g (range_with_len (0 + k) (n - k))))
+    ∙ ap further (numbered_rest g 0 k n most))
 
 -- the whole text
 pub whole : (opening names spans fills closing a b c d e : List ℕ) → a ≡ opening → b ≡ a ++ names → c ≡ b ++ spans → d ≡ c ++ fills

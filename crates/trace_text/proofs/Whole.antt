@@ -1,15 +1,13 @@
 -- The whole text.
 use Rattle.std.proofs.Common.{◌≡◌, ℕ, ◌<◌, ◌^◌, List, [], ◌∷◌, ◌++◌, refl, sym, ap, ap₂, ◌∙◌, arith, length}
-use Rattle.std.proofs.Common.{true}
 use Rattle.std.specs.List.{flat_map, range_with_len}
 use Rattle.std.proofs.lemmas.List.FromFn.{length-map-range_with_len}
 use Rattle.flow_design.specs.declared.design.Module.{Module}
 use Rattle.flow_design.specs.declared.plan.Plan.{Plan}
-use Rattle.flow_design.specs.declared.report.Report.{Report}
+use Rattle.flow_design.specs.declared.report.Verdict.{Verdict}
 use Rattle.flow_design.specs.StaticRules.{FitsEngine}
-use Rattle.lockstep_defs.specs.Report.{report}
+use Rattle.lockstep_defs.specs.Verdict.{verdict}
 use Rattle.flow_design.specs.Reports.{clock_of}
-use Rattle.engine_report.specs.Finished.{report_with}
 use Rattle.report_text.specs.ReportText.{module_name}
 use Rattle.fifo_fills.specs.Fills.{fifos, last_clock}
 use Rattle.trace_text.specs.Events.{name_event, names_of, span_events, fill_events}
@@ -20,9 +18,8 @@ use Rattle.trace_text.proofs.Filling.{no_fifos}
 pub few_modules : (p : Plan) → FitsEngine p → length p.design.modules < 2 ^ 32
 few_modules p h = let c = h.module_count in omega arith
 
-pub clock_is : (p : Plan) (r : Report) → r ≡ report_with true p → clock_of r.verdict ≡ last_clock p
-unfolding report
-clock_is p r e = ap (λ (x : Report). clock_of x.verdict) e
+pub clock_is : (p : Plan) (v : Verdict) → v ≡ verdict p → clock_of v ≡ last_clock p
+clock_is p v e = ap clock_of e
 
 no_items : (ms : List Module) → length ms ≡ 0 → ms ≡ []
 no_items [] e = refl

@@ -1,5 +1,7 @@
 //! Single events, each on a line of its own.
-ghost use Rattle.std.specs.Prelude.{◌≡◌, ◌<◌, ◌≤◌, ◌+◌, ◌++◌, codes, map, length, slice_index_or, All, OnOk};
+ghost use Rattle.std.specs.Prelude.{◌≡◌, ◌<◌, ◌≤◌, ◌+◌, ◌++◌, codes, map, length, slice_index_or, All, IsErrOf, OnErr, OnOk};
+ghost use Rattle.sim_io.specs.Causes.{AppendsPrefix, Rose};
+ghost use Rattle.sim_io.specs.Telling.{IsTold};
 ghost use Rattle.report_text.specs.ReportText.{channel_name, module_name};
 ghost use Rattle.stall_spans.specs.declared.span.Doing.{Doing};
 ghost use Rattle.trace_text.specs.Events.{name_event, span_event, fill_event, doing_name, side_word, IsDrawn};
@@ -8,6 +10,7 @@ ghost use Rattle.trace_text.specs.TraceText.{further};
 use flow_design::Design;
 use flow_word::{List, OutOfMemory, Side};
 use report_text::{channel_name, push_number};
+use sim_io::{Sink, TellFault, write_full};
 use stall_spans::{Doing, Span};
 
 /// Adds the name of a module's track.
@@ -46,7 +49,7 @@ fn side_word(side: Side) -> &'static [u8]
     }
 }
 
-/// Adds a span of a module's track.
+/// Adds a span of a module's track, after a comma.
 #[tactic(auto, unfolding(crate::specs::Events::span_event))]
 fn print_span(
     text: &mut List<u8>,
@@ -56,8 +59,9 @@ fn print_span(
 ) -> Result<(), OutOfMemory>
     requires order { span.first ≤ span.until }
     requires drawn { IsDrawn design.now span.doing }
-    ensures { OnOk result (text.new ≡ text.old ++ span_event design.now number span) }
+    ensures { OnOk result (text.new ≡ text.old ++ (codes ",\n" ++ span_event design.now number span)) }
 {
+    text.extend_from_slice(b",\n")?;
     text.extend_from_slice(b"{\"ph\":\"X\",\"pid\":0,\"tid\":")?;
     push_number(text, number as u64)?;
     text.extend_from_slice(b",\"ts\":")?;
@@ -69,20 +73,48 @@ fn print_span(
     text.extend_from_slice(b"\"}")
 }
 
-/// Adds the spans of a module's track, each after a comma.
-pub(crate) fn print_spans(
-    text: &mut List<u8>,
+/// Adds a span of a module's track to what is pending, and writes that where it is a piece.
+#[tactic(auto, using(sim_io::proofs::Pending::prefix_none))]
+fn write_span<K: Sink>(
+    pending: &mut List<u8>,
+    design: &Design,
+    number: u32,
+    span: Span,
+    sink: &mut K,
+) -> Result<(), TellFault>
+    requires order { span.first ≤ span.until }
+    requires drawn { IsDrawn design.now span.doing }
+    ensures ok { OnOk result (IsTold (K.held sink.old) (K.held sink.new) pending.new
+        (pending.old ++ (codes ",\n" ++ span_event design.now number span))) }
+    ensures err { OnErr result (AppendsPrefix (K.held sink.old) (K.held sink.new)
+        (pending.old ++ (codes ",\n" ++ span_event design.now number span))) }
+    ensures write_fault { IsErrOf result TellFault.WriteFault → Rose (K.faults sink.old) (K.faults sink.new) }
+    ensures faults { K.faults sink.old ≤ K.faults sink.new }
+{
+    print_span(pending, design, number, span)?;
+    write_full(sink, pending)?;
+    Ok(())
+}
+
+/// Adds the spans of a module's track to what is pending, and writes that in pieces.
+pub(crate) fn write_spans<K: Sink>(
+    pending: &mut List<u8>,
     design: &Design,
     number: u32,
     spans: &[Span],
-) -> Result<(), OutOfMemory>
+    sink: &mut K,
+) -> Result<(), TellFault>
     requires order { All (λ s. s.first ≤ s.until) spans.now }
     requires drawn { All (λ s. IsDrawn design.now s.doing) spans.now }
-    ensures { OnOk result (text.new ≡ text.old ++ further (map (span_event design.now number) spans.now)) }
+    ensures ok { OnOk result (IsTold (K.held sink.old) (K.held sink.new) pending.new
+        (pending.old ++ further (map (span_event design.now number) spans.now))) }
+    ensures err { OnErr result (AppendsPrefix (K.held sink.old) (K.held sink.new)
+        (pending.old ++ further (map (span_event design.now number) spans.now))) }
+    ensures write_fault { IsErrOf result TellFault.WriteFault → Rose (K.faults sink.old) (K.faults sink.new) }
+    ensures faults { K.faults sink.old ≤ K.faults sink.new }
 {
     for span in spans {
-        text.extend_from_slice(b",\n")?;
-        print_span(text, design, number, *span)?;
+        write_span(pending, design, number, *span, sink)?;
     }
     Ok(())
 }

@@ -1,8 +1,8 @@
 //! The trace of a core's plan.
-ghost use Rattle.std.specs.Prelude.{◌≡◌, ◌++◌, ◌<◌, ◌^◌, map, length, IfOk, OnOk};
+ghost use Rattle.std.specs.Prelude.{◌≡◌, ◌++◌, ◌<◌, ◌≤◌, ◌^◌, map, length, IfOk, IsErrOf, OnErr, OnOk};
 ghost use Rattle.std.specs.List.{flat_map, range_with_len};
-ghost use Rattle.flow_design.specs.StaticRules.{FitsEngine};
-ghost use Rattle.lockstep_defs.specs.Report as lockstep;
+ghost use Rattle.sim_io.specs.Causes.{AppendsPrefix, Rose};
+ghost use Rattle.sim_io.specs.Telling.{IsTold};
 ghost use Rattle.event_timing.specs.Actions.{IsFinal};
 ghost use Rattle.timing_bridge.specs.Designs.{design as design_of};
 ghost use Rattle.sim_core.specs.Views.{theory_of};
@@ -11,31 +11,34 @@ ghost use Rattle.trace_text.specs.Events.{names_of, span_events, fill_events};
 ghost use Rattle.trace_text.specs.TraceText.{further, lines_of};
 ghost use Rattle.trace_text.specs.TraceText as form;
 
-use crate::events::{print_name, print_spans};
+use crate::events::{print_name, write_spans};
 use crate::fills::fill_lines;
-use flow_design::{Design, Plan, Report};
+use flow_design::Design;
 use flow_word::{List, OutOfMemory};
 use report_text::module_name;
 use sim_core::Core;
+use sim_io::{Sink, TellFault, write_full};
 use std::alloc::Global;
 
-/// The text of the trace of a final core's plan: each module's spans, and how many elements each FIFO holds in each clock up to the
-/// verdict's.
+/// Writes the text of the trace of a final core's plan in pieces, and hands out the rest: each module's spans, and how many elements
+/// each FIFO holds in each clock up to the verdict's.
 ///
-/// It takes memory for the report with its events, for the spans of one module at a time, for a number of each channel and each
-/// module, and for the text. An error leaves nothing.
-pub fn trace_text(alloc: Global, core: &Core) -> Result<List<u8>, OutOfMemory>
+/// It takes memory for the spans of one module at a time, for the report with its events, for the lines of the FIFOs, for a number of
+/// each channel and each module, and for a piece of the text. After an error a prefix of the text is written.
+pub fn trace_text<K: Sink>(alloc: Global, core: &Core, sink: &mut K) -> Result<List<u8>, TellFault>
     requires { IsFinal (design_of core.now.plan) core.now.plan.cycles (theory_of core.now) }
-    ensures { IfOk result (λ text. text ≡ form.trace_text core.now.plan) }
+    ensures rest { IfOk result (λ rest. IsTold (K.held sink.old) (K.held sink.new) rest (form.trace_text core.now.plan)) }
+    ensures prefix { OnErr result (AppendsPrefix (K.held sink.old) (K.held sink.new) (form.trace_text core.now.plan)) }
+    ensures write_fault { IsErrOf result TellFault.WriteFault → Rose (K.faults sink.old) (K.faults sink.new) }
+    ensures faults { K.faults sink.old ≤ K.faults sink.new }
 {
     let _modules = core.modules();
-    let report = core.report(alloc, true)?;
-    let mut text = List::from_slice(alloc, b"{\"displayTimeUnit\":\"ns\",\"traceEvents\":[")?;
-    print_names(&mut text, &core.plan().design)?;
-    print_tracks(alloc, &mut text, core, report.verdict.clock())?;
-    print_counters(alloc, &mut text, core.plan(), &report)?;
-    text.extend_from_slice(b"\n]}\n")?;
-    Ok(text)
+    let mut pending = List::from_slice(alloc, b"{\"displayTimeUnit\":\"ns\",\"traceEvents\":[")?;
+    print_names(&mut pending, &core.plan().design)?;
+    write_tracks(alloc, &mut pending, core, sink)?;
+    write_counters(alloc, &mut pending, core, sink)?;
+    pending.extend_from_slice(b"\n]}\n")?;
+    Ok(pending)
 }
 
 /// Adds the names of the modules' tracks, with a comma between each two.
@@ -54,39 +57,85 @@ fn print_names(text: &mut List<u8>, design: &Design) -> Result<(), OutOfMemory>
     Ok(())
 }
 
-/// Adds the spans of each module.
-fn print_tracks(
+/// Adds the spans of each module to what is pending, and writes that in pieces.
+fn write_tracks<K: Sink>(
     alloc: Global,
-    text: &mut List<u8>,
+    pending: &mut List<u8>,
     core: &Core,
-    clock: u64,
-) -> Result<(), OutOfMemory>
-    requires is_final { IsFinal (design_of core.now.plan) core.now.plan.cycles (theory_of core.now) }
-    requires clock { clock ≡ last_clock core.now.plan }
-    ensures { OnOk result (text.new
-        ≡ text.old ++ further (flat_map (span_events core.now.plan) (range_with_len 0 (length core.now.plan.design.modules)))) }
+    sink: &mut K,
+) -> Result<(), TellFault>
+    requires { IsFinal (design_of core.now.plan) core.now.plan.cycles (theory_of core.now) }
+    ensures ok { OnOk result (IsTold (K.held sink.old) (K.held sink.new) pending.new
+        (pending.old ++ further (flat_map (span_events core.now.plan) (range_with_len 0 (length core.now.plan.design.modules))))) }
+    ensures err { OnErr result (AppendsPrefix (K.held sink.old) (K.held sink.new)
+        (pending.old ++ further (flat_map (span_events core.now.plan) (range_with_len 0 (length core.now.plan.design.modules))))) }
+    ensures write_fault { IsErrOf result TellFault.WriteFault → Rose (K.faults sink.old) (K.faults sink.new) }
+    ensures faults { K.faults sink.old ≤ K.faults sink.new }
 {
+    let clock = core.verdict().clock();
     for owner in 0..core.modules() {
         let spans = core.spans(alloc, owner, clock)?;
-        print_spans(text, &core.plan().design, owner, spans.as_slice())?;
+        write_spans(pending, &core.plan().design, owner, spans.as_slice(), sink)?;
     }
     Ok(())
 }
 
-/// Adds what each FIFO holds.
-fn print_counters(
+/// Adds what each FIFO holds to what is pending, and writes that in pieces.
+fn write_counters<K: Sink>(
     alloc: Global,
-    text: &mut List<u8>,
-    plan: &Plan,
-    report: &Report,
-) -> Result<(), OutOfMemory>
-    requires fits { FitsEngine plan.now }
-    requires report { report.now ≡ lockstep.report plan.now }
-    ensures { OnOk result (text.new ≡ text.old ++ further (flat_map (λ f. fill_events plan.now f (last_clock plan.now)) (fifos plan.now))) }
+    pending: &mut List<u8>,
+    core: &Core,
+    sink: &mut K,
+) -> Result<(), TellFault>
+    requires { IsFinal (design_of core.now.plan) core.now.plan.cycles (theory_of core.now) }
+    ensures ok { OnOk result (IsTold (K.held sink.old) (K.held sink.new) pending.new
+        (pending.old ++ further (flat_map (λ f. fill_events core.now.plan f (last_clock core.now.plan)) (fifos core.now.plan)))) }
+    ensures err { OnErr result (AppendsPrefix (K.held sink.old) (K.held sink.new)
+        (pending.old ++ further (flat_map (λ f. fill_events core.now.plan f (last_clock core.now.plan)) (fifos core.now.plan)))) }
+    ensures write_fault { IsErrOf result TellFault.WriteFault → Rose (K.faults sink.old) (K.faults sink.new) }
+    ensures faults { K.faults sink.old ≤ K.faults sink.new }
 {
-    let counters = fill_lines(alloc, plan, report)?;
+    let _modules = core.modules();
+    let report = core.report(alloc, true)?;
+    let counters = fill_lines(alloc, core.plan(), &report)?;
     for lines in counters.as_slice() {
-        text.extend_from_slice(lines.as_slice())?;
+        write_lines(pending, lines.as_slice(), sink)?;
     }
+    Ok(())
+}
+
+/// How many bytes of the lines of a FIFO are added at once, at most.
+const CHUNK: usize = 1 << 16;
+
+/// Adds lines to what is pending, and writes that in pieces.
+fn write_lines<K: Sink>(pending: &mut List<u8>, lines: &[u8], sink: &mut K) -> Result<(), TellFault>
+    ensures ok { OnOk result (IsTold (K.held sink.old) (K.held sink.new) pending.new
+        (pending.old ++ lines.now)) }
+    ensures err { OnErr result (AppendsPrefix (K.held sink.old) (K.held sink.new)
+        (pending.old ++ lines.now)) }
+    ensures write_fault { IsErrOf result TellFault.WriteFault → Rose (K.faults sink.old) (K.faults sink.new) }
+    ensures faults { K.faults sink.old ≤ K.faults sink.new }
+{
+    let mut at = 0;
+    while at < lines.len() {
+        let end = lines.len().min(at + CHUNK);
+        write_chunk(pending, &lines[at..end], sink)?;
+        at = end;
+    }
+    Ok(())
+}
+
+/// Adds a part of lines to what is pending, and writes that where it is a piece.
+#[tactic(auto, using(sim_io::proofs::Pending::prefix_none))]
+fn write_chunk<K: Sink>(pending: &mut List<u8>, chunk: &[u8], sink: &mut K) -> Result<(), TellFault>
+    ensures ok { OnOk result (IsTold (K.held sink.old) (K.held sink.new) pending.new
+        (pending.old ++ chunk.now)) }
+    ensures err { OnErr result (AppendsPrefix (K.held sink.old) (K.held sink.new)
+        (pending.old ++ chunk.now)) }
+    ensures write_fault { IsErrOf result TellFault.WriteFault → Rose (K.faults sink.old) (K.faults sink.new) }
+    ensures faults { K.faults sink.old ≤ K.faults sink.new }
+{
+    pending.extend_from_slice(chunk)?;
+    write_full(sink, pending)?;
     Ok(())
 }

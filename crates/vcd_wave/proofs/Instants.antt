@@ -17,6 +17,7 @@ use Rattle.vcd_wave.specs.Wave.{has_some}
 use Rattle.vcd_wave.specs.WaveText.{time_tokens, instant_lines}
 use Rattle.vcd_wave.proofs.LineLemmas.{range_push, none_same}
 use Rattle.report_text.proofs.LineLemmas.{text-append}
+use Rattle.sim_io.proofs.Pending.{numbered_rest}
 
 -- ---- one clock more
 
@@ -62,15 +63,21 @@ pub record IsTold (p : Plan) (told clock : ℕ) : Type 0 where
   pub something : 0 < told → instant_at p told ≢ []
   pub nothing : (b : ℕ) → told < b → b ≤ clock → instant_at p b ≡ []
 
-pub record IsTelling (p : Plan) (first text before : List ℕ) (told clock : ℕ) : Type 0 where
-  pub printed : text ≡ first ++ text_of_lines (flat_map instant_lines (instants_to p clock))
+pub record IsTelling (p : Plan) (before : List ℕ) (told clock : ℕ) : Type 0 where
   pub known : before ≡ fills p clock
   pub last : IsTold p told clock
   pub in_time : clock ≤ last_clock p
 
-pub telling_first : (p : Plan) (first before : List ℕ) → before ≡ fills p 0 → IsTelling p first first before 0 0
-telling_first p first before e = record {
-  printed = sym (append-nil first) ∙ ap (λ (l : List Instant). first ++ text_of_lines (flat_map instant_lines l)) (sym (instants_zero p));
+-- the text with the clocks up to this one
+abbrev pub told_to : Plan → List ℕ → ℕ → List ℕ
+told_to p first clock = first ++ text_of_lines (flat_map instant_lines (instants_to p clock))
+
+pub told_to_zero : (p : Plan) (first : List ℕ) → first ≡ told_to p first 0
+told_to_zero p first =
+    sym (append-nil first) ∙ ap (λ (l : List Instant). first ++ text_of_lines (flat_map instant_lines l)) (sym (instants_zero p))
+
+pub telling_first : (p : Plan) (before : List ℕ) → before ≡ fills p 0 → IsTelling p before 0 0
+telling_first p before e = record {
   known = e;
   last = record { within = omega arith; something = λ h. absurd (omega arith); nothing = λ b x y. absurd (omega arith) };
   in_time = omega arith;
@@ -92,23 +99,26 @@ next_instants p c d h =
       here,
     )
 
-pub telling_next : (p : Plan) (first text new before now : List ℕ) (told clock next : ℕ) (some : Bool)
-    → IsTelling p first text before told clock → IsNextClock p clock next → now ≡ fills p next
-    → new ≡ text ++ text_of_lines (flat_map instant_lines (instant_of next (changes_between before now)))
-    → some ≡ has_some (changes_between before now)
-    → IsTelling p first new now (cond some next told) next
-telling_next p first text new before now told clock next some h step is e s =
+pub told_to_next : (p : Plan) (first before now : List ℕ) (clock next : ℕ) → before ≡ fills p clock → IsNextClock p clock next
+    → now ≡ fills p next
+    → told_to p first clock ++ text_of_lines (flat_map instant_lines (instant_of next (changes_between before now))) ≡ told_to p first next
+told_to_next p first before now clock next known step is =
+    let here = instant_of next (changes_between (fills p clock) (fills p next)) in
+    ap₂ (λ (xs ys : List ℕ). told_to p first clock ++ text_of_lines (flat_map instant_lines (instant_of next (changes_between xs ys))))
+    known is
+    ∙ (append_assoc first _ _
+    ∙ ap (λ (t : List ℕ). first ++ t)
+    (sym (text-append (flat_map instant_lines (instants_to p clock)) (flat_map instant_lines here))
+    ∙ ap text_of_lines (sym (flat_map-append instant_lines (instants_to p clock) here)
+    ∙ ap (flat_map instant_lines) (sym (next_instants p clock next step).0))))
+
+pub telling_next : (p : Plan) (before now : List ℕ) (told clock next : ℕ) (some : Bool) → IsTelling p before told clock
+    → IsNextClock p clock next → now ≡ fills p next → some ≡ has_some (changes_between before now)
+    → IsTelling p now (cond some next told) next
+telling_next p before now told clock next some h step is s =
     let both = next_instants p clock next step in
     let changes = ap₂ changes_between h.known is in
     record {
-      printed = e ∙ (ap₂ (λ (t : List ℕ) (cs : List Change). t ++ text_of_lines (flat_map instant_lines (instant_of next cs)))
-          h.printed changes
-          ∙ (append_assoc first _ _
-          ∙ ap (λ (t : List ℕ). first ++ t)
-          (sym (text-append (flat_map instant_lines (instants_to p clock))
-          (flat_map instant_lines (instant_of next (changes_between (fills p clock) (fills p next)))))
-          ∙ ap text_of_lines (sym (flat_map-append instant_lines (instants_to p clock)
-          (instant_of next (changes_between (fills p clock) (fills p next)))) ∙ ap (flat_map instant_lines) (sym both.0)))));
       known = is;
       last = by_test (changes_between (fills p clock) (fills p next)) some
           (s ∙ ap (λ (cs : List Change). has_some cs) changes) both.1;
@@ -170,35 +180,52 @@ pub later_is : (p : Plan) → (wave_of p).later ≡ instants_to p (last_clock p)
 unfolding wave_of
 later_is p = refl
 
--- behind the loop: the text has all changes
-told_changes : (p : Plan) (first text before : List ℕ) (told clock : ℕ) → IsTelling p first text before told clock
-    → AreSteady p clock (last_clock p)
-    → text ≡ first ++ text_of_lines (flat_map instant_lines (instants_to p (last_clock p)))
-told_changes p first text before told clock h steady =
-    h.printed ∙ ap (λ (l : List Instant). first ++ text_of_lines (flat_map instant_lines l))
+instants_rest : (p : Plan) (c : ℕ) → c ≤ last_clock p
+    → instants_to p c ++ flat_map (instant_at p) (range_with_len (1 + c) (last_clock p - c)) ≡ instants_to p (last_clock p)
+unfolding instants_to
+instants_rest p c most = numbered_rest (instant_at p) 1 c (last_clock p) most
+
+-- the text with the clocks up to this one begins the whole
+pub later_rest : (p : Plan) (first : List ℕ) (c : ℕ) → c ≤ last_clock p
+    → (rest : List ℕ) × (told_to p first c ++ rest ≡ first ++ text_of_lines (flat_map instant_lines (wave_of p).later))
+later_rest p first c most =
+    let others : List Instant = flat_map (instant_at p) (range_with_len (1 + c) (last_clock p - c)) in
+    let rest : List Instant = others ++ closing p (last_clock p) in (
+      text_of_lines (flat_map instant_lines rest),
+      append_assoc first _ _
+          ∙ ap (λ (t : List ℕ). first ++ t)
+          (sym (text-append (flat_map instant_lines (instants_to p c)) (flat_map instant_lines rest))
+          ∙ ap text_of_lines (sym (flat_map-append instant_lines (instants_to p c) rest)
+          ∙ ap (flat_map instant_lines) (sym (append_assoc (instants_to p c) others (closing p (last_clock p)))
+          ∙ (ap (λ (l : List Instant). l ++ closing p (last_clock p)) (instants_rest p c most) ∙ sym (later_is p))))),
+    )
+
+-- after the loop: the text has all changes
+told_changes : (p : Plan) (first before : List ℕ) (told clock : ℕ) → IsTelling p before told clock → AreSteady p clock (last_clock p)
+    → told_to p first clock ≡ told_to p first (last_clock p)
+told_changes p first before told clock h steady =
+    ap (λ (l : List Instant). first ++ text_of_lines (flat_map instant_lines l))
     (sym (quiet_until p clock (last_clock p) h.in_time (λ b x y. quiet_between p clock (last_clock p) b steady x y)))
 
-pub told_whole : (p : Plan) (first text before : List ℕ) (told clock last : ℕ) → last ≡ last_clock p
-    → IsTelling p first text before told clock → AreSteady p clock (last_clock p) → last ≤ told
-    → text ≡ first ++ text_of_lines (flat_map instant_lines (wave_of p).later)
-told_whole p first text before told clock last is h steady done =
+pub told_whole : (p : Plan) (first before : List ℕ) (told clock last : ℕ) → last ≡ last_clock p → IsTelling p before told clock
+    → AreSteady p clock (last_clock p) → last ≤ told
+    → told_to p first clock ≡ first ++ text_of_lines (flat_map instant_lines (wave_of p).later)
+told_whole p first before told clock last is h steady done =
     let all = told_all p clock told h.last h.in_time steady in
     let same : told ≡ last_clock p = let a = all.within in omega arith in
-    told_changes p first text before told clock h steady
+    told_changes p first before told clock h steady
     ∙ ap (λ (l : List Instant). first ++ text_of_lines (flat_map instant_lines l))
     (sym (later_is p ∙ (ap (λ (l : List Instant). instants_to p (last_clock p) ++ l)
     (closing_none p (last_clock p) (λ l none. all.something (omega arith) (ap (instant_at p) same ∙ none))) ∙ append-nil _)))
 
-pub told_closing : (p : Plan) (first text before new : List ℕ) (told clock last : ℕ) → last ≡ last_clock p
-    → IsTelling p first text before told clock → AreSteady p clock (last_clock p) → told < last
-    → new ≡ text ++ line (time_tokens last)
-    → new ≡ first ++ text_of_lines (flat_map instant_lines (wave_of p).later)
-told_closing p first text before new told clock last is h steady open_end e =
+pub told_closing : (p : Plan) (first before : List ℕ) (told clock last : ℕ) → last ≡ last_clock p → IsTelling p before told clock
+    → AreSteady p clock (last_clock p) → told < last
+    → told_to p first clock ++ line (time_tokens last) ≡ first ++ text_of_lines (flat_map instant_lines (wave_of p).later)
+told_closing p first before told clock last is h steady open_end =
     let all = told_all p clock told h.last h.in_time steady in
     let final : List Instant = record { clock = last_clock p; changes = [] } ∷ [] in
-    e ∙ (ap₂ (λ (t : List ℕ) (n : ℕ). t ++ line (time_tokens n)) (told_changes p first text before told clock h steady) is
-    ∙ (ap (λ (t : List ℕ). (first ++ text_of_lines (flat_map instant_lines (instants_to p (last_clock p)))) ++ t)
-    (sym (append-nil (line (time_tokens (last_clock p)))))
+    ap₂ (λ (t : List ℕ) (n : ℕ). t ++ line (time_tokens n)) (told_changes p first before told clock h steady) is
+    ∙ (ap (λ (t : List ℕ). told_to p first (last_clock p) ++ t) (sym (append-nil (line (time_tokens (last_clock p)))))
     ∙ (append_assoc first _ _
     ∙ ap (λ (t : List ℕ). first ++ t)
     (sym (text-append (flat_map instant_lines (instants_to p (last_clock p))) (time_tokens (last_clock p) ∷ []))
@@ -206,7 +233,7 @@ told_closing p first text before new told clock last is h steady open_end e =
     (sym (flat_map-append instant_lines (instants_to p (last_clock p)) final)
     ∙ ap (flat_map instant_lines)
     (ap (λ (l : List Instant). instants_to p (last_clock p) ++ l)
-    (sym (closing_some p (last_clock p) (omega arith) (all.nothing (last_clock p) (omega arith) (omega arith)))) ∙ sym (later_is p)))))))
+    (sym (closing_some p (last_clock p) (omega arith) (all.nothing (last_clock p) (omega arith) (omega arith)))) ∙ sym (later_is p))))))
 
 -- ---- as the code has it
 
@@ -215,21 +242,28 @@ count_same p q c d e =
     length-map (fifos p) (λ f. fill p f c)
     ∙ (ap (λ (x : Plan). length (fifos x)) (sym e) ∙ sym (length-map (fifos q) (λ f. fill q f d)))
 
-pub telling_kept : (p q r : Plan) (first text new before copied now known : List ℕ) (told clock next later told_now : ℕ) (some : Bool)
-    → q ≡ p → r ≡ q → IsTelling p first text before told clock → IsNextClock q clock next → later ≡ next → now ≡ fills r later
-    → known ≡ before → new ≡ text ++ text_of_lines (flat_map instant_lines (instant_of next (changes_between known now)))
+pub telling_kept : (p q r : Plan) (before copied now known : List ℕ) (told clock next later told_now : ℕ) (some : Bool) → q ≡ p → r ≡ q
+    → IsTelling p before told clock → IsNextClock q clock next → later ≡ next → now ≡ fills r later → known ≡ before
     → some ≡ has_some (changes_between known now) → length copied ≡ length before → copied ≡ now → told_now ≡ cond some next told
-    → IsTelling p first new (refill (length before) before copied) told_now later
-telling_kept p q r first text new before copied now known told clock next later told_now some e f h step at is k n s count c t =
+    → IsTelling p (refill (length before) before copied) told_now later
+telling_kept p q r before copied now known told clock next later told_now some e f h step at is k s count c t =
     let step_here : IsNextClock p clock next = subst (λ (x : Plan). IsNextClock x clock next) e step in
     let now_is : now ≡ fills p next = is ∙ ap₂ fills (f ∙ e) at in
-    let whole = telling_next p first text new before now told clock next some h step_here now_is
-    (n ∙ ap (λ (xs : List ℕ). text ++ text_of_lines (flat_map instant_lines (instant_of next (changes_between xs now)))) k)
+    let whole = telling_next p before now told clock next some h step_here now_is
     (s ∙ ap (λ (xs : List ℕ). has_some (changes_between xs now)) k) in
     let filled : refill (length before) before copied ≡ now = take_at copied (drop (length copied) before) (length before) count ∙ c in
-    subst (λ (x : ℕ). IsTelling p first new (refill (length before) before copied) told_now x) (sym at)
-    (subst (λ (x : ℕ). IsTelling p first new (refill (length before) before copied) x next) (sym t)
-    (subst (λ (xs : List ℕ). IsTelling p first new xs (cond some next told) next) (sym filled) whole))
+    subst (λ (x : ℕ). IsTelling p (refill (length before) before copied) told_now x) (sym at)
+    (subst (λ (x : ℕ). IsTelling p (refill (length before) before copied) x next) (sym t)
+    (subst (λ (xs : List ℕ). IsTelling p xs (cond some next told) next) (sym filled) whole))
+
+-- the text with the next clock, as the code has that
+pub told_kept : (p q r : Plan) (first before now known : List ℕ) (told clock next later : ℕ) → q ≡ p → r ≡ q → IsTelling p before told clock
+    → IsNextClock q clock next → later ≡ next → now ≡ fills r later → known ≡ before
+    → told_to p first clock ++ text_of_lines (flat_map instant_lines (instant_of next (changes_between known now))) ≡ told_to p first later
+told_kept p q r first before now known told clock next later e f h step at is k =
+    told_to_next p first known now clock next (k ∙ h.known) (subst (λ (x : Plan). IsNextClock x clock next) e step)
+    (is ∙ ap₂ fills (f ∙ e) at)
+    ∙ ap (told_to p first) (sym at)
 
 pub last_is : (p : Plan) (r : Report) (last : ℕ) → r ≡ report p → last ≡ clock_of r.verdict → last ≡ last_clock p
 unfolding report

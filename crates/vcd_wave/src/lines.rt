@@ -1,6 +1,8 @@
 //! The lines of a wave.
-ghost use Rattle.std.specs.Prelude.{◌≡◌, ◌∷◌, ◌++◌, decimal, map, length, OnOk, IfOk};
+ghost use Rattle.std.specs.Prelude.{◌≡◌, ◌≤◌, ◌∷◌, ◌++◌, decimal, map, length, OnOk, OnErr, IfOk, IsErrOf};
 ghost use Rattle.std.specs.List.{flat_map, enumerate_from};
+ghost use Rattle.sim_io.specs.Causes.{AppendsPrefix, Rose};
+ghost use Rattle.sim_io.specs.Telling.{IsTold};
 ghost use Rattle.report_text.specs.Lines.{line, text_of_lines};
 ghost use Rattle.vcd_wave.specs.Wave.{fifo_names, changes_between, has_some, instant_of};
 ghost use Rattle.vcd_wave.specs.WaveText.{code_of, var_tokens, time_tokens, change_tokens, header_lines, opening, instant_lines};
@@ -9,6 +11,7 @@ use crate::binary::push_binary;
 use flow_design::Channel;
 use flow_word::{List, OutOfMemory};
 use report_text::{push_number, push_token};
+use sim_io::{Sink, TellFault, write_full};
 
 /// Adds a space and the code of the FIFO with this number.
 fn push_code(text: &mut List<u8>, fifo: u64) -> Result<(), OutOfMemory>
@@ -100,7 +103,7 @@ fn print_changes(text: &mut List<u8>, before: &[u64], now: &[u64]) -> Result<(),
 }
 
 /// Adds a clock with its changes, if there is any, and returns whether there is.
-pub fn print_instant(
+fn print_instant(
     text: &mut List<u8>,
     clock: u64,
     before: &[u64],
@@ -116,5 +119,28 @@ pub fn print_instant(
         print_time(text, clock)?;
         print_changes(text, before, now)?;
     }
+    Ok(some)
+}
+
+/// Adds a clock with its changes, if there is any, to what is pending, writes that where it is a piece, and returns whether there is.
+#[tactic(auto, using(sim_io::proofs::Pending::prefix_none))]
+pub fn write_instant<K: Sink>(
+    pending: &mut List<u8>,
+    clock: u64,
+    before: &[u64],
+    now: &[u64],
+    sink: &mut K,
+) -> Result<bool, TellFault>
+    requires { length before.now ≡ length now.now }
+    ensures ok { OnOk result (IsTold (K.held sink.old) (K.held sink.new) pending.new
+        (pending.old ++ text_of_lines (flat_map instant_lines (instant_of clock (changes_between before.now now.now))))) }
+    ensures some { IfOk result (λ some. some ≡ has_some (changes_between before.now now.now)) }
+    ensures err { OnErr result (AppendsPrefix (K.held sink.old) (K.held sink.new)
+        (pending.old ++ text_of_lines (flat_map instant_lines (instant_of clock (changes_between before.now now.now))))) }
+    ensures write_fault { IsErrOf result TellFault.WriteFault → Rose (K.faults sink.old) (K.faults sink.new) }
+    ensures faults { K.faults sink.old ≤ K.faults sink.new }
+{
+    let some = print_instant(pending, clock, before, now)?;
+    write_full(sink, pending)?;
     Ok(some)
 }

@@ -1,5 +1,7 @@
 //! The wave of a core's plan.
-ghost use Rattle.std.specs.Prelude.{◌≡◌, ◌++◌, IfOk, OnOk};
+ghost use Rattle.std.specs.Prelude.{◌≡◌, ◌≤◌, ◌++◌, IfOk, IsErrOf, OnErr, OnOk};
+ghost use Rattle.sim_io.specs.Causes.{AppendsPrefix, Rose};
+ghost use Rattle.sim_io.specs.Telling.{IsTold};
 ghost use Rattle.std.specs.List.{flat_map};
 ghost use Rattle.flow_design.specs.StaticRules.{FitsEngine};
 ghost use Rattle.lockstep_defs.specs.Report as lockstep;
@@ -11,56 +13,72 @@ ghost use Rattle.fifo_fills.specs.Fills.{last_clock};
 ghost use Rattle.vcd_wave.specs.Wave.{wave_of, instants_to, closing};
 ghost use Rattle.vcd_wave.specs.WaveText as form;
 
-use crate::lines::{print_header, print_instant, print_opening, print_time};
+use crate::lines::{print_header, print_opening, print_time, write_instant};
 use fifo_fills::FillWalk;
 use flow_design::{Design, Plan, Report};
-use flow_word::{List, OutOfMemory, Words};
+use flow_word::List;
 use sim_core::Core;
+use sim_io::{Sink, TellFault};
 use std::alloc::Global;
 
-/// The text of the wave of a final core's plan, whose design this is: how many elements each FIFO holds in each clock up to the
-/// verdict's.
+/// Writes the text of the wave of a final core's plan, whose design this is, in pieces, and hands out the rest: how many elements each
+/// FIFO holds in each clock up to the verdict's.
 ///
-/// It takes memory for the report with its events, for a number of each channel and each module, and for the text. An error leaves
-/// nothing.
-pub fn wave_text(alloc: Global, design: &Design, core: &Core) -> Result<List<u8>, OutOfMemory>
+/// It takes memory for the report with its events, for a number of each channel and each module, and for a piece of the text. After an
+/// error a prefix of the text is written.
+pub fn wave_text<K: Sink>(
+    alloc: Global,
+    design: &Design,
+    core: &Core,
+    sink: &mut K,
+) -> Result<List<u8>, TellFault>
     requires is_final { IsFinal (design_of core.now.plan) core.now.plan.cycles (theory_of core.now) }
     requires design { design.now ≡ core.now.plan.design }
-    ensures { IfOk result (λ text. text ≡ form.wave_text (wave_of core.now.plan)) }
+    ensures rest { IfOk result (λ rest. IsTold (K.held sink.old) (K.held sink.new) rest (form.wave_text (wave_of core.now.plan))) }
+    ensures prefix { OnErr result (AppendsPrefix (K.held sink.old) (K.held sink.new) (form.wave_text (wave_of core.now.plan))) }
+    ensures write_fault { IsErrOf result TellFault.WriteFault → Rose (K.faults sink.old) (K.faults sink.new) }
+    ensures faults { K.faults sink.old ≤ K.faults sink.new }
 {
     let _modules = core.modules();
     let report = core.report(alloc, true)?;
-    let mut text = List::new(alloc);
-    let fifos = print_header(&mut text, design.channels.as_slice())?;
-    print_opening(&mut text, fifos)?;
-    print_later(alloc, &mut text, core.plan(), &report)?;
-    Ok(text)
+    let mut pending = List::new(alloc);
+    let fifos = print_header(&mut pending, design.channels.as_slice())?;
+    print_opening(&mut pending, fifos)?;
+    write_later(alloc, &mut pending, core.plan(), &report, sink)?;
+    Ok(pending)
 }
 
-/// Adds the clocks behind clock 0 in which a FIFO holds another number of elements than in the clock before, and the last clock.
-fn print_later(
+/// Adds the clocks after clock 0 in which a FIFO holds another number of elements than in the clock before, and the last clock, to what
+/// is pending, and writes that in pieces.
+fn write_later<K: Sink>(
     alloc: Global,
-    text: &mut List<u8>,
+    pending: &mut List<u8>,
     plan: &Plan,
     report: &Report,
-) -> Result<(), OutOfMemory>
+    sink: &mut K,
+) -> Result<(), TellFault>
     requires fits { FitsEngine plan.now }
     requires report { report.now ≡ lockstep.report plan.now }
-    ensures { OnOk result (text.new ≡ text.old ++ text_of_lines (flat_map form.instant_lines (wave_of plan.now).later)) }
+    ensures ok { OnOk result (IsTold (K.held sink.old) (K.held sink.new) pending.new
+        (pending.old ++ text_of_lines (flat_map form.instant_lines (wave_of plan.now).later))) }
+    ensures err { OnErr result (AppendsPrefix (K.held sink.old) (K.held sink.new)
+        (pending.old ++ text_of_lines (flat_map form.instant_lines (wave_of plan.now).later))) }
+    ensures write_fault { IsErrOf result TellFault.WriteFault → Rose (K.faults sink.old) (K.faults sink.new) }
+    ensures faults { K.faults sink.old ≤ K.faults sink.new }
 {
     let mut walk = FillWalk::new(alloc, plan, report)?;
     let mut before = List::from_slice(alloc, walk.fills())?;
     let mut told = 0;
     while let Some(clock) = walk.advance() {
         let now = walk.fills();
-        if print_instant(text, clock, before.as_slice(), now)? {
+        if write_instant(pending, clock, before.as_slice(), now, sink)? {
             told = clock;
         }
         before.as_mut_slice().copy_from_slice(now);
     }
     let last = report.verdict.clock();
     if told < last {
-        print_time(text, last)?;
+        print_time(pending, last)?;
     }
     Ok(())
 }

@@ -2,9 +2,13 @@
 use Rattle.std.proofs.Common.{◌≡◌, ◌∙◌, ap, subst, sym, refl, arith, ℕ, ◌≤◌, Bool, List, ◌++◌, [], length, None, Some, IfSome, Result, Ok}
 use Rattle.std.proofs.Common.{Err, length-append, append-nil}
 use Rattle.std.specs.declared.option.Option.{Option}
-use Rattle.std.specs.Prelude.{IfOk}
-use Rattle.std.specs.Io.KnownBytes.{Appends, Consumes, IsAtEnd}
-use Rattle.sim_io.specs.Causes.{LosesCount}
+use Rattle.std.specs.Prelude.{IfOk, IsErr}
+use Rattle.std.proofs.lemmas.Result.{IfOk-from_err}
+use Rattle.flow_design.proofs.Failing.{on_err}
+use Rattle.std.specs.Io.KnownBytes.{Consumes, IsAtEnd}
+use Rattle.sim_io.specs.Causes.{AppendsPrefix, LosesCount}
+use Rattle.sim_io.specs.Telling.{IsTold}
+use Rattle.sim_io.proofs.Pending.{prefix_none, told_none}
 use Rattle.flow_design.specs.declared.session.Statement.{Statement}
 use Rattle.flow_grammar.specs.declared.fault.TextFault.{TextFault}
 use Rattle.flow_grammar.specs.Text.{Said, StandsFor, HasFault}
@@ -12,10 +16,9 @@ use Rattle.flow_check.specs.Checked.{fault_of}
 use Rattle.cli_words.specs.declared.Command.{Command}
 use Rattle.cli_words.specs.declared.Command.TheVariants.{Of, Gen}
 use Rattle.cli_words.specs.declared.Task.{Task}
-use Rattle.whole_answer.specs.declared.status.Status.TheVariants.{ReadFault, Memory}
 use Rattle.whole_answer.specs.declared.answer.Answer.{Answer}
 use Rattle.whole_answer.specs.Made.{refused_words, refused, made, generated}
-use Rattle.whole_answer.specs.Answer.{AnswersSession, AnswersText, AnswersCommand, Tells}
+use Rattle.whole_answer.specs.Answer.{AnswersSession, AnswersText, AnswersCommand, IsRest, Begins}
 use Rattle.whole_answer.specs.Answer.AnswersSession.{misfit, fit}
 use Rattle.whole_answer.specs.Answer.AnswersText.{misread, read}
 
@@ -58,24 +61,54 @@ text_only task text r only a (read s l said h) = subst (λ x. a ≡ answer_to x 
 
 -- ---- what the code makes
 
--- a refusal with the reading fault of a text answers it
-pub refused_text : {E : Type 0} (task : Task) (text : List ℕ) (fault : TextFault) (r : Result Answer E) → HasFault text fault
-    → IfOk r (λ whole. whole ≡ refused fault) → IfOk r (λ whole. AnswersText task text whole)
-refused_text task text fault (Ok whole) e h = misread fault e h
-refused_text task text fault (Err e) f h = tt
+-- the whole of an answer is its rest where nothing was written
+pub rest_whole : (whole rest : Answer) (held : Option (List ℕ)) → rest ≡ whole → IsRest whole held held rest
+rest_whole whole rest held e = record {
+  text = subst (λ (a : Answer). IsTold held held rest.text a.text) e (told_none held rest.text);
+  status = ap (λ (a : Answer). a.status) e;
+}
 
--- and so does one with the checking fault of the session that it stands for
-pub refused_session : {E : Type 0} (task : Task) (text : List ℕ) (s : List Statement) (l : List ℕ) (fault : TextFault) (r : Result Answer E)
-    → StandsFor text s l → fault_of s l ≡ Some fault → IfOk r (λ whole. whole ≡ refused fault)
-    → IfOk r (λ whole. AnswersText task text whole)
-refused_session task text s l fault (Ok whole) stands e h = read s l stands (misfit fault e h)
-refused_session task text s l fault (Err e) stands f h = tt
+-- a whole answer that is handed out begins it
+pub begins_whole : {E : Type 0} (IsIt : Answer → Type 0) (whole : Answer) (held : Option (List ℕ)) (r : Result Answer E) → IsIt whole
+    → IfOk r (λ a. a ≡ whole) → Begins IsIt held held r
+begins_whole IsIt whole held (Ok rest) is h = record { whole = whole; is_it = is; rest = rest_whole whole rest held h; prefix = tt }
+begins_whole IsIt whole held (Err e) is h = record { whole = whole; is_it = is; rest = tt; prefix = prefix_none held whole.text }
 
--- what is made of a session without a fault answers the text that stands for it
-pub made_text : {E : Type 0} (task : Task) (text : List ℕ) (s : List Statement) (l : List ℕ) (r : Result Answer E)
-    → StandsFor text s l → fault_of s l ≡ None → IfOk r (λ whole. whole ≡ made task s) → IfOk r (λ whole. AnswersText task text whole)
-made_text task text s l (Ok whole) stands e h = read s l stands (fit e h)
-made_text task text s l (Err e) stands f h = tt
+-- where nothing was written before a fault
+pub begins_not : {E : Type 0} (IsIt : Answer → Type 0) (held : Option (List ℕ)) (e : E) → (a : Answer) × IsIt a
+    → Begins IsIt held held (Err e)
+begins_not IsIt held e a = record { whole = a.0; is_it = a.1; rest = tt; prefix = prefix_none held a.0.text }
+
+-- the same of a result that is known to be a fault
+pub begins_fails : {E : Type 0} (IsIt : Answer → Type 0) (held : Option (List ℕ)) (r : Result Answer E) → IsErr r
+    → (a : Answer) × IsIt a → Begins IsIt held held r
+begins_fails IsIt held r f a =
+    record { whole = a.0; is_it = a.1; rest = IfOk-from_err r _ f; prefix = on_err r (prefix_none held a.0.text) }
+
+-- an answer of one kind that is one of another
+pub begins_so : {E : Type 0} (IsIt IsOther : Answer → Type 0) (old new : Option (List ℕ)) (r : Result Answer E)
+    → ((a : Answer) → IsIt a → IsOther a) → Begins IsIt old new r → Begins IsOther old new r
+begins_so IsIt IsOther old new r so b = record { whole = b.whole; is_it = so b.whole b.is_it; rest = b.rest; prefix = b.prefix }
+
+-- the fault has another name
+pub begins_as_ok : {E F : Type 0} (IsIt : Answer → Type 0) (old new : Option (List ℕ)) (a : Answer)
+    → Begins {E = E} IsIt old new (Ok a) → Begins {E = F} IsIt old new (Ok a)
+begins_as_ok IsIt old new a b = record { whole = b.whole; is_it = b.is_it; rest = b.rest; prefix = tt }
+
+pub begins_as_err : {E F : Type 0} (IsIt : Answer → Type 0) (old new : Option (List ℕ)) (e : E) (r : Result Answer F) → IsErr r
+    → Begins {E = E} IsIt old new (Err e) → Begins {E = F} IsIt old new r
+begins_as_err IsIt old new e r f b =
+    record { whole = b.whole; is_it = b.is_it; rest = IfOk-from_err r _ f; prefix = on_err r b.prefix }
+
+-- what is made of a session answers the text that stands for it
+pub made_text : (task : Task) (text : List ℕ) (s : List Statement) (l : List ℕ) → StandsFor text s l → fault_of s l ≡ None
+    → AnswersText task text (made task s)
+made_text task text s l stands e = read s l stands (fit e refl)
+
+-- and so does a refusal with its checking fault
+pub refused_session : (task : Task) (text : List ℕ) (s : List Statement) (l : List ℕ) (fault : TextFault) → StandsFor text s l
+    → fault_of s l ≡ Some fault → AnswersText task text (refused fault)
+refused_session task text s l fault stands e = read s l stands (misfit fault e refl)
 
 -- ---- what was read
 
@@ -84,31 +117,26 @@ pub of_each : {X : Type 0} (P : X → Type 0) (o : Option X) → ((x : X) → P 
 of_each P None h = tt
 of_each P (Some x) h = h x
 
+-- what follows from what holds of each value
+pub in_each : {X : Type 0} (P Q : X → Type 0) (o : Option X) → ((x : X) → P x → Q x) → IfSome o P → IfSome o Q
+in_each P Q None so h = tt
+in_each P Q (Some x) so h = so x h
+
+-- an answer to all that was read
+pub begins_read : {E : Type 0} (P : List ℕ → Answer → Type 0) (old new : Option (List ℕ)) (text : List ℕ) (a b : Option (List ℕ))
+    (r : Result Answer E) → Consumes old new text → IsAtEnd new → Begins (P text) a b r → IfSome old (λ bytes. Begins (P bytes) a b r)
+begins_read P None new text a b r c e h = tt
+begins_read P (Some x) None text a b r c e h = absurd c
+begins_read P (Some x) (Some y) text a b r c e h =
+    let all : text ≡ x = sym (c ∙ ap (λ (l : List ℕ). text ++ l) e ∙ append-nil text) in
+    subst (λ (t : List ℕ). Begins (P t) a b r) all h
+
 -- what holds of all bytes of which so many were taken
 pub of_long : (P : List ℕ → Type 0) (old new : Option (List ℕ)) (n : ℕ) → LosesCount old new n
     → ((bytes : List ℕ) → n ≤ length bytes → P bytes) → IfSome old P
 of_long P None new n c h = tt
 of_long P (Some x) None n c h = absurd c.consumed
 of_long P (Some x) (Some y) n c h = h x (omega (arith, ap length c.consumed, length-append c.bytes y, c.count))
-
--- ---- what a result tells without an answer
-
--- nothing was added
-nothing_added : (o : Option (List ℕ)) → Appends o o []
-nothing_added None = tt
-nothing_added (Some x) = sym (append-nil x)
-
--- want of memory, and nothing written
-pub no_memory : (whole : Answer) (held : Option (List ℕ)) (finished : Bool) → Tells whole Memory held held finished
-no_memory whole held finished = record {
-  answered = λ i. absurd i;
-  write = λ e. cc;
-  memory = λ _. record { count = 0; appended = nothing_added held };
-}
-
--- a fault of reading, and nothing written
-pub not_read : (whole : Answer) (old new : Option (List ℕ)) (finished : Bool) → Tells whole ReadFault old new finished
-not_read whole old new finished = record { answered = λ i. absurd i; write = λ e. cc; memory = λ e. cc }
 
 -- ---- the answer to a command
 

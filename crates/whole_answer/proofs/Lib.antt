@@ -4,6 +4,7 @@ pub mod FurtherLines
 pub mod Limits
 pub mod PointLines
 pub mod Reports
+pub mod Shown
 pub mod Sums
 pub mod Swept
 pub mod Told

@@ -1,9 +1,12 @@
 -- A job, report after report.
-use Rattle.std.proofs.Common.{◌≡◌, refl, sym, ◌∙◌, ap, ap₂, subst, arith, ℕ, ◌+◌, ◌<◌, ◌≤◌, Bool, true, false, cond, List, []}
-use Rattle.std.proofs.Common.{◌∷◌, ◌++◌, length, map, take, get_or, All, add-one, append-nil}
+use Rattle.std.proofs.Common.{◌≡◌, refl, sym, ◌∙◌, ap, ap₂, subst, arith, ℕ, suc, ◌+◌, ◌-◌, ◌<◌, ◌≤◌, Bool, true, false, cond, List, []}
+use Rattle.std.proofs.Common.{◌∷◌, ◌++◌, length, map, take, get_or, All, add-one, append-nil, append_assoc}
 use Rattle.std.specs.Prelude.{if◌then◌else◌, flat_map}
+use Rattle.std.specs.declared.option.Option.{Option}
+use Rattle.std.specs.Io.KnownBytes.{Appends}
 use Rattle.std.specs.List.{range_with_len, enumerate_from}
 use Rattle.std.proofs.lemmas.List.{map-append, take_more, flat_map_more, length-map}
+use Rattle.std.proofs.lemmas.List.Concat.{flat_map-append}
 use Rattle.std.proofs.lemmas.List.FromFn.{length-enumerate_from}
 use Rattle.std.proofs.lemmas.List.Elements.{All-get_or}
 use Rattle.flow_design.specs.declared.plan.Plan.{Plan}
@@ -13,19 +16,22 @@ use Rattle.flow_design.specs.declared.report.Report.{Report}
 use Rattle.flow_design.specs.Plans.{with_depth, EditFits}
 use Rattle.flow_design.specs.StaticRules.{FitsEngine}
 use Rattle.lockstep_defs.specs.Report.{report}
+use Rattle.engine_report.specs.Finished.{report_with}
 use Rattle.edit_runs.specs.declared.count.RunCount.{RunCount}
 use Rattle.edit_runs.specs.Edits.{depth_after, plan_after}
 use Rattle.edit_runs.specs.Runs.{all_go_on, next_counts, counts_after, first_counts}
 use Rattle.report_text.specs.Lines.{line, runs_tokens}
 use Rattle.report_text.specs.ReportText.{report_text_of}
+use Rattle.sim_io.specs.Causes.{AppendsPrefix}
+use Rattle.sim_io.proofs.Pieces.{appends_both}
+use Rattle.sim_io.proofs.Pending.{prefix_of_longer, prefix_longer, prefix_after, range_both}
 use Rattle.whole_answer.specs.declared.answer.Answer.{Answer}
-use Rattle.whole_answer.specs.declared.job.Written.{Written}
 use Rattle.whole_answer.specs.declared.status.Status.{Status}
 use Rattle.whole_answer.specs.declared.status.Status.TheVariants.{Done, Words, Text, Deadlock, Cycles, Ops, ReadFault, WriteFault, Memory}
-use Rattle.whole_answer.specs.Answer.{IsAnswer}
+use Rattle.whole_answer.specs.Answer.{IsAnswer, IsRest}
 use Rattle.whole_answer.specs.Job.{plan_at, report_at, first_numbers, texts_of, counts_in, status_of, is_done, first_not_done, statuses_of}
 use Rattle.whole_answer.specs.Job.{job}
-use Rattle.whole_answer.specs.Going.{Told, told_of, first_told, more_told, HasAdded, IsGoing}
+use Rattle.whole_answer.specs.Going.{Told, told_of, first_told, more_told, IsGoing}
 use Rattle.flow_word.proofs.Ranges.{range_more}
 
 -- ---- lists that grow at their end
@@ -111,14 +117,32 @@ module _ (events : Bool) (p : Plan) (edits : List Edit) where
       ∙ (sym (one_more p (take k edits) e entry)
       ∙ ap (plan_after p) (ap (λ (x : Edit). take k edits ++ x ∷ []) here ∙ sym (take_more edits k other inside)))
 
-  -- the whole job, once no edit is left
-  pub ends : (k : ℕ) (now : Plan) (told : Told) → IsGoing events p edits k now told → k ≡ length edits
-      → record { text = told.text ++ line (runs_tokens told.count.runs); status = told.status } ≡ job events p edits
+  -- the texts of the reports up to one more
+  texts_more : (k : ℕ) (next : Plan) → next ≡ plan_at p edits (k + 1)
+      → texts_of events p edits (first_numbers (k + 1)) ++ report_text_of next.design (report next) (k + 1) events
+      ≡ texts_of events p edits (first_numbers ((k + 1) + 1))
+  texts_more k next e =
+      let texts = texts_of events p edits (first_numbers (k + 1)) in
+      let text_at : ℕ → List ℕ = λ j. report_text_of p.design (report_at p edits j) j events in
+      ap₂ (λ (d : Design) (r : Report). texts ++ report_text_of d r (k + 1) events) (same_design (k + 1) next e) (report_is (k + 1) next e)
+      ∙ (flat_map_more text_at [] (first_numbers (k + 1)) (k + 1)
+      ∙ ap (λ (ks : List ℕ). flat_map text_at ks) (sym (one_number_more k)))
+
+  -- the rest of the job is the line of the runs, once no edit is left
+  pub ends : (k : ℕ) (now : Plan) (told : Told) (first held : Option (List ℕ)) (rest : Answer)
+      → IsGoing events p edits k now told first held → k ≡ length edits
+      → rest.text ≡ line (runs_tokens told.count.runs) → rest.status ≡ told.status → IsRest (job events p edits) first held rest
   unfolding job
-  ends k now told g e =
-      subst (λ (n : ℕ). record { text = told.text ++ line (runs_tokens told.count.runs); status = told.status } ≡ job_to n) e
-      (ap₂ (λ (t : List ℕ) (rest : ℕ × Status). record { text = t ++ line (runs_tokens rest.0); status = rest.1 }) g.text
-      (ap₂ (λ (c : RunCount) (s : Status). (c.runs, s)) g.count g.status))
+  ends k now told first held rest g e text status =
+      subst (λ (n : ℕ). IsRest (job_to n) first held rest) e (record {
+        text = record {
+          sent = texts_of events p edits (first_numbers (k + 1));
+          appended = g.text;
+          whole = ap (λ (t : List ℕ). texts_of events p edits (first_numbers (k + 1)) ++ t)
+              (text ∙ ap (λ (c : RunCount). line (runs_tokens c.runs)) g.count);
+        };
+        status = status ∙ g.status;
+      })
     where
       job_to : ℕ → Answer
       job_to n = record {
@@ -126,43 +150,87 @@ module _ (events : Bool) (p : Plan) (edits : List Edit) where
         status = first_not_done (statuses_of p edits (first_numbers (n + 1)));
       }
 
-  module _ (none : (q : Plan) → plan_after q [] ≡ q) where
-    first : p ≡ plan_at p edits 0
-    first = sym (none p)
+  -- the texts of the first reports begin the job's
+  text_begins : (n : ℕ) → n ≤ length edits + 1
+      → (more : List ℕ) × ((job events p edits).text ≡ texts_of events p edits (first_numbers n) ++ more)
+  unfolding job
+  text_begins n most =
+      let last = length edits + 1 in
+      let text_at : ℕ → List ℕ = λ j. report_text_of p.design (report_at p edits j) j events in
+      let runs : List ℕ = line (runs_tokens (counts_in p edits (length edits)).runs) in
+      let count : last ≡ n + (last - n) = omega (arith, most) in (
+        flat_map text_at (range_with_len (0 + n) (last - n)) ++ runs,
+        ap (λ (j : ℕ). flat_map text_at (range_with_len 0 j) ++ runs) count
+            ∙ (ap (λ (ks : List ℕ). flat_map text_at ks ++ runs) (range_both 0 n (last - n))
+            ∙ (ap (λ (t : List ℕ). t ++ runs) (flat_map-append text_at (range_with_len 0 n) (range_with_len (0 + n) (last - n)))
+            ∙ append_assoc (flat_map text_at (range_with_len 0 n)) (flat_map text_at (range_with_len (0 + n) (last - n))) runs)),
+      )
 
-    pub begins : FitsEngine p → IsAnswer (status_of (report p).verdict) → IsGoing events p edits 0 p (first_told events p)
+  -- what was written is a prefix of the job: of the first report, of those so far, and of the next one after them
+  pub stops_first : (first held : Option (List ℕ)) → AppendsPrefix first held (report_text_of p.design (report p) 0 events)
+      → p ≡ plan_at p edits 0
+      → AppendsPrefix first held (job events p edits).text
+  stops_first first held h e =
+      let whole = text_begins 1 (omega arith) in
+      let text : report_text_of p.design (report p) 0 events ≡ texts_of events p edits (first_numbers 1) =
+      ap (λ (r : Report). report_text_of p.design r 0 events) (report_is 0 p e) ∙ sym (append-nil _) in
+      subst (AppendsPrefix first held) (sym whole.1)
+      (prefix_longer first held (texts_of events p edits (first_numbers 1)) whole.0 (subst (AppendsPrefix first held) text h))
+
+  pub stops : (k : ℕ) (now : Plan) (told : Told) (first held : Option (List ℕ)) → IsGoing events p edits k now told first held
+      → k ≤ length edits → AppendsPrefix first held (job events p edits).text
+  stops k now told first held g most =
+      let whole = text_begins (k + 1) (omega (arith, most)) in
+      subst (AppendsPrefix first held) (sym whole.1)
+      (prefix_of_longer first held (texts_of events p edits (first_numbers (k + 1))) whole.0 g.text)
+
+  pub stops_inside : (k : ℕ) (now next : Plan) (told : Told) (first held last : Option (List ℕ))
+      → IsGoing events p edits k now told first held → k < length edits → next ≡ plan_at p edits (k + 1)
+      → AppendsPrefix held last (report_text_of next.design (report next) (k + 1) events)
+      → AppendsPrefix first last (job events p edits).text
+  stops_inside k now next told first held last g inside e h =
+      let whole = text_begins ((k + 1) + 1) (omega (arith, inside)) in
+      let texts = texts_of events p edits (first_numbers (k + 1)) in
+      subst (AppendsPrefix first last) (sym whole.1)
+      (prefix_longer first last (texts_of events p edits (first_numbers ((k + 1) + 1))) whole.0
+      (subst (AppendsPrefix first last) (texts_more k next e) (prefix_after first held last texts _ g.text h)))
+
+  module _ (none : (q : Plan) → plan_after q [] ≡ q) where
+    pub first_plan : p ≡ plan_at p edits 0
+    first_plan = sym (none p)
+
+    pub begins : FitsEngine p → IsAnswer (status_of (report p).verdict) → (first held : Option (List ℕ))
+        → Appends first held (report_text_of p.design (report p) 0 events)
+        → IsGoing events p edits 0 p (first_told p) first held
     unfolding first_told
-    begins fits answer =
-        let is = report_is 0 p first in
+    begins fits answer first held written =
+        let is = report_is 0 p first_plan in
         record {
-          plan = first;
+          plan = first_plan;
           fits = fits;
-          text = ap (λ (r : Report). report_text_of p.design r 0 events) is ∙ sym (append-nil _);
+          text = subst (Appends first held) (ap (λ (r : Report). report_text_of p.design r 0 events) is ∙ sym (append-nil _)) written;
           status = ap (λ (r : Report). status_of r.verdict) is ∙ sym (status_more [] (status_of (report_at p edits 0).verdict));
           count = ap (λ (r : Report). first_counts r.answers) is;
           runs = omega arith;
           answer = answer;
         }
 
-  pub goes_on : (k : ℕ) (plan next : Plan) (told : Told) → IsGoing events p edits k plan told → next ≡ plan_at p edits (k + 1)
+  pub goes_on : (k : ℕ) (plan next : Plan) (told : Told) (first held last : Option (List ℕ))
+      → IsGoing events p edits k plan told first held → next ≡ plan_at p edits (k + 1)
       → FitsEngine next
-      → IsAnswer (more_told events next (k + 1) told).status
-      → IsGoing events p edits (k + 1) next (more_told events next (k + 1) told)
+      → IsAnswer (more_told next told).status
+      → Appends held last (report_text_of next.design (report next) (k + 1) events)
+      → IsGoing events p edits (k + 1) next (more_told next told) first last
   unfolding more_told
-  goes_on k plan next told g e fits answer =
+  goes_on k plan next told first held last g e fits answer written =
       let is = report_is (k + 1) next e in
-      let names = same_design (k + 1) next e in
-      let text_at : ℕ → List ℕ = λ j. report_text_of p.design (report_at p edits j) j events in
       let status_at : ℕ → Status = λ j. status_of (report_at p edits j).verdict in
       let answers_at : ℕ → List (List Bool) = λ j. (report_at p edits j).answers in
+      let texts = texts_of events p edits (first_numbers (k + 1)) in
       record {
         plan = e;
         fits = fits;
-        text =
-            ap₂ (λ (d : Design) (r : Report). told.text ++ report_text_of d r (k + 1) events) names is
-            ∙ (ap (λ (t : List ℕ). t ++ text_at (k + 1)) g.text
-            ∙ (flat_map_more text_at [] (first_numbers (k + 1)) (k + 1)
-            ∙ ap (λ (ks : List ℕ). flat_map text_at ks) (sym (one_number_more k))));
+        text = subst (Appends first last) (texts_more k next e) (appends_both first held last texts _ g.text written);
         status =
             ap₂ (λ (s : Status) (r : Report). if is_done s then status_of r.verdict else s) g.status is
             ∙ (sym (status_more (map status_at (first_numbers (k + 1))) (status_at (k + 1)))
@@ -178,27 +246,26 @@ module _ (events : Bool) (p : Plan) (edits : List Edit) where
         answer = answer;
       }
 
--- ---- a report that was written
+-- ---- what a report told
 
-pub first_written : (events : Bool) (p : Plan) (old new : Written) (count : RunCount) → old.text ≡ [] → old.status ≡ Done
-    → HasAdded events p 0 old new → count ≡ first_counts (report p).answers → told_of new count ≡ first_told events p
+-- with its events or without them, the report of a plan tells its verdict
+pub same_verdict : (events : Bool) (p q : Plan) (r : Report) → ((events : Bool) (p : Plan) → (report_with events p).verdict ≡ (report p).verdict)
+    → r ≡ report_with events q → q ≡ p → status_of r.verdict ≡ status_of (report p).verdict
+same_verdict events p q r without is same =
+    ap (λ (x : Report). status_of x.verdict) is ∙ (ap status_of (without events q) ∙ ap (λ (x : Plan). status_of (report x).verdict) same)
+
+pub first_is : (p : Plan) (status : Status) (count : RunCount) → status ≡ status_of (report p).verdict
+    → count ≡ first_counts (report p).answers → told_of status count ≡ first_told p
 unfolding first_told
-first_written events p old new count empty done h c =
-    let text = h.text ∙ ap (λ (t : List ℕ). t ++ report_text_of p.design (report p) 0 events) empty in
-    let status = h.status ∙ ap (λ (s : Status). if is_done s then status_of (report p).verdict else s) done in
-    λ i. record { text = text i; status = status i; count = c i }
+first_is p status count s c = λ i. record { status = s i; count = c i }
 
-pub more_written : (events : Bool) (p : Plan) (k : ℕ) (old new : Written) (count now : RunCount) → HasAdded events p k old new
-    → now ≡ next_counts count (report p).answers → told_of new now ≡ more_told events p k (told_of old count)
+pub more_is : (p : Plan) (status new : Status) (count now : RunCount)
+    → new ≡ (if is_done status then status_of (report p).verdict else status)
+    → now ≡ next_counts count (report p).answers → told_of new now ≡ more_told p (told_of status count)
 unfolding more_told
-more_written events p k old new count now h c = λ i. record { text = h.text i; status = h.status i; count = c i }
+more_is p status new count now s c = λ i. record { status = s i; count = c i }
 
 -- ---- the two jobs
-
-pub first_answer : (events : Bool) (p : Plan) (old new : Written) → old.status ≡ Done → HasAdded events p 0 old new
-    → IsAnswer (status_of (report p).verdict)
-first_answer events p old new done h =
-    subst IsAnswer (h.status ∙ ap (λ (s : Status). if is_done s then status_of (report p).verdict else s) done) h.answer
 
 -- the edit that stands at a place, which fits the plan where all do
 abbrev pub edit_at : List Edit → ℕ → Edit

@@ -1,12 +1,15 @@
--- What was told, where writing or finishing failed.
-use Rattle.std.proofs.Common.{◌≡◌, ◌∙◌, arith, Bool, ℕ, List, length, take, None, Some}
+-- What was told: where writing or finishing failed, and where the rest of an answer is told.
+use Rattle.std.proofs.Common.{◌≡◌, ◌∙◌, subst, arith, Bool, ℕ, List, length, take, None, Some, Ok, Err}
 use Rattle.std.proofs.lemmas.Grind.{common_steps}
 use Rattle.std.specs.declared.option.Option.{Option}
 use Rattle.std.specs.Io.KnownBytes.{Appends, Keeps}
 use Rattle.sim_io.specs.Causes.{AppendsPrefix}
 use Rattle.whole_answer.specs.declared.answer.Answer.{Answer}
+use Rattle.sim_io.proofs.Pieces.{appends_both}
+use Rattle.sim_io.proofs.Pending.{prefix_after}
+use Rattle.whole_answer.specs.declared.status.Status.{Status}
 use Rattle.whole_answer.specs.declared.status.Status.TheVariants.{WriteFault}
-use Rattle.whole_answer.specs.Answer.{Tells}
+use Rattle.whole_answer.specs.Answer.{Answers, Begins, IsAnswer, IsRest, Tells, TellsAnswer}
 
 pub appends_kept : (a b c : Option (List ℕ)) (xs : List ℕ) → Appends a b xs → Keeps b c → Appends a c xs
 appends_kept None b c xs p q = tt
@@ -24,3 +27,44 @@ whole_prefix a b text p =
 pub tells_fault : (whole : Answer) (a b : Option (List ℕ)) (finished : Bool) → AppendsPrefix a b whole.text
     → Tells whole WriteFault a b finished
 tells_fault whole a b finished p = record { answered = λ i. absurd i; write = λ _. p; memory = λ e. cc }
+
+-- ---- the rest of an answer
+
+-- what a result says of the rest, it says of the whole
+pub tells_whole : (whole rest : Answer) (result : Status) (a b c : Option (List ℕ)) (finished : Bool) → IsRest whole a b rest
+    → Tells rest result b c finished → Tells whole result a c finished
+tells_whole whole rest result a b c finished r t = record {
+  answered = λ i.
+      let told = t.answered i in (
+        told.0 ∙ r.status,
+        subst (Appends a c) r.text.whole (appends_both a b c r.text.sent rest.text r.text.appended told.1),
+        told.2,
+      );
+  write = λ e. subst (AppendsPrefix a c) r.text.whole (prefix_after a b c r.text.sent rest.text r.text.appended (t.write e));
+  memory = λ e. subst (AppendsPrefix a c) r.text.whole (prefix_after a b c r.text.sent rest.text r.text.appended (t.memory e));
+}
+
+-- a fault, or want of memory, after a prefix was written
+pub tells_none : (whole : Answer) (result : Status) (a b : Option (List ℕ)) (finished : Bool) → (IsAnswer result → ⊥)
+    → AppendsPrefix a b whole.text → Tells whole result a b finished
+tells_none whole result a b finished never p = record { answered = λ i. absurd (never i); write = λ _. p; memory = λ _. p }
+
+-- the answer of the words, where it was begun and its rest told
+pub told_rest : {E : Type 0} (words : List (List ℕ)) (bytes : List ℕ) (rest : Answer) (result : Status) (a b c : Option (List ℕ))
+    (finished : Bool) → Begins {E = E} (Answers words bytes) a b (Ok rest) → Tells rest result b c finished
+    → TellsAnswer words bytes result a c finished
+told_rest words bytes rest result a b c finished h t = record {
+  whole = h.whole;
+  answers = h.is_it;
+  tells = tells_whole h.whole rest result a b c finished h.rest t;
+}
+
+-- and where a fault came first
+pub told_fault : {E : Type 0} (words : List (List ℕ)) (bytes : List ℕ) (e : E) (result : Status) (a b : Option (List ℕ))
+    (finished : Bool) → (IsAnswer result → ⊥) → Begins (Answers words bytes) a b (Err e)
+    → TellsAnswer words bytes result a b finished
+told_fault words bytes e result a b finished never h = record {
+  whole = h.whole;
+  answers = h.is_it;
+  tells = tells_none h.whole result a b finished never h.prefix;
+}

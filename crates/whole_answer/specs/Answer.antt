@@ -1,7 +1,8 @@
 -- The whole answer to the program's words and the bytes of its input.
-use Rattle.std.specs.Prelude.{◌≡◌, ◌≤◌, ℕ, Bool, true, false, List, Option, Some, None}
+use Rattle.std.specs.Prelude.{◌≡◌, ◌≤◌, ℕ, Bool, true, false, List, Option, Some, None, Result, IfOk, OnErr}
 use Rattle.std.specs.Io.KnownBytes.{Appends}
 use Rattle.sim_io.specs.Causes.{AppendsPrefix, Rose}
+use Rattle.sim_io.specs.Telling.{IsTold}
 use Rattle.flow_design.specs.declared.session.Statement.{Statement}
 use Rattle.flow_grammar.specs.declared.fault.TextFault.{TextFault}
 use Rattle.flow_grammar.specs.Text.{StandsFor, HasFault}
@@ -60,6 +61,18 @@ IsAnswer ReadFault = ⊥
 IsAnswer WriteFault = ⊥
 IsAnswer Memory = ⊥
 IsAnswer _ = Unit {0}
+
+-- a prefix of the whole answer was written, and this is the rest of it, with its status
+pub record IsRest (whole : Answer) (old new : Option (List ℕ)) (rest : Answer) : Type 0 where
+  pub text : IsTold old new rest.text whole.text
+  pub status : rest.status ≡ whole.status
+
+-- an answer of which this holds was begun: its rest is handed out, or a prefix of it was written before a fault
+pub record Begins {E : Type 0} (IsIt : Answer → Type 0) (old new : Option (List ℕ)) (result : Result Answer E) : Type 0 where
+  pub whole : Answer
+  pub is_it : IsIt whole
+  pub rest : IfOk result (λ rest. IsRest whole old new rest)
+  pub prefix : OnErr result (AppendsPrefix old new whole.text)
 
 -- what a result says of what the sink held and holds, where this is the whole answer
 pub record Tells (whole : Answer) (result : Status) (old new : Option (List ℕ)) (finished : Bool) : Type 0 where

@@ -1,10 +1,12 @@
-//! The whole answer: what the words ask for is read, checked, run and printed.
-ghost use Rattle.std.specs.Prelude.{◌≡◌, ◌≢◌, ◌≤◌, [], false, map, string_bytes, IfOk, IfSome, Some};
+//! The whole answer: what the words ask for is read, checked, run and written.
+ghost use Rattle.std.specs.Prelude.{◌≡◌, ◌≢◌, ◌≤◌, ◌↔◌, [], false, map, string_bytes, IfOk, IfSome, IsErrOf, Some};
 ghost use Rattle.sim_io.specs.Causes.{Rose};
 ghost use Rattle.cli_words.specs.CommandWords.{accepted, IsInRange, IsSound};
 ghost use Rattle.whole_answer.specs.Made.{refused_words, refused, generated, number_of};
-ghost use Rattle.whole_answer.specs.Answer.{Answers, AnswersCommand, AnswersText, takes_input, IsAnswer};
+ghost use Rattle.whole_answer.specs.Answer.{Answers, AnswersCommand, AnswersText, Begins, takes_input, IsAnswer};
 
+use crate::host::Host;
+use crate::laws::{one_answer, one_text_answer};
 use crate::making::{make, summarize};
 use crate::status::Status;
 use cli_words::{Command, Task, WordFault, read_words};
@@ -17,12 +19,12 @@ use flow_word::{List, OutOfMemory};
 use report_text::print_numbers;
 use run_threads::Gate;
 use session_plan::elaborate;
-use sim_io::{Source, TakeFault, read_all};
+use sim_io::{Sink, Source, TakeFault, TellFault, read_all};
 use std::alloc::Global;
 use std::sync::Wait;
 use std::thread::Threads;
 
-/// A text for the sink, and the status of the program.
+/// A text for the sink, and the status of the program. What is left to write of an answer is one as well.
 #[derive(Debug, Drop)]
 pub(crate) struct Answer {
     pub text: List<u8>,
@@ -34,6 +36,8 @@ pub(crate) struct Answer {
 pub(crate) enum Unanswered {
     /// The source has failed.
     ReadFault,
+    /// The sink has failed.
+    WriteFault,
     /// There was no memory.
     OutOfMemory,
 }
@@ -48,77 +52,110 @@ impl From<OutOfMemory> for Unanswered {
     }
 }
 
+impl From<TellFault> for Unanswered {
+    ghost use Rattle.sim_io.specs.declared.telling.TellFault.TheVariants.{WriteFault as not_written};
+    ghost use Rattle.whole_answer.specs.declared.answer.Unanswered.TheVariants.{ReadFault as not_read, WriteFault as unwritten};
+
+    ghost from_gives = { λ fault unanswered. (fault ≡ not_written ↔ unanswered ≡ unwritten) × (unanswered ≢ not_read) };
+
+    fn from(fault: TellFault) -> Self {
+        match fault {
+            TellFault::WriteFault => Unanswered::WriteFault,
+            TellFault::OutOfMemory => Unanswered::OutOfMemory,
+        }
+    }
+}
+
 /// What is wrong with a text that is too long: no line of it is read.
 const TOO_LONG: TextFault = TextFault {
     line: 0,
     code: Code::TooLong,
 };
 
-/// The answer to the words, with what the source gives as the input.
-pub(crate) fn answer_words<R: Threads + Wait + Sync, S: Source, G: Gate + Sync>(
+/// Begins the answer to the words, with what the source gives as the input: a prefix of its text is written, and the rest is handed
+/// out. Nothing is written before all is read.
+pub(crate) fn answer_words<R: Threads + Wait + Sync, S: Source, G: Gate + Sync, K: Sink>(
     rt: &R,
     alloc: Global,
     words: &[String],
     source: &mut S,
     gate: &G,
+    sink: &mut K,
 ) -> Result<Answer, Unanswered>
-    ensures answers { IfSome (S.left source.old) (λ bytes. IfOk result (λ whole. Answers (map string_bytes words.now) bytes whole)) }
-    ensures status { IfOk result (λ whole. IsAnswer whole.status) }
+    ensures answers { IfSome (S.left source.old) (λ bytes.
+        Begins (Answers (map string_bytes words.now) bytes) (K.held sink.old) (K.held sink.new) result) }
+    ensures status { IfOk result (λ rest. IsAnswer rest.status) }
     ensures read_fault { result ≡ Err Unanswered.ReadFault → Rose (S.faults source.old) (S.faults source.new) }
+    ensures unwritten { result ≡ Err Unanswered.ReadFault → sink.new ≡ sink.old }
     ensures source_faults { S.faults source.old ≤ S.faults source.new }
+    ensures write_fault { result ≡ Err Unanswered.WriteFault → Rose (K.faults sink.old) (K.faults sink.new) }
+    ensures sink_faults { K.faults sink.old ≤ K.faults sink.new }
 
     ensures without_input { takes_input (accepted (map string_bytes words.now)) ≡ false
-        → IfOk result (λ whole. Answers (map string_bytes words.now) [] whole) }
+        → Begins (Answers (map string_bytes words.now) []) (K.held sink.old) (K.held sink.new) result }
     ensures unread { takes_input (accepted (map string_bytes words.now)) ≡ false → source.new ≡ source.old }
     ensures reads_none { takes_input (accepted (map string_bytes words.now)) ≡ false → result ≢ Err Unanswered.ReadFault }
 {
+    one_answer();
     match read_words(alloc, words) {
-        Ok(command) => obey(rt, alloc, command, source, gate),
+        Ok(command) => obey(rt, alloc, command, source, gate, sink),
         Err(WordFault::Refused) => Ok(refuse_words(alloc)?),
         Err(WordFault::OutOfMemory) => Err(Unanswered::OutOfMemory),
     }
 }
 
-/// The answer to a command.
-fn obey<R: Threads + Wait + Sync, S: Source, G: Gate + Sync>(
+/// Begins the answer to a command.
+fn obey<R: Threads + Wait + Sync, S: Source, G: Gate + Sync, K: Sink>(
     rt: &R,
     alloc: Global,
     command: Command,
     source: &mut S,
     gate: &G,
+    sink: &mut K,
 ) -> Result<Answer, Unanswered>
     requires { IsInRange command }
-    ensures answers { IfSome (S.left source.old) (λ bytes. IfOk result (λ whole. AnswersCommand (Some command) bytes whole)) }
-    ensures status { IfOk result (λ whole. IsAnswer whole.status) }
+    ensures answers { IfSome (S.left source.old) (λ bytes.
+        Begins (AnswersCommand (Some command) bytes) (K.held sink.old) (K.held sink.new) result) }
+    ensures status { IfOk result (λ rest. IsAnswer rest.status) }
     ensures read_fault { result ≡ Err Unanswered.ReadFault → Rose (S.faults source.old) (S.faults source.new) }
+    ensures unwritten { result ≡ Err Unanswered.ReadFault → sink.new ≡ sink.old }
     ensures source_faults { S.faults source.old ≤ S.faults source.new }
+    ensures write_fault { result ≡ Err Unanswered.WriteFault → Rose (K.faults sink.old) (K.faults sink.new) }
+    ensures sink_faults { K.faults sink.old ≤ K.faults sink.new }
 
-    ensures without_input { takes_input (Some command) ≡ false → IfOk result (λ whole. AnswersCommand (Some command) [] whole) }
+    ensures without_input { takes_input (Some command) ≡ false
+        → Begins (AnswersCommand (Some command) []) (K.held sink.old) (K.held sink.new) result }
     ensures unread { takes_input (Some command) ≡ false → source.new ≡ source.old }
     ensures reads_none { takes_input (Some command) ≡ false → result ≢ Err Unanswered.ReadFault }
 {
     match command {
-        Command::Of(task) => answer_source(rt, alloc, &task, source, gate),
+        Command::Of(task) => answer_source(rt, alloc, &task, source, gate, sink),
         Command::Gen { seed, modules } => Ok(answer_generated(rt, alloc, seed, modules, gate)?),
     }
 }
 
-/// The answer to the text that the source gives.
-fn answer_source<R: Threads + Wait + Sync, S: Source, G: Gate + Sync>(
+/// Begins the answer to a task and the text that the source gives.
+fn answer_source<R: Threads + Wait + Sync, S: Source, G: Gate + Sync, K: Sink>(
     rt: &R,
     alloc: Global,
     task: &Task,
     source: &mut S,
     gate: &G,
+    sink: &mut K,
 ) -> Result<Answer, Unanswered>
     requires { IsSound task.now }
-    ensures answers { IfSome (S.left source.old) (λ bytes. IfOk result (λ whole. AnswersText task.now bytes whole)) }
-    ensures status { IfOk result (λ whole. IsAnswer whole.status) }
+    ensures answers { IfSome (S.left source.old) (λ bytes.
+        Begins (AnswersText task.now bytes) (K.held sink.old) (K.held sink.new) result) }
+    ensures status { IfOk result (λ rest. IsAnswer rest.status) }
     ensures read_fault { result ≡ Err Unanswered.ReadFault → Rose (S.faults source.old) (S.faults source.new) }
+    ensures unwritten { result ≡ Err Unanswered.ReadFault → sink.new ≡ sink.old }
     ensures source_faults { S.faults source.old ≤ S.faults source.new }
+    ensures write_fault { result ≡ Err Unanswered.WriteFault → Rose (K.faults sink.old) (K.faults sink.new) }
+    ensures sink_faults { K.faults sink.old ≤ K.faults sink.new }
 {
+    one_text_answer();
     match read_all(alloc, source, limits::TEXT_BYTES) {
-        Ok(text) => Ok(answer_text(rt, alloc, task, text.as_slice(), gate)?),
+        Ok(text) => Ok(answer_text(rt, alloc, task, text.as_slice(), gate, sink)?),
         Err(TakeFault::ReadFault) => Err(Unanswered::ReadFault),
         Err(TakeFault::TooLong) => Ok(refuse(alloc, TOO_LONG)?),
         Err(TakeFault::OutOfMemory) => Err(Unanswered::OutOfMemory),
@@ -143,28 +180,32 @@ fn answer_generated<R: Threads + Wait + Sync, G: Gate + Sync>(
     summarize(rt, alloc, seed, modules, plan, gate)
 }
 
-/// The answer to a text: it is read to a session, the session is checked, and the task makes the answer of it.
-fn answer_text<R: Threads + Wait + Sync, G: Gate + Sync>(
+/// Begins the answer to a text: it is read to a session, the session is checked, and the task makes the answer of it.
+fn answer_text<R: Threads + Wait + Sync, G: Gate + Sync, K: Sink>(
     rt: &R,
     alloc: Global,
     task: &Task,
     text: &[u8],
     gate: &G,
-) -> Result<Answer, OutOfMemory>
+    sink: &mut K,
+) -> Result<Answer, TellFault>
     requires { IsSound task.now }
-    ensures answers { IfOk result (λ whole. AnswersText task.now text.now whole) }
-    ensures status { IfOk result (λ whole. IsAnswer whole.status) }
+    ensures answers { Begins (AnswersText task.now text.now) (K.held sink.old) (K.held sink.new) result }
+    ensures status { IfOk result (λ rest. IsAnswer rest.status) }
+    ensures write_fault { IsErrOf result TellFault.WriteFault → Rose (K.faults sink.old) (K.faults sink.new) }
+    ensures faults { K.faults sink.old ≤ K.faults sink.new }
 {
     keeps_rules();
+    one_text_answer();
     let (session, lines) = match read_session(alloc, text) {
         Ok(read) => read,
-        Err(ReadFail::Text(fault)) => return refuse(alloc, fault),
-        Err(ReadFail::OutOfMemory) => return Err(OutOfMemory),
+        Err(ReadFail::Text(fault)) => return Ok(refuse(alloc, fault)?),
+        Err(ReadFail::OutOfMemory) => return Err(TellFault::OutOfMemory),
     };
     match check(alloc, &session, &lines) {
-        Ok(checked) => make(rt, alloc, task, &session, checked, gate),
-        Err(ReadFail::Text(fault)) => refuse(alloc, fault),
-        Err(ReadFail::OutOfMemory) => Err(OutOfMemory),
+        Ok(checked) => make(&Host { rt, alloc, gate }, task, &session, checked, sink),
+        Err(ReadFail::Text(fault)) => Ok(refuse(alloc, fault)?),
+        Err(ReadFail::OutOfMemory) => Err(TellFault::OutOfMemory),
     }
 }
 

@@ -1,14 +1,18 @@
 //! The job of a plan and its edits: a report of the plan, and one more after each edit.
-ghost use Rattle.std.specs.Prelude.{◌≡◌, All, [], IfOk, OnOk};
+ghost use Rattle.std.specs.Prelude.{◌≡◌, ◌≤◌, All, IfOk, IsErrOf, OnErr, OnOk};
+ghost use Rattle.std.specs.Io.KnownBytes.{Appends};
+ghost use Rattle.sim_io.specs.Causes.{AppendsPrefix, Rose};
 ghost use Rattle.flow_design.specs.Plans.{EditFits};
 ghost use Rattle.flow_design.specs.StaticRules.{FitsEngine};
+ghost use Rattle.lockstep_defs.specs.Report.{report};
 ghost use Rattle.engine_report.specs.Finished.{report_with};
-ghost use Rattle.whole_answer.specs.declared.status.Status.TheVariants as status;
+ghost use Rattle.report_text.specs.Lines.{line, runs_tokens};
+ghost use Rattle.report_text.specs.ReportText.{report_text_of};
 ghost use Rattle.whole_answer.specs.Job.{job};
-ghost use Rattle.whole_answer.specs.Answer.{IsAnswer};
-ghost use Rattle.whole_answer.specs.Going.{HasAdded};
+ghost use Rattle.whole_answer.specs.Answer.{IsAnswer, IsRest};
 
 use crate::answer::Answer;
+use crate::host::Host;
 use crate::laws::reports_without_events;
 use crate::simulator::clock_report;
 use crate::status::Status;
@@ -16,145 +20,150 @@ use cli_words::Simulator;
 use clock_machine::codes_of_all;
 use depth_session::{AloneRunner, DepthSession, Runner, ThreadRunner};
 use edit_runs::{RunCount, edits_in_order};
+use flow_check::Checked;
 use flow_design::{Edit, Plan, Report, edit_plan};
 use flow_word::{List, OutOfMemory};
 use report_text::{print_report, print_runs};
 use run_threads::Gate;
+use sim_io::{Sink, TellFault, write_all_of};
 use std::alloc::Global;
 use std::sync::Wait;
 use std::thread::Threads;
 use timing_bridge::edited_plans_agree;
 
-/// What is written of the reports so far.
-#[derive(Debug, Drop)]
-pub(crate) struct Written {
-    /// Their texts.
-    text: List<u8>,
-    /// The status of the first that is not done.
-    status: Status,
-}
-
-/// The job of a plan and its edits.
-pub(crate) fn job<R: Threads + Wait + Sync, G: Gate + Sync>(
-    rt: &R,
-    alloc: Global,
+/// The job of a plan and its edits. Each report is written as it is made, and the line of the runs is handed out.
+pub(crate) fn job<R: Threads + Wait + Sync, G: Gate + Sync, K: Sink>(
+    host: &Host<'_, R, G>,
     by: Simulator,
     events: bool,
-    plan: Plan,
-    edits: &[Edit],
-    gate: &G,
-) -> Result<Answer, OutOfMemory>
-    requires fits { FitsEngine plan }
-    requires edits_fit { All (EditFits plan) edits.now }
-    ensures job { IfOk result (λ whole. whole ≡ job events plan edits.now) }
-    ensures status { IfOk result (λ whole. IsAnswer whole.status) }
+    checked: Checked,
+    sink: &mut K,
+) -> Result<Answer, TellFault>
+    requires fits { FitsEngine checked.plan }
+    requires edits_fit { All (EditFits checked.plan) checked.edits }
+    ensures rest { IfOk result (λ rest. IsRest (job events checked.plan checked.edits) (K.held sink.old) (K.held sink.new) rest) }
+    ensures status { IfOk result (λ rest. IsAnswer rest.status) }
+    ensures prefix { OnErr result (AppendsPrefix (K.held sink.old) (K.held sink.new) (job events checked.plan checked.edits).text) }
+    ensures write_fault { IsErrOf result TellFault.WriteFault → Rose (K.faults sink.old) (K.faults sink.new) }
+    ensures faults { K.faults sink.old ≤ K.faults sink.new }
 {
+    let Checked { plan, edits } = checked;
+    let edits = edits.as_slice();
     match by {
         Simulator::Threads => {
-            engine_job(rt, alloc, events, plan, edits, &mut ThreadRunner::new(gate))
+            let mut runner = ThreadRunner::new(host.gate);
+            engine_job(host, events, plan, edits, &mut runner, sink)
         }
-        Simulator::Alone => engine_job(rt, alloc, events, plan, edits, &mut AloneRunner::new()),
-        Simulator::Clock => clock_job(alloc, events, plan, edits),
+        Simulator::Alone => engine_job(host, events, plan, edits, &mut AloneRunner::new(), sink),
+        Simulator::Clock => clock_job(host.alloc, events, plan, edits, sink),
     }
 }
 
 /// The same by the event engine, which after an edit computes again only what the edit touches. The runner simulates the plan, and
 /// once more wherever an edit turns the outcome of a query.
-fn engine_job<R: Threads + Wait + Sync, U: Runner>(
-    rt: &R,
-    alloc: Global,
+fn engine_job<R: Threads + Wait + Sync, G: Gate + Sync, U: Runner, K: Sink>(
+    host: &Host<'_, R, G>,
     events: bool,
     plan: Plan,
     edits: &[Edit],
     runner: &mut U,
-) -> Result<Answer, OutOfMemory>
+    sink: &mut K,
+) -> Result<Answer, TellFault>
     requires fits { FitsEngine plan }
     requires edits_fit { All (EditFits plan) edits.now }
-    ensures job { IfOk result (λ whole. whole ≡ job events plan edits.now) }
-    ensures status { IfOk result (λ whole. IsAnswer whole.status) }
+    ensures rest { IfOk result (λ rest. IsRest (job events plan edits.now) (K.held sink.old) (K.held sink.new) rest) }
+    ensures status { IfOk result (λ rest. IsAnswer rest.status) }
+    ensures prefix { OnErr result (AppendsPrefix (K.held sink.old) (K.held sink.new) (job events plan edits.now).text) }
+    ensures write_fault { IsErrOf result TellFault.WriteFault → Rose (K.faults sink.old) (K.faults sink.new) }
+    ensures faults { K.faults sink.old ≤ K.faults sink.new }
 {
     edits_in_order();
     edited_plans_agree();
+    reports_without_events();
+    let Host { rt, alloc, .. } = *host;
     let mut session = DepthSession::new(rt, alloc, plan, runner)?;
-    let mut written = nothing_yet(alloc);
     let outcome = session.report(alloc, events)?;
-    write_report(&mut written, session.plan(), &outcome, 0, events)?;
+    write_report(alloc, session.plan(), &outcome, 0, events, sink)?;
+    let mut status = Status::of(outcome.verdict);
     let mut number = 0;
     for edit in edits {
         session.edit(rt, alloc, edit, runner)?;
         number += 1;
         let outcome = session.report(alloc, events)?;
-        write_report(&mut written, session.plan(), &outcome, number, events)?;
+        write_report(alloc, session.plan(), &outcome, number, events, sink)?;
+        status = status.unless_done(Status::of(outcome.verdict));
     }
-    print_runs(&mut written.text, session.runs())?;
-    Ok(Answer {
-        text: written.text,
-        status: written.status,
-    })
+    Ok(last_line(alloc, session.runs(), status)?)
 }
 
 /// The same by the lockstep machine, which goes through all clocks again after each edit. Each block is compiled once.
-fn clock_job(
+fn clock_job<K: Sink>(
     alloc: Global,
     events: bool,
     mut plan: Plan,
     edits: &[Edit],
-) -> Result<Answer, OutOfMemory>
+    sink: &mut K,
+) -> Result<Answer, TellFault>
     requires fits { FitsEngine plan }
     requires edits_fit { All (EditFits plan) edits.now }
-    ensures job { IfOk result (λ whole. whole ≡ job events plan edits.now) }
-    ensures status { IfOk result (λ whole. IsAnswer whole.status) }
+    ensures rest { IfOk result (λ rest. IsRest (job events plan edits.now) (K.held sink.old) (K.held sink.new) rest) }
+    ensures status { IfOk result (λ rest. IsAnswer rest.status) }
+    ensures prefix { OnErr result (AppendsPrefix (K.held sink.old) (K.held sink.new) (job events plan edits.now).text) }
+    ensures write_fault { IsErrOf result TellFault.WriteFault → Rose (K.faults sink.old) (K.faults sink.new) }
+    ensures faults { K.faults sink.old ≤ K.faults sink.new }
 {
     edits_in_order();
     edited_plans_agree();
     reports_without_events();
     let codes = codes_of_all(alloc, &plan)?;
     let codes = codes.as_slice();
-    let mut written = nothing_yet(alloc);
     let outcome = clock_report(alloc, &plan, codes, events)?;
-    write_report(&mut written, &plan, &outcome, 0, events)?;
+    write_report(alloc, &plan, &outcome, 0, events, sink)?;
+    let mut status = Status::of(outcome.verdict);
     let mut count = RunCount::new(outcome.answers);
     let mut number = 0;
     for edit in edits {
         edit_plan(&mut plan, edit);
         number += 1;
         let outcome = clock_report(alloc, &plan, codes, events)?;
-        write_report(&mut written, &plan, &outcome, number, events)?;
+        write_report(alloc, &plan, &outcome, number, events, sink)?;
+        status = status.unless_done(Status::of(outcome.verdict));
         count.add(outcome.answers);
     }
-    print_runs(&mut written.text, count.runs)?;
-    Ok(Answer {
-        text: written.text,
-        status: written.status,
-    })
+    Ok(last_line(alloc, count.runs, status)?)
 }
 
-/// No report is written.
-fn nothing_yet(alloc: Global) -> Written
-    ensures text { result.text ≡ [] }
-    ensures status { result.status ≡ status.Done }
-{
-    Written {
-        text: List::new(alloc),
-        status: Status::Done,
-    }
-}
-
-/// Writes the report of a plan.
-fn write_report(
-    written: &mut Written,
+/// Writes the report of a plan, whole and at once.
+fn write_report<K: Sink>(
+    alloc: Global,
     plan: &Plan,
     outcome: &Report,
     number: u64,
     events: bool,
-) -> Result<(), OutOfMemory>
+    sink: &mut K,
+) -> Result<(), TellFault>
     requires fits { FitsEngine plan.now }
     requires report { outcome.now ≡ report_with events plan.now }
-    requires status { IsAnswer written.old.status }
-    ensures { OnOk result (HasAdded events plan.now number written.old written.new) }
+    ensures ok { OnOk result (Appends (K.held sink.old) (K.held sink.new)
+        (report_text_of plan.now.design (report plan.now) number events)) }
+    ensures err { OnErr result (AppendsPrefix (K.held sink.old) (K.held sink.new)
+        (report_text_of plan.now.design (report plan.now) number events)) }
+    ensures write_fault { IsErrOf result TellFault.WriteFault → Rose (K.faults sink.old) (K.faults sink.new) }
+    ensures faults { K.faults sink.old ≤ K.faults sink.new }
 {
     reports_without_events();
-    print_report(&mut written.text, &plan.design, outcome, number, events)?;
-    written.status = written.status.unless_done(Status::of(outcome.verdict));
+    let mut text = List::new(alloc);
+    print_report(&mut text, &plan.design, outcome, number, events)?;
+    write_all_of(sink, text.as_slice())?;
     Ok(())
+}
+
+/// The line of the runs, which is left to write, and the status.
+fn last_line(alloc: Global, runs: u64, status: Status) -> Result<Answer, OutOfMemory>
+    ensures text { IfOk result (λ rest. rest.text ≡ line (runs_tokens runs)) }
+    ensures status { IfOk result (λ rest. rest.status ≡ status) }
+{
+    let mut text = List::new(alloc);
+    print_runs(&mut text, runs)?;
+    Ok(Answer { text, status })
 }

@@ -3,6 +3,7 @@
 
 mod advising;
 mod answer;
+mod host;
 mod job;
 mod laws;
 mod making;

@@ -1,5 +1,6 @@
 //! What a task makes of a session that passes reading and checking.
-ghost use Rattle.std.specs.Prelude.{◌≡◌, ◌++◌, ◌%◌, ◌^◌, sum_by, All, IfOk, OnOk};
+ghost use Rattle.std.specs.Prelude.{◌≡◌, ◌≤◌, ◌++◌, ◌%◌, ◌^◌, ℕ, List as Items, Option, sum_by, All, IfOk, IsErrOf, OnErr, OnOk};
+ghost use Rattle.sim_io.specs.Causes.{AppendsPrefix, Rose};
 ghost use Rattle.flow_design.specs.Plans.{EditFits};
 ghost use Rattle.flow_design.specs.StaticRules.{FitsEngine};
 ghost use Rattle.session_plan.specs.Plans.{plan_of, edits_of};
@@ -7,10 +8,11 @@ ghost use Rattle.report_text.specs.Lines.{line, text_of_lines};
 ghost use Rattle.cli_words.specs.CommandWords.{AreLimits, IsSound};
 ghost use Rattle.whole_answer.specs.Job.{job};
 ghost use Rattle.whole_answer.specs.Made.{made, with_limits, canonical, summary, summary_lines, sum_tokens, values_in};
-ghost use Rattle.whole_answer.specs.Answer.{IsAnswer};
+ghost use Rattle.whole_answer.specs.Answer.{IsAnswer, IsRest};
 
 use crate::advising::advise_depths;
 use crate::answer::Answer;
+use crate::host::Host;
 use crate::job::job;
 use crate::ordering::order_modules;
 use crate::showing::show;
@@ -25,43 +27,61 @@ use flow_print::print_session;
 use flow_word::{List, OutOfMemory};
 use report_text::{print_numbers, print_runs, print_verdict};
 use run_threads::Gate;
+use sim_io::{Sink, TellFault};
 use std::alloc::Global;
 use std::sync::Wait;
 use std::thread::Threads;
 
-/// What the task makes of a session that passes the check.
-pub(crate) fn make<R: Threads + Wait + Sync, G: Gate + Sync>(
-    rt: &R,
-    alloc: Global,
+/// What the task makes of a session that passes the check: a prefix of its text is written, and the rest is handed out.
+pub(crate) fn make<R: Threads + Wait + Sync, G: Gate + Sync, K: Sink>(
+    host: &Host<'_, R, G>,
     task: &Task,
     session: &Session,
     checked: Checked,
-    gate: &G,
-) -> Result<Answer, OutOfMemory>
+    sink: &mut K,
+) -> Result<Answer, TellFault>
     requires sound { IsSound task.now }
     requires plan { checked.plan ≡ plan_of session.now.statements }
     requires edits { checked.edits ≡ edits_of session.now.statements }
     requires fits { FitsEngine checked.plan }
     requires edits_fit { All (EditFits checked.plan) checked.edits }
-    ensures made { IfOk result (λ whole. whole ≡ made task.now session.now.statements) }
-    ensures status { IfOk result (λ whole. IsAnswer whole.status) }
+    ensures rest { IfOk result (λ rest. IsRest (made task.now session.now.statements) (K.held sink.old) (K.held sink.new) rest) }
+    ensures status { IfOk result (λ rest. IsAnswer rest.status) }
+    ensures prefix { OnErr result (AppendsPrefix (K.held sink.old) (K.held sink.new) (made task.now session.now.statements).text) }
+    ensures write_fault { IsErrOf result TellFault.WriteFault → Rose (K.faults sink.old) (K.faults sink.new) }
+    ensures faults { K.faults sink.old ≤ K.faults sink.new }
 {
+    let Host { rt, alloc, gate } = *host;
     match task {
-        Task::Simulate(by, options) => simulate(rt, alloc, *by, options, checked, gate),
-        Task::Check => print(alloc, session),
-        Task::Advise(options) => advise_depths(rt, alloc, limited(checked, options), gate),
+        Task::Simulate(by, options) => simulate(host, *by, options, checked, sink),
+        Task::Check => unwritten(print(alloc, session)),
+        Task::Advise(options) => {
+            unwritten(advise_depths(rt, alloc, limited(checked, options), gate))
+        }
         Task::Show(view, options) => {
             let plan = limited(checked, options);
-            show(rt, alloc, *view, options, plan, gate)
+            show(host, *view, options, plan, sink)
         }
-        Task::Order => order_modules(alloc, &checked.plan),
+        Task::Order => unwritten(order_modules(alloc, &checked.plan)),
         Task::Sweep { lo, hi, options } => {
-            sweep_depths(rt, alloc, *lo, *hi, limited(checked, options))
+            unwritten(sweep_depths(rt, alloc, *lo, *hi, limited(checked, options)))
         }
         Task::Size { slack, options } => {
-            size_fifos(rt, alloc, &limited(checked, options), *slack, gate)
+            let plan = limited(checked, options);
+            unwritten(size_fifos(rt, alloc, &plan, *slack, gate))
         }
     }
+}
+
+/// An answer of which nothing is written yet.
+fn unwritten(made: Result<Answer, OutOfMemory>) -> Result<Answer, TellFault>
+    ensures rest { (whole : Answer) (held : Option (Items ℕ)) → IfOk made (λ answer. answer ≡ whole)
+        → IfOk result (λ rest. IsRest whole held held rest) }
+    ensures status { IfOk made (λ answer. IsAnswer answer.status) → IfOk result (λ rest. IsAnswer rest.status) }
+    ensures prefix { (text : Items ℕ) (held : Option (Items ℕ)) → OnErr result (AppendsPrefix held held text) }
+    ensures no_fault { IsErrOf result TellFault.WriteFault → ⊥ }
+{
+    Ok(made?)
 }
 
 /// The canonical form.
@@ -76,23 +96,27 @@ fn print(alloc: Global, session: &Session) -> Result<Answer, OutOfMemory>
 }
 
 /// The job of a session under the limits of the options.
-fn simulate<R: Threads + Wait + Sync, G: Gate + Sync>(
-    rt: &R,
-    alloc: Global,
+fn simulate<R: Threads + Wait + Sync, G: Gate + Sync, K: Sink>(
+    host: &Host<'_, R, G>,
     by: Simulator,
     options: &Options,
     checked: Checked,
-    gate: &G,
-) -> Result<Answer, OutOfMemory>
+    sink: &mut K,
+) -> Result<Answer, TellFault>
     requires limits { AreLimits options.now }
     requires fits { FitsEngine checked.plan }
     requires edits_fit { All (EditFits checked.plan) checked.edits }
-    ensures job { IfOk result (λ whole. whole ≡ job options.now.events (with_limits options.now checked.plan) checked.edits) }
-    ensures status { IfOk result (λ whole. IsAnswer whole.status) }
+    ensures rest { IfOk result (λ rest. IsRest (job options.now.events (with_limits options.now checked.plan) checked.edits)
+        (K.held sink.old) (K.held sink.new) rest) }
+    ensures status { IfOk result (λ rest. IsAnswer rest.status) }
+    ensures prefix { OnErr result (AppendsPrefix (K.held sink.old) (K.held sink.new)
+        (job options.now.events (with_limits options.now checked.plan) checked.edits).text) }
+    ensures write_fault { IsErrOf result TellFault.WriteFault → Rose (K.faults sink.old) (K.faults sink.new) }
+    ensures faults { K.faults sink.old ≤ K.faults sink.new }
 {
     let Checked { mut plan, edits } = checked;
     set_limits(&mut plan, options);
-    job(rt, alloc, by, options.events, plan, edits.as_slice(), gate)
+    job(host, by, options.events, Checked { plan, edits }, sink)
 }
 
 /// The plan of a session under the limits of the options. Its edits are let go of.

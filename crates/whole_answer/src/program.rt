@@ -5,7 +5,6 @@ ghost use Rattle.cli_words.specs.CommandWords.{accepted};
 ghost use Rattle.whole_answer.specs.Answer.{takes_input, IsAnswer, Tells, TellsAnswer, TellsFaults};
 
 use crate::answer::{Answer, Unanswered, answer_words};
-use crate::laws::one_answer;
 use crate::status::Status;
 use run_threads::Gate;
 use sim_io::{PutFault, Sink, Source, write_all_of};
@@ -18,7 +17,8 @@ use std::thread::Threads;
 ///
 /// The sink gets exactly the text of the whole answer, and the result is its status, but for three cases: the source has
 /// failed and nothing was written, the sink has failed and a prefix was written, or there was no memory and a prefix was
-/// written. Refused words read nothing, and neither does `gen`.
+/// written. Each report is written as it is made, by one `write_all_of`, and the rest of the answer by one more. Refused words read
+/// nothing, and neither does `gen`.
 pub fn omnisim<R: Threads + Wait + Sync, S: Source, K: Sink, G: Gate + Sync>(
     rt: &R,
     alloc: Global,
@@ -37,10 +37,10 @@ pub fn omnisim<R: Threads + Wait + Sync, S: Source, K: Sink, G: Gate + Sync>(
     ensures unread { takes_input (accepted (map string_bytes words.now)) ≡ false → source.new ≡ source.old }
     ensures reads_none { takes_input (accepted (map string_bytes words.now)) ≡ false → result ≢ Status.ReadFault }
 {
-    one_answer();
-    match answer_words(rt, alloc, words, source, gate) {
-        Ok(whole) => tell(sink, &whole),
+    match answer_words(rt, alloc, words, source, gate, sink) {
+        Ok(rest) => tell(sink, &rest),
         Err(Unanswered::ReadFault) => Status::ReadFault,
+        Err(Unanswered::WriteFault) => Status::WriteFault,
         Err(Unanswered::OutOfMemory) => Status::Memory,
     }
 }

@@ -1,22 +1,26 @@
 //! What is shown of a simulation.
-ghost use Rattle.std.specs.Prelude.{◌≡◌, IfOk};
+ghost use Rattle.std.specs.Prelude.{◌≤◌, IfOk, IsErrOf, OnErr};
+ghost use Rattle.sim_io.specs.Causes.{AppendsPrefix, Rose};
+ghost use Rattle.sim_io.specs.Telling.{IsTold};
 ghost use Rattle.flow_design.specs.StaticRules.{FitsEngine};
 ghost use Rattle.event_timing.specs.Actions.{IsFinal};
 ghost use Rattle.timing_bridge.specs.Designs.{design};
 ghost use Rattle.sim_core.specs.Views.{theory_of};
-ghost use Rattle.whole_answer.specs.Answer.{IsAnswer};
+ghost use Rattle.whole_answer.specs.Answer.{IsAnswer, IsRest};
 ghost use Rattle.whole_answer.specs.Views.{shown, view_text};
 
 use crate::answer::Answer;
+use crate::host::Host;
 use crate::status::Status;
 use cli_words::{Options, View};
 use depth_session::{Runner, ThreadRunner};
 use flow_design::Plan;
-use flow_word::{List, OutOfMemory};
+use flow_word::List;
 use log_text::log_text;
 use path_text::path_text;
 use run_threads::Gate;
 use sim_core::Core;
+use sim_io::{Sink, TellFault};
 use stall_text::stalls_text;
 use std::alloc::Global;
 use std::sync::Wait;
@@ -25,42 +29,47 @@ use trace_text::trace_text;
 use vcd_wave::wave_text;
 
 /// A view of a plan's simulation, which has a thread for each module, and the status of its verdict.
-#[tactic(auto, unfolding(crate::specs::Views::shown))]
-pub(crate) fn show<R: Threads + Wait + Sync, G: Gate + Sync>(
-    rt: &R,
-    alloc: Global,
+#[tactic(auto, using(sim_io::proofs::Pending::prefix_none))]
+pub(crate) fn show<R: Threads + Wait + Sync, G: Gate + Sync, K: Sink>(
+    host: &Host<'_, R, G>,
     view: View,
     options: &Options,
     plan: Plan,
-    gate: &G,
-) -> Result<Answer, OutOfMemory>
+    sink: &mut K,
+) -> Result<Answer, TellFault>
     requires { FitsEngine plan }
-    ensures shown { IfOk result (λ whole. whole ≡ shown view options.now plan) }
-    ensures status { IfOk result (λ whole. IsAnswer whole.status) }
+    ensures rest { IfOk result (λ rest. IsRest (shown view options.now plan) (K.held sink.old) (K.held sink.new) rest) }
+    ensures status { IfOk result (λ rest. IsAnswer rest.status) }
+    ensures prefix { OnErr result (AppendsPrefix (K.held sink.old) (K.held sink.new) (shown view options.now plan).text) }
+    ensures write_fault { IsErrOf result TellFault.WriteFault → Rose (K.faults sink.old) (K.faults sink.new) }
+    ensures faults { K.faults sink.old ≤ K.faults sink.new }
 {
-    let core = ThreadRunner::new(gate).run_plan(rt, alloc, plan)?;
-    let outcome = core.report(alloc, false)?;
-    Ok(Answer {
-        text: view_text(alloc, view, options, &core)?,
-        status: Status::of(outcome.verdict),
-    })
+    let core = ThreadRunner::new(host.gate).run_plan(host.rt, host.alloc, plan)?;
+    let status = Status::of(core.verdict());
+    let text = view_text(host.alloc, view, options, &core, sink)?;
+    Ok(Answer { text, status })
 }
 
-/// The text of a view of a final core's plan, with what the options ask for: `stalls` with polls, `path` with its links.
-fn view_text(
+/// The text of a view of a final core's plan, with what the options ask for: `stalls` with polls, `path` with its links. Those that may
+/// be long are written in pieces, and the rest is handed out.
+fn view_text<K: Sink>(
     alloc: Global,
     view: View,
     options: &Options,
     core: &Core,
-) -> Result<List<u8>, OutOfMemory>
+    sink: &mut K,
+) -> Result<List<u8>, TellFault>
     requires { IsFinal (design core.now.plan) core.now.plan.cycles (theory_of core.now) }
-    ensures { IfOk result (λ text. text ≡ view_text view options.now core.now.plan) }
+    ensures rest { IfOk result (λ rest. IsTold (K.held sink.old) (K.held sink.new) rest (view_text view options.now core.now.plan)) }
+    ensures prefix { OnErr result (AppendsPrefix (K.held sink.old) (K.held sink.new) (view_text view options.now core.now.plan)) }
+    ensures write_fault { IsErrOf result TellFault.WriteFault → Rose (K.faults sink.old) (K.faults sink.new) }
+    ensures faults { K.faults sink.old ≤ K.faults sink.new }
 {
     match view {
-        View::Wave => wave_text(alloc, &core.plan().design, core),
-        View::Log => log_text(alloc, core),
-        View::Stalls => stalls_text(alloc, core, options.polls),
-        View::Path => path_text(alloc, core, options.events, options.polls),
-        View::Trace => trace_text(alloc, core),
+        View::Wave => wave_text(alloc, &core.plan().design, core, sink),
+        View::Log => log_text(alloc, core, sink),
+        View::Stalls => Ok(stalls_text(alloc, core, options.polls)?),
+        View::Path => Ok(path_text(alloc, core, options.events, options.polls)?),
+        View::Trace => trace_text(alloc, core, sink),
     }
 }

@@ -1,23 +1,48 @@
-use Rattle.std.proofs.Common.{subst, Err}
+use Rattle.std.proofs.Common.{subst, refl, Ok, Err}
 use Rattle.flow_grammar.specs.Text.{IsAnswer}
 use Rattle.flow_check.specs.Checked.{IsRefusal}
-use Rattle.whole_answer.proofs.Answering.{refused_text, refused_session, made_text}
+use Rattle.whole_answer.specs.Answer.{AnswersText}
+use Rattle.whole_answer.specs.Answer.AnswersText.{misread}
+use Rattle.whole_answer.specs.Made.{made, refused}
+use Rattle.whole_answer.proofs.Answering.{begins_fails, begins_not, begins_whole, made_text, refused_session}
 use Rattle.whole_answer.proofs.answer.answer_text.Goals as goal
 
 pub returns-in-Err-Text-clause-answers : goal.returns-in-Err-Text-clause-answers
 returns-in-Err-Text-clause-answers g c =
     let fault = subst (λ f. IsAnswer c.args.text.now (Err f)) c.in-Err-Text.field-0-is c.in-Err-Text.ensures.answer in
-    refused_text c.args.task.now c.args.text.now c.in-Err-Text.fault c.refuse.result fault c.refuse.ensures.refused
+    begins_whole (AnswersText c.args.task.now c.args.text.now) (refused c.in-Err-Text.fault) _ (Ok c.in_ok-refuse-in-Err-Text.field-0)
+    (misread c.in-Err-Text.fault fault refl) c.in_ok-refuse-in-Err-Text.ensures.refused
+
+pub returns-in_err-refuse-in-Err-Text-clause-answers : goal.returns-in_err-refuse-in-Err-Text-clause-answers
+returns-in_err-refuse-in-Err-Text-clause-answers g c =
+    begins_fails _ _ _ c.from_residual.ensures.0 (c.one_text_answer.ensures.some c.args.task.now c.args.text.now)
+
+pub returns-in-Err-OutOfMemory-clause-answers : goal.returns-in-Err-OutOfMemory-clause-answers
+returns-in-Err-OutOfMemory-clause-answers g c = begins_not _ _ _ (c.one_text_answer.ensures.some c.args.task.now c.args.text.now)
 
 pub returns-in-Ok-check-clause-answers : goal.returns-in-Ok-check-clause-answers
 returns-in-Ok-check-clause-answers g c =
     let read = c.in-Ok.read in
-    made_text c.args.task.now c.args.text.now read.0.statements read.1 c.make.result c.in-Ok.ensures.answer c.in-Ok-check.ensures.faultless
-    c.make.ensures.made
+    record {
+      whole = made c.args.task.now read.0.statements;
+      is_it = made_text c.args.task.now c.args.text.now read.0.statements read.1 c.in-Ok.ensures.answer c.in-Ok-check.ensures.faultless;
+      rest = c.make.ensures.rest;
+      prefix = c.make.ensures.prefix;
+    }
 
 pub returns-in-Err-Text-check-clause-answers : goal.returns-in-Err-Text-check-clause-answers
 returns-in-Err-Text-check-clause-answers g c =
     let read = c.in-Ok.read in
     let fault = subst (IsRefusal read.0.statements read.1) c.in-Err-Text-check.field-0-is c.in-Err-Text-check.ensures.fault in
-    refused_session c.args.task.now c.args.text.now read.0.statements read.1 c.in-Err-Text-check.fault c.refuse-in-Err-Text-check.result
-    c.in-Ok.ensures.answer fault c.refuse-in-Err-Text-check.ensures.refused
+    begins_whole (AnswersText c.args.task.now c.args.text.now) (refused c.in-Err-Text-check.fault) _
+    (Ok c.in_ok-refuse-in-Err-Text-check.field-0)
+    (refused_session c.args.task.now c.args.text.now read.0.statements read.1 c.in-Err-Text-check.fault c.in-Ok.ensures.answer fault)
+    c.in_ok-refuse-in-Err-Text-check.ensures.refused
+
+pub returns-in_err-refuse-in-Err-Text-check-clause-answers : goal.returns-in_err-refuse-in-Err-Text-check-clause-answers
+returns-in_err-refuse-in-Err-Text-check-clause-answers g c =
+    begins_fails _ _ _ c.from_residual-in_err-refuse-in-Err-Text-check.ensures.0 (c.one_text_answer.ensures.some c.args.task.now c.args.text.now)
+
+pub returns-clause-answers : goal.returns-clause-answers
+returns-clause-answers g c =
+    begins_not _ _ _ (c.one_text_answer.ensures.some c.args.task.now c.args.text.now)

@@ -3,13 +3,22 @@ use Rattle.flow_design.specs.declared.plan.Plan.{Plan}
 use Rattle.flow_design.specs.declared.report.Report.{Report}
 use Rattle.flow_design.specs.Plans.{with_depth}
 use Rattle.flow_design.specs.StaticRules.{FitsEngine}
+use Rattle.lockstep_defs.specs.Report.{report}
+use Rattle.report_text.specs.ReportText.{report_text_of}
+use Rattle.std.specs.Prelude.{if◌then◌else◌}
+use Rattle.std.specs.Io.KnownBytes.{Appends}
+use Rattle.sim_io.specs.Causes.{AppendsPrefix}
+use Rattle.sim_io.proofs.Pending.{prefix_none}
 use Rattle.block_code.specs.declared.code.BlockCode.{BlockCode}
 use Rattle.clock_machine.specs.Parts.{AreCodes}
 use Rattle.edit_runs.specs.Runs.{first_counts, next_counts}
 use Rattle.whole_answer.specs.Answer.{IsAnswer}
-use Rattle.whole_answer.specs.Going.{Told, IsGoing, told_of, HasAdded}
-use Rattle.whole_answer.proofs.Reports.{begins, goes_on, still_fits, next_plan, ends, edit_at, fits_there, first_answer, first_written}
-use Rattle.whole_answer.proofs.Reports.{more_written}
+use Rattle.whole_answer.specs.Going.{Told, IsGoing, told_of}
+use Rattle.whole_answer.specs.Job.{status_of, is_done}
+use Rattle.whole_answer.specs.declared.status.Status.{Status}
+use Rattle.whole_answer.proofs.Reports.{begins, goes_on, still_fits, next_plan, ends, edit_at, fits_there, first_is, more_is, first_plan}
+use Rattle.whole_answer.proofs.Reports.{stops, stops_first, stops_inside, same_verdict}
+use Rattle.flow_design.proofs.Failing.{on_err}
 use Rattle.whole_answer.proofs.job.clock_job.Goals as goal
 
 -- an edit of a depth leaves the modules, and so their code
@@ -17,36 +26,39 @@ codes_stay : (p : Plan) (codes : List (List BlockCode)) (channel depth : ℕ) �
 codes_stay p codes channel depth k = record { count = k.count; each = k.each }
 
 pub loop-edit-init : goal.loop-edit-init
-loop-edit-init c = record {
-  going =
-      let events = c.args.events in
-      let p = c.args.plan in
-      let old = c.nothing_yet-written.result in
-      let new = c.write_report.new.written in
-      let answers = ap (λ (r : Report). r.answers) c.in_ok-outcome.ensures ∙ c.reports_without_events.ensures.answers events p in
-      let told = first_written events p old new c.new-count.result c.nothing_yet-written.ensures.text c.nothing_yet-written.ensures.status
-      c.in_ok-write_report.ensures (c.new-count.ensures ∙ ap first_counts answers) in
-      subst (IsGoing events p c.args.edits.now 0 p) (sym told)
-      (begins events p c.args.edits.now c.edits_in_order.ensures.none c.requires.fits
-      (first_answer events p old new c.nothing_yet-written.ensures.status c.in_ok-write_report.ensures));
-  number = refl;
-  codes = subst (AreCodes c.args.plan) (sym c.as_slice-codes.ensures) c.in_ok-codes.ensures;
-}
+loop-edit-init g c =
+    let events = c.args.events in
+    let p = c.args.plan in
+    let outcome = c.in_ok-outcome.ensures in
+    let answers = ap (λ (r : Report). r.answers) outcome ∙ c.reports_without_events.ensures.answers events p in
+    let status : c.of-status.result ≡ status_of (report p).verdict = c.of-status.ensures.status
+    ∙ same_verdict events p p c.in_ok-outcome.outcome c.reports_without_events.ensures.verdict outcome refl in
+    let told = first_is p c.of-status.result c.new-count.result status (c.new-count.ensures ∙ ap first_counts answers) in
+    let first = g.K.Sink.held c.args.sink.now in
+    let held = g.K.Sink.held c.write_report.new.sink in
+    record {
+      going = subst (λ (t : Told). IsGoing events p c.args.edits.now 0 p t first held) (sym told)
+          (begins events p c.args.edits.now c.edits_in_order.ensures.none c.requires.fits
+          (subst IsAnswer status c.of-status.ensures.answer) first held c.in_ok-write_report.ensures.ok);
+      number = refl;
+      codes = subst (AreCodes p) (sym c.as_slice-codes.ensures) c.in_ok-codes.ensures;
+      faults = c.in_ok-write_report.ensures.faults;
+    }
 
 pub edit_plan-requires : goal.edit_plan-requires
-edit_plan-requires c =
+edit_plan-requires g c =
     let edits = c.args.edits.now in
     let i = c.loop-edit.edit-index in
     let fit = fits_there c.args.plan edits i c.loop-edit-test.true c.requires.edits_fit in
     still_fits c.args.events c.args.plan edits i c.loop-edit.plan (edit_at edits i) c.loop-edit.invariant.going.plan fit
 
 pub clock_report-requires-in-loop-edit-clause-codes : goal.clock_report-requires-in-loop-edit-clause-codes
-clock_report-requires-in-loop-edit-clause-codes c =
+clock_report-requires-in-loop-edit-clause-codes g c =
     subst (λ (q : Plan). AreCodes q c.as_slice-codes.result.now) (sym c.edit_plan.ensures)
     (codes_stay c.loop-edit.plan c.as_slice-codes.result.now _ _ c.loop-edit.invariant.codes)
 
 pub clock_report-requires-in-loop-edit-clause-fits : goal.clock_report-requires-in-loop-edit-clause-fits
-clock_report-requires-in-loop-edit-clause-fits c =
+clock_report-requires-in-loop-edit-clause-fits g c =
     let edits = c.args.edits.now in
     let i = c.loop-edit.edit-index in
     let fit = fits_there c.args.plan edits i c.loop-edit-test.true c.requires.edits_fit in
@@ -55,7 +67,7 @@ clock_report-requires-in-loop-edit-clause-fits c =
     (c.edited_plans_agree.ensures.fits c.loop-edit.plan c.loop-edit.invariant.going.fits (edit_at edits i) now)
 
 pub write_report-requires-in-loop-edit-clause-fits : goal.write_report-requires-in-loop-edit-clause-fits
-write_report-requires-in-loop-edit-clause-fits c =
+write_report-requires-in-loop-edit-clause-fits g c =
     let edits = c.args.edits.now in
     let i = c.loop-edit.edit-index in
     let fit = fits_there c.args.plan edits i c.loop-edit-test.true c.requires.edits_fit in
@@ -64,7 +76,7 @@ write_report-requires-in-loop-edit-clause-fits c =
     (c.edited_plans_agree.ensures.fits c.loop-edit.plan c.loop-edit.invariant.going.fits (edit_at edits i) now)
 
 pub loop-edit-preserved : goal.loop-edit-preserved
-loop-edit-preserved c =
+loop-edit-preserved g c =
     let events = c.args.events in
     let p = c.args.plan in
     let edits = c.args.edits.now in
@@ -72,28 +84,76 @@ loop-edit-preserved c =
     let plan = c.loop-edit.plan in
     let next = c.edit_plan.new.plan in
     let going = c.loop-edit.invariant.going in
-    let new = c.write_report-in-loop-edit.new.written in
     let fit = fits_there p edits i c.loop-edit-test.true c.requires.edits_fit in
     let is = c.edit_plan.ensures ∙ next_plan events p edits c.edits_in_order.ensures.one_more i plan (edit_at edits i)
     (record { channel = 0; depth = 0 }) going.plan c.loop-edit-test.true refl fit.entry in
     let number : c.loop-edit.number + 1 ≡ i + 1 = ap (λ n. n + 1) c.loop-edit.invariant.number in
-    let added = subst (λ (k : ℕ). HasAdded events next k c.loop-edit.written new) number c.in_ok-write_report-2.ensures in
-    let answers = ap (λ (r : Report). r.answers) c.in_ok-outcome-2.ensures ∙ c.reports_without_events.ensures.answers events next in
-    let told = more_written events next (i + 1) c.loop-edit.written new c.loop-edit.count c.add.new.self added
+    let outcome = c.in_ok-outcome-2.ensures in
+    let first = g.K.Sink.held c.args.sink.now in
+    let held = g.K.Sink.held c.loop-edit.sink in
+    let last = g.K.Sink.held c.write_report-in-loop-edit.new.sink in
+    let written = subst (λ (k : ℕ). Appends held last (report_text_of next.design (report next) k events)) number
+    c.in_ok-write_report-2.ensures.ok in
+    let answers = ap (λ (r : Report). r.answers) outcome ∙ c.reports_without_events.ensures.answers events next in
+    let verdict : status_of c.in_ok-outcome-2.outcome.verdict ≡ status_of (report next).verdict
+    = same_verdict events next next c.in_ok-outcome-2.outcome c.reports_without_events.ensures.verdict outcome refl in
+    let status = c.unless_done-status.ensures.status
+    ∙ ap (λ (v : Status). if is_done c.loop-edit.status then v else c.loop-edit.status) (c.of.ensures.status ∙ verdict) in
+    let told = more_is next c.loop-edit.status c.unless_done-status.result c.loop-edit.count c.add.new.self status
     (c.add.ensures ∙ ap (next_counts c.loop-edit.count) answers) in
     let before = still_fits events p edits i plan (edit_at edits i) going.plan fit in
     let fits = subst FitsEngine (sym c.edit_plan.ensures) (c.edited_plans_agree.ensures.fits plan going.fits (edit_at edits i) before) in
+    let answer = c.unless_done-status.ensures.answer going.answer c.of.ensures.answer in
     record {
-      going = subst (IsGoing events p edits (i + 1) next) (sym told)
-          (goes_on events p edits i plan next (told_of c.loop-edit.written c.loop-edit.count) going is fits
-          (subst (λ (t : Told). IsAnswer t.status) told added.answer));
+      going = subst (λ (t : Told). IsGoing events p edits (i + 1) next t first last) (sym told)
+          (goes_on events p edits i plan next (told_of c.loop-edit.status c.loop-edit.count) first held last going is fits
+          (subst (λ (t : Told). IsAnswer t.status) told answer) written);
       number = number;
       codes = subst (λ (q : Plan). AreCodes q c.as_slice-codes.result.now) (sym c.edit_plan.ensures)
           (codes_stay plan c.as_slice-codes.result.now _ _ c.loop-edit.invariant.codes);
+      faults = omega (arith, c.loop-edit.invariant.faults, c.in_ok-write_report-2.ensures.faults);
     }
 
-pub returns-clause-job : goal.returns-clause-job
-returns-clause-job c =
-    ap (λ t. record { text = t; status = c.loop-edit.written.status }) c.in_ok-print_runs.ensures.ok
-    ∙ ends c.args.events c.args.plan c.args.edits.now c.loop-edit.edit-index c.loop-edit.plan
-    (told_of c.loop-edit.written c.loop-edit.count) c.loop-edit.invariant.going (omega (arith, c.loop-edit.auto.edit-index-end))
+pub returns-in_err-codes-clause-prefix : goal.returns-in_err-codes-clause-prefix
+returns-in_err-codes-clause-prefix g c = on_err _ (prefix_none _ _)
+
+pub returns-in_err-outcome-clause-prefix : goal.returns-in_err-outcome-clause-prefix
+returns-in_err-outcome-clause-prefix g c = on_err _ (prefix_none _ _)
+
+pub returns-in_err-write_report-clause-prefix : goal.returns-in_err-write_report-clause-prefix
+returns-in_err-write_report-clause-prefix g c =
+    on_err _ (stops_first c.args.events c.args.plan c.args.edits.now _ _ c.in_err-write_report.ensures.err
+    (first_plan c.args.events c.args.plan c.args.edits.now c.edits_in_order.ensures.none))
+
+pub returns-in_err-outcome-2-clause-prefix : goal.returns-in_err-outcome-2-clause-prefix
+returns-in_err-outcome-2-clause-prefix g c =
+    on_err _ (stops c.args.events c.args.plan c.args.edits.now c.loop-edit.edit-index _ _ _ _ c.loop-edit.invariant.going
+    (omega (arith, c.loop-edit-test.true)))
+
+pub returns-in_err-write_report-2-clause-prefix : goal.returns-in_err-write_report-2-clause-prefix
+returns-in_err-write_report-2-clause-prefix g c =
+    let events = c.args.events in
+    let p = c.args.plan in
+    let edits = c.args.edits.now in
+    let i = c.loop-edit.edit-index in
+    let plan = c.loop-edit.plan in
+    let next = c.edit_plan.new.plan in
+    let going = c.loop-edit.invariant.going in
+    let fit = fits_there p edits i c.loop-edit-test.true c.requires.edits_fit in
+    let is = c.edit_plan.ensures ∙ next_plan events p edits c.edits_in_order.ensures.one_more i plan (edit_at edits i)
+    (record { channel = 0; depth = 0 }) going.plan c.loop-edit-test.true refl fit.entry in
+    let number : c.loop-edit.number + 1 ≡ i + 1 = ap (λ n. n + 1) c.loop-edit.invariant.number in
+    on_err _ (stops_inside events p edits i plan next _ _ _ _ going c.loop-edit-test.true is
+    (subst (λ (k : ℕ). AppendsPrefix (g.K.Sink.held c.loop-edit.sink) (g.K.Sink.held c.write_report-in-loop-edit.new.sink) (report_text_of next.design (report next) k events)) number c.in_err-write_report-2.ensures.err))
+
+pub returns-in_err-last_line-clause-prefix : goal.returns-in_err-last_line-clause-prefix
+returns-in_err-last_line-clause-prefix g c =
+    on_err _ (stops c.args.events c.args.plan c.args.edits.now c.loop-edit.edit-index _ _ _ _ c.loop-edit.invariant.going
+    (omega (arith, c.loop-edit.auto.edit-index-end)))
+
+pub returns-clause-rest : goal.returns-clause-rest
+returns-clause-rest g c =
+    ends c.args.events c.args.plan c.args.edits.now c.loop-edit.edit-index c.loop-edit.plan
+    (told_of c.loop-edit.status c.loop-edit.count) _ _ c.in_ok-last_line.field-0 c.loop-edit.invariant.going
+    (omega (arith, c.loop-edit.auto.edit-index-end))
+    c.in_ok-last_line.ensures.text c.in_ok-last_line.ensures.status

@@ -1,11 +1,13 @@
-use Rattle.std.proofs.Common.{◌≡◌}
+use Rattle.std.proofs.Common.{◌≡◌, ◌≤◌}
 use Rattle.clock_machine.specs.Parts.{AreCodes}
 use Rattle.whole_answer.specs.Going.{IsGoing, told_of}
 use Rattle.whole_answer.proofs.job.clock_job.Given as goal
 
 abbrev pub invariant-loop-edit : goal.invariant-loop-edit
-invariant-loop-edit l = record {
-  going : IsGoing l.events l.fn.plan l.edits l.edit-index l.plan (told_of l.written l.count);
+invariant-loop-edit g l = record {
+  going : IsGoing l.events l.fn.plan l.edits l.edit-index l.plan (told_of l.status l.count) (g.K.Sink.held l.fn.sink)
+      (g.K.Sink.held l.sink);
   number : l.number ≡ l.edit-index;
   codes : AreCodes l.plan l.codes;
+  faults : g.K.Sink.faults l.fn.sink ≤ g.K.Sink.faults l.sink;
 }

@@ -1,15 +1,32 @@
-use Rattle.std.proofs.Common.{◌≡◌, ◌∙◌, sym, subst, refl, ap, arith, ℕ, ◌+◌, ◌++◌}
+use Rattle.std.proofs.Common.{◌≡◌, ◌∙◌, sym, subst, refl, ap, arith, ℕ, ◌+◌, ◌≤◌, List}
+use Rattle.std.specs.Prelude.{Bool, if◌then◌else◌}
+use Rattle.std.specs.declared.option.Option.{Option}
+use Rattle.std.specs.Io.KnownBytes.{Appends}
 use Rattle.flow_design.specs.declared.plan.Plan.{Plan}
+use Rattle.flow_design.specs.declared.report.Report.{Report}
 use Rattle.flow_design.specs.StaticRules.{FitsEngine}
 use Rattle.lockstep_defs.specs.Report.{report}
 use Rattle.edit_runs.specs.Runs.{next_counts}
 use Rattle.depth_session.specs.Sessions.{Session, opened, with_edit}
 use Rattle.report_text.specs.Lines.{line, runs_tokens}
+use Rattle.report_text.specs.ReportText.{report_text_of}
+use Rattle.sim_io.specs.Causes.{AppendsPrefix}
+use Rattle.sim_io.proofs.Pending.{prefix_none}
 use Rattle.whole_answer.specs.Answer.{IsAnswer}
-use Rattle.whole_answer.specs.Going.{Told, IsGoing, told_of, HasAdded}
-use Rattle.whole_answer.proofs.Reports.{begins, goes_on, still_fits, next_plan, ends, edit_at, fits_there, first_answer, first_written}
-use Rattle.whole_answer.proofs.Reports.{more_written}
+use Rattle.whole_answer.specs.Going.{Told, IsGoing, told_of}
+use Rattle.whole_answer.specs.Job.{status_of, is_done}
+use Rattle.whole_answer.specs.declared.status.Status.{Status}
+use Rattle.whole_answer.proofs.Reports.{begins, goes_on, still_fits, next_plan, ends, edit_at, fits_there, first_is, more_is, first_plan}
+use Rattle.whole_answer.proofs.Reports.{stops, stops_first, stops_inside, same_verdict}
+use Rattle.flow_design.proofs.Failing.{on_err}
 use Rattle.whole_answer.proofs.job.engine_job.Goals as goal
+
+-- a report of the plan that stands is one of this plan
+abbrev report_in : Option (List ℕ) → Option (List ℕ) → ℕ → Bool → Plan → Type 0
+report_in old new k events q = Appends old new (report_text_of q.design (report q) k events)
+
+abbrev part_in : Option (List ℕ) → Option (List ℕ) → ℕ → Bool → Plan → Type 0
+part_in old new k events q = AppendsPrefix old new (report_text_of q.design (report q) k events)
 
 pub loop-edit-init : goal.loop-edit-init
 loop-edit-init g c =
@@ -18,19 +35,20 @@ loop-edit-init g c =
     let s = c.in_ok-session.session in
     let begun : s ≡ opened p = c.in_ok-session.ensures.opened in
     let plan : s.plan ≡ p = ap (λ (v : Session). v.plan) begun in
-    let old = c.nothing_yet-written.result in
-    let new = c.write_report.new.written in
-    let added : HasAdded events p 0 old new =
-    subst (λ (q : Plan). HasAdded events q 0 old new) (c.plan.ensures ∙ plan) c.in_ok-write_report.ensures in
-    let told = first_written events p old new s.count c.nothing_yet-written.ensures.text c.nothing_yet-written.ensures.status added
-    (ap (λ (v : Session). v.count) begun) in
+    let first = g.K.Sink.held c.args.sink.now in
+    let held = g.K.Sink.held c.write_report.new.sink in
+    let status : c.of-status.result ≡ status_of (report p).verdict = c.of-status.ensures.status
+    ∙ same_verdict events p s.plan c.in_ok-outcome.outcome c.reports_without_events.ensures.verdict c.in_ok-outcome.ensures plan in
+    let told = first_is p c.of-status.result s.count status (ap (λ (v : Session). v.count) begun) in
+    let written = subst (report_in first held 0 events) (c.plan.ensures ∙ plan) c.in_ok-write_report.ensures.ok in
     let going = begins events p c.args.edits.now c.edits_in_order.ensures.none c.requires.fits
-    (first_answer events p old new c.nothing_yet-written.ensures.status added) in
+    (subst IsAnswer status c.of-status.ensures.answer) first held written in
     record {
-      going = subst (λ (q : Plan). IsGoing events p c.args.edits.now 0 q (told_of new s.count)) (sym plan)
-          (subst (IsGoing events p c.args.edits.now 0 p) (sym told) going);
+      going = subst (λ (q : Plan). IsGoing events p c.args.edits.now 0 q (told_of c.of-status.result s.count) first held) (sym plan)
+          (subst (λ (t : Told). IsGoing events p c.args.edits.now 0 p t first held) (sym told) going);
       live = ap (λ (v : Session). v.live) begun;
       number = refl;
+      faults = c.in_ok-write_report.ensures.faults;
     }
 
 pub edit-requires-clause-fits : goal.edit-requires-clause-fits
@@ -59,8 +77,6 @@ loop-edit-preserved g c =
     let i = c.loop-edit.edit-index in
     let s = c.loop-edit.session in
     let t = c.edit.new.self in
-    let old = c.loop-edit.written in
-    let new = c.write_report-in-loop-edit.new.written in
     let going = c.loop-edit.invariant.going in
     let edited : t ≡ with_edit s (edit_at edits i) = c.in_ok-edit.ensures.edited in
     let plan = ap (λ (v : Session). v.plan) edited in
@@ -68,24 +84,79 @@ loop-edit-preserved g c =
     let is = plan ∙ next_plan events p edits c.edits_in_order.ensures.one_more i s.plan (edit_at edits i)
     (record { channel = 0; depth = 0 }) going.plan c.loop-edit-test.true refl fit.entry in
     let number : c.loop-edit.number + 1 ≡ i + 1 = ap (λ n. n + 1) c.loop-edit.invariant.number in
-    let added : HasAdded events t.plan (i + 1) old new =
-    subst (λ (k : ℕ). HasAdded events t.plan k old new) number
-    (subst (λ (q : Plan). HasAdded events q (c.loop-edit.number + 1) old new) c.plan-in-loop-edit.ensures c.in_ok-write_report-2.ensures) in
+    let first = g.K.Sink.held c.args.sink.now in
+    let held = g.K.Sink.held c.loop-edit.sink in
+    let last = g.K.Sink.held c.write_report-in-loop-edit.new.sink in
+    let written = subst (λ (k : ℕ). report_in held last k events t.plan) number
+    (subst (report_in held last (c.loop-edit.number + 1) events) c.plan-in-loop-edit.ensures c.in_ok-write_report-2.ensures.ok) in
+    let verdict : status_of c.in_ok-outcome-2.outcome.verdict ≡ status_of (report t.plan).verdict
+    = same_verdict events t.plan t.plan c.in_ok-outcome-2.outcome c.reports_without_events.ensures.verdict c.in_ok-outcome-2.ensures refl in
+    let status = c.unless_done-status.ensures.status
+    ∙ ap (λ (v : Status). if is_done c.loop-edit.status then v else c.loop-edit.status) (c.of.ensures.status ∙ verdict) in
     let count = ap (λ (v : Session). v.count) edited ∙ ap (λ (q : Plan). next_counts s.count (report q).answers) (sym plan) in
-    let told = more_written events t.plan (i + 1) old new s.count t.count added count in
+    let told = more_is t.plan c.loop-edit.status c.unless_done-status.result s.count t.count status count in
     let before = still_fits events p edits i s.plan (edit_at edits i) going.plan fit in
     let fits = subst FitsEngine (sym plan) (c.edited_plans_agree.ensures.fits s.plan going.fits (edit_at edits i) before) in
+    let answer = c.unless_done-status.ensures.answer going.answer c.of.ensures.answer in
     record {
-      going = subst (IsGoing events p edits (i + 1) t.plan) (sym told)
-          (goes_on events p edits i s.plan t.plan (told_of old s.count) going is fits
-          (subst (λ (v : Told). IsAnswer v.status) told added.answer));
+      going = subst (λ (v : Told). IsGoing events p edits (i + 1) t.plan v first last) (sym told)
+          (goes_on events p edits i s.plan t.plan (told_of c.loop-edit.status s.count) first held last going is fits
+          (subst (λ (v : Told). IsAnswer v.status) told answer) written);
       live = ap (λ (v : Session). v.live) edited;
       number = number;
+      faults = omega (arith, c.loop-edit.invariant.faults, c.in_ok-write_report-2.ensures.faults);
     }
 
-pub returns-clause-job : goal.returns-clause-job
-returns-clause-job g c =
-    ap (λ t. record { text = t; status = c.loop-edit.written.status })
-    (c.in_ok-print_runs.ensures.ok ∙ ap (λ (n : ℕ). c.loop-edit.written.text ++ line (runs_tokens n)) c.runs.ensures)
-    ∙ ends c.args.events c.args.plan c.args.edits.now c.loop-edit.edit-index c.loop-edit.session.plan
-    (told_of c.loop-edit.written c.loop-edit.session.count) c.loop-edit.invariant.going (omega (arith, c.loop-edit.auto.edit-index-end))
+pub returns-in_err-session-clause-prefix : goal.returns-in_err-session-clause-prefix
+returns-in_err-session-clause-prefix g c = on_err _ (prefix_none _ _)
+
+pub returns-in_err-outcome-clause-prefix : goal.returns-in_err-outcome-clause-prefix
+returns-in_err-outcome-clause-prefix g c = on_err _ (prefix_none _ _)
+
+pub returns-in_err-write_report-clause-prefix : goal.returns-in_err-write_report-clause-prefix
+returns-in_err-write_report-clause-prefix g c =
+    let p = c.args.plan in
+    let plan : c.in_ok-session.session.plan ≡ p = ap (λ (v : Session). v.plan) c.in_ok-session.ensures.opened in
+    on_err _ (stops_first c.args.events p c.args.edits.now _ _
+    (subst (part_in (g.K.Sink.held c.args.sink.now) (g.K.Sink.held c.write_report.new.sink) 0 c.args.events) (c.plan.ensures ∙ plan) c.in_err-write_report.ensures.err)
+    (first_plan c.args.events p c.args.edits.now c.edits_in_order.ensures.none))
+
+pub returns-in_err-edit-clause-prefix : goal.returns-in_err-edit-clause-prefix
+returns-in_err-edit-clause-prefix g c =
+    on_err _ (stops c.args.events c.args.plan c.args.edits.now c.loop-edit.edit-index _ _ _ _ c.loop-edit.invariant.going
+    (omega (arith, c.loop-edit-test.true)))
+
+pub returns-in_err-outcome-2-clause-prefix : goal.returns-in_err-outcome-2-clause-prefix
+returns-in_err-outcome-2-clause-prefix g c =
+    on_err _ (stops c.args.events c.args.plan c.args.edits.now c.loop-edit.edit-index _ _ _ _ c.loop-edit.invariant.going
+    (omega (arith, c.loop-edit-test.true)))
+
+pub returns-in_err-write_report-2-clause-prefix : goal.returns-in_err-write_report-2-clause-prefix
+returns-in_err-write_report-2-clause-prefix g c =
+    let events = c.args.events in
+    let p = c.args.plan in
+    let edits = c.args.edits.now in
+    let i = c.loop-edit.edit-index in
+    let s = c.loop-edit.session in
+    let t = c.edit.new.self in
+    let going = c.loop-edit.invariant.going in
+    let edited : t ≡ with_edit s (edit_at edits i) = c.in_ok-edit.ensures.edited in
+    let fit = fits_there p edits i c.loop-edit-test.true c.requires.edits_fit in
+    let is = ap (λ (v : Session). v.plan) edited ∙ next_plan events p edits c.edits_in_order.ensures.one_more i s.plan (edit_at edits i)
+    (record { channel = 0; depth = 0 }) going.plan c.loop-edit-test.true refl fit.entry in
+    let number : c.loop-edit.number + 1 ≡ i + 1 = ap (λ n. n + 1) c.loop-edit.invariant.number in
+    on_err _ (stops_inside events p edits i s.plan t.plan _ _ _ _ going c.loop-edit-test.true is
+    (subst (λ (k : ℕ). part_in (g.K.Sink.held c.loop-edit.sink) (g.K.Sink.held c.write_report-in-loop-edit.new.sink) k events t.plan) number
+    (subst (part_in (g.K.Sink.held c.loop-edit.sink) (g.K.Sink.held c.write_report-in-loop-edit.new.sink) (c.loop-edit.number + 1) events) c.plan-in-loop-edit.ensures c.in_err-write_report-2.ensures.err)))
+
+pub returns-in_err-last_line-clause-prefix : goal.returns-in_err-last_line-clause-prefix
+returns-in_err-last_line-clause-prefix g c =
+    on_err _ (stops c.args.events c.args.plan c.args.edits.now c.loop-edit.edit-index _ _ _ _ c.loop-edit.invariant.going
+    (omega (arith, c.loop-edit.auto.edit-index-end)))
+
+pub returns-clause-rest : goal.returns-clause-rest
+returns-clause-rest g c =
+    ends c.args.events c.args.plan c.args.edits.now c.loop-edit.edit-index c.loop-edit.session.plan
+    (told_of c.loop-edit.status c.loop-edit.session.count) _ _ c.in_ok-last_line.field-0 c.loop-edit.invariant.going
+    (omega (arith, c.loop-edit.auto.edit-index-end))
+    (c.in_ok-last_line.ensures.text ∙ ap (λ (n : ℕ). line (runs_tokens n)) c.runs.ensures) c.in_ok-last_line.ensures.status

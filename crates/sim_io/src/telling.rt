@@ -1,0 +1,61 @@
+//! Writing a text in pieces, while it is made.
+ghost use Rattle.std.specs.Prelude.{◌≡◌, ◌<◌, length, OnOk, OnErr};
+ghost use Rattle.sim_io.specs.Causes.{HasCause, AppendsPrefix};
+ghost use Rattle.sim_io.specs.Telling.{IsTold};
+
+use crate::traits::Sink;
+use crate::writing::{PutFault, write_all_of};
+use flow_word::{List, OutOfMemory};
+use thiserror::Error;
+
+/// Why a text was not written whole.
+#[derive(Clone, Copy, Debug, PartialEq, Eq, Error)]
+pub enum TellFault {
+    /// The sink has failed.
+    #[error("the sink has failed")]
+    WriteFault,
+    /// There was no memory.
+    #[error("out of memory")]
+    OutOfMemory,
+}
+
+impl From<PutFault> for TellFault {
+    ghost use Rattle.std.specs.Prelude.{◌≡◌};
+    ghost use Rattle.sim_io.specs.declared.telling.TellFault.TheVariants.{WriteFault};
+
+    ghost from_gives = { λ _ fault. fault ≡ WriteFault };
+
+    fn from(_: PutFault) -> Self {
+        TellFault::WriteFault
+    }
+}
+
+impl From<OutOfMemory> for TellFault {
+    ghost use Rattle.std.specs.Prelude.{◌≡◌};
+    ghost use Rattle.sim_io.specs.declared.telling.TellFault.TheVariants.{OutOfMemory as no_memory};
+
+    ghost from_gives = { λ _ fault. fault ≡ no_memory };
+
+    fn from(_: OutOfMemory) -> Self {
+        TellFault::OutOfMemory
+    }
+}
+
+/// How many bytes of a text wait before they are written. A line less than 64 KiB long makes of them at most 1 MiB.
+pub const PIECE: u64 = (1 << 20) - (1 << 16);
+
+/// Writes what is pending of a text, where that is a piece or longer, and empties it. After a fault a prefix of it is written.
+#[tactic(auto, using(crate::proofs::Pending::told_all, crate::proofs::Pending::told_none))]
+pub fn write_full<K: Sink>(sink: &mut K, pending: &mut List<u8>) -> Result<(), PutFault>
+    ensures ok { OnOk result (IsTold (K.held sink.old) (K.held sink.new) pending.new pending.old) }
+    ensures short { OnOk result (length pending.new < PIECE) }
+    ensures waits { length pending.old < PIECE → sink.new ≡ sink.old }
+    ensures err { OnErr result (AppendsPrefix (K.held sink.old) (K.held sink.new) pending.old) }
+    ensures cause { HasCause (K.faults sink.old) (K.faults sink.new) result }
+{
+    if pending.len() >= PIECE {
+        write_all_of(sink, pending.as_slice())?;
+        pending.truncate(0);
+    }
+    Ok(())
+}

@@ -1,0 +1,31 @@
+-- What is shown of a plan, of which a part was written.
+use Rattle.std.proofs.Common.{◌≡◌, ◌∙◌, ap, subst, ℕ, List}
+use Rattle.std.specs.declared.option.Option.{Option}
+use Rattle.flow_design.specs.declared.plan.Plan.{Plan}
+use Rattle.flow_design.specs.declared.report.Verdict.{Verdict}
+use Rattle.lockstep_defs.specs.Report.{report}
+use Rattle.lockstep_defs.specs.Verdict.{verdict}
+use Rattle.sim_io.specs.Causes.{AppendsPrefix}
+use Rattle.sim_io.specs.Telling.{IsTold}
+use Rattle.cli_words.specs.declared.Options.{Options}
+use Rattle.cli_words.specs.declared.View.{View}
+use Rattle.whole_answer.specs.declared.status.Status.{Status}
+use Rattle.whole_answer.specs.Answer.{IsRest}
+use Rattle.whole_answer.specs.Job.{status_of}
+use Rattle.whole_answer.specs.Views.{shown, view_text}
+
+-- the rest of the text, and the status
+pub shown_rest : (view : View) (o : Options) (p q : Plan) (old new : Option (List ℕ)) (text : List ℕ) (v : Verdict) (s : Status) → q ≡ p
+    → IsTold old new text (view_text view o q) → v ≡ verdict q → s ≡ status_of v
+    → IsRest (shown view o p) old new (record { text = text; status = s })
+unfolding shown report
+shown_rest view o p q old new text v s same told is status = record {
+  text = subst (λ (x : Plan). IsTold old new text (view_text view o x)) same told;
+  status = status ∙ ap status_of (is ∙ ap verdict same);
+}
+
+-- and where a fault came first
+pub shown_prefix : (view : View) (o : Options) (p q : Plan) (old new : Option (List ℕ)) → q ≡ p
+    → AppendsPrefix old new (view_text view o q) → AppendsPrefix old new (shown view o p).text
+unfolding shown
+shown_prefix view o p q old new same h = subst (λ (x : Plan). AppendsPrefix old new (view_text view o x)) same h

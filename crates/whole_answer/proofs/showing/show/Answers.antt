@@ -1,0 +1,12 @@
+use Rattle.flow_design.proofs.Failing.{on_err}
+use Rattle.whole_answer.proofs.Shown.{shown_prefix, shown_rest}
+use Rattle.whole_answer.proofs.showing.show.Goals as goal
+
+pub returns-in_err-text-clause-prefix : goal.returns-in_err-text-clause-prefix
+returns-in_err-text-clause-prefix g c =
+    on_err _ (shown_prefix c.args.view c.args.options.now c.args.plan _ _ _ c.in_ok-core.ensures.plan c.in_err-text.ensures.prefix)
+
+pub returns-clause-rest : goal.returns-clause-rest
+returns-clause-rest g c =
+    shown_rest c.args.view c.args.options.now c.args.plan _ _ _ _ c.verdict.result _ c.in_ok-core.ensures.plan c.in_ok-text.ensures.rest
+    c.verdict.ensures c.of-status.ensures.status

@@ -1,0 +1,10 @@
+//! What simulations run on.
+use std::alloc::Global;
+
+/// The runtime that has the threads, the allocator, and the gate that makes the bursts of modules.
+#[derive(Drop)]
+pub(crate) struct Host<'a, R, G> {
+    pub(crate) rt: &'a R,
+    pub(crate) alloc: Global,
+    pub(crate) gate: &'a G,
+}

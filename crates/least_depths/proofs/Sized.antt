@@ -12,9 +12,8 @@ use Rattle.lockstep_defs.specs.Verdict.{verdict}
 use Rattle.depth_order.specs.Depths.{with_depths, AreDepths, AreDeeper, AsksNothing, IsDoneBy}
 use Rattle.depth_order.proofs.Order.{done_ended}
 use Rattle.depth_order.proofs.Plans.{depths_fit}
-use Rattle.depth_advice.specs.declared.advising.Advice.{Advice}
-use Rattle.depth_advice.specs.Advice.{advised}
-use Rattle.depth_advice.proofs.Depths.{advised_depths}
+use Rattle.depth_advice.specs.Advice.{advised, wide}
+use Rattle.depth_advice.proofs.Depths.{advised_depths, never_blocks}
 use Rattle.depth_advice.proofs.Faster.{advised_fastest}
 use Rattle.least_depths.specs.Lowering.{untouched, lowered, AreLeast, all_bits}
 use Rattle.least_depths.specs.Least.{sizes_of, sized_by, sizes, first_runs, IsNoLater, IsLeast}
@@ -112,11 +111,11 @@ least slack p h none clock e =
 -- ---- how they are found
 
 -- the verdict that the advice tells
-pub advised_verdict : (p q : Plan) (advice : Advice) → q ≡ p → advice.depths ≡ advised p
-    → report (with_depths q advice.depths) ≡ advice.report → verdict (with_depths p (advised p)) ≡ advice.report.verdict
-advised_verdict p q advice own depths same =
-    sym (ap (λ (r : Plan). verdict (with_depths r advice.depths)) own ∙ ap (λ (ds : List ℕ). verdict (with_depths p ds)) depths)
-    ∙ report_told (with_depths q advice.depths) advice.report same
+pub advised_verdict : (p q : Plan) → FitsEngine p → q ≡ p → (v : Verdict) → v ≡ (report (wide q)).verdict
+    → verdict (with_depths p (advised p)) ≡ v
+advised_verdict p q fits own v told =
+    report_told (with_depths p (advised p)) (report (wide p)) (never_blocks p fits)
+    ∙ sym (told ∙ ap (λ (r : Plan). (report (wide r)).verdict) own)
 
 pub done_sizes : (slack : ℕ) (p : Plan) (ds : List ℕ) (clock : ℕ) → ds ≡ advised p → verdict (with_depths p (advised p)) ≡ Done clock
     → sizes_of (lowered (with_depths p ds) (clock + slack) (length p.design.channels)) ≡ sizes slack p

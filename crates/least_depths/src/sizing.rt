@@ -7,7 +7,7 @@ ghost use Rattle.least_depths.specs.Least.{sizes_of, sizes, first_runs, most_sla
 
 use crate::bounds::latest_clocks;
 use crate::halving::lower_all;
-use depth_advice::advise;
+use depth_advice::advised_depths;
 use depth_session::{DepthSession, Runner};
 use flow_design::{Plan, Verdict, copy_plan};
 use flow_word::{List, OutOfMemory, Words};
@@ -37,13 +37,12 @@ impl Drop for Sizes {
 
 /// The smallest FIFOs that lose no more than so many clocks. Where the plan with the advised depths is done, its FIFOs are lowered one
 /// after the other, in order of declaration, each to what halving finds between 1 and its advised depth with an end by that clock and the
-/// slack. Else the depths are the
-/// advised ones.
+/// slack. Else the depths are the advised ones.
 ///
 /// `sizes_lose_nothing` says what that means. It calls the runner twice at most, and once more at most for each depth that is tried and
 /// for each channel, since an edit may turn the outcome of a query. Where no operation is a query, it calls the runner once for the
-/// advice, and once more where the plan with the advised depths is done. It takes memory for the runs, their reports and the edits. An
-/// error leaves nothing.
+/// advice, and once more where the plan with the advised depths is done. It takes memory for the runs and the edits. An error
+/// leaves nothing.
 pub fn find_sizes<R: Threads + Wait + Sync, U: Runner>(
     rt: &R,
     alloc: Global,
@@ -59,14 +58,12 @@ pub fn find_sizes<R: Threads + Wait + Sync, U: Runner>(
         → OnOk result (U.made runner.new ≡ U.made runner.old + first_runs (sizes slack plan.now).verdict) }
 {
     let own = copy_plan(alloc, plan)?;
-    let advice = advise(rt, alloc, own, runner)?;
-    let verdict = advice.report.verdict;
-    let depths = advice.into_depths();
-    match verdict {
-        Verdict::Done(clock) => lower_depths(rt, alloc, plan, depths, clock + slack, runner),
+    let advice = advised_depths(rt, alloc, own, runner)?;
+    match advice.verdict {
+        Verdict::Done(clock) => lower_depths(rt, alloc, plan, advice.depths, clock + slack, runner),
         Verdict::Deadlock(_) | Verdict::Cycles(_) | Verdict::Ops(_) => Ok(Sizes {
-            verdict,
-            depths,
+            verdict: advice.verdict,
+            depths: advice.depths,
             tries: 0,
         }),
     }

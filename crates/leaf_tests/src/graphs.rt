@@ -11,7 +11,7 @@ use std::sync::ledger::{Blank, Ledger};
 use std::test::Fail;
 
 /// A step without an access.
-fn step_after(alloc: Global, gap: u64) -> Step
+pub(crate) fn step_after(alloc: Global, gap: u64) -> Step
     ensures gap { result.gap ≡ gap }
     ensures accesses { result.accesses ≡ [] }
 {

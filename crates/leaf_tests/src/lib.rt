@@ -21,3 +21,5 @@ mod room;
 mod tables;
 #[cfg(test)]
 mod timing;
+#[cfg(test)]
+mod walks;

@@ -1,0 +1,55 @@
+//! A walk over the steps of a graph.
+ghost use Rattle.std.specs.Prelude.{◌≡◌};
+
+use crate::graphs::step_after;
+use engine_report::TimedStep;
+use event_graph::Graph;
+use flow_word::{OutOfMemory, Steps};
+use std::alloc::Global;
+use std::marker::Brand;
+use std::process::Abort;
+use std::sync::ledger::{Blank, Ledger};
+use std::test::Fail;
+use step_walk::StepWalk;
+
+/// A step that is done in a clock.
+fn done_in(cycle: u64, module: u32, step: u64) -> Option<TimedStep> {
+    Some(TimedStep {
+        cycle,
+        module,
+        step,
+    })
+}
+
+/// A graph of two modules: the first makes steps in clocks 3 and 9, and the second one in clock 3 and one that has no cycle.
+fn goes_in_order<L: Ledger, R: Abort>(
+    rt: &R,
+    alloc: Global,
+    blank: Blank,
+) -> Result<(), OutOfMemory>
+    requires name { blank.name ≡ L.name }
+    requires parts { blank.parts ≡ L.parts }
+    requires one { L.parts ≡ 1 }
+{
+    let mut steps = Steps::<L>::new(blank);
+    let mut graph = Graph::new(alloc, 2)?;
+    graph.push_step(0, step_after(alloc, 3))?;
+    graph.push_step(0, step_after(alloc, 6))?;
+    graph.push_step(1, step_after(alloc, 3))?;
+    graph.push_step(1, step_after(alloc, 1))?;
+    graph.set_cycle(0, 3, &mut steps);
+    graph.set_cycle(0, 9, &mut steps);
+    graph.set_cycle(1, 3, &mut steps);
+    let mut walk = StepWalk::new(alloc, &graph)?;
+    assert_eq!(rt; walk.advance(&graph), done_in(3, 0, 0));
+    assert_eq!(rt; walk.advance(&graph), done_in(3, 1, 0));
+    assert_eq!(rt; walk.advance(&graph), done_in(9, 0, 1));
+    assert_eq!(rt; walk.advance(&graph), None);
+    Ok(())
+}
+
+#[test]
+fn walks_go_in_order(rt: HostRuntime) -> Result<(), Fail> {
+    goes_in_order::<Brand, HostRuntime>(&rt, rt.alloc(), Blank::new(1))?;
+    Ok(())
+}

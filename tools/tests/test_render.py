@@ -28,19 +28,20 @@ class Renders(unittest.TestCase):
         status, out, told = self.rendered("{% import 'count.j2' as count %}depth {{ depth + 1 }}", 'depth=3')
         self.assertEqual((status, out, told), (0, 'depth 4\n', ''))
 
-    def test_a_parameter_that_is_missing_is_named(self):
-        status, out, told = self.rendered('depth {{ depth }}')
+    def refusal(self, text, *values):
+        """The message for a template that is not rendered."""
+        status, out, told = self.rendered(text, *values)
         self.assertEqual((status, out), (1, ''))
-        self.assertEqual(told, "render: FOLDER/one.flow.j2: 'depth' is undefined; give it as NAME=VALUE\n")
+        return told
+
+    def test_a_parameter_that_is_missing_is_named(self):
+        self.assertEqual(self.refusal('depth {{ depth }}'), "render: FOLDER/one.flow.j2: 'depth' is undefined; give it as NAME=VALUE\n")
 
     def test_a_word_that_is_no_parameter(self):
-        status, out, told = self.rendered('depth', 'depth')
-        self.assertEqual((status, out, told), (1, '', 'render: depth is not written NAME=VALUE\n'))
+        self.assertEqual(self.refusal('depth', 'depth'), 'render: depth is not written NAME=VALUE\n')
 
     def test_a_fault_of_the_template_is_told_with_its_line(self):
-        status, out, told = self.rendered('one\n{% for %}\n')
-        self.assertEqual((status, out), (1, ''))
-        self.assertTrue(told.startswith('render: FOLDER/one.flow.j2:2: '), told)
+        self.assertTrue(self.refusal('one\n{% for %}\n').startswith('render: FOLDER/one.flow.j2:2: '))
 
     def test_a_template_that_is_not_there(self):
         ran = subprocess.run([sys.executable, '-B', RENDER, '/none.flow.j2'], capture_output=True, text=True, check=False)

@@ -118,12 +118,34 @@ def staggered(modules, values):
     return '\n'.join(lines) + '\n'
 
 
-def branching(seed):
-    """Modules at random without queries, each of which reads from earlier ones and writes to later ones, in bursts or value by value."""
-    draw = random.Random(seed)
+def forks(stages, values):
+    """Stages in a row: a fork, a branch whose module takes and gives bursts, a branch straight to the join, and the join. FIFOs have
+    several widths. The values are a multiple of 8."""
+    lines, channels, inner = ['flow 1', 'source a 32', 'sink y 32'], [], []
+    for k in range(stages):
+        before, behind = f'i{k}' if k else 'a', f'i{k + 1}' if k < stages - 1 else 'y'
+        burst, wait = (2, 4, 8)[k % 3], k % 4
+        channels += [f'fifo p{k} {8 + 8 * (k % 3)} 16', f'fifo q{k} {32 - 8 * (k % 2)} 16', f'fifo s{k} {16 + 4 * (k % 5)} 16']
+        channels += [f'fifo i{k + 1} 32 16'] * (k < stages - 1)
+        loop = lambda name, interval, length, trips, *ops: [
+            f'module {name}{k}', 'reg n 32', 'reg go 1', f'loop l {interval} {length} while go', *(f'temp t{i} 32' for i in range(8)),
+            'at 0 set n + n 1', f'at 0 set go <u n {trips - 1}', *ops, 'stop']
+        inner += loop('fork', 1, 2, values, f'at 0 read {before} t0', f'at 1 write p{k} t0', f'at 1 write s{k} t0')
+        inner += loop('bursts', burst + wait, 2 * burst + wait + 1, values // burst,
+                      *(f'at {i} read p{k} t{i}' for i in range(burst)), *(f'at {burst + wait + i} write q{k} t{i}' for i in range(burst)))
+        inner += loop('join', 1, 2, values, f'at 0 read q{k} t0', f'at 0 read s{k} t1', f'at 1 write {behind} + t0 t1')
+    lines += channels + inner
+    return '\n'.join(lines + ['input a ' + ' '.join(str(v % 1000) for v in range(values)), 'limits 1000000000 200000', 'end']) + '\n'
+
+
+def branching(seed, widths=(32,)):
+    """Modules at random without queries, each of which reads from earlier ones and writes to later ones, in bursts or value by value.
+    Each FIFO has one of the widths, at random."""
+    draw, wide = random.Random(seed), random.Random(f'widths {seed}')
     modules, values = draw.randint(2, 6), draw.choice((4, 8, 16, 32))
     edges = [(before, behind) for behind in range(1, modules) for before in draw.sample(range(behind), min(behind, draw.choice((1, 1, 2, 3))))]
-    lines = ['flow 2'] + [f'fifo f{k} 32 {draw.randint(1, 8)} {draw.choice((1, 1, 2, 5))}' for k in range(len(edges))]
+    lines = ['flow 2']
+    lines += [f'fifo f{k} {wide.choice(widths)} {draw.randint(1, 8)} {draw.choice((1, 1, 2, 5))}' for k in range(len(edges))]
     for module in range(modules):
         burst = draw.choice((1, 1, 1, 2, 4))
         reads = [f'read f{k} x' for k, (_, behind) in enumerate(edges) if behind == module]

@@ -73,6 +73,7 @@ def parsed(words):
     parser.add_argument('--apply', action='store_true')
     parser.add_argument('--json', action='store_true')
     parser.add_argument('--events', action='store_true')
+    parser.add_argument('--polls', action='store_true')
     parser.add_argument('--cycles')
     parser.add_argument('--ops')
     parser.add_argument('--slack')
@@ -85,13 +86,13 @@ def session_of(found):
     files = [word for word in found.rest if not word.isdigit()]
     if len(files) > 1:
         raise Refused(f'{found.command} takes one session, and not {files[0]} and {files[1]}')
-    events = ['--events'] if found.events else []
+    flags = [f'--{name}' for name in ('events', 'polls') if getattr(found, name)]
     slack = ['--slack', found.slack] if found.slack is not None else []
-    return [found.command, *numbers, *events, *slack, *limits_of(found)], files[0] if files else '-'
+    return [found.command, *numbers, *flags, *slack, *limits_of(found)], files[0] if files else '-'
 
 
 def apply(command, answer, status, text):
-    """Writes the session with the depths that `size` or `advise` found; the verdict goes to standard error."""
+    """Writes the session with the depths that `size`, `least` or `advise` found; the verdict goes to standard error."""
     if status not in VERDICTS:
         sys.stdout.write(answer)
         return status
@@ -117,7 +118,7 @@ def as_json(command, answer, status):
 
 def differ(found):
     """Tells the first difference of two sessions, or of one before and after other depths."""
-    if found.apply or found.json or found.events or found.slack is not None:
+    if found.apply or found.json or found.events or found.polls or found.slack is not None:
         raise Refused('diff takes --depth, --cycles and --ops alone')
     if len(found.rest) == 2 and not found.depth:
         texts = [read(path) for path in found.rest]
@@ -134,8 +135,8 @@ def run(words):
     found = parsed(words)
     if found.command == 'diff':
         return differ(found)
-    if found.apply and (found.command not in ('size', 'advise') or found.json):
-        raise Refused('--apply goes with size and with advise, without --json')
+    if found.apply and (found.command not in ('size', 'least', 'advise') or found.json):
+        raise Refused('--apply goes with size, least and advise, without --json')
     asked, path = session_of(found)
     text = changed(read(path), found.depth)
     answer, status = ask(asked, text)

@@ -201,6 +201,12 @@ class Depths:
 
 
 @dataclass
+class LeastDepths(Depths):
+    """What `least` answers: the depths of the fewest bits, the verdict with these depths, and how many bits they are."""
+    bits: int = 0
+
+
+@dataclass
 class Sweep:
     """The verdict for each choice of depths; `best` is None where no choice is done."""
     points: list  # of pairs: the depths, and the verdict
@@ -327,6 +333,17 @@ def read_depths(command, text):
     lines = Lines(command, text)
     lines.take(command, 0)
     found = Depths(lines.verdict())
+    found.depths = dict(lines.all_of('depth', 2, lambda name, depth: (name, lines.number(depth))))
+    lines.end()
+    return found
+
+
+def read_least(text):
+    """The answer to `least`."""
+    lines = Lines('least', text)
+    lines.take('least', 0)
+    found = LeastDepths(lines.verdict())
+    found.bits = lines.number(lines.take('bits', 1)[0])
     found.depths = dict(lines.all_of('depth', 2, lambda name, depth: (name, lines.number(depth))))
     lines.end()
     return found

@@ -3,7 +3,7 @@
 Each call takes the session's text, and `cycles` and `ops` as limits in place of the session's. NoAnswer tells that the session is
 refused, or that memory ran out; NotBuilt that the program has to be built first.
 """
-from flow.answers import read_depths, read_log, read_path, read_run, read_stalls, read_sweep
+from flow.answers import read_depths, read_least, read_log, read_path, read_run, read_stalls, read_sweep
 from flow.program import Program
 
 
@@ -42,6 +42,11 @@ def log(text, cycles=None, ops=None):
 def size(text, cycles=None, ops=None, slack=0):
     """The smallest depths that lose at most `slack` clocks: Depths."""
     return read_depths('size', told(['size'] + ['--slack', str(slack)] * bool(slack), text, cycles, ops))
+
+
+def least(text, cycles=None, ops=None, slack=0):
+    """The depths of the fewest bits of FIFO memory that lose at most `slack` clocks: LeastDepths."""
+    return read_least(told(['least'] + ['--slack', str(slack)] * bool(slack), text, cycles, ops))
 
 
 def advise(text, cycles=None, ops=None):

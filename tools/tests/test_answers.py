@@ -3,7 +3,7 @@ import io
 import unittest
 
 from flow.answers import (Access, BadAnswer, Cross, Event, FifoTime, Held, Link, Poll, Polls, Port, Query, Spend, Stall,
-                          TraceTaker, Verdict, read_depths, read_log, read_path, read_run, read_stalls, read_sweep, take_trace)
+                          TraceTaker, Verdict, read_depths, read_least, read_log, read_path, read_run, read_stalls, read_sweep, take_trace)
 
 RUN = '''report 0
 verdict deadlock 2
@@ -89,6 +89,8 @@ class ReadsAnswers(unittest.TestCase):
 
     def test_depths(self):
         self.assertEqual(read_depths('size', 'size\nverdict done 48\ndepth b 3\n').depths, {'b': 3})
+        least = read_least('least\nverdict done 48\nbits 24\ndepth b 3\n')
+        self.assertEqual((least.verdict.clock, least.bits, least.depths), (48, 24, {'b': 3}))
         found = read_sweep('point 1 2 done 60\npoint 2 2 deadlock 5\nbest 1 2\n')
         self.assertEqual(found.points, [((1, 2), Verdict('done', 60)), ((2, 2), Verdict('deadlock', 5))])
         self.assertEqual(found.best, (1, 2))

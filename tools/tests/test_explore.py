@@ -33,15 +33,23 @@ class Explores(unittest.TestCase):
 
     def test_a_missing_gnuplot_is_named(self):
         told = io.StringIO()
-        found = types.SimpleNamespace(best={16: (60, (1,))})
         with mock.patch('shutil.which', return_value=None), contextlib.redirect_stderr(told):
-            explore().plot('/nowhere', found)
+            explore().draw('/nowhere', 'plot')
         self.assertEqual(told.getvalue(), 'explore: gnuplot draws front.svg, and is not there (apt-get install gnuplot-nox)\n')
 
     def test_nothing_is_drawn_where_no_point_is_done(self):
         with mock.patch('subprocess.run') as ran:
             explore().plot('/nowhere', types.SimpleNamespace(best={}))
         ran.assert_not_called()
+
+    def test_a_grid_or_the_front_is_wanted(self):
+        told = io.StringIO()
+        for more in [], ['data=1..2', '--front'], ['--front', '--resume']:
+            with mock.patch('sys.argv', ['explore', 'a.flow', *more]), contextlib.redirect_stderr(told):
+                with self.assertRaises(SystemExit) as ended:
+                    runpy.run_path(EXPLORE, run_name='__main__')
+            self.assertEqual(ended.exception.code, 1)
+        self.assertIn('give a grid, FIFO=DEPTHS .., or --front', told.getvalue())
 
 
 if __name__ == '__main__':

@@ -305,3 +305,13 @@ fn views_up_to_a_limit(rt: HostRuntime) -> Result<(), Fail> {
     let later = b"size\nverdict done 52\ndepth burst 2\n";
     answers(&rt, "size", &["--slack", "4"], BURSTS, later, Status::Done)
 }
+
+#[test]
+fn fewest_bits(rt: HostRuntime) -> Result<(), Fail> {
+    let least = b"least\nverdict done 48\nbits 24\ndepth burst 3\n";
+    let later = b"least\nverdict done 52\nbits 16\ndepth burst 2\n";
+    let refused = b"refused 0 22\n";
+    answers(&rt, "least", &[], BURSTS, least, Status::Done)?;
+    answers(&rt, "least", &["--slack=4"], BURSTS, later, Status::Done)?;
+    answers(&rt, "least", &[], POLLING, refused, Status::Text)
+}

@@ -16,7 +16,7 @@ use Rattle.clap.proofs.FaultLemmas.{leaf_fault}
 use Rattle.clap.proofs.SimpleLemmas.{is_nil}
 use Rattle.cli_words.specs.Parser.{parser}
 use Rattle.cli_words.specs.CommandWords.{Events, Flag, Polls, Said, Text, accepted, command_of, nothing, said_from}
-use Rattle.cli_words.proofs.RowLemmas.{AtEvents, AtPolls, Rows, Slot, has_row-row_at, id_of, missing, other, own, row, row_at, rules}
+use Rattle.cli_words.proofs.RowLemmas.{AtEvents, AtPolls, Rows, Slot, has_row-row_at, id_of, missing, other, own, row_at, rules}
 use Rattle.cli_words.proofs.RowLemmas.{text_said}
 use Rattle.cli_words.proofs.RowLemmas.{value_row}
 use Rattle.cli_words.proofs.WalkSteps.{AtMostThree, Ends, Holds, at, clear, end_of, fails, fault_at, first_clear, flag_at, passes}

@@ -11,7 +11,7 @@ use Rattle.cli_words.specs.declared.Command.TheVariants.{Of, Gen}
 use Rattle.cli_words.specs.declared.Options.{Options}
 use Rattle.cli_words.specs.declared.Simulator.TheVariants.{Threads, Alone, Clock}
 use Rattle.cli_words.specs.declared.Task.{Task}
-use Rattle.cli_words.specs.declared.Task.TheVariants.{Simulate, Check, Advise, Show, Order, Sweep, Size}
+use Rattle.cli_words.specs.declared.Task.TheVariants.{Simulate, Check, Advise, Show, Order, Sweep, Size, Least}
 use Rattle.cli_words.specs.declared.View.{View}
 use Rattle.cli_words.specs.declared.View.TheVariants.{Wave, Log, Stalls, Path, Trace}
 use Rattle.cli_words.specs.declared.rules.CommandName.{CommandName}
@@ -181,6 +181,7 @@ name_of word =
     else if bytes_eq (codes "order") word then Some name.Order
     else if bytes_eq (codes "sweep") word then Some name.Sweep
     else if bytes_eq (codes "size") word then Some name.Size
+    else if bytes_eq (codes "least") word then Some name.Least
     else None
 
 -- no further positional
@@ -252,11 +253,11 @@ abbrev pub slack_in : Option Text → Option ℕ
 slack_in None = Some 0
 slack_in (Some text) = number_in 0 (10 ^ 15) text
 
--- `size` takes `--slack`, and has no further positional
-abbrev pub size_of : Said → List Text → Option Command
-size_of said rest =
+-- `size` and `least` take `--slack`, and have no further positional
+abbrev pub with_slack : (ℕ → Options → Task) → Said → List Text → Option Command
+with_slack task said rest =
     if_taken false said.events (if_taken false said.polls
-    (no_more rest (both (λ slack o. Of (Size slack o)) (slack_in said.slack) (options_of said))))
+    (no_more rest (both (λ slack o. Of (task slack o)) (slack_in said.slack) (options_of said))))
 
 -- the rule of each command, on what was said and on the positionals behind the name
 abbrev pub command_named : Said → List Text → CommandName → Option Command
@@ -268,7 +269,8 @@ command_named said rest (name.Show view) =
     option_map (λ o. Of (Show view o)) (options_alone (tells_events view) (tells_polls view) said rest)
 command_named said rest name.Order = without_option said (no_more rest (Some (Of Order)))
 command_named said rest name.Sweep = sweep_of said rest
-command_named said rest name.Size = size_of said rest
+command_named said rest name.Size = with_slack Size said rest
+command_named said rest name.Least = with_slack Least said rest
 
 -- the first positional is the command's name
 abbrev pub command_by : Said → List Text → Option Command
@@ -304,6 +306,7 @@ IsSound (Show view options) = AreLimits options
 IsSound Order = Unit {0}
 IsSound (Sweep lo hi options) = (1 ≤ lo) × (lo ≤ hi) × (hi ≤ 64) × AreLimits options
 IsSound (Size slack options) = (slack ≤ 10 ^ 15) × AreLimits options
+IsSound (Least slack options) = (slack ≤ 10 ^ 15) × AreLimits options
 
 -- the numbers of a command are within their bounds
 abbrev pub IsInRange : Command → Type 0

@@ -66,6 +66,8 @@ pub enum Task {
     Sweep { lo: u64, hi: u64, options: Options },
     /// Find the smallest FIFOs that lose no more than this many clocks.
     Size { slack: u64, options: Options },
+    /// Find the depths of the fewest bits of FIFO memory that lose no more than this many clocks.
+    Least { slack: u64, options: Options },
 }
 
 /// What the words ask for.

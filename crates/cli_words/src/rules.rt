@@ -1,8 +1,8 @@
 //! The rules on commands: which options and positionals each one takes.
-ghost use Rattle.std.specs.Prelude.{◌≡◌, ◌≤◌, IfSome, Some};
+ghost use Rattle.std.specs.Prelude.{◌≡◌, ◌≤◌, ◌^◌, ℕ, IfSome, Some, option_map};
 ghost use Rattle.cli_words.specs.CommandWords.{AreLimits, IsInRange, IsLimit};
 ghost use Rattle.cli_words.specs.CommandWords.{command_of, gen_of, has_options, limit_in, name_of, no_more};
-ghost use Rattle.cli_words.specs.CommandWords.{number_in, options_alone, options_of, size_of, sweep_of, tells_events, tells_polls, without_option};
+ghost use Rattle.cli_words.specs.CommandWords.{number_in, options_alone, options_of, slack_in, sweep_of, tells_events, tells_polls, with_slack, without_option};
 ghost use Rattle.cli_words.specs.Given.{rest_of, said_of, text_of};
 
 use crate::parser::Given;
@@ -32,6 +32,7 @@ enum CommandName {
     Order,
     Sweep,
     Size,
+    Least,
 }
 
 /// The command, if the rules accept what is given.
@@ -57,7 +58,14 @@ pub fn command_of(given: &Given<'_>) -> Option<Command>
         }
         CommandName::Order => bare(given, Task::Order),
         CommandName::Sweep => sweep_of(given),
-        CommandName::Size => size_of(given),
+        CommandName::Size => {
+            let (slack, options) = with_slack(given)?;
+            Some(Command::Of(Task::Size { slack, options }))
+        }
+        CommandName::Least => {
+            let (slack, options) = with_slack(given)?;
+            Some(Command::Of(Task::Least { slack, options }))
+        }
     }
 }
 
@@ -79,6 +87,7 @@ fn name_of(word: &str) -> Option<CommandName>
         "order" => Some(CommandName::Order),
         "sweep" => Some(CommandName::Sweep),
         "size" => Some(CommandName::Size),
+        "least" => Some(CommandName::Least),
         _ => None,
     }
 }
@@ -179,9 +188,10 @@ fn sweep_of(given: &Given<'_>) -> Option<Command>
 }
 
 /// How much later the end may be, and the limits.
-fn size_of(given: &Given<'_>) -> Option<Command>
-    ensures command { result ≡ size_of (said_of given.now) (rest_of given.now) }
-    ensures range { IfSome result IsInRange }
+fn with_slack(given: &Given<'_>) -> Option<(u64, Options)>
+    ensures command { (task : ℕ → Options → Task) → with_slack task (said_of given.now) (rest_of given.now)
+        ≡ option_map (λ found. Command.Of (task found.0 found.1)) result }
+    ensures range { IfSome result (λ found. (found.0 ≤ 10 ^ 15) × AreLimits found.1) }
 {
     if given.events || given.polls || given.second.is_some() {
         return None;
@@ -190,8 +200,7 @@ fn size_of(given: &Given<'_>) -> Option<Command>
         Some(text) => number(0, MOST_SLACK, text)?,
         None => 0,
     };
-    let options = options_of(given)?;
-    Some(Command::Of(Task::Size { slack, options }))
+    Some((slack, options_of(given)?))
 }
 
 /// The number that the digits write, if it lies in the bounds.

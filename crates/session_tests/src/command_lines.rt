@@ -78,6 +78,23 @@ fn accepted_and_refused(rt: HostRuntime) -> Result<(), Fail> {
             "size --cycles 3 --slack=1000000000000000",
             size(1_000_000_000_000_000, three),
         ),
+        (
+            "least --ops=200000",
+            Command::Of(Task::Least {
+                slack: 0,
+                options: Options {
+                    ops: Some(200_000),
+                    ..NOTHING
+                },
+            }),
+        ),
+        (
+            "--slack=4 least",
+            Command::Of(Task::Least {
+                slack: 4,
+                options: NOTHING,
+            }),
+        ),
         ("order", Command::Of(Task::Order)),
         (
             "sweep 01 --cycles=3 64",
@@ -143,6 +160,8 @@ fn accepted_and_refused(rt: HostRuntime) -> Result<(), Fail> {
         "size --slack 1000000000000001",
         "size --slack 1 --slack=1",
         "size --slack 1 2",
+        "least 1",
+        "least --events",
         "run --slack 0",
         "sweep 1 2 --slack 0",
         "check --slack 0",

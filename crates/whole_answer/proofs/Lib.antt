@@ -3,6 +3,7 @@ pub mod Bests
 pub mod FurtherLines
 pub mod Limits
 pub mod PointLines
+pub mod Queries
 pub mod Reports
 pub mod Shown
 pub mod Sums

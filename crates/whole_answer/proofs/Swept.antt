@@ -3,7 +3,7 @@ use Rattle.std.proofs.Common.{◌≡◌, sym, ap, ℕ, ◌<◌, Bool, cond, leng
 use Rattle.std.proofs.lemmas.Bool.{cases_lt, lt-ltb, le-ltb}
 use Rattle.flow_design.specs.declared.plan.Plan.{Plan}
 use Rattle.depth_sweep.specs.Grid.{grid_of, most_points, point}
-use Rattle.whole_answer.specs.Further.{swept, told_points, refused_grid}
+use Rattle.whole_answer.specs.Further.{swept, told_points, not_taken}
 
 module _ (lo hi : ℕ) (p : Plan) where
   pub swept_few : (most_points < length (grid_of p lo hi) → ⊥) → told_points (map (point p) (grid_of p lo hi)) ≡ swept lo hi p
@@ -11,12 +11,12 @@ module _ (lo hi : ℕ) (p : Plan) where
   swept_few few = elim (cases_lt most_points (length (grid_of p lo hi))) [
     | inl wide ↦ absurd (few wide)
     | inr most ↦
-        sym (ap (λ (b : Bool). cond b refused_grid (told_points (map (point p) (grid_of p lo hi))))
+        sym (ap (λ (b : Bool). cond b (not_taken 21) (told_points (map (point p) (grid_of p lo hi))))
         (le-ltb most_points (length (grid_of p lo hi)) most))
   ]
 
-  pub swept_wide : most_points < length (grid_of p lo hi) → refused_grid ≡ swept lo hi p
+  pub swept_wide : most_points < length (grid_of p lo hi) → not_taken 21 ≡ swept lo hi p
   unfolding swept
   swept_wide wide =
-      sym (ap (λ (b : Bool). cond b refused_grid (told_points (map (point p) (grid_of p lo hi))))
+      sym (ap (λ (b : Bool). cond b (not_taken 21) (told_points (map (point p) (grid_of p lo hi))))
       (lt-ltb most_points (length (grid_of p lo hi)) wide))

@@ -6,6 +6,7 @@ use Rattle.flow_design.specs.declared.design.Design.{Design}
 use Rattle.flow_design.specs.declared.plan.Plan.{Plan}
 use Rattle.flow_design.specs.declared.report.Verdict.{Verdict}
 use Rattle.flow_design.specs.declared.report.Verdict.TheVariants as verdict
+use Rattle.lockstep_defs.specs.Laws.{is_query}
 use Rattle.lockstep_defs.specs.Report.{report}
 use Rattle.flow_design.specs.Reports.{clock_of}
 use Rattle.serial_order.specs.declared.order.Used.{Used}
@@ -19,6 +20,8 @@ use Rattle.depth_advice.specs.Advice.{advised, wide}
 use Rattle.depth_advice.specs.DepthLines.{depth_lines}
 use Rattle.least_depths.specs.Least.{sizes}
 use Rattle.least_depths.specs.SizeText.{size_text}
+use Rattle.least_memory.specs.Least.{leasts}
+use Rattle.least_memory.specs.LeastText.{least_text}
 use Rattle.report_text.specs.Lines.{line, text_of_lines, Token, verdict_tokens}
 use Rattle.report_text.specs.ReportText.{module_name}
 use Rattle.whole_answer.specs.declared.answer.Answer.{Answer}
@@ -106,17 +109,29 @@ told_points points = record {
   status = points_status points;
 }
 
--- `refused 0 21`: the grid has too many lists
-abbrev pub refused_grid : Answer
-refused_grid = record { text = line (codes "refused" ∷ decimal 0 ∷ decimal 21 ∷ []); status = Text }
+-- `refused 0 N`: a session that this command does not take
+abbrev pub not_taken : ℕ → Answer
+not_taken code = record { text = line (codes "refused" ∷ decimal 0 ∷ decimal code ∷ []); status = Text }
 
 -- the points of the grid of a plan
 unfoldable pub swept : ℕ → ℕ → Plan → Answer
 swept lo hi p =
-    if nat_lt most_points (length (grid_of p lo hi)) then refused_grid else told_points (map (point p) (grid_of p lo hi))
+    if nat_lt most_points (length (grid_of p lo hi)) then not_taken 21 else told_points (map (point p) (grid_of p lo hi))
 
--- ---- `size`
+-- ---- `size` and `least`
 
 -- the smallest FIFOs that lose no more than so many clocks, with the status of the verdict with them
 unfoldable pub sized : ℕ → Plan → Answer
 sized slack p = record { text = size_text slack p; status = status_of (sizes slack p).verdict }
+
+-- some operation of the modules is a query
+abbrev pub has_query : Design → Bool
+has_query design = list_any (λ m. list_any (λ b. list_any (λ t. is_query t.op) b.ops) m.blocks) design.modules
+
+-- the depths of the fewest bits that lose no more than so many clocks, with the status of the verdict with them
+abbrev pub fewest_bits : ℕ → Plan → Answer
+fewest_bits slack p = record { text = least_text slack p; status = status_of (leasts slack p).verdict }
+
+-- `refused 0 22` where some operation is a query
+unfoldable pub least_told : ℕ → Plan → Answer
+least_told slack p = if has_query p.design then not_taken 22 else fewest_bits slack p

@@ -13,10 +13,10 @@ use Rattle.flow_gen.specs.Generated.{session}
 use Rattle.session_plan.specs.Plans.{plan_of, edits_of}
 use Rattle.cli_words.specs.declared.Options.{Options}
 use Rattle.cli_words.specs.declared.Task.{Task}
-use Rattle.cli_words.specs.declared.Task.TheVariants.{Simulate, Check, Advise, Show, Order, Sweep, Size}
+use Rattle.cli_words.specs.declared.Task.TheVariants.{Simulate, Check, Advise, Show, Order, Sweep, Size, Least}
 use Rattle.whole_answer.specs.declared.answer.Answer.{Answer}
 use Rattle.whole_answer.specs.declared.status.Status.TheVariants.{Done, Words, Text}
-use Rattle.whole_answer.specs.Further.{advice, ordered, swept, sized}
+use Rattle.whole_answer.specs.Further.{advice, ordered, swept, sized, least_told}
 use Rattle.whole_answer.specs.Views.{shown}
 use Rattle.whole_answer.specs.Job.{status_of, job}
 
@@ -99,6 +99,7 @@ made (Show view o) statements = shown view o (with_limits o (plan_of statements)
 made Order statements = ordered (plan_of statements).design
 made (Sweep lo hi o) statements = swept lo hi (with_limits o (plan_of statements))
 made (Size slack o) statements = sized slack (with_limits o (plan_of statements))
+made (Least slack o) statements = least_told slack (with_limits o (plan_of statements))
 
 -- the summary of the session of this seed
 abbrev pub generated : ℕ → ℕ → Answer

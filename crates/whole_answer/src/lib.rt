@@ -9,6 +9,7 @@ mod laws;
 mod making;
 mod ordering;
 mod program;
+mod refusing;
 mod showing;
 mod simulator;
 mod sizing;

@@ -16,7 +16,7 @@ use crate::host::Host;
 use crate::job::job;
 use crate::ordering::order_modules;
 use crate::showing::show;
-use crate::sizing::size_fifos;
+use crate::sizing::{least_fifos, size_fifos};
 use crate::status::Status;
 use crate::sweeping::sweep_depths;
 use cli_words::{Options, Simulator, Task};
@@ -69,6 +69,10 @@ pub(crate) fn make<R: Threads + Wait + Sync, G: Gate + Sync, K: Sink>(
         Task::Size { slack, options } => {
             let plan = limited(checked, options);
             unwritten(size_fifos(rt, alloc, &plan, *slack, gate))
+        }
+        Task::Least { slack, options } => {
+            let plan = limited(checked, options);
+            unwritten(least_fifos(rt, alloc, &plan, *slack, gate))
         }
     }
 }

@@ -1,16 +1,19 @@
-//! What `size` answers.
+//! What `size` and `least` answer.
 ghost use Rattle.std.specs.Prelude.{◌≡◌, ◌≤◌, IfOk};
 ghost use Rattle.flow_design.specs.StaticRules.{FitsEngine};
 ghost use Rattle.least_depths.specs.Least.{most_slack};
 ghost use Rattle.whole_answer.specs.Answer.{IsAnswer};
-ghost use Rattle.whole_answer.specs.Further.{sized};
+ghost use Rattle.whole_answer.specs.Further.{sized, least_told};
 
 use crate::answer::Answer;
+use crate::refusing::{HAS_QUERY, refuse};
 use crate::status::Status;
+use depth_bounds::asks_nothing;
 use depth_session::ThreadRunner;
 use flow_design::Plan;
 use flow_word::OutOfMemory;
 use least_depths::tell_sizes;
+use least_memory::tell_least;
 use run_threads::Gate;
 use std::alloc::Global;
 use std::sync::Wait;
@@ -31,6 +34,32 @@ pub(crate) fn size_fifos<R: Threads + Wait + Sync, G: Gate + Sync>(
     ensures status { IfOk result (λ whole. IsAnswer whole.status) }
 {
     let told = tell_sizes(rt, alloc, plan, slack, &mut ThreadRunner::new(gate))?;
+    let status = Status::of(told.verdict);
+    Ok(Answer {
+        text: told.into_text(),
+        status,
+    })
+}
+
+/// The depths of a plan's FIFOs that need the fewest bits and lose no more than so many clocks, and the status of the verdict with them.
+/// A plan with a query is refused.
+#[tactic(auto, using(crate::proofs::Queries::answered, crate::proofs::Queries::refused))]
+pub(crate) fn least_fifos<R: Threads + Wait + Sync, G: Gate + Sync>(
+    rt: &R,
+    alloc: Global,
+    plan: &Plan,
+    slack: u64,
+    gate: &G,
+) -> Result<Answer, OutOfMemory>
+    requires fits { FitsEngine plan.now }
+    requires slack { slack ≤ most_slack }
+    ensures told { IfOk result (λ whole. whole ≡ least_told slack plan.now) }
+    ensures status { IfOk result (λ whole. IsAnswer whole.status) }
+{
+    if !asks_nothing(plan) {
+        return refuse(alloc, HAS_QUERY);
+    }
+    let told = tell_least(rt, alloc, plan, slack, &mut ThreadRunner::new(gate))?;
     let status = Status::of(told.verdict);
     Ok(Answer {
         text: told.into_text(),

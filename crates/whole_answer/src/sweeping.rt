@@ -4,10 +4,11 @@ ghost use Rattle.std.specs.List.{list_any};
 ghost use Rattle.flow_design.specs.StaticRules.{FitsEngine};
 ghost use Rattle.report_text.specs.Lines.{line, text_of_lines};
 ghost use Rattle.whole_answer.specs.Answer.{IsAnswer};
-ghost use Rattle.whole_answer.specs.Further.{best_of, best_tokens, first_status, is_done_at, point_tokens, points_status, refused_grid};
+ghost use Rattle.whole_answer.specs.Further.{best_of, best_tokens, first_status, is_done_at, not_taken, point_tokens, points_status};
 ghost use Rattle.whole_answer.specs.Further.{swept, told_points, verdict_words};
 
 use crate::answer::Answer;
+use crate::refusing::{TOO_MANY_POINTS, refuse};
 use crate::status::Status;
 use depth_sweep::{Point, SweepFault, best, sweep};
 use flow_design::{Plan, Verdict};
@@ -33,22 +34,9 @@ pub(crate) fn sweep_depths<R: Threads + Sync>(
 {
     match sweep(rt, alloc, &plan, lo, hi) {
         Ok(points) => tell_points(alloc, points.as_slice()),
-        Err(SweepFault::TooWide) => refuse_grid(alloc),
+        Err(SweepFault::TooWide) => refuse(alloc, TOO_MANY_POINTS),
         Err(SweepFault::OutOfMemory) => Err(OutOfMemory),
     }
-}
-
-/// `refused 0 21`
-fn refuse_grid(alloc: Global) -> Result<Answer, OutOfMemory>
-    ensures refused { IfOk result (λ whole. whole ≡ refused_grid) }
-    ensures status { IfOk result (λ whole. IsAnswer whole.status) }
-{
-    let mut text = List::new(alloc);
-    print_numbers(&mut text, b"refused", &[0, 21])?;
-    Ok(Answer {
-        text,
-        status: Status::Text,
-    })
 }
 
 /// A line for each point, and the best.

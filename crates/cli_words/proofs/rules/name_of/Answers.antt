@@ -16,4 +16,4 @@ returns-in_default c =
     sym (passed _ _ _ _ d.not-run (passed _ _ _ _ d.not-alone (passed _ _ _ _ d.not-clock (passed _ _ _ _ d.not-check (
     passed _ _ _ _ d.not-gen (passed _ _ _ _ d.not-advise (passed _ _ _ _ d.not-wave (passed _ _ _ _ d.not-log (
     passed _ _ _ _ d.not-stalls (passed _ _ _ _ d.not-path (passed _ _ _ _ d.not-trace (passed _ _ _ _ d.not-order (
-    passed _ _ _ _ d.not-sweep (passed _ _ _ _ d.not-size refl))))))))))))))
+    passed _ _ _ _ d.not-sweep (passed _ _ _ _ d.not-size (passed _ _ _ _ d.not-least refl)))))))))))))))

@@ -1,0 +1,29 @@
+//! Refusals of sessions that a command does not take.
+ghost use Rattle.std.specs.Prelude.{◌≡◌, IfOk};
+ghost use Rattle.whole_answer.specs.Answer.{IsAnswer};
+ghost use Rattle.whole_answer.specs.Further.{not_taken};
+
+use crate::answer::Answer;
+use crate::status::Status;
+use flow_word::{List, OutOfMemory};
+use report_text::print_numbers;
+use std::alloc::Global;
+
+/// The code where a sweep would have too many points.
+pub(crate) const TOO_MANY_POINTS: u64 = 21;
+
+/// The code where a command takes no queries, and the session has one.
+pub(crate) const HAS_QUERY: u64 = 22;
+
+/// `refused 0 CODE`
+pub(crate) fn refuse(alloc: Global, code: u64) -> Result<Answer, OutOfMemory>
+    ensures refused { IfOk result (λ whole. whole ≡ not_taken code) }
+    ensures status { IfOk result (λ whole. IsAnswer whole.status) }
+{
+    let mut text = List::new(alloc);
+    print_numbers(&mut text, b"refused", &[0, code])?;
+    Ok(Answer {
+        text,
+        status: Status::Text,
+    })
+}

@@ -7,3 +7,5 @@ pub mod Trying
 pub mod Sessions
 pub mod Channels
 pub mod Known
+pub mod Limits
+pub mod Stopping

@@ -186,3 +186,9 @@ clock_within p h clock told =
     let few = (done_ended (with_depths p (advised p)) clock told).0 in
     let most = h.cycles in
     omega arith
+
+-- the end with the advised depths is in time
+pub end_in_time : (p : Plan) (ds : List ℕ) (clock slack : ℕ) → ds ≡ advised p → verdict (with_depths p (advised p)) ≡ Done clock
+    → IsDoneBy (clock + slack) (verdict (with_depths p ds))
+end_in_time p ds clock slack e told =
+    subst (IsDoneBy (clock + slack)) (sym (ap (λ (es : List ℕ). verdict (with_depths p es)) e ∙ told)) (omega arith)

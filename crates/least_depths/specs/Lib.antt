@@ -1,4 +1,5 @@
 pub mod Halving
+pub mod Limits
 pub mod Lowering
 pub mod Known
 pub mod Least

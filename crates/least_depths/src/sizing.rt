@@ -1,7 +1,9 @@
 //! The sizes of a plan's FIFOs.
 ghost use Rattle.std.specs.Prelude.{◌≡◌, ◌+◌, ◌<◌, ◌≤◌, length, IfOk, OnOk};
 ghost use Rattle.flow_design.specs.StaticRules.{FitsEngine};
-ghost use Rattle.depth_order.specs.Depths.{with_depths, AsksNothing};
+ghost use Rattle.lockstep_defs.specs.Verdict.{verdict};
+ghost use Rattle.depth_order.specs.Depths.{with_depths, AsksNothing, IsDoneBy};
+ghost use Rattle.least_depths.specs.Limits.{limited};
 ghost use Rattle.least_depths.specs.Lowering.{lowered};
 ghost use Rattle.least_depths.specs.Least.{sizes_of, sizes, first_runs, most_slack};
 
@@ -69,7 +71,9 @@ pub fn find_sizes<R: Threads + Wait + Sync, U: Runner>(
     }
 }
 
-/// The depths of a plan's FIFOs, lowered from these with an end by this clock.
+/// The depths of a plan's FIFOs, lowered from these with an end by this clock. With these the plan is done by then.
+///
+/// Each try stops at that clock, if the plan's own cycle limit does not come sooner.
 fn lower_depths<R: Threads + Wait + Sync, U: Runner>(
     rt: &R,
     alloc: Global,
@@ -78,7 +82,8 @@ fn lower_depths<R: Threads + Wait + Sync, U: Runner>(
     clock: u64,
     runner: &mut U,
 ) -> Result<Sizes, OutOfMemory>
-    requires { FitsEngine (with_depths plan.now depths) }
+    requires fits { FitsEngine (with_depths plan.now depths) }
+    requires in_time { IsDoneBy clock (verdict (with_depths plan.now depths)) }
     ensures found { IfOk result (λ found. found
         ≡ sizes_of (lowered (with_depths plan.now depths) clock (length plan.now.design.channels))) }
     ensures made { U.made runner.new ≤ U.made runner.old + 1
@@ -87,6 +92,7 @@ fn lower_depths<R: Threads + Wait + Sync, U: Runner>(
 {
     let mut own = copy_plan(alloc, plan)?;
     own.depths = depths;
+    limit_cycles(&mut own, clock);
     let mut session = DepthSession::new(rt, alloc, own, runner)?;
     let latest = latest_clocks(alloc, &session, clock);
     let tries = lower_all(rt, alloc, &mut session, &latest, clock, runner)?;
@@ -95,4 +101,13 @@ fn lower_depths<R: Threads + Wait + Sync, U: Runner>(
         depths: List::from_slice(alloc, session.plan().depths.as_slice())?,
         tries,
     })
+}
+
+/// Puts a clock in place of a plan's cycle limit, where that is later.
+fn limit_cycles(plan: &mut Plan, clock: u64)
+    ensures { plan.new ≡ limited clock plan.old }
+{
+    if clock < plan.cycles {
+        plan.cycles = clock.max(1);
+    }
 }

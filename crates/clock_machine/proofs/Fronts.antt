@@ -147,3 +147,16 @@ some_at f xs i d h now =
     let within : i < length (enumerate_from 0 xs) = omega (arith, length-enumerate_from 0 xs) in
     let here : get_or (enumerate_from 0 xs) i (0, d) ≡ (i, get_or xs i d) = rw zero-add at (get_or-enumerate_from 0 xs i (0, d) h) in
     list_any_at f (enumerate_from 0 xs) i (0, d) within (ap f here ∙ now)
+
+-- a fact of each place, also once one was written
+pub all_known : {X : Type 0} (P : ℕ → X → Type 0) (xs : List X) (i n : ℕ) (y d : X) → i < length xs → ((k : ℕ) → k < n → P k (get_or xs k d))
+    → P i y → (k : ℕ) → k < n → P k (get_or (set xs i y) k d)
+all_known P xs i n y d within all now k h = elim (cases_lt k i) [
+  | inl below ↦ subst (P k) (sym (get_or-set_other xs i k y d (λ same. omega arith))) (all k h)
+  | inr above ↦ elim (cases_lt i k) [
+    | inl over ↦ subst (P k) (sym (get_or-set_other xs i k y d (λ same. omega arith))) (all k h)
+    | inr under ↦
+        let same : i ≡ k = omega arith in
+        subst (λ (n : ℕ). P n (get_or (set xs i y) n d)) same (subst (P i) (sym (get_or-set_same xs i y d within)) now)
+  ]
+]

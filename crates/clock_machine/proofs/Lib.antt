@@ -1,7 +1,8 @@
+pub mod Coming
 pub mod Fronts
-pub mod Listed
-pub mod PartLemmas
-pub mod Queues
-pub mod Steps
-pub mod StallLemmas
 pub mod Kept
+pub mod Listed
+pub mod Moving
+pub mod Queues
+pub mod Sleeping
+pub mod Steps

@@ -8,7 +8,7 @@ use Rattle.flow_word.specs.declared.access.Side.TheVariants.{Pop, Push}
 use Rattle.lockstep_defs.specs.Machine.{is_yes}
 use Rattle.lockstep_defs.specs.Channels.{Exchange, moved_by, moved_value}
 use Rattle.lockstep_defs.specs.Report.{queries}
-use Rattle.clock_machine.specs.declared.part.Pushed.{Pushed}
+use Rattle.clock_machine.specs.declared.seat.Pushed.{Pushed}
 use Rattle.clock_machine.specs.Parts.{outcomes_in, popped, pushed}
 
 -- what some operations give, and then others, is what all of them give

@@ -15,7 +15,7 @@ use Rattle.std.proofs.lemmas.Bool.{eqb-true, eq-eqb}
 use Rattle.std.proofs.lemmas.List.{map-append, append-nil, length-append, drop-drop, take_more, get_or_default}
 use Rattle.std.proofs.lemmas.List.Elements.{filter-append}
 use Rattle.lockstep_defs.specs.Channels.{element_from}
-use Rattle.clock_machine.specs.declared.part.Pushed.{Pushed}
+use Rattle.clock_machine.specs.declared.seat.Pushed.{Pushed}
 use Rattle.clock_machine.specs.Parts.{after_pops, after_pushes}
 
 -- ---- a change of one channel

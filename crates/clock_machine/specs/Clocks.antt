@@ -1,41 +1,44 @@
 -- How a plan stands in a clock, and what its modules do in it, as the program holds it.
-use Rattle.std.specs.Prelude.{◌≡◌, ℕ, ◌≤◌, false, List, ◌++◌, map, length}
+use Rattle.std.specs.Prelude.{◌≡◌, ℕ, ◌≤◌, Bool, List, ◌++◌}
 use Rattle.flow_design.specs.declared.plan.Plan.{Plan}
-use Rattle.flow_design.specs.declared.state.ClockState.{ClockState}
+use Rattle.flow_design.specs.declared.state.Element.{Element}
+use Rattle.flow_design.specs.declared.state.ModuleState.{ModuleState}
 use Rattle.flow_design.specs.StaticRules.{FitsEngine}
-use Rattle.lockstep_defs.specs.Channels.{Exchange}
-use Rattle.lockstep_defs.specs.Lockstep.{numbered}
+use Rattle.lockstep_defs.specs.Channels.{HistoryStep}
+use Rattle.lockstep_defs.specs.Lockstep.{state, state_at, moves, step_of}
+use Rattle.lockstep_defs.specs.Report.{events_of}
 use Rattle.block_code.specs.declared.code.BlockCode.{BlockCode}
-use Rattle.clock_machine.specs.declared.part.Scratch.{Scratch}
-use Rattle.clock_machine.specs.declared.part.Traffic.{Traffic}
-use Rattle.clock_machine.specs.Parts.{part_of, all_exchanges, popped, pushed, AreFit, AreCodes}
-use Rattle.clock_machine.specs.Quiet.{AreQuiet}
-use Rattle.clock_machine.specs.Stalls.{AreKnown, AreStill}
+use Rattle.clock_machine.specs.declared.seat.Round.{Round}
+use Rattle.clock_machine.specs.declared.seat.Traffic.{Traffic}
+use Rattle.clock_machine.specs.Parts.{exchanges_in, popped, pushed, kept, AreFitInTime, AreCodes}
 
--- a plan that the engine takes, with its code, stands so in a clock up to its limit
-pub record Stands (p : Plan) (codes : List (List BlockCode)) (clock : ℕ) (st : ClockState) : Type 0 where
+-- a plan that the engine takes, with its code, has come to these states
+pub record Stands (p : Plan) (codes : List (List BlockCode)) (states : List ModuleState) : Type 0 where
   pub fits : FitsEngine p
   pub made : AreCodes p codes
-  pub fit : AreFit p clock st.modules
+  pub fit : AreFitInTime p states
+
+-- a plan that the engine takes, with its code, has come to this clock, in which the channels hold this
+pub record Runs (p : Plan) (codes : List (List BlockCode)) (clock : ℕ) (contents : List (List Element)) : Type 0 where
+  pub fits : FitsEngine p
+  pub made : AreCodes p codes
   pub early : clock ≤ p.cycles
+  pub holding : contents ≡ (state p clock).contents
 
--- the traffic grew by what these operations pop and push
-pub record HasAdded (old new : Traffic) (xs : List Exchange) : Type 0 where
-  pub pops : new.pops ≡ old.pops ++ popped xs
-  pub pushes : new.pushes ≡ old.pushes ++ pushed xs
+-- whether module i moves in a clock
+abbrev pub does_move : Plan → ℕ → ℕ → Bool
+does_move p clock i = moves p clock (state p clock).contents (i, state_at p clock i)
 
--- there is a part for each module, and what is known of those that have stalled
-pub record HasRoom (p : Plan) (st : ClockState) (scratch : Scratch) : Type 0 where
-  pub parts : length scratch.parts ≡ length st.modules
-  pub stalls : length scratch.stalls ≡ length st.modules
-  pub known : AreKnown p st.modules scratch.stalls
+-- what module i does in a clock
+abbrev pub step_at : Plan → ℕ → ℕ → List HistoryStep
+step_at p clock i = step_of p clock (state p clock).contents (i, state_at p clock i)
 
--- the parts of all modules in a clock, and what they make up
-pub record HasAsked (p : Plan) (clock : ℕ) (st : ClockState) (scratch : Scratch) : Type 0 where
-  pub parts : scratch.parts ≡ map (part_of p clock st.contents) (numbered st)
-  pub quiet : scratch.traffic.queried ≡ false → AreQuiet scratch.parts
-  pub pops : scratch.traffic.pops ≡ popped (all_exchanges scratch.parts)
-  pub pushes : scratch.traffic.pushes ≡ pushed (all_exchanges scratch.parts)
-  pub stalls : length scratch.stalls ≡ length st.modules
-  pub known : AreKnown p st.modules scratch.stalls
-  pub still : AreStill scratch.parts scratch.stalls
+-- the traffic grew by what these steps pop and push
+pub record HasMoved (old new : Traffic) (steps : List HistoryStep) : Type 0 where
+  pub pops : new.pops ≡ old.pops ++ popped (exchanges_in steps)
+  pub pushes : new.pushes ≡ old.pushes ++ pushed (exchanges_in steps)
+
+-- and the events by theirs, where events are kept
+pub record HasDone (keep : Bool) (old new : Round) (steps : List HistoryStep) : Type 0 where
+  pub traffic : HasMoved old.traffic new.traffic steps
+  pub events : new.events ≡ old.events ++ kept keep (events_of steps)

@@ -8,8 +8,8 @@ ghost use Rattle.flow_design.specs.declared.state.Reply.TheVariants.{Flag};
 ghost use Rattle.lockstep_defs.specs.Lockstep.{answered};
 ghost use Rattle.clock_machine.specs.Parts.{outcomes_in, popped, pushed};
 
-use crate::compiled::Channels;
-use crate::part::{Pushed, Traffic};
+use crate::seat::{Pushed, Traffic};
+use crate::standing::Standing;
 use flow_design::{ChannelKind, Element, Plan, Reply, Request};
 use flow_word::{Flags, Kind, List, OutOfMemory, Queue, Side};
 
@@ -110,29 +110,22 @@ fn is_full(plan: &Plan, contents: &[Queue<Element>], channel: u32) -> bool
 
 /// Whether a channel has an element to pop in this clock, or else a place to push.
 #[inline(always)]
-fn is_possible(at: &Channels<'_>, side: Side, channel: u32) -> bool
-    ensures { result ≡ is_possible at.now.plan.now at.now.clock at.now.contents.now side channel }
+fn is_possible(at: &Standing<'_>, side: Side, channel: u32) -> bool
+    ensures { result ≡ is_possible at.now.of.now.plan.now at.now.clock at.now.contents.now side channel }
 {
     match side {
         Side::Pop => !is_empty(at.clock, at.contents, channel),
-        Side::Push => !is_full(at.plan, at.contents, channel),
+        Side::Push => !is_full(at.of.plan, at.contents, channel),
     }
 }
 
 /// Whether an operation blocks and cannot be done in this clock.
 #[inline(always)]
-fn stalls(at: &Channels<'_>, request: &Request) -> bool
-    ensures { result ≡ stalls at.now.plan.now at.now.clock at.now.contents.now request.now }
+pub fn stalls(at: &Standing<'_>, request: &Request) -> bool
+    ensures { result ≡ stalls at.now.of.now.plan.now at.now.clock at.now.contents.now request.now }
 {
     let kind = request.kind;
     kind.is_blocking() && !is_possible(at, kind.side(), request.channel)
-}
-
-/// Whether one of these operations blocks and cannot be done in this clock.
-pub fn any_stalls(at: &Channels<'_>, requests: &[Request]) -> bool
-    ensures { result ≡ list_any (stalls at.now.plan.now at.now.clock at.now.contents.now) requests.now }
-{
-    requests.iter().any(|request| stalls(at, request))
 }
 
 /// Whether a channel would have an element to pop, or else a place to push, if every element could be popped. The clock does not
@@ -163,55 +156,38 @@ pub fn any_stalls_ever(plan: &Plan, contents: &[Queue<Element>], requests: &[Req
         .any(|request| stalls_ever(plan, contents, request))
 }
 
-/// Adds an outcome.
-#[inline(always)]
-fn tell(outcomes: &mut Flags, queried: &mut bool, outcome: bool) -> Result<(), OutOfMemory>
-    ensures outcomes { OnOk result (outcomes.new ≡ outcomes.old ++ outcome ∷ []) }
-    ensures queried { queried.new ≡ true }
-{
-    *queried = true;
-    outcomes.push(outcome)
-}
-
 /// The reply with an outcome, which is added.
 #[inline(always)]
-fn flag(
-    outcomes: &mut Flags,
-    queried: &mut bool,
-    outcome: bool,
-) -> Result<Option<Reply>, OutOfMemory>
+fn flag(outcomes: &mut Flags, outcome: bool) -> Result<Option<Reply>, OutOfMemory>
     ensures reply { IfOk result (λ reply. reply ≡ Some (Flag outcome)) }
     ensures outcomes { OnOk result (outcomes.new ≡ outcomes.old ++ outcome ∷ []) }
-    ensures queried { queried.new ≡ true }
 {
-    tell(outcomes, queried, outcome)?;
+    outcomes.push(outcome)?;
     Ok(Some(Reply::Flag(outcome)))
 }
 
-/// The reply to an operation, or none where it blocks and cannot be done. Adds its outcome if it is a query, which is then noted, and
-/// what it pops and pushes.
+/// The reply to an operation, or none where it blocks and cannot be done. Adds its outcome if it is a query, and what it
+/// pops and pushes.
 #[tactic(auto, unfolding(lockstep_defs::specs::Channels::reply))]
 #[inline(always)]
 pub fn answer_one(
-    at: &Channels<'_>,
+    at: &Standing<'_>,
     request: &Request,
     outcomes: &mut Flags,
     traffic: &mut Traffic,
 ) -> Result<Option<Reply>, OutOfMemory>
-    ensures reply { IfOk result (λ answer. answer ≡ (if stalls at.now.plan.now at.now.clock at.now.contents.now request.now
-        then None else Some (reply at.now.plan.now at.now.clock at.now.contents.now request.now))) }
+    ensures reply { IfOk result (λ answer. answer ≡ (if stalls at.now.of.now.plan.now at.now.clock at.now.contents.now request.now
+        then None else Some (reply at.now.of.now.plan.now at.now.clock at.now.contents.now request.now))) }
     ensures outcomes { IfOk result (λ answer. is_some answer ≡ true
-        → outcomes.new ≡ outcomes.old ++ outcomes_in (answered at.now.plan.now at.now.clock at.now.contents.now request.now ∷ [])) }
+        → outcomes.new ≡ outcomes.old ++ outcomes_in (answered at.now.of.now.plan.now at.now.clock at.now.contents.now request.now ∷ [])) }
     ensures pops { IfOk result (λ answer. is_some answer ≡ true → traffic.new.pops
-        ≡ traffic.old.pops ++ popped (answered at.now.plan.now at.now.clock at.now.contents.now request.now ∷ [])) }
+        ≡ traffic.old.pops ++ popped (answered at.now.of.now.plan.now at.now.clock at.now.contents.now request.now ∷ [])) }
     ensures pushes { IfOk result (λ answer. is_some answer ≡ true → traffic.new.pushes
-        ≡ traffic.old.pushes ++ pushed (answered at.now.plan.now at.now.clock at.now.contents.now request.now ∷ [])) }
-    ensures quiet { IfOk result (λ answer. traffic.new.queried ≡ false → outcomes.new ≡ outcomes.old) }
-    ensures queried { IfOk result (λ answer. traffic.new.queried ≡ false → traffic.old.queried ≡ false) }
+        ≡ traffic.old.pushes ++ pushed (answered at.now.of.now.plan.now at.now.clock at.now.contents.now request.now ∷ [])) }
+    ensures no_outcome { IfOk result (λ answer. is_some answer ≡ false → outcomes.new ≡ outcomes.old) }
     ensures no_pop { IfOk result (λ answer. is_some answer ≡ false → traffic.new.pops ≡ traffic.old.pops) }
     ensures no_push { IfOk result (λ answer. is_some answer ≡ false → traffic.new.pushes ≡ traffic.old.pushes) }
 {
-    let queried = &mut traffic.queried;
     let Request { channel, value, .. } = *request;
     match request.kind {
         Kind::Read => match ready(at.clock, at.contents, channel) {
@@ -222,7 +198,7 @@ pub fn answer_one(
             }
         },
         Kind::Write => {
-            if is_full(at.plan, at.contents, channel) {
+            if is_full(at.of.plan, at.contents, channel) {
                 return Ok(None);
             }
             traffic.pushes.push(Pushed { channel, value })?;
@@ -230,23 +206,23 @@ pub fn answer_one(
         }
         Kind::TryRead => match ready(at.clock, at.contents, channel) {
             None => {
-                tell(outcomes, queried, false)?;
+                outcomes.push(false)?;
                 Ok(Some(Reply::Missed))
             }
             Some(value) => {
-                tell(outcomes, queried, true)?;
+                outcomes.push(true)?;
                 traffic.pops.push(channel)?;
                 Ok(Some(Reply::Took(value)))
             }
         },
         Kind::TryWrite => {
-            let free = !is_full(at.plan, at.contents, channel);
+            let free = !is_full(at.of.plan, at.contents, channel);
             if free {
                 traffic.pushes.push(Pushed { channel, value })?;
             }
-            flag(outcomes, queried, free)
+            flag(outcomes, free)
         }
-        Kind::Empty => flag(outcomes, queried, is_empty(at.clock, at.contents, channel)),
-        Kind::Full => flag(outcomes, queried, is_full(at.plan, at.contents, channel)),
+        Kind::Empty => flag(outcomes, is_empty(at.clock, at.contents, channel)),
+        Kind::Full => flag(outcomes, is_full(at.of.plan, at.contents, channel)),
     }
 }

@@ -6,7 +6,7 @@ ghost use Rattle.flow_design.specs.StaticRules.{FitsEngine};
 ghost use Rattle.clock_machine.specs.Parts.{after_pops, after_pushes};
 
 use crate::channels::delay;
-use crate::part::Pushed;
+use crate::seat::Pushed;
 use flow_design::{Element, Plan};
 use flow_word::{OutOfMemory, Queue};
 

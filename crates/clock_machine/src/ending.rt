@@ -6,23 +6,54 @@ ghost use Rattle.flow_design.specs.Plans.{kind_at};
 ghost use Rattle.lockstep_defs.specs.Machine.{is_spent, nobody};
 ghost use Rattle.lockstep_defs.specs.Channels.{stalls, all_ready, values, contents_of};
 ghost use Rattle.lockstep_defs.specs.Verdict.{settled_verdict, held_at, held_by, held_in, held};
-ghost use Rattle.flow_design.specs.Reports.{clock_of};
 ghost use Rattle.lockstep_defs.specs.Report.{sinks, outputs_in};
 ghost use Rattle.flow_design.specs.Plans.{is_sink};
 ghost use Rattle.clock_machine.specs.Parts.{AreFitInTime, AreCodes, report_from};
 ghost use Rattle.clock_machine.specs.Clocks.{Stands};
+ghost use Rattle.flow_design.specs.declared.report.Verdict.TheVariants.{Cycles};
+ghost use Rattle.flow_design.specs.declared.state.ClockState.{ClockState as StateOf};
 
 use crate::asking::{note_one, state_at};
 use crate::channels::stalls_ever;
-use crate::compiled::Compiled;
-use crate::part::Room;
-use crate::telling::Told;
+use crate::standing::Compiled;
+use block_code::Noted;
 use flow_design::{
-    ChannelKind, ClockState, Element, Held, ModuleState, Plan, Report, Request, Verdict,
+    ChannelKind, ClockState, Element, EventLine, Held, ModuleState, Plan, Report, Request, Verdict,
 };
-use flow_word::{List, OutOfMemory, Queue, Side, Words};
+use flow_word::{Flags, List, OutOfMemory, Queue, Side, Words};
 use module_move::{is_over, is_spent};
 use std::alloc::Global;
+
+/// What a run told on its way.
+#[derive(Drop)]
+pub struct Told {
+    /// The events, where they are kept.
+    pub events: List<EventLine>,
+    /// The outcomes of each module's queries.
+    pub answers: List<Flags>,
+}
+
+/// Room for what is noted of one module.
+#[derive(Drop)]
+struct Room {
+    /// The due operations, in commit order.
+    noted: List<Noted>,
+    /// The FIFO operations among them.
+    requests: List<Request>,
+    /// For the results of expressions.
+    words: Words,
+}
+
+impl Room {
+    /// Nothing is noted, which takes no memory.
+    fn new(alloc: Global) -> Room {
+        Room {
+            noted: List::new(alloc),
+            requests: List::new(alloc),
+            words: List::new(alloc),
+        }
+    }
+}
 
 /// Whether all modules are ended.
 fn all_ended(states: &[ModuleState]) -> bool
@@ -127,14 +158,14 @@ fn hold_all(alloc: Global, of: &Compiled<'_>, state: &ClockState) -> Result<List
     Ok(held)
 }
 
-/// How the modules are held at a verdict: not at all where all are ended or the cycle limit was reached.
+/// How the modules are held at the verdict of a settled clock: not at all where all are ended.
 fn held_with(
     alloc: Global,
     of: &Compiled<'_>,
     verdict: Verdict,
     state: &ClockState,
 ) -> Result<List<Held>, OutOfMemory>
-    requires { Stands of.now.plan.now of.now.codes.now (clock_of verdict) state.now }
+    requires { Stands of.now.plan.now of.now.codes.now state.now.modules }
     ensures { IfOk result (λ list. list ≡ held of.now.plan.now verdict state.now) }
 {
     match verdict {
@@ -217,24 +248,25 @@ fn outputs(
     Ok(outputs)
 }
 
-/// The report at a verdict, on the state in its clock and what was told before it.
-pub fn report_at(
+/// The report of these.
+fn report_of(
     alloc: Global,
-    of: &Compiled<'_>,
+    plan: &Plan,
     verdict: Verdict,
-    mut state: ClockState,
+    held: List<Held>,
+    contents: &mut [Queue<Element>],
     told: Told,
 ) -> Result<Report, OutOfMemory>
-    requires { Stands of.now.plan.now of.now.codes.now (clock_of verdict) state }
-    ensures { IfOk result (λ report. report ≡ report_from of.now.plan.now verdict state told.events told.answers) }
+    ensures { IfOk result (λ report. report ≡ record {
+      verdict = verdict;
+      outputs = map (λ f. values (contents_of contents.old f)) (sinks plan.now);
+      held = held;
+      events = told.events;
+      answers = told.answers;
+    }) }
 {
-    let held = held_with(alloc, of, verdict, &state)?;
-    let outputs = outputs(alloc, of.plan, state.contents.as_mut_slice())?;
-    let Told {
-        keep: _keep,
-        events,
-        answers,
-    } = told;
+    let outputs = outputs(alloc, plan, contents)?;
+    let Told { events, answers } = told;
     Ok(Report {
         verdict,
         outputs,
@@ -249,13 +281,31 @@ pub fn settled_report(
     alloc: Global,
     of: &Compiled<'_>,
     clock: u64,
-    state: ClockState,
+    mut state: ClockState,
     told: Told,
 ) -> Result<Report, OutOfMemory>
-    requires { Stands of.now.plan.now of.now.codes.now clock state }
+    requires { Stands of.now.plan.now of.now.codes.now state.modules }
     ensures { IfOk result (λ report. report
         ≡ report_from of.now.plan.now (settled_verdict of.now.plan.now clock state) state told.events told.answers) }
 {
     let verdict = settled_verdict(of.plan, clock, &state);
-    report_at(alloc, of, verdict, state, told)
+    let held = held_with(alloc, of, verdict, &state)?;
+    let contents = state.contents.as_mut_slice();
+    let report = report_of(alloc, of.plan, verdict, held, contents, told)?;
+    Ok(report)
+}
+
+/// The report of a run that reaches the cycle limit, in no settled clock. No module is held then.
+pub fn limit_report(
+    alloc: Global,
+    plan: &Plan,
+    contents: &mut [Queue<Element>],
+    told: Told,
+) -> Result<Report, OutOfMemory>
+    ensures { IfOk result (λ report. (st : StateOf) → st.contents ≡ contents.old
+        → report ≡ report_from plan.now (Cycles plan.now.cycles) st told.events told.answers) }
+{
+    let verdict = Verdict::Cycles(plan.cycles);
+    let report = report_of(alloc, plan, verdict, List::new(alloc), contents, told)?;
+    Ok(report)
 }

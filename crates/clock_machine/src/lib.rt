@@ -3,14 +3,15 @@
 
 mod asking;
 mod channels;
-mod compiled;
 mod contents;
 mod ending;
-mod moving;
 mod opening;
-mod part;
 mod run;
+mod seat;
+mod standing;
 mod telling;
+mod turn;
+mod turns;
 
 pub use block_code::BlockCode;
 pub use opening::codes_of_all;

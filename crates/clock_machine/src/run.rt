@@ -1,84 +1,185 @@
 //! The whole run, clock by clock.
-ghost use Rattle.std.specs.Prelude.{◌≡◌, ℕ, ◌+◌, ◌<◌, [], ◌++◌, length, slice_index_or, IfOk, OnOk};
+ghost use Rattle.std.specs.Prelude.{◌≡◌, ◌+◌, ◌<◌, ◌≤◌, Bool, IfOk, OnOk};
 ghost use Rattle.flow_design.specs.StaticRules.{FitsEngine};
-ghost use Rattle.lockstep_defs.specs.Lockstep.{steps_in, clock_step};
-ghost use Rattle.lockstep_defs.specs.Report.{steps_of, outcomes, events_of, report};
-ghost use Rattle.clock_machine.specs.Parts.{kept, AreFit, AreCodes};
-ghost use Rattle.clock_machine.specs.Clocks.{Stands, HasAsked};
+ghost use Rattle.flow_design.specs.declared.report.Verdict.TheVariants.{Cycles};
+ghost use Rattle.flow_design.specs.declared.state.ClockState.{ClockState as StateOf};
+ghost use Rattle.lockstep_defs.specs.Lockstep.{state};
+ghost use Rattle.lockstep_defs.specs.Verdict.{some_moves, is_settled, settled_verdict};
+ghost use Rattle.lockstep_defs.specs.Report.{report};
+ghost use Rattle.clock_machine.specs.Parts.{kept, report_from, AreCodes};
+ghost use Rattle.clock_machine.specs.Clocks.{Stands};
+ghost use Rattle.clock_machine.specs.Runs.{HasCome};
 
-use crate::asking::ask_all;
-use crate::compiled::Compiled;
 use crate::contents::{pop_all, push_all};
-use crate::ending::{report_at, settled_report};
-use crate::moving::move_all;
+use crate::ending::{Told, limit_report, settled_report};
 use crate::opening::{codes_of_all, no_answers, open_all};
-use crate::part::{Scratch, new_scratch};
-use crate::telling::{Told, tell_kept_events, tell_queried};
+use crate::seat::{Round, Seat, seats_for};
+use crate::standing::{Compiled, Standing};
+use crate::turns::{is_settled, take_turns};
 use block_code::BlockCode;
-use flow_design::{ClockState, Plan, Report, Verdict};
-use flow_word::{List, OutOfMemory};
+use flow_design::{ClockState, Plan, Report};
+use flow_word::{Flags, List, OutOfMemory};
 use std::alloc::Global;
 
-/// One clock: the modules move by their parts, then all that they pop is taken off, and then all that they push is put in.
+/// How far a run has come.
+#[derive(Drop)]
+pub struct Run {
+    /// What the channels hold, and the state of each module: of one that sleeps, that in which it wakes.
+    pub state: ClockState,
+    /// What is kept of each module.
+    pub seats: List<Seat>,
+    /// The outcomes of each module's queries.
+    pub answers: List<Flags>,
+    /// What the modules share, with the events.
+    pub round: Round,
+}
+
+/// A run at clock 0.
+fn open_run(alloc: Global, plan: &Plan) -> Result<Run, OutOfMemory>
+    requires { FitsEngine plan.now }
+    ensures { (keep : Bool) → IfOk result (HasCome plan.now keep 0) }
+{
+    let modules = plan.design.modules.len();
+    Ok(Run {
+        state: open_all(alloc, plan)?,
+        seats: seats_for(alloc, modules)?,
+        answers: no_answers(alloc, modules)?,
+        round: Round::new(alloc),
+    })
+}
+
+/// One clock: each module has its turn, then all that they pop is taken off the channels, and then all that they push is put in.
+/// Says whether a module moves.
 fn step(
     alloc: Global,
     of: &Compiled<'_>,
+    keep: bool,
     clock: u64,
-    scratch: &Scratch,
-    state: &mut ClockState,
-) -> Result<(), OutOfMemory>
-    requires stands { Stands of.now.plan.now of.now.codes.now clock state.old }
-    requires asked { HasAsked of.now.plan.now clock state.old scratch.now }
-    ensures state { OnOk result (state.new ≡ clock_step of.now.plan.now clock state.old) }
-    ensures fit { OnOk result (AreFit of.now.plan.now (clock + 1) state.new.modules) }
+    run: &mut Run,
+) -> Result<bool, OutOfMemory>
+    requires fits { FitsEngine of.now.plan.now }
+    requires codes { AreCodes of.now.plan.now of.now.codes.now }
+    requires early { clock < of.now.plan.now.cycles }
+    requires come { HasCome of.now.plan.now keep clock run.old }
+    ensures moving { IfOk result (λ moving. moving
+        ≡ some_moves of.now.plan.now clock (state of.now.plan.now clock).contents (state of.now.plan.now clock)) }
+    ensures come { OnOk result (HasCome of.now.plan.now keep (clock + 1) run.new) }
 {
-    move_all(
+    let at = Standing {
         alloc,
-        of,
+        of: &*of,
+        keep,
         clock,
-        scratch.parts.as_slice(),
-        state.modules.as_mut_slice(),
+        contents: run.state.contents.as_slice(),
+    };
+    let moving = take_turns(
+        &at,
+        run.state.modules.as_mut_slice(),
+        run.seats.as_mut_slice(),
+        &mut run.round,
+        run.answers.as_mut_slice(),
     )?;
     pop_all(
-        state.contents.as_mut_slice(),
-        scratch.traffic.pops.as_slice(),
+        run.state.contents.as_mut_slice(),
+        run.round.traffic.pops.as_slice(),
     );
     push_all(
         of.plan,
         clock,
-        state.contents.as_mut_slice(),
-        scratch.traffic.pushes.as_slice(),
+        run.state.contents.as_mut_slice(),
+        run.round.traffic.pushes.as_slice(),
     )?;
-    Ok(())
+    run.round.traffic.clear();
+    Ok(moving)
 }
 
-/// One clock, of which is told what was asked and done.
-fn next_clock(
+/// Whether the clock to which a run has come is settled.
+fn settles(
     alloc: Global,
     of: &Compiled<'_>,
+    keep: bool,
     clock: u64,
-    scratch: &Scratch,
-    state: &mut ClockState,
-    told: &mut Told,
-) -> Result<(), OutOfMemory>
-    requires stands { Stands of.now.plan.now of.now.codes.now clock state.old }
-    requires asked { HasAsked of.now.plan.now clock state.old scratch.now }
-    requires count { length told.old.answers ≡ length of.now.plan.now.design.modules }
-    ensures state { OnOk result (state.new ≡ clock_step of.now.plan.now clock state.old) }
-    ensures fit { OnOk result (AreFit of.now.plan.now (clock + 1) state.new.modules) }
-    ensures keep { told.new.keep ≡ told.old.keep }
-    ensures events { OnOk result (told.new.events
-        ≡ told.old.events ++ kept told.old.keep (events_of (steps_in of.now.plan.now clock state.old))) }
-    ensures count { OnOk result (length told.new.answers ≡ length told.old.answers) }
-    ensures answers { OnOk result ((i : ℕ) → i < length of.now.plan.now.design.modules
-        → slice_index_or told.new.answers i []
-        ≡ slice_index_or told.old.answers i [] ++ outcomes (steps_of i (steps_in of.now.plan.now clock state.old))) }
+    run: &mut Run,
+) -> Result<bool, OutOfMemory>
+    requires fits { FitsEngine of.now.plan.now }
+    requires codes { AreCodes of.now.plan.now of.now.codes.now }
+    requires early { clock ≤ of.now.plan.now.cycles }
+    requires come { HasCome of.now.plan.now keep clock run.old }
+    ensures settled { IfOk result (λ settled. settled ≡ is_settled of.now.plan.now clock (state of.now.plan.now clock)) }
+    ensures come { OnOk result (HasCome of.now.plan.now keep clock run.new) }
 {
-    let parts = scratch.parts.as_slice();
-    tell_kept_events(told.keep, &mut told.events, clock, parts)?;
-    tell_queried(scratch.traffic.queried, told.answers.as_mut_slice(), parts)?;
-    step(alloc, of, clock, scratch, state)?;
-    Ok(())
+    let at = Standing {
+        alloc,
+        of: &*of,
+        keep,
+        clock,
+        contents: run.state.contents.as_slice(),
+    };
+    let states = run.state.modules.as_slice();
+    let seats = run.seats.as_mut_slice();
+    let settled = is_settled(&at, states, seats, &mut run.round.words)?;
+    Ok(settled)
+}
+
+/// One clock. Says whether it is settled: where no module moves all stays as it is, so the next clock tells.
+fn go_on(
+    alloc: Global,
+    of: &Compiled<'_>,
+    keep: bool,
+    clock: u64,
+    run: &mut Run,
+) -> Result<bool, OutOfMemory>
+    requires fits { FitsEngine of.now.plan.now }
+    requires codes { AreCodes of.now.plan.now of.now.codes.now }
+    requires early { clock < of.now.plan.now.cycles }
+    requires come { HasCome of.now.plan.now keep clock run.old }
+    ensures settled { IfOk result (λ settled. settled ≡ is_settled of.now.plan.now clock (state of.now.plan.now clock)) }
+    ensures come { OnOk result (HasCome of.now.plan.now keep (clock + 1) run.new) }
+{
+    if step(alloc, of, keep, clock, run)? {
+        return Ok(false);
+    }
+    let settled = settles(alloc, of, keep, clock + 1, run)?;
+    Ok(settled)
+}
+
+/// The report of a run that has come to a settled clock.
+fn settle(alloc: Global, of: &Compiled<'_>, clock: u64, run: Run) -> Result<Report, OutOfMemory>
+    requires { Stands of.now.plan.now of.now.codes.now run.state.modules }
+    ensures { IfOk result (λ r. r
+        ≡ report_from of.now.plan.now (settled_verdict of.now.plan.now clock run.state) run.state run.round.events run.answers) }
+{
+    let Run {
+        state,
+        seats: _seats,
+        answers,
+        round,
+    } = run;
+    let told = Told {
+        events: round.events,
+        answers,
+    };
+    let report = settled_report(alloc, of, clock, state, told)?;
+    Ok(report)
+}
+
+/// The report of a run that has come to the cycle limit, in no settled clock.
+fn give_up(alloc: Global, plan: &Plan, run: Run) -> Result<Report, OutOfMemory>
+    ensures { IfOk result (λ r. (st : StateOf) → st.contents ≡ run.state.contents
+        → r ≡ report_from plan.now (Cycles plan.now.cycles) st run.round.events run.answers) }
+{
+    let Run {
+        mut state,
+        seats: _seats,
+        answers,
+        round,
+    } = run;
+    let told = Told {
+        events: round.events,
+        answers,
+    };
+    let report = limit_report(alloc, plan, state.contents.as_mut_slice(), told)?;
+    Ok(report)
 }
 
 /// As `clock_run`, by the code of all blocks, which is made once for a plan and its edits: with its events, or with none, which take
@@ -94,27 +195,18 @@ pub fn clock_run_by(
     ensures { IfOk result (λ r. r ≡ record (report plan.now) { events = kept keep (report plan.now).events }) }
 {
     let of = Compiled { plan, codes };
-    let modules = plan.design.modules.len();
-    let mut state = open_all(alloc, plan)?;
-    let mut scratch = new_scratch(alloc, modules)?;
-    let mut told = Told {
-        keep,
-        events: List::new(alloc),
-        answers: no_answers(alloc, modules)?,
-    };
+    let mut run = open_run(alloc, plan)?;
     for clock in 0..plan.cycles {
-        if ask_all(&of, clock, &state, &mut scratch)? {
-            let report = settled_report(alloc, &of, clock, state, told)?;
+        if go_on(alloc, &of, keep, clock, &mut run)? {
+            let report = settle(alloc, &of, clock, run)?;
             return Ok(report);
         }
-        next_clock(alloc, &of, clock, &scratch, &mut state, &mut told)?;
     }
-    if ask_all(&of, plan.cycles, &state, &mut scratch)? {
-        let report = settled_report(alloc, &of, plan.cycles, state, told)?;
+    if settles(alloc, &of, keep, plan.cycles, &mut run)? {
+        let report = settle(alloc, &of, plan.cycles, run)?;
         return Ok(report);
     }
-    let verdict = Verdict::Cycles(plan.cycles);
-    let report = report_at(alloc, &of, verdict, state, told)?;
+    let report = give_up(alloc, plan, run)?;
     Ok(report)
 }
 

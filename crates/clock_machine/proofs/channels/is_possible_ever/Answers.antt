@@ -1,6 +1,6 @@
 use Rattle.std.proofs.Common.{ap, sym, not, nat_lt, ◌∙◌}
 use Rattle.lockstep_defs.proofs.Settled.{full_ready}
-use Rattle.clock_machine.proofs.PartLemmas.{there_ever}
+use Rattle.clock_machine.proofs.Moving.{there_ever}
 use Rattle.clock_machine.proofs.channels.is_possible_ever.Goals as goal
 
 pub returns-in-Pop : goal.returns-in-Pop

@@ -5,7 +5,7 @@ use Rattle.lockstep_defs.specs.Channels.{all_ready}
 use Rattle.lockstep_defs.specs.Lockstep.{numbered}
 use Rattle.lockstep_defs.specs.Verdict.{held_by}
 use Rattle.clock_machine.proofs.Fronts.{kept_more, numbered_all}
-use Rattle.clock_machine.proofs.PartLemmas.{held_ever}
+use Rattle.clock_machine.proofs.Moving.{held_ever}
 use Rattle.clock_machine.proofs.ending.hold_all.Goals as goal
 
 pub loop-i-preserved : goal.loop-i-preserved

@@ -1,6 +1,6 @@
 use Rattle.std.proofs.Common.{arith, refl, sym, ◌∙◌}
 use Rattle.lockstep_defs.specs.Lockstep.{module_at}
-use Rattle.clock_machine.proofs.PartLemmas.{sound_of}
+use Rattle.clock_machine.proofs.Moving.{sound_of}
 use Rattle.clock_machine.proofs.ending.hold_one.Goals as goal
 
 pub note_one-requires-clause-sound : goal.note_one-requires-clause-sound

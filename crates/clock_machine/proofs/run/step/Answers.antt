@@ -1,38 +1,48 @@
-use Rattle.std.proofs.Common.{ℕ, ◌<◌, List, length, get_or, sym, ap, subst, ◌∙◌}
+use Rattle.std.proofs.Common.{ℕ, ◌+◌, ◌++◌, ◌∙◌, List, [], Bool, length, map, get_or, sym, ap, subst}
+use Rattle.std.specs.List.{refill, enumerate_from}
+use Rattle.flow_design.specs.declared.state.Element.{Element}
 use Rattle.flow_design.specs.declared.state.ModuleState.{ModuleState}
-use Rattle.lockstep_defs.specs.Machine.{nobody}
-use Rattle.clock_machine.specs.declared.part.Part.{Part}
-use Rattle.clock_machine.specs.Parts.{part_of, after_part, no_part, IsReady, all_exchanges, popped, pushed, after_pops, after_pushes}
-use Rattle.clock_machine.proofs.Fronts.{numbered_length, written_through}
-use Rattle.clock_machine.proofs.Steps.{parts_ready, stepped}
+use Rattle.lockstep_defs.specs.Lockstep.{steps_in, contents_after, state}
+use Rattle.lockstep_defs.specs.Report.{outcomes}
+use Rattle.clock_machine.specs.declared.seat.Seat.{Seat}
+use Rattle.clock_machine.specs.Clocks.{step_at}
+use Rattle.clock_machine.specs.Parts.{exchanges_in, popped, pushed, after_pops, after_pushes}
+use Rattle.clock_machine.specs.Seats.{AreSeated}
+use Rattle.clock_machine.proofs.Coming.{events_next, answers_next, contents_come}
+use Rattle.clock_machine.proofs.Fronts.{refilled, written_through}
+use Rattle.clock_machine.proofs.Steps.{contents_next}
 use Rattle.clock_machine.proofs.run.step.Goals as goal
 
-pub move_all-requires-clause-count : goal.move_all-requires-clause-count
-move_all-requires-clause-count c =
-    numbered_length (part_of c.args.of.now.plan.now c.args.clock c.args.state.now.contents) c.args.state.now.modules c.as_slice.result.now
-    (c.as_slice.ensures ∙ c.requires.asked.parts)
-    ∙ ap length (sym c.as_mut_slice.ensures.value)
-
-pub move_all-requires-clause-ready : goal.move_all-requires-clause-ready
-move_all-requires-clause-ready c =
-    subst (λ (states : List ModuleState). (i : ℕ) → i < length states
-    → IsReady c.args.of.now.plan.now (i, get_or states i nobody) (get_or c.as_slice.result.now i no_part))
-    (sym c.as_mut_slice.ensures.value)
-    (parts_ready c.args.of.now.plan.now c.args.clock c.args.state.now c.as_slice.result.now (c.as_slice.ensures ∙ c.requires.asked.parts))
-
-pub returns-clause-state : goal.returns-clause-state
-returns-clause-state c =
-    let parts = c.as_slice.result.now in
-    stepped c.args.of.now.plan.now c.args.clock c.args.state.now _ parts c.as_slice-2.result.now c.as_slice-3.result.now _
-    (c.as_slice.ensures ∙ c.requires.asked.parts)
-    (written_through (λ m. after_part c.args.of.now.plan.now m (get_or parts m.0 no_part)) c.args.state.now.modules
-    c.as_mut_slice.result.now c.move_all.new.states
-    c.as_mut_slice.ensures.value c.in_ok-move_all.ensures.moved)
-    (c.as_slice-2.ensures ∙ (c.requires.asked.pops ∙ ap (λ (ps : List Part). popped (all_exchanges ps)) (sym c.as_slice.ensures)))
-    (c.as_slice-3.ensures ∙ (c.requires.asked.pushes ∙ ap (λ (ps : List Part). pushed (all_exchanges ps)) (sym c.as_slice.ensures)))
-    (written_through (after_pops c.as_slice-2.result.now) c.args.state.now.contents c.as_mut_slice-2.result.now
-    c.pop_all.new.contents
-    c.as_mut_slice-2.ensures.value c.pop_all.ensures)
-    (written_through (after_pushes c.args.of.now.plan.now c.args.clock c.as_slice-3.result.now) _ c.as_mut_slice-3.result.now
-    c.push_all.new.contents
-    c.as_mut_slice-3.ensures.value c.in_ok-push_all.ensures)
+pub returns-clause-come : goal.returns-clause-come
+returns-clause-come c =
+    let p = c.args.of.now.plan.now in
+    let clock = c.args.clock in
+    let run = c.args.run.now in
+    let come = c.requires.come in
+    let turned = c.in_ok-moving.ensures in
+    let steps = steps_in p clock (state p clock) in
+    let states = refilled run.state.modules c.take_turns.new.states (turned.seated.state_count ∙ sym come.seated.state_count) in
+    let seats = refilled run.seats c.take_turns.new.seats (turned.seated.seat_count ∙ sym come.seated.seat_count) in
+    let answers = refilled run.answers c.take_turns.new.answers (turned.count ∙ ap length c.as_mut_slice-3.ensures.value) in
+    let pops = c.as_slice-2.ensures ∙ (turned.done.traffic.pops ∙ ap (λ (l : List ℕ). l ++ popped (exchanges_in steps)) come.no_pops) in
+    let pushes = c.as_slice-3.ensures ∙ (turned.done.traffic.pushes ∙ ap (λ l. l ++ pushed (exchanges_in steps)) come.no_pushes) in
+    record {
+      seated = subst (λ (xs : List ModuleState). AreSeated p (clock + 1) xs (refill (length run.seats) run.seats c.take_turns.new.seats))
+          (sym states)
+          (subst (λ (ys : List Seat). AreSeated p (clock + 1) c.take_turns.new.states ys) (sym seats) turned.seated);
+      holding = contents_next p clock steps c.as_slice-2.result.now c.as_slice-3.result.now run.state.contents _ _ pops pushes
+          (written_through (after_pops c.as_slice-2.result.now) run.state.contents c.as_mut_slice-4.result.now c.pop_all.new.contents
+          c.as_mut_slice-4.ensures.value c.pop_all.ensures)
+          (written_through (after_pushes p clock c.as_slice-3.result.now) _ c.as_mut_slice-5.result.now c.push_all.new.contents
+          c.as_mut_slice-5.ensures.value c.in_ok-push_all.ensures)
+          ∙ (ap (λ (held : List (List Element)). map (contents_after p clock steps) (enumerate_from 0 held)) come.holding
+          ∙ sym (contents_come p clock));
+      no_pops = ap (λ t. t.pops) c.clear.ensures;
+      no_pushes = ap (λ t. t.pushes) c.clear.ensures;
+      events = events_next p c.args.keep clock run.round.events c.take_turns.new.round.events come.events turned.done.events;
+      answer_count = ap length answers ∙ (turned.count ∙ (ap length c.as_mut_slice-3.ensures.value ∙ come.answer_count));
+      answers = λ i l. ap (λ (all : List (List Bool)). get_or all i []) answers
+          ∙ answers_next p clock i (get_or run.answers i []) (get_or c.take_turns.new.answers i []) l (come.answers i l)
+          (turned.answers i l
+          ∙ ap (λ (all : List (List Bool)). get_or all i [] ++ outcomes (step_at p clock i)) c.as_mut_slice-3.ensures.value);
+    }

@@ -1,0 +1,158 @@
+use Rattle.std.proofs.Common.{◌≡◌, ℕ, ◌∙◌, ◌+◌, ◌-◌, ◌<◌, ◌^◌, suc, refl, ap, arith}
+use Rattle.flow_design.specs.declared.design.Module.{Module}
+use Rattle.flow_design.specs.declared.state.ModuleState.{ModuleState}
+use Rattle.flow_design.specs.Module.{block_of}
+use Rattle.lockstep_defs.specs.Lockstep.{module_at}
+use Rattle.lockstep_defs.proofs.Agrees.{below_limit}
+use Rattle.module_move.specs.Moves.{ticked_to, gone_on}
+use Rattle.clock_machine.proofs.Sleeping.{awake, falls_asleep, seated_sound, stands_in, next_near, idle_till}
+use Rattle.clock_machine.proofs.turn.fall_asleep.Goals as goal
+
+pub code_at-requires-clause-block : goal.code_at-requires-clause-block
+code_at-requires-clause-block c =
+    let r = c.requires in
+    (seated_sound c.args.at.now.of.now.plan.now r.runs.fits c.args.at.now.clock c.args.i c.args.state.now c.args.seat.now r.within r.seated
+    r.running).state.block
+
+pub next_due-next-requires : goal.next_due-next-requires
+next_due-next-requires c =
+    let p = c.args.at.now.of.now.plan.now in
+    let s = c.args.state.now in
+    let r = c.requires in
+    let sound = seated_sound p r.runs.fits c.args.at.now.clock c.args.i s c.args.seat.now r.within r.seated r.running in
+    let young = r.seated.young in
+    let l = r.awake in
+    let early = r.runs.early in
+    let cycles = r.runs.fits.cycles in
+    let small : s.control.clock < 10 ^ 18 = omega arith in
+    (block_of (module_at p c.args.i) s, (c.code_at.ensures.schedule, stands_in p c.args.i s sound small))
+
+pub tick_to-requires-clause-started : goal.tick_to-requires-clause-started
+tick_to-requires-clause-started c =
+    let p = c.args.at.now.of.now.plan.now in
+    let r = c.requires in
+    (seated_sound p r.runs.fits c.args.at.now.clock c.args.i c.args.state.now c.args.seat.now r.within r.seated
+    r.running).state.control.has_started
+
+pub tick_to-requires-clause-later : goal.tick_to-requires-clause-later
+tick_to-requires-clause-later c =
+    let p = c.args.at.now.of.now.plan.now in
+    let s = c.args.state.now in
+    let r = c.requires in
+    let sound = seated_sound p r.runs.fits c.args.at.now.clock c.args.i s c.args.seat.now r.within r.seated r.running in
+    let young = r.seated.young in
+    let l = r.awake in
+    let early = r.runs.early in
+    let cycles = r.runs.fits.cycles in
+    let small : s.control.clock < 10 ^ 18 = omega arith in
+    (c.next_due-next.ensures (block_of (module_at p c.args.i) s) c.code_at.ensures.schedule (stands_in p c.args.i s sound small)).from
+
+pub tick_to-requires-clause-small : goal.tick_to-requires-clause-small
+tick_to-requires-clause-small c =
+    let p = c.args.at.now.of.now.plan.now in
+    let s = c.args.state.now in
+    let b = block_of (module_at p c.args.i) s in
+    let r = c.requires in
+    let sound = seated_sound p r.runs.fits c.args.at.now.clock c.args.i s c.args.seat.now r.within r.seated r.running in
+    let young = r.seated.young in
+    let l = r.awake in
+    let early = r.runs.early in
+    let cycles = r.runs.fits.cycles in
+    let small : s.control.clock < 10 ^ 18 = omega arith in
+    let stands = stands_in p c.args.i s sound small in
+    let limits = c.code_at.ensures.schedule.limits in
+    let most = limits.most in
+    let started = sound.state.control.has_started in
+    let near = next_near b s.control c.next_due-next.result limits stands
+    (c.next_due-next.ensures b c.code_at.ensures.schedule stands) in
+    omega arith
+
+pub go_on-requires-clause-started : goal.go_on-requires-clause-started
+go_on-requires-clause-started c =
+    let p = c.args.at.now.of.now.plan.now in
+    let s = c.args.state.now in
+    let r = c.requires in
+    let sound = seated_sound p r.runs.fits c.args.at.now.clock c.args.i s c.args.seat.now r.within r.seated r.running in
+    let young = r.seated.young in
+    let l = r.awake in
+    let early = r.runs.early in
+    let cycles = r.runs.fits.cycles in
+    let small : s.control.clock < 10 ^ 18 = omega arith in
+    let from = (c.next_due-next.ensures (block_of (module_at p c.args.i) s) c.code_at.ensures.schedule
+    (stands_in p c.args.i s sound small)).from in
+    let started = sound.state.control.has_started in
+    let now = ap (λ (z : ModuleState). z.control.clock) c.tick_to.ensures.ticked in
+    let newest = ap (λ (z : ModuleState). z.control.newest) c.tick_to.ensures.ticked in
+    omega arith
+
+pub go_on-requires-clause-few : goal.go_on-requires-clause-few
+go_on-requires-clause-few c =
+    let p = c.args.at.now.of.now.plan.now in
+    let few = below_limit p.ops c.args.state.now c.requires.running in
+    let operations = c.requires.runs.fits.operations in
+    let same = ap (λ (z : ModuleState). z.count) c.tick_to.ensures.ticked in
+    omega arith
+
+pub overflow_sub-seat : goal.overflow_sub-seat
+overflow_sub-seat c =
+    let p = c.args.at.now.of.now.plan.now in
+    let s = c.args.state.now in
+    let r = c.requires in
+    let sound = seated_sound p r.runs.fits c.args.at.now.clock c.args.i s c.args.seat.now r.within r.seated r.running in
+    let young = r.seated.young in
+    let l = r.awake in
+    let early = r.runs.early in
+    let cycles = r.runs.fits.cycles in
+    let small : s.control.clock < 10 ^ 18 = omega arith in
+    (c.next_due-next.ensures (block_of (module_at p c.args.i) s) c.code_at.ensures.schedule (stands_in p c.args.i s sound small)).from
+
+pub overflow_add-seat : goal.overflow_add-seat
+overflow_add-seat c =
+    let p = c.args.at.now.of.now.plan.now in
+    let s = c.args.state.now in
+    let b = block_of (module_at p c.args.i) s in
+    let r = c.requires in
+    let sound = seated_sound p r.runs.fits c.args.at.now.clock c.args.i s c.args.seat.now r.within r.seated r.running in
+    let young = r.seated.young in
+    let l = r.awake in
+    let early = r.runs.early in
+    let cycles = r.runs.fits.cycles in
+    let small : s.control.clock < 10 ^ 18 = omega arith in
+    let stands = stands_in p c.args.i s sound small in
+    let limits = c.code_at.ensures.schedule.limits in
+    let most = limits.most in
+    let started = sound.state.control.has_started in
+    let near = next_near b s.control c.next_due-next.result limits stands
+    (c.next_due-next.ensures b c.code_at.ensures.schedule stands) in
+    omega arith
+
+pub returns-clause-asleep : goal.returns-clause-asleep
+returns-clause-asleep c e =
+    let p = c.args.at.now.of.now.plan.now in
+    let clock = c.args.at.now.clock in
+    let i = c.args.i in
+    let s = c.args.state.now in
+    let next = c.next_due-next.result in
+    let b = block_of (module_at p i) s in
+    let r = c.requires in
+    let sound = seated_sound p r.runs.fits clock i s c.args.seat.now r.within r.seated r.running in
+    let young = r.seated.young in
+    let l = r.awake in
+    let early = r.runs.early in
+    let cycles = r.runs.fits.cycles in
+    let small : s.control.clock < 10 ^ 18 = omega arith in
+    let due = c.next_due-next.ensures b c.code_at.ensures.schedule (stands_in p i s sound small) in
+    let from = due.from in
+    let not_now = c.if-next-now.false in
+    let n = next - s.control.clock - 1 in
+    let far : next ≡ s.control.clock + suc n = omega arith in
+    let wakes : clock + (next - s.control.clock) ≡ clock + suc n = omega arith in
+    let now : c.tick_to.new.state.control.clock ≡ next = ap (λ (z : ModuleState). z.control.clock) c.tick_to.ensures.ticked in
+    let most = c.in_ok-go_on.ensures.clock in
+    falls_asleep p clock i n s c.go_on.new.state _ r.within (awake p clock i s c.args.seat.now r.seated r.awake) r.running
+    (idle_till p i n s next c.code_at.ensures.schedule.limits sound due far)
+    (c.in_ok-go_on.ensures.gone
+    ∙ (ap (λ (m : Module). gone_on m c.tick_to.new.state) c.module_at-module.ensures
+    ∙ (ap (gone_on (module_at p i)) (c.tick_to.ensures.ticked ∙ ap (λ (m : Module). ticked_to m next s) c.module_at-module.ensures)
+    ∙ ap (λ (k : ℕ). gone_on (module_at p i) (ticked_to (module_at p i) k s)) far)))
+    wakes refl (omega arith)

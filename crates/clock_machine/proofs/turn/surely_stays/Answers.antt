@@ -1,0 +1,29 @@
+use Rattle.std.proofs.Common.{◌∙◌, true, false, not, sym, ap}
+use Rattle.lockstep_defs.specs.Lockstep.{state, state_at}
+use Rattle.clock_machine.proofs.Moving.{over_stays}
+use Rattle.clock_machine.proofs.Sleeping.{moves_by_requests, asked_in, runs_in}
+use Rattle.clock_machine.proofs.turn.surely_stays.Goals as goal
+
+pub returns-then-is_over-clause-stays : goal.returns-then-is_over-clause-stays
+returns-then-is_over-clause-stays c e =
+    let p = c.args.at.now.of.now.plan.now in
+    let clock = c.args.at.now.clock in
+    let i = c.args.i in
+    over_stays p clock (state p clock).contents (i, state_at p clock i)
+    (runs_in p clock i c.args.state.now c.args.seat.now true c.requires.seated c.requires.awake (sym c.is_over.ensures ∙ c.if-is_over.true))
+
+pub returns-clause-stays : goal.returns-clause-stays
+returns-clause-stays c e =
+    let p = c.args.at.now.of.now.plan.now in
+    let clock = c.args.at.now.clock in
+    let i = c.args.i in
+    let s = c.args.state.now in
+    let r = c.requires in
+    let known = c.still_stalls.ensures.known e in
+    sym (moves_by_requests p clock i c.args.at.now.contents.now c.args.seat.now.requests false r.runs.holding
+    (asked_in p clock i s c.args.seat.now r.seated r.awake known)
+    (runs_in p clock i s c.args.seat.now false r.seated r.awake (sym c.is_over.ensures ∙ c.if-is_over.false))
+    (ap not (sym (c.still_stalls.ensures.stalls e))))
+
+pub returns-clause-running : goal.returns-clause-running
+returns-clause-running c e = sym c.is_over.ensures ∙ c.if-is_over.false

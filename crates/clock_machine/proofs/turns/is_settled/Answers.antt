@@ -1,0 +1,92 @@
+use Rattle.std.proofs.Common.{◌≡◌, ℕ, ◌∙◌, ◌&&◌, List, Bool, true, false, not, length, get_or, refl, sym, ap, subst, arith}
+use Rattle.std.specs.List.{list_any}
+use Rattle.std.proofs.lemmas.List.{get_or_default}
+use Rattle.flow_design.specs.declared.plan.Plan.{Plan}
+use Rattle.flow_design.specs.declared.state.ClockState.{ClockState}
+use Rattle.flow_design.specs.declared.state.Element.{Element}
+use Rattle.flow_design.specs.declared.state.ModuleState.{ModuleState}
+use Rattle.lockstep_defs.specs.Channels.{all_ready}
+use Rattle.lockstep_defs.specs.Machine.{nobody}
+use Rattle.lockstep_defs.specs.Lockstep.{moves, state, state_at}
+use Rattle.lockstep_defs.specs.Verdict.{some_moves, is_settled}
+use Rattle.lockstep_defs.proofs.Agrees.{all_modules}
+use Rattle.lockstep_defs.proofs.Settled.{settled_from, same_stalls, some_alike}
+use Rattle.clock_machine.specs.declared.seat.Seat.{Seat}
+use Rattle.clock_machine.specs.Seats.{IsSeated, no_seat}
+use Rattle.clock_machine.proofs.Fronts.{none_more, some_at, numbered_all, all_known}
+use Rattle.clock_machine.proofs.turns.is_settled.Goals as goal
+
+-- a module that would move in no clock moves in none
+ever : (p : Plan) (clock : ℕ) (st : ClockState) (b : Bool) → some_moves p 0 (all_ready st.contents) st ≡ b
+    → some_moves p clock (all_ready st.contents) st ≡ b
+ever p clock st b e = some_alike p clock 0 (all_ready st.contents) (all_ready st.contents) (same_stalls p clock 0 st.contents) st ∙ e
+
+-- where a module would move the clock is not settled
+unsettled : (p : Plan) (clock : ℕ) (st : ClockState) → some_moves p 0 (all_ready st.contents) st ≡ true → is_settled p clock st ≡ false
+unfolding is_settled
+unsettled p clock st e = rw (ever p clock st true e) (by_test (some_moves p clock st.contents st))
+  where
+    by_test : (b : Bool) → (not b && false) ≡ false
+    by_test true = refl
+    by_test false = refl
+
+pub would_move-requires-clause-seated : goal.would_move-requires-clause-seated
+would_move-requires-clause-seated c =
+    let p = c.args.at.now.of.now.plan.now in
+    let clock = c.args.at.now.clock in
+    let i = c.loop-i.i in
+    let counts = c.requires.seated in
+    let here = counts.state_count in
+    let seats = counts.seat_count in
+    let s = get_or_default c.args.states.now i c.index-states-i.result nobody (omega arith) in
+    let seat = get_or_default c.loop-i.seats i c.index-seats-i.result no_seat (omega arith) in
+    subst (λ (z : ModuleState). IsSeated p clock i z (get_or c.loop-i.seats i c.index-seats-i.result)) (sym (c.index-states-i.is ∙ s))
+    (subst (IsSeated p clock i (get_or c.args.states.now i nobody)) (sym seat) (c.loop-i.invariant.seated i (omega arith)))
+
+-- whether a module would move, by what the plan's run holds
+by_run : (p : Plan) (clock i : ℕ) (contents : List (List Element)) (b moving : Bool) → contents ≡ (state p clock).contents
+    → moving ≡ moves p 0 (all_ready contents) (i, state_at p clock i) → moving ≡ b
+    → moves p 0 (all_ready (state p clock).contents) (i, state_at p clock i) ≡ b
+by_run p clock i contents b moving holding e f =
+    ap (λ (held : List (List Element)). moves p 0 (all_ready held) (i, state_at p clock i)) (sym holding) ∙ (sym e ∙ f)
+
+pub returns-then-branch-clause-settled : goal.returns-then-branch-clause-settled
+returns-then-branch-clause-settled c =
+    let p = c.args.at.now.of.now.plan.now in
+    let clock = c.args.at.now.clock in
+    let st = state p clock in
+    let count = c.requires.seated.state_count in
+    let all = all_modules p clock in
+    sym (unsettled p clock st (some_at (moves p 0 (all_ready st.contents)) st.modules c.loop-i.i nobody (omega arith)
+    (by_run p clock c.loop-i.i c.args.at.now.contents.now true c.in_ok-would_move.field-0 c.requires.runs.holding
+    c.in_ok-would_move.ensures.moving c.if-branch.true)))
+
+pub loop-i-preserved : goal.loop-i-preserved
+loop-i-preserved c =
+    let p = c.args.at.now.of.now.plan.now in
+    let clock = c.args.at.now.clock in
+    let st = state p clock in
+    let i = c.loop-i.i in
+    let counts = c.requires.seated in
+    let states = counts.state_count in
+    let seats = counts.seat_count in
+    let all = all_modules p clock in
+    let s : c.index-states-i.result ≡ get_or c.args.states.now i nobody =
+    c.index-states-i.is ∙ get_or_default c.args.states.now i c.index-states-i.result nobody (omega arith) in record {
+      none = none_more (moves p 0 (all_ready st.contents)) st.modules i nobody (omega arith) c.loop-i.invariant.none
+          (by_run p clock i c.args.at.now.contents.now false c.in_ok-would_move.field-0 c.requires.runs.holding
+          c.in_ok-would_move.ensures.moving c.if-branch.false);
+      seated = all_known (λ (k : ℕ) (seat : Seat). IsSeated p clock k (get_or c.args.states.now k nobody) seat) c.loop-i.seats i
+          (length p.design.modules) c.would_move.new.seat no_seat (omega arith) c.loop-i.invariant.seated
+          (subst (λ (z : ModuleState). IsSeated p clock i z c.would_move.new.seat) s c.in_ok-would_move.ensures.seated);
+    }
+
+pub returns-clause-settled : goal.returns-clause-settled
+returns-clause-settled c =
+    let p = c.args.at.now.of.now.plan.now in
+    let clock = c.args.at.now.clock in
+    let st = state p clock in
+    let count = c.requires.seated.state_count in
+    let all = all_modules p clock in
+    sym (settled_from p clock st (ever p clock st false
+    (ap (list_any (moves p 0 (all_ready st.contents))) (sym (numbered_all st.modules c.loop-i.i (omega arith))) ∙ c.loop-i.invariant.none)))

@@ -1,0 +1,17 @@
+use Rattle.std.proofs.Common.{◌≡◌, ℕ, ◌<◌, false, length, take, get_or}
+use Rattle.std.specs.List.{list_any}
+use Rattle.lockstep_defs.specs.Channels.{all_ready}
+use Rattle.lockstep_defs.specs.Machine.{nobody}
+use Rattle.lockstep_defs.specs.Lockstep.{numbered, moves, state}
+use Rattle.clock_machine.specs.Seats.{IsSeated, no_seat}
+use Rattle.clock_machine.proofs.turns.is_settled.Given as goal
+
+-- none of the modules so far
+abbrev pub invariant-loop-i : goal.invariant-loop-i
+invariant-loop-i l =
+    let p = l.at.of.now.plan.now in
+    let st = state p l.at.clock in
+    record {
+      none : list_any (moves p 0 (all_ready st.contents)) (take l.i (numbered st)) ≡ false;
+      seated : (k : ℕ) → k < length p.design.modules → IsSeated p l.at.clock k (get_or l.states k nobody) (get_or l.seats k no_seat);
+    }

@@ -1,0 +1,18 @@
+-- How far a run has come.
+use Rattle.std.specs.Prelude.{◌≡◌, ◌<◌, ℕ, Bool, [], length, slice_index_or}
+use Rattle.flow_design.specs.declared.plan.Plan.{Plan}
+use Rattle.lockstep_defs.specs.Lockstep.{state, history}
+use Rattle.lockstep_defs.specs.Report.{steps_of, outcomes, events_of}
+use Rattle.clock_machine.specs.declared.run.Run.{Run}
+use Rattle.clock_machine.specs.Parts.{kept}
+use Rattle.clock_machine.specs.Seats.{AreSeated}
+
+-- a run stands at a clock: all modules are in their seats, the channels hold what they hold then, and all that was done is told
+pub record HasCome (p : Plan) (keep : Bool) (clock : ℕ) (run : Run) : Type 0 where
+  pub seated : AreSeated p clock run.state.modules run.seats
+  pub holding : run.state.contents ≡ (state p clock).contents
+  pub no_pops : run.round.traffic.pops ≡ []
+  pub no_pushes : run.round.traffic.pushes ≡ []
+  pub events : run.round.events ≡ kept keep (events_of (history p clock))
+  pub answer_count : length run.answers ≡ length p.design.modules
+  pub answers : (i : ℕ) → i < length p.design.modules → slice_index_or run.answers i [] ≡ outcomes (steps_of i (history p clock))

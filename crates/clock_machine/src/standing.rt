@@ -1,0 +1,23 @@
+//! What all modules of a clock are given.
+use block_code::BlockCode;
+use flow_design::{Element, Plan};
+use flow_word::{List, Queue};
+use std::alloc::Global;
+
+/// A plan with the code of its blocks, module by module.
+#[derive(Clone, Copy)]
+pub struct Compiled<'a> {
+    pub plan: &'a Plan,
+    pub codes: &'a [List<BlockCode>],
+}
+
+/// A clock of a plan, and what the channels hold before its modules move.
+#[derive(Clone, Copy)]
+pub struct Standing<'a> {
+    pub alloc: Global,
+    pub of: &'a Compiled<'a>,
+    /// Whether events are kept.
+    pub keep: bool,
+    pub clock: u64,
+    pub contents: &'a [Queue<Element>],
+}

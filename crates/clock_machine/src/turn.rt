@@ -1,0 +1,214 @@
+//! One module's turn in a clock: what it asks, the replies, and its move, all by the contents from before the clock.
+ghost use Rattle.std.specs.Prelude.{◌≡◌, ◌+◌, ◌<◌, ◌≤◌, IfOk, OnOk, not, true, false, [], ◌++◌, if◌then◌else◌, length, map};
+ghost use Rattle.std.specs.List.{list_any};
+ghost use Rattle.flow_design.specs.Module.{block_of};
+ghost use Rattle.lockstep_defs.specs.Machine.{is_over};
+ghost use Rattle.lockstep_defs.specs.Channels.{stalls, reply};
+ghost use Rattle.lockstep_defs.specs.Lockstep.{module_at, answered};
+ghost use Rattle.lockstep_defs.specs.Report.{outcomes};
+ghost use Rattle.block_code.specs.Codes.{IsBlockCodeOf};
+ghost use Rattle.clock_machine.specs.Parts.{outcomes_in, popped, pushed, AreCodes};
+ghost use Rattle.clock_machine.specs.Seats.{IsSeated, FallsAsleep};
+ghost use Rattle.clock_machine.specs.Clocks.{Runs, HasDone, does_move, step_at};
+
+use crate::asking::{module_at, note_seat};
+use crate::channels::{answer_one, stalls};
+use crate::seat::{Round, Seat, Traffic};
+use crate::standing::Standing;
+use crate::telling::tell_kept_events;
+use block_code::BlockCode;
+use flow_design::{ModuleState, Reply, Request};
+use flow_word::{Flags, List, OutOfMemory};
+use module_move::{go_on, is_over, make_move, tick_to};
+
+/// The code of the block in which module number i stands.
+#[inline(always)]
+fn code_at<'a>(at: &Standing<'a>, i: usize, state: &ModuleState) -> &'a BlockCode
+    requires codes { AreCodes at.now.of.now.plan.now at.now.of.now.codes.now }
+    requires within { i < length at.now.of.now.plan.now.design.modules }
+    requires block { state.now.control.block < length (module_at at.now.of.now.plan.now i).blocks }
+    ensures { IsBlockCodeOf at.now.of.now.plan.now.design.channels (module_at at.now.of.now.plan.now i)
+        (block_of (module_at at.now.of.now.plan.now i) state.now) result.now }
+{
+    let own = &at.of.codes[i];
+    &own.as_slice()[state.control.block as usize]
+}
+
+/// Whether the request on which a module stalled still can't be done.
+#[inline(always)]
+fn still_stalls(at: &Standing<'_>, seat: &Seat) -> bool
+    ensures known { result ≡ true → seat.now.known ≡ true }
+    ensures stalls { result ≡ true
+        → list_any (stalls at.now.of.now.plan.now at.now.clock at.now.contents.now) seat.now.requests ≡ true }
+{
+    let requests = seat.requests.as_slice();
+    let place = seat.place as usize;
+    seat.known && place < requests.len() && stalls(at, &requests[place])
+}
+
+/// Says whether none of these operations blocks and cannot be done. Then the replies to them are filled in, and the outcomes of the
+/// queries among them are added, and what they pop and push. Else so many replies stand there as could be given.
+#[inline(always)]
+fn answer(
+    at: &Standing<'_>,
+    requests: &[Request],
+    replies: &mut List<Reply>,
+    outcomes: &mut Flags,
+    traffic: &mut Traffic,
+) -> Result<bool, OutOfMemory>
+    ensures goes { IfOk result (λ goes. goes
+        ≡ not (list_any (stalls at.now.of.now.plan.now at.now.clock at.now.contents.now) requests.now)) }
+    ensures replies { IfOk result (λ goes. goes ≡ true
+        → replies.new ≡ map (reply at.now.of.now.plan.now at.now.clock at.now.contents.now) requests.now) }
+    ensures outcomes { IfOk result (λ goes. outcomes.new ≡ outcomes.old
+        ++ (if goes then outcomes_in (map (answered at.now.of.now.plan.now at.now.clock at.now.contents.now) requests.now) else [])) }
+    ensures pops { IfOk result (λ goes. traffic.new.pops ≡ traffic.old.pops
+        ++ (if goes then popped (map (answered at.now.of.now.plan.now at.now.clock at.now.contents.now) requests.now) else [])) }
+    ensures pushes { IfOk result (λ goes. traffic.new.pushes ≡ traffic.old.pushes
+        ++ (if goes then pushed (map (answered at.now.of.now.plan.now at.now.clock at.now.contents.now) requests.now) else [])) }
+{
+    let popped_before = traffic.pops.len();
+    let pushed_before = traffic.pushes.len();
+    let told_before = outcomes.len();
+    replies.truncate(0);
+    for request in requests {
+        match answer_one(at, request, outcomes, traffic)? {
+            None => {
+                traffic.pops.truncate(popped_before);
+                traffic.pushes.truncate(pushed_before);
+                outcomes.truncate(told_before);
+                return Ok(false);
+            }
+            Some(reply) => replies.push(reply)?,
+        }
+    }
+    Ok(true)
+}
+
+/// The turn of a module that is awake, of which it is known what is due: where it does not stall, it moves.
+#[inline(always)]
+fn act(
+    at: &Standing<'_>,
+    i: usize,
+    state: &mut ModuleState,
+    seat: &mut Seat,
+    round: &mut Round,
+    answers: &mut Flags,
+) -> Result<bool, OutOfMemory>
+    requires runs { Runs at.now.of.now.plan.now at.now.of.now.codes.now at.now.clock at.now.contents.now }
+    requires within { i < length at.now.of.now.plan.now.design.modules }
+    requires seated { IsSeated at.now.of.now.plan.now at.now.clock i state.old seat.old }
+    requires awake { seat.old.wakes ≤ at.now.clock }
+    requires running { is_over at.now.of.now.plan.now.ops state.old ≡ false }
+    requires known { seat.old.known ≡ true }
+    ensures moving { IfOk result (λ moving. moving ≡ does_move at.now.of.now.plan.now at.now.clock i) }
+    ensures seated { OnOk result (IsSeated at.now.of.now.plan.now (at.now.clock + 1) i state.new seat.new) }
+    ensures done { OnOk result (HasDone at.now.keep round.old round.new (step_at at.now.of.now.plan.now at.now.clock i)) }
+    ensures answers { OnOk result (answers.new ≡ answers.old ++ outcomes (step_at at.now.of.now.plan.now at.now.clock i)) }
+{
+    let requests = seat.requests.as_slice();
+    if !answer(
+        at,
+        requests,
+        &mut round.replies,
+        answers,
+        &mut round.traffic,
+    )? {
+        seat.place = round.replies.len();
+        return Ok(false);
+    }
+    tell_kept_events(at, i, requests, &mut round.events)?;
+    let code = code_at(at, i, state);
+    let noted = seat.noted.as_slice();
+    let replies = round.replies.as_slice();
+    make_move(
+        at.alloc,
+        module_at(at.of.plan, i),
+        code,
+        state,
+        noted,
+        replies,
+    )?;
+    seat.known = false;
+    Ok(true)
+}
+
+/// Whether a module that is awake does not move, where that shows at first sight: it is ended or spent, or stalls as it did.
+#[inline(always)]
+fn surely_stays(at: &Standing<'_>, i: usize, state: &ModuleState, seat: &Seat) -> bool
+    requires runs { Runs at.now.of.now.plan.now at.now.of.now.codes.now at.now.clock at.now.contents.now }
+    requires seated { IsSeated at.now.of.now.plan.now at.now.clock i state.now seat.now }
+    requires awake { seat.now.wakes ≤ at.now.clock }
+    ensures stays { result ≡ true → does_move at.now.of.now.plan.now at.now.clock i ≡ false }
+    ensures running { result ≡ false → is_over at.now.of.now.plan.now.ops state.now ≡ false }
+{
+    if is_over(at.of.plan.ops, state) {
+        return true;
+    }
+    still_stalls(at, seat)
+}
+
+/// Whether a module that is awake has nothing to do in this clock. Then it goes on to the clock in which it has.
+#[inline(always)]
+fn fall_asleep(
+    at: &Standing<'_>,
+    i: usize,
+    state: &mut ModuleState,
+    seat: &mut Seat,
+) -> Result<bool, OutOfMemory>
+    requires runs { Runs at.now.of.now.plan.now at.now.of.now.codes.now at.now.clock at.now.contents.now }
+    requires within { i < length at.now.of.now.plan.now.design.modules }
+    requires seated { IsSeated at.now.of.now.plan.now at.now.clock i state.old seat.old }
+    requires awake { seat.old.wakes ≤ at.now.clock }
+    requires running { is_over at.now.of.now.plan.now.ops state.old ≡ false }
+    ensures asleep { IfOk result (λ asleep. asleep ≡ true
+        → FallsAsleep at.now.of.now.plan.now at.now.clock i state.new seat.new) }
+    ensures state { IfOk result (λ asleep. asleep ≡ false → state.new ≡ state.old) }
+    ensures seat { IfOk result (λ asleep. asleep ≡ false → seat.new ≡ seat.old) }
+{
+    if seat.noted.len() > 0 {
+        return Ok(false);
+    }
+    let now = state.control.clock;
+    let next = code_at(at, i, state).schedule.next_due(&state.control);
+    if next == now {
+        return Ok(false);
+    }
+    let module = module_at(at.of.plan, i);
+    tick_to(module, state, next);
+    go_on(at.alloc, module, state)?;
+    seat.wakes = at.clock + (next - now);
+    seat.known = false;
+    Ok(true)
+}
+
+/// A module's turn in a clock. Says whether it moves: it does not where it is ended, spent or stalls. Adds what it pops, pushes and
+/// tells.
+pub fn take_turn(
+    at: &Standing<'_>,
+    i: usize,
+    state: &mut ModuleState,
+    seat: &mut Seat,
+    round: &mut Round,
+    answers: &mut Flags,
+) -> Result<bool, OutOfMemory>
+    requires runs { Runs at.now.of.now.plan.now at.now.of.now.codes.now at.now.clock at.now.contents.now }
+    requires within { i < length at.now.of.now.plan.now.design.modules }
+    requires seated { IsSeated at.now.of.now.plan.now at.now.clock i state.old seat.old }
+    ensures moving { IfOk result (λ moving. moving ≡ does_move at.now.of.now.plan.now at.now.clock i) }
+    ensures seated { OnOk result (IsSeated at.now.of.now.plan.now (at.now.clock + 1) i state.new seat.new) }
+    ensures done { OnOk result (HasDone at.now.keep round.old round.new (step_at at.now.of.now.plan.now at.now.clock i)) }
+    ensures answers { OnOk result (answers.new ≡ answers.old ++ outcomes (step_at at.now.of.now.plan.now at.now.clock i)) }
+{
+    if at.clock < seat.wakes {
+        return Ok(true);
+    }
+    if surely_stays(at, i, state, seat) {
+        return Ok(false);
+    }
+    note_seat(at.of, i, state, &mut round.words, seat)?;
+    if fall_asleep(at, i, state, seat)? {
+        return Ok(true);
+    }
+    act(at, i, state, seat, round, answers)
+}

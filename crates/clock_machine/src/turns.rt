@@ -1,0 +1,64 @@
+//! The turns of all modules in a clock.
+ghost use Rattle.std.specs.Prelude.{◌≡◌, ℕ, ◌+◌, ◌<◌, [], ◌++◌, IfOk, OnOk, length, slice_index_or};
+ghost use Rattle.lockstep_defs.specs.Lockstep.{state, steps_in};
+ghost use Rattle.lockstep_defs.specs.Report.{outcomes};
+ghost use Rattle.lockstep_defs.specs.Verdict.{some_moves, is_settled};
+ghost use Rattle.clock_machine.specs.Seats.{AreSeated};
+ghost use Rattle.clock_machine.specs.Clocks.{Runs, HasDone, step_at};
+
+use crate::asking::would_move;
+use crate::seat::{Round, Seat};
+use crate::standing::Standing;
+use crate::turn::take_turn;
+use flow_design::ModuleState;
+use flow_word::{Flags, OutOfMemory, Words};
+
+/// The turns of all modules, in order. Says whether one moves.
+pub fn take_turns(
+    at: &Standing<'_>,
+    states: &mut [ModuleState],
+    seats: &mut [Seat],
+    round: &mut Round,
+    answers: &mut [Flags],
+) -> Result<bool, OutOfMemory>
+    requires runs { Runs at.now.of.now.plan.now at.now.of.now.codes.now at.now.clock at.now.contents.now }
+    requires seated { AreSeated at.now.of.now.plan.now at.now.clock states.old seats.old }
+    requires answers { length answers.old ≡ length at.now.of.now.plan.now.design.modules }
+    ensures moving { IfOk result (λ moving. moving
+        ≡ some_moves at.now.of.now.plan.now at.now.clock at.now.contents.now (state at.now.of.now.plan.now at.now.clock)) }
+    ensures seated { OnOk result (AreSeated at.now.of.now.plan.now (at.now.clock + 1) states.new seats.new) }
+    ensures done { OnOk result (HasDone at.now.keep round.old round.new
+        (steps_in at.now.of.now.plan.now at.now.clock (state at.now.of.now.plan.now at.now.clock))) }
+    ensures answers { OnOk result ((i : ℕ) → i < length at.now.of.now.plan.now.design.modules
+        → slice_index_or answers.new i []
+        ≡ slice_index_or answers.old i [] ++ outcomes (step_at at.now.of.now.plan.now at.now.clock i)) }
+    ensures count { OnOk result (length answers.new ≡ length answers.old) }
+{
+    let mut moving = false;
+    for (i, state) in states.iter_mut().enumerate() {
+        let moves = take_turn(at, i, state, &mut seats[i], round, &mut answers[i])?;
+        moving = moving || moves;
+    }
+    Ok(moving)
+}
+
+/// Whether no module moves in a clock, and none would if every element could be popped.
+pub fn is_settled(
+    at: &Standing<'_>,
+    states: &[ModuleState],
+    seats: &mut [Seat],
+    words: &mut Words,
+) -> Result<bool, OutOfMemory>
+    requires runs { Runs at.now.of.now.plan.now at.now.of.now.codes.now at.now.clock at.now.contents.now }
+    requires seated { AreSeated at.now.of.now.plan.now at.now.clock states.now seats.old }
+    ensures settled { IfOk result (λ settled. settled
+        ≡ is_settled at.now.of.now.plan.now at.now.clock (state at.now.of.now.plan.now at.now.clock)) }
+    ensures seated { OnOk result (AreSeated at.now.of.now.plan.now at.now.clock states.now seats.new) }
+{
+    for (i, state) in states.iter().enumerate() {
+        if would_move(at, i, state, &mut seats[i], words)? {
+            return Ok(false);
+        }
+    }
+    Ok(true)
+}

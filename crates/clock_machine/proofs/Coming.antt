@@ -1,5 +1,6 @@
 -- A run at its clock, and at its end.
-use Rattle.std.proofs.Common.{◌≡◌, ℕ, ◌+◌, ◌<◌, ◌≤◌, ◌++◌, List, [], Bool, true, false, length, map, get_or, refl, sym, ◌∙◌, ap, subst, arith}
+use Rattle.std.proofs.Common.{◌≡◌, ℕ, ◌+◌, ◌<◌, ◌≤◌, ◌++◌, List, [], Bool, true, false, length, map, get_or}
+use Rattle.std.proofs.Common.{refl, sym, ◌∙◌, ap, subst, arith}
 use Rattle.std.proofs.Common.{add-one, below_more, inl, inr}
 use Rattle.std.specs.Prelude.{replicate}
 use Rattle.std.specs.List.{enumerate_from}
@@ -18,7 +19,8 @@ use Rattle.lockstep_defs.specs.Report.{steps_of, outcomes, events_of}
 use Rattle.lockstep_defs.specs.Verdict.{some_moves, is_settled}
 use Rattle.lockstep_defs.proofs.Agrees.{all_modules, steps_of-suc}
 use Rattle.lockstep_defs.proofs.Exits.{IsAt}
-use Rattle.lockstep_defs.proofs.Settled.{state-suc, history-zero, history-suc, still_step, settled_at, settled_none, settled_stays, history_stays}
+use Rattle.lockstep_defs.proofs.Settled.{state-suc, history-zero, history-suc, still_step}
+use Rattle.lockstep_defs.proofs.Settled.{settled_at, settled_none, settled_stays, history_stays}
 use Rattle.clock_machine.specs.declared.run.Run.{Run}
 use Rattle.clock_machine.specs.declared.seat.Seat.{Seat}
 use Rattle.clock_machine.specs.declared.seat.Traffic.{Traffic}
@@ -148,7 +150,8 @@ pub record IsSame (p : Plan) (clock : ℕ) : Type 0 where
 pub same_later : (p : Plan) (clock : ℕ) → is_settled p clock (state p clock) ≡ true → IsSame p clock
 same_later p clock settled =
     let one : 1 + clock ≡ clock + 1 = omega arith in
-    let same : state p (clock + 1) ≡ state p clock = subst (λ (n : ℕ). state p n ≡ state p clock) one (settled_stays p clock 1 settled) in record {
+    let same : state p (clock + 1) ≡ state p clock =
+    subst (λ (n : ℕ). state p n ≡ state p clock) one (settled_stays p clock 1 settled) in record {
       settled = ap (is_settled p (clock + 1)) same ∙ settled_at p clock (clock + 1) (state p clock) settled;
       state_is = same;
       history_is = subst (λ (n : ℕ). history p n ≡ history p clock) one (history_stays p clock 1 settled);

@@ -23,35 +23,6 @@ numbered_more xs i d h =
 pub numbered_all : {X : Type 0} (xs : List X) (i : ℕ) → length xs ≤ i → take i (enumerate_from 0 xs) ≡ enumerate_from 0 xs
 numbered_all xs i h = take_all i (enumerate_from 0 xs) (omega (arith, length-enumerate_from 0 xs))
 
-pub numbered_read : {X Y : Type 0} (f : ℕ × X → Y) (xs : List X) (i : ℕ) (d : X) (e : Y) → i < length xs
-    → get_or (map f (enumerate_from 0 xs)) i e ≡ f (i, get_or xs i d)
-numbered_read f xs i d e h =
-    let within : i < length (enumerate_from 0 xs) = omega (arith, length-enumerate_from 0 xs) in
-    get_or-map f (enumerate_from 0 xs) i (0, d) e within ∙ ap f (rw zero-add at (get_or-enumerate_from 0 xs i (0, d) h))
-
--- a list is written from the front on
-pub written_more : {X Y : Type 0} (f : ℕ × X → Y) (from : List X) (to : List Y) (i : ℕ) (y : Y) (d : X) → i < length to → i < length from
-    → take i to ≡ map f (take i (enumerate_from 0 from)) → y ≡ f (i, get_or from i d)
-    → take (i + 1) (set to i y) ≡ map f (take (i + 1) (enumerate_from 0 from))
-written_more f from to i y d h k so now =
-    rw (take_more_set to i y h, numbered_more from i d k, map-append, so, now) refl
-
-pub written_all : {X Y : Type 0} (f : ℕ × X → Y) (from : List X) (to : List Y) (i : ℕ) → length to ≡ length from → length to ≤ i
-    → take i to ≡ map f (take i (enumerate_from 0 from)) → to ≡ map f (enumerate_from 0 from)
-written_all f from to i count end so =
-    let all : length (enumerate_from 0 from) ≤ i = omega (arith, length-enumerate_from 0 from) in
-    sym (take_all i to end) ∙ (so ∙ ap (map f) (take_all i (enumerate_from 0 from) all))
-
--- a list grows by what each item gives
-pub grown_more : {X Y : Type 0} (f : ℕ × X → List Y) (xs : List X) (i : ℕ) (d : X) (before out next : List Y) → i < length xs
-    → out ≡ before ++ flat_map f (take i (enumerate_from 0 xs)) → next ≡ out ++ f (i, get_or xs i d)
-    → next ≡ before ++ flat_map f (take (i + 1) (enumerate_from 0 xs))
-grown_more f xs i d before out next h so now =
-    now ∙ (ap (λ l. l ++ f (i, get_or xs i d)) so ∙ (append_assoc before (flat_map f (take i (enumerate_from 0 xs))) (f (i, get_or xs i d))
-    ∙ ap (λ l. before ++ l) (sym (ap (flat_map f) (numbered_more xs i d h)
-    ∙ (flat_map-append f (take i (enumerate_from 0 xs)) ((i, get_or xs i d) ∷ [])
-    ∙ ap (λ l. flat_map f (take i (enumerate_from 0 xs)) ++ l) (append-nil _))))))
-
 -- a list whose items were all written anew
 pub refilled : {X : Type 0} (xs ws : List X) → length ws ≡ length xs → refill (length xs) xs ws ≡ ws
 refilled xs ws h = take_at ws (drop (length ws) xs) (length xs) h
@@ -59,44 +30,10 @@ refilled xs ws h = take_at ws (drop (length ws) xs) (length xs) h
 pub numbered_length : {X Y : Type 0} (f : ℕ × X → Y) (xs : List X) (ws : List Y) → ws ≡ map f (enumerate_from 0 xs) → length ws ≡ length xs
 numbered_length f xs ws h = ap length h ∙ (length-map (enumerate_from 0 xs) f ∙ length-enumerate_from 0 xs)
 
-from_place : {X Y : Type 0} (f g : ℕ × X → Y) (xs : List X) (n : ℕ) (d : X)
-    → ((k : ℕ) → k < length xs → f (n + k, get_or xs k d) ≡ g (n + k, get_or xs k d))
-    → map f (enumerate_from n xs) ≡ map g (enumerate_from n xs)
-from_place f g [] n d h = refl
-from_place f g (x ∷ xs) n d h =
-    let here : f (n, x) ≡ g (n, x) = subst (λ (m : ℕ). f (m, x) ≡ g (m, x)) (add-zero n) (h 0 (omega arith)) in
-    let rest = from_place f g xs (n + 1) d
-    (λ k l. subst (λ (m : ℕ). f (m, get_or xs k d) ≡ g (m, get_or xs k d)) (next_place n k) (h (suc k) (omega arith))) in
-    rw (here, rest) refl
-  where
-    next_place : (n k : ℕ) → n + suc k ≡ n + 1 + k
-    next_place n k = omega arith
-
--- functions that agree at each place
-pub same_by_places : {X Y : Type 0} (f g : ℕ × X → Y) (xs : List X) (d : X)
-    → ((k : ℕ) → k < length xs → f (k, get_or xs k d) ≡ g (k, get_or xs k d))
-    → map f (enumerate_from 0 xs) ≡ map g (enumerate_from 0 xs)
-same_by_places f g xs d h = from_place f g xs 0 d
-    (λ k l. subst (λ (n : ℕ). f (n, get_or xs k d) ≡ g (n, get_or xs k d)) (sym (zero-add k)) (h k l))
-
--- one place written: the places behind it are as they were
-pub rest_more : {X : Type 0} (from to : List X) (i : ℕ) (y d : X) → ((k : ℕ) → i ≤ k → get_or to k d ≡ get_or from k d)
-    → (k : ℕ) → i + 1 ≤ k → get_or (set to i y) k d ≡ get_or from k d
-rest_more from to i y d h k l = get_or-set_other to i k y d (λ same. omega arith) ∙ h k (omega arith)
-
 pub below_or_at : (k i : ℕ) → k < i + 1 → (k < i) ⊎ (k ≡ i)
 below_or_at k i l = ⊎_elim (λ h. inl h) (λ h. inr (omega arith)) (cases_lt k i)
 
--- a fact of each place so far, also at the place that was written
-pub held_more : {X : Type 0} (P : ℕ → X → Type 0) (to : List X) (i : ℕ) (y d : X) → i < length to → ((k : ℕ) → k < i → P k (get_or to k d))
-    → P i y
-    → (k : ℕ) → k < i + 1 → P k (get_or (set to i y) k d)
-held_more P to i y d within so now k l =
-    ⊎_elim (λ below. subst (P k) (sym (get_or-set_other to i k y d (λ same. omega arith))) (so k below))
-    (λ same. subst (λ (n : ℕ). P n (get_or (set to i y) n d)) (sym same) (subst (P i) (sym (get_or-set_same to i y d within)) now))
-    (below_or_at k i l)
-
--- the same where an item is added at the end
+-- a fact of each place so far, also where an item is added at the end
 pub held_push : {X : Type 0} (P : ℕ → X → Type 0) (xs : List X) (i : ℕ) (y d : X) → length xs ≡ i → ((k : ℕ) → k < i → P k (get_or xs k d))
     → P i y
     → (k : ℕ) → k < i + 1 → P k (get_or (xs ++ y ∷ []) k d)
@@ -149,8 +86,8 @@ some_at f xs i d h now =
     list_any_at f (enumerate_from 0 xs) i (0, d) within (ap f here ∙ now)
 
 -- a fact of each place, also once one was written
-pub all_known : {X : Type 0} (P : ℕ → X → Type 0) (xs : List X) (i n : ℕ) (y d : X) → i < length xs → ((k : ℕ) → k < n → P k (get_or xs k d))
-    → P i y → (k : ℕ) → k < n → P k (get_or (set xs i y) k d)
+pub all_known : {X : Type 0} (P : ℕ → X → Type 0) (xs : List X) (i n : ℕ) (y d : X) → i < length xs
+    → ((k : ℕ) → k < n → P k (get_or xs k d)) → P i y → (k : ℕ) → k < n → P k (get_or (set xs i y) k d)
 all_known P xs i n y d within all now k h = elim (cases_lt k i) [
   | inl below ↦ subst (P k) (sym (get_or-set_other xs i k y d (λ same. omega arith))) (all k h)
   | inr above ↦ elim (cases_lt i k) [

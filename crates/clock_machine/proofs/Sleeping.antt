@@ -68,7 +68,8 @@ quiet_move p clock i h e =
 -- ---- asleep
 
 -- a module that is awake is in its state
-pub awake : (p : Plan) (clock i : ℕ) (s : ModuleState) (seat : Seat) → IsSeated p clock i s seat → seat.wakes ≤ clock → s ≡ state_at p clock i
+pub awake : (p : Plan) (clock i : ℕ) (s : ModuleState) (seat : Seat) → IsSeated p clock i s seat → seat.wakes ≤ clock
+    → s ≡ state_at p clock i
 awake p clock i s seat h l =
     let none : asleep clock seat ≡ 0 = omega arith in
     h.standing ∙ ap (λ (n : ℕ). skip p i n (state_at p clock i)) none
@@ -220,8 +221,16 @@ stands_in p i s sound small = record {
         let less = ltb-true clock (newest + ii) (and_parts (nat_lt 0 ii) (nat_lt clock (newest + ii)) g).1 in omega arith
     near false ii clock newest e g = cc
 
+pub seated_stands : (p : Plan) → FitsEngine p → (clock i : ℕ) (s : ModuleState) (seat : Seat) → i < length p.design.modules
+    → IsSeated p clock i s seat → is_over p.ops s ≡ false → seat.wakes ≤ clock → clock ≤ p.cycles
+    → StandsIn (block_of (module_at p i) s) s.control
+seated_stands p f clock i s seat h is running l early =
+    let young = is.young in
+    let cycles = f.cycles in
+    stands_in p i s (seated_sound p f clock i s seat h is running) (omega arith)
+
 -- the next clock with work is not behind the block's end
-pub next_near : (b : Block) (k : Control) (next : ℕ) → KeepsLimits b → StandsIn b k → IsNextDue b k next → next ≤ k.newest + b.len
+next_near : (b : Block) (k : Control) (next : ℕ) → KeepsLimits b → StandsIn b k → IsNextDue b k next → next ≤ k.newest + b.len
 next_near b k next limits stands due = by_test k.looping refl
   where
     by_test : (l : Bool) → k.looping ≡ l → next ≤ k.newest + b.len
@@ -236,8 +245,21 @@ next_near b k next limits stands due = by_test k.looping refl
       | inr most ↦ most
     ]
 
+pub next_small : (p : Plan) → FitsEngine p → (clock i : ℕ) (s : ModuleState) (seat : Seat) (next : ℕ) → i < length p.design.modules
+    → IsSeated p clock i s seat → is_over p.ops s ≡ false → seat.wakes ≤ clock → clock ≤ p.cycles
+    → KeepsLimits (block_of (module_at p i) s) → IsNextDue (block_of (module_at p i) s) s.control next → clock + next ≤ 10 ^ 16
+next_small p f clock i s seat next h is running l early limits due =
+    let stands = seated_stands p f clock i s seat h is running l early in
+    let near = next_near (block_of (module_at p i) s) s.control next limits stands due in
+    let started = stands.has_started in
+    let most = limits.most in
+    let young = is.young in
+    let cycles = f.cycles in
+    omega arith
+
 -- a module without work up to a later clock is idle till then
-pub idle_till : (p : Plan) (i n : ℕ) (s : ModuleState) (next : ℕ) → KeepsLimits (block_of (module_at p i) s) → IsStateSound (module_at p i) s
+pub idle_till : (p : Plan) (i n : ℕ) (s : ModuleState) (next : ℕ) → KeepsLimits (block_of (module_at p i) s)
+    → IsStateSound (module_at p i) s
     → IsNextDue (block_of (module_at p i) s) s.control next → next ≡ s.control.clock + suc n → IsIdle (module_at p i) s (suc n)
 idle_till p i n s next limits sound due far = record {
   some = limits.some;

@@ -57,7 +57,8 @@ moved_more old now next steps more a b = record {
       ∙ pushed_adds (exchanges_in xs) (exchanges_in ys)) old.pushes now.pushes next.pushes steps more a.pushes b.pushes;
 }
 
-pub done_more : (keep : Bool) (old now next : Round) (steps more : List HistoryStep) → HasDone keep old now steps → HasDone keep now next more
+pub done_more : (keep : Bool) (old now next : Round) (steps more : List HistoryStep) → HasDone keep old now steps
+    → HasDone keep now next more
     → HasDone keep old next (steps ++ more)
 done_more keep old now next steps more a b = record {
   traffic = moved_more old.traffic now.traffic next.traffic steps more a.traffic b.traffic;
@@ -181,4 +182,5 @@ contents_next p clock steps pops pushes before now next pops_are pushes_are e f 
     f ∙ (ap (λ (qs : List Pushed). map (after_pushes p clock qs) (enumerate_from 0 now)) pushes_are
     ∙ (ap (λ (contents : List (List Element)). map (after_pushes p clock (pushed xs)) (enumerate_from 0 contents))
     (e ∙ ap (λ (cs : List ℕ). map (after_pops cs) (enumerate_from 0 before)) pops_are)
-    ∙ twice (after_pushes p clock (pushed xs)) (after_pops (popped xs)) (contents_after p clock steps) 0 before (after_clock p clock steps)))
+    ∙ twice (after_pushes p clock (pushed xs)) (after_pops (popped xs)) (contents_after p clock steps) 0 before
+    (after_clock p clock steps)))

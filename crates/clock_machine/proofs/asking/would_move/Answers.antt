@@ -45,7 +45,8 @@ returns-clause-moving c =
     let held = all_ready c.args.at.now.contents.now in
     let l = c.if-at-seat.false in
     let seated = reseated p clock i s c.args.seat.now seat c.requires.seated c.note_seat.ensures.wakes c.in_ok-note_seat.ensures.known in
-    let asked = c.as_slice.ensures ∙ asked_in p clock i s seat seated (omega (arith, c.note_seat.ensures.wakes)) c.in_ok-note_seat.ensures.all in
+    let asked = c.as_slice.ensures ∙ asked_in p clock i s seat seated (omega (arith, c.note_seat.ensures.wakes))
+    c.in_ok-note_seat.ensures.all in
     ap not (c.any_stalls_ever.ensures ∙ ap (λ (rs : List Request). list_any (stalls p 0 held) rs) asked)
     ∙ sym (moves_by_stalls p 0 held (i, state_at p clock i)
     (runs_in p clock i s c.args.seat.now false c.requires.seated l (sym c.is_over.ensures ∙ c.if-is_over.false)))

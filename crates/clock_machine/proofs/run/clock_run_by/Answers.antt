@@ -33,8 +33,8 @@ settled_end : (p : Plan) (keep : Bool) (clock : ℕ) (run : Run) (r : Report)
 settled_end p keep clock run r at early settled same events made =
     kept_exit keep p (settled_verdict p clock (state p clock)) (state p clock) (events_of (history p clock)) run.round.events run.answers r
     (made ∙ ap (λ (st : ClockState). report_from p (settled_verdict p clock st) st run.round.events run.answers) same) events
-    (settled_exit p clock (state p clock) (events_of (history p clock)) run.answers (settled_verdict p clock (state p clock)) at early settled
-    refl)
+    (settled_exit p clock (state p clock) (events_of (history p clock)) run.answers (settled_verdict p clock (state p clock)) at early
+    settled refl)
 
 pub loop-clock-init : goal.loop-clock-init
 loop-clock-init c = record { come = c.in_ok-run.ensures c.args.keep; none = λ b l. absurd (omega arith) }

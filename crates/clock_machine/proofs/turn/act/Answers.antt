@@ -6,26 +6,39 @@ use Rattle.flow_design.specs.declared.state.Reply.{Reply}
 use Rattle.flow_design.specs.declared.state.Request.{Request}
 use Rattle.flow_design.specs.declared.state.Element.{Element}
 use Rattle.flow_design.specs.declared.plan.Plan.{Plan}
-use Rattle.lockstep_defs.specs.Machine.{move}
-use Rattle.lockstep_defs.specs.Channels.{reply}
+use Rattle.lockstep_defs.specs.Machine.{is_over, move}
+use Rattle.lockstep_defs.specs.Channels.{reply, stalls}
 use Rattle.lockstep_defs.specs.Lockstep.{no_module, module_at, requests_of, state, state_at}
 use Rattle.lockstep_defs.proofs.Agrees.{below_limit}
 use Rattle.block_code.specs.declared.noted.Noted.{Noted}
 use Rattle.module_move.specs.Sound.{CanCommit}
 use Rattle.clock_machine.proofs.Sleeping.{awake, stays, has_moved, moved_state, moves_by_requests, asked_in, runs_in, seated_sound}
-use Rattle.clock_machine.proofs.Steps.{given_done, given_outcomes}
+use Rattle.clock_machine.proofs.Steps.{IsAnswered, given_done, given_outcomes}
+use Rattle.std.specs.List.{list_any}
+use Rattle.std.proofs.Common.{Bool, true, not}
+use Rattle.clock_machine.specs.Seats.{IsSeated}
+use Rattle.clock_machine.specs.declared.seat.Seat.{Seat}
 use Rattle.clock_machine.proofs.turn.act.Goals as goal
 
--- what the requests in the seat are answered
+-- what is asked of a module that is awake and runs, and whether it moves
+answer_is : (p : Plan) (clock i : ℕ) (s : ModuleState) (seat : Seat) (contents : List (List Element)) (asked : List Request) (goes : Bool)
+    → IsSeated p clock i s seat → seat.wakes ≤ clock → seat.known ≡ true → is_over p.ops s ≡ false → contents ≡ (state p clock).contents
+    → asked ≡ seat.requests → goes ≡ not (list_any (stalls p clock contents) asked) → IsAnswered p clock i contents asked goes
+answer_is p clock i s seat contents asked goes is l known running holding same e =
+    let asks = same ∙ asked_in p clock i s seat is l known in record {
+      holding = holding;
+      asked_is = asks;
+      goes_is = moves_by_requests p clock i contents asked goes holding asks (runs_in p clock i s seat false is l running) e;
+    }
+
 pub returns-then-not-branch-clause-moving : goal.returns-then-not-branch-clause-moving
 returns-then-not-branch-clause-moving c =
     let p = c.args.at.now.of.now.plan.now in
-    let clock = c.args.at.now.clock in
-    let i = c.args.i in
     let r = c.requires in
-    sym c.if-not-branch.true ∙ moves_by_requests p clock i c.args.at.now.contents.now c.as_slice-requests.result.now c.in_ok-answer.field-0
-    r.runs.holding (c.as_slice-requests.ensures ∙ asked_in p clock i c.args.state.now c.args.seat.now r.seated r.awake r.known)
-    (runs_in p clock i c.args.state.now c.args.seat.now false r.seated r.awake r.running) c.in_ok-answer.ensures.goes
+    let answered = answer_is p c.args.at.now.clock c.args.i c.args.state.now c.args.seat.now c.args.at.now.contents.now
+    c.as_slice-requests.result.now c.in_ok-answer.field-0 r.seated r.awake r.known r.running r.runs.holding c.as_slice-requests.ensures
+    c.in_ok-answer.ensures.goes in
+    sym c.if-not-branch.true ∙ answered.goes_is
 
 pub returns-then-not-branch-clause-seated : goal.returns-then-not-branch-clause-seated
 returns-then-not-branch-clause-seated c =
@@ -33,11 +46,10 @@ returns-then-not-branch-clause-seated c =
     let clock = c.args.at.now.clock in
     let i = c.args.i in
     let r = c.requires in
-    let still = sym (moves_by_requests p clock i c.args.at.now.contents.now c.as_slice-requests.result.now c.in_ok-answer.field-0
-    r.runs.holding (c.as_slice-requests.ensures ∙ asked_in p clock i c.args.state.now c.args.seat.now r.seated r.awake r.known)
-    (runs_in p clock i c.args.state.now c.args.seat.now false r.seated r.awake r.running) c.in_ok-answer.ensures.goes)
-    ∙ c.if-not-branch.true in
-    let on = stays p clock i c.args.state.now c.args.seat.now r.within r.seated r.awake still in record {
+    let answered = answer_is p clock i c.args.state.now c.args.seat.now c.args.at.now.contents.now c.as_slice-requests.result.now
+    c.in_ok-answer.field-0 r.seated r.awake r.known r.running r.runs.holding c.as_slice-requests.ensures c.in_ok-answer.ensures.goes in
+    let on = stays p clock i c.args.state.now c.args.seat.now r.within r.seated r.awake (sym answered.goes_is ∙ c.if-not-branch.true) in
+    record {
       standing = on.standing;
       quiet = on.quiet;
       young = on.young;
@@ -50,12 +62,11 @@ returns-then-not-branch-clause-done c =
     let clock = c.args.at.now.clock in
     let i = c.args.i in
     let r = c.requires in
-    let asked = c.as_slice-requests.ensures ∙ asked_in p clock i c.args.state.now c.args.seat.now r.seated r.awake r.known in
-    let goes = moves_by_requests p clock i c.args.at.now.contents.now c.as_slice-requests.result.now c.in_ok-answer.field-0
-    r.runs.holding asked (runs_in p clock i c.args.state.now c.args.seat.now false r.seated r.awake r.running) c.in_ok-answer.ensures.goes in
+    let answered = answer_is p clock i c.args.state.now c.args.seat.now c.args.at.now.contents.now c.as_slice-requests.result.now
+    c.in_ok-answer.field-0 r.seated r.awake r.known r.running r.runs.holding c.as_slice-requests.ensures c.in_ok-answer.ensures.goes in
     given_done p clock i c.args.at.now.contents.now c.as_slice-requests.result.now c.in_ok-answer.field-0 c.args.at.now.keep
-    c.args.round.now _ (record { holding = r.runs.holding; asked_is = asked; goes_is = goes })
-    c.in_ok-answer.ensures.pops c.in_ok-answer.ensures.pushes (rw c.if-not-branch.true (sym (append-nil c.args.round.now.events)))
+    c.args.round.now _ answered c.in_ok-answer.ensures.pops c.in_ok-answer.ensures.pushes
+    (rw c.if-not-branch.true (sym (append-nil c.args.round.now.events)))
 
 pub returns-then-not-branch-clause-answers : goal.returns-then-not-branch-clause-answers
 returns-then-not-branch-clause-answers c =
@@ -63,11 +74,10 @@ returns-then-not-branch-clause-answers c =
     let clock = c.args.at.now.clock in
     let i = c.args.i in
     let r = c.requires in
-    let asked = c.as_slice-requests.ensures ∙ asked_in p clock i c.args.state.now c.args.seat.now r.seated r.awake r.known in
-    let goes = moves_by_requests p clock i c.args.at.now.contents.now c.as_slice-requests.result.now c.in_ok-answer.field-0
-    r.runs.holding asked (runs_in p clock i c.args.state.now c.args.seat.now false r.seated r.awake r.running) c.in_ok-answer.ensures.goes in
+    let answered = answer_is p clock i c.args.state.now c.args.seat.now c.args.at.now.contents.now c.as_slice-requests.result.now
+    c.in_ok-answer.field-0 r.seated r.awake r.known r.running r.runs.holding c.as_slice-requests.ensures c.in_ok-answer.ensures.goes in
     given_outcomes p clock i c.args.at.now.contents.now c.as_slice-requests.result.now c.in_ok-answer.field-0 c.args.answers.now
-    c.answer.new.outcomes (record { holding = r.runs.holding; asked_is = asked; goes_is = goes }) c.in_ok-answer.ensures.outcomes
+    c.answer.new.outcomes answered c.in_ok-answer.ensures.outcomes
 
 pub code_at-code-requires-clause-block : goal.code_at-code-requires-clause-block
 code_at-code-requires-clause-block c =
@@ -99,13 +109,11 @@ make_move-requires-clause-can c =
 pub returns-clause-moving : goal.returns-clause-moving
 returns-clause-moving c =
     let p = c.args.at.now.of.now.plan.now in
-    let clock = c.args.at.now.clock in
-    let i = c.args.i in
     let r = c.requires in
-    sym c.if-not-branch.false ∙ moves_by_requests p clock i c.args.at.now.contents.now c.as_slice-requests.result.now
-    c.in_ok-answer.field-0
-    r.runs.holding (c.as_slice-requests.ensures ∙ asked_in p clock i c.args.state.now c.args.seat.now r.seated r.awake r.known)
-    (runs_in p clock i c.args.state.now c.args.seat.now false r.seated r.awake r.running) c.in_ok-answer.ensures.goes
+    let answered = answer_is p c.args.at.now.clock c.args.i c.args.state.now c.args.seat.now c.args.at.now.contents.now
+    c.as_slice-requests.result.now c.in_ok-answer.field-0 r.seated r.awake r.known r.running r.runs.holding c.as_slice-requests.ensures
+    c.in_ok-answer.ensures.goes in
+    sym c.if-not-branch.false ∙ answered.goes_is
 
 -- the state in which a module comes out
 comes_to : (p : Plan) (clock i : ℕ) (of : Module) (s t : ModuleState) (contents : List (List Element)) (asked : List Request)
@@ -123,21 +131,19 @@ returns-clause-seated c =
     let clock = c.args.at.now.clock in
     let i = c.args.i in
     let r = c.requires in
+    let answered = answer_is p clock i c.args.state.now c.args.seat.now c.args.at.now.contents.now c.as_slice-requests.result.now
+    c.in_ok-answer.field-0 r.seated r.awake r.known r.running r.runs.holding c.as_slice-requests.ensures c.in_ok-answer.ensures.goes in
     let s = c.args.state.now in
-    let asked = c.as_slice-requests.ensures ∙ asked_in p clock i s c.args.seat.now r.seated r.awake r.known in
-    let goes = moves_by_requests p clock i c.args.at.now.contents.now c.as_slice-requests.result.now c.in_ok-answer.field-0
-    r.runs.holding asked (runs_in p clock i s c.args.seat.now false r.seated r.awake r.running) c.in_ok-answer.ensures.goes in
-    let moving = sym goes ∙ c.if-not-branch.false in
-    let y = r.seated.young in
+    let young = r.seated.young in
     let l = r.awake in
     let most = c.in_ok-make_move.ensures.clock in
     let one : c.make_move.new.state.control.clock ≤ clock + 1 = omega arith in
     has_moved p clock i c.make_move.new.state _ r.awake refl
     (comes_to p clock i c.module_at.result.now s c.make_move.new.state c.args.at.now.contents.now c.as_slice-requests.result.now
     c.answer.new.replies c.as_slice-replies.result.now c.module_at.ensures (awake p clock i s c.args.seat.now r.seated r.awake)
-    r.runs.holding asked
+    answered.holding answered.asked_is
     (c.in_ok-answer.ensures.replies c.if-not-branch.false) c.as_slice-replies.ensures c.in_ok-make_move.ensures.moved
-    ∙ sym (moved_state p clock i r.within moving)) one
+    ∙ sym (moved_state p clock i r.within (sym answered.goes_is ∙ c.if-not-branch.false))) one
 
 pub returns-clause-done : goal.returns-clause-done
 returns-clause-done c =
@@ -145,12 +151,11 @@ returns-clause-done c =
     let clock = c.args.at.now.clock in
     let i = c.args.i in
     let r = c.requires in
-    let asked = c.as_slice-requests.ensures ∙ asked_in p clock i c.args.state.now c.args.seat.now r.seated r.awake r.known in
-    let goes = moves_by_requests p clock i c.args.at.now.contents.now c.as_slice-requests.result.now c.in_ok-answer.field-0
-    r.runs.holding asked (runs_in p clock i c.args.state.now c.args.seat.now false r.seated r.awake r.running) c.in_ok-answer.ensures.goes in
+    let answered = answer_is p clock i c.args.state.now c.args.seat.now c.args.at.now.contents.now c.as_slice-requests.result.now
+    c.in_ok-answer.field-0 r.seated r.awake r.known r.running r.runs.holding c.as_slice-requests.ensures c.in_ok-answer.ensures.goes in
     given_done p clock i c.args.at.now.contents.now c.as_slice-requests.result.now c.in_ok-answer.field-0 c.args.at.now.keep
-    c.args.round.now _ (record { holding = r.runs.holding; asked_is = asked; goes_is = goes })
-    c.in_ok-answer.ensures.pops c.in_ok-answer.ensures.pushes (rw c.if-not-branch.false c.in_ok-tell_kept_events.ensures)
+    c.args.round.now _ answered c.in_ok-answer.ensures.pops c.in_ok-answer.ensures.pushes
+    (rw c.if-not-branch.false c.in_ok-tell_kept_events.ensures)
 
 pub returns-clause-answers : goal.returns-clause-answers
 returns-clause-answers c =
@@ -158,8 +163,7 @@ returns-clause-answers c =
     let clock = c.args.at.now.clock in
     let i = c.args.i in
     let r = c.requires in
-    let asked = c.as_slice-requests.ensures ∙ asked_in p clock i c.args.state.now c.args.seat.now r.seated r.awake r.known in
-    let goes = moves_by_requests p clock i c.args.at.now.contents.now c.as_slice-requests.result.now c.in_ok-answer.field-0
-    r.runs.holding asked (runs_in p clock i c.args.state.now c.args.seat.now false r.seated r.awake r.running) c.in_ok-answer.ensures.goes in
+    let answered = answer_is p clock i c.args.state.now c.args.seat.now c.args.at.now.contents.now c.as_slice-requests.result.now
+    c.in_ok-answer.field-0 r.seated r.awake r.known r.running r.runs.holding c.as_slice-requests.ensures c.in_ok-answer.ensures.goes in
     given_outcomes p clock i c.args.at.now.contents.now c.as_slice-requests.result.now c.in_ok-answer.field-0 c.args.answers.now
-    c.answer.new.outcomes (record { holding = r.runs.holding; asked_is = asked; goes_is = goes }) c.in_ok-answer.ensures.outcomes
+    c.answer.new.outcomes answered c.in_ok-answer.ensures.outcomes

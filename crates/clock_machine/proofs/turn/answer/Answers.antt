@@ -1,5 +1,6 @@
 use Rattle.std.proofs.Math.Seq.{take-append_seam}
-use Rattle.std.proofs.Common.{ℕ, List, length, ◌≡◌, ◌++◌, ◌∷◌, [], refl, sym, ap, ◌∙◌, Bool, true, false, cond, Option, Some, None, get_or, map, take}
+use Rattle.std.proofs.Common.{ℕ, List, length, ◌≡◌, ◌++◌, ◌∷◌, [], refl, sym, ap, ◌∙◌, Bool, true, false, cond}
+use Rattle.std.proofs.Common.{Option, Some, None, get_or, map, take}
 use Rattle.std.specs.Prelude.{is_some}
 use Rattle.std.specs.List.{list_any}
 use Rattle.std.proofs.lemmas.List.{take_more, map_more, append-nil}

@@ -27,5 +27,6 @@ returns c =
     let s = c.args.state.now in
     let code = c.index-as_slice-state.result in
     subst (IsBlockCodeOf p.design.channels (module_at p c.args.i) (block_of (module_at p c.args.i) s))
-    (sym (c.index-as_slice-state.is ∙ ap (λ (cs : List BlockCode). get_or cs s.control.block code) (c.as_slice.ensures ∙ sym c.index-at-i.is)))
+    (sym (c.index-as_slice-state.is ∙ ap (λ (cs : List BlockCode). get_or cs s.control.block code)
+    (c.as_slice.ensures ∙ sym c.index-at-i.is)))
     (own.each s.control.block code c.requires.block)

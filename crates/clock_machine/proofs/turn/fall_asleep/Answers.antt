@@ -5,82 +5,71 @@ use Rattle.flow_design.specs.Module.{block_of}
 use Rattle.lockstep_defs.specs.Lockstep.{module_at}
 use Rattle.lockstep_defs.proofs.Agrees.{below_limit}
 use Rattle.module_move.specs.Moves.{ticked_to, gone_on}
-use Rattle.clock_machine.proofs.Sleeping.{awake, falls_asleep, seated_sound, stands_in, next_near, idle_till}
+use Rattle.clock_machine.proofs.Sleeping.{awake, falls_asleep, seated_sound, seated_stands, next_small, idle_till}
 use Rattle.clock_machine.proofs.turn.fall_asleep.Goals as goal
 
 pub code_at-requires-clause-block : goal.code_at-requires-clause-block
 code_at-requires-clause-block c =
+    let p = c.args.at.now.of.now.plan.now in
+    let clock = c.args.at.now.clock in
+    let i = c.args.i in
+    let s = c.args.state.now in
     let r = c.requires in
-    (seated_sound c.args.at.now.of.now.plan.now r.runs.fits c.args.at.now.clock c.args.i c.args.state.now c.args.seat.now r.within r.seated
-    r.running).state.block
+    (seated_sound p r.runs.fits clock i s c.args.seat.now r.within r.seated r.running).state.block
 
 pub next_due-next-requires : goal.next_due-next-requires
 next_due-next-requires c =
     let p = c.args.at.now.of.now.plan.now in
+    let clock = c.args.at.now.clock in
+    let i = c.args.i in
     let s = c.args.state.now in
     let r = c.requires in
-    let sound = seated_sound p r.runs.fits c.args.at.now.clock c.args.i s c.args.seat.now r.within r.seated r.running in
-    let young = r.seated.young in
-    let l = r.awake in
-    let early = r.runs.early in
-    let cycles = r.runs.fits.cycles in
-    let small : s.control.clock < 10 ^ 18 = omega arith in
-    (block_of (module_at p c.args.i) s, (c.code_at.ensures.schedule, stands_in p c.args.i s sound small))
+    let stands = seated_stands p r.runs.fits clock i s c.args.seat.now r.within r.seated r.running r.awake r.runs.early in
+    (block_of (module_at p i) s, (c.code_at.ensures.schedule, stands))
 
 pub tick_to-requires-clause-started : goal.tick_to-requires-clause-started
 tick_to-requires-clause-started c =
     let p = c.args.at.now.of.now.plan.now in
+    let clock = c.args.at.now.clock in
+    let i = c.args.i in
+    let s = c.args.state.now in
     let r = c.requires in
-    (seated_sound p r.runs.fits c.args.at.now.clock c.args.i c.args.state.now c.args.seat.now r.within r.seated
-    r.running).state.control.has_started
+    (seated_sound p r.runs.fits clock i s c.args.seat.now r.within r.seated r.running).state.control.has_started
 
 pub tick_to-requires-clause-later : goal.tick_to-requires-clause-later
 tick_to-requires-clause-later c =
     let p = c.args.at.now.of.now.plan.now in
+    let clock = c.args.at.now.clock in
+    let i = c.args.i in
     let s = c.args.state.now in
     let r = c.requires in
-    let sound = seated_sound p r.runs.fits c.args.at.now.clock c.args.i s c.args.seat.now r.within r.seated r.running in
-    let young = r.seated.young in
-    let l = r.awake in
-    let early = r.runs.early in
-    let cycles = r.runs.fits.cycles in
-    let small : s.control.clock < 10 ^ 18 = omega arith in
-    (c.next_due-next.ensures (block_of (module_at p c.args.i) s) c.code_at.ensures.schedule (stands_in p c.args.i s sound small)).from
+    let stands = seated_stands p r.runs.fits clock i s c.args.seat.now r.within r.seated r.running r.awake r.runs.early in
+    (c.next_due-next.ensures (block_of (module_at p i) s) c.code_at.ensures.schedule stands).from
 
 pub tick_to-requires-clause-small : goal.tick_to-requires-clause-small
 tick_to-requires-clause-small c =
     let p = c.args.at.now.of.now.plan.now in
+    let clock = c.args.at.now.clock in
+    let i = c.args.i in
     let s = c.args.state.now in
-    let b = block_of (module_at p c.args.i) s in
     let r = c.requires in
-    let sound = seated_sound p r.runs.fits c.args.at.now.clock c.args.i s c.args.seat.now r.within r.seated r.running in
-    let young = r.seated.young in
-    let l = r.awake in
-    let early = r.runs.early in
-    let cycles = r.runs.fits.cycles in
-    let small : s.control.clock < 10 ^ 18 = omega arith in
-    let stands = stands_in p c.args.i s sound small in
-    let limits = c.code_at.ensures.schedule.limits in
-    let most = limits.most in
-    let started = sound.state.control.has_started in
-    let near = next_near b s.control c.next_due-next.result limits stands
-    (c.next_due-next.ensures b c.code_at.ensures.schedule stands) in
+    let stands = seated_stands p r.runs.fits clock i s c.args.seat.now r.within r.seated r.running r.awake r.runs.early in
+    let due = c.next_due-next.ensures (block_of (module_at p i) s) c.code_at.ensures.schedule stands in
+    let small = next_small p r.runs.fits clock i s c.args.seat.now c.next_due-next.result r.within r.seated r.running r.awake r.runs.early
+    c.code_at.ensures.schedule.limits due in
     omega arith
 
 pub go_on-requires-clause-started : goal.go_on-requires-clause-started
 go_on-requires-clause-started c =
     let p = c.args.at.now.of.now.plan.now in
+    let clock = c.args.at.now.clock in
+    let i = c.args.i in
     let s = c.args.state.now in
     let r = c.requires in
-    let sound = seated_sound p r.runs.fits c.args.at.now.clock c.args.i s c.args.seat.now r.within r.seated r.running in
-    let young = r.seated.young in
-    let l = r.awake in
-    let early = r.runs.early in
-    let cycles = r.runs.fits.cycles in
-    let small : s.control.clock < 10 ^ 18 = omega arith in
-    let from = (c.next_due-next.ensures (block_of (module_at p c.args.i) s) c.code_at.ensures.schedule
-    (stands_in p c.args.i s sound small)).from in
-    let started = sound.state.control.has_started in
+    let stands = seated_stands p r.runs.fits clock i s c.args.seat.now r.within r.seated r.running r.awake r.runs.early in
+    let due = c.next_due-next.ensures (block_of (module_at p i) s) c.code_at.ensures.schedule stands in
+    let from = due.from in
+    let started = stands.has_started in
     let now = ap (λ (z : ModuleState). z.control.clock) c.tick_to.ensures.ticked in
     let newest = ap (λ (z : ModuleState). z.control.newest) c.tick_to.ensures.ticked in
     omega arith
@@ -96,34 +85,24 @@ go_on-requires-clause-few c =
 pub overflow_sub-seat : goal.overflow_sub-seat
 overflow_sub-seat c =
     let p = c.args.at.now.of.now.plan.now in
+    let clock = c.args.at.now.clock in
+    let i = c.args.i in
     let s = c.args.state.now in
     let r = c.requires in
-    let sound = seated_sound p r.runs.fits c.args.at.now.clock c.args.i s c.args.seat.now r.within r.seated r.running in
-    let young = r.seated.young in
-    let l = r.awake in
-    let early = r.runs.early in
-    let cycles = r.runs.fits.cycles in
-    let small : s.control.clock < 10 ^ 18 = omega arith in
-    (c.next_due-next.ensures (block_of (module_at p c.args.i) s) c.code_at.ensures.schedule (stands_in p c.args.i s sound small)).from
+    let stands = seated_stands p r.runs.fits clock i s c.args.seat.now r.within r.seated r.running r.awake r.runs.early in
+    (c.next_due-next.ensures (block_of (module_at p i) s) c.code_at.ensures.schedule stands).from
 
 pub overflow_add-seat : goal.overflow_add-seat
 overflow_add-seat c =
     let p = c.args.at.now.of.now.plan.now in
+    let clock = c.args.at.now.clock in
+    let i = c.args.i in
     let s = c.args.state.now in
-    let b = block_of (module_at p c.args.i) s in
     let r = c.requires in
-    let sound = seated_sound p r.runs.fits c.args.at.now.clock c.args.i s c.args.seat.now r.within r.seated r.running in
-    let young = r.seated.young in
-    let l = r.awake in
-    let early = r.runs.early in
-    let cycles = r.runs.fits.cycles in
-    let small : s.control.clock < 10 ^ 18 = omega arith in
-    let stands = stands_in p c.args.i s sound small in
-    let limits = c.code_at.ensures.schedule.limits in
-    let most = limits.most in
-    let started = sound.state.control.has_started in
-    let near = next_near b s.control c.next_due-next.result limits stands
-    (c.next_due-next.ensures b c.code_at.ensures.schedule stands) in
+    let stands = seated_stands p r.runs.fits clock i s c.args.seat.now r.within r.seated r.running r.awake r.runs.early in
+    let due = c.next_due-next.ensures (block_of (module_at p i) s) c.code_at.ensures.schedule stands in
+    let small = next_small p r.runs.fits clock i s c.args.seat.now c.next_due-next.result r.within r.seated r.running r.awake r.runs.early
+    c.code_at.ensures.schedule.limits due in
     omega arith
 
 pub returns-clause-asleep : goal.returns-clause-asleep
@@ -132,16 +111,12 @@ returns-clause-asleep c e =
     let clock = c.args.at.now.clock in
     let i = c.args.i in
     let s = c.args.state.now in
-    let next = c.next_due-next.result in
-    let b = block_of (module_at p i) s in
     let r = c.requires in
-    let sound = seated_sound p r.runs.fits clock i s c.args.seat.now r.within r.seated r.running in
+    let stands = seated_stands p r.runs.fits clock i s c.args.seat.now r.within r.seated r.running r.awake r.runs.early in
+    let due = c.next_due-next.ensures (block_of (module_at p i) s) c.code_at.ensures.schedule stands in
+    let next = c.next_due-next.result in
     let young = r.seated.young in
     let l = r.awake in
-    let early = r.runs.early in
-    let cycles = r.runs.fits.cycles in
-    let small : s.control.clock < 10 ^ 18 = omega arith in
-    let due = c.next_due-next.ensures b c.code_at.ensures.schedule (stands_in p i s sound small) in
     let from = due.from in
     let not_now = c.if-next-now.false in
     let n = next - s.control.clock - 1 in
@@ -149,6 +124,7 @@ returns-clause-asleep c e =
     let wakes : clock + (next - s.control.clock) ≡ clock + suc n = omega arith in
     let now : c.tick_to.new.state.control.clock ≡ next = ap (λ (z : ModuleState). z.control.clock) c.tick_to.ensures.ticked in
     let most = c.in_ok-go_on.ensures.clock in
+    let sound = seated_sound p r.runs.fits clock i s c.args.seat.now r.within r.seated r.running in
     falls_asleep p clock i n s c.go_on.new.state _ r.within (awake p clock i s c.args.seat.now r.seated r.awake) r.running
     (idle_till p i n s next c.code_at.ensures.schedule.limits sound due far)
     (c.in_ok-go_on.ensures.gone

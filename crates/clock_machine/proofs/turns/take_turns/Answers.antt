@@ -1,4 +1,5 @@
-use Rattle.std.proofs.Common.{◌≡◌, ℕ, ◌+◌, ◌<◌, ◌≤◌, ◌++◌, ◌∷◌, ◌||◌, ◌∙◌, List, [], Bool, true, false, length, take, get_or, refl, sym, ap, subst, arith, inl, inr}
+use Rattle.std.proofs.Common.{◌≡◌, ℕ, ◌+◌, ◌<◌, ◌≤◌, ◌++◌, ◌∷◌, ◌||◌, ◌∙◌, List, [], Bool, true, false, length}
+use Rattle.std.proofs.Common.{take, get_or, refl, sym, ap, subst, arith, inl, inr}
 use Rattle.std.proofs.Math.ListN.{set}
 use Rattle.std.specs.List.{list_any, flat_map}
 use Rattle.std.proofs.lemmas.List.{append-nil, get_or_default, get_or-set_same, get_or-set_other}
@@ -25,7 +26,8 @@ any_more : (p : Plan) (clock i : ℕ) (before now next : Bool) → i < length (s
 any_more p clock i before now next h so here e =
     let st = state p clock in
     let test = moves p clock st.contents in
-    e ∙ (ap (λ (b : Bool). b || now) so ∙ (ap (λ (b : Bool). list_any test (take i (numbered st)) || b) (here ∙ sym (or_false (does_move p clock i)))
+    e ∙ (ap (λ (b : Bool). b || now) so ∙ (ap (λ (b : Bool). list_any test (take i (numbered st)) || b)
+    (here ∙ sym (or_false (does_move p clock i)))
     ∙ (sym (list_any-append test (take i (numbered st)) ((i, state_at p clock i) ∷ []))
     ∙ sym (ap (list_any test) (numbered_more st.modules i nobody h)))))
   where
@@ -86,9 +88,11 @@ loop-i-preserved c =
     let all = all_modules p clock in
     let turn = c.in_ok-moves.ensures in
     let next : c.if-moving.moving ≡ list_any (moves p clock st.contents) (take (i + 1) (numbered st)) = elim c.if-moving.branch [
-      | then-moving w ↦ any_more p clock i c.loop-i.moving c.in_ok-moves.moves c.if-moving.moving (omega arith) c.loop-i.invariant.moving turn.moving
+      | then-moving w ↦ any_more p clock i c.loop-i.moving c.in_ok-moves.moves c.if-moving.moving (omega arith)
+          c.loop-i.invariant.moving turn.moving
           (or_true c.loop-i.moving c.in_ok-moves.moves c.if-moving.moving w.if-moving.true w.moving-is)
-      | else-moving w ↦ any_more p clock i c.loop-i.moving c.in_ok-moves.moves c.if-moving.moving (omega arith) c.loop-i.invariant.moving turn.moving
+      | else-moving w ↦ any_more p clock i c.loop-i.moving c.in_ok-moves.moves c.if-moving.moving (omega arith)
+          c.loop-i.invariant.moving turn.moving
           (or_else c.loop-i.moving c.in_ok-moves.moves c.if-moving.moving w.if-moving.false w.moving-is)
     ] in record {
       moving = next;
@@ -100,7 +104,8 @@ loop-i-preserved c =
           (done_more c.args.at.now.keep c.args.round.now c.loop-i.round c.take_turn.new.round _ (step_at p clock i) c.loop-i.invariant.done
           turn.done);
       told = λ k l. elim (below_or_at k i l) [
-        | inl below ↦ get_or-set_other c.loop-i.answers i k c.take_turn.new.answers [] (λ same. omega arith) ∙ c.loop-i.invariant.told k below
+        | inl below ↦ get_or-set_other c.loop-i.answers i k c.take_turn.new.answers [] (λ same. omega arith)
+            ∙ c.loop-i.invariant.told k below
         | inr same ↦
             subst (λ (n : ℕ). get_or (set c.loop-i.answers i c.take_turn.new.answers) n []
             ≡ get_or c.args.answers.now n [] ++ outcomes (step_at p clock n)) (sym same)

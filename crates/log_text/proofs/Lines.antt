@@ -1,17 +1,21 @@
 -- The lines of a log.
-use Rattle.std.proofs.Common.{◌≡◌, sym, ◌∙◌, ap, ap₂, ℕ, ◌+◌, ◌<◌, List, [], ◌∷◌, ◌++◌, map, length, take, get_or, append-nil, append_assoc}
-use Rattle.std.proofs.lemmas.List.{get_or_default}
+use Rattle.std.proofs.Common.{◌≡◌, refl, sym, ◌∙◌, ap, ℕ, ◌+◌, ◌<◌, List, [], ◌∷◌, ◌++◌, map, length, take, get_or, append-nil, append_assoc}
+use Rattle.std.proofs.lemmas.List.{get_or_default, map-append}
+use Rattle.std.proofs.lemmas.List.Concat.{flat_map-append}
 use Rattle.std.specs.Prelude.{codes}
 use Rattle.std.specs.List.{flat_map, join_with_byte}
 use Rattle.flow_design.specs.declared.design.Design.{Design}
 use Rattle.flow_design.specs.declared.plan.Plan.{Plan}
 use Rattle.flow_design.specs.declared.report.Verdict.{Verdict}
+use Rattle.flow_design.specs.Reports.{clock_of}
+use Rattle.lockstep_defs.specs.Channels.{HistoryStep}
+use Rattle.lockstep_defs.specs.Lockstep.{history}
 use Rattle.lockstep_defs.specs.Report.{report}
 use Rattle.lockstep_defs.specs.Verdict.{verdict}
 use Rattle.report_text.specs.Lines.{Token, line, text_of_lines, verdict_tokens}
-use Rattle.report_text.proofs.LineLemmas.{line_of_four, lines_more}
+use Rattle.report_text.proofs.LineLemmas.{line_of_four, lines_more, text-append}
 use Rattle.sim_core.specs.declared.access_log.LoggedAccess.{LoggedAccess}
-use Rattle.sim_core.specs.AccessLog.{log_of}
+use Rattle.sim_core.specs.AccessLog.{log_of, logged, logged_in}
 use Rattle.log_text.specs.LogText.{access_tokens, log_text}
 
 -- tokens joined by spaces
@@ -45,14 +49,33 @@ pub access_more : (design : Design) (first : List ℕ) (log : List LoggedAccess)
 access_more design first log k d inside =
     lines_more (access_tokens design) first log k (get_or log k d) inside (get_or_default log k d (get_or log k d) inside)
 
--- the whole text, with the plan and the log as they are read
-pub whole_log : (p q : Plan) (v : Verdict) (first second : List ℕ) (log read : List LoggedAccess) → first ≡ codes "log\n"
-    → second ≡ first ++ line (verdict_tokens v) → v ≡ verdict p → q ≡ p → read ≡ log → log ≡ log_of p
-    → second ++ text_of_lines (map (access_tokens q.design) read) ≡ log_text p
+-- ---- step by step
+
+-- the lines of these steps
+abbrev pub step_lines : Plan → List HistoryStep → List ℕ
+step_lines p steps = text_of_lines (map (access_tokens p.design) (logged_in steps))
+
+pub steps_more : (p : Plan) (first : List ℕ) (steps more : List HistoryStep)
+    → (first ++ step_lines p steps) ++ step_lines p more ≡ first ++ step_lines p (steps ++ more)
+steps_more p first steps more =
+    append_assoc first (step_lines p steps) (step_lines p more)
+    ∙ ap (λ (t : List ℕ). first ++ t)
+    (sym (text-append (map (access_tokens p.design) (logged_in steps)) (map (access_tokens p.design) (logged_in more)))
+    ∙ ap text_of_lines
+    (sym (map-append (access_tokens p.design) (logged_in steps) (logged_in more))
+    ∙ ap (map (access_tokens p.design)) (sym (flat_map-append (λ (s : HistoryStep). map (logged s) s.exchanges) steps more))))
+
+-- the lines of the history are those of the log
+pub history_lines : (p : Plan) → step_lines p (history p (clock_of (verdict p))) ≡ text_of_lines (map (access_tokens p.design) (log_of p))
+unfolding log_of
+history_lines p = refl
+
+-- the whole text, with the verdict as it is read
+pub whole_log : (p : Plan) (v : Verdict) (first second : List ℕ) → first ≡ codes "log\n" → second ≡ first ++ line (verdict_tokens v)
+    → v ≡ verdict p → second ++ text_of_lines (map (access_tokens p.design) (log_of p)) ≡ log_text p
 unfolding log_text report
-whole_log p q v first second log read named told of_plan same is logged =
+whole_log p v first second named told of_plan =
     let accesses : List ℕ = text_of_lines (map (access_tokens p.design) (log_of p)) in
-    ap₂ (λ (x : Plan) (xs : List LoggedAccess). second ++ text_of_lines (map (access_tokens x.design) xs)) same (is ∙ logged)
-    ∙ (ap (λ (t : List ℕ). t ++ accesses) (told ∙ ap (λ (t : List ℕ). t ++ line (verdict_tokens v)) named)
+    ap (λ (t : List ℕ). t ++ accesses) (told ∙ ap (λ (t : List ℕ). t ++ line (verdict_tokens v)) named)
     ∙ (append_assoc (codes "log\n") (line (verdict_tokens v)) accesses
-    ∙ ap (λ (u : Verdict). codes "log\n" ++ (line (verdict_tokens u) ++ accesses)) of_plan))
+    ∙ ap (λ (u : Verdict). codes "log\n" ++ (line (verdict_tokens u) ++ accesses)) of_plan)

@@ -1,7 +1,8 @@
 -- A log names modules and channels of its plan alone.
-use Rattle.std.proofs.Common.{◌≡◌, sym, ◌∙◌, ap, ap₂, subst, refl, List, [], ◌∷◌, ◌++◌, map, length, ◌<◌, suc, arith}
+use Rattle.std.proofs.Common.{◌≡◌, sym, ◌∙◌, ap, ap₂, subst, refl, List, [], ◌∷◌, ◌++◌, map, length, ◌<◌, suc, arith, ℕ, ◌+◌, ◌-◌, get_or, length-append}
 use Rattle.std.specs.Prelude.{All}
-use Rattle.std.proofs.lemmas.List.{map-append}
+use Rattle.std.proofs.lemmas.List.{map-append, get_or_append_left, get_or-append_right}
+use Rattle.std.proofs.lemmas.List.Concat.{flat_map-append}
 use Rattle.std.proofs.lemmas.List.Elements.{All-cons, All-nil}
 use Rattle.flow_design.specs.declared.design.Design.{Design}
 use Rattle.flow_design.specs.declared.plan.Plan.{Plan}
@@ -42,3 +43,25 @@ all_named p h =
     named p.design (logged_in steps) (subst (All (λ (e : EventLine). (e.module < length p.design.modules)
     × (e.channel < length p.design.channels)))
     (sym (events steps)) h.events)
+
+-- so does a part of it
+pub part_named : (p : Plan) → HasNumbersOf p (report p) → (before here after : List HistoryStep)
+    → (before ++ here) ++ after ≡ history p (clock_of (verdict p)) → All (IsNamed p.design) (logged_in here)
+unfolding log_of
+part_named p h before here after are =
+    let all = subst (λ (steps : List HistoryStep). All (IsNamed p.design) (logged_in steps)) (sym are) (all_named p h) in
+    let first = left (logged_in (before ++ here)) (logged_in after)
+    (subst (All (IsNamed p.design)) (flat_map-append (λ (s : HistoryStep). map (logged s) s.exchanges) (before ++ here) after) all) in
+    right (logged_in before) (logged_in here)
+    (subst (All (IsNamed p.design)) (flat_map-append (λ (s : HistoryStep). map (logged s) s.exchanges) before here) first)
+  where
+    left : (xs ys : List LoggedAccess) → All (IsNamed p.design) (xs ++ ys) → All (IsNamed p.design) xs
+    left xs ys all k d l =
+        subst (IsNamed p.design) (get_or_append_left xs ys d k l) (all k d (omega (arith, length-append xs ys)))
+
+    right : (xs ys : List LoggedAccess) → All (IsNamed p.design) (xs ++ ys) → All (IsNamed p.design) ys
+    right xs ys all k d l =
+        let at : (length xs + k) - length xs ≡ k = omega arith in
+        subst (IsNamed p.design)
+        (get_or-append_right xs ys (length xs) (length xs + k) d refl (omega arith) ∙ ap (λ (j : ℕ). get_or ys j d) at)
+        (all (length xs + k) d (omega (arith, length-append xs ys)))

@@ -7,6 +7,7 @@ ghost use Rattle.event_timing.specs.Actions.{IsFinal};
 ghost use Rattle.timing_bridge.specs.Designs.{design as design_of};
 ghost use Rattle.report_text.specs.Lines.{line, text_of_lines};
 ghost use Rattle.sim_core.specs.Views.{theory_of};
+ghost use Rattle.sim_core.specs.AccessLog.{log_of};
 ghost use Rattle.log_text.specs.LogText.{access_tokens, value_tokens, IsNamed};
 ghost use Rattle.log_text.specs.LogText as form;
 
@@ -17,11 +18,13 @@ use report_text::{channel_name, kind_word, module_name, print_verdict, push_toke
 use sim_core::{Core, LoggedAccess};
 use sim_io::{Sink, TellFault, write_full};
 use std::alloc::Global;
+use step_walk::StepWalk;
 
 /// Writes the text of the log of a final core's plan in pieces, and hands out the rest: the verdict, and a line for each access that
 /// was done, in the order of the report's events.
 ///
-/// It takes memory for the log, and for a piece of the text. After an error a prefix of the text is written.
+/// It takes memory for two numbers of each module, for what one step's accesses gave, and for a piece of the text. After an error a
+/// prefix of the text is written.
 #[tactic(auto, using(sim_io::proofs::Pending::prefix_none))]
 pub fn log_text<K: Sink>(alloc: Global, core: &Core, sink: &mut K) -> Result<List<u8>, TellFault>
     requires { IsFinal (design_of core.now.plan) core.now.plan.cycles (theory_of core.now) }
@@ -30,13 +33,40 @@ pub fn log_text<K: Sink>(alloc: Global, core: &Core, sink: &mut K) -> Result<Lis
     ensures write_fault { IsErrOf result TellFault.WriteFault → Rose (K.faults sink.old) (K.faults sink.new) }
     ensures faults { K.faults sink.old ≤ K.faults sink.new }
 {
-    reports_name_their_plans();
-    let _modules = core.modules();
-    let log = core.access_log(alloc)?;
     let mut pending = List::from_slice(alloc, b"log\n")?;
     print_verdict(&mut pending, core.verdict())?;
-    write_log(&mut pending, &core.plan().design, log.as_slice(), sink)?;
+    write_steps(alloc, &mut pending, core, sink)?;
     Ok(pending)
+}
+
+/// Adds a line for each access of a final core's plan to what is pending, step by step, and writes that in pieces.
+fn write_steps<K: Sink>(
+    alloc: Global,
+    pending: &mut List<u8>,
+    core: &Core,
+    sink: &mut K,
+) -> Result<(), TellFault>
+    requires { IsFinal (design_of core.now.plan) core.now.plan.cycles (theory_of core.now) }
+    ensures ok { OnOk result (IsTold (K.held sink.old) (K.held sink.new) pending.new
+        (pending.old ++ text_of_lines (map (access_tokens core.now.plan.design) (log_of core.now.plan)))) }
+    ensures err { OnErr result (AppendsPrefix (K.held sink.old) (K.held sink.new)
+        (pending.old ++ text_of_lines (map (access_tokens core.now.plan.design) (log_of core.now.plan)))) }
+    ensures write_fault { IsErrOf result TellFault.WriteFault → Rose (K.faults sink.old) (K.faults sink.new) }
+    ensures faults { K.faults sink.old ≤ K.faults sink.new }
+{
+    reports_name_their_plans();
+    let _ends = core.ends();
+    let graph = &core.engine().graph;
+    let _modules = graph.modules();
+    let mut walk = StepWalk::new(alloc, graph)?;
+    let mut replies = List::new(alloc);
+    let mut log = List::new(alloc);
+    while let Some(step) = walk.advance(graph) {
+        log.truncate(0);
+        core.log_step(&step, &mut replies, &mut log)?;
+        write_log(pending, &core.plan().design, log.as_slice(), sink)?;
+    }
+    Ok(())
 }
 
 /// Adds a line for each access to what is pending, and writes that in pieces.

@@ -1,8 +1,8 @@
 -- The cycles of the steps that use a port are the clocks in which elements pass it.
 use Rattle.std.proofs.Common.{◌≡◌, ℕ, zero, suc, ◌<◌, ◌≤◌, List, [], length, true, get_or, ltb, slice_get, Option, Some, None, arith}
-use Rattle.std.proofs.Common.{refl, sym, ◌∙◌, ap, subst, inl, inr}
+use Rattle.std.proofs.Common.{refl, sym, ◌∙◌, ap, ap₂, subst, inl, inr}
 use Rattle.std.specs.Prelude.{Bool, false, ◌==◌, option_and_then, option_map, unwrap_or}
-use Rattle.std.proofs.lemmas.Bool.{cases_lt, eq-eqb, eqb-true, lt-ltb, ltb-true}
+use Rattle.std.proofs.lemmas.Bool.{cases_lt, eq-eqb, eqb-true, le-ltb, lt-ltb, ltb-true}
 use Rattle.std.proofs.lemmas.Option.{get_or_from_slice_get, slice_get_cases, slice_get-get_or, slice_get_within}
 use Rattle.flow_word.specs.declared.access.Place.{Place}
 use Rattle.flow_word.specs.declared.access.Port.{Port}
@@ -13,6 +13,7 @@ use Rattle.flow_design.specs.declared.state.ModuleState.{ModuleState}
 use Rattle.lockstep_defs.specs.Channels.{HistoryStep, moved}
 use Rattle.lockstep_defs.specs.Ports.{owner}
 use Rattle.fifo_fills.specs.Fills.{last_clock, moved_before}
+use Rattle.fifo_fills.proofs.Ending.{last_within}
 use Rattle.event_graph.specs.Lanes.{Lane, lane_at, cycle_of}
 use Rattle.fifo_table.specs.Channels.{Channel, channel_at, first_module, places_of}
 use Rattle.event_timing.specs.Machines.{IsDesign}
@@ -32,7 +33,8 @@ use Rattle.engine_view.specs.Shown.{IsTakenAt}
 use Rattle.engine_report.specs.Finished.{IsFinished}
 use Rattle.queue_clocks.proofs.Counting.{told_clocks, told_counts}
 use Rattle.port_clocks.specs.Clocks.{ArePortClocks}
-use Rattle.port_clocks.specs.Reading.{AreCycles}
+use Rattle.port_clocks.specs.Reading.{cycle_in, AreCycles}
+use Rattle.port_clocks.specs.Walks.{never, PassesAt}
 
 -- ---- places and their cycles
 
@@ -164,6 +166,25 @@ module _ (p : Plan) (h : Held) (ends : List (Option Advance)) (f : IsFinished p 
               (taken_mono (design p) run a_history side ch c (last_clock p) l);
         }
 
+  -- the clock in which an element passes the port, and never where it does not
+  pub passes_at : (n : ℕ) (o : Option ℕ) → cycle_in h.lanes places n ≡ o
+      → PassesAt p (record { side = side; channel = ch }) n (unwrap_or o never)
+  passes_at n (Some e) is c l =
+      let (at, there, cycle) = some_cycle (cycle_of h.lanes) (slice_get places n) e is in
+      passed_at n at there e cycle c
+  passes_at n None is c l =
+      let rises = taken_mono (design p) run a_history side ch c (last_clock p) l in
+      let early : c < never = let limit = f.fits.cycles in omega (arith, last_within p) in
+      le-ltb n (moved_before p side ch c) (omega (arith, none_left, moved_last, moved_all)) ∙ sym (le-ltb never c (omega arith))
+    where
+      none_left : passed timed ≤ n
+      none_left = elim (slice_get_cases places n).1 [
+        | inl (at, within, there, here) ↦ passed_before n at there (sym (ap (option_and_then (cycle_of h.lanes)) there) ∙ is)
+        | inr (past, none) ↦
+            (let all = passed_rises timed (x.emitted m) (f.agreed.time.within m) in
+            omega (arith, (f.sound.taken side ch inside).count))
+      ]
+
   -- the first step that uses the port is its module's
   pub first_own : (at : Place) → slice_get places 0 ≡ Some at → at.module ≡ m
   first_own at there = (spot 0 at there).owner
@@ -189,6 +210,11 @@ module _ (p : Plan) (h : Held) (ends : List (Option Advance)) (f : IsFinished p 
       port_clocks p h ends f port.side port.channel within clocks
       (subst (λ (ls : List Lane). AreCycles ls (places_of port.side (channel_at h.channels port.channel)) clocks) same_lanes
       (subst (λ (ps : List Place). AreCycles lanes ps clocks) places_same r))
+
+  pub passes_read : (n : ℕ) (o : Option ℕ) → o ≡ cycle_in lanes read_places n → PassesAt p port n (unwrap_or o never)
+  passes_read n o is =
+      passes_at p h ends f port.side port.channel within n o
+      (sym (is ∙ ap₂ (λ (ls : List Lane) (ps : List Place). cycle_in ls ps n) same_lanes places_same))
 
   abbrev tells_user : Bool → ℕ → Type 0
   tells_user b o = b ≡ unwrap_or (option_map (λ (m : ℕ). m == o) (first_module read_places)) false

@@ -1,9 +1,11 @@
-//! The clocks in which elements pass the ports of a plan, read off what a core holds at its end.
+//! The clocks in which elements pass the ports of a plan, read off what a core holds at its end, and a walk over those of a FIFO.
 #![tactic(auto)]
 
 mod laws;
 mod ports;
 mod reading;
+mod walk;
 
 pub use laws::clocks_tell_fills;
 pub use ports::{clocks_at, own_clocks};
+pub use walk::FifoWalk;

@@ -54,7 +54,7 @@ fn count(engine: &Engine, port: Port) -> u64
 }
 
 /// The cycle of the step that uses a port with so many before it; none where there is no such step, or it has no cycle.
-fn cycle_at(engine: &Engine, port: Port, before: u64) -> Option<u64>
+pub(crate) fn cycle_at(engine: &Engine, port: Port, before: u64) -> Option<u64>
     requires channel { port.channel < length engine.now.fifos.channels }
     requires places { HasPlaces engine.now.graph.lanes engine.now.fifos.channels }
     ensures { result

@@ -12,11 +12,11 @@ ghost use Rattle.event_timing.specs.Actions.{IsFinal};
 ghost use Rattle.event_timing.specs.Agreement.{IsAgreed};
 ghost use Rattle.timing_bridge.specs.Designs.{design, lockstep_run};
 ghost use Rattle.timing_bridge.specs.CoreReports.{core_step};
-ghost use Rattle.step_order.specs.Walks.{IsWalked};
+ghost use Rattle.step_order.specs.Walks.{IsWalked, AreLate};
 
 /// A walk begins with no step. It may pass the next step of a module in the clock where it stands, if it stands before that module; it may
 /// skip modules, and it may go on to a later clock. Once it has passed all steps of a final core that have a cycle, they are the history up
-/// to the verdict.
+/// to the verdict; and before that they begin the history, where all others that have a cycle come later.
 pub fn walks_are_histories()
     ensures begins { (p : Plan) (x : Core ModuleState) (n : ℕ) → IsWalked p x [] (replicate n 0) 0 0 }
     ensures passes { (p : Plan) (x : Core ModuleState) (done : Items HistoryStep) (passed : Items ℕ) (clock next i : ℕ)
@@ -30,4 +30,8 @@ pub fn walks_are_histories()
         → IsFinal (design p) p.cycles x → (done : Items HistoryStep) (passed : Items ℕ) (clock next : ℕ)
         → IsWalked p x done passed clock next → ((i : ℕ) → slice_index passed i ≡ x.timed i)
         → done ≡ history p (clock_of (verdict p)) }
+    ensures leads { (p : Plan) → FitsEngine p → (x : Core ModuleState) → IsAgreed (design p) (lockstep_run p) p.cycles x
+        → IsFinal (design p) p.cycles x → (done : Items HistoryStep) (passed : Items ℕ) (clock next : ℕ)
+        → IsWalked p x done passed clock next → ((i : ℕ) → slice_index passed i ≤ x.timed i) → AreLate x passed clock next
+        → (rest : Items HistoryStep) × (done ++ rest ≡ history p (clock_of (verdict p))) }
 {}

@@ -1,6 +1,6 @@
 -- What a walk keeps as it gives a step, passes a module and begins a round, and what it has given at its end.
 use Rattle.std.proofs.Common.{◌≡◌, ◌≢◌, ℕ, suc, ◌+◌, ◌<◌, ◌≤◌, List, [], ◌∷◌, ◌++◌, map, length, get_or, set, min, replicate}
-use Rattle.std.proofs.Common.{zero-add, refl, sym, ◌∙◌, ap, subst, arith, inl, inr, Option, Some, None, length-set}
+use Rattle.std.proofs.Common.{zero-add, refl, sym, ◌∙◌, ap, subst, arith, inl, inr, Option, Some, None, length-set, zero, ◌-◌, ◌⊎◌}
 use Rattle.std.specs.Prelude.{All, IsNone, sum_by}
 use Rattle.std.specs.List.{range_with_len}
 use Rattle.std.proofs.lemmas.Bool.{cases_eq, cases_lt}
@@ -24,6 +24,7 @@ use Rattle.engine_report.specs.declared.events.TimedStep.{TimedStep}
 use Rattle.engine_report.specs.Finished.{IsFinished}
 use Rattle.engine_report.specs.Keys.{place_of, IsTimedKey}
 use Rattle.step_order.specs.Walks.{IsWalked}
+use Rattle.step_order.proofs.Leading.{walk_leads}
 use Rattle.step_order.proofs.Walking.{walk_begins, walk_passes, walk_skips, walk_goes_on, walk_ends}
 use Rattle.step_walk.specs.declared.walk.StepWalk.{StepWalk}
 use Rattle.step_walk.specs.Walking.{never, next_cycle, left, IsWalk, HasGiven, FoundIn}
@@ -313,6 +314,72 @@ module _ (lanes : List Lane) (sound : All IsSoundLane lanes) (walk : StepWalk) (
       let x = core_of (design p) held in
       walk_ends p f.fits x f.agreed f.final (steps_at p x (map place_of steps)) walk.given walk.clock walk.module (h.done p held e)
       (λ i. all_given i ∙ ap (λ (ls : List Lane). length (lane_at ls i).cycles) (sym e))
+
+-- ---- before the end
+
+module _ (lanes : List Lane) (sound : All IsSoundLane lanes) (walk : StepWalk) (w : IsWalk lanes walk) where
+  few_given : (i : ℕ) → get_or walk.given i 0 ≤ length (lane_at lanes i).cycles
+  few_given i = elim (cases_lt i (length lanes)) [
+    | inl l ↦ w.within i l
+    | inr l ↦ omega (arith, get_or_past walk.given i 0 (let n = w.givens in omega arith))
+  ]
+
+  -- a step that was not given is no earlier than the next one of its module
+  cycle_after : (i k : ℕ) → i < length lanes → get_or walk.given i 0 ≤ k → k < length (lane_at lanes i).cycles
+      → get_or walk.next i 0 ≤ get_or (lane_at lanes i).cycles k 0
+  cycle_after i k l from to =
+      let n = get_or walk.given i 0 in
+      let first = get_or_default (lane_at lanes i).cycles n never 0 (omega arith) in
+      let here = w.each i l in
+      elim (cases_lt n k) [
+        | inl less ↦ (let rises = rising_between (lane_at lanes i).cycles (sound_at lanes sound i l).rising n (k - n) (omega arith) in
+            let at : n + (k - n) ≡ k = omega arith in
+            omega (arith, ap (λ (j : ℕ). get_or (lane_at lanes i).cycles j 0) at))
+        | inr same ↦ (let at : n ≡ k = omega arith in omega (arith, ap (λ (j : ℕ). get_or (lane_at lanes i).cycles j 0) at))
+      ]
+    where
+      rising_between : (xs : List ℕ) → ((j : ℕ) → j + 1 < length xs → get_or xs j 0 < get_or xs (j + 1) 0) → (a m : ℕ)
+          → a + m < length xs → get_or xs a 0 ≤ get_or xs (a + m) 0
+      rising_between xs rises a zero in' = let z : a + zero ≡ a = omega arith in omega (arith, ap (λ (j : ℕ). get_or xs j 0) z)
+      rising_between xs rises a (suc m) in' =
+          let z : a + suc m ≡ (a + m) + 1 = omega arith in
+          omega (
+            arith,
+            ap (λ (j : ℕ). get_or xs j 0) z,
+            rises (a + m) (omega arith),
+            rising_between xs rises a m (omega arith),
+          )
+
+  all_late : (i k : ℕ) → get_or walk.given i 0 ≤ k → k < length (lane_at lanes i).cycles
+      → (walk.clock < get_or (lane_at lanes i).cycles k 0) ⊎ ((walk.clock ≡ get_or (lane_at lanes i).cycles k 0) × (walk.module ≤ i))
+  all_late i k from to =
+      elim (cases_lt i (length lanes)) [
+        | inr past ↦ absurd (omega (arith, ap (λ (lane : Lane). length lane.cycles) (get_or_past lanes i no_lane past)))
+        | inl l ↦
+            let after = cycle_after i k l from to in
+            let now = w.later in
+            elim (cases_lt i walk.module) [
+              | inl had ↦ inl (omega (arith, w.early i had))
+              | inr due ↦
+                  (let least = w.due i due l in
+                  elim (cases_lt walk.clock (get_or (lane_at lanes i).cycles k 0)) [
+                    | inl less ↦ inl less
+                    | inr same ↦ inr (omega arith, due)
+                  ])
+            ]
+      ]
+
+  -- what it has given begins the history
+  pub given_first : (steps : List TimedStep) → HasGiven lanes walk steps → (p : Plan) (held : Held) (ends : List (Option Advance))
+      → IsFinished p held ends → held.lanes ≡ lanes
+      → (rest : List HistoryStep) × (steps_at p (core_of (design p) held) (map place_of steps) ++ rest ≡ history p (clock_of (verdict p)))
+  given_first steps h p held ends f e =
+      let x = core_of (design p) held in
+      walk_leads p f.fits x f.agreed f.final (steps_at p x (map place_of steps)) walk.given walk.clock walk.module (h.done p held e)
+      (λ i. subst (λ (ls : List Lane). get_or walk.given i 0 ≤ length (lane_at ls i).cycles) (sym e) (few_given i))
+      (λ i k from to. subst (λ (ls : List Lane). k < length (lane_at ls i).cycles
+      → (walk.clock < get_or (lane_at ls i).cycles k 0) ⊎ ((walk.clock ≡ get_or (lane_at ls i).cycles k 0) × (walk.module ≤ i))) (sym e)
+      (all_late i k from) to)
 
 -- ---- a search that goes on in the next round, and one that ends
 

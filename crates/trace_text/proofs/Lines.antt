@@ -90,41 +90,6 @@ lines-append [] ys h = ap lines_of (h refl) ∙ ap further (sym (h refl))
 lines-append (x ∷ xs) ys h =
     ap (λ (t : List ℕ). (codes "\n" ++ x) ++ t) (further-append xs ys) ∙ sym (append_assoc (codes "\n" ++ x) (further xs) (further ys))
 
--- the texts of several lists of events, one after the other
-pub texts_joined : (g : ℕ → List (List ℕ)) (fs : List ℕ) → concat (map (λ f. further (g f)) fs) ≡ further (flat_map g fs)
-texts_joined g [] = refl
-texts_joined g (f ∷ fs) = ap (λ (t : List ℕ). further (g f) ++ t) (texts_joined g fs) ∙ sym (further-append (g f) (flat_map g fs))
-
--- one text more
-pub concat_more : (xs : List (List ℕ)) (k : ℕ) (d first text next : List ℕ) → k < length xs → text ≡ first ++ concat (take k xs)
-    → next ≡ text ++ get_or xs k d → next ≡ first ++ concat (take (k + 1) xs)
-concat_more xs k d first text next l e r =
-    let more : take (k + 1) xs ≡ take k xs ++ get_or xs k d ∷ [] = ap (λ (n : ℕ). take n xs) (add-one k) ∙ take-suc xs k d l in
-    r ∙ (ap (λ (t : List ℕ). t ++ get_or xs k d) e
-    ∙ (append_assoc first (concat (take k xs)) (get_or xs k d)
-    ∙ ap (λ (t : List ℕ). first ++ t)
-    (ap (λ (t : List ℕ). concat (take k xs) ++ t) (sym (append-nil (get_or xs k d)))
-    ∙ (sym (concat-append (take k xs) (get_or xs k d ∷ [])) ∙ ap concat (sym more)))))
-
--- the bytes up to a place, and those from there up to another
-pub taken_more : (xs : List ℕ) (at end : ℕ) (first : List ℕ) → at ≤ end
-    → (first ++ take at xs) ++ take (end - at) (drop at xs) ≡ first ++ take end xs
-taken_more xs at end first most =
-    let count : at + (end - at) ≡ end = omega (arith, most) in
-    append_assoc first (take at xs) (take (end - at) (drop at xs))
-    ∙ ap (λ (t : List ℕ). first ++ t) (sym (take-add at (end - at) xs) ∙ ap (λ (n : ℕ). take n xs) count)
-
--- and all others
-pub taken_rest : (xs : List ℕ) (at : ℕ) (first : List ℕ) → (first ++ take at xs) ++ drop at xs ≡ first ++ xs
-taken_rest xs at first =
-    append_assoc first (take at xs) (drop at xs) ∙ ap (λ (t : List ℕ). first ++ t) (take-append-drop at xs)
-
--- the texts of the others, after those of the first
-pub concat_rest : (xs : List (List ℕ)) (k : ℕ) (first : List ℕ) → (first ++ concat (take k xs)) ++ concat (drop k xs) ≡ first ++ concat xs
-concat_rest xs k first =
-    append_assoc first (concat (take k xs)) (concat (drop k xs))
-    ∙ ap (λ (t : List ℕ). first ++ t) (sym (concat-append (take k xs) (drop k xs)) ∙ ap concat (take-append-drop k xs))
-
 -- the events of the other numbers, after those of the first
 pub numbers_rest : (g : ℕ → List (List ℕ)) (k n : ℕ) (first : List ℕ) → k ≤ n
     → (first ++ further (flat_map g (range_with_len 0 k))) ++ further (flat_map g (range_with_len (0 + k) (n - k)))

@@ -1,4 +1,3 @@
 pub mod Spans
 pub mod Events
 pub mod TraceText
-pub mod Counters

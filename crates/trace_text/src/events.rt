@@ -1,5 +1,5 @@
 //! Single events, each on a line of its own.
-ghost use Rattle.std.specs.Prelude.{◌≡◌, ◌<◌, ◌≤◌, ◌+◌, ◌++◌, codes, map, length, slice_index_or, All, IsErrOf, OnErr, OnOk};
+ghost use Rattle.std.specs.Prelude.{◌≡◌, ◌<◌, ◌≤◌, ◌+◌, ◌++◌, ◌∷◌, ◌==◌, [], not, if◌then◌else◌, codes, map, length, slice_index_or, All, IsErrOf, OnErr, OnOk};
 ghost use Rattle.sim_io.specs.Causes.{AppendsPrefix, Rose};
 ghost use Rattle.sim_io.specs.Telling.{IsTold};
 ghost use Rattle.report_text.specs.ReportText.{channel_name, module_name};
@@ -121,13 +121,8 @@ pub(crate) fn write_spans<K: Sink>(
 
 /// Adds what a FIFO holds from a clock on, after a comma.
 #[tactic(auto, unfolding(crate::specs::Events::fill_event))]
-pub(crate) fn print_fill(
-    text: &mut List<u8>,
-    name: &[u8],
-    clock: u64,
-    fill: u64,
-) -> Result<(), OutOfMemory>
-    ensures { OnOk result (text.new ≡ text.old ++ codes ",\n" ++ fill_event name.now clock fill) }
+fn print_fill(text: &mut List<u8>, name: &[u8], clock: u64, fill: u64) -> Result<(), OutOfMemory>
+    ensures { OnOk result (text.new ≡ text.old ++ (codes ",\n" ++ fill_event name.now clock fill)) }
 {
     text.extend_from_slice(b",\n")?;
     text.extend_from_slice(b"{\"ph\":\"C\",\"pid\":0,\"ts\":")?;
@@ -137,4 +132,48 @@ pub(crate) fn print_fill(
     text.extend_from_slice(b"\",\"args\":{\"fill\":")?;
     push_number(text, fill)?;
     text.extend_from_slice(b"}}")
+}
+
+/// Adds what a FIFO holds from a clock on to what is pending, after a comma, and writes that where it is a piece.
+#[tactic(auto, using(sim_io::proofs::Pending::prefix_none))]
+pub(crate) fn write_fill<K: Sink>(
+    pending: &mut List<u8>,
+    name: &[u8],
+    clock: u64,
+    fill: u64,
+    sink: &mut K,
+) -> Result<(), TellFault>
+    ensures ok { OnOk result (IsTold (K.held sink.old) (K.held sink.new) pending.new
+        (pending.old ++ (codes ",\n" ++ fill_event name.now clock fill))) }
+    ensures err { OnErr result (AppendsPrefix (K.held sink.old) (K.held sink.new)
+        (pending.old ++ (codes ",\n" ++ fill_event name.now clock fill))) }
+    ensures write_fault { IsErrOf result TellFault.WriteFault → Rose (K.faults sink.old) (K.faults sink.new) }
+    ensures faults { K.faults sink.old ≤ K.faults sink.new }
+{
+    print_fill(pending, name, clock, fill)?;
+    write_full(sink, pending)?;
+    Ok(())
+}
+
+/// Adds what a FIFO holds from a clock on to what is pending, where that is another number of elements than before, and writes that where
+/// it is a piece.
+pub(crate) fn write_change<K: Sink>(
+    pending: &mut List<u8>,
+    name: &[u8],
+    clock: u64,
+    before: u64,
+    now: u64,
+    sink: &mut K,
+) -> Result<(), TellFault>
+    ensures ok { OnOk result (IsTold (K.held sink.old) (K.held sink.new) pending.new
+        (pending.old ++ further (if not (now == before) then fill_event name.now clock now ∷ [] else []))) }
+    ensures err { OnErr result (AppendsPrefix (K.held sink.old) (K.held sink.new)
+        (pending.old ++ further (if not (now == before) then fill_event name.now clock now ∷ [] else []))) }
+    ensures write_fault { IsErrOf result TellFault.WriteFault → Rose (K.faults sink.old) (K.faults sink.new) }
+    ensures faults { K.faults sink.old ≤ K.faults sink.new }
+{
+    if now == before {
+        return Ok(());
+    }
+    write_fill(pending, name, clock, now, sink)
 }

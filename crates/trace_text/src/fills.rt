@@ -1,123 +1,101 @@
 //! What each FIFO holds, clock by clock.
-ghost use Rattle.std.specs.Prelude.{◌≡◌, ◌≢◌, ℕ, ◌<◌, ◌^◌, ◌++◌, [], codes, map, filter, length, slice_index, slice_index_or, slice_set};
-ghost use Rattle.std.specs.Prelude.{All, IfOk, OnOk};
-ghost use Rattle.std.specs.List.{range_with_len};
-ghost use Rattle.flow_design.specs.Plans.{is_fifo, no_channel};
-ghost use Rattle.flow_design.specs.StaticRules.{FitsEngine};
-ghost use Rattle.lockstep_defs.specs.Report as lockstep;
-ghost use Rattle.report_text.specs.ReportText.{channel_name as name_in};
+ghost use Rattle.std.specs.Prelude.{◌≡◌, ◌<◌, ◌≤◌, ◌++◌, [], length, if◌then◌else◌, IsErrOf, IsTrue, OnErr, OnOk};
+ghost use Rattle.std.specs.List.{flat_map};
+ghost use Rattle.sim_io.specs.Causes.{AppendsPrefix, Rose};
+ghost use Rattle.sim_io.specs.Telling.{IsTold};
+ghost use Rattle.flow_design.specs.Plans.{is_fifo, kind_at};
+ghost use Rattle.event_timing.specs.Actions.{IsFinal};
+ghost use Rattle.timing_bridge.specs.Designs.{design as design_of};
+ghost use Rattle.sim_core.specs.Views.{theory_of};
 ghost use Rattle.fifo_fills.specs.Fills.{fifos, last_clock};
-ghost use Rattle.trace_text.specs.Events.{fill_event, fill_events};
+ghost use Rattle.trace_text.specs.Events.{fill_events};
 ghost use Rattle.trace_text.specs.TraceText.{further};
-ghost use Rattle.trace_text.specs.Counters.{first_line, AreTold};
 
-use crate::events::print_fill;
-use fifo_fills::FillWalk;
-use flow_design::{Channel, Design, Plan, Report};
-use flow_word::{List, OutOfMemory};
+use crate::events::{write_change, write_fill};
+use flow_word::List;
+use port_clocks::FifoWalk;
 use report_text::channel_name;
-use std::alloc::Global;
+use sim_core::Core;
+use sim_io::{Sink, TellFault};
 
-/// The lines of each FIFO up to the verdict's clock, in order of declaration: a line for clock 0, and one for each clock in which it
-/// holds another number of elements than in the clock before.
-pub(crate) fn fill_lines(
-    alloc: Global,
-    plan: &Plan,
-    report: &Report,
-) -> Result<List<List<u8>>, OutOfMemory>
-    requires fits { FitsEngine plan.now }
-    requires report { report.now ≡ lockstep.report plan.now }
-    ensures { IfOk result (λ texts. texts ≡ map (λ f. further (fill_events plan.now f (last_clock plan.now))) (fifos plan.now)) }
+/// Adds the lines of each FIFO up to the verdict's clock to what is pending, in order of declaration, and writes that in pieces.
+pub(crate) fn write_counters<K: Sink>(
+    pending: &mut List<u8>,
+    core: &Core,
+    sink: &mut K,
+) -> Result<(), TellFault>
+    requires { IsFinal (design_of core.now.plan) core.now.plan.cycles (theory_of core.now) }
+    ensures ok { OnOk result (IsTold (K.held sink.old) (K.held sink.new) pending.new
+        (pending.old ++ further (flat_map (λ f. fill_events core.now.plan f (last_clock core.now.plan)) (fifos core.now.plan)))) }
+    ensures err { OnErr result (AppendsPrefix (K.held sink.old) (K.held sink.new)
+        (pending.old ++ further (flat_map (λ f. fill_events core.now.plan f (last_clock core.now.plan)) (fifos core.now.plan)))) }
+    ensures write_fault { IsErrOf result TellFault.WriteFault → Rose (K.faults sink.old) (K.faults sink.new) }
+    ensures faults { K.faults sink.old ≤ K.faults sink.new }
 {
-    let mut walk = FillWalk::new(alloc, plan, report)?;
-    let mut before = List::from_slice(alloc, walk.fills())?;
-    let numbers = fifo_numbers(alloc, plan.design.channels.as_slice())?;
-    let mut texts = first_lines(alloc, &plan.design, numbers.as_slice(), before.as_slice())?;
-    while let Some(clock) = walk.advance() {
-        let now = walk.fills();
-        print_changes(
-            &mut texts,
-            &plan.design,
-            numbers.as_slice(),
-            clock,
-            before.as_slice(),
-            now,
-        )?;
-        before.as_mut_slice().copy_from_slice(now);
-    }
-    Ok(texts)
-}
-
-/// The numbers of the channels that are FIFOs.
-fn fifo_numbers(alloc: Global, channels: &[Channel]) -> Result<List<u32>, OutOfMemory>
-    requires { length channels.now < 2 ^ 32 }
-    ensures { IfOk result (λ numbers. numbers
-        ≡ filter (λ f. is_fifo (slice_index_or channels.now f no_channel).kind) (range_with_len 0 (length channels.now))) }
-{
-    let mut numbers = List::new(alloc);
-    for (number, channel) in channels.iter().enumerate() {
-        if channel.kind.is_fifo() {
-            numbers.push(number as u32)?;
-        }
-    }
-    Ok(numbers)
-}
-
-/// The line of each FIFO for clock 0, in which it holds so many elements.
-fn first_lines(
-    alloc: Global,
-    design: &Design,
-    numbers: &[u32],
-    fills: &[u64],
-) -> Result<List<List<u8>>, OutOfMemory>
-    requires count { length fills.now ≡ length numbers.now }
-    requires channels { All (λ f. f < length design.now.channels) numbers.now }
-    ensures { IfOk result (λ texts. texts ≡ map (first_line design.now numbers.now fills.now) (range_with_len 0 (length numbers.now))) }
-{
-    let mut texts = List::with_room(alloc, numbers.len() as u64)?;
-    for at in 0..numbers.len() {
-        let mut text = List::new(alloc);
-        print_fill(&mut text, channel_name(design, numbers[at]), 0, fills[at])?;
-        texts.push(text)?;
-    }
-    Ok(texts)
-}
-
-/// Adds a line to the text of each FIFO that holds another number of elements now than before.
-fn print_changes(
-    texts: &mut List<List<u8>>,
-    design: &Design,
-    numbers: &[u32],
-    clock: u64,
-    before: &[u64],
-    now: &[u64],
-) -> Result<(), OutOfMemory>
-    requires texts { length texts.old ≡ length numbers.now }
-    requires now { length now.now ≡ length numbers.now }
-    requires before { length before.now ≡ length numbers.now }
-    requires channels { All (λ f. f < length design.now.channels) numbers.now }
-    ensures { OnOk result (AreTold design.now numbers.now clock before.now now.now (length numbers.now) texts.old texts.new) }
-{
-    for at in 0..numbers.len() {
-        if now[at] != before[at] {
-            print_change(texts, at, channel_name(design, numbers[at]), clock, now[at])?;
-        }
+    let _modules = core.modules();
+    let last = core.verdict().clock();
+    let count = core.plan().design.channels.len() as u32;
+    for channel in 0..count {
+        write_channel(pending, core, channel, last, sink)?;
     }
     Ok(())
 }
 
-/// Adds a line to one of the texts.
-fn print_change(
-    texts: &mut List<List<u8>>,
-    at: usize,
-    name: &[u8],
-    clock: u64,
-    fill: u64,
-) -> Result<(), OutOfMemory>
-    requires { at < length texts.old }
-    ensures { OnOk result (texts.new
-        ≡ slice_set texts.old at (slice_index_or texts.old at [] ++ codes ",\n" ++ fill_event name.now clock fill)) }
+/// Adds the lines of a channel up to the verdict's clock, if it is a FIFO, to what is pending, and writes that in pieces.
+fn write_channel<K: Sink>(
+    pending: &mut List<u8>,
+    core: &Core,
+    channel: u32,
+    last: u64,
+    sink: &mut K,
+) -> Result<(), TellFault>
+    requires is_final { IsFinal (design_of core.now.plan) core.now.plan.cycles (theory_of core.now) }
+    requires channel { channel < length core.now.plan.design.channels }
+    requires last { last ≡ last_clock core.now.plan }
+    ensures ok { OnOk result (IsTold (K.held sink.old) (K.held sink.new) pending.new
+        (pending.old ++ further (if is_fifo (kind_at core.now.plan channel) then fill_events core.now.plan channel last else []))) }
+    ensures err { OnErr result (AppendsPrefix (K.held sink.old) (K.held sink.new)
+        (pending.old ++ further (if is_fifo (kind_at core.now.plan channel) then fill_events core.now.plan channel last else []))) }
+    ensures write_fault { IsErrOf result TellFault.WriteFault → Rose (K.faults sink.old) (K.faults sink.new) }
+    ensures faults { K.faults sink.old ≤ K.faults sink.new }
 {
-    let own = &mut texts.as_mut_slice()[at];
-    print_fill(own, name, clock, fill)
+    let kind = core.plan().design.channels.as_slice()[channel as usize].kind;
+    if !kind.is_fifo() {
+        return Ok(());
+    }
+    write_fifo(pending, core, channel, last, sink)
+}
+
+/// Adds the lines of a FIFO up to the verdict's clock to what is pending, and writes that in pieces: a line for clock 0, and one for each
+/// clock in which it holds another number of elements than in the clock before.
+fn write_fifo<K: Sink>(
+    pending: &mut List<u8>,
+    core: &Core,
+    channel: u32,
+    last: u64,
+    sink: &mut K,
+) -> Result<(), TellFault>
+    requires is_final { IsFinal (design_of core.now.plan) core.now.plan.cycles (theory_of core.now) }
+    requires channel { channel < length core.now.plan.design.channels }
+    requires fifo { IsTrue (is_fifo (kind_at core.now.plan channel)) }
+    requires last { last ≡ last_clock core.now.plan }
+    ensures ok { OnOk result (IsTold (K.held sink.old) (K.held sink.new) pending.new
+        (pending.old ++ further (fill_events core.now.plan channel last))) }
+    ensures err { OnErr result (AppendsPrefix (K.held sink.old) (K.held sink.new)
+        (pending.old ++ further (fill_events core.now.plan channel last))) }
+    ensures write_fault { IsErrOf result TellFault.WriteFault → Rose (K.faults sink.old) (K.faults sink.new) }
+    ensures faults { K.faults sink.old ≤ K.faults sink.new }
+{
+    let _modules = core.modules();
+    let name = channel_name(&core.plan().design, channel);
+    let mut walk = FifoWalk::new(core, channel);
+    let mut held = walk.fill();
+    write_fill(pending, name, 0, held, sink)?;
+    while walk.next() < last {
+        walk.pass(core);
+        let fill = walk.fill();
+        write_change(pending, name, walk.clock(), held, fill, sink)?;
+        held = fill;
+    }
+    Ok(())
 }

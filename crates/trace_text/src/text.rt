@@ -6,13 +6,12 @@ ghost use Rattle.sim_io.specs.Telling.{IsTold};
 ghost use Rattle.event_timing.specs.Actions.{IsFinal};
 ghost use Rattle.timing_bridge.specs.Designs.{design as design_of};
 ghost use Rattle.sim_core.specs.Views.{theory_of};
-ghost use Rattle.fifo_fills.specs.Fills.{fifos, last_clock};
-ghost use Rattle.trace_text.specs.Events.{names_of, span_events, fill_events};
+ghost use Rattle.trace_text.specs.Events.{names_of, span_events};
 ghost use Rattle.trace_text.specs.TraceText.{further, lines_of};
 ghost use Rattle.trace_text.specs.TraceText as form;
 
 use crate::events::{print_name, write_spans};
-use crate::fills::fill_lines;
+use crate::fills::write_counters;
 use flow_design::Design;
 use flow_word::{List, OutOfMemory};
 use report_text::module_name;
@@ -23,8 +22,7 @@ use std::alloc::Global;
 /// Writes the text of the trace of a final core's plan in pieces, and hands out the rest: each module's spans, and how many elements
 /// each FIFO holds in each clock up to the verdict's.
 ///
-/// It takes memory for the spans of one module at a time, for the report with its events, for the lines of the FIFOs, for a number of
-/// each channel and each module, and for a piece of the text. After an error a prefix of the text is written.
+/// It takes memory for the spans of one module at a time, and for a piece of the text. After an error a prefix of the text is written.
 pub fn trace_text<K: Sink>(alloc: Global, core: &Core, sink: &mut K) -> Result<List<u8>, TellFault>
     requires { IsFinal (design_of core.now.plan) core.now.plan.cycles (theory_of core.now) }
     ensures rest { IfOk result (λ rest. IsTold (K.held sink.old) (K.held sink.new) rest (form.trace_text core.now.plan)) }
@@ -36,7 +34,7 @@ pub fn trace_text<K: Sink>(alloc: Global, core: &Core, sink: &mut K) -> Result<L
     let mut pending = List::from_slice(alloc, b"{\"displayTimeUnit\":\"ns\",\"traceEvents\":[")?;
     print_names(&mut pending, &core.plan().design)?;
     write_tracks(alloc, &mut pending, core, sink)?;
-    write_counters(alloc, &mut pending, core, sink)?;
+    write_counters(&mut pending, core, sink)?;
     pending.extend_from_slice(b"\n]}\n")?;
     Ok(pending)
 }
@@ -77,65 +75,5 @@ fn write_tracks<K: Sink>(
         let spans = core.spans(alloc, owner, clock)?;
         write_spans(pending, &core.plan().design, owner, spans.as_slice(), sink)?;
     }
-    Ok(())
-}
-
-/// Adds what each FIFO holds to what is pending, and writes that in pieces.
-fn write_counters<K: Sink>(
-    alloc: Global,
-    pending: &mut List<u8>,
-    core: &Core,
-    sink: &mut K,
-) -> Result<(), TellFault>
-    requires { IsFinal (design_of core.now.plan) core.now.plan.cycles (theory_of core.now) }
-    ensures ok { OnOk result (IsTold (K.held sink.old) (K.held sink.new) pending.new
-        (pending.old ++ further (flat_map (λ f. fill_events core.now.plan f (last_clock core.now.plan)) (fifos core.now.plan)))) }
-    ensures err { OnErr result (AppendsPrefix (K.held sink.old) (K.held sink.new)
-        (pending.old ++ further (flat_map (λ f. fill_events core.now.plan f (last_clock core.now.plan)) (fifos core.now.plan)))) }
-    ensures write_fault { IsErrOf result TellFault.WriteFault → Rose (K.faults sink.old) (K.faults sink.new) }
-    ensures faults { K.faults sink.old ≤ K.faults sink.new }
-{
-    let _modules = core.modules();
-    let report = core.report(alloc, true)?;
-    let counters = fill_lines(alloc, core.plan(), &report)?;
-    for lines in counters.as_slice() {
-        write_lines(pending, lines.as_slice(), sink)?;
-    }
-    Ok(())
-}
-
-/// How many bytes of the lines of a FIFO are added at once, at most.
-const CHUNK: usize = 1 << 16;
-
-/// Adds lines to what is pending, and writes that in pieces.
-fn write_lines<K: Sink>(pending: &mut List<u8>, lines: &[u8], sink: &mut K) -> Result<(), TellFault>
-    ensures ok { OnOk result (IsTold (K.held sink.old) (K.held sink.new) pending.new
-        (pending.old ++ lines.now)) }
-    ensures err { OnErr result (AppendsPrefix (K.held sink.old) (K.held sink.new)
-        (pending.old ++ lines.now)) }
-    ensures write_fault { IsErrOf result TellFault.WriteFault → Rose (K.faults sink.old) (K.faults sink.new) }
-    ensures faults { K.faults sink.old ≤ K.faults sink.new }
-{
-    let mut at = 0;
-    while at < lines.len() {
-        let end = lines.len().min(at + CHUNK);
-        write_chunk(pending, &lines[at..end], sink)?;
-        at = end;
-    }
-    Ok(())
-}
-
-/// Adds a part of lines to what is pending, and writes that where it is a piece.
-#[tactic(auto, using(sim_io::proofs::Pending::prefix_none))]
-fn write_chunk<K: Sink>(pending: &mut List<u8>, chunk: &[u8], sink: &mut K) -> Result<(), TellFault>
-    ensures ok { OnOk result (IsTold (K.held sink.old) (K.held sink.new) pending.new
-        (pending.old ++ chunk.now)) }
-    ensures err { OnErr result (AppendsPrefix (K.held sink.old) (K.held sink.new)
-        (pending.old ++ chunk.now)) }
-    ensures write_fault { IsErrOf result TellFault.WriteFault → Rose (K.faults sink.old) (K.faults sink.new) }
-    ensures faults { K.faults sink.old ≤ K.faults sink.new }
-{
-    pending.extend_from_slice(chunk)?;
-    write_full(sink, pending)?;
     Ok(())
 }

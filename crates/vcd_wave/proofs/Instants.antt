@@ -63,11 +63,6 @@ pub record IsTold (p : Plan) (told clock : ℕ) : Type 0 where
   pub something : 0 < told → instant_at p told ≢ []
   pub nothing : (b : ℕ) → told < b → b ≤ clock → instant_at p b ≡ []
 
-pub record IsTelling (p : Plan) (before : List ℕ) (told clock : ℕ) : Type 0 where
-  pub known : before ≡ fills p clock
-  pub last : IsTold p told clock
-  pub in_time : clock ≤ last_clock p
-
 -- the text with the clocks up to this one
 abbrev pub told_to : Plan → List ℕ → ℕ → List ℕ
 told_to p first clock = first ++ text_of_lines (flat_map instant_lines (instants_to p clock))
@@ -76,90 +71,73 @@ pub told_to_zero : (p : Plan) (first : List ℕ) → first ≡ told_to p first 0
 told_to_zero p first =
     sym (append-nil first) ∙ ap (λ (l : List Instant). first ++ text_of_lines (flat_map instant_lines l)) (sym (instants_zero p))
 
-pub telling_first : (p : Plan) (before : List ℕ) → before ≡ fills p 0 → IsTelling p before 0 0
-telling_first p before e = record {
-  known = e;
-  last = record { within = omega arith; something = λ h. absurd (omega arith); nothing = λ b x y. absurd (omega arith) };
-  in_time = omega arith;
-}
+pub told_first : (p : Plan) → IsTold p 0 0
+told_first p = record { within = omega arith; something = λ h. absurd (omega arith); nothing = λ b x y. absurd (omega arith) }
 
--- the next clock in which the fills may be other
-next_instants : (p : Plan) (c d : ℕ) → IsNextClock p c d
-    → (instants_to p d ≡ instants_to p c ++ instant_of d (changes_between (fills p c) (fills p d)))
-    × (instant_at p d ≡ instant_of d (changes_between (fills p c) (fills p d)))
-next_instants p c d h =
-    let e : (d - 1) + 1 ≡ d = let l = h.later in omega arith in
-    let before = h.steady (d - 1) (let l = h.later in omega arith) (let l = h.later in omega arith) in
-    let quiet = quiet_until p c (d - 1) (let l = h.later in omega arith)
-    (λ b x y. quiet_between p c (d - 1) b (λ z u v. h.steady z u (let l = h.later in omega arith)) x y) in
-    let here = ap (λ (xs : List ℕ). instant_of d (changes_between xs (fills p d))) before in (
-      ap (instants_to p) (sym e)
-          ∙ (instants_more p (d - 1)
-          ∙ (ap₂ (λ (xs ys : List Instant). xs ++ ys) quiet (ap (instant_at p) e ∙ here))),
-      here,
-    )
-
-pub told_to_next : (p : Plan) (first before now : List ℕ) (clock next : ℕ) → before ≡ fills p clock → IsNextClock p clock next
-    → now ≡ fills p next
-    → told_to p first clock ++ text_of_lines (flat_map instant_lines (instant_of next (changes_between before now))) ≡ told_to p first next
-told_to_next p first before now clock next known step is =
-    let here = instant_of next (changes_between (fills p clock) (fills p next)) in
-    ap₂ (λ (xs ys : List ℕ). told_to p first clock ++ text_of_lines (flat_map instant_lines (instant_of next (changes_between xs ys))))
-    known is
-    ∙ (append_assoc first _ _
+-- one clock more
+pub told_to_next : (p : Plan) (first : List ℕ) (clock : ℕ) (changes : List Change)
+    → changes ≡ changes_between (fills p clock) (fills p (clock + 1))
+    → told_to p first clock ++ text_of_lines (flat_map instant_lines (instant_of (clock + 1) changes)) ≡ told_to p first (clock + 1)
+told_to_next p first clock changes are =
+    let back : (clock + 1) - 1 ≡ clock = omega arith in
+    let here : instant_of (clock + 1) changes ≡ instant_at p (clock + 1) =
+    ap (instant_of (clock + 1)) (are ∙ ap (λ (c : ℕ). changes_between (fills p c) (fills p (clock + 1))) (sym back)) in
+    append_assoc first _ _
     ∙ ap (λ (t : List ℕ). first ++ t)
-    (sym (text-append (flat_map instant_lines (instants_to p clock)) (flat_map instant_lines here))
-    ∙ ap text_of_lines (sym (flat_map-append instant_lines (instants_to p clock) here)
-    ∙ ap (flat_map instant_lines) (sym (next_instants p clock next step).0))))
+    (sym (text-append (flat_map instant_lines (instants_to p clock)) (flat_map instant_lines (instant_of (clock + 1) changes)))
+    ∙ ap text_of_lines (sym (flat_map-append instant_lines (instants_to p clock) (instant_of (clock + 1) changes))
+    ∙ ap (flat_map instant_lines) (ap (λ (xs : List Instant). instants_to p clock ++ xs) here ∙ sym (instants_more p clock))))
 
-pub telling_next : (p : Plan) (before now : List ℕ) (told clock next : ℕ) (some : Bool) → IsTelling p before told clock
-    → IsNextClock p clock next → now ≡ fills p next → some ≡ has_some (changes_between before now)
-    → IsTelling p now (cond some next told) next
-telling_next p before now told clock next some h step is s =
-    let both = next_instants p clock next step in
-    let changes = ap₂ changes_between h.known is in
-    record {
-      known = is;
-      last = by_test (changes_between (fills p clock) (fills p next)) some
-          (s ∙ ap (λ (cs : List Change). has_some cs) changes) both.1;
-      in_time = step.within;
-    }
+pub told_next : (p : Plan) (told clock : ℕ) (changes : List Change) (some : Bool) → IsTold p told clock
+    → changes ≡ changes_between (fills p clock) (fills p (clock + 1)) → some ≡ has_some changes
+    → IsTold p (cond some (clock + 1) told) (clock + 1)
+told_next p told clock changes some h are s = by_test changes some s here
   where
-    quiet_here : (b : ℕ) → clock < b → b < next → instant_at p b ≡ []
-    quiet_here b x y = quiet_between p clock (next - 1) b (λ z u v. step.steady z u (let l = step.later in omega arith)) x (omega arith)
+    here : instant_at p (clock + 1) ≡ instant_of (clock + 1) changes
+    here =
+        let back : (clock + 1) - 1 ≡ clock = omega arith in
+        sym (ap (instant_of (clock + 1)) (are ∙ ap (λ (c : ℕ). changes_between (fills p c) (fills p (clock + 1))) (sym back)))
 
-    by_test : (cs : List Change) (b : Bool) → b ≡ has_some cs → instant_at p next ≡ instant_of next cs → IsTold p (cond b next told) next
-    by_test [] b e i = subst (λ (x : Bool). IsTold p (cond x next told) next) (sym e) (record {
-      within = let a = h.last.within in let l = step.later in omega arith;
-      something = h.last.something;
+    by_test : (cs : List Change) (b : Bool) → b ≡ has_some cs → instant_at p (clock + 1) ≡ instant_of (clock + 1) cs
+        → IsTold p (cond b (clock + 1) told) (clock + 1)
+    by_test [] b e i = subst (λ (x : Bool). IsTold p (cond x (clock + 1) told) (clock + 1)) (sym e) (record {
+      within = let a = h.within in omega arith;
+      something = h.something;
       nothing = λ b x y. elim (cases_lt clock b) [
-        | inl after ↦ (elim (cases_lt b next) [
-          | inl less ↦ quiet_here b after less
-          | inr more ↦ (let same : b ≡ next = omega arith in ap (instant_at p) same ∙ i)
-        ])
-        | inr early ↦ h.last.nothing b x early
+        | inl after ↦ (let same : b ≡ clock + 1 = omega arith in ap (instant_at p) same ∙ i)
+        | inr early ↦ h.nothing b x early
       ];
     })
-    by_test (x ∷ xs) b e i = subst (λ (y : Bool). IsTold p (cond y next told) next) (sym e) (something_here x xs i)
+    by_test (x ∷ xs) b e i = subst (λ (y : Bool). IsTold p (cond y (clock + 1) told) (clock + 1)) (sym e) (something_here x xs i)
       where
-        something_here : (x : Change) (xs : List Change) → instant_at p next ≡ instant_of next (x ∷ xs) → IsTold p next next
+        something_here : (x : Change) (xs : List Change) → instant_at p (clock + 1) ≡ instant_of (clock + 1) (x ∷ xs)
+            → IsTold p (clock + 1) (clock + 1)
         something_here x xs i = record {
           within = omega arith;
           something = λ l none. let wrong = sym i ∙ none in cc;
           nothing = λ b y z. absurd (omega arith);
         }
 
--- ---- the end
+-- later clocks in which the fills are the same
+abbrev pub AreSame : Plan → ℕ → ℕ → Type 0
+AreSame p c d = (b : ℕ) → c ≤ b → b ≤ d → fills p b ≡ fills p c
 
-told_all : (p : Plan) (c told : ℕ) → IsTold p told c → c ≤ last_clock p → AreSteady p c (last_clock p) → IsTold p told (last_clock p)
-told_all p c told h l steady = record {
+pub told_to_later : (p : Plan) (first : List ℕ) (c d : ℕ) → c ≤ d → AreSame p c d → told_to p first c ≡ told_to p first d
+told_to_later p first c d l same =
+    ap (λ (xs : List Instant). first ++ text_of_lines (flat_map instant_lines xs))
+    (sym (quiet_until p c d l (λ b x y. quiet_between p c d b same x y)))
+
+pub told_later : (p : Plan) (told c d : ℕ) → IsTold p told c → c ≤ d → AreSame p c d → IsTold p told d
+told_later p told c d h l same = record {
   within = let a = h.within in omega arith;
   something = h.something;
   nothing = λ b x y. elim (cases_lt c b) [
-    | inl after ↦ quiet_between p c (last_clock p) b steady after y
+    | inl after ↦ quiet_between p c d b same after y
     | inr early ↦ h.nothing b x early
   ];
 }
+
+-- ---- the end
 
 pub closing_none : (p : Plan) (last : ℕ) → ((0 < last) → instant_at p last ≢ []) → closing p last ≡ []
 closing_none p last h =
@@ -200,31 +178,21 @@ later_rest p first c most =
           ∙ (ap (λ (l : List Instant). l ++ closing p (last_clock p)) (instants_rest p c most) ∙ sym (later_is p))))),
     )
 
--- after the loop: the text has all changes
-told_changes : (p : Plan) (first before : List ℕ) (told clock : ℕ) → IsTelling p before told clock → AreSteady p clock (last_clock p)
-    → told_to p first clock ≡ told_to p first (last_clock p)
-told_changes p first before told clock h steady =
-    ap (λ (l : List Instant). first ++ text_of_lines (flat_map instant_lines l))
-    (sym (quiet_until p clock (last_clock p) h.in_time (λ b x y. quiet_between p clock (last_clock p) b steady x y)))
-
-pub told_whole : (p : Plan) (first before : List ℕ) (told clock last : ℕ) → last ≡ last_clock p → IsTelling p before told clock
-    → AreSteady p clock (last_clock p) → last ≤ told
-    → told_to p first clock ≡ first ++ text_of_lines (flat_map instant_lines (wave_of p).later)
-told_whole p first before told clock last is h steady done =
-    let all = told_all p clock told h.last h.in_time steady in
-    let same : told ≡ last_clock p = let a = all.within in omega arith in
-    told_changes p first before told clock h steady
+-- the last clock has its line already, and has it not
+pub told_whole : (p : Plan) (first : List ℕ) (told last : ℕ) → last ≡ last_clock p → IsTold p told last → last ≤ told
+    → told_to p first last ≡ first ++ text_of_lines (flat_map instant_lines (wave_of p).later)
+told_whole p first told last is h done =
+    let same : told ≡ last_clock p = let a = h.within in omega arith in
+    ap (λ (n : ℕ). told_to p first n) is
     ∙ ap (λ (l : List Instant). first ++ text_of_lines (flat_map instant_lines l))
     (sym (later_is p ∙ (ap (λ (l : List Instant). instants_to p (last_clock p) ++ l)
-    (closing_none p (last_clock p) (λ l none. all.something (omega arith) (ap (instant_at p) same ∙ none))) ∙ append-nil _)))
+    (closing_none p (last_clock p) (λ l none. h.something (omega arith) (ap (instant_at p) same ∙ none))) ∙ append-nil _)))
 
-pub told_closing : (p : Plan) (first before : List ℕ) (told clock last : ℕ) → last ≡ last_clock p → IsTelling p before told clock
-    → AreSteady p clock (last_clock p) → told < last
-    → told_to p first clock ++ line (time_tokens last) ≡ first ++ text_of_lines (flat_map instant_lines (wave_of p).later)
-told_closing p first before told clock last is h steady open_end =
-    let all = told_all p clock told h.last h.in_time steady in
+pub told_closing : (p : Plan) (first : List ℕ) (told last : ℕ) → last ≡ last_clock p → IsTold p told last → told < last
+    → told_to p first last ++ line (time_tokens last) ≡ first ++ text_of_lines (flat_map instant_lines (wave_of p).later)
+told_closing p first told last is h open_end =
     let final : List Instant = record { clock = last_clock p; changes = [] } ∷ [] in
-    ap₂ (λ (t : List ℕ) (n : ℕ). t ++ line (time_tokens n)) (told_changes p first before told clock h steady) is
+    ap (λ (n : ℕ). told_to p first n ++ line (time_tokens n)) is
     ∙ (ap (λ (t : List ℕ). told_to p first (last_clock p) ++ t) (sym (append-nil (line (time_tokens (last_clock p)))))
     ∙ (append_assoc first _ _
     ∙ ap (λ (t : List ℕ). first ++ t)
@@ -233,41 +201,7 @@ told_closing p first before told clock last is h steady open_end =
     (sym (flat_map-append instant_lines (instants_to p (last_clock p)) final)
     ∙ ap (flat_map instant_lines)
     (ap (λ (l : List Instant). instants_to p (last_clock p) ++ l)
-    (sym (closing_some p (last_clock p) (omega arith) (all.nothing (last_clock p) (omega arith) (omega arith)))) ∙ sym (later_is p))))))
-
--- ---- as the code has it
-
-pub count_same : (p q : Plan) (c d : ℕ) → q ≡ p → length (fills p c) ≡ length (fills q d)
-count_same p q c d e =
-    length-map (fifos p) (λ f. fill p f c)
-    ∙ (ap (λ (x : Plan). length (fifos x)) (sym e) ∙ sym (length-map (fifos q) (λ f. fill q f d)))
-
-pub telling_kept : (p q r : Plan) (before copied now known : List ℕ) (told clock next later told_now : ℕ) (some : Bool) → q ≡ p → r ≡ q
-    → IsTelling p before told clock → IsNextClock q clock next → later ≡ next → now ≡ fills r later → known ≡ before
-    → some ≡ has_some (changes_between known now) → length copied ≡ length before → copied ≡ now → told_now ≡ cond some next told
-    → IsTelling p (refill (length before) before copied) told_now later
-telling_kept p q r before copied now known told clock next later told_now some e f h step at is k s count c t =
-    let step_here : IsNextClock p clock next = subst (λ (x : Plan). IsNextClock x clock next) e step in
-    let now_is : now ≡ fills p next = is ∙ ap₂ fills (f ∙ e) at in
-    let whole = telling_next p before now told clock next some h step_here now_is
-    (s ∙ ap (λ (xs : List ℕ). has_some (changes_between xs now)) k) in
-    let filled : refill (length before) before copied ≡ now = take_at copied (drop (length copied) before) (length before) count ∙ c in
-    subst (λ (x : ℕ). IsTelling p (refill (length before) before copied) told_now x) (sym at)
-    (subst (λ (x : ℕ). IsTelling p (refill (length before) before copied) x next) (sym t)
-    (subst (λ (xs : List ℕ). IsTelling p xs (cond some next told) next) (sym filled) whole))
-
--- the text with the next clock, as the code has that
-pub told_kept : (p q r : Plan) (first before now known : List ℕ) (told clock next later : ℕ) → q ≡ p → r ≡ q → IsTelling p before told clock
-    → IsNextClock q clock next → later ≡ next → now ≡ fills r later → known ≡ before
-    → told_to p first clock ++ text_of_lines (flat_map instant_lines (instant_of next (changes_between known now))) ≡ told_to p first later
-told_kept p q r first before now known told clock next later e f h step at is k =
-    told_to_next p first known now clock next (k ∙ h.known) (subst (λ (x : Plan). IsNextClock x clock next) e step)
-    (is ∙ ap₂ fills (f ∙ e) at)
-    ∙ ap (told_to p first) (sym at)
-
-pub last_is : (p : Plan) (r : Report) (last : ℕ) → r ≡ report p → last ≡ clock_of r.verdict → last ≡ last_clock p
-unfolding report
-last_is p r last e f = f ∙ ap (λ (x : Report). clock_of x.verdict) e
+    (sym (closing_some p (last_clock p) (omega arith) (h.nothing (last_clock p) (omega arith) (omega arith)))) ∙ sym (later_is p))))))
 
 pub wave_is : (p : Plan) (names : List (List ℕ)) → names ≡ fifo_names p.design.channels
     → record { names = names; later = (wave_of p).later } ≡ wave_of p

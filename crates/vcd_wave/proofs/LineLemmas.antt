@@ -12,6 +12,8 @@ use Rattle.std.proofs.lemmas.List.{append-nil, map-append, take_more, length-tak
 use Rattle.flow_design.specs.declared.design.Channel.{Channel}
 use Rattle.flow_design.specs.Plans.{is_fifo}
 use Rattle.report_text.specs.Lines.{Token, line, text_of_lines}
+use Rattle.vcd_wave.specs.declared.walk.FillChange.{FillChange}
+use Rattle.vcd_wave.specs.Walks.{change_of}
 use Rattle.vcd_wave.specs.Wave.{Change, Instant, fifo_names, differs, changes_between, instant_of, has_some}
 use Rattle.report_text.proofs.LineLemmas.{line_of_four, text-append}
 use Rattle.vcd_wave.specs.WaveText.{code_of, var_tokens, time_tokens, change_tokens, instant_lines, opening, header_lines, wave_text}
@@ -147,24 +149,14 @@ changes_more before now n b e =
     by_test true f = ap (λ (t : Bool). map (λ i. let x : Change = record { fifo = i; fill = get_or now i 0 } in x) (cond t (n ∷ []) [])) f
     by_test false f = ap (λ (t : Bool). map (λ i. let x : Change = record { fifo = i; fill = get_or now i 0 } in x) (cond t (n ∷ []) [])) f
 
-pub changes_yes : (first before now : List ℕ) (n v : ℕ) → v ≡ get_or now n 0 → v ≢ get_or before n 0
-    → (first ++ text_of_lines (map change_tokens (changes_to before now n))) ++ line (change_tokens (record { fifo = n; fill = v }))
-    ≡ first ++ text_of_lines (map change_tokens (changes_to before now (n + 1)))
-changes_yes first before now n v is other =
-    let here : differs before now n ≡ true =
-    ap not (ne_eqb (get_or now n 0) (get_or before n 0) (λ e. other (is ∙ e))) in
-    ap (λ (x : ℕ). (first ++ text_of_lines (map change_tokens (changes_to before now n))) ++ line
-    (change_tokens (record { fifo = n; fill = x }))) is
-    ∙ (mapped_push change_tokens first (changes_to before now n) (record { fifo = n; fill = get_or now n 0 })
-    ∙ ap (λ (xs : List Change). first ++ text_of_lines (map change_tokens xs)) (sym (changes_more before now n true here)))
-
-pub changes_no : (first before now : List ℕ) (n v : ℕ) → v ≡ get_or now n 0 → v ≡ get_or before n 0
-    → first ++ text_of_lines (map change_tokens (changes_to before now n))
-    ≡ first ++ text_of_lines (map change_tokens (changes_to before now (n + 1)))
-changes_no first before now n v is same =
-    let here : differs before now n ≡ false = ap not (eq-eqb (get_or now n 0) (get_or before n 0) (sym is ∙ same)) in
-    ap (λ (xs : List Change). first ++ text_of_lines (map change_tokens xs))
-    (sym (changes_more before now n false here ∙ append-nil _))
+-- the line of one change more
+pub changes_push : (first : List ℕ) (cs : List FillChange) (k : ℕ) (d : FillChange) → k < length cs
+    → (first ++ text_of_lines (map change_tokens (map change_of (take k cs)))) ++ line (change_tokens (change_of (get_or cs k d)))
+    ≡ first ++ text_of_lines (map change_tokens (map change_of (take (k + 1) cs)))
+changes_push first cs k d l =
+    mapped_push change_tokens first (map change_of (take k cs)) (change_of (get_or cs k d))
+    ∙ ap (λ (xs : List Change). first ++ text_of_lines (map change_tokens xs))
+    (sym (ap (map change_of) (take_more cs k d l) ∙ map-append change_of (take k cs) (get_or cs k d ∷ [])))
 
 -- ---- whether there is a change
 
@@ -177,37 +169,6 @@ none_same xs = none (length xs)
         let e : suc n ≡ n + 1 = omega arith in
         ap (changes_to xs xs) e
         ∙ (changes_more xs xs n false (ap not (eq-eqb (get_or xs n 0) (get_or xs n 0) refl)) ∙ (append-nil _ ∙ none n))
-
-pub same_from_none : (before now : List ℕ) → length before ≡ length now → changes_between before now ≡ [] → before ≡ now
-same_from_none before now count none =
-    ext_get_or 0 before now count (λ i l. same (length now) none i (omega arith))
-  where
-    shorter : (xs ys : List Change) → xs ++ ys ≡ [] → (xs ≡ []) × (ys ≡ [])
-    shorter [] ys e = (refl, e)
-    shorter (x ∷ xs) ys e = cc
-
-    here : (x : Change) (b : Bool) → cond b (x ∷ []) [] ≡ [] → b ≡ false
-    here x true h = cc
-    here x false h = refl
-
-    same : (n : ℕ) → changes_to before now n ≡ [] → (i : ℕ) → i < n → get_or before i 0 ≡ get_or now i 0
-    same zero e i l = absurd (omega arith)
-    same (suc n) e i l =
-        let next : n + 1 ≡ suc n = omega arith in
-        let x : Change = record { fifo = n; fill = get_or now n 0 } in
-        let parts = shorter (changes_to before now n) (cond (differs before now n) (x ∷ []) [])
-        (sym (changes_more before now n (differs before now n) refl) ∙ (ap (changes_to before now) next ∙ e)) in
-        elim (cases_eq i n) [
-          | inl at ↦ (let equal = here x (differs before now n) parts.1 in
-              ap (λ (k : ℕ). get_or before k 0) at
-              ∙ (sym (eqb-true (get_or now n 0) (get_or before n 0) (not_false (get_or now n 0 == get_or before n 0) equal))
-              ∙ ap (λ (k : ℕ). get_or now k 0) (sym at)))
-          | inr apart ↦ same n parts.0 i (omega arith)
-        ]
-      where
-        not_false : (b : Bool) → not b ≡ false → b ≡ true
-        not_false true h = refl
-        not_false false h = cc
 
 -- ---- results
 
@@ -240,34 +201,6 @@ header_text a b c d names p q r =
 abbrev instant_text : ℕ → List Change → List ℕ
 instant_text clock cs = text_of_lines (flat_map instant_lines (instant_of clock cs))
 
--- whether two lists of fills are other: then there is a change
-same_by : (xs ys : List ℕ) → pointwise eqb xs ys ≡ true → xs ≡ ys
-same_by [] [] h = refl
-same_by [] (y ∷ ys) h = cc
-same_by (x ∷ xs) [] h = cc
-same_by (x ∷ xs) (y ∷ ys) h =
-    let parts = and_parts (eqb x y) (pointwise eqb xs ys) h in
-    ap₂ (λ (z : ℕ) (zs : List ℕ). z ∷ zs) (eqb-true x y parts.0) (same_by xs ys parts.1)
-
-by_same : (xs : List ℕ) → pointwise eqb xs xs ≡ true
-by_same [] = refl
-by_same (x ∷ xs) = ap₂ (λ (a b : Bool). a && b) (eq-eqb x x refl) (by_same xs)
-
-pub some_by : (before now : List ℕ) (some : Bool) → length before ≡ length now → some ≡ not (pointwise eqb before now)
-    → some ≡ has_some (changes_between before now)
-some_by before now some count e = e ∙ by_list (pointwise eqb before now) refl (changes_between before now) refl
-  where
-    by_list : (b : Bool) → pointwise eqb before now ≡ b → (cs : List Change) → changes_between before now ≡ cs → not b ≡ has_some cs
-    by_list true h [] f = refl
-    by_list true h (x ∷ xs) f =
-        let none = subst (λ (ys : List ℕ). changes_between before ys ≡ []) (same_by before now h) (none_same before) in
-        let wrong = sym none ∙ f in cc
-    by_list false h [] f =
-        let same = same_from_none before now count f in
-        let all = subst (λ (ys : List ℕ). pointwise eqb before ys ≡ true) same (by_same before) in
-        let wrong = sym h ∙ all in cc
-    by_list false h (x ∷ xs) f = refl
-
 pub instant_some : (a b c : List ℕ) (clock : ℕ) (cs : List Change) → true ≡ has_some cs → b ≡ a ++ line (time_tokens clock)
     → c ≡ b ++ text_of_lines (map change_tokens cs) → c ≡ a ++ instant_text clock cs
 instant_some a b c clock [] some p q = cc
@@ -275,6 +208,12 @@ instant_some a b c clock (x ∷ xs) some p q =
     q ∙ (ap (λ (t : List ℕ). t ++ text_of_lines (map change_tokens (x ∷ xs))) p
     ∙ (append_assoc a (line (time_tokens clock)) (text_of_lines (map change_tokens (x ∷ xs)))
     ∙ ap (λ (ls : List (List Token)). a ++ text_of_lines ls) (sym (append-nil (time_tokens clock ∷ map change_tokens (x ∷ xs))))))
+
+pub none_told : (cs : List FillChange) → true ≡ (length cs == 0) → false ≡ has_some (map change_of cs)
+none_told [] e = refl
+none_told (c ∷ cs) e =
+    let some = ne_eqb (length (c ∷ cs)) 0 (λ w. omega arith) in
+    let wrong = e ∙ some in cc
 
 pub instant_none : (a : List ℕ) (clock : ℕ) (cs : List Change) → false ≡ has_some cs → a ≡ a ++ instant_text clock cs
 instant_none a clock [] some = sym (append-nil a)

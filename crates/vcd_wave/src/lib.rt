@@ -5,6 +5,7 @@ mod binary;
 mod laws;
 mod lines;
 mod text;
+mod walk;
 
 pub use laws::waves_tell_fills;
 pub use text::wave_text;

@@ -4,10 +4,12 @@ ghost use Rattle.std.specs.List.{flat_map, enumerate_from};
 ghost use Rattle.sim_io.specs.Causes.{AppendsPrefix, Rose};
 ghost use Rattle.sim_io.specs.Telling.{IsTold};
 ghost use Rattle.report_text.specs.Lines.{line, text_of_lines};
-ghost use Rattle.vcd_wave.specs.Wave.{fifo_names, changes_between, has_some, instant_of};
+ghost use Rattle.vcd_wave.specs.Wave.{fifo_names, has_some, instant_of};
+ghost use Rattle.vcd_wave.specs.Walks.{change_of};
 ghost use Rattle.vcd_wave.specs.WaveText.{code_of, var_tokens, time_tokens, change_tokens, header_lines, opening, instant_lines};
 
 use crate::binary::push_binary;
+use crate::walk::FillChange;
 use flow_design::Channel;
 use flow_word::{List, OutOfMemory};
 use report_text::{push_number, push_token};
@@ -89,58 +91,51 @@ pub fn print_opening(text: &mut List<u8>, count: u64) -> Result<(), OutOfMemory>
     Ok(())
 }
 
-/// Adds the lines of the FIFOs that hold another number of elements now than before.
-fn print_changes(text: &mut List<u8>, before: &[u64], now: &[u64]) -> Result<(), OutOfMemory>
-    requires { length before.now ≡ length now.now }
-    ensures { OnOk result (text.new ≡ text.old ++ text_of_lines (map change_tokens (changes_between before.now now.now))) }
-{
-    for (fifo, fill) in now.iter().enumerate() {
-        if *fill != before[fifo] {
-            print_change(text, fifo as u64, *fill)?;
-        }
-    }
-    Ok(())
-}
-
 /// Adds a clock with its changes, if there is any, and returns whether there is.
 fn print_instant(
     text: &mut List<u8>,
     clock: u64,
-    before: &[u64],
-    now: &[u64],
+    changes: &[FillChange],
 ) -> Result<bool, OutOfMemory>
-    requires { length before.now ≡ length now.now }
     ensures text { OnOk result (text.new
-        ≡ text.old ++ text_of_lines (flat_map instant_lines (instant_of clock (changes_between before.now now.now)))) }
-    ensures some { IfOk result (λ some. some ≡ has_some (changes_between before.now now.now)) }
+        ≡ text.old ++ text_of_lines (flat_map instant_lines (instant_of clock (map change_of changes.now)))) }
+    ensures some { IfOk result (λ some. some ≡ has_some (map change_of changes.now)) }
 {
-    let some = before != now;
+    let some = !changes.is_empty();
     if some {
         print_time(text, clock)?;
-        print_changes(text, before, now)?;
+        print_changes(text, changes)?;
     }
     Ok(some)
 }
 
+/// Adds the lines of changes.
+fn print_changes(text: &mut List<u8>, changes: &[FillChange]) -> Result<(), OutOfMemory>
+    ensures { OnOk result (text.new ≡ text.old ++ text_of_lines (map change_tokens (map change_of changes.now))) }
+{
+    for change in changes {
+        print_change(text, change.fifo, change.fill)?;
+    }
+    Ok(())
+}
+
 /// Adds a clock with its changes, if there is any, to what is pending, writes that where it is a piece, and returns whether there is.
 #[tactic(auto, using(sim_io::proofs::Pending::prefix_none))]
-pub fn write_instant<K: Sink>(
+pub(crate) fn write_instant<K: Sink>(
     pending: &mut List<u8>,
     clock: u64,
-    before: &[u64],
-    now: &[u64],
+    changes: &[FillChange],
     sink: &mut K,
 ) -> Result<bool, TellFault>
-    requires { length before.now ≡ length now.now }
     ensures ok { OnOk result (IsTold (K.held sink.old) (K.held sink.new) pending.new
-        (pending.old ++ text_of_lines (flat_map instant_lines (instant_of clock (changes_between before.now now.now))))) }
-    ensures some { IfOk result (λ some. some ≡ has_some (changes_between before.now now.now)) }
+        (pending.old ++ text_of_lines (flat_map instant_lines (instant_of clock (map change_of changes.now))))) }
+    ensures some { IfOk result (λ some. some ≡ has_some (map change_of changes.now)) }
     ensures err { OnErr result (AppendsPrefix (K.held sink.old) (K.held sink.new)
-        (pending.old ++ text_of_lines (flat_map instant_lines (instant_of clock (changes_between before.now now.now))))) }
+        (pending.old ++ text_of_lines (flat_map instant_lines (instant_of clock (map change_of changes.now))))) }
     ensures write_fault { IsErrOf result TellFault.WriteFault → Rose (K.faults sink.old) (K.faults sink.new) }
     ensures faults { K.faults sink.old ≤ K.faults sink.new }
 {
-    let some = print_instant(pending, clock, before, now)?;
+    let some = print_instant(pending, clock, changes)?;
     write_full(sink, pending)?;
     Ok(some)
 }

@@ -3,8 +3,6 @@ ghost use Rattle.std.specs.Prelude.{◌≡◌, ◌≤◌, ◌++◌, IfOk, IsErrO
 ghost use Rattle.sim_io.specs.Causes.{AppendsPrefix, Rose};
 ghost use Rattle.sim_io.specs.Telling.{IsTold};
 ghost use Rattle.std.specs.List.{flat_map};
-ghost use Rattle.flow_design.specs.StaticRules.{FitsEngine};
-ghost use Rattle.lockstep_defs.specs.Report as lockstep;
 ghost use Rattle.event_timing.specs.Actions.{IsFinal};
 ghost use Rattle.timing_bridge.specs.Designs.{design as design_of};
 ghost use Rattle.sim_core.specs.Views.{theory_of};
@@ -14,8 +12,8 @@ ghost use Rattle.vcd_wave.specs.Wave.{wave_of, instants_to, closing};
 ghost use Rattle.vcd_wave.specs.WaveText as form;
 
 use crate::lines::{print_header, print_opening, print_time, write_instant};
-use fifo_fills::FillWalk;
-use flow_design::{Design, Plan, Report};
+use crate::walk::{fifo_walks, next_clock, pass_clock};
+use flow_design::Design;
 use flow_word::List;
 use sim_core::Core;
 use sim_io::{Sink, TellFault};
@@ -24,8 +22,8 @@ use std::alloc::Global;
 /// Writes the text of the wave of a final core's plan, whose design this is, in pieces, and hands out the rest: how many elements each
 /// FIFO holds in each clock up to the verdict's.
 ///
-/// It takes memory for the report with its events, for a number of each channel and each module, and for a piece of the text. After an
-/// error a prefix of the text is written.
+/// It takes memory for six numbers of each FIFO, for the changes of one clock, and for a piece of the text. After an error a prefix of the
+/// text is written.
 pub fn wave_text<K: Sink>(
     alloc: Global,
     design: &Design,
@@ -40,11 +38,10 @@ pub fn wave_text<K: Sink>(
     ensures faults { K.faults sink.old ≤ K.faults sink.new }
 {
     let _modules = core.modules();
-    let report = core.report(alloc, true)?;
     let mut pending = List::new(alloc);
     let fifos = print_header(&mut pending, design.channels.as_slice())?;
     print_opening(&mut pending, fifos)?;
-    write_later(alloc, &mut pending, core.plan(), &report, sink)?;
+    write_later(alloc, &mut pending, core, sink)?;
     Ok(pending)
 }
 
@@ -53,30 +50,30 @@ pub fn wave_text<K: Sink>(
 fn write_later<K: Sink>(
     alloc: Global,
     pending: &mut List<u8>,
-    plan: &Plan,
-    report: &Report,
+    core: &Core,
     sink: &mut K,
 ) -> Result<(), TellFault>
-    requires fits { FitsEngine plan.now }
-    requires report { report.now ≡ lockstep.report plan.now }
+    requires { IsFinal (design_of core.now.plan) core.now.plan.cycles (theory_of core.now) }
     ensures ok { OnOk result (IsTold (K.held sink.old) (K.held sink.new) pending.new
-        (pending.old ++ text_of_lines (flat_map form.instant_lines (wave_of plan.now).later))) }
+        (pending.old ++ text_of_lines (flat_map form.instant_lines (wave_of core.now.plan).later))) }
     ensures err { OnErr result (AppendsPrefix (K.held sink.old) (K.held sink.new)
-        (pending.old ++ text_of_lines (flat_map form.instant_lines (wave_of plan.now).later))) }
+        (pending.old ++ text_of_lines (flat_map form.instant_lines (wave_of core.now.plan).later))) }
     ensures write_fault { IsErrOf result TellFault.WriteFault → Rose (K.faults sink.old) (K.faults sink.new) }
     ensures faults { K.faults sink.old ≤ K.faults sink.new }
 {
-    let mut walk = FillWalk::new(alloc, plan, report)?;
-    let mut before = List::from_slice(alloc, walk.fills())?;
+    let _modules = core.modules();
+    let last = core.verdict().clock();
+    let mut walks = fifo_walks(alloc, core)?;
+    let mut changes = List::new(alloc);
     let mut told = 0;
-    while let Some(clock) = walk.advance() {
-        let now = walk.fills();
-        if write_instant(pending, clock, before.as_slice(), now, sink)? {
-            told = clock;
+    let mut clock = next_clock(walks.as_slice());
+    while clock < last {
+        pass_clock(core, &mut walks, clock, &mut changes)?;
+        if write_instant(pending, clock + 1, changes.as_slice(), sink)? {
+            told = clock + 1;
         }
-        before.as_mut_slice().copy_from_slice(now);
+        clock = next_clock(walks.as_slice());
     }
-    let last = report.verdict.clock();
     if told < last {
         print_time(pending, last)?;
     }

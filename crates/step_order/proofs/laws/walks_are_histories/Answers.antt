@@ -1,4 +1,5 @@
 use Rattle.step_order.proofs.Walking.{walk_begins, walk_passes, walk_skips, walk_goes_on, walk_ends}
+use Rattle.step_order.proofs.Leading.{walk_leads}
 use Rattle.step_order.proofs.laws.walks_are_histories.Goals as goal
 
 pub returns-clause-begins : goal.returns-clause-begins
@@ -15,3 +16,6 @@ returns-clause-goes_on c = walk_goes_on
 
 pub returns-clause-ends : goal.returns-clause-ends
 returns-clause-ends c = walk_ends
+
+pub returns-clause-leads : goal.returns-clause-leads
+returns-clause-leads c = walk_leads

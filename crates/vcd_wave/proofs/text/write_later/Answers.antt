@@ -1,111 +1,175 @@
-use Rattle.std.proofs.Common.{sym, ◌∙◌, ◌≡◌, ap, subst, arith, ℕ, ◌≤◌, refl, Bool, List, ◌++◌, cond, length}
-use Rattle.fifo_fills.specs.Fills.{fills, last_clock, AreSteady, IsNextClock}
+use Rattle.std.proofs.Common.{sym, ◌∙◌, ◌≡◌, ap, subst, arith, ℕ, ◌+◌, ◌<◌, ◌≤◌, refl, Bool, List, ◌++◌, cond, min, map}
+use Rattle.std.specs.List.{flat_map}
 use Rattle.flow_design.specs.declared.plan.Plan.{Plan}
+use Rattle.flow_design.specs.StaticRules.{FitsEngine}
+use Rattle.flow_design.specs.Reports.{clock_of}
 use Rattle.flow_design.proofs.Failing.{on_err}
-use Rattle.fifo_fills.specs.Walks.{AtClock}
+use Rattle.fifo_fills.specs.Fills.{fills, last_clock}
+use Rattle.port_clocks.specs.declared.walk.FifoWalk.{FifoWalk}
+use Rattle.report_text.specs.Lines.{text_of_lines}
+use Rattle.sim_io.specs.Telling.{IsTold}
 use Rattle.sim_io.proofs.Pending.{prefix_as, prefix_none, told_as, told_more, told_none, told_prefix, told_prefix_more}
 use Rattle.sim_io.proofs.Pending.{told_kept as pending_kept}
-use Rattle.sim_io.specs.Telling.{IsTold}
-use Rattle.report_text.specs.Lines.{text_of_lines}
-use Rattle.std.specs.List.{flat_map}
-use Rattle.vcd_wave.specs.Wave.{wave_of}
+use Rattle.vcd_wave.specs.Wave.{Change, wave_of, instant_of, changes_between}
 use Rattle.vcd_wave.specs.WaveText.{instant_lines}
-use Rattle.vcd_wave.proofs.Instants.{telling_first, told_whole, told_closing, telling_kept, told_kept, told_to_zero, later_rest, last_is}
-use Rattle.vcd_wave.proofs.Instants.{count_same, IsTelling, told_to}
+use Rattle.vcd_wave.specs.Walks.{AreWalks, least_next, change_of}
+use Rattle.vcd_wave.proofs.Walking.{goes_on}
+use Rattle.vcd_wave.proofs.Instants as instants
+use Rattle.vcd_wave.proofs.Instants.{told_to, told_to_zero, told_first, told_to_next, told_next, told_to_later, told_later, later_rest}
+use Rattle.vcd_wave.proofs.Instants.{told_whole, told_closing}
 use Rattle.vcd_wave.proofs.text.write_later.Goals as goal
 use Rattle.vcd_wave.proofs.text.write_later.Goals.{then-branch, else-branch, then-told-last+in_ok-print_time, else-told-last}
 
-pub returns-in_err-walk-clause-err : goal.returns-in_err-walk-clause-err
-returns-in_err-walk-clause-err g c = on_err _ (prefix_none _ _)
+-- ---- one clock, as the code has it
 
-pub returns-in_err-before-clause-err : goal.returns-in_err-before-clause-err
-returns-in_err-before-clause-err g c = on_err _ (prefix_none _ _)
+at_clock : (clock last : ℕ) → clock < last → min clock last ≡ clock
+at_clock clock last l = omega arith
+
+-- what is told up to the next clock, behind a clock in which the walks stand
+module _ (p : Plan) (fits : FitsEngine p) (first : List ℕ) (ws : List FifoWalk) (c clock last : ℕ) (h : AreWalks p c ws) (within : c ≤ last)
+    (is : last ≡ last_clock p) (least : clock ≡ least_next ws) where
+  next_walks : AreWalks p (min clock last) ws
+  next_walks = (goes_on p fits c clock last ws h within is least).walks
+
+  next_told : (told : ℕ) → instants.IsTold p told c → instants.IsTold p told (min clock last)
+  next_told told t =
+      let on = goes_on p fits c clock last ws h within is least in
+      told_later p told c (min clock last) t on.later on.same
+
+  next_text : told_to p first c ≡ told_to p first (min clock last)
+  next_text =
+      let on = goes_on p fits c clock last ws h within is least in
+      told_to_later p first c (min clock last) on.later on.same
+
+pub returns-in_err-walks-clause-err : goal.returns-in_err-walks-clause-err
+returns-in_err-walks-clause-err g c = on_err _ (prefix_none _ _)
 
 pub loop-clock-init : goal.loop-clock-init
 loop-clock-init g c =
-    let at : c.in_ok-walk.walk ≡ record { plan = c.args.plan.now; clock = 0 } = c.in_ok-walk.ensures in
-    let plan_is = ap (λ (w : AtClock). w.plan) at in
-    let clock_is = ap (λ (w : AtClock). w.clock) at in
+    let p = c.args.core.now.plan in
+    let fits = c.modules-modules.ensures.fits in
+    let last : c.clock-last.result ≡ last_clock p = c.clock-last.ensures ∙ ap clock_of c.verdict.ensures in
+    let least = c.next_clock-clock.ensures ∙ ap least_next c.as_slice.ensures in
     record {
-      plan = plan_is;
-      telling = subst (λ (n : ℕ). IsTelling c.args.plan.now c.in_ok-before.before 0 n) (sym clock_is)
-          (telling_first c.args.plan.now c.in_ok-before.before
-          (c.in_ok-before.ensures ∙ (c.fills.ensures ∙ ap (λ (w : AtClock). fills w.plan w.clock) at)));
+      walks = next_walks p fits c.args.pending.now c.in_ok-walks.walks 0 c.next_clock-clock.result c.clock-last.result c.in_ok-walks.ensures
+          (omega arith) last least;
+      least = least;
+      told = next_told p fits c.args.pending.now c.in_ok-walks.walks 0 c.next_clock-clock.result c.clock-last.result c.in_ok-walks.ensures
+          (omega arith) last least 0 (told_first p);
       text = told_as _ _ _ _ _ (told_none _ c.args.pending.now)
-          (told_to_zero c.args.plan.now c.args.pending.now ∙ ap (told_to c.args.plan.now c.args.pending.now) (sym clock_is));
+          (told_to_zero p c.args.pending.now
+          ∙ next_text p fits c.args.pending.now c.in_ok-walks.walks 0 c.next_clock-clock.result c.clock-last.result c.in_ok-walks.ensures
+          (omega arith) last least);
       faults = omega arith;
     }
 
-pub write_instant-requires : goal.write_instant-requires
-write_instant-requires g c =
-    ap length (c.as_slice.ensures ∙ c.loop-clock.invariant.telling.known)
-    ∙ (count_same c.args.plan.now c.advance.new.self.plan c.loop-clock.walk.clock c.advance.new.self.clock
-    (c.in-Some.ensures.plan ∙ c.loop-clock.invariant.plan)
-    ∙ sym (ap length c.fills-now.ensures))
+-- the text with one clock more
+clock_told : (p : Plan) (first : List ℕ) (clock last : ℕ) (changes : List Change) → clock < last
+    → changes ≡ changes_between (fills p clock) (fills p (clock + 1))
+    → told_to p first (min clock last) ++ text_of_lines (flat_map instant_lines (instant_of (clock + 1) changes))
+    ≡ told_to p first (clock + 1)
+clock_told p first clock last changes l are =
+    ap (λ (n : ℕ). told_to p first n ++ text_of_lines (flat_map instant_lines (instant_of (clock + 1) changes))) (at_clock clock last l)
+    ∙ told_to_next p first clock changes are
+
+pub pass_clock-requires-clause-walks : goal.pass_clock-requires-clause-walks
+pass_clock-requires-clause-walks g c =
+    subst (λ (n : ℕ). AreWalks c.args.core.now.plan n c.loop-clock.walks)
+    (at_clock c.loop-clock.clock c.clock-last.result c.loop-clock-test.true) c.loop-clock.invariant.walks
+
+pub pass_clock-requires-clause-within : goal.pass_clock-requires-clause-within
+pass_clock-requires-clause-within g c =
+    let last : c.clock-last.result ≡ last_clock c.args.core.now.plan = c.clock-last.ensures ∙ ap clock_of c.verdict.ensures in
+    let early = c.loop-clock-test.true in
+    omega arith
 
 pub loop-clock-preserved : goal.loop-clock-preserved
 loop-clock-preserved g c =
-    let told : c.if-branch.told ≡ cond c.in_ok-write_instant.field-0 c.in-Some.clock c.loop-clock.told =
+    let p = c.args.core.now.plan in
+    let fits = c.modules-modules.ensures.fits in
+    let first = c.args.pending.now in
+    let at = c.loop-clock.clock in
+    let end = c.clock-last.result in
+    let early : at < end = c.loop-clock-test.true in
+    let last : end ≡ last_clock p = c.clock-last.ensures ∙ ap clock_of c.verdict.ensures in
+    let next = c.next_clock-clock-in-loop-clock.result in
+    let least = c.next_clock-clock-in-loop-clock.ensures ∙ ap least_next c.as_slice-in-loop-clock-2.ensures in
+    let changes = ap (map change_of) c.as_slice-in-loop-clock.ensures ∙ c.in_ok-pass_clock.ensures.changes in
+    let told : c.if-branch.told ≡ cond c.in_ok-write_instant.field-0 (at + 1) c.loop-clock.told =
     elim c.if-branch.branch [
-      | then-branch w ↦ w.told-is ∙ sym (ap (λ (b : Bool). cond b c.in-Some.clock c.loop-clock.told) w.if-branch.true)
-      | else-branch w ↦ w.told-is ∙ sym (ap (λ (b : Bool). cond b c.in-Some.clock c.loop-clock.told) w.if-branch.false)
+      | then-branch w ↦ w.told-is ∙ sym (ap (λ (b : Bool). cond b (at + 1) c.loop-clock.told) w.if-branch.true)
+      | else-branch w ↦ w.told-is ∙ sym (ap (λ (b : Bool). cond b (at + 1) c.loop-clock.told) w.if-branch.false)
     ] in
-    let plan = c.loop-clock.invariant.plan in
-    let same = c.in-Some.ensures.plan in
-    let telling = c.loop-clock.invariant.telling in
+    let was = subst (λ (n : ℕ). instants.IsTold p c.loop-clock.told n) (at_clock at end early) c.loop-clock.invariant.told in
+    let now = told_next p c.loop-clock.told at _ c.in_ok-write_instant.field-0 was changes c.in_ok-write_instant.ensures.some in
     record {
-      plan = same ∙ plan;
-      telling = telling_kept c.args.plan.now c.loop-clock.walk.plan c.advance.new.self.plan c.loop-clock.before
-          c.copy_from_slice.new.self c.fills-now.result.now c.as_slice.result.now c.loop-clock.told c.loop-clock.walk.clock
-          c.in-Some.clock c.advance.new.self.clock c.if-branch.told c.in_ok-write_instant.field-0 plan same telling
-          c.in-Some.ensures.next c.in-Some.ensures.stands c.fills-now.ensures c.as_slice.ensures c.in_ok-write_instant.ensures.some
-          (c.copy_from_slice.ensures.len ∙ ap length c.as_mut_slice.ensures.value) c.copy_from_slice.ensures.after told;
+      walks = next_walks p fits first c.pass_clock.new.walks (at + 1) next end c.in_ok-pass_clock.ensures.walks (omega arith) last least;
+      least = least;
+      told = subst (λ (n : ℕ). instants.IsTold p n (min next end)) (sym told)
+          (next_told p fits first c.pass_clock.new.walks (at + 1) next end c.in_ok-pass_clock.ensures.walks (omega arith) last least _ now);
       text = told_as _ _ _ _ _ (told_more _ _ _ _ _ _ _ c.loop-clock.invariant.text c.in_ok-write_instant.ensures.ok)
-          (told_kept c.args.plan.now c.loop-clock.walk.plan c.advance.new.self.plan c.args.pending.now c.loop-clock.before
-          c.fills-now.result.now c.as_slice.result.now c.loop-clock.told c.loop-clock.walk.clock c.in-Some.clock c.advance.new.self.clock
-          plan same telling c.in-Some.ensures.next c.in-Some.ensures.stands c.fills-now.ensures c.as_slice.ensures);
+          (clock_told p first at end _ early changes
+          ∙ next_text p fits first c.pass_clock.new.walks (at + 1) next end c.in_ok-pass_clock.ensures.walks (omega arith) last least);
       faults = omega (arith, c.loop-clock.invariant.faults, c.in_ok-write_instant.ensures.faults);
     }
 
+pub loop-clock-smaller : goal.loop-clock-smaller
+loop-clock-smaller g c =
+    let p = c.args.core.now.plan in
+    let at = c.loop-clock.clock in
+    let end = c.clock-last.result in
+    let early : at < end = c.loop-clock-test.true in
+    let last : end ≡ last_clock p = c.clock-last.ensures ∙ ap clock_of c.verdict.ensures in
+    let next = c.next_clock-clock-in-loop-clock.result in
+    let least = c.next_clock-clock-in-loop-clock.ensures ∙ ap least_next c.as_slice-in-loop-clock-2.ensures in
+    let on = goes_on p c.modules-modules.ensures.fits (at + 1) next end c.pass_clock.new.walks c.in_ok-pass_clock.ensures.walks (omega arith)
+    last least in
+    let later : at + 1 ≤ min next end = on.later in
+    omega arith
+
+pub returns-in_err-pass_clock-clause-err : goal.returns-in_err-pass_clock-clause-err
+returns-in_err-pass_clock-clause-err g c =
+    let p = c.args.core.now.plan in
+    let last : c.clock-last.result ≡ last_clock p = c.clock-last.ensures ∙ ap clock_of c.verdict.ensures in
+    let whole = later_rest p c.args.pending.now (min c.loop-clock.clock c.clock-last.result) (omega arith) in
+    on_err _ (prefix_as _ _ _ _ (told_prefix _ _ _ _ whole.0 c.loop-clock.invariant.text) whole.1)
+
 pub returns-in_err-write_instant-clause-err : goal.returns-in_err-write_instant-clause-err
 returns-in_err-write_instant-clause-err g c =
-    let p = c.args.plan.now in
+    let p = c.args.core.now.plan in
     let first = c.args.pending.now in
-    let plan = c.loop-clock.invariant.plan in
-    let step : IsNextClock p c.loop-clock.walk.clock c.in-Some.clock =
-    subst (λ (x : Plan). IsNextClock x c.loop-clock.walk.clock c.in-Some.clock) plan c.in-Some.ensures.next in
-    let at = c.in-Some.ensures.stands in
-    let in_time : c.advance.new.self.clock ≤ last_clock p = let l = step.within in omega (arith, at, l) in
-    let whole = later_rest p first c.advance.new.self.clock in_time in
+    let at = c.loop-clock.clock in
+    let end = c.clock-last.result in
+    let early : at < end = c.loop-clock-test.true in
+    let last : end ≡ last_clock p = c.clock-last.ensures ∙ ap clock_of c.verdict.ensures in
+    let changes = ap (map change_of) c.as_slice-in-loop-clock.ensures ∙ c.in_ok-pass_clock.ensures.changes in
+    let whole = later_rest p first (at + 1) (omega arith) in
     on_err _ (prefix_as _ _ _ _ (told_prefix_more _ _ _ _ _ _ whole.0 c.loop-clock.invariant.text c.in_err-write_instant.ensures.err)
-    (ap (λ (t : List ℕ). t ++ whole.0)
-    (told_kept p c.loop-clock.walk.plan c.advance.new.self.plan first c.loop-clock.before c.fills-now.result.now c.as_slice.result.now
-    c.loop-clock.told c.loop-clock.walk.clock c.in-Some.clock c.advance.new.self.clock plan c.in-Some.ensures.plan
-    c.loop-clock.invariant.telling c.in-Some.ensures.next at c.fills-now.ensures c.as_slice.ensures)
-    ∙ whole.1))
+    (ap (λ (t : List ℕ). t ++ whole.0) (clock_told p first at end _ early changes) ∙ whole.1))
 
 pub returns-in_err-print_time-clause-err : goal.returns-in_err-print_time-clause-err
 returns-in_err-print_time-clause-err g c =
-    let whole = later_rest c.args.plan.now c.args.pending.now c.loop-clock.walk.clock c.loop-clock.invariant.telling.in_time in
+    let p = c.args.core.now.plan in
+    let last : c.clock-last.result ≡ last_clock p = c.clock-last.ensures ∙ ap clock_of c.verdict.ensures in
+    let whole = later_rest p c.args.pending.now (min c.loop-clock.clock c.clock-last.result) (omega arith) in
     on_err _ (prefix_as _ _ _ _ (told_prefix _ _ _ _ whole.0 c.loop-clock.invariant.text) whole.1)
 
 pub returns-clause-ok : goal.returns-clause-ok
 returns-clause-ok g c =
-    let p = c.args.plan.now in
+    let p = c.args.core.now.plan in
     let first = c.args.pending.now in
-    let last = last_is p c.args.report.now c.clock-last.result c.requires.report c.clock-last.ensures in
-    let steady : AreSteady p c.loop-clock.walk.clock (last_clock p) =
-    subst (λ (x : Plan). AreSteady x c.loop-clock.walk.clock (last_clock x)) c.loop-clock.invariant.plan (c.in_default.ensures.end refl) in
-    let telling = c.loop-clock.invariant.telling in
+    let end = c.clock-last.result in
+    let last : end ≡ last_clock p = c.clock-last.ensures ∙ ap clock_of c.verdict.ensures in
+    let over : end ≤ c.loop-clock.clock = c.loop-clock-test.false in
+    let at : min c.loop-clock.clock end ≡ end = omega arith in
+    let told = subst (λ (n : ℕ). instants.IsTold p c.loop-clock.told n) at c.loop-clock.invariant.told in
+    let text = told_as _ _ _ _ _ c.loop-clock.invariant.text (ap (told_to p first) at) in
     let sent = IsTold (g.K.Sink.held c.args.sink.now) (g.K.Sink.held c.loop-clock.sink) in
     let whole = first ++ text_of_lines (flat_map instant_lines (wave_of p).later) in
     elim c.if-told-last.branch [
       | then-told-last+in_ok-print_time w ↦ subst (λ (t : List ℕ). sent t whole) (sym w.pending-is)
-          (told_as _ _ _ _ _ (pending_kept _ _ _ _ _ _ c.loop-clock.invariant.text w.in_ok-print_time.ensures)
-          (told_closing p first c.loop-clock.before c.loop-clock.told c.loop-clock.walk.clock c.clock-last.result last telling steady
-          w.if-told-last.true))
+          (told_as _ _ _ _ _ (pending_kept _ _ _ _ _ _ text w.in_ok-print_time.ensures)
+          (told_closing p first c.loop-clock.told end last told w.if-told-last.true))
       | else-told-last w ↦ subst (λ (t : List ℕ). sent t whole) (sym w.pending-is)
-          (told_as _ _ _ _ _ c.loop-clock.invariant.text
-          (told_whole p first c.loop-clock.before c.loop-clock.told c.loop-clock.walk.clock c.clock-last.result last telling steady
-          w.if-told-last.false))
+          (told_as _ _ _ _ _ text (told_whole p first c.loop-clock.told end last told w.if-told-last.false))
     ]

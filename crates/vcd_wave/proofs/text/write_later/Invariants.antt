@@ -1,16 +1,19 @@
-use Rattle.std.proofs.Common.{◌≡◌, ◌≤◌, ◌-◌}
+use Rattle.std.proofs.Common.{◌≡◌, ◌≤◌, ◌-◌, min}
 use Rattle.sim_io.specs.Telling.{IsTold}
 use Rattle.fifo_fills.specs.Fills.{last_clock}
-use Rattle.vcd_wave.proofs.Instants.{IsTelling, told_to}
+use Rattle.vcd_wave.specs.Walks.{AreWalks, least_next}
+use Rattle.vcd_wave.proofs.Instants.{told_to}
+use Rattle.vcd_wave.proofs.Instants as instants
 use Rattle.vcd_wave.proofs.text.write_later.Given as goal
 
 abbrev pub invariant-loop-clock : goal.invariant-loop-clock
 invariant-loop-clock g l = record {
-  plan : l.walk.plan ≡ l.plan;
-  telling : IsTelling l.plan l.before l.told l.walk.clock;
-  text : IsTold (g.K.Sink.held l.fn.sink) (g.K.Sink.held l.sink) l.pending (told_to l.plan l.fn.pending l.walk.clock);
+  walks : AreWalks l.core.plan (min l.clock l.last) l.walks;
+  least : l.clock ≡ least_next l.walks;
+  told : instants.IsTold l.core.plan l.told (min l.clock l.last);
+  text : IsTold (g.K.Sink.held l.fn.sink) (g.K.Sink.held l.sink) l.pending (told_to l.core.plan l.fn.pending (min l.clock l.last));
   faults : g.K.Sink.faults l.fn.sink ≤ g.K.Sink.faults l.sink;
 }
 
 abbrev pub decreases-loop-clock : goal.decreases-loop-clock
-decreases-loop-clock g l = last_clock l.plan - l.walk.clock
+decreases-loop-clock g l = l.last - l.clock

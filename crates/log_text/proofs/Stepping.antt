@@ -1,0 +1,88 @@
+-- The lines of the steps that a walk has given, one step after the other.
+use Rattle.std.proofs.Common.{◌≡◌, ℕ, List, [], ◌∷◌, ◌++◌, map, refl, sym, ◌∙◌, ap, ap₂, subst, Option, append-nil}
+use Rattle.std.specs.Prelude.{All}
+use Rattle.std.specs.List.{flat_map}
+use Rattle.std.proofs.lemmas.List.{map-append}
+use Rattle.std.proofs.lemmas.List.Elements.{All-cons, All-nil}
+use Rattle.event_graph.specs.Lanes.{Lane, IsSoundLane}
+use Rattle.flow_design.specs.declared.plan.Plan.{Plan}
+use Rattle.flow_design.specs.declared.state.Advance.{Advance}
+use Rattle.flow_design.specs.Reports.{clock_of}
+use Rattle.lockstep_defs.specs.Channels.{HistoryStep}
+use Rattle.lockstep_defs.specs.Laws.{HasNumbersOf}
+use Rattle.lockstep_defs.specs.Lockstep.{history}
+use Rattle.lockstep_defs.specs.Report.{report}
+use Rattle.lockstep_defs.specs.Verdict.{verdict}
+use Rattle.timing_bridge.specs.Designs.{design}
+use Rattle.timing_bridge.specs.CoreReports.{steps_at}
+use Rattle.engine_view.specs.Held.{Held, core_of}
+use Rattle.engine_report.specs.declared.events.TimedStep.{TimedStep}
+use Rattle.engine_report.specs.Finished.{IsFinished}
+use Rattle.engine_report.specs.Keys.{place_of, IsTimedKey}
+use Rattle.report_text.specs.Lines.{text_of_lines}
+use Rattle.sim_core.specs.declared.access_log.LoggedAccess.{LoggedAccess}
+use Rattle.sim_core.specs.AccessLog.{log_of, logged_at, logged_in}
+use Rattle.sim_core.proofs.AccessLogs.{all_logged}
+use Rattle.sim_io.specs.Telling.{IsTold}
+use Rattle.sim_io.proofs.Pending.{told_as, told_more}
+use Rattle.step_walk.specs.declared.walk.StepWalk.{StepWalk}
+use Rattle.step_walk.specs.Walking.{IsWalk, HasGiven}
+use Rattle.step_walk.proofs.Giving.{given_first}
+use Rattle.log_text.specs.LogText.{access_tokens, IsNamed}
+use Rattle.log_text.proofs.Lines.{step_lines, steps_more, history_lines}
+use Rattle.log_text.proofs.Named.{part_named}
+
+-- what these keys stand for
+abbrev pub steps_by : Plan → Held → List TimedStep → List HistoryStep
+steps_by p h keys = steps_at p (core_of (design p) h) (map place_of keys)
+
+-- the lines of the steps that the walk has given are told
+pub record IsTelling (p : Plan) (h : Held) (walk : StepWalk) (old new : Option (List ℕ)) (pending first : List ℕ) : Type 0 where
+  pub keys : List TimedStep
+  pub given : HasGiven h.lanes walk keys
+  pub text : IsTold old new pending (first ++ step_lines p (steps_by p h keys))
+
+steps_both : (p : Plan) (h : Held) (keys : List TimedStep) (key : TimedStep)
+    → steps_by p h (keys ++ key ∷ []) ≡ steps_by p h keys ++ steps_by p h (key ∷ [])
+steps_both p h keys key =
+    ap (steps_at p (core_of (design p) h)) (map-append place_of keys (key ∷ []))
+    ∙ map-append _ (map place_of keys) (place_of key ∷ [])
+
+module _ (p : Plan) (h : Held) (ends : List (Option Advance)) (f : IsFinished p h ends) where
+  -- what was read of a step is its part of the log
+  pub step_read : (key : TimedStep) → IsTimedKey h.lanes key → (log : List LoggedAccess) → log ≡ [] ++ logged_at h key
+      → log ≡ logged_in (steps_by p h (key ∷ []))
+  step_read key timed log is =
+      is ∙ (sym (append-nil (logged_at h key))
+      ∙ all_logged p h f.sound f.agreed (key ∷ []) (All-cons (IsTimedKey h.lanes) key [] timed (All-nil (IsTimedKey h.lanes))))
+
+  module _ (lanes_sound : All IsSoundLane h.lanes) where
+    -- the text behind the steps that were given begins the whole
+    pub rest_of : (walk : StepWalk) → IsWalk h.lanes walk → (first : List ℕ) (keys : List TimedStep) → HasGiven h.lanes walk keys
+        → (rest : List ℕ)
+        × ((first ++ step_lines p (steps_by p h keys)) ++ rest ≡ first ++ text_of_lines (map (access_tokens p.design) (log_of p)))
+    rest_of walk w first keys given =
+        let (more, are) = given_first h.lanes lanes_sound walk w keys given p h ends f refl in (
+          step_lines p more,
+          steps_more p first (steps_by p h keys) more
+              ∙ ap (λ (t : List ℕ). first ++ t) (ap (step_lines p) are ∙ history_lines p),
+        )
+
+    -- a step that was given is one of the plan
+    pub step_named : HasNumbersOf p (report p) → (walk : StepWalk) → IsWalk h.lanes walk → (keys : List TimedStep) (key : TimedStep)
+        → HasGiven h.lanes walk (keys ++ key ∷ []) → All (IsNamed p.design) (logged_in (steps_by p h (key ∷ [])))
+    step_named numbers walk w keys key given =
+        let (more, are) = given_first h.lanes lanes_sound walk w (keys ++ key ∷ []) given p h ends f refl in
+        part_named p numbers (steps_by p h keys) (steps_by p h (key ∷ [])) more
+        (ap (λ (steps : List HistoryStep). steps ++ more) (sym (steps_both p h keys key)) ∙ are)
+
+-- one step more
+pub text_more : (p q : Plan) (h : Held) (first : List ℕ) (keys : List TimedStep) (key : TimedStep) (log read : List LoggedAccess)
+    → log ≡ logged_in (steps_by p h (key ∷ [])) → read ≡ log → q ≡ p
+    → (first ++ step_lines p (steps_by p h keys)) ++ text_of_lines (map (access_tokens q.design) read)
+    ≡ first ++ step_lines p (steps_by p h (keys ++ key ∷ []))
+text_more p q h first keys key log read is same plan =
+    ap₂ (λ (x : Plan) (xs : List LoggedAccess). (first ++ step_lines p (steps_by p h keys)) ++ text_of_lines (map (access_tokens x.design) xs))
+    plan (same ∙ is)
+    ∙ (steps_more p first (steps_by p h keys) (steps_by p h (key ∷ []))
+    ∙ ap (λ (steps : List HistoryStep). first ++ step_lines p steps) (sym (steps_both p h keys key)))

@@ -1,0 +1,145 @@
+//! A walk over the clocks in which elements pass a FIFO.
+ghost use Rattle.std.specs.Prelude.{◌≡◌, ℕ, ◌+◌, ◌<◌, ◌≤◌, IsTrue, length};
+ghost use Rattle.flow_word.specs.declared.access.Side.TheVariants.{Pop, Push};
+ghost use Rattle.flow_design.specs.declared.plan.Plan.{Plan};
+ghost use Rattle.flow_design.specs.Plans.{is_fifo, kind_at};
+ghost use Rattle.flow_design.specs.StaticRules.{FitsEngine};
+ghost use Rattle.event_timing.specs.Actions.{IsFinal};
+ghost use Rattle.timing_bridge.specs.Designs.{design};
+ghost use Rattle.sim_core.specs.Views.{theory_of};
+ghost use Rattle.fifo_fills.specs.Fills.{fill, last_clock};
+ghost use Rattle.port_clocks.specs.Walks.{next_of, PassesAt, StandsAt, IsFifoWalk};
+
+use crate::reading::cycle_at;
+use flow_word::{Port, Side};
+use sim_core::Core;
+
+/// The clock of an element that does not pass a port: later than each clock.
+const NEVER: u64 = u64::MAX;
+
+/// Where a walk over the clocks of a port stands.
+#[derive(Clone, Copy, Debug, PartialEq, Eq)]
+pub(crate) struct PortWalk {
+    /// How many elements passed the port before the walk's clock.
+    pub(crate) count: u64,
+    /// The clock in which the next one passes.
+    pub(crate) next: u64,
+}
+
+/// A walk over the clocks of a FIFO in a final core's plan, up to the verdict's. It stands at a clock, at first at clock 0, and knows
+/// what the FIFO holds there, and in which clock the next element is popped off it or pushed on it.
+#[derive(Clone, Copy, Debug, PartialEq, Eq)]
+pub struct FifoWalk {
+    pub(crate) channel: u32,
+    pub(crate) clock: u64,
+    pub(crate) pops: PortWalk,
+    pub(crate) pushes: PortWalk,
+}
+
+impl FifoWalk {
+    /// At clock 0 of a FIFO. It takes no memory.
+    pub fn new(core: &Core, channel: u32) -> FifoWalk
+        requires is_final { IsFinal (design core.now.plan) core.now.plan.cycles (theory_of core.now) }
+        requires channel { channel < length core.now.plan.design.channels }
+        requires fifo { IsTrue (is_fifo (kind_at core.now.plan channel)) }
+        ensures walk { IsFifoWalk core.now.plan result }
+        ensures channel { result.channel ≡ channel }
+        ensures clock { result.clock ≡ 0 }
+    {
+        FifoWalk {
+            channel,
+            clock: 0,
+            pops: first(core, channel, Side::Pop),
+            pushes: first(core, channel, Side::Push),
+        }
+    }
+
+    /// The clock at which it stands.
+    pub fn clock(&self) -> u64
+        ensures { result ≡ self.now.clock }
+    {
+        self.clock
+    }
+
+    /// The clock of the next pop or push; the verdict's clock or a later one where there is none.
+    pub fn next(&self) -> u64
+        ensures { result ≡ next_of self.now }
+    {
+        self.pops.next.min(self.pushes.next)
+    }
+
+    /// How many elements the FIFO holds where the walk stands, those under way included, and in each clock up to the one of the next
+    /// pop or push.
+    pub fn fill(&self) -> u64
+        ensures { (p : Plan) → FitsEngine p → IsFifoWalk p self.now → (clock : ℕ) → self.now.clock ≤ clock → clock ≤ next_of self.now
+            → clock ≤ last_clock p → result ≡ fill p self.now.channel clock }
+    {
+        self.pushes.count.saturating_sub(self.pops.count)
+    }
+
+    /// Goes on to the clock right after the next pop or push, which comes before the verdict's clock. It looks at one step for each
+    /// element that passes, and takes no memory.
+    pub fn pass(&mut self, core: &Core)
+        requires is_final { IsFinal (design core.now.plan) core.now.plan.cycles (theory_of core.now) }
+        requires walk { IsFifoWalk core.now.plan self.old }
+        requires more { next_of self.old < last_clock core.now.plan }
+        ensures walk { IsFifoWalk core.now.plan self.new }
+        ensures channel { self.new.channel ≡ self.old.channel }
+        ensures clock { self.new.clock ≡ next_of self.old + 1 }
+    {
+        let _modules = core.modules();
+        let clock = self.next();
+        self.pops = pass_port(core, port_of(self.channel, Side::Pop), self.pops, clock);
+        self.pushes = pass_port(core, port_of(self.channel, Side::Push), self.pushes, clock);
+        self.clock = clock + 1;
+    }
+}
+
+/// A channel's port.
+fn port_of(channel: u32, side: Side) -> Port
+    ensures { result ≡ record { side = side; channel = channel } }
+{
+    Port { side, channel }
+}
+
+/// A port at clock 0.
+fn first(core: &Core, channel: u32, side: Side) -> PortWalk
+    requires is_final { IsFinal (design core.now.plan) core.now.plan.cycles (theory_of core.now) }
+    requires channel { channel < length core.now.plan.design.channels }
+    ensures { StandsAt core.now.plan (record { side = side; channel = channel }) 0 result }
+{
+    PortWalk {
+        count: 0,
+        next: clock_of(core, port_of(channel, side), 0),
+    }
+}
+
+/// A port right after a clock, from a walk that stands at that.
+fn pass_port(core: &Core, port: Port, walk: PortWalk, clock: u64) -> PortWalk
+    requires is_final { IsFinal (design core.now.plan) core.now.plan.cycles (theory_of core.now) }
+    requires channel { port.channel < length core.now.plan.design.channels }
+    requires stands { StandsAt core.now.plan port clock walk }
+    requires early { clock ≤ walk.next }
+    requires within { clock < last_clock core.now.plan }
+    ensures { StandsAt core.now.plan port (clock + 1) result }
+{
+    let _modules = core.modules();
+    if walk.next != clock {
+        return walk;
+    }
+    let count = walk.count + 1;
+    PortWalk {
+        count,
+        next: clock_of(core, port, count),
+    }
+}
+
+/// The clock in which the element of this number passes a port; `NEVER` where it does not.
+fn clock_of(core: &Core, port: Port, number: u64) -> u64
+    requires is_final { IsFinal (design core.now.plan) core.now.plan.cycles (theory_of core.now) }
+    requires channel { port.channel < length core.now.plan.design.channels }
+    ensures { PassesAt core.now.plan port number result }
+{
+    let _ends = core.ends();
+    cycle_at(core.engine(), port, number).unwrap_or(NEVER)
+}

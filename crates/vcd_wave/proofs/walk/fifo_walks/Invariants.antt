@@ -1,0 +1,13 @@
+use Rattle.std.proofs.Common.{◌≡◌, map}
+use Rattle.std.specs.Prelude.{All}
+use Rattle.std.specs.List.{filter, range_with_len}
+use Rattle.flow_design.specs.Plans.{is_fifo, kind_at}
+use Rattle.vcd_wave.specs.Walks.{StandsBy}
+use Rattle.vcd_wave.proofs.walk.fifo_walks.Given as goal
+
+abbrev pub invariant-loop-number : goal.invariant-loop-number
+invariant-loop-number l = record {
+  channels : map (λ w. w.channel) l.walks
+      ≡ filter (λ f. is_fifo (kind_at l.core.plan f)) (range_with_len 0 l.number);
+  each : All (StandsBy l.core.plan 0) l.walks;
+}

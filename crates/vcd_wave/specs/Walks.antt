@@ -1,0 +1,36 @@
+-- Walks over the clocks of all FIFOs of a plan, beside one another.
+use Rattle.std.specs.Prelude.{ℕ, ◌≡◌, ◌<◌, ◌≤◌, ◌==◌, min, fold, if◌then◌else◌, Option, Some, None, List, [], ◌∷◌, All, map}
+use Rattle.flow_design.specs.declared.plan.Plan.{Plan}
+use Rattle.fifo_fills.specs.Fills.{fifos}
+use Rattle.port_clocks.specs.declared.walk.FifoWalk.{FifoWalk}
+use Rattle.port_clocks.specs.Walks.{IsFifoWalk, never, next_of}
+use Rattle.vcd_wave.specs.declared.walk.FillChange.{FillChange}
+use Rattle.vcd_wave.specs.Wave.{Change}
+
+-- from where the walk stands up to this clock nothing is popped or pushed
+pub record StandsBy (p : Plan) (clock : ℕ) (walk : FifoWalk) : Type 0 where
+  pub is_walk : IsFifoWalk p walk
+  pub from : walk.clock ≤ clock
+  pub until : clock ≤ next_of walk
+
+-- one of each FIFO
+pub record AreWalks (p : Plan) (clock : ℕ) (walks : List FifoWalk) : Type 0 where
+  pub channels : map (λ (w : FifoWalk). w.channel) walks ≡ fifos p
+  pub each : All (StandsBy p clock) walks
+
+-- the clock of the next pop or push of any of them
+abbrev pub least_next : List FifoWalk → ℕ
+least_next walks = fold (λ least w. min least (next_of w)) never walks
+
+-- what a FIFO holds now, where it held another number of elements before
+abbrev pub other_fill : ℕ → ℕ → Option ℕ
+other_fill before now = if now == before then None else Some now
+
+-- a change, as the wave has it
+abbrev pub change_of : FillChange → Change
+change_of c = record { fifo = c.fifo; fill = c.fill }
+
+-- that of this FIFO, if there is one
+abbrev pub change_if : ℕ → Option ℕ → List Change
+change_if fifo None = []
+change_if fifo (Some fill) = record { fifo = fifo; fill = fill } ∷ []

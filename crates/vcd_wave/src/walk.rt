@@ -1,0 +1,117 @@
+//! A walk over the clocks of all FIFOs.
+ghost use Rattle.std.specs.Prelude.{◌≡◌, ◌+◌, ◌<◌, ◌≤◌, ◌++◌, [], IfOk, OnOk, length, map, slice_set};
+ghost use Rattle.event_timing.specs.Actions.{IsFinal};
+ghost use Rattle.timing_bridge.specs.Designs.{design};
+ghost use Rattle.sim_core.specs.Views.{theory_of};
+ghost use Rattle.fifo_fills.specs.Fills.{fill, fills, last_clock};
+ghost use Rattle.vcd_wave.specs.Wave.{changes_between};
+ghost use Rattle.vcd_wave.specs.Walks.{AreWalks, StandsBy, least_next, change_if, change_of, other_fill};
+
+use flow_word::{List, OutOfMemory};
+use port_clocks::FifoWalk;
+use sim_core::Core;
+use std::alloc::Global;
+
+/// What a FIFO holds, where that changes.
+#[derive(Clone, Copy, Debug, PartialEq, Eq)]
+pub(crate) struct FillChange {
+    /// The FIFO's number, from 0 on in order of declaration.
+    pub(crate) fifo: u64,
+    /// How many elements it holds now.
+    pub(crate) fill: u64,
+}
+
+/// A walk over the clocks of each FIFO of a final core's plan, in order of declaration, all at clock 0.
+pub(crate) fn fifo_walks(alloc: Global, core: &Core) -> Result<List<FifoWalk>, OutOfMemory>
+    requires { IsFinal (design core.now.plan) core.now.plan.cycles (theory_of core.now) }
+    ensures { IfOk result (AreWalks core.now.plan 0) }
+{
+    let _modules = core.modules();
+    let channels = core.plan().design.channels.as_slice();
+    let mut walks = List::new(alloc);
+    for (number, channel) in channels.iter().enumerate() {
+        if channel.kind.is_fifo() {
+            walks.push(FifoWalk::new(core, number as u32))?;
+        }
+    }
+    Ok(walks)
+}
+
+/// The clock of the next pop or push of any FIFO; the verdict's clock or a later one where there is none.
+pub(crate) fn next_clock(walks: &[FifoWalk]) -> u64
+    ensures { result ≡ least_next walks.now }
+{
+    let mut least = u64::MAX;
+    for walk in walks {
+        least = least.min(walk.next());
+    }
+    least
+}
+
+/// Goes on to the clock right after this one, up to which nothing was popped or pushed. The changes are then those of the FIFOs that
+/// hold another number of elements than in this clock, in place of those that were there.
+pub(crate) fn pass_clock(
+    core: &Core,
+    walks: &mut List<FifoWalk>,
+    clock: u64,
+    changes: &mut List<FillChange>,
+) -> Result<(), OutOfMemory>
+    requires is_final { IsFinal (design core.now.plan) core.now.plan.cycles (theory_of core.now) }
+    requires walks { AreWalks core.now.plan clock walks.old }
+    requires within { clock < last_clock core.now.plan }
+    ensures walks { OnOk result (AreWalks core.now.plan (clock + 1) walks.new) }
+    ensures changes { OnOk result (map change_of changes.new
+        ≡ changes_between (fills core.now.plan clock) (fills core.now.plan (clock + 1))) }
+{
+    let _modules = core.modules();
+    changes.truncate(0);
+    for fifo in 0..walks.len() {
+        let mut walk = walks.as_slice()[fifo as usize];
+        let fill = pass_fifo(core, &mut walk, clock);
+        put(walks, fifo, walk);
+        push_change(changes, fifo, fill)?;
+    }
+    Ok(())
+}
+
+/// Adds what a FIFO holds, where that changed.
+fn push_change(
+    changes: &mut List<FillChange>,
+    fifo: u64,
+    fill: Option<u64>,
+) -> Result<(), OutOfMemory>
+    ensures { OnOk result (map change_of changes.new ≡ map change_of changes.old ++ change_if fifo fill) }
+{
+    match fill {
+        Some(fill) => changes.push(FillChange { fifo, fill }),
+        None => Ok(()),
+    }
+}
+
+/// Sets the walk over a FIFO.
+fn put(walks: &mut List<FifoWalk>, fifo: u64, walk: FifoWalk)
+    requires { fifo < length walks.old }
+    ensures { walks.new ≡ slice_set walks.old fifo walk }
+{
+    walks.as_mut_slice()[fifo as usize] = walk;
+}
+
+/// Goes on to the clock right after this one, up to which nothing was popped or pushed, and returns what the FIFO then holds where that
+/// is another number of elements.
+fn pass_fifo(core: &Core, walk: &mut FifoWalk, clock: u64) -> Option<u64>
+    requires is_final { IsFinal (design core.now.plan) core.now.plan.cycles (theory_of core.now) }
+    requires walk { StandsBy core.now.plan clock walk.old }
+    requires within { clock < last_clock core.now.plan }
+    ensures walk { StandsBy core.now.plan (clock + 1) walk.new }
+    ensures channel { walk.new.channel ≡ walk.old.channel }
+    ensures changed { result ≡ other_fill (fill core.now.plan walk.old.channel clock) (fill core.now.plan walk.old.channel (clock + 1)) }
+{
+    let _modules = core.modules();
+    if walk.next() != clock {
+        return None;
+    }
+    let before = walk.fill();
+    walk.pass(core);
+    let now = walk.fill();
+    if now == before { None } else { Some(now) }
+}

@@ -1,9 +1,7 @@
-//! How many elements each FIFO holds in each clock: as definitions, and read off a report.
+//! How many elements each FIFO holds in each clock: definitions, and their laws. The function here has no body; each clause is a theorem
+//! on the definitions.
 #![tactic(auto)]
 
-mod events;
 mod laws;
-mod walk;
 
 pub use laws::fills_are_counted;
-pub use walk::FillWalk;

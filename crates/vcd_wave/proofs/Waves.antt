@@ -17,7 +17,7 @@ use Rattle.flow_design.specs.StaticRules.{AreEntriesSound, FitsEngine}
 use Rattle.fifo_fills.specs.Fills.{fifos, fill, fills, last_clock}
 use Rattle.fifo_fills.proofs.Ending.{last_within}
 use Rattle.fifo_fills.proofs.Counting.{within_depth, counted}
-use Rattle.fifo_fills.proofs.Passing.{counted_numbers}
+use Rattle.fifo_fills.proofs.Numbers.{counted_numbers}
 use Rattle.flow_word.specs.declared.access.Side.TheVariants.{Push}
 use Rattle.lockstep_defs.specs.Channels.{moved}
 use Rattle.lockstep_defs.proofs.Settled.{history-zero}

@@ -1,24 +1,22 @@
--- Depths that meet cuts, and which of them come first.
-use Rattle.std.specs.Prelude.{◌≡◌, ℕ, ◌+◌, ◌*◌, ◌<◌, ◌≤◌, ◌⊎◌, Option, None, Some, List, [], ◌∷◌, length, slice_index, All, Any}
+-- The cheapest depths that meet cuts.
+use Rattle.std.specs.Prelude.{◌≡◌, ℕ, ◌+◌, ◌*◌, ◌<◌, ◌≤◌, ◌⊎◌, Option, None, Some, List, [], ◌∷◌, length, slice_index, All}
 use Rattle.flow_design.specs.declared.limits.TheConstants.{CHANNELS, FIFO_DEPTH}
 use Rattle.depth_cuts.specs.declared.cuts.Need.{Need}
 use Rattle.depth_cuts.specs.declared.cuts.Cut.{Cut}
+use Rattle.depth_cuts.specs.declared.cuts.Demands.{Demands}
+use Rattle.depth_cuts.specs.Met.{IsMet}
 
--- ---- cuts
-
--- some channel is as deep as the cut needs it
-abbrev pub IsMet : Cut → List ℕ → Type 0
-IsMet cut depths = Any (λ n. n.depth ≤ slice_index depths n.channel) cut.needs
+-- ---- which depths are asked for
 
 -- an entry for each floor, which is no less
-pub record IsAbove (floors depths : List ℕ) : Type 0 where
+pub record AreAbove (floors depths : List ℕ) : Type 0 where
   pub count : length depths ≡ length floors
   pub least : (f : ℕ) → slice_index floors f ≤ slice_index depths f
 
 -- and all cuts are met
-pub record Covers (floors : List ℕ) (cuts : List Cut) (depths : List ℕ) : Type 0 where
-  pub above : IsAbove floors depths
-  pub met : All (λ cut. IsMet cut depths) cuts
+pub record Covers (demands : Demands) (depths : List ℕ) : Type 0 where
+  pub above : AreAbove demands.floors depths
+  pub met : All (λ cut. IsMet cut depths) demands.cuts
 
 -- ---- which come first
 
@@ -41,15 +39,15 @@ ComesBefore widths ds es = (bits_of widths ds < bits_of widths es) ⊎ ((bits_of
 abbrev pub IsNoWorse : List ℕ → List ℕ → List ℕ → Type 0
 IsNoWorse widths ds es = (ds ≡ es) ⊎ ComesBefore widths ds es
 
--- of all depths that are above the floors and meet the cuts these come first
-pub record IsCheapest (widths floors : List ℕ) (cuts : List Cut) (depths : List ℕ) : Type 0 where
-  pub covers : Covers floors cuts depths
-  pub first : (es : List ℕ) → Covers floors cuts es → IsNoWorse widths depths es
+-- of all depths that are asked for these come first
+pub record IsCheapest (demands : Demands) (depths : List ℕ) : Type 0 where
+  pub covers : Covers demands depths
+  pub first : (es : List ℕ) → Covers demands es → IsNoWorse demands.widths depths es
 
--- these are what is found; or no depths are above the floors and meet the cuts
-abbrev pub AreCheapest : List ℕ → List ℕ → List Cut → Option (List ℕ) → Type 0
-AreCheapest widths floors cuts None = (es : List ℕ) → Covers floors cuts es → ⊥
-AreCheapest widths floors cuts (Some depths) = IsCheapest widths floors cuts depths
+-- the cheapest depths; or no depths are those asked for
+abbrev pub AreCheapest : Demands → Option (List ℕ) → Type 0
+AreCheapest demands None = (es : List ℕ) → Covers demands es → ⊥
+AreCheapest demands (Some depths) = IsCheapest demands depths
 
 -- ---- what is asked of the numbers
 
@@ -59,9 +57,9 @@ pub record IsNeed (channels : ℕ) (need : Need) : Type 0 where
   pub most : need.depth ≤ FIFO_DEPTH
 
 -- widths of at most 64 bits, floors within the limits of the language, and such needs
-pub record AreFloors (widths floors : List ℕ) (cuts : List Cut) : Type 0 where
-  pub count : length widths ≡ length floors
-  pub few : length floors ≤ CHANNELS
-  pub narrow : All (λ w. w ≤ 64) widths
-  pub most : (f : ℕ) → slice_index floors f ≤ FIFO_DEPTH
-  pub needs : All (λ cut. All (IsNeed (length floors)) cut.needs) cuts
+pub record AreDemands (demands : Demands) : Type 0 where
+  pub count : length demands.widths ≡ length demands.floors
+  pub few : length demands.floors ≤ CHANNELS
+  pub narrow : All (λ w. w ≤ 64) demands.widths
+  pub most : (f : ℕ) → slice_index demands.floors f ≤ FIFO_DEPTH
+  pub needs : All (λ cut. All (IsNeed (length demands.floors)) cut.needs) demands.cuts

@@ -1,0 +1,11 @@
+//! Cuts: FIFOs of which one at least has to be deeper, so that a plan ends by a clock. Each is shown by a path of steps that wait for one
+//! another.
+#![tactic(auto)]
+
+mod clocks;
+mod cuts;
+mod raised;
+mod trails;
+mod waits;
+
+pub use cuts::find_cut;

@@ -1,21 +1,20 @@
 //! Cuts of a plan.
-ghost use Rattle.std.specs.Prelude.{◌≡◌, true, map, is_some, IfOk, IfSome};
+ghost use Rattle.std.specs.Prelude.{map, is_some, IfOk, IfSome};
 ghost use Rattle.flow_design.specs.declared.plan.Plan.{Plan};
 ghost use Rattle.time_engine.specs.Conditions.{HasAccesses};
-ghost use Rattle.lockstep_defs.specs.Verdict.{verdict};
-ghost use Rattle.depth_order.specs.Depths.{with_depths, AreDepths, AsksNothing, IsDoneBy};
+ghost use Rattle.depth_order.specs.Depths.{AreDepths, AsksNothing};
 ghost use Rattle.engine_view.specs.Engines.{held_in};
 ghost use Rattle.engine_report.specs.Finished.{IsFinished};
-ghost use Rattle.path_check.specs.Waits.{IsTried};
 ghost use Rattle.late_cuts.specs.Cuts.{AreDeepest, IsCutFor};
 
+use crate::late::is_late;
 use crate::raised::{are_raised, deeper_ones};
-use crate::trails::{Trail, find_trail};
+use crate::raising::raise_all;
+use crate::trails::find_trail;
 use depth_cuts::Cut;
 use engine_view::Engine;
 use flow_design::Advance;
 use flow_word::OutOfMemory;
-use path_check::{ends_after, never_ends};
 use std::alloc::Global;
 
 /// FIFOs of which one at least has to be deeper than it is with these depths, so that the plan ends by a clock. None where no such cut is
@@ -35,23 +34,13 @@ pub fn find_cut(
         → IsFinished p (held_in engine.now (map is_some ends.now)) ends.now → AsksNothing p → AreDeepest p → AreDepths p depths.now
         → IsCutFor p clock depths.now cut)) }
 {
-    let Some(trail) = find_trail(alloc, engine, ends, depths, clock)? else {
+    let Some(mut trail) = find_trail(alloc, engine, ends, depths, clock)? else {
         return Ok(None);
     };
+    raise_all(alloc, engine, ends, &mut trail, clock)?;
     if !are_raised(depths, trail.depths.as_slice()) || !is_late(engine, ends, &trail, clock) {
         return Ok(None);
     }
     let cut = deeper_ones(alloc, trail.depths.as_slice())?;
     Ok(Some(cut))
-}
-
-/// Whether a path shows that the plan ends after a clock, or never.
-fn is_late(engine: &Engine, ends: &[Option<Advance>], trail: &Trail, clock: u64) -> bool
-    requires { HasAccesses engine.now.graph.lanes engine.now.fifos.channels }
-    ensures { result ≡ true → (p : Plan) → IsTried p (held_in engine.now (map is_some ends.now)) ends.now trail.now.depths
-        → IsDoneBy clock (verdict (with_depths p trail.now.depths)) → ⊥ }
-{
-    let depths = trail.depths.as_slice();
-    let path = trail.path.as_slice();
-    ends_after(engine, ends, depths, None, path, clock) || never_ends(engine, depths, None, path)
 }

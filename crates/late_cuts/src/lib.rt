@@ -4,7 +4,9 @@
 
 mod clocks;
 mod cuts;
+mod late;
 mod raised;
+mod raising;
 mod trails;
 mod waits;
 

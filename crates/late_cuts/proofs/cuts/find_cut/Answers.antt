@@ -8,7 +8,7 @@ use Rattle.late_cuts.proofs.cuts.find_cut.Goals as goal
 
 pub returns : goal.returns
 returns c = λ p f quiet deepest fit.
-    let trail = c.in-Some.trail in
+    let trail = c.raise_all.new.trail in
     let raised = subst (AreRaised c.args.depths.now) c.as_slice.ensures (c.are_raised.ensures c.if-not-are_raised.false) in
     let next = subst (λ (zs : List ℕ). AreNext zs (length zs) c.in_ok-cut.cut.needs) c.as_slice-2.ensures c.in_ok-cut.ensures in
     cut_shown p (held_in c.args.engine.now (map (λ (o : Option Advance). is_some o) c.args.ends.now)) c.args.ends.now f quiet deepest

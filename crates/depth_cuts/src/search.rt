@@ -1,0 +1,141 @@
+//! The search among the depths that meet cuts: it raises one channel for each cut that is not met.
+ghost use Rattle.std.specs.Prelude.{◌≡◌, ℕ, ◌<◌, ◌≤◌, true, false, length, slice_index, slice_set, Some, OnOk};
+ghost use Rattle.flow_design.specs.declared.limits.TheConstants.{FIFO_DEPTH};
+ghost use Rattle.depth_cuts.specs.Cuts.{AreDemands, IsNeed, bits_of as bits_in};
+ghost use Rattle.depth_cuts.specs.Searching.{IsAt, IsKept, IsSearched, Improves};
+ghost use Rattle.depth_cuts.specs.Searching.{swapped as swapped_of};
+
+use crate::cuts::{Demands, Need, first_unmet};
+use crate::order::{Choice, bits_of, is_no_worse};
+use flow_word::{OutOfMemory, Words};
+use std::alloc::Global;
+
+/// Goes through the depths from those at hand on that meet all cuts, where the cuts before a place are met already, and keeps the best.
+/// Depths that cannot be better than what is found are left out.
+///
+/// It calls itself no deeper than there are cuts. It takes memory for depths that are kept. An error leaves some depths at hand.
+pub(crate) fn search(
+    alloc: Global,
+    demands: &Demands,
+    from: usize,
+    at: &mut Choice,
+    best: &mut Option<Choice>,
+) -> Result<(), OutOfMemory>
+    requires demands { AreDemands demands.now }
+    requires from { from ≤ length demands.now.cuts }
+    requires at { IsAt demands.now from at.old }
+    requires kept { IsKept demands.now best.old }
+    ensures at { OnOk result (at.new ≡ at.old) }
+    ensures kept { OnOk result (IsKept demands.now best.new) }
+    ensures improves { OnOk result (Improves demands.now.widths best.old best.new) }
+    ensures searched { OnOk result (IsSearched demands.now at.old.depths best.new) }
+{
+    if cannot_improve(demands, best, at) {
+        return Ok(());
+    }
+    let cuts = demands.cuts.as_slice();
+    let next = first_unmet(cuts, from, at.depths.as_slice());
+    if next == cuts.len() {
+        *best = Some(at.copied(alloc)?);
+        return Ok(());
+    }
+    let needs = cuts[next].needs.as_slice();
+    let first = least_rise(demands, needs, at);
+    for turn in 0..needs.len() {
+        let need = needs[swapped(first, turn)];
+        let before = raise(demands, &need, at);
+        search(alloc, demands, next + 1, at, best)?;
+        put_back(need.channel, before, at);
+    }
+    Ok(())
+}
+
+/// Whether what is found is no worse than any depths from those at hand on.
+fn cannot_improve(demands: &Demands, best: &Option<Choice>, at: &Choice) -> bool
+    requires count { length at.now.depths ≡ length demands.now.floors }
+    requires bits { at.now.bits ≡ bits_in demands.now.widths at.now.depths }
+    requires kept { IsKept demands.now best.now }
+    ensures yes { result ≡ true → IsSearched demands.now at.now.depths best.now }
+    ensures no { result ≡ false → Improves demands.now.widths best.now (Some at.now) }
+{
+    match best {
+        Some(found) => is_no_worse(found, at),
+        None => false,
+    }
+}
+
+/// The place of a need that takes the fewest bits more; 0 where there is none.
+fn least_rise(demands: &Demands, needs: &[Need], at: &Choice) -> usize
+    ensures { 0 < length needs.now → result < length needs.now }
+{
+    let mut first = 0;
+    let mut least = u64::MAX;
+    for place in 0..needs.len() {
+        let rise = rise_of(demands, &needs[place], at);
+        if rise < least {
+            first = place;
+            least = rise;
+        }
+    }
+    first
+}
+
+/// How many bits more a need takes.
+fn rise_of(demands: &Demands, need: &Need, at: &Choice) -> u64 {
+    let more = need.depth.saturating_sub(item(&at.depths, need.channel));
+    more.saturating_mul(item(&demands.widths, need.channel))
+}
+
+/// The item of a channel; 0 where there is none.
+fn item(items: &Words, channel: u32) -> u64 {
+    items.as_slice().get(channel as usize).copied().unwrap_or(0)
+}
+
+/// 0 and another number in one another's place.
+fn swapped(first: usize, number: usize) -> usize
+    ensures { result ≡ swapped_of first number }
+{
+    if number == 0 {
+        first
+    } else if number == first {
+        0
+    } else {
+        number
+    }
+}
+
+/// A depth, and the bits with it.
+#[derive(Clone, Copy)]
+struct Before {
+    depth: u64,
+    bits: u64,
+}
+
+/// Raises the channel of a need as far as it is needed. What was before.
+fn raise(demands: &Demands, need: &Need, at: &mut Choice) -> Before
+    requires demands { AreDemands demands.now }
+    requires need { IsNeed (length at.old.depths) need.now }
+    requires count { length at.old.depths ≡ length demands.now.floors }
+    requires most { (f : ℕ) → slice_index at.old.depths f ≤ FIFO_DEPTH }
+    ensures depths { at.new.depths ≡ slice_set at.old.depths need.now.channel need.now.depth }
+    ensures bits { at.new.bits ≡ bits_in demands.now.widths at.new.depths }
+    ensures before { result ≡ record { depth = slice_index at.old.depths need.now.channel; bits = at.old.bits } }
+{
+    let before = Before {
+        depth: at.depths.as_slice()[need.channel as usize],
+        bits: at.bits,
+    };
+    at.depths.as_mut_slice()[need.channel as usize] = need.depth;
+    at.bits = bits_of(demands.widths.as_slice(), at.depths.as_slice());
+    before
+}
+
+/// Puts the depth of a channel back, and the bits.
+fn put_back(channel: u32, before: Before, at: &mut Choice)
+    requires { channel < length at.old.depths }
+    ensures depths { at.new.depths ≡ slice_set at.old.depths channel before.depth }
+    ensures bits { at.new.bits ≡ before.bits }
+{
+    at.depths.as_mut_slice()[channel as usize] = before.depth;
+    at.bits = before.bits;
+}

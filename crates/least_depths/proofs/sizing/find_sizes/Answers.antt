@@ -10,7 +10,7 @@ use Rattle.least_depths.proofs.Sized.{advised_verdict, done_sizes, other_end, le
 use Rattle.least_depths.proofs.sizing.find_sizes.Goals as goal
 
 pub lower_depths-requires-clause-fits : goal.lower_depths-requires-clause-fits
-lower_depths-requires-clause-fits g c =
+lower_depths-requires-clause-fits g c κs within =
     let p = c.args.plan.now in
     let own : c.in_ok-own.own ≡ p = c.in_ok-own.ensures in
     let depths : c.in_ok-advice.advice.depths ≡ advised p = c.in_ok-advice.ensures.depths ∙ ap advised own in
@@ -18,7 +18,7 @@ lower_depths-requires-clause-fits g c =
     (depths_fit p c.requires.fits (advised p) (advised_depths p c.requires.fits))
 
 pub lower_depths-requires-clause-in_time : goal.lower_depths-requires-clause-in_time
-lower_depths-requires-clause-in_time g c =
+lower_depths-requires-clause-in_time g c κs within =
     let p = c.args.plan.now in
     let advice = c.in_ok-advice.advice in
     let own : c.in_ok-own.own ≡ p = c.in_ok-own.ensures in

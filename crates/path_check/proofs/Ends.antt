@@ -1,10 +1,9 @@
--- What a path of steps says of the end of the plan with the edit.
+-- What a path of steps says of the end of the plan with these depths.
 use Rattle.std.proofs.Common.{◌≡◌, ℕ, zero, suc, ◌+◌, ◌-◌, ◌<◌, ◌≤◌, List, length, map, Option, None, Some, refl, sym, ◌∙◌, arith}
 use Rattle.std.proofs.Common.{inl, inr}
 use Rattle.std.specs.Prelude.{is_some}
 use Rattle.std.proofs.lemmas.Bool.{cases_lt, lt-ltb, le-ltb}
 use Rattle.flow_word.specs.declared.access.Place.{Place}
-use Rattle.flow_design.specs.declared.plan.Edit.{Edit}
 use Rattle.flow_design.specs.declared.plan.Plan.{Plan}
 use Rattle.flow_design.specs.declared.report.Verdict.TheVariants.{Done}
 use Rattle.flow_design.specs.declared.state.Advance.{Advance}
@@ -25,7 +24,7 @@ use Rattle.engine_report.specs.Finished.{IsFinished, IsEndMark}
 use Rattle.engine_report.specs.Standings.{end_at, gap_of}
 use Rattle.late_paths.specs.Paths.{Same}
 use Rattle.late_paths.proofs.Late.{ends_later, never_ends}
-use Rattle.path_check.specs.Waits.{depths_with, IsTried, cycle_at, IsTimed, ComesAfter, Adds, IsAlong, place_at, moves_behind}
+use Rattle.path_check.specs.Waits.{IsTried, cycle_at, IsTimed, ComesAfter, Adds, IsAlong, place_at, moves_behind}
 use Rattle.path_check.proofs.Steps.{moves_on, moves_last}
 
 -- ---- behind the last step
@@ -56,13 +55,13 @@ behind_quiet p h ends f last timed =
 
 -- ---- the end
 
-module _ (p : Plan) (h : Held) (ends : List (Option Advance)) (edit : Edit) (t : IsTried p h ends edit) (from last : Place) (clocks : ℕ)
-    (timed : IsTimed h.lanes last) (c : ComesAfter p h edit from last clocks) where
+module _ (p : Plan) (h : Held) (ends : List (Option Advance)) (depths : List ℕ) (t : IsTried p h ends depths) (from last : Place) (clocks : ℕ)
+    (timed : IsTimed h.lanes last) (c : ComesAfter p h depths from last clocks) where
   -- the module of the last step moves so many clocks after it, and is not ended before
   late_by : (j : ℕ)
       → j ≤ (design p).quiet last.module (own (design p) last.module (core_reply (design p) (core_of (design p) h) last.module)
       (suc last.step))
-      → (end : ℕ) → verdict (with_depths p (depths_with p edit)) ≡ Done end → suc (cycle_at h.lanes from + (c.path + j)) ≤ end
+      → (end : ℕ) → verdict (with_depths p depths) ≡ Done end → suc (cycle_at h.lanes from + (c.path + j)) ≤ end
   late_by zero q end done =
       let f = t.finished in
       let d = design p in
@@ -70,7 +69,7 @@ module _ (p : Plan) (h : Held) (ends : List (Option Advance)) (edit : Edit) (t :
       let x = core_of d h in
       let cycle = cycle_at h.lanes last in
       let move = cycle_moves d w p.cycles x f.agreed last.module last.step timed.timed in
-      let late = ends_later p f.fits t.quiet (depths_with p edit) t.depths t.lower from.module (cycle_at h.lanes from) last.module cycle
+      let late = ends_later p f.fits t.quiet depths t.fit t.lower from.module (cycle_at h.lanes from) last.module cycle
       c.path c.after (sym (moves_same p f.fits cycle last.module) ∙ move) end done in
       omega arith
   late_by (suc j) q end done =
@@ -80,24 +79,24 @@ module _ (p : Plan) (h : Held) (ends : List (Option Advance)) (edit : Edit) (t :
       let x = core_of d h in
       let i = plan_is_design p f.fits in
       let y = run_is_history p f.fits in
-      let start = start_in (with_depths p (depths_with p edit)) in
+      let start = start_in (with_depths p depths) in
       let cycle = cycle_at h.lanes last in
       let after = moves_on d start w i y p.cycles x f.agreed from.module (cycle_at h.lanes from) last.module last.step j c.path timed.timed
       (omega arith) c.after in
       let move = moves_last d start w i y p.cycles x f.agreed from.module (cycle_at h.lanes from) last.module last.step j timed.timed
       (omega arith) in
-      let late = ends_later p f.fits t.quiet (depths_with p edit) t.depths t.lower from.module (cycle_at h.lanes from) last.module
+      let late = ends_later p f.fits t.quiet depths t.fit t.lower from.module (cycle_at h.lanes from) last.module
       (j + suc cycle) (j + suc c.path) after (sym (moves_same p f.fits (j + suc cycle) last.module) ∙ move) end done in
       omega arith
 
   pub late_end : (clock : ℕ) → clock ≤ cycle_at h.lanes from + clocks + moves_behind h.lanes ends last → (end : ℕ)
-      → verdict (with_depths p (depths_with p edit)) ≡ Done end → clock < end
+      → verdict (with_depths p depths) ≡ Done end → clock < end
   late_end clock l end done =
       let late = late_by (moves_behind h.lanes ends last) (behind_quiet p h ends t.finished last timed) end done in
       let long = c.long in
       omega arith
 
-  pub no_end : 0 < clocks → from ≡ last → (end : ℕ) → verdict (with_depths p (depths_with p edit)) ≡ Done end → ⊥
+  pub no_end : 0 < clocks → from ≡ last → (end : ℕ) → verdict (with_depths p depths) ≡ Done end → ⊥
   no_end some round end done =
       let f = t.finished in
       let d = design p in
@@ -108,58 +107,58 @@ module _ (p : Plan) (h : Held) (ends : List (Option Advance)) (edit : Edit) (t :
       let more : suc (c.path - 1) ≡ c.path = omega arith in
       let move = cycle_moves d w p.cycles x f.agreed last.module last.step timed.timed in
       let after = rw (round, ← more) at c.after in
-      never_ends p f.fits t.quiet (depths_with p edit) t.depths last.module cycle (c.path - 1) after
+      never_ends p f.fits t.quiet depths t.fit last.module cycle (c.path - 1) after
       (sym (moves_same p f.fits cycle last.module) ∙ move) end done
 
 -- ---- along a path
 
-pub comes_first : (p : Plan) (h : Held) (edit : Edit) (place : Place) → ComesAfter p h edit place place 0
-comes_first p h edit place = record { path = 0; long = omega arith; after = Same }
+pub comes_first : (p : Plan) (h : Held) (depths : List ℕ) (place : Place) → ComesAfter p h depths place place 0
+comes_first p h depths place = record { path = 0; long = omega arith; after = Same }
 
-pub fewer_clocks : (p : Plan) (h : Held) (edit : Edit) (from to : Place) (less clocks : ℕ) → less ≤ clocks
-    → ComesAfter p h edit from to clocks → ComesAfter p h edit from to less
-fewer_clocks p h edit from to less clocks l c = let long = c.long in record { path = c.path; long = omega arith; after = c.after }
+pub fewer_clocks : (p : Plan) (h : Held) (depths : List ℕ) (from to : Place) (less clocks : ℕ) → less ≤ clocks
+    → ComesAfter p h depths from to clocks → ComesAfter p h depths from to less
+fewer_clocks p h depths from to less clocks l c = let long = c.long in record { path = c.path; long = omega arith; after = c.after }
 
-pub along_first : (e : Engine) (edit : Edit) (path : List Place) → 0 < length path → IsTimed e.graph.lanes (place_at path 0)
-    → IsAlong e edit path 1 0
-along_first e edit path l timed = record {
+pub along_first : (e : Engine) (depths : List ℕ) (path : List Place) → 0 < length path → IsTimed e.graph.lanes (place_at path 0)
+    → IsAlong e depths path 1 0
+along_first e depths path l timed = record {
   some = omega arith;
   within = omega arith;
   first = timed;
   last = timed;
-  along = λ p ends t. comes_first p (held_in e (map is_some ends)) edit (place_at path 0);
+  along = λ p ends t. comes_first p (held_in e (map is_some ends)) depths (place_at path 0);
 }
 
-pub along_more : (e : Engine) (edit : Edit) (path : List Place) (n clocks more all : ℕ) → n < length path → all ≤ clocks + more
+pub along_more : (e : Engine) (depths : List ℕ) (path : List Place) (n clocks more all : ℕ) → n < length path → all ≤ clocks + more
     → IsTimed e.graph.lanes (place_at path n)
-    → ((p : Plan) (ends : List (Option Advance)) → IsTried p (held_in e (map is_some ends)) ends edit
-    → Adds p (held_in e (map is_some ends)) edit (place_at path (n - 1)) (place_at path n) more)
-    → IsAlong e edit path n clocks → IsAlong e edit path (n + 1) all
-along_more e edit path n clocks more all l few timed adds a =
+    → ((p : Plan) (ends : List (Option Advance)) → IsTried p (held_in e (map is_some ends)) ends depths
+    → Adds p (held_in e (map is_some ends)) depths (place_at path (n - 1)) (place_at path n) more)
+    → IsAlong e depths path n clocks → IsAlong e depths path (n + 1) all
+along_more e depths path n clocks more all l few timed adds a =
     let at : (n + 1) - 1 ≡ n = omega arith in
     record {
       some = omega arith;
       within = omega arith;
       first = a.first;
       last = rw at timed;
-      along = λ p ends t. rw at (fewer_clocks p (held_in e (map is_some ends)) edit (place_at path 0) (place_at path n) all (clocks + more)
+      along = λ p ends t. rw at (fewer_clocks p (held_in e (map is_some ends)) depths (place_at path 0) (place_at path n) all (clocks + more)
           few (adds p ends t (place_at path 0) clocks (a.along p ends t)));
     }
 
 -- ---- what is answered
 
-pub path_ends_late : (e : Engine) (edit : Edit) (path : List Place) (clocks : ℕ) → IsAlong e edit path (length path) clocks
+pub path_ends_late : (e : Engine) (depths : List ℕ) (path : List Place) (clocks : ℕ) → IsAlong e depths path (length path) clocks
     → (ends : List (Option Advance)) (clock : ℕ)
     → clock ≤ cycle_at e.graph.lanes (place_at path 0) + clocks + moves_behind e.graph.lanes ends (place_at path (length path - 1))
-    → (p : Plan) → IsTried p (held_in e (map is_some ends)) ends edit → (end : ℕ) → verdict (with_depths p (depths_with p edit)) ≡ Done end
+    → (p : Plan) → IsTried p (held_in e (map is_some ends)) ends depths → (end : ℕ) → verdict (with_depths p depths) ≡ Done end
     → clock < end
-path_ends_late e edit path clocks a ends clock l p t end done =
-    late_end p (held_in e (map is_some ends)) ends edit t (place_at path 0) (place_at path (length path - 1)) clocks a.last
+path_ends_late e depths path clocks a ends clock l p t end done =
+    late_end p (held_in e (map is_some ends)) ends depths t (place_at path 0) (place_at path (length path - 1)) clocks a.last
     (a.along p ends t) clock l end done
 
-pub path_never_ends : (e : Engine) (edit : Edit) (path : List Place) (clocks : ℕ) → IsAlong e edit path (length path) clocks → 0 < clocks
+pub path_never_ends : (e : Engine) (depths : List ℕ) (path : List Place) (clocks : ℕ) → IsAlong e depths path (length path) clocks → 0 < clocks
     → place_at path 0 ≡ place_at path (length path - 1) → (p : Plan) (ends : List (Option Advance))
-    → IsTried p (held_in e (map is_some ends)) ends edit → (end : ℕ) → verdict (with_depths p (depths_with p edit)) ≡ Done end → ⊥
-path_never_ends e edit path clocks a some round p ends t end done =
-    no_end p (held_in e (map is_some ends)) ends edit t (place_at path 0) (place_at path (length path - 1)) clocks a.last (a.along p ends t)
+    → IsTried p (held_in e (map is_some ends)) ends depths → (end : ℕ) → verdict (with_depths p depths) ≡ Done end → ⊥
+path_never_ends e depths path clocks a some round p ends t end done =
+    no_end p (held_in e (map is_some ends)) ends depths t (place_at path 0) (place_at path (length path - 1)) clocks a.last (a.along p ends t)
     some round end done

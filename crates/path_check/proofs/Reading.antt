@@ -1,16 +1,14 @@
 -- A step that waits for another, as it is read off the graph and the table, comes after it.
-use Rattle.std.proofs.Common.{◌≡◌, ℕ, zero, suc, ◌+◌, ◌-◌, ◌<◌, ◌≤◌, Bool, true, false, ◌||◌, ◌&&◌, List, [], ◌∷◌, refl, sym, ap, ◌∙◌}
-use Rattle.std.proofs.Common.{arith, length, map, slice_get, slice_index_or, Option, None, Some, subst, inl, inr}
-use Rattle.std.specs.Prelude.{slice_index, cond, eqb, is_some, IfSome}
-use Rattle.std.proofs.lemmas.Bool.{cases_eq, and_from, eq-eqb, ne_eqb, cond-true, cond-false}
-use Rattle.std.proofs.lemmas.List.{get_or-set_same, get_or-set_other}
+use Rattle.std.proofs.Common.{◌≡◌, ℕ, zero, suc, ◌+◌, ◌-◌, ◌<◌, ◌≤◌, Bool, true, false, ◌||◌, List, [], ◌∷◌, refl, sym, ap, ◌∙◌}
+use Rattle.std.proofs.Common.{arith, length, map, slice_get, slice_index_or, Option, None, Some, subst}
+use Rattle.std.specs.Prelude.{slice_index, cond, is_some, IfSome}
+use Rattle.std.proofs.lemmas.Bool.{and_from, eq-eqb}
 use Rattle.std.proofs.lemmas.Option.{get_or_from_slice_get, slice_get_within}
 use Rattle.flow_word.specs.declared.access.Access.{Access}
 use Rattle.flow_word.specs.declared.access.Place.{Place}
 use Rattle.flow_word.specs.declared.access.Side.{Side}
 use Rattle.flow_word.specs.declared.access.Side.TheVariants.{Pop, Push}
 use Rattle.flow_word.specs.Kinds.{side_of, other_side, same_side, is_blocking}
-use Rattle.flow_design.specs.declared.plan.Edit.{Edit}
 use Rattle.flow_design.specs.declared.plan.Plan.{Plan}
 use Rattle.flow_design.specs.declared.state.Advance.{Advance}
 use Rattle.event_graph.specs.Lanes.{lane_at, no_lane}
@@ -33,7 +31,7 @@ use Rattle.engine_view.proofs.Knowing.{shown_inside}
 use Rattle.engine_report.specs.Finished.{IsFinished}
 use Rattle.engine_report.proofs.Ending.{apart_at}
 use Rattle.late_paths.specs.Paths.{blocks_at, waits_at}
-use Rattle.path_check.specs.Waits.{depths_with, IsTried, free_with, OneWaits, cycle_at, IsTimed, Adds}
+use Rattle.path_check.specs.Waits.{IsTried, free_with, OneWaits, cycle_at, IsTimed, Adds}
 use Rattle.path_check.proofs.Steps.{comes_next, comes_after, gap_behind}
 
 -- ---- accesses
@@ -63,18 +61,14 @@ waits_among (x ∷ xs) (suc j) a e b =
 
 -- ---- what waits for nobody
 
--- with the edit, at a FIFO
-free_is : {S : Type 0} → (d : Design S) (start : Side → ℕ → ℕ) (kind : TableChannel) (edit : Edit) (side : Side) (c : ℕ) → IsFifo kind
-    → IsKind d c kind → start Pop c ≡ d.start Pop c → (c ≡ edit.channel → start Push c ≡ edit.depth)
-    → ((c ≡ edit.channel → ⊥) → start Push c ≡ d.start Push c)
-    → start side c ≡ cond (same_side side Push && eqb c edit.channel) edit.depth (free_of kind side)
-free_is {S} d start (Source inputs) edit side c f k pops here other = absurd f
-free_is {S} d start Sink edit side c f k pops here other = absurd f
-free_is {S} d start (Fifo depth delay) edit Pop c f (k1, k2, k3, k4) pops here other = pops ∙ k3
-free_is {S} d start (Fifo depth delay) edit Push c f (k1, k2, k3, k4) pops here other = elim (cases_eq c edit.channel) [
-  | inl e ↦ here e ∙ sym (cond-true _ _ _ (eq-eqb c edit.channel e))
-  | inr e ↦ other e ∙ (k2 ∙ sym (cond-false _ _ _ (ne_eqb c edit.channel e)))
-]
+-- with these depths, at a FIFO
+free_is : {S : Type 0} → (d : Design S) (start : Side → ℕ → ℕ) (kind : TableChannel) (depth : ℕ) (side : Side) (c : ℕ) → IsFifo kind
+    → IsKind d c kind → start Pop c ≡ d.start Pop c → start Push c ≡ depth
+    → start side c ≡ cond (same_side side Push) depth (free_of kind side)
+free_is {S} d start (Source inputs) depth side c f k pops pushes = absurd f
+free_is {S} d start Sink depth side c f k pops pushes = absurd f
+free_is {S} d start (Fifo own delay) depth Pop c f (k1, k2, k3, k4) pops pushes = pops ∙ k3
+free_is {S} d start (Fifo own delay) depth Push c f k pops pushes = pushes
 
 limited_is : {S : Type 0} → (d : Design S) → IsDesign d → (kind : TableChannel) (side : Side) (c : ℕ) → IsFifo kind → IsKind d c kind
     → d.unlimited side c ≡ false
@@ -83,16 +77,12 @@ limited_is {S} d i Sink side c f k = absurd f
 limited_is {S} d i (Fifo depth delay) Pop c f k = i.pops_limited c
 limited_is {S} d i (Fifo depth delay) Push c f k = k.0
 
-start_with : (p : Plan) (h : Held) (ends : List (Option Advance)) (edit : Edit) → IsFinished p h ends → (side : Side) (c : ℕ)
+start_with : (p : Plan) (h : Held) (ends : List (Option Advance)) (depths : List ℕ) → IsFinished p h ends → (side : Side) (c : ℕ)
     → c < length h.channels → IsFifo (channel_at h.channels c).kind
-    → start_in (with_depths p (depths_with p edit)) side c ≡ free_with h.channels edit side c
-start_with p h ends edit f side c inside fifo =
-    let entry : c < length p.depths = omega (arith, f.channels, f.fits.depths) in
-    free_is (design p) (start_in (with_depths p (depths_with p edit))) (channel_at h.channels c).kind edit side c fifo
-    (f.sound.kinds c inside) (same_elements p (depths_with p edit) c)
-    (λ e. subst (λ (n : ℕ). slice_index (depths_with p edit) n ≡ edit.depth) (sym e)
-    (get_or-set_same p.depths edit.channel edit.depth 0 (subst (λ (n : ℕ). n < length p.depths) e entry)))
-    (λ e. get_or-set_other p.depths edit.channel c edit.depth 0 e)
+    → start_in (with_depths p depths) side c ≡ free_with h.channels depths side c
+start_with p h ends depths f side c inside fifo =
+    free_is (design p) (start_in (with_depths p depths)) (channel_at h.channels c).kind (slice_index depths c) side c fifo
+    (f.sound.kinds c inside) (same_elements p depths c) refl
 
 -- ---- a module's next step
 
@@ -107,10 +97,10 @@ gap_is p h ends f n k inside less =
     f.agreed.marks.own_wait n (suc k) less in
     omega arith
 
-pub next_adds : (p : Plan) (h : Held) (ends : List (Option Advance)) (edit : Edit) → IsTried p h ends edit → (before next : Place)
+pub next_adds : (p : Plan) (h : Held) (ends : List (Option Advance)) (depths : List ℕ) → IsTried p h ends depths → (before next : Place)
     → IsTimed h.lanes next → next.module ≡ before.module → next.step ≡ suc before.step
-    → Adds p h edit before next (step_of h next.module next.step).gap
-next_adds p h ends edit t before next timed same step from clocks c =
+    → Adds p h depths before next (step_of h next.module next.step).gap
+next_adds p h ends depths t before next timed same step from clocks c =
     let f = t.finished in
     let inside = timed.owner in
     let made = timed.step in
@@ -119,7 +109,7 @@ next_adds p h ends edit t before next timed same step from clocks c =
     let gap = gap_is p h ends f next.module before.step inside less in
     let same_gap = ap (λ (k : ℕ). (step_of h next.module k).gap) step in
     let there : suc before.step < length (lane_at h.lanes next.module).cycles = omega arith in
-    let after = comes_next (design p) (start_in (with_depths p (depths_with p edit))) (lockstep_run p) (plan_is_design p f.fits)
+    let after = comes_next (design p) (start_in (with_depths p depths)) (lockstep_run p) (plan_is_design p f.fits)
     (run_is_history p f.fits) p.cycles (core_of (design p) h) f.agreed from.module (cycle_at h.lanes from) next.module before.step c.path
     there (rw (← same) at c.after) in
     let long = c.long in
@@ -131,11 +121,11 @@ next_adds p h ends edit t before next timed same step from clocks c =
 
 -- ---- a step that waits for another
 
-pub waits_adds : (p : Plan) (h : Held) (ends : List (Option Advance)) (edit : Edit) → IsTried p h ends edit
+pub waits_adds : (p : Plan) (h : Held) (ends : List (Option Advance)) (depths : List ℕ) → IsTried p h ends depths
     → (before next : Place) (lag : ℕ)
     → IsTimed h.lanes before → IsTimed h.lanes next
-    → OneWaits h.channels edit (step_of h next.module next.step).accesses before lag → Adds p h edit before next lag
-waits_adds p h ends edit t before next lag first timed one from clocks c =
+    → OneWaits h.channels depths (step_of h next.module next.step).accesses before lag → Adds p h depths before next lag
+waits_adds p h ends depths t before next lag first timed one from clocks c =
     let f = t.finished in
     let d = design p in
     let x = core_of d h in
@@ -150,21 +140,21 @@ waits_adds p h ends edit t before next lag first timed one from clocks c =
     let inside = rw at at (shown_inside d h x f.sound next.module next.step less one.number a number) in
     let ordinal = rw at at (f.sound.ordinals next.module next.step less one.number a number) in
     let places = places_of (other_side side) (channel_at h.channels a.channel) in
-    let j = a.ordinal - suc (free_with h.channels edit side a.channel) in
+    let j = a.ordinal - suc (free_with h.channels depths side a.channel) in
     let event = w.event in
     let few = slice_get_within places j event w.enabler in
     let here = get_or_from_slice_get places j event event w.enabler in
     let taken : IsTakenAt d x (other_side side) a.channel j event =
     rw here at ((f.sound.taken (other_side side) a.channel inside.channel).each j event few) in
     let owner : d.owner (other_side side) a.channel ≡ before.module = sym taken.owner ∙ w.same_module in
-    let start = start_with p h ends edit f side a.channel inside.channel w.fifo in
+    let start = start_with p h ends depths f side a.channel inside.channel w.fifo in
     let not_free = w.not_free in
     let then : core_tally d x before.module (other_side side) a.channel event.step ≤ j = rw owner at taken.from in
     let earlier = tally_mono (core_accesses d x before.module) (λ (k : ℕ). bare_replies (x.flags before.module k)) (other_side side)
     a.channel before.step event.step w.no_earlier in
     let waits : waits_at side a.channel (core_accesses d x next.module next.step) ≡ true =
     ap (waits_at side a.channel) (f.sound.accesses next.module next.step less) ∙ waits_among accesses one.number a one.among w.blocks in
-    let after = comes_after d (start_in (with_depths p (depths_with p edit))) (lockstep_run p) i
+    let after = comes_after d (start_in (with_depths p depths)) (lockstep_run p) i
     (run_is_history p f.fits) p.cycles x f.agreed from.module (cycle_at h.lanes from) before.module before.step next.module next.step c.path
     a.channel side first.timed timed.timed owner waits
     (limited_is d i (channel_at h.channels a.channel).kind side a.channel w.fifo (f.sound.kinds a.channel inside.channel))
@@ -176,20 +166,20 @@ waits_adds p h ends edit t before next lag first timed one from clocks c =
 
 -- ---- what is answered
 
-pub lags_add : (e : Engine) (edit : Edit) (before next : Place) (found : Option ℕ) → IsTimed e.graph.lanes before
+pub lags_add : (e : Engine) (depths : List ℕ) (before next : Place) (found : Option ℕ) → IsTimed e.graph.lanes before
     → IsTimed e.graph.lanes next
-    → IfSome found (λ lag. OneWaits e.fifos.channels edit
+    → IfSome found (λ lag. OneWaits e.fifos.channels depths
     (slice_index_or (lane_at e.graph.lanes next.module).steps next.step no_step).accesses before lag)
-    → IfSome found (λ clocks. (p : Plan) (ends : List (Option Advance)) → IsTried p (held_in e (map is_some ends)) ends edit
-    → Adds p (held_in e (map is_some ends)) edit before next clocks)
-lags_add e edit before next None first timed w = tt
-lags_add e edit before next (Some lag) first timed w =
-    λ p ends t. waits_adds p (held_in e (map is_some ends)) ends edit t before next lag first timed w
+    → IfSome found (λ clocks. (p : Plan) (ends : List (Option Advance)) → IsTried p (held_in e (map is_some ends)) ends depths
+    → Adds p (held_in e (map is_some ends)) depths before next clocks)
+lags_add e depths before next None first timed w = tt
+lags_add e depths before next (Some lag) first timed w =
+    λ p ends t. waits_adds p (held_in e (map is_some ends)) ends depths t before next lag first timed w
 
-pub gaps_add : (e : Engine) (edit : Edit) (before next : Place) (gap : ℕ)
+pub gaps_add : (e : Engine) (depths : List ℕ) (before next : Place) (gap : ℕ)
     → gap ≡ (slice_index_or (lane_at e.graph.lanes next.module).steps next.step no_step).gap → IsTimed e.graph.lanes next
     → next.module ≡ before.module → next.step ≡ suc before.step
-    → (p : Plan) (ends : List (Option Advance)) → IsTried p (held_in e (map is_some ends)) ends edit
-    → Adds p (held_in e (map is_some ends)) edit before next gap
-gaps_add e edit before next gap is timed same step p ends t =
-    rw is (next_adds p (held_in e (map is_some ends)) ends edit t before next timed same step)
+    → (p : Plan) (ends : List (Option Advance)) → IsTried p (held_in e (map is_some ends)) ends depths
+    → Adds p (held_in e (map is_some ends)) depths before next gap
+gaps_add e depths before next gap is timed same step p ends t =
+    rw is (next_adds p (held_in e (map is_some ends)) ends depths t before next timed same step)

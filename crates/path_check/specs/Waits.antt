@@ -1,6 +1,6 @@
--- What a path of steps says of a plan whose FIFO has another depth.
-use Rattle.std.specs.Prelude.{◌≡◌, ℕ, suc, ◌+◌, ◌-◌, ◌<◌, ◌≤◌, ◌&&◌, ◌==◌, nat_lt, true, if◌then◌else◌, is_some, List, length, map}
-use Rattle.std.specs.Prelude.{slice_get, slice_index_or, slice_set, Option, Some}
+-- What a path of steps says of a plan with other depths.
+use Rattle.std.specs.Prelude.{◌≡◌, ℕ, suc, ◌+◌, ◌-◌, ◌<◌, ◌≤◌, nat_lt, true, if◌then◌else◌, is_some, List, length, map}
+use Rattle.std.specs.Prelude.{slice_get, slice_index, slice_index_or, slice_set, Option, None, Some}
 use Rattle.flow_word.specs.declared.access.Access.{Access}
 use Rattle.flow_word.specs.declared.access.Place.{Place}
 use Rattle.flow_word.specs.declared.access.Side.{Side}
@@ -20,45 +20,45 @@ use Rattle.engine_report.specs.Finished.{IsFinished}
 use Rattle.engine_report.specs.Standings.{end_at, gap_of}
 use Rattle.late_paths.specs.Paths.{IsAfter}
 
--- ---- the edit
+-- ---- the depths
 
--- the plan's depths with this one among them
-abbrev pub depths_with : Plan → Edit → List ℕ
-depths_with p edit = slice_set p.depths edit.channel edit.depth
+-- a list of depths, with another one for a FIFO where there is an edit
+abbrev pub edited : List ℕ → Option Edit → List ℕ
+edited depths None = depths
+edited depths (Some edit) = slice_set depths edit.channel edit.depth
 
--- what is held is the end of the plan's run, in which nothing is asked, and the edit makes a FIFO of it no deeper
-pub record IsTried (p : Plan) (h : Held) (ends : List (Option Advance)) (edit : Edit) : Type 0 where
+-- what is held is the end of the plan's run, in which nothing is asked, and these are depths for its FIFOs, none greater than its own
+pub record IsTried (p : Plan) (h : Held) (ends : List (Option Advance)) (depths : List ℕ) : Type 0 where
   pub finished : IsFinished p h ends
   pub quiet : AsksNothing p
-  pub depths : AreDepths p (depths_with p edit)
-  pub lower : AreDeeper p (depths_with p edit) p.depths
+  pub fit : AreDepths p depths
+  pub lower : AreDeeper p depths p.depths
 
 -- ---- waits
 
--- how many pops, or pushes, of a channel wait for nobody with the edit
-abbrev pub free_with : List Channel → Edit → Side → ℕ → ℕ
-free_with channels edit side c =
-    if same_side side Push && c == edit.channel then edit.depth else free_of (channel_at channels c).kind side
+-- how many pops, or pushes, of a channel wait for nobody with these depths
+abbrev pub free_with : List Channel → List ℕ → Side → ℕ → ℕ
+free_with channels depths side c = if same_side side Push then slice_index depths c else free_of (channel_at channels c).kind side
 
--- with the edit the access waits for a pop, or a push, in the step at this place or in a later one of its module, and so many clocks
+-- with these depths the access waits for a pop, or a push, in the step at this place or in a later one of its module, and so many clocks
 -- after it
-pub record WaitsFor (channels : List Channel) (edit : Edit) (a : Access) (place : Place) (lag : ℕ) : Type 0 where
+pub record WaitsFor (channels : List Channel) (depths : List ℕ) (a : Access) (place : Place) (lag : ℕ) : Type 0 where
   pub blocks : is_blocking a.kind ≡ true
   pub fifo : IsFifo (channel_at channels a.channel).kind
-  pub not_free : free_with channels edit (side_of a.kind) a.channel < a.ordinal
+  pub not_free : free_with channels depths (side_of a.kind) a.channel < a.ordinal
   pub event : Place
   pub enabler : slice_get (places_of (other_side (side_of a.kind)) (channel_at channels a.channel))
-      (a.ordinal - suc (free_with channels edit (side_of a.kind) a.channel)) ≡ Some event
+      (a.ordinal - suc (free_with channels depths (side_of a.kind) a.channel)) ≡ Some event
   pub same_module : event.module ≡ place.module
   pub no_earlier : place.step ≤ event.step
   pub its_lag : lag ≡ lag_of (channel_at channels a.channel).kind (side_of a.kind)
 
 -- one of the accesses does
-pub record OneWaits (channels : List Channel) (edit : Edit) (accesses : List Access) (place : Place) (lag : ℕ) : Type 0 where
+pub record OneWaits (channels : List Channel) (depths : List ℕ) (accesses : List Access) (place : Place) (lag : ℕ) : Type 0 where
   pub number : ℕ
   pub access : Access
   pub among : slice_get accesses number ≡ Some access
-  pub waits : WaitsFor channels edit access place lag
+  pub waits : WaitsFor channels depths access place lag
 
 -- ---- paths
 
@@ -72,17 +72,17 @@ pub record IsTimed (lanes : List Lane) (place : Place) : Type 0 where
   pub step : place.step < length (lane_at lanes place.module).steps
   pub timed : place.step < length (lane_at lanes place.module).cycles
 
--- with the edit the step at one place is done so many clocks after the step at another, or later, or never
-pub record ComesAfter (p : Plan) (h : Held) (edit : Edit) (from to : Place) (clocks : ℕ) : Type 0 where
+-- with these depths the step at one place is done so many clocks after the step at another, or later, or never
+pub record ComesAfter (p : Plan) (h : Held) (depths : List ℕ) (from to : Place) (clocks : ℕ) : Type 0 where
   pub path : ℕ
   pub long : clocks ≤ path
-  pub after : IsAfter (design p) (start_in (with_depths p (depths_with p edit))) (lockstep_run p) from.module (cycle_at h.lanes from)
+  pub after : IsAfter (design p) (start_in (with_depths p depths)) (lockstep_run p) from.module (cycle_at h.lanes from)
       to.module (cycle_at h.lanes to) path
 
 -- what comes so many clocks after any step at one place does so many more after it at the next
-abbrev pub Adds : Plan → Held → Edit → Place → Place → ℕ → Type 0
-Adds p h edit before next more =
-    (from : Place) (clocks : ℕ) → ComesAfter p h edit from before clocks → ComesAfter p h edit from next (clocks + more)
+abbrev pub Adds : Plan → Held → List ℕ → Place → Place → ℕ → Type 0
+Adds p h depths before next more =
+    (from : Place) (clocks : ℕ) → ComesAfter p h depths from before clocks → ComesAfter p h depths from next (clocks + more)
 
 -- the place of this number
 abbrev pub place_at : List Place → ℕ → Place
@@ -90,13 +90,13 @@ place_at path k = slice_index_or path k (record { «module» = 0; step = 0 })
 
 -- the first n places of a path are those of steps of which each waits for the one before it: the last of them comes so many clocks after
 -- the first
-pub record IsAlong (engine : Engine) (edit : Edit) (path : List Place) (n clocks : ℕ) : Type 0 where
+pub record IsAlong (engine : Engine) (depths : List ℕ) (path : List Place) (n clocks : ℕ) : Type 0 where
   pub some : 1 ≤ n
   pub within : n ≤ length path
   pub first : IsTimed engine.graph.lanes (place_at path 0)
   pub last : IsTimed engine.graph.lanes (place_at path (n - 1))
-  pub along : (p : Plan) (ends : List (Option Advance)) → IsTried p (held_in engine (map is_some ends)) ends edit
-      → ComesAfter p (held_in engine (map is_some ends)) edit (place_at path 0) (place_at path (n - 1)) clocks
+  pub along : (p : Plan) (ends : List (Option Advance)) → IsTried p (held_in engine (map is_some ends)) ends depths
+      → ComesAfter p (held_in engine (map is_some ends)) depths (place_at path 0) (place_at path (n - 1)) clocks
 
 -- how many clocks after a step its module still moves, where it has no next step
 abbrev pub moves_behind : List Lane → List (Option Advance) → Place → ℕ

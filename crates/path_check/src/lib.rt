@@ -1,4 +1,4 @@
-//! Whether a plan ends late, or never, with another depth of a FIFO: by a path of steps, each of which waits for the one before it.
+//! Whether a plan ends late, or never, with other depths of its FIFOs: by a path of steps, each of which waits for the one before it.
 #![tactic(auto)]
 
 mod paths;

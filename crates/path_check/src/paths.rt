@@ -3,35 +3,37 @@ ghost use Rattle.std.specs.Prelude.{◌≡◌, ◌≢◌, ℕ, ◌<◌, true, le
 ghost use Rattle.flow_design.specs.declared.plan.Plan.{Plan};
 ghost use Rattle.flow_design.specs.declared.report.Verdict.TheVariants.{Done};
 ghost use Rattle.flow_design.specs.declared.state.Advance.{Advance};
-ghost use Rattle.flow_design.specs.Plans.{with_depth};
 ghost use Rattle.lockstep_defs.specs.Verdict.{verdict};
+ghost use Rattle.depth_order.specs.Depths.{with_depths};
 ghost use Rattle.time_engine.specs.Conditions.{HasAccesses};
 ghost use Rattle.engine_view.specs.Engines.{held_in};
 ghost use Rattle.engine_report.specs.Standings.{gap_of};
-ghost use Rattle.path_check.specs.Waits.{IsTried, IsTimed, IsAlong, cycle_at, place_at, moves_behind};
+ghost use Rattle.path_check.specs.Waits.{IsTried, edited, IsTimed, IsAlong, cycle_at, place_at, moves_behind};
 
 use crate::waits::{clocks_between, is_timed};
 use engine_view::Engine;
 use flow_design::{Advance, Edit};
 use flow_word::Place;
 
-/// Whether a path of steps shows that a plan ends after a clock where a FIFO has the edit's depth: its steps wait each for the one before
-/// it, the first is done no earlier than with the depths that stand, and the module of the last one is not ended by then.
+/// Whether a path of steps shows that a plan ends after a clock with these depths and the edit: its steps wait each for the one before it,
+/// the first is done no earlier than with the depths that stand, and the module of the last one is not ended by then. There is a depth for
+/// each channel, none greater than the one that stands.
 ///
 /// The engine holds the end of the plan's run, and no operation is a query. It looks at the accesses of each step once, and takes no
 /// memory.
 pub fn ends_after(
     engine: &Engine,
     ends: &[Option<Advance>],
-    edit: &Edit,
+    depths: &[u64],
+    edit: Option<Edit>,
     path: &[Place],
     clock: u64,
 ) -> bool
     requires { HasAccesses engine.now.graph.lanes engine.now.fifos.channels }
-    ensures { result ≡ true → (p : Plan) → IsTried p (held_in engine.now (map is_some ends.now)) ends.now edit.now
-        → (end : ℕ) → verdict (with_depth p edit.now.channel edit.now.depth) ≡ Done end → clock < end }
+    ensures { result ≡ true → (p : Plan) → IsTried p (held_in engine.now (map is_some ends.now)) ends.now (edited depths.now edit)
+        → (end : ℕ) → verdict (with_depths p (edited depths.now edit)) ≡ Done end → clock < end }
 {
-    match clocks_along(engine, edit, path) {
+    match clocks_along(engine, depths, edit, path) {
         Some(clocks) => {
             let first = cycle_of(engine, place_at(path, 0));
             let behind = clocks_behind(engine, ends, place_at(path, path.len() - 1));
@@ -42,17 +44,17 @@ pub fn ends_after(
 }
 
 /// Whether a path of steps, each of which waits for the one before it, leads back to where it began in a clock or more, so that the plan
-/// never ends where a FIFO has the edit's depth.
+/// never ends with these depths and the edit. There is a depth for each channel, none greater than the one that stands.
 ///
 /// The engine holds the end of the plan's run, and no operation is a query. It looks at the accesses of each step once, and takes no
 /// memory.
-pub fn never_ends(engine: &Engine, edit: &Edit, path: &[Place]) -> bool
+pub fn never_ends(engine: &Engine, depths: &[u64], edit: Option<Edit>, path: &[Place]) -> bool
     requires { HasAccesses engine.now.graph.lanes engine.now.fifos.channels }
     ensures { result ≡ true → (p : Plan) (ends : Items (Option Advance))
-        → IsTried p (held_in engine.now (map is_some ends)) ends edit.now
-        → (end : ℕ) → verdict (with_depth p edit.now.channel edit.now.depth) ≢ Done end }
+        → IsTried p (held_in engine.now (map is_some ends)) ends (edited depths.now edit)
+        → (end : ℕ) → verdict (with_depths p (edited depths.now edit)) ≢ Done end }
 {
-    match clocks_along(engine, edit, path) {
+    match clocks_along(engine, depths, edit, path) {
         Some(clocks) => {
             if clocks == 0 {
                 return false;
@@ -64,9 +66,9 @@ pub fn never_ends(engine: &Engine, edit: &Edit, path: &[Place]) -> bool
 }
 
 /// How many clocks the last step of a path comes after the first, where each waits for the one before it.
-fn clocks_along(engine: &Engine, edit: &Edit, path: &[Place]) -> Option<u64>
+fn clocks_along(engine: &Engine, depths: &[u64], edit: Option<Edit>, path: &[Place]) -> Option<u64>
     requires { HasAccesses engine.now.graph.lanes engine.now.fifos.channels }
-    ensures { IfSome result (λ clocks. IsAlong engine.now edit.now path.now (length path.now) clocks) }
+    ensures { IfSome result (λ clocks. IsAlong engine.now (edited depths.now edit) path.now (length path.now) clocks) }
 {
     if path.is_empty() || !is_timed(engine, place_at(path, 0)) {
         return None;
@@ -77,7 +79,7 @@ fn clocks_along(engine: &Engine, edit: &Edit, path: &[Place]) -> Option<u64>
         if !is_timed(engine, next) {
             return None;
         }
-        let more = clocks_between(engine, edit, place_at(path, at - 1), next)?;
+        let more = clocks_between(engine, depths, edit, place_at(path, at - 1), next)?;
         clocks = clocks.saturating_add(more);
     }
     Some(clocks)

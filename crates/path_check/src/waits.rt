@@ -1,10 +1,10 @@
 //! Whether a step waits for another.
-ghost use Rattle.std.specs.Prelude.{◌≡◌, ◌<◌, true, length, map, is_some, All, Option, IfSome, List as Items};
+ghost use Rattle.std.specs.Prelude.{◌≡◌, ◌<◌, true, length, slice_index, map, is_some, All, Option, IfSome, List as Items};
 ghost use Rattle.flow_design.specs.declared.plan.Plan.{Plan};
 ghost use Rattle.flow_design.specs.declared.state.Advance.{Advance};
 ghost use Rattle.time_engine.specs.Conditions.{IsAccess, HasAccesses};
 ghost use Rattle.engine_view.specs.Engines.{held_in};
-ghost use Rattle.path_check.specs.Waits.{IsTried, free_with, WaitsFor, OneWaits, IsTimed, Adds};
+ghost use Rattle.path_check.specs.Waits.{IsTried, edited, free_with, WaitsFor, OneWaits, IsTimed, Adds};
 
 use engine_view::Engine;
 use flow_design::Edit;
@@ -18,12 +18,13 @@ pub(crate) fn is_timed(engine: &Engine, place: Place) -> bool
 }
 
 /// How many clocks a step comes after another that it waits for: the next step of the same module, or a step with an access that waits
-/// for a pop or a push in the other one or in a later one of its module, where a FIFO has the edit's depth. None where it is neither.
+/// for a pop or a push in the other one or in a later one of its module, with these depths and the edit. None where it is neither.
 ///
 /// It looks at each access of the step once.
 pub(crate) fn clocks_between(
     engine: &Engine,
-    edit: &Edit,
+    depths: &[u64],
+    edit: Option<Edit>,
     before: Place,
     next: Place,
 ) -> Option<u64>
@@ -31,23 +32,29 @@ pub(crate) fn clocks_between(
     requires before { IsTimed engine.now.graph.lanes before }
     requires next { IsTimed engine.now.graph.lanes next }
     ensures { IfSome result (λ clocks. (p : Plan) (ends : Items (Option Advance))
-        → IsTried p (held_in engine.now (map is_some ends)) ends edit.now
-        → Adds p (held_in engine.now (map is_some ends)) edit.now before next clocks) }
+        → IsTried p (held_in engine.now (map is_some ends)) ends (edited depths.now edit)
+        → Adds p (held_in engine.now (map is_some ends)) (edited depths.now edit) before next clocks) }
 {
     let step = engine.graph.step(next);
     if next.module == before.module && before.step < next.step && next.step - before.step == 1 {
         return Some(step.gap);
     }
-    find_lag(engine, edit, step.accesses.as_slice(), before)
+    find_lag(engine, depths, edit, step.accesses.as_slice(), before)
 }
 
 /// The lag of the first of these accesses that waits for the step at a place, or for a later one of its module.
-fn find_lag(engine: &Engine, edit: &Edit, accesses: &[Access], place: Place) -> Option<u64>
+fn find_lag(
+    engine: &Engine,
+    depths: &[u64],
+    edit: Option<Edit>,
+    accesses: &[Access],
+    place: Place,
+) -> Option<u64>
     requires { All (IsAccess engine.now.fifos.channels) accesses.now }
-    ensures { IfSome result (λ lag. OneWaits engine.now.fifos.channels edit.now accesses.now place lag) }
+    ensures { IfSome result (λ lag. OneWaits engine.now.fifos.channels (edited depths.now edit) accesses.now place lag) }
 {
     for access in accesses {
-        if let Some(lag) = lag_behind(engine, edit, access, place) {
+        if let Some(lag) = lag_behind(engine, depths, edit, access, place) {
             return Some(lag);
         }
     }
@@ -55,16 +62,22 @@ fn find_lag(engine: &Engine, edit: &Edit, accesses: &[Access], place: Place) -> 
 }
 
 /// How many clocks an access is possible after the step at a place, where it waits for that step or a later one of its module.
-fn lag_behind(engine: &Engine, edit: &Edit, access: &Access, place: Place) -> Option<u64>
+fn lag_behind(
+    engine: &Engine,
+    depths: &[u64],
+    edit: Option<Edit>,
+    access: &Access,
+    place: Place,
+) -> Option<u64>
     requires { IsAccess engine.now.fifos.channels access.now }
-    ensures { IfSome result (λ lag. WaitsFor engine.now.fifos.channels edit.now access.now place lag) }
+    ensures { IfSome result (λ lag. WaitsFor engine.now.fifos.channels (edited depths.now edit) access.now place lag) }
 {
     let fifos = &engine.fifos;
     if !access.kind.is_blocking() || !fifos.is_fifo(access.channel) {
         return None;
     }
     let side = access.kind.side();
-    let free = free_with(engine, edit, side, access.channel);
+    let free = free_with(engine, depths, edit, side, access.channel);
     if access.ordinal <= free {
         return None;
     }
@@ -76,13 +89,24 @@ fn lag_behind(engine: &Engine, edit: &Edit, access: &Access, place: Place) -> Op
     }
 }
 
-/// How many pops, or pushes, of a channel wait for nobody with the edit.
-fn free_with(engine: &Engine, edit: &Edit, side: Side, channel: u32) -> u64
+/// How many pops, or pushes, of a channel wait for nobody with these depths and the edit.
+fn free_with(engine: &Engine, depths: &[u64], edit: Option<Edit>, side: Side, channel: u32) -> u64
     requires { channel < length engine.now.fifos.channels }
-    ensures { result ≡ free_with engine.now.fifos.channels edit.now side channel }
+    ensures { result ≡ free_with engine.now.fifos.channels (edited depths.now edit) side channel }
 {
-    if side == Side::Push && channel == edit.channel {
-        return edit.depth;
+    match side {
+        Side::Push => depth_with(depths, edit, channel),
+        Side::Pop => engine.fifos.free(channel, side),
     }
-    engine.fifos.free(channel, side)
+}
+
+/// The depth of a channel with the edit, and 0 where the list has none.
+fn depth_with(depths: &[u64], edit: Option<Edit>, channel: u32) -> u64
+    ensures { result ≡ slice_index (edited depths.now edit) channel }
+{
+    let stands = depths.get(channel as usize).copied();
+    match edit {
+        Some(edit) if edit.channel == channel && stands.is_some() => edit.depth,
+        Some(_) | None => stands.unwrap_or(0),
+    }
 }

@@ -132,7 +132,7 @@ module _ (p : Plan) (h : Held) (s : IsSound (design p) h) (g : IsAgreed (design 
         let told = found_told p s g.marks key.module key.step t.is_key.there.step all_found in
         λ i. map (logged (step_with (record { cycle = cycle i; «module» = key.module; step = key.step }) [])) (paired (asked i) (told i))
 
-  all_logged : (keys : List TimedStep) → All (IsTimedKey h.lanes) keys
+  pub all_logged : (keys : List TimedStep) → All (IsTimedKey h.lanes) keys
       → flat_map (logged_at h) keys ≡ logged_in (steps_at p x (map place_of keys))
   all_logged [] t = refl
   all_logged (key ∷ keys) t =

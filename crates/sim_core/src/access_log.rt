@@ -50,8 +50,11 @@ impl Core {
         Ok(log)
     }
 
-    /// Adds what the accesses of a step with a cycle gave.
-    fn log_step(
+    /// Adds what each access of a step with a cycle gave, in order. What was in the list of replies doesn't matter: it is room that a
+    /// caller may use for many steps.
+    ///
+    /// It takes memory for what it adds, and for the replies to the step. After an error both lists may have some of that.
+    pub fn log_step(
         &self,
         key: &TimedStep,
         replies: &mut List<Reply>,

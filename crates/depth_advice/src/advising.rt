@@ -106,7 +106,7 @@ pub fn advised_depths<R: Threads + Wait + Sync, U: Runner>(
 }
 
 /// The verdict of a final core, and depths above the peaks of its plan's FIFOs.
-fn read_depths(alloc: Global, core: &Core) -> Result<DepthAdvice, OutOfMemory>
+pub fn read_depths(alloc: Global, core: &Core) -> Result<DepthAdvice, OutOfMemory>
     requires { IsFinal (design core.now.plan) core.now.plan.cycles (theory_of core.now) }
     ensures verdict { IfOk result (λ advice. advice.verdict ≡ (lockstep.report core.now.plan).verdict) }
     ensures depths { IfOk result (λ advice. advice.depths ≡ depths_by core.now.plan (λ f. peak core.now.plan f + 1)) }

@@ -1,5 +1,5 @@
 -- What stands in a list, and what is found there.
-use Rattle.std.proofs.Common.{◌≡◌, ℕ, zero, suc, ◌+◌, ◌<◌, ◌≤◌, ◌⊎◌, inl, inr, Bool, true, false, Option, Some, None, List, [], ◌∷◌, ◌++◌, cond, refl, sym, ◌∙◌}
+use Rattle.std.proofs.Common.{◌≡◌, ℕ, zero, suc, ◌<◌, ◌≤◌, ◌⊎◌, inl, inr, Bool, true, false, Some, List, [], ◌∷◌, ◌++◌, refl, sym, ◌∙◌}
 use Rattle.std.proofs.Common.{ap, subst, arith}
 use Rattle.std.specs.Prelude.{⊤, ◌&&◌, ◌||◌, not, nat_lt, find, map, flat_map}
 use Rattle.std.specs.List.{list_any}
@@ -90,22 +90,29 @@ pub first_found : (p : List ℕ → Bool) (xs : List (List ℕ)) → Rises xs �
     → (found : List ℕ) × (find p xs ≡ Some found) × IsFirst p xs found
 first_found p [] r x m t = absurd m
 first_found p (y ∷ xs) r x m t = elim (cases_Bool (p y)) [
-  | inl u ↦ (y, rw u refl, record {
+  | inl u ↦ (
+    y,
+    rw u refl,
+    record {
       among = inl refl;
       passes = u;
       first = λ z k v. elim k [ inl e ↦ inl (sym e) | inr later ↦ inr (r.0 z later) ];
-    })
+    },
+  )
   | inr u ↦
       let behind : (z : List ℕ) → Among (y ∷ xs) z → p z ≡ true → Among xs z = λ z k v. elim k [
         | inl e ↦ let same = ap p e in absurd (cc)
         | inr later ↦ later
       ] in
-      let (found, is, it) = first_found p xs r.1 x (behind x m t) t in
-      (found, rw u is, record {
-        among = inr it.among;
-        passes = it.passes;
-        first = λ z k v. it.first z (behind z k v) v;
-      })
+      let (found, is, it) = first_found p xs r.1 x (behind x m t) t in (
+        found,
+        rw u is,
+        record {
+          among = inr it.among;
+          passes = it.passes;
+          first = λ z k v. it.first z (behind z k v) v;
+        },
+      )
 ]
 
 -- ---- the least

@@ -1,5 +1,5 @@
 -- The choices of depths: which they are, and their order.
-use Rattle.std.proofs.Common.{◌≡◌, ℕ, zero, suc, ◌+◌, ◌<◌, ◌≤◌, ◌⊎◌, inl, inr, true, false, cond, List, [], ◌∷◌, ◌++◌, length, refl, sym, ◌∙◌, ap, subst}
+use Rattle.std.proofs.Common.{◌≡◌, ℕ, zero, suc, ◌+◌, ◌<◌, ◌≤◌, inl, inr, true, false, List, [], ◌∷◌, ◌++◌, length, refl, sym, subst}
 use Rattle.std.proofs.Common.{arith}
 use Rattle.std.specs.Prelude.{slice_index, slice_index_or, flat_map, map}
 use Rattle.std.specs.List.{range_with_len}
@@ -133,5 +133,5 @@ rises_choices most [] = (λ y m. absurd m, tt)
 rises_choices most (c ∷ channels) = elim (cases_Bool (is_fifo c.kind)) [
   | inl e ↦ rw e (rises_range 1 most (choices most channels) (rises_choices most channels))
   | inr e ↦ rw e (rises_append (map (λ others. 0 ∷ others) (choices most channels)) []
-    (rises_behind 0 (choices most channels) (rises_choices most channels)) tt (λ x y m k. absurd k))
+      (rises_behind 0 (choices most channels) (rises_choices most channels)) tt (λ x y m k. absurd k))
 ]

@@ -1,1 +1,4 @@
 pub mod Choices
+pub mod Needed
+pub mod Least
+pub mod LeastText

@@ -1,12 +1,11 @@
 -- Depths that paths show to be too small.
 use Rattle.std.proofs.Common.{◌≡◌, ℕ, ◌+◌, ◌<◌, ◌≤◌, true, List, length, refl, arith, Option}
 use Rattle.std.specs.Prelude.{slice_index, slice_set}
-use Rattle.flow_design.specs.declared.plan.Edit.{Edit}
 use Rattle.flow_design.specs.declared.plan.Plan.{Plan}
 use Rattle.flow_design.specs.declared.report.Verdict.{Verdict}
 use Rattle.flow_design.specs.declared.report.Verdict.TheVariants.{Done, Deadlock, Cycles, Ops}
 use Rattle.flow_design.specs.declared.state.Advance.{Advance}
-use Rattle.flow_design.specs.Plans.{is_fifo, kind_at, with_depth}
+use Rattle.flow_design.specs.Plans.{is_fifo, kind_at}
 use Rattle.lockstep_defs.specs.Verdict.{verdict}
 use Rattle.fifo_table.specs.declared.channel.TableChannel.{TableChannel}
 use Rattle.fifo_table.specs.declared.channel.TableChannel.TheVariants as table
@@ -37,9 +36,11 @@ done_form clock (Ops c) l = absurd l
 pub late_shown : (p : Plan) (h : Held) (ends : List (Option Advance)) → IsFinished p h ends → AsksNothing p → (c n clock : ℕ)
     → is_fifo (kind_at p c) ≡ true → c < length h.channels → IsFifo (channel_at h.channels c).kind → 1 ≤ n
     → n < depth_of (channel_at h.channels c).kind
-    → (IsTried p h ends (record { channel = c; depth = n }) → (end : ℕ) → verdict (with_depth p c n) ≡ Done end → clock < end)
+    → (ds : List ℕ) → ds ≡ p.depths
+    → (IsTried p h ends (slice_set ds c n) → (end : ℕ) → verdict (with_depths p (slice_set ds c n)) ≡ Done end → clock < end)
     → IsLateBelow p clock c (n + 1)
-late_shown p h ends f quiet c n clock fifo inside kind low less shown d some allowed below done =
+late_shown p h ends f quiet c n clock fifo inside kind low less ds same late_with d some allowed below done =
+    let shown = rw same at late_with in
     let own = own_depths p f.fits in
     let is = depth_is p c (channel_at h.channels c).kind kind (f.sound.kinds c inside) in
     let most = own.most c fifo in
@@ -50,5 +51,5 @@ late_shown p h ends f quiet c n clock fifo inside kind low less shown d some all
     let then = never_slower p f.fits quiet (slice_set p.depths c d) (slice_set p.depths c n) fewer tried
     (set_deeper p p.depths p.depths c d n own own fifo (λ g e. omega arith) (omega arith)) first its in
     let (end, is_end, no_later) = done_form first (verdict (with_depths p (slice_set p.depths c n))) then in
-    let late = shown (record { finished = f; quiet = quiet; depths = tried; lower = lower }) end is_end in
+    let late = shown (record { finished = f; quiet = quiet; fit = tried; lower = lower }) end is_end in
     absurd (omega arith)

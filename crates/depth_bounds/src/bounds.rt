@@ -17,24 +17,33 @@ use flow_word::{OutOfMemory, Place, Side};
 use path_check::ends_after;
 use std::alloc::Global;
 
+/// A FIFO, whose depth is to be lowered, and a clock by which the plan is to end.
+#[derive(Clone, Copy)]
+pub struct Target {
+    pub channel: u32,
+    pub clock: u64,
+}
+
 /// A depth of a FIFO below which the plan ends after a clock, where the others have their own depths. 1 where none is found, and of a
 /// channel that is none.
 ///
-/// The engine holds the end of the plan's run, and no operation is a query. The latest clocks may be those of the plan with deeper FIFOs:
-/// a depth above 1 is shown by a path of steps, which is checked. It looks at each access to the FIFO and each step of the path a few
-/// times, and takes memory for the path. An error leaves nothing.
+/// The engine holds the end of the plan's run, the depths are the plan's, and no operation is a query. The latest clocks may be those of
+/// the plan with deeper FIFOs: a depth above 1 is shown by a path of steps, which is checked. It looks at each access to the FIFO and each
+/// step of the path a few times, and takes memory for the path. An error leaves nothing.
 pub fn late_depth(
     alloc: Global,
     engine: &Engine,
     ends: &[Option<Advance>],
-    clock: u64,
+    depths: &[u64],
     latest: &Latest,
-    channel: u32,
+    target: &Target,
 ) -> Result<u64, OutOfMemory>
     requires { HasAccesses engine.now.graph.lanes engine.now.fifos.channels }
     ensures { IfOk result (λ depth. (p : Plan) → IsFinished p (held_in engine.now (map is_some ends.now)) ends.now → AsksNothing p
-        → is_fifo (kind_at p channel) ≡ true → IsLateBelow p clock channel depth) }
+        → depths.now ≡ p.depths → is_fifo (kind_at p target.now.channel) ≡ true
+        → IsLateBelow p target.now.clock target.now.channel depth) }
 {
+    let Target { channel, clock } = *target;
     if engine.fifos.len() <= channel || !engine.fifos.is_fifo(channel) {
         return Ok(1);
     }
@@ -49,7 +58,7 @@ pub fn late_depth(
         depth: few.depth,
     };
     let path = find_trail(alloc, engine, ends, clock, latest, &few)?;
-    if ends_after(engine, ends, &edit, path.as_slice(), clock) {
+    if ends_after(engine, ends, depths, Some(edit), path.as_slice(), clock) {
         return Ok(few.depth + 1);
     }
     Ok(1)

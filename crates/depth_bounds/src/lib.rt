@@ -7,6 +7,6 @@ mod latest;
 mod quiet;
 mod trails;
 
-pub use bounds::late_depth;
+pub use bounds::{Target, late_depth};
 pub use latest::{Latest, find_latest};
 pub use quiet::asks_nothing;

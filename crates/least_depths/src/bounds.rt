@@ -4,8 +4,7 @@ ghost use Rattle.flow_design.specs.Plans.{is_fifo, kind_at};
 ghost use Rattle.depth_order.specs.Depths.{AsksNothing};
 ghost use Rattle.depth_bounds.specs.Late.{IsLateBelow};
 
-use crate::halving::Target;
-use depth_bounds::{Latest, asks_nothing, find_latest, late_depth};
+use depth_bounds::{Latest, Target, asks_nothing, find_latest, late_depth};
 use depth_session::DepthSession;
 use std::alloc::Global;
 
@@ -45,9 +44,9 @@ pub(crate) fn late_below(
                 alloc,
                 core.engine(),
                 core.ends(),
-                target.clock,
+                core.plan().depths.as_slice(),
                 latest,
-                target.channel,
+                target,
             );
             found.unwrap_or(1)
         }

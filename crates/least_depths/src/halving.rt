@@ -9,7 +9,7 @@ ghost use Rattle.least_depths.specs.Lowering.{HasDepth, is_done_by, is_in_time, 
 ghost use Rattle.least_depths.specs.Known.{AreKnown, IsAlike};
 
 use crate::bounds::late_below;
-use depth_bounds::Latest;
+use depth_bounds::{Latest, Target};
 use depth_session::{DepthSession, Runner};
 use flow_design::{Edit, Verdict};
 use flow_word::OutOfMemory;
@@ -64,13 +64,6 @@ fn is_fifo(session: &DepthSession, channel: u64) -> bool
     session.plan().design.channels.as_slice()[channel as usize]
         .kind
         .is_fifo()
-}
-
-/// A FIFO that is to be lowered with an end by a clock.
-#[derive(Clone, Copy)]
-pub(crate) struct Target {
-    pub(crate) channel: u32,
-    pub(crate) clock: u64,
 }
 
 /// What is known of the depths of a FIFO that is to be lowered with an end by a clock.

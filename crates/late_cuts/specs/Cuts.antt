@@ -1,0 +1,26 @@
+-- Cuts that every choice of depths with which a plan ends by a clock meets.
+use Rattle.std.specs.Prelude.{◌≡◌, ℕ, ◌≤◌, true, List, slice_index, All}
+use Rattle.flow_design.specs.declared.limits.TheConstants.{FIFO_DEPTH}
+use Rattle.flow_design.specs.declared.plan.Plan.{Plan}
+use Rattle.flow_design.specs.Plans.{is_fifo, kind_at}
+use Rattle.lockstep_defs.specs.Verdict.{verdict}
+use Rattle.depth_order.specs.Depths.{with_depths, AreDepths, IsDoneBy}
+use Rattle.depth_cuts.specs.declared.cuts.Need.{Need}
+use Rattle.depth_cuts.specs.declared.cuts.Cut.{Cut}
+use Rattle.depth_cuts.specs.Met.{IsMet, IsUnmet}
+
+-- each FIFO of the plan is as deep as the language allows
+abbrev pub AreDeepest : Plan → Type 0
+AreDeepest p = (f : ℕ) → is_fifo (kind_at p f) ≡ true → slice_index p.depths f ≡ FIFO_DEPTH
+
+-- the need is of a FIFO of the plan, which can be so deep, and need not be
+pub record IsNeedOf (p : Plan) (need : Need) : Type 0 where
+  pub fifo : is_fifo (kind_at p need.channel) ≡ true
+  pub least : 2 ≤ need.depth
+  pub most : need.depth ≤ FIFO_DEPTH
+
+-- these depths do not meet the cut, and all do with which the plan is done by the clock
+pub record IsCutFor (p : Plan) (clock : ℕ) (depths : List ℕ) (cut : Cut) : Type 0 where
+  pub unmet : IsUnmet cut depths
+  pub needs : All (IsNeedOf p) cut.needs
+  pub needed : (es : List ℕ) → AreDepths p es → IsDoneBy clock (verdict (with_depths p es)) → IsMet cut es

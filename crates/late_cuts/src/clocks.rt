@@ -1,0 +1,219 @@
+//! The clock of each step with other depths.
+ghost use Rattle.std.specs.Prelude.{◌≡◌, true};
+ghost use Rattle.event_graph.specs.Lanes.{HasStep};
+ghost use Rattle.time_engine.specs.Conditions.{HasAccesses};
+
+use crate::waits::{Start, start_of};
+use engine_view::Engine;
+use flow_word::{List, OutOfMemory, Place, Words};
+use std::alloc::Global;
+
+/// The clock of a step that is not found.
+pub(crate) const UNKNOWN: u64 = u64::MAX;
+
+/// Of each module the clocks of its first steps, as far as what they wait for is found. Nothing is said of these clocks: they guide a
+/// search, and what it finds is checked.
+pub(crate) struct Clocks {
+    /// Of the steps of all modules, one module after the other.
+    clocks: Words,
+    /// Of each module, how many steps stand before its own ones.
+    begins: Words,
+    /// Of each module, how many of its steps have their clock.
+    found: Words,
+}
+
+impl Drop for Clocks {
+    fn drop(self) {
+        let Clocks {
+            clocks: _clocks,
+            begins: _begins,
+            found: _found,
+        } = self;
+    }
+}
+
+impl Clocks {
+    /// No clock is found yet.
+    fn new(alloc: Global, engine: &Engine) -> Result<Clocks, OutOfMemory> {
+        let mut begins = List::new(alloc);
+        let mut found = List::new(alloc);
+        let mut steps = 0u64;
+        for owner in 0..engine.graph.modules() {
+            begins.push(steps)?;
+            found.push(0)?;
+            steps = steps.saturating_add(engine.graph.frontier(owner));
+        }
+        Ok(Clocks {
+            clocks: List::zeros(alloc, steps)?,
+            begins,
+            found,
+        })
+    }
+
+    /// How many steps of a module have their clock.
+    pub(crate) fn found(&self, owner: u32) -> u64 {
+        item(self.found.as_slice(), owner as u64)
+    }
+
+    /// The clock of a step; `UNKNOWN` where it is not found.
+    pub(crate) fn at(&self, place: Place) -> u64 {
+        if self.found(place.module) <= place.step {
+            return UNKNOWN;
+        }
+        item(self.clocks.as_slice(), self.number(place))
+    }
+
+    /// The number of a step among all.
+    fn number(&self, place: Place) -> u64 {
+        item(self.begins.as_slice(), place.module as u64).saturating_add(place.step)
+    }
+
+    /// Sets the clock of a module's first step that has none.
+    fn set(&mut self, place: Place, clock: u64) {
+        let number = self.number(place);
+        put(self.clocks.as_mut_slice(), number, clock);
+        put(
+            self.found.as_mut_slice(),
+            place.module as u64,
+            place.step.saturating_add(1),
+        );
+    }
+}
+
+/// The item of a number, and 0 where there is none.
+pub(crate) fn item(items: &[u64], number: u64) -> u64 {
+    items.get(number as usize).copied().unwrap_or(0)
+}
+
+/// Sets the item of a number, where there is one.
+pub(crate) fn put(items: &mut [u64], number: u64, item: u64) {
+    if number < items.len() as u64 {
+        items[number as usize] = item;
+    }
+}
+
+/// The modules that wait for a step, and those that are to be looked at. Each number of a module is one more than it is, and 0 is none.
+struct Waiting {
+    /// Of each step the last module that began to wait for it.
+    last: Words,
+    /// Of each module the one that waited for the same step before.
+    before: Words,
+    /// The modules to look at, from the last.
+    ready: Words,
+}
+
+impl Drop for Waiting {
+    fn drop(self) {
+        let Waiting {
+            last: _last,
+            before: _before,
+            ready: _ready,
+        } = self;
+    }
+}
+
+impl Waiting {
+    /// All modules are to be looked at, in order.
+    fn new(alloc: Global, modules: u32, steps: u64) -> Result<Waiting, OutOfMemory> {
+        let mut ready = List::new(alloc);
+        for behind in 0..modules {
+            ready.push((modules - behind) as u64)?;
+        }
+        Ok(Waiting {
+            last: List::zeros(alloc, steps)?,
+            before: List::zeros(alloc, modules as u64)?,
+            ready,
+        })
+    }
+
+    /// The next module to look at, which is one no longer.
+    fn take(&mut self) -> Option<u64> {
+        let left = self.ready.len().checked_sub(1)?;
+        let owner = item(self.ready.as_slice(), left).checked_sub(1)?;
+        self.ready.truncate(left);
+        Some(owner)
+    }
+
+    /// A module waits for a step.
+    fn wait(&mut self, step: u64, owner: u32) {
+        let before = item(self.last.as_slice(), step);
+        put(self.before.as_mut_slice(), owner as u64, before);
+        put(self.last.as_mut_slice(), step, owner as u64 + 1);
+    }
+
+    /// The modules that wait for a step are to be looked at.
+    fn wake(&mut self, step: u64) -> Result<(), OutOfMemory> {
+        let mut owner = item(self.last.as_slice(), step);
+        put(self.last.as_mut_slice(), step, 0);
+        for _ in 0..u64::MAX {
+            let Some(number) = owner.checked_sub(1) else {
+                break;
+            };
+            self.ready.push(owner)?;
+            owner = item(self.before.as_slice(), number);
+        }
+        Ok(())
+    }
+}
+
+/// The clock of each step with these depths. Where modules wait for one another for good, some are not found.
+///
+/// It looks at each step once, and once more for each wait for a step without a clock. It takes memory for two numbers of each step. An
+/// error leaves nothing.
+pub(crate) fn find_clocks(
+    alloc: Global,
+    engine: &Engine,
+    depths: &[u64],
+) -> Result<Clocks, OutOfMemory>
+    requires { HasAccesses engine.now.graph.lanes engine.now.fifos.channels }
+{
+    let mut clocks = Clocks::new(alloc, engine)?;
+    let steps = clocks.clocks.len();
+    let mut waiting = Waiting::new(alloc, engine.graph.modules(), steps)?;
+    for _ in 0..u64::MAX {
+        match waiting.take() {
+            Some(owner) if owner < engine.graph.modules() as u64 => {
+                find_lane(engine, depths, &mut clocks, &mut waiting, owner as u32)?
+            }
+            Some(_) | None => break,
+        }
+    }
+    Ok(clocks)
+}
+
+/// The clocks of a module's next steps, as far as what they wait for is found.
+fn find_lane(
+    engine: &Engine,
+    depths: &[u64],
+    clocks: &mut Clocks,
+    waiting: &mut Waiting,
+    owner: u32,
+) -> Result<(), OutOfMemory>
+    requires { HasAccesses engine.now.graph.lanes engine.now.fifos.channels }
+{
+    for step in clocks.found(owner)..u64::MAX {
+        let place = Place {
+            module: owner,
+            step,
+        };
+        match start_of(engine, depths, clocks, place) {
+            Start::At(clock) => {
+                clocks.set(place, clock);
+                waiting.wake(clocks.number(place))?;
+            }
+            Start::After(event) => {
+                waiting.wait(clocks.number(event.place), owner);
+                break;
+            }
+            Start::Never => break,
+        }
+    }
+    Ok(())
+}
+
+/// Whether a place is that of a step with a cycle.
+pub(crate) fn is_timed(engine: &Engine, place: Place) -> bool
+    ensures { result ≡ true → HasStep engine.now.graph.lanes place }
+{
+    place.module < engine.graph.modules() && place.step < engine.graph.frontier(place.module)
+}

@@ -1,0 +1,212 @@
+//! Paths of steps that wait for one another with other depths.
+ghost use Rattle.std.specs.Prelude.{◌≡◌};
+ghost use Rattle.time_engine.specs.Conditions.{HasAccesses};
+
+use crate::clocks::{Clocks, find_clocks, is_timed, item, put};
+use crate::waits::{Event, Start, cause_of, start_of};
+use engine_view::Engine;
+use flow_design::Advance;
+use flow_design::limits::FIFO_DEPTH;
+use flow_word::{List, OutOfMemory, Place, Words};
+use std::alloc::Global;
+
+/// A path of steps, and depths with which each of them waits for the one before it. Nothing is said of either: both are checked.
+pub(crate) struct Trail {
+    pub(crate) path: List<Place>,
+    pub(crate) depths: Words,
+}
+
+impl Drop for Trail {
+    fn drop(self) {
+        let Trail {
+            path: _path,
+            depths: _depths,
+        } = self;
+    }
+}
+
+impl Trail {
+    /// An empty path, with FIFOs that are as deep as the language allows. A channel without a depth has none.
+    fn new(alloc: Global, depths: &[u64]) -> Result<Trail, OutOfMemory> {
+        let mut deepest = List::new(alloc);
+        for depth in depths {
+            deepest.push(if *depth == 0 { 0 } else { FIFO_DEPTH })?;
+        }
+        Ok(Trail {
+            path: List::new(alloc),
+            depths: deepest,
+        })
+    }
+
+    /// The path waits for a place in a FIFO, which has its own depth of these.
+    fn cross(&mut self, depths: &[u64], full: Option<u32>) {
+        if let Some(channel) = full {
+            put(
+                self.depths.as_mut_slice(),
+                channel as u64,
+                item(depths, channel as u64),
+            );
+        }
+    }
+}
+
+/// A path that is to show that the plan ends after a clock with these depths, or never, with FIFOs as deep as may be where the path doesn't
+/// wait for a place. None where the plan seems to end in time.
+///
+/// It takes memory for two numbers of each step, and for the path. An error leaves nothing.
+pub(crate) fn find_trail(
+    alloc: Global,
+    engine: &Engine,
+    ends: &[Option<Advance>],
+    depths: &[u64],
+    clock: u64,
+) -> Result<Option<Trail>, OutOfMemory>
+    requires { HasAccesses engine.now.graph.lanes engine.now.fifos.channels }
+{
+    let clocks = find_clocks(alloc, engine, depths)?;
+    match first_held(engine, &clocks) {
+        Some(owner) => match held_round(engine, depths, &clocks, owner) {
+            Some(first) => find_round(alloc, engine, depths, &clocks, first),
+            None => Ok(None),
+        },
+        None => match last_end(engine, ends, &clocks) {
+            Some(last) if clock <= last.clock => {
+                let trail = find_way(alloc, engine, depths, &clocks, last.place)?;
+                Ok(Some(trail))
+            }
+            Some(_) | None => Ok(None),
+        },
+    }
+}
+
+/// The first module with a step that has no clock.
+fn first_held(engine: &Engine, clocks: &Clocks) -> Option<u32> {
+    for owner in 0..engine.graph.modules() {
+        if clocks.found(owner) < engine.graph.frontier(owner) {
+            return Some(owner);
+        }
+    }
+    None
+}
+
+/// A module's last step, and its last clock.
+#[derive(Clone, Copy)]
+struct End {
+    place: Place,
+    clock: u64,
+}
+
+/// The latest end of a module, where each step has its clock.
+fn last_end(engine: &Engine, ends: &[Option<Advance>], clocks: &Clocks) -> Option<End> {
+    let mut last: Option<End> = None;
+    for owner in 0..engine.graph.modules() {
+        if let Some(step) = engine.graph.frontier(owner).checked_sub(1) {
+            let place = Place {
+                module: owner,
+                step,
+            };
+            let clock = clocks.at(place).saturating_add(clocks_behind(ends, owner));
+            if last.is_none_or(|last| last.clock < clock) {
+                last = Some(End { place, clock });
+            }
+        }
+    }
+    last
+}
+
+/// How many clocks after its last step a module still moves.
+fn clocks_behind(ends: &[Option<Advance>], owner: u32) -> u64 {
+    match ends.get(owner as usize) {
+        Some(Some(Advance::Ended(gap))) | Some(Some(Advance::Spent(gap))) => gap.saturating_sub(1),
+        Some(_) | None => 0,
+    }
+}
+
+/// The way to a step from the last one before it that is done no later than with the depths that stand.
+fn find_way(
+    alloc: Global,
+    engine: &Engine,
+    depths: &[u64],
+    clocks: &Clocks,
+    last: Place,
+) -> Result<Trail, OutOfMemory>
+    requires { HasAccesses engine.now.graph.lanes engine.now.fifos.channels }
+{
+    let mut trail = Trail::new(alloc, depths)?;
+    let mut at = last;
+    for _ in 0..u64::MAX {
+        trail.path.push(at)?;
+        if !is_later(engine, clocks, at) {
+            break;
+        }
+        let Some(cause) = cause_of(engine, depths, clocks, at) else {
+            break;
+        };
+        trail.cross(depths, cause.full);
+        at = cause.place;
+    }
+    trail.path.as_mut_slice().reverse();
+    Ok(trail)
+}
+
+/// Whether a step is done later than with the depths that stand.
+fn is_later(engine: &Engine, clocks: &Clocks, place: Place) -> bool {
+    is_timed(engine, place) && engine.graph.cycle_of(place).unwrap_or(0) < clocks.at(place)
+}
+
+/// What a module without its next clock waits for.
+fn held_by(engine: &Engine, depths: &[u64], clocks: &Clocks, owner: u32) -> Option<Event>
+    requires { HasAccesses engine.now.graph.lanes engine.now.fifos.channels }
+{
+    match start_of(engine, depths, clocks, next_place(clocks, owner)) {
+        Start::After(event) => Some(event),
+        Start::At(_) | Start::Never => None,
+    }
+}
+
+/// The first step of a module without a clock.
+fn next_place(clocks: &Clocks, owner: u32) -> Place {
+    Place {
+        module: owner,
+        step: clocks.found(owner),
+    }
+}
+
+/// A module of a round of modules that wait for one another, where one waits for such a round.
+fn held_round(engine: &Engine, depths: &[u64], clocks: &Clocks, owner: u32) -> Option<u32>
+    requires { HasAccesses engine.now.graph.lanes engine.now.fifos.channels }
+{
+    let mut at = owner;
+    for _ in 0..engine.graph.modules() {
+        at = held_by(engine, depths, clocks, at)?.place.module;
+    }
+    Some(at)
+}
+
+/// The round of steps that wait for one another, from the next one of a module and back to it.
+fn find_round(
+    alloc: Global,
+    engine: &Engine,
+    depths: &[u64],
+    clocks: &Clocks,
+    first: u32,
+) -> Result<Option<Trail>, OutOfMemory>
+    requires { HasAccesses engine.now.graph.lanes engine.now.fifos.channels }
+{
+    let mut trail = Trail::new(alloc, depths)?;
+    let mut at = first;
+    trail.path.push(next_place(clocks, first))?;
+    for _ in 0..u64::MAX {
+        let Some(event) = held_by(engine, depths, clocks, at) else {
+            return Ok(None);
+        };
+        trail.cross(depths, event.full());
+        at = event.place.module;
+        trail.path.push(next_place(clocks, at))?;
+        if at == first {
+            break;
+        }
+    }
+    trail.path.as_mut_slice().reverse();
+    Ok(Some(trail))
+}

@@ -1,0 +1,196 @@
+//! What a step waits for with other depths.
+ghost use Rattle.std.specs.Prelude.{All};
+ghost use Rattle.time_engine.specs.Conditions.{IsAccess, HasAccesses};
+
+use crate::clocks::{Clocks, UNKNOWN, is_timed, item};
+use engine_view::Engine;
+use flow_word::{Access, Place, Side};
+
+/// A pop or a push that an access waits for.
+#[derive(Clone, Copy)]
+pub(crate) struct Event {
+    /// Its step.
+    pub(crate) place: Place,
+    pub(crate) channel: u32,
+    /// The side of the access.
+    pub(crate) side: Side,
+    /// So many clocks after it the access is possible.
+    pub(crate) lag: u64,
+}
+
+/// When an access is possible, or a step is done.
+#[derive(Clone, Copy)]
+pub(crate) enum Start {
+    /// From this clock on, or in it.
+    At(u64),
+    /// Behind an event without a clock.
+    After(Event),
+    /// Never.
+    Never,
+}
+
+/// The clock of a step, by the clocks of what it waits for.
+pub(crate) fn start_of(engine: &Engine, depths: &[u64], clocks: &Clocks, place: Place) -> Start
+    requires accesses { HasAccesses engine.now.graph.lanes engine.now.fifos.channels }
+{
+    if !is_timed(engine, place) {
+        return Start::Never;
+    }
+    let step = engine.graph.step(place);
+    let before = match before(place) {
+        Some(before) => clocks.at(before),
+        None => 0,
+    };
+    let arrival = before.saturating_add(step.gap);
+    latest_of(engine, depths, clocks, step.accesses.as_slice(), arrival)
+}
+
+/// The step before one of the same module.
+fn before(place: Place) -> Option<Place> {
+    let step = place.step.checked_sub(1)?;
+    Some(Place {
+        module: place.module,
+        step,
+    })
+}
+
+/// The latest of a clock and of those from which these accesses are possible, or what the first of them waits for that has none.
+fn latest_of(
+    engine: &Engine,
+    depths: &[u64],
+    clocks: &Clocks,
+    accesses: &[Access],
+    arrival: u64,
+) -> Start
+    requires { All (IsAccess engine.now.fifos.channels) accesses.now }
+{
+    let mut latest = arrival;
+    for access in accesses {
+        match possible_from(engine, depths, clocks, access) {
+            Start::At(clock) => latest = latest.max(clock),
+            Start::After(event) => return Start::After(event),
+            Start::Never => return Start::Never,
+        }
+    }
+    Start::At(latest)
+}
+
+/// When an access is possible.
+fn possible_from(engine: &Engine, depths: &[u64], clocks: &Clocks, access: &Access) -> Start
+    requires { IsAccess engine.now.fifos.channels access.now }
+{
+    let Some(events) = events_before(engine, depths, access) else {
+        return Start::At(0);
+    };
+    let Some(event) = event_at(engine, access, events) else {
+        return Start::Never;
+    };
+    let clock = clocks.at(event.place);
+    if clock == UNKNOWN {
+        return Start::After(event);
+    }
+    Start::At(clock.saturating_add(event.lag))
+}
+
+/// How many pops, or pushes, are before the one that an access waits for. None where it waits for nobody.
+fn events_before(engine: &Engine, depths: &[u64], access: &Access) -> Option<u64>
+    requires { IsAccess engine.now.fifos.channels access.now }
+{
+    if !access.kind.is_blocking() || !engine.fifos.is_fifo(access.channel) {
+        return None;
+    }
+    let free = match access.kind.side() {
+        Side::Push => item(depths, access.channel as u64),
+        Side::Pop => 0,
+    };
+    access.ordinal.checked_sub(free)?.checked_sub(1)
+}
+
+/// The pop, or the push, with so many before it at the other side of an access's channel.
+fn event_at(engine: &Engine, access: &Access, before: u64) -> Option<Event>
+    requires { IsAccess engine.now.fifos.channels access.now }
+{
+    let side = access.kind.side();
+    let place = engine.fifos.place(access.channel, side.other(), before)?;
+    Some(Event {
+        place,
+        channel: access.channel,
+        side,
+        lag: engine.fifos.lag(access.channel, side),
+    })
+}
+
+/// What made the clock of a step.
+#[derive(Clone, Copy)]
+pub(crate) struct Cause {
+    /// The step before it on the way.
+    pub(crate) place: Place,
+    /// The FIFO in which it waited for a place.
+    pub(crate) full: Option<u32>,
+}
+
+/// What made the clock of a step: the step before it in its module, else an element that it waited for, else a place.
+pub(crate) fn cause_of(
+    engine: &Engine,
+    depths: &[u64],
+    clocks: &Clocks,
+    place: Place,
+) -> Option<Cause>
+    requires accesses { HasAccesses engine.now.graph.lanes engine.now.fifos.channels }
+{
+    if !is_timed(engine, place) {
+        return None;
+    }
+    let step = engine.graph.step(place);
+    let clock = clocks.at(place);
+    if let Some(before) = before(place)
+        && clocks.at(before).saturating_add(step.gap) == clock
+    {
+        return Some(Cause {
+            place: before,
+            full: None,
+        });
+    }
+    let accesses = step.accesses.as_slice();
+    let element = cause_at(engine, depths, clocks, accesses, clock, Side::Pop);
+    if element.is_some() {
+        return element;
+    }
+    cause_at(engine, depths, clocks, accesses, clock, Side::Push)
+}
+
+/// The first of these accesses at a side of its channel that is possible in this clock, and not before: what it waited for.
+fn cause_at(
+    engine: &Engine,
+    depths: &[u64],
+    clocks: &Clocks,
+    accesses: &[Access],
+    clock: u64,
+    side: Side,
+) -> Option<Cause>
+    requires { All (IsAccess engine.now.fifos.channels) accesses.now }
+{
+    for access in accesses {
+        if access.kind.side() == side
+            && let Some(before) = events_before(engine, depths, access)
+            && let Some(event) = event_at(engine, access, before)
+            && clocks.at(event.place).saturating_add(event.lag) == clock
+        {
+            return Some(Cause {
+                place: event.place,
+                full: event.full(),
+            });
+        }
+    }
+    None
+}
+
+impl Event {
+    /// The FIFO in which the access waits for a place.
+    pub(crate) fn full(self) -> Option<u32> {
+        match self.side {
+            Side::Push => Some(self.channel),
+            Side::Pop => None,
+        }
+    }
+}

@@ -86,7 +86,7 @@ fn answer(
 }
 
 /// The turn of a module that is awake, of which it is known what is due: where it does not stall, it moves.
-#[inline(never)]
+#[inline(always)]
 fn act(
     at: &Standing<'_>,
     i: usize,
@@ -149,39 +149,8 @@ fn surely_stays(at: &Standing<'_>, i: usize, state: &ModuleState, seat: &Seat) -
 }
 
 /// Whether a module that is awake has nothing to do in this clock. Then it goes on to the clock in which it has.
-#[inline(never)]
-fn fall_asleep(
-    at: &Standing<'_>,
-    i: usize,
-    state: &mut ModuleState,
-    seat: &mut Seat,
-) -> Result<bool, OutOfMemory>
-    requires runs { Runs at.now.of.now.plan.now at.now.of.now.codes.now at.now.clock at.now.contents.now }
-    requires within { i < length at.now.of.now.plan.now.design.modules }
-    requires seated { IsSeated at.now.of.now.plan.now at.now.clock i state.old seat.old }
-    requires awake { seat.old.wakes ≤ at.now.clock }
-    requires running { is_over at.now.of.now.plan.now.ops state.old ≡ false }
-    ensures asleep { IfOk result (λ asleep. asleep ≡ true
-        → FallsAsleep at.now.of.now.plan.now at.now.clock i state.new seat.new) }
-    ensures state { IfOk result (λ asleep. asleep ≡ false → state.new ≡ state.old) }
-    ensures seat { IfOk result (λ asleep. asleep ≡ false → seat.new ≡ seat.old) }
-{
-    let now = state.control.clock;
-    let next = code_at(at, i, state).schedule.next_due(&state.control);
-    if next == now {
-        return Ok(false);
-    }
-    let module = module_at(at.of.plan, i);
-    tick_to(module, state, next);
-    go_on(at.alloc, module, state)?;
-    seat.wakes = at.clock + (next - now);
-    seat.known = false;
-    Ok(true)
-}
-
-/// As `fall_asleep`, where nothing is due. Where something is, the module has something to do.
 #[inline(always)]
-fn sleep_if_idle(
+fn fall_asleep(
     at: &Standing<'_>,
     i: usize,
     state: &mut ModuleState,
@@ -200,12 +169,21 @@ fn sleep_if_idle(
     if seat.noted.len() > 0 {
         return Ok(false);
     }
-    fall_asleep(at, i, state, seat)
+    let now = state.control.clock;
+    let next = code_at(at, i, state).schedule.next_due(&state.control);
+    if next == now {
+        return Ok(false);
+    }
+    let module = module_at(at.of.plan, i);
+    tick_to(module, state, next);
+    go_on(at.alloc, module, state)?;
+    seat.wakes = at.clock + (next - now);
+    seat.known = false;
+    Ok(true)
 }
 
 /// A module's turn in a clock. Says whether it moves: it does not where it is ended, spent or stalls. Adds what it pops, pushes and
 /// tells.
-#[inline(always)]
 pub fn take_turn(
     at: &Standing<'_>,
     i: usize,
@@ -229,7 +207,7 @@ pub fn take_turn(
         return Ok(false);
     }
     note_seat(at.of, i, state, &mut round.words, seat)?;
-    if sleep_if_idle(at, i, state, seat)? {
+    if fall_asleep(at, i, state, seat)? {
         return Ok(true);
     }
     act(at, i, state, seat, round, answers)

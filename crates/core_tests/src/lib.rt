@@ -8,6 +8,8 @@ mod again;
 #[cfg(test)]
 mod edits;
 #[cfg(test)]
+mod late;
+#[cfg(test)]
 mod orders;
 #[cfg(test)]
 mod ticks;

@@ -1,3 +1,4 @@
 pub mod Bits
 pub mod Orders
+pub mod Apart
 pub mod Found

@@ -1,3 +1,4 @@
 pub mod Met
 pub mod Cuts
 pub mod Searching
+pub mod Rises

@@ -4,6 +4,7 @@
 mod cuts;
 mod finding;
 mod order;
+mod rises;
 mod search;
 
 pub use cuts::{Cut, Demands, Need};

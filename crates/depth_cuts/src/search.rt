@@ -1,5 +1,5 @@
 //! The search among the depths that meet cuts: it raises one channel for each cut that is not met.
-ghost use Rattle.std.specs.Prelude.{◌≡◌, ℕ, ◌<◌, ◌≤◌, true, false, length, slice_index, slice_set, Some, OnOk};
+ghost use Rattle.std.specs.Prelude.{◌≡◌, ℕ, ◌<◌, ◌≤◌, true, false, length, slice_index, slice_set, Some, IfOk, OnOk};
 ghost use Rattle.flow_design.specs.declared.limits.TheConstants.{FIFO_DEPTH};
 ghost use Rattle.depth_cuts.specs.Cuts.{AreDemands, IsNeed, bits_of as bits_in};
 ghost use Rattle.depth_cuts.specs.Searching.{IsAt, IsKept, IsSearched, Improves};
@@ -7,7 +7,8 @@ ghost use Rattle.depth_cuts.specs.Searching.{swapped as swapped_of};
 
 use crate::cuts::{Demands, Need, first_unmet};
 use crate::order::{Choice, bits_of, is_no_worse};
-use flow_word::{OutOfMemory, Words};
+use crate::rises::{least_rise, least_rises};
+use flow_word::OutOfMemory;
 use std::alloc::Global;
 
 /// Goes through the depths from those at hand on that meet all cuts, where the cuts before a place are met already, and keeps the best.
@@ -30,7 +31,7 @@ pub(crate) fn search(
     ensures improves { OnOk result (Improves demands.now.widths best.old best.new) }
     ensures searched { OnOk result (IsSearched demands.now at.old.depths best.new) }
 {
-    if cannot_improve(demands, best, at) {
+    if cannot_improve(alloc, demands, from, at, best)? {
         return Ok(());
     }
     let cuts = demands.cuts.as_slice();
@@ -40,7 +41,7 @@ pub(crate) fn search(
         return Ok(());
     }
     let needs = cuts[next].needs.as_slice();
-    let first = least_rise(demands, needs, at);
+    let first = least_rise(demands, needs, at).place;
     for turn in 0..needs.len() {
         let need = needs[swapped(first, turn)];
         let before = raise(demands, &need, at);
@@ -50,45 +51,32 @@ pub(crate) fn search(
     Ok(())
 }
 
-/// Whether what is found is no worse than any depths from those at hand on.
-fn cannot_improve(demands: &Demands, best: &Option<Choice>, at: &Choice) -> bool
+/// Whether what is found is no worse than any depths from those at hand on that meet the cuts, of which those before a place are met
+/// already. An error leaves nothing.
+fn cannot_improve(
+    alloc: Global,
+    demands: &Demands,
+    from: usize,
+    at: &Choice,
+    best: &Option<Choice>,
+) -> Result<bool, OutOfMemory>
+    requires demands { AreDemands demands.now }
     requires count { length at.now.depths ≡ length demands.now.floors }
     requires bits { at.now.bits ≡ bits_in demands.now.widths at.now.depths }
     requires kept { IsKept demands.now best.now }
-    ensures yes { result ≡ true → IsSearched demands.now at.now.depths best.now }
-    ensures no { result ≡ false → Improves demands.now.widths best.now (Some at.now) }
+    ensures yes { IfOk result (λ yes. yes ≡ true → IsSearched demands.now at.now.depths best.now) }
+    ensures no { IfOk result (λ yes. yes ≡ false → Improves demands.now.widths best.now (Some at.now)) }
 {
     match best {
-        Some(found) => is_no_worse(found, at),
-        None => false,
-    }
-}
-
-/// The place of a need that takes the fewest bits more; 0 where there is none.
-fn least_rise(demands: &Demands, needs: &[Need], at: &Choice) -> usize
-    ensures { 0 < length needs.now → result < length needs.now }
-{
-    let mut first = 0;
-    let mut least = u64::MAX;
-    for place in 0..needs.len() {
-        let rise = rise_of(demands, &needs[place], at);
-        if rise < least {
-            first = place;
-            least = rise;
+        Some(found) => {
+            if is_no_worse(found, at) {
+                return Ok(true);
+            }
+            let rises = least_rises(alloc, demands, from, at)?;
+            Ok(found.bits < at.bits.saturating_add(rises))
         }
+        None => Ok(false),
     }
-    first
-}
-
-/// How many bits more a need takes.
-fn rise_of(demands: &Demands, need: &Need, at: &Choice) -> u64 {
-    let more = need.depth.saturating_sub(item(&at.depths, need.channel));
-    more.saturating_mul(item(&demands.widths, need.channel))
-}
-
-/// The item of a channel; 0 where there is none.
-fn item(items: &Words, channel: u32) -> u64 {
-    items.as_slice().get(channel as usize).copied().unwrap_or(0)
 }
 
 /// 0 and another number in one another's place.

@@ -11,3 +11,4 @@ mod trails;
 mod waits;
 
 pub use cuts::find_cut;
+pub use raised::deeper_ones;

@@ -33,7 +33,7 @@ fn is_raised(depth: u64, raised: u64) -> bool
 }
 
 /// A depth more for each FIFO that is not as deep as the language allows.
-pub(crate) fn deeper_ones(alloc: Global, depths: &[u64]) -> Result<Cut, OutOfMemory>
+pub fn deeper_ones(alloc: Global, depths: &[u64]) -> Result<Cut, OutOfMemory>
     requires { length depths.now < 2 ^ 32 }
     ensures { IfOk result (λ cut. AreNext depths.now (length depths.now) cut.needs) }
 {

@@ -1,18 +1,14 @@
 -- The lines of the steps that a walk has given, one step after the other.
-use Rattle.std.proofs.Common.{◌≡◌, ℕ, List, [], ◌∷◌, ◌++◌, map, refl, sym, ◌∙◌, ap, ap₂, subst, Option, append-nil}
+use Rattle.std.proofs.Common.{◌≡◌, ℕ, List, [], ◌∷◌, ◌++◌, map, refl, sym, ◌∙◌, ap, ap₂, Option, append-nil}
 use Rattle.std.specs.Prelude.{All}
-use Rattle.std.specs.List.{flat_map}
 use Rattle.std.proofs.lemmas.List.{map-append}
 use Rattle.std.proofs.lemmas.List.Elements.{All-cons, All-nil}
-use Rattle.event_graph.specs.Lanes.{Lane, IsSoundLane}
+use Rattle.event_graph.specs.Lanes.{IsSoundLane}
 use Rattle.flow_design.specs.declared.plan.Plan.{Plan}
 use Rattle.flow_design.specs.declared.state.Advance.{Advance}
-use Rattle.flow_design.specs.Reports.{clock_of}
 use Rattle.lockstep_defs.specs.Channels.{HistoryStep}
 use Rattle.lockstep_defs.specs.Laws.{HasNumbersOf}
-use Rattle.lockstep_defs.specs.Lockstep.{history}
 use Rattle.lockstep_defs.specs.Report.{report}
-use Rattle.lockstep_defs.specs.Verdict.{verdict}
 use Rattle.timing_bridge.specs.Designs.{design}
 use Rattle.timing_bridge.specs.CoreReports.{steps_at}
 use Rattle.engine_view.specs.Held.{Held, core_of}
@@ -24,7 +20,6 @@ use Rattle.sim_core.specs.declared.access_log.LoggedAccess.{LoggedAccess}
 use Rattle.sim_core.specs.AccessLog.{log_of, logged_at, logged_in}
 use Rattle.sim_core.proofs.AccessLogs.{all_logged}
 use Rattle.sim_io.specs.Telling.{IsTold}
-use Rattle.sim_io.proofs.Pending.{told_as, told_more}
 use Rattle.step_walk.specs.declared.walk.StepWalk.{StepWalk}
 use Rattle.step_walk.specs.Walking.{IsWalk, HasGiven}
 use Rattle.step_walk.proofs.Giving.{given_first}

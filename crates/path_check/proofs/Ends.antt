@@ -55,8 +55,8 @@ behind_quiet p h ends f last timed =
 
 -- ---- the end
 
-module _ (p : Plan) (h : Held) (ends : List (Option Advance)) (depths : List ℕ) (t : IsTried p h ends depths) (from last : Place) (clocks : ℕ)
-    (timed : IsTimed h.lanes last) (c : ComesAfter p h depths from last clocks) where
+module _ (p : Plan) (h : Held) (ends : List (Option Advance)) (depths : List ℕ) (t : IsTried p h ends depths) (from last : Place)
+    (clocks : ℕ) (timed : IsTimed h.lanes last) (c : ComesAfter p h depths from last clocks) where
   -- the module of the last step moves so many clocks after it, and is not ended before
   late_by : (j : ℕ)
       → j ≤ (design p).quiet last.module (own (design p) last.module (core_reply (design p) (core_of (design p) h) last.module)
@@ -141,7 +141,8 @@ along_more e depths path n clocks more all l few timed adds a =
       within = omega arith;
       first = a.first;
       last = rw at timed;
-      along = λ p ends t. rw at (fewer_clocks p (held_in e (map is_some ends)) depths (place_at path 0) (place_at path n) all (clocks + more)
+      along = λ p ends t. rw at
+          (fewer_clocks p (held_in e (map is_some ends)) depths (place_at path 0) (place_at path n) all (clocks + more)
           few (adds p ends t (place_at path 0) clocks (a.along p ends t)));
     }
 
@@ -156,9 +157,10 @@ path_ends_late e depths path clocks a ends clock l p t end done =
     late_end p (held_in e (map is_some ends)) ends depths t (place_at path 0) (place_at path (length path - 1)) clocks a.last
     (a.along p ends t) clock l end done
 
-pub path_never_ends : (e : Engine) (depths : List ℕ) (path : List Place) (clocks : ℕ) → IsAlong e depths path (length path) clocks → 0 < clocks
-    → place_at path 0 ≡ place_at path (length path - 1) → (p : Plan) (ends : List (Option Advance))
+pub path_never_ends : (e : Engine) (depths : List ℕ) (path : List Place) (clocks : ℕ) → IsAlong e depths path (length path) clocks
+    → 0 < clocks → place_at path 0 ≡ place_at path (length path - 1) → (p : Plan) (ends : List (Option Advance))
     → IsTried p (held_in e (map is_some ends)) ends depths → (end : ℕ) → verdict (with_depths p depths) ≡ Done end → ⊥
 path_never_ends e depths path clocks a some round p ends t end done =
-    no_end p (held_in e (map is_some ends)) ends depths t (place_at path 0) (place_at path (length path - 1)) clocks a.last (a.along p ends t)
+    no_end p (held_in e (map is_some ends)) ends depths t (place_at path 0) (place_at path (length path - 1)) clocks a.last
+    (a.along p ends t)
     some round end done

@@ -1,5 +1,5 @@
 -- What a walk has done begins the history, where all other steps come later.
-use Rattle.std.proofs.Common.{◌≡◌, ◌≢◌, ℕ, zero, suc, ◌+◌, ◌-◌, ◌<◌, ◌≤◌, List, [], ◌∷◌, ◌++◌, map, length, sym, ◌∙◌, ap, ap₂, subst, refl}
+use Rattle.std.proofs.Common.{◌≡◌, ℕ, zero, suc, ◌+◌, ◌-◌, ◌<◌, ◌≤◌, List, [], ◌∷◌, ◌++◌, map, length, sym, ◌∙◌, ap, ap₂, refl}
 use Rattle.std.proofs.Common.{arith, inl, inr, ◌⊎◌, Bool, true, false, cond, get_or, eqb, leb, ltb, ◌||◌, ◌&&◌, length-append}
 use Rattle.std.specs.Prelude.{slice_index, All, AllPairs, ◌==◌}
 use Rattle.std.specs.List.{range_with_len, filter}

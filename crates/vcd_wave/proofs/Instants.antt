@@ -1,16 +1,12 @@
 -- The clocks of a wave, one after the other.
 use Rattle.std.proofs.Common.{◌≡◌, ◌≢◌, ℕ, zero, suc, ◌+◌, ◌-◌, ◌≤◌, ◌<◌, ◌&&◌, Bool, false, not, cond, List, [], ◌∷◌, ◌++◌}
-use Rattle.std.proofs.Common.{length, refl, sym, ◌∙◌, ap, ap₂, subst, arith, append_assoc, nat_lt, ◌⊎◌, inl, inr}
-use Rattle.std.specs.List.{flat_map, range_with_len, refill}
-use Rattle.std.proofs.Common.{drop}
+use Rattle.std.proofs.Common.{refl, sym, ◌∙◌, ap, ap₂, subst, arith, append_assoc, nat_lt, ◌⊎◌, inl, inr}
+use Rattle.std.specs.List.{flat_map, range_with_len}
 use Rattle.std.proofs.lemmas.Bool.{cases_lt, lt-ltb}
-use Rattle.std.proofs.lemmas.List.{append-nil, length-map, take_at}
+use Rattle.std.proofs.lemmas.List.{append-nil}
 use Rattle.std.proofs.lemmas.List.Concat.{flat_map-append}
 use Rattle.flow_design.specs.declared.plan.Plan.{Plan}
-use Rattle.flow_design.specs.declared.report.Report.{Report}
-use Rattle.lockstep_defs.specs.Report.{report}
-use Rattle.flow_design.specs.Reports.{clock_of}
-use Rattle.fifo_fills.specs.Fills.{fifos, fill, fills, last_clock, AreSteady, IsNextClock}
+use Rattle.fifo_fills.specs.Fills.{fills, last_clock}
 use Rattle.report_text.specs.Lines.{line, text_of_lines}
 use Rattle.vcd_wave.specs.Wave.{Change, Instant, Wave, fifo_names, changes_between, instant_of, instant_at, instants_to, closing, wave_of}
 use Rattle.vcd_wave.specs.Wave.{has_some}

@@ -1,14 +1,12 @@
 -- The lines of the header, of clock 0 and of a clock, one after the other.
-use Rattle.std.proofs.Common.{◌≡◌, ◌≢◌, ℕ, zero, suc, ◌+◌, ◌≤◌, ◌<◌, ◌==◌, Bool, true, false, not, cond, List, [], ◌∷◌, ◌++◌, map, length}
+use Rattle.std.proofs.Common.{◌≡◌, ℕ, zero, suc, ◌+◌, ◌≤◌, ◌<◌, ◌==◌, Bool, true, false, not, cond, List, [], ◌∷◌, ◌++◌, map, length}
 use Rattle.std.proofs.Common.{take}
-use Rattle.std.proofs.Common.{refl, sym, ◌∙◌, ap, ap₂, subst, arith, get_or, append_assoc, length-append, add-zero, inl, inr, Result, Ok}
+use Rattle.std.proofs.Common.{refl, sym, ◌∙◌, ap, ap₂, arith, get_or, append_assoc, length-append, add-zero, Result, Ok}
 use Rattle.std.proofs.Common.{Err, OnOk}
 use Rattle.std.specs.Prelude.{codes}
-use Rattle.std.proofs.Common.{◌&&◌, eqb}
 use Rattle.std.specs.List.{filter, flat_map, range_with_len, enumerate_from}
-use Rattle.std.specs.Cmp.Lexicographic.{pointwise}
-use Rattle.std.proofs.lemmas.Bool.{and_parts, eqb-true, eq-eqb, cases_eq, ne_eqb}
-use Rattle.std.proofs.lemmas.List.{append-nil, map-append, take_more, length-take, length-map, ext_get_or}
+use Rattle.std.proofs.lemmas.Bool.{eq-eqb, ne_eqb}
+use Rattle.std.proofs.lemmas.List.{append-nil, map-append, take_more, length-take, length-map}
 use Rattle.flow_design.specs.declared.design.Channel.{Channel}
 use Rattle.flow_design.specs.Plans.{is_fifo}
 use Rattle.report_text.specs.Lines.{Token, line, text_of_lines}

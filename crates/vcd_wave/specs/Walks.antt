@@ -1,5 +1,5 @@
 -- Walks over the clocks of all FIFOs of a plan, beside one another.
-use Rattle.std.specs.Prelude.{ℕ, ◌≡◌, ◌<◌, ◌≤◌, ◌==◌, min, fold, if◌then◌else◌, Option, Some, None, List, [], ◌∷◌, All, map}
+use Rattle.std.specs.Prelude.{ℕ, ◌≡◌, ◌≤◌, ◌==◌, min, fold, if◌then◌else◌, Option, Some, None, List, [], ◌∷◌, All, map}
 use Rattle.flow_design.specs.declared.plan.Plan.{Plan}
 use Rattle.fifo_fills.specs.Fills.{fifos}
 use Rattle.port_clocks.specs.declared.walk.FifoWalk.{FifoWalk}

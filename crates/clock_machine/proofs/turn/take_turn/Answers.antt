@@ -76,7 +76,7 @@ note_seat-requires-clause-small c =
     let cycles = c.requires.runs.fits.cycles in
     omega arith
 
-pub sleep_if_idle-requires-clause-seated : goal.sleep_if_idle-requires-clause-seated
-sleep_if_idle-requires-clause-seated c =
+pub fall_asleep-requires-clause-seated : goal.fall_asleep-requires-clause-seated
+fall_asleep-requires-clause-seated c =
     reseated c.args.at.now.of.now.plan.now c.args.at.now.clock c.args.i c.args.state.now c.args.seat.now c.note_seat.new.seat
     c.requires.seated c.note_seat.ensures.wakes c.in_ok-note_seat.ensures.known

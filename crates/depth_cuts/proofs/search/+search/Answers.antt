@@ -52,8 +52,8 @@ search-requires t c =
                 (lent_met demands.cuts c.as_slice-cuts.result.now c.args.from next at.depths c.as_slice.result.now cuts shown found.met)
                 (subst (λ (cs : List Cut). c.index-cuts-next.result ≡ slice_index_or cs next c.index-cuts-next.result) cuts c.index-cuts-next.is)
                 (lent_unmet demands.cuts c.as_slice-cuts.result.now next at.depths c.as_slice.result.now cuts shown (found.unmet (omega arith)))
-                (turn_within c.least_rise-first.result c.loop-turn.turn (length c.index-cuts-next.result.needs) c.swapped.result
-                (λ some. let is = c.least_rise-first.ensures (omega arith) in omega arith) (omega arith) c.swapped.ensures)
+                (turn_within c.least_rise-first.result.place c.loop-turn.turn (length c.index-cuts-next.result.needs) c.swapped.result
+                (λ some. let is = c.least_rise-first.ensures.place (omega arith) in omega arith) (omega arith) c.swapped.ensures)
                 (raised.depths ∙ ap (λ (ns : List Need). slice_set at.depths (need_at ns c.swapped.result).channel (need_at ns c.swapped.result).depth) needs)
                 raised.bits,
             c.loop-turn.invariant.kept,
@@ -72,7 +72,7 @@ loop-turn-preserved t c =
     let back = c.put_back.ensures in
     let turn = c.loop-turn.turn in
     let needs = c.as_slice-needs.result.now in
-    let first = c.least_rise-first.result in
+    let first = c.least_rise-first.result.place in
     let need = need_at needs c.swapped.result in
     let rose = ap (λ (a : Choice). a.depths) ok.at ∙ raised.depths in
     let restored : c.put_back.new.at ≡ at = is_put_back at c.search.new.at c.put_back.new.at need.channel need.depth c.raise-before.result rose
@@ -100,9 +100,9 @@ returns-clause-searched t c =
     let x = c.loop-turn.invariant in
     let needs = c.as_slice-needs.ensures ∙ ap (λ (cut : Cut). cut.needs) (sym c.index-cuts-next.is) in
     let many = ap length needs in
-    let first = c.least_rise-first.result in
+    let first = c.least_rise-first.result.place in
     all_tried demands c.args.at.now.depths c.loop-turn.best c.index-cuts-next.result next first c.loop-turn.turn inside
     (subst (λ (cs : List Cut). c.index-cuts-next.result ≡ slice_index_or cs next c.index-cuts-next.result) cuts c.index-cuts-next.is)
-    (λ some. let is = c.least_rise-first.ensures (omega arith) in omega arith) (omega (arith, c.loop-turn-test.false))
+    (λ some. let is = c.least_rise-first.ensures.place (omega arith) in omega arith) (omega (arith, c.loop-turn-test.false))
     (subst (λ (a : Choice). AreTried demands a.depths c.loop-turn.best c.index-cuts-next.result.needs first c.loop-turn.turn) x.at
     (subst (λ (ns : List Need). AreTried demands c.loop-turn.at.depths c.loop-turn.best ns first c.loop-turn.turn) needs x.tried))

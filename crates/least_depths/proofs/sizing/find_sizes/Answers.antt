@@ -9,16 +9,16 @@ use Rattle.depth_advice.proofs.Depths.{advised_depths}
 use Rattle.least_depths.proofs.Sized.{advised_verdict, done_sizes, other_end, left_sizes, two_runs, one_run, one_run_more, clock_within, end_in_time}
 use Rattle.least_depths.proofs.sizing.find_sizes.Goals as goal
 
-pub lower_depths-requires-fits-after_bounds : goal.lower_depths-requires-fits-after_bounds
-lower_depths-requires-fits-after_bounds g c κs within =
+pub lower_depths-requires-clause-fits : goal.lower_depths-requires-clause-fits
+lower_depths-requires-clause-fits g c κs within =
     let p = c.args.plan.now in
     let own : c.in_ok-own.own ≡ p = c.in_ok-own.ensures in
     let depths : c.in_ok-advice.advice.depths ≡ advised p = c.in_ok-advice.ensures.depths ∙ ap advised own in
     subst (λ (ds : List ℕ). FitsEngine (with_depths p ds)) (sym depths)
     (depths_fit p c.requires.fits (advised p) (advised_depths p c.requires.fits))
 
-pub lower_depths-requires-in_time-after_bounds : goal.lower_depths-requires-in_time-after_bounds
-lower_depths-requires-in_time-after_bounds g c κs within =
+pub lower_depths-requires-clause-in_time : goal.lower_depths-requires-clause-in_time
+lower_depths-requires-clause-in_time g c κs within =
     let p = c.args.plan.now in
     let advice = c.in_ok-advice.advice in
     let own : c.in_ok-own.own ≡ p = c.in_ok-own.ensures in

@@ -37,6 +37,20 @@ returns-in_err-from_slice-clause-made g c =
     let first = one_run_more _ _ _ c.new.ensures.counted c.new.ensures.stays in
     omega arith
 
+pub returns-in_err-tries-clause-made : goal.returns-in_err-tries-clause-made
+returns-in_err-tries-clause-made g c =
+    let p = c.args.plan.now in
+    let q = with_depths p c.args.depths in
+    let start : c.in_ok-session.session.plan ≡ limited c.args.clock q =
+    ap (λ (s : Session). s.plan) c.in_ok-session.ensures.opened ∙ (c.limit_cycles.ensures
+    ∙ ap (λ (r : Plan). limited c.args.clock (with_depths r c.args.depths)) c.in_ok-own.ensures) in
+    let tries = ap (λ (r : Plan). (lowered r c.args.clock (length r.design.channels)).tries) start
+    ∙ same_tries q c.args.clock (length p.design.channels) in
+    let count = ap (λ (r : Plan). length r.design.channels) start in
+    let made = c.lower_all.ensures.made in
+    let first = one_run_more _ _ _ c.new.ensures.counted c.new.ensures.stays in
+    omega arith
+
 pub returns-clause-made : goal.returns-clause-made
 returns-clause-made g c =
     let p = c.args.plan.now in

@@ -1,4 +1,4 @@
-use Rattle.std.proofs.Common.{◌≡◌, ◌∙◌, ap, sym, subst, refl, arith, List, ℕ, ◌++◌, ◌∷◌, [], map, append-nil}
+use Rattle.std.proofs.Common.{◌≡◌, ◌∙◌, ap, sym, subst, refl, arith, List, ℕ, ◌++◌, ◌∷◌, [], append-nil}
 use Rattle.std.specs.Prelude.{All}
 use Rattle.event_graph.specs.Lanes.{Lane, IsSoundLane}
 use Rattle.flow_design.specs.declared.plan.Plan.{Plan}

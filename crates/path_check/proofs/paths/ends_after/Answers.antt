@@ -10,5 +10,6 @@ returns-in-Some c = λ e.
     let first = c.cycle_of-first.ensures ∙ ap (cycle_at lanes) c.place_at.ensures in
     let behind = c.clocks_behind-behind.ensures ∙ ap (moves_behind lanes c.args.ends.now) c.place_at-in-Some.ensures in
     let late = leb-true c.args.clock c.saturating_add-in-Some.result e in
-    path_ends_late c.args.engine.now (edited c.args.depths.now c.args.edit) c.args.path.now c.in-Some.clocks c.in-Some.ensures c.args.ends.now c.args.clock
+    path_ends_late c.args.engine.now (edited c.args.depths.now c.args.edit) c.args.path.now c.in-Some.clocks c.in-Some.ensures
+    c.args.ends.now c.args.clock
     (omega (arith, c.saturating_add.ensures, c.saturating_add-in-Some.ensures))

@@ -19,7 +19,8 @@ returns-then-next-before-eq1 c =
     let steps = (lane_at c.args.engine.now.graph.lanes c.args.next.module).steps in
     let is = get_or_from_slice_get steps c.args.next.step step no_step c.step-step.ensures.step in
     let next : c.args.next.step ≡ suc c.args.before.step = omega (arith, c.if-before-next.true, c.if-next-before-eq1.true) in
-    gaps_add c.args.engine.now (edited c.args.depths.now c.args.edit) c.args.before c.args.next c.step-step.result.gap (sym (ap (λ (s : Step). s.gap) is))
+    gaps_add c.args.engine.now (edited c.args.depths.now c.args.edit) c.args.before c.args.next c.step-step.result.gap
+    (sym (ap (λ (s : Step). s.gap) is))
     c.requires.next c.if-next-before.true next
 
 pub find_lag-requires : goal.find_lag-requires
@@ -37,5 +38,6 @@ returns c =
     let steps = (lane_at c.args.engine.now.graph.lanes c.args.next.module).steps in
     let is = ap (λ (s : Step). s.accesses) (get_or_from_slice_get steps c.args.next.step step no_step c.step-step.ensures.step)
     ∙ sym c.as_slice.ensures in
-    lags_add c.args.engine.now (edited c.args.depths.now c.args.edit) c.args.before c.args.next c.find_lag.result c.requires.before c.requires.next
+    lags_add c.args.engine.now (edited c.args.depths.now c.args.edit) c.args.before c.args.next c.find_lag.result c.requires.before
+    c.requires.next
     (rw is c.find_lag.ensures)

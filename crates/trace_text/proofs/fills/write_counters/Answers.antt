@@ -1,4 +1,4 @@
-use Rattle.std.proofs.Common.{◌≡◌, ◌∙◌, ap, arith, cond, refl, sym, ℕ, ◌+◌, ◌-◌, ◌≤◌, List, ◌++◌, [], length}
+use Rattle.std.proofs.Common.{◌≡◌, ◌∙◌, ap, arith, cond, refl, ℕ, ◌+◌, ◌-◌, List, ◌++◌, [], length}
 use Rattle.std.specs.List.{flat_map, range_with_len}
 use Rattle.flow_design.specs.declared.plan.Plan.{Plan}
 use Rattle.flow_design.specs.Plans.{is_fifo, kind_at}

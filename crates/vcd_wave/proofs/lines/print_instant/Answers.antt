@@ -1,6 +1,6 @@
 use Rattle.std.proofs.Common.{map}
 use Rattle.vcd_wave.specs.Walks.{change_of}
-use Rattle.vcd_wave.proofs.LineLemmas.{instant_some, instant_none, none_told}
+use Rattle.vcd_wave.proofs.LineLemmas.{instant_none, none_told}
 use Rattle.vcd_wave.proofs.lines.print_instant.Goals as goal
 
 pub returns-else-some-clause-text : goal.returns-else-some-clause-text

@@ -1,4 +1,4 @@
-use Rattle.std.proofs.Common.{sym, ◌∙◌, ◌≡◌, ap, subst, arith, ℕ, ◌+◌, ◌<◌, ◌≤◌, refl, Bool, List, ◌++◌, cond, min, map}
+use Rattle.std.proofs.Common.{sym, ◌∙◌, ◌≡◌, ap, subst, arith, ℕ, ◌+◌, ◌<◌, ◌≤◌, Bool, List, ◌++◌, cond, min, map}
 use Rattle.std.specs.List.{flat_map}
 use Rattle.flow_design.specs.declared.plan.Plan.{Plan}
 use Rattle.flow_design.specs.StaticRules.{FitsEngine}

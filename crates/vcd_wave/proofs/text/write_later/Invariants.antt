@@ -1,6 +1,5 @@
 use Rattle.std.proofs.Common.{◌≡◌, ◌≤◌, ◌-◌, min}
 use Rattle.sim_io.specs.Telling.{IsTold}
-use Rattle.fifo_fills.specs.Fills.{last_clock}
 use Rattle.vcd_wave.specs.Walks.{AreWalks, least_next}
 use Rattle.vcd_wave.proofs.Instants.{told_to}
 use Rattle.vcd_wave.proofs.Instants as instants

@@ -1,0 +1,8 @@
+-- The line of the bits.
+use Rattle.std.proofs.Common.{◌≡◌, ℕ, List, ◌∷◌, [], ◌++◌, arith}
+use Rattle.std.proofs.lemmas.Grind.{common_steps}
+use Rattle.report_text.specs.Lines.{line}
+
+-- a line of two tokens
+pub line_of_two : (text a b : List ℕ) → ((text ++ a) ++ 32 ∷ b) ++ 10 ∷ [] ≡ text ++ line (a ∷ b ∷ [])
+line_of_two text a b = grind (arith, common_steps)

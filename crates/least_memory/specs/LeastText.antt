@@ -1,0 +1,15 @@
+-- The text of the least memory.
+use Rattle.std.specs.Prelude.{ℕ, List, [], ◌∷◌, codes, decimal}
+use Rattle.flow_design.specs.declared.plan.Plan.{Plan}
+use Rattle.report_text.specs.Lines.{text_of_lines, verdict_tokens}
+use Rattle.depth_advice.specs.DepthLines.{depth_lines}
+use Rattle.least_memory.specs.Choices.{memory_bits}
+use Rattle.least_memory.specs.Least.{leasts}
+
+-- `least`, the verdict, `bits N`, and `depth NAME D` for each FIFO in order of declaration
+unfoldable pub least_text : ℕ → Plan → List ℕ
+least_text slack p =
+    text_of_lines
+    ((codes "least" ∷ []) ∷ verdict_tokens (leasts slack p).verdict
+    ∷ (codes "bits" ∷ decimal (memory_bits p.design.channels (leasts slack p).depths) ∷ [])
+    ∷ depth_lines p.design.channels (leasts slack p).depths)

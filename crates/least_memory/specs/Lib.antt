@@ -1,0 +1,4 @@
+pub mod Choices
+pub mod Needed
+pub mod Least
+pub mod LeastText

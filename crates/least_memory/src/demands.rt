@@ -1,0 +1,127 @@
+//! What is asked of all depths with which a plan ends by a clock.
+ghost use Rattle.std.specs.Prelude.{◌≡◌, ◌<◌, ◌≤◌, true, length, All, IfOk};
+ghost use Rattle.flow_design.specs.Plans.{is_fifo, kind_at};
+ghost use Rattle.depth_bounds.specs.Late.{IsLateBelow};
+ghost use Rattle.flow_design.specs.StaticRules.{FitsEngine};
+ghost use Rattle.lockstep_defs.specs.Verdict.{verdict};
+ghost use Rattle.event_timing.specs.Actions.{IsFinal};
+ghost use Rattle.timing_bridge.specs.Designs.{design};
+ghost use Rattle.sim_core.specs.Views.{theory_of};
+ghost use Rattle.depth_order.specs.Depths.{AsksNothing, IsDoneBy};
+ghost use Rattle.late_cuts.specs.Cuts.{AreDeepest};
+ghost use Rattle.depth_cuts.specs.Cuts.{IsCheapest};
+ghost use Rattle.least_memory.specs.Choices.{widths_of};
+ghost use Rattle.least_memory.specs.Needed.{IsFloor, AreFloorsOf, AreNeeded};
+
+use depth_bounds::{Latest, Target, find_latest, late_depth};
+use depth_cuts::{Demands, cheapest};
+use depth_session::Core;
+use flow_design::Channel;
+use flow_design::limits::FIFO_DEPTH;
+use flow_word::{List, OutOfMemory, Words};
+use std::alloc::Global;
+
+/// The demands on depths with which a core's plan ends by a clock: of each FIFO the least depth that a path of steps shows to be needed
+/// where the others are as deep as in the plan, and no cut.
+///
+/// It takes memory for a number of each step of the core, and lets it go. An error leaves nothing.
+pub(crate) fn first_demands(alloc: Global, core: &Core, clock: u64) -> Result<Demands, OutOfMemory>
+    requires is_final { IsFinal (design core.now.plan) core.now.plan.cycles (theory_of core.now) }
+    requires fits { FitsEngine core.now.plan }
+    requires quiet { AsksNothing core.now.plan }
+    requires deepest { AreDeepest core.now.plan }
+    ensures { IfOk result (λ demands. AreNeeded core.now.plan clock demands) }
+{
+    let latest = find_latest(alloc, core.engine(), core.ends(), clock)?;
+    let channels = core.plan().design.channels.as_slice();
+    let widths = widths_of(alloc, channels)?;
+    let mut floors = List::with_room(alloc, channels.len() as u64)?;
+    for channel in 0..channels.len() {
+        floors.push(floor_of(alloc, core, &latest, channel as u32, clock)?)?;
+    }
+    Ok(Demands {
+        widths,
+        floors,
+        cuts: List::new(alloc),
+    })
+}
+
+/// How many bits an element of each channel has.
+pub(crate) fn widths_of(alloc: Global, channels: &[Channel]) -> Result<Words, OutOfMemory>
+    ensures value { IfOk result (λ widths. widths ≡ widths_of channels.now) }
+    ensures narrow { IfOk result (λ widths. All (λ w. w ≤ 64) widths) }
+{
+    let mut widths = List::with_room(alloc, channels.len() as u64)?;
+    for channel in channels {
+        widths.push(channel.width.number())?;
+    }
+    Ok(widths)
+}
+
+/// The least depth of a channel that is shown to be needed: 0 of one that is no FIFO.
+fn floor_of(
+    alloc: Global,
+    core: &Core,
+    latest: &Latest,
+    channel: u32,
+    clock: u64,
+) -> Result<u64, OutOfMemory>
+    requires is_final { IsFinal (design core.now.plan) core.now.plan.cycles (theory_of core.now) }
+    requires fits { FitsEngine core.now.plan }
+    requires quiet { AsksNothing core.now.plan }
+    requires deepest { AreDeepest core.now.plan }
+    requires channel { channel < length core.now.plan.design.channels }
+    ensures { IfOk result (λ floor. IsFloor core.now.plan clock channel floor) }
+{
+    if !is_fifo(core, channel) {
+        return Ok(0);
+    }
+    let target = Target { channel, clock };
+    let depth = late_of(alloc, core, latest, &target)?;
+    Ok(depth.max(1).min(FIFO_DEPTH))
+}
+
+/// Whether a channel of the core's plan is a FIFO.
+fn is_fifo(core: &Core, channel: u32) -> bool
+    requires { channel < length core.now.plan.design.channels }
+    ensures { result ≡ is_fifo (kind_at core.now.plan channel) }
+{
+    core.plan().design.channels.as_slice()[channel as usize]
+        .kind
+        .is_fifo()
+}
+
+/// A depth of a FIFO below which the core's plan is not done by the target's clock. It takes memory for a path of steps.
+fn late_of(alloc: Global, core: &Core, latest: &Latest, target: &Target) -> Result<u64, OutOfMemory>
+    requires is_final { IsFinal (design core.now.plan) core.now.plan.cycles (theory_of core.now) }
+    requires quiet { AsksNothing core.now.plan }
+    requires fifo { is_fifo (kind_at core.now.plan target.now.channel) ≡ true }
+    ensures { IfOk result (λ depth. IsLateBelow core.now.plan target.now.clock target.now.channel depth) }
+{
+    late_depth(
+        alloc,
+        core.engine(),
+        core.ends(),
+        core.plan().depths.as_slice(),
+        latest,
+        target,
+    )
+}
+
+/// The cheapest depths that meet demands, where those of the plan are known to meet them.
+pub(crate) fn cheapest_of(
+    alloc: Global,
+    core: &Core,
+    demands: &Demands,
+    clock: u64,
+) -> Result<Words, OutOfMemory>
+    requires fits { FitsEngine core.now.plan }
+    requires needed { AreNeeded core.now.plan clock demands.now }
+    requires done { IsDoneBy clock (verdict core.now.plan) }
+    ensures { IfOk result (λ depths. IsCheapest demands.now depths) }
+{
+    match cheapest(alloc, demands)? {
+        Some(depths) => Ok(depths),
+        None => unreachable!("the plan's own depths meet the demands"),
+    }
+}

@@ -1,0 +1,99 @@
+//! The depths with the fewest bits.
+ghost use Rattle.std.specs.Prelude.{◌≡◌, ◌≤◌, Some, IfOk};
+ghost use Rattle.flow_design.specs.StaticRules.{FitsEngine};
+ghost use Rattle.lockstep_defs.specs.Verdict.{verdict};
+ghost use Rattle.event_timing.specs.Actions.{IsFinal};
+ghost use Rattle.timing_bridge.specs.Designs.{design};
+ghost use Rattle.sim_core.specs.Views.{theory_of};
+ghost use Rattle.depth_order.specs.Depths.{with_depths, AsksNothing, IsDoneBy};
+ghost use Rattle.late_cuts.specs.Cuts.{AreDeepest};
+ghost use Rattle.least_depths.specs.Least.{most_slack};
+ghost use Rattle.least_memory.specs.Least.{leasts, least_by};
+
+use crate::demands::{cheapest_of, first_demands};
+use crate::trying::{Outcome, try_depths};
+use depth_advice::{read_depths, widen};
+use depth_session::{Core, Runner};
+use flow_design::{Plan, Verdict, copy_plan};
+use flow_word::{OutOfMemory, Words};
+use std::alloc::Global;
+use std::sync::Wait;
+use std::thread::Threads;
+
+/// Depths for the FIFOs of a plan, and what the plan does with them.
+pub struct Leasts {
+    /// The verdict of the plan with these depths.
+    pub verdict: Verdict,
+    /// One entry per channel: the depth of a FIFO, in elements, and 0 of the other channels.
+    pub depths: Words,
+}
+
+impl Drop for Leasts {
+    fn drop(self) {
+        let Leasts {
+            verdict: _verdict,
+            depths: _depths,
+        } = self;
+    }
+}
+
+/// The depths with the fewest bits of FIFO memory with which a plan loses no more than so many clocks. Where the plan with the advised
+/// depths is done, they are the first, in lexicographic order, of those that take the fewest bits among all choices with an end by that
+/// clock and the slack. Else they are the advised ones.
+///
+/// `least_memory_is_least` says what that means. The plan has no query. It calls the runner once for the plan with the deepest FIFOs, and
+/// once more for each choice that no path of steps shows to be too late. It takes memory for two runs at a time, and for the cuts that
+/// are found. It is not said that it is quick: in the worst case there are as many cuts as choices. An error leaves nothing.
+pub fn find_least<R: Threads + Wait + Sync, U: Runner>(
+    rt: &R,
+    alloc: Global,
+    plan: &Plan,
+    slack: u64,
+    runner: &mut U,
+) -> Result<Leasts, OutOfMemory>
+    requires fits { FitsEngine plan.now }
+    requires slack { slack ≤ most_slack }
+    requires quiet { AsksNothing plan.now }
+    ensures { IfOk result (λ found. found ≡ leasts slack plan.now) }
+{
+    let mut wide = copy_plan(alloc, plan)?;
+    widen(&mut wide);
+    let core = runner.run_plan(rt, alloc, wide)?;
+    match core.verdict() {
+        Verdict::Done(clock) => fewest_bits(rt, alloc, &core, clock + slack, runner),
+        Verdict::Deadlock(_) | Verdict::Cycles(_) | Verdict::Ops(_) => {
+            let advice = read_depths(alloc, &core)?;
+            Ok(Leasts {
+                verdict: advice.verdict,
+                depths: advice.depths,
+            })
+        }
+    }
+}
+
+/// The depths with the fewest bits with which the plan of a core ends by a clock, by which it ends with its own: these are the deepest.
+fn fewest_bits<R: Threads + Wait + Sync, U: Runner>(
+    rt: &R,
+    alloc: Global,
+    core: &Core,
+    clock: u64,
+    runner: &mut U,
+) -> Result<Leasts, OutOfMemory>
+    requires is_final { IsFinal (design core.now.plan) core.now.plan.cycles (theory_of core.now) }
+    requires fits { FitsEngine core.now.plan }
+    requires quiet { AsksNothing core.now.plan }
+    requires deepest { AreDeepest core.now.plan }
+    requires done { IsDoneBy clock (verdict core.now.plan) }
+    ensures least { IfOk result (λ found. least_by core.now.plan clock ≡ Some found.depths) }
+    ensures told { IfOk result (λ found. found.verdict ≡ verdict (with_depths core.now.plan found.depths)) }
+{
+    let mut demands = first_demands(alloc, core, clock)?;
+    loop {
+        let _cuts = demands.cuts.len();
+        let depths = cheapest_of(alloc, core, &demands, clock)?;
+        match try_depths(rt, alloc, core, depths.as_slice(), clock, runner)? {
+            Outcome::Late(cut) => demands.cuts.push(cut)?,
+            Outcome::Ended(verdict) => return Ok(Leasts { verdict, depths }),
+        }
+    }
+}

@@ -1,0 +1,12 @@
+//! The depths of FIFOs with the fewest bits of memory with which a plan loses no more than some clocks.
+#![tactic(auto)]
+
+mod demands;
+mod finding;
+mod laws;
+mod least_text;
+mod trying;
+
+pub use finding::{Leasts, find_least};
+pub use laws::least_memory_is_least;
+pub use least_text::{LeastText, tell_least};

@@ -1,0 +1,70 @@
+//! Depths that are tried.
+ghost use Rattle.std.specs.Prelude.{◌≡◌, IfOk};
+ghost use Rattle.flow_design.specs.StaticRules.{FitsEngine};
+ghost use Rattle.event_timing.specs.Actions.{IsFinal};
+ghost use Rattle.timing_bridge.specs.Designs.{design};
+ghost use Rattle.sim_core.specs.Views.{theory_of};
+ghost use Rattle.depth_order.specs.Depths.{AreDepths, AsksNothing};
+ghost use Rattle.late_cuts.specs.Cuts.{AreDeepest};
+ghost use Rattle.least_depths.specs.Lowering.{is_done_by};
+ghost use Rattle.least_memory.specs.Needed.{IsOutcome};
+
+use depth_cuts::Cut;
+use depth_session::{Core, Runner};
+use flow_design::{Verdict, copy_plan};
+use flow_word::{List, OutOfMemory};
+use late_cuts::{deeper_ones, find_cut};
+use std::alloc::Global;
+use std::sync::Wait;
+use std::thread::Threads;
+
+/// What comes of depths that are tried.
+#[derive(Drop)]
+pub(crate) enum Outcome {
+    /// With these depths the plan is too late: a cut that they do not meet, and that all depths that are in time do.
+    Late(Cut),
+    /// The plan is in time with them, and has this verdict.
+    Ended(Verdict),
+}
+
+/// Tries depths for the plan of a core, whose own FIFOs are as deep as the language allows: whether it is done by a clock. Where a path of
+/// steps shows that it is not, the plan is not simulated.
+///
+/// It calls the runner once at most. It takes memory for the path and for the run. An error leaves nothing.
+pub(crate) fn try_depths<R: Threads + Wait + Sync, U: Runner>(
+    rt: &R,
+    alloc: Global,
+    core: &Core,
+    depths: &[u64],
+    clock: u64,
+    runner: &mut U,
+) -> Result<Outcome, OutOfMemory>
+    requires is_final { IsFinal (design core.now.plan) core.now.plan.cycles (theory_of core.now) }
+    requires fits { FitsEngine core.now.plan }
+    requires quiet { AsksNothing core.now.plan }
+    requires deepest { AreDeepest core.now.plan }
+    requires depths { AreDepths core.now.plan depths.now }
+    ensures { IfOk result (λ outcome. IsOutcome core.now.plan clock depths.now outcome) }
+{
+    if let Some(cut) = find_cut(alloc, core.engine(), core.ends(), depths, clock)? {
+        return Ok(Outcome::Late(cut));
+    }
+    let mut plan = copy_plan(alloc, core.plan())?;
+    plan.depths = List::from_slice(alloc, depths)?;
+    let run = runner.run_plan(rt, alloc, plan)?;
+    let verdict = run.verdict();
+    if is_done_by(verdict, clock) {
+        return Ok(Outcome::Ended(verdict));
+    }
+    Ok(Outcome::Late(deeper_ones(alloc, depths)?))
+}
+
+/// Whether all modules are ended in this clock or before.
+fn is_done_by(verdict: Verdict, clock: u64) -> bool
+    ensures { result ≡ is_done_by clock verdict }
+{
+    match verdict {
+        Verdict::Done(end) => end <= clock,
+        Verdict::Deadlock(_) | Verdict::Cycles(_) | Verdict::Ops(_) => false,
+    }
+}

@@ -1,5 +1,6 @@
 -- A log names modules and channels of its plan alone.
-use Rattle.std.proofs.Common.{◌≡◌, sym, ◌∙◌, ap, ap₂, subst, refl, List, [], ◌∷◌, ◌++◌, map, length, ◌<◌, suc, arith, ℕ, ◌+◌, ◌-◌, get_or, length-append}
+use Rattle.std.proofs.Common.{◌≡◌, sym, ◌∙◌, ap, ap₂, subst, refl, List, [], ◌∷◌}
+use Rattle.std.proofs.Common.{◌++◌, map, length, ◌<◌, suc, arith, ℕ, ◌+◌, ◌-◌, get_or, length-append}
 use Rattle.std.specs.Prelude.{All}
 use Rattle.std.proofs.lemmas.List.{map-append, get_or_append_left, get_or-append_right}
 use Rattle.std.proofs.lemmas.List.Concat.{flat_map-append}

@@ -1,5 +1,6 @@
 //! Single events, each on a line of its own.
-ghost use Rattle.std.specs.Prelude.{◌≡◌, ◌<◌, ◌≤◌, ◌+◌, ◌++◌, ◌∷◌, ◌==◌, [], not, if◌then◌else◌, codes, map, length, slice_index_or, All, IsErrOf, OnErr, OnOk};
+ghost use Rattle.std.specs.Prelude.{◌≡◌, ◌<◌, ◌≤◌, ◌+◌, ◌++◌, ◌∷◌, ◌==◌, [], not};
+ghost use Rattle.std.specs.Prelude.{if◌then◌else◌, codes, map, length, slice_index_or, All, IsErrOf, OnErr, OnOk};
 ghost use Rattle.sim_io.specs.Causes.{AppendsPrefix, Rose};
 ghost use Rattle.sim_io.specs.Telling.{IsTold};
 ghost use Rattle.report_text.specs.ReportText.{channel_name, module_name};

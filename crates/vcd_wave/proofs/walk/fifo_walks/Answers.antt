@@ -1,4 +1,5 @@
-use Rattle.std.proofs.Common.{◌≡◌, ◌∙◌, ◌<◌, ap, ap₂, sym, subst, arith, ℕ, List, Bool, true, false, cond, ◌++◌, ◌∷◌, [], get_or, map, length}
+use Rattle.std.proofs.Common.{◌≡◌, ◌∙◌, ◌<◌, ap, ap₂, sym, subst, arith, ℕ, List}
+use Rattle.std.proofs.Common.{Bool, true, false, cond, ◌++◌, ◌∷◌, [], get_or, map, length}
 use Rattle.std.specs.Prelude.{All}
 use Rattle.std.specs.List.{filter, range_with_len}
 use Rattle.std.proofs.lemmas.List.{append-nil, get_or_default, map-append}

@@ -34,13 +34,3 @@ pub record HasFill (p : Plan) (i clock elements : ℕ) : Type 0 where
 -- how many elements were popped off channel f, or pushed on it, before a clock
 abbrev pub moved_before : Plan → Side → ℕ → ℕ → ℕ
 moved_before p side f clock = length (moved side f (history p clock))
-
--- from the first clock to the second, both included, each FIFO holds as much as in the first
-abbrev pub AreSteady : Plan → ℕ → ℕ → Type 0
-AreSteady p first last = (clock : ℕ) → first ≤ clock → clock ≤ last → fills p clock ≡ fills p first
-
--- a later clock, at most the verdict's, up to which the fills do not change
-pub record IsNextClock (p : Plan) (clock next : ℕ) : Type 0 where
-  pub later : clock < next
-  pub within : next ≤ last_clock p
-  pub steady : (between : ℕ) → clock ≤ between → between < next → fills p between ≡ fills p clock

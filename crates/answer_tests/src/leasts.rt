@@ -8,7 +8,8 @@ use std::test::Fail;
 use worked_sessions::read_plan;
 
 /// A burst of four values into a FIFO, and a consumer that takes one value in two clocks.
-const BURSTS: &[u8] = b"flow 1\nfifo burst 8 1\nsink y 8\nmodule producer\nreg n 8\nreg v 8\nreg go 1\nloop bursts 12 12 while go\n\
+const BURSTS: &[u8] =
+    b"flow 1\nfifo burst 8 1\nsink y 8\nmodule producer\nreg n 8\nreg v 8\nreg go 1\nloop bursts 12 12 while go\n\
 at 0 write burst v\nat 0 set n + n 1\nat 0 set go <u n 3\nat 1 write burst + v 1\nat 2 write burst + v 2\nat 3 write burst + v 3\n\
 at 4 set v + v 4\nstop\nmodule consumer\nreg x 8\nreg n 8\nreg go 1\nloop take 2 3 while go\nat 0 read burst x\nat 0 set n + n 1\n\
 at 0 set go <u n 15\nat 2 write y x\nstop\nend\n";
@@ -47,8 +48,14 @@ fn least_memory(rt: HostRuntime) -> Result<(), Fail> {
     let plan = read_plan(rt.alloc(), BURSTS).map_err(|_| "refused")?;
     let mut runner = AloneRunner::new();
     let tight = tell_least(&rt, rt.alloc(), &plan, 0, &mut runner)?;
-    assert_eq!(rt; tight.text.as_slice(), b"least\nverdict done 48\nbits 24\ndepth burst 3\n".as_slice());
+    assert_eq!(rt;
+        tight.text.as_slice(),
+        b"least\nverdict done 48\nbits 24\ndepth burst 3\n".as_slice()
+    );
     let loose = tell_least(&rt, rt.alloc(), &plan, 4, &mut runner)?;
-    assert_eq!(rt; loose.text.as_slice(), b"least\nverdict done 52\nbits 16\ndepth burst 2\n".as_slice());
+    assert_eq!(rt;
+        loose.text.as_slice(),
+        b"least\nverdict done 52\nbits 16\ndepth burst 2\n".as_slice()
+    );
     Ok(())
 }

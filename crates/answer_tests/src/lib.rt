@@ -14,6 +14,8 @@ mod further;
 #[cfg(test)]
 mod gates;
 #[cfg(test)]
+mod leasts;
+#[cfg(test)]
 mod limited;
 #[cfg(test)]
 mod refusing;

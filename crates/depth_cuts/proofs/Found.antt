@@ -1,5 +1,6 @@
 -- What the search has found.
-use Rattle.std.proofs.Common.{◌≡◌, ◌≢◌, ℕ, zero, suc, ◌+◌, ◌<◌, ◌≤◌, ◌==◌, ◌⊎◌, inl, inr, Option, None, Some, List, length, refl, sym, ◌∙◌, ap}
+use Rattle.std.proofs.Common.{◌≡◌, ◌≢◌, ℕ, zero, suc, ◌+◌, ◌<◌, ◌≤◌, ◌==◌, ◌⊎◌}
+use Rattle.std.proofs.Common.{inl, inr, Option, None, Some, List, length, refl, sym, ◌∙◌, ap}
 use Rattle.std.proofs.Common.{subst, arith, []}
 use Rattle.std.specs.Prelude.{slice_index, slice_index_or, slice_set, All}
 use Rattle.std.proofs.lemmas.Bool.{cases_lt, cases_eq}

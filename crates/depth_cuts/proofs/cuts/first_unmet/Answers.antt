@@ -11,4 +11,5 @@ loop-place-preserved c =
     let next : suc n ≡ n + 1 = omega arith in
     subst (λ (k : ℕ). MeetsBetween cuts c.args.from k ds) next
     (one_more_met cuts c.args.from n ds c.loop-place.invariant
-    (met_there cuts n c.index-cuts-place.result ds c.loop-place-test.true c.index-cuts-place.is (c.is_met.ensures.met c.if-not-is_met.false)))
+    (met_there cuts n c.index-cuts-place.result ds c.loop-place-test.true c.index-cuts-place.is (c.is_met.ensures.met
+    c.if-not-is_met.false)))

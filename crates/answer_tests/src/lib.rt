@@ -6,6 +6,8 @@ mod asking;
 #[cfg(test)]
 mod commanding;
 #[cfg(test)]
+mod cuts;
+#[cfg(test)]
 mod ends;
 #[cfg(test)]
 mod exploring;
@@ -13,8 +15,6 @@ mod exploring;
 mod further;
 #[cfg(test)]
 mod gates;
-#[cfg(test)]
-mod leasts;
 #[cfg(test)]
 mod limited;
 #[cfg(test)]

@@ -1,5 +1,5 @@
 use Rattle.depth_cuts.proofs.Found.{one_more_met, met_there}
-use Rattle.std.proofs.Common.{add-one, arith, refl, ◌+◌, ◌≡◌, suc, subst, sym, ℕ}
+use Rattle.std.proofs.Common.{arith, ◌+◌, ◌≡◌, suc, subst, ℕ}
 use Rattle.depth_cuts.specs.Met.{MeetsBetween}
 use Rattle.depth_cuts.proofs.cuts.first_unmet.Goals as goal
 

@@ -1,4 +1,4 @@
-use Rattle.std.proofs.Common.{ℕ, List, ◌+◌, ◌<◌, ◌≤◌, ◌≡◌, ◌∙◌, refl, sym, ap, subst, length, arith}
+use Rattle.std.proofs.Common.{ℕ, List, ◌≤◌, ◌≡◌, subst, arith}
 use Rattle.std.specs.Prelude.{slice_index_or, slice_index, All, ◌*◌, ◌-◌}
 use Rattle.depth_cuts.specs.declared.cuts.Need.{Need}
 use Rattle.depth_cuts.specs.declared.cuts.Cut.{Cut}

@@ -2,7 +2,6 @@
 use Rattle.std.specs.Prelude.{◌≡◌, ℕ, ◌+◌, ◌*◌, ◌<◌, ◌≤◌, ◌⊎◌, Option, None, Some, List, [], ◌∷◌, length, slice_index, All}
 use Rattle.flow_design.specs.declared.limits.TheConstants.{CHANNELS, FIFO_DEPTH}
 use Rattle.depth_cuts.specs.declared.cuts.Need.{Need}
-use Rattle.depth_cuts.specs.declared.cuts.Cut.{Cut}
 use Rattle.depth_cuts.specs.declared.cuts.Demands.{Demands}
 use Rattle.depth_cuts.specs.Met.{IsMet}
 

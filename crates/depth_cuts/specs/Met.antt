@@ -1,6 +1,5 @@
 -- Cuts that depths meet.
 use Rattle.std.specs.Prelude.{ℕ, ◌<◌, ◌≤◌, List, [], slice_index, slice_index_or, All, Any}
-use Rattle.depth_cuts.specs.declared.cuts.Need.{Need}
 use Rattle.depth_cuts.specs.declared.cuts.Cut.{Cut}
 
 -- some channel is as deep as the cut needs it

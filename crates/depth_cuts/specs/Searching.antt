@@ -1,10 +1,10 @@
 -- What the search for the cheapest depths has found.
-use Rattle.std.specs.Prelude.{◌≡◌, ⊤, ℕ, ◌<◌, ◌≤◌, ◌==◌, if◌then◌else◌, Option, None, Some, List, length, slice_index, slice_index_or, All}
+use Rattle.std.specs.Prelude.{◌≡◌, ⊤, ℕ, ◌<◌, ◌≤◌, ◌==◌, if◌then◌else◌, Option, None, Some, List, slice_index, slice_index_or, All}
 use Rattle.flow_design.specs.declared.limits.TheConstants.{FIFO_DEPTH}
 use Rattle.depth_cuts.specs.declared.cuts.Need.{Need}
 use Rattle.depth_cuts.specs.declared.cuts.Demands.{Demands}
 use Rattle.depth_cuts.specs.declared.order.Choice.{Choice}
-use Rattle.depth_cuts.specs.Met.{IsMet, cut_at, MeetsBetween}
+use Rattle.depth_cuts.specs.Met.{IsMet, MeetsBetween}
 use Rattle.depth_cuts.specs.Cuts.{AreAbove, Covers, bits_of, IsNoWorse}
 
 -- depths within the limits, with their bits, that meet the cuts before a place

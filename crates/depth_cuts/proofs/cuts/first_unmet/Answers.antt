@@ -1,5 +1,5 @@
 use Rattle.depth_cuts.proofs.Found.{one_more_met, met_there}
-use Rattle.std.proofs.Common.{add-one, arith, refl, ◌+◌, ◌≡◌, suc, subst, sym, ℕ}
+use Rattle.std.proofs.Common.{arith, ◌+◌, ◌≡◌, suc, subst, ℕ}
 use Rattle.depth_cuts.specs.Met.{MeetsBetween}
 use Rattle.depth_cuts.proofs.cuts.first_unmet.Goals as goal
 
@@ -11,4 +11,5 @@ loop-place-preserved c =
     let next : suc n ≡ n + 1 = omega arith in
     subst (λ (k : ℕ). MeetsBetween cuts c.args.from k ds) next
     (one_more_met cuts c.args.from n ds c.loop-place.invariant
-    (met_there cuts n c.index-cuts-place.result ds c.loop-place-test.true c.index-cuts-place.is (c.is_met.ensures.met c.if-not-is_met.false)))
+    (met_there cuts n c.index-cuts-place.result ds c.loop-place-test.true c.index-cuts-place.is (c.is_met.ensures.met
+    c.if-not-is_met.false)))

@@ -1,4 +1,4 @@
-use Rattle.std.proofs.Common.{◌≡◌, ℕ, ◌+◌, ◌*◌, ◌≤◌, sym, ◌∙◌, arith}
+use Rattle.std.proofs.Common.{sym, arith}
 use Rattle.depth_cuts.proofs.Bits.{bits_more, bits_none, few_bits}
 use Rattle.depth_cuts.proofs.order.bits_of.Goals as goal
 

@@ -1,4 +1,4 @@
-use Rattle.depth_cuts.proofs.Apart.{none_used, still_reached}
+use Rattle.depth_cuts.proofs.Apart.{still_reached}
 use Rattle.depth_cuts.proofs.rises.least_rises.Goals as goal
 
 pub returns : goal.returns

@@ -1,6 +1,4 @@
-use Rattle.std.proofs.Common.{ℕ, List, ◌+◌, ◌<◌, ◌≤◌, ◌≡◌, ◌∙◌, refl, sym, ap, subst, length, arith}
-use Rattle.std.specs.Prelude.{slice_index}
-use Rattle.std.proofs.lemmas.List.{length-set}
+use Rattle.std.proofs.Common.{◌+◌, ◌∙◌, sym, subst, arith}
 use Rattle.depth_cuts.proofs.Apart.{MarksMore, one_more_marked}
 use Rattle.depth_cuts.proofs.rises.mark_used.Goals as goal
 

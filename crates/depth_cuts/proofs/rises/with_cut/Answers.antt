@@ -1,4 +1,4 @@
-use Rattle.std.proofs.Common.{ℕ, List, ◌+◌, ◌<◌, ◌≤◌, ◌≡◌, ◌∙◌, refl, sym, ap, subst, length, arith}
+use Rattle.std.proofs.Common.{ℕ, List, ◌≤◌, ◌≡◌, subst, arith}
 use Rattle.std.specs.Prelude.{slice_index_or, slice_index, All, ◌*◌, ◌-◌}
 use Rattle.depth_cuts.specs.declared.cuts.Need.{Need}
 use Rattle.depth_cuts.specs.declared.cuts.Cut.{Cut}
@@ -19,5 +19,8 @@ returns-clause-reached c =
     let least = subst (λ (ns : List Need). All (λ n. c.least_rise.result.bits
     ≤ (n.depth - slice_index ds n.channel) * slice_index demands.widths n.channel) ns) needs c.least_rise.ensures.least in
     cut_reached demands c.args.used.now c.mark_used.new.used ds c.args.rises c.least_rise.result.bits c.saturating_add.result c.args.place
-    cut c.requires.demands c.requires.count c.requires.place is free full c.mark_used.ensures.kept least (omega (arith, c.saturating_add.ensures))
+    cut c.requires.demands c.requires.count c.requires.place is free full c.mark_used.ensures.kept least (omega (
+      arith,
+      c.saturating_add.ensures,
+    ))
     c.requires.reached

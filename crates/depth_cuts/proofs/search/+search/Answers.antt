@@ -1,13 +1,13 @@
-use Rattle.std.proofs.Common.{ℕ, ◌+◌, ◌<◌, ◌≤◌, ◌≡◌, List, length, refl, sym, ◌∙◌, ap, subst, arith, inl}
+use Rattle.std.proofs.Common.{ℕ, ◌+◌, ◌<◌, ◌≡◌, List, length, sym, ◌∙◌, ap, subst, arith, inl}
 use Rattle.std.specs.Prelude.{slice_index_or}
 use Rattle.depth_cuts.specs.declared.cuts.Cut.{Cut}
 use Rattle.depth_cuts.specs.declared.cuts.Need.{Need}
 use Rattle.depth_cuts.specs.declared.order.Choice.{Choice}
-use Rattle.depth_cuts.specs.declared.search.Before.{Before}
 use Rattle.std.specs.Prelude.{slice_set}
 use Rattle.depth_cuts.specs.Cuts.{AreAbove}
-use Rattle.depth_cuts.specs.Searching.{AreTried, IsKept, IsAt, IsFound, IsTried, need_at, swapped}
-use Rattle.depth_cuts.proofs.Found.{lent_met, lent_unmet, none_better, found_here, raised_at, turn_within, is_put_back, all_tried, one_more_tried, reaches_raised}
+use Rattle.depth_cuts.specs.Searching.{AreTried, IsAt, IsTried, need_at, swapped}
+use Rattle.depth_cuts.proofs.Found.{lent_met, lent_unmet, none_better, found_here, raised_at}
+use Rattle.depth_cuts.proofs.Found.{turn_within, is_put_back, all_tried, one_more_tried, reaches_raised}
 use Rattle.depth_cuts.proofs.search.+search.Goals as goal
 
 pub returns-then-next-cuts-clause-kept : goal.returns-then-next-cuts-clause-kept
@@ -50,11 +50,14 @@ search-requires t c =
             raised_at demands c.args.from next at c.raise-before.new.at c.index-cuts-next.result c.swapped.result
                 c.requires.demands (subst (IsAt demands c.args.from) (sym c.loop-turn.invariant.at) c.requires.at) least inside
                 (lent_met demands.cuts c.as_slice-cuts.result.now c.args.from next at.depths c.as_slice.result.now cuts shown found.met)
-                (subst (λ (cs : List Cut). c.index-cuts-next.result ≡ slice_index_or cs next c.index-cuts-next.result) cuts c.index-cuts-next.is)
-                (lent_unmet demands.cuts c.as_slice-cuts.result.now next at.depths c.as_slice.result.now cuts shown (found.unmet (omega arith)))
+                (subst (λ (cs : List Cut). c.index-cuts-next.result ≡ slice_index_or cs next c.index-cuts-next.result) cuts
+                c.index-cuts-next.is)
+                (lent_unmet demands.cuts c.as_slice-cuts.result.now next at.depths c.as_slice.result.now cuts shown (found.unmet
+                (omega arith)))
                 (turn_within c.least_rise-first.result.place c.loop-turn.turn (length c.index-cuts-next.result.needs) c.swapped.result
                 (λ some. let is = c.least_rise-first.ensures.place (omega arith) in omega arith) (omega arith) c.swapped.ensures)
-                (raised.depths ∙ ap (λ (ns : List Need). slice_set at.depths (need_at ns c.swapped.result).channel (need_at ns c.swapped.result).depth) needs)
+                (raised.depths ∙ ap (λ (ns : List Need). slice_set at.depths (need_at ns c.swapped.result).channel (need_at ns
+                c.swapped.result).depth) needs)
                 raised.bits,
             c.loop-turn.invariant.kept,
           ),
@@ -75,7 +78,8 @@ loop-turn-preserved t c =
     let first = c.least_rise-first.result.place in
     let need = need_at needs c.swapped.result in
     let rose = ap (λ (a : Choice). a.depths) ok.at ∙ raised.depths in
-    let restored : c.put_back.new.at ≡ at = is_put_back at c.search.new.at c.put_back.new.at need.channel need.depth c.raise-before.result rose
+    let restored : c.put_back.new.at ≡ at = is_put_back at c.search.new.at c.put_back.new.at need.channel need.depth
+    c.raise-before.result rose
     raised.before back.depths back.bits in
     let here : IsTried demands at.depths c.search.new.best (need_at needs (swapped first turn)) =
     subst (λ (k : ℕ). IsTried demands at.depths c.search.new.best (need_at needs k)) c.swapped.ensures (λ es above met deep.

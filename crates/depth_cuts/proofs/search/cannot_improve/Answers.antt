@@ -10,4 +10,5 @@ returns-then-is_no_worse-clause-yes c is =
     let demands = c.args.demands.now in
     let kept = subst (IsKept demands) c.in-Some.is c.requires.kept in
     subst (λ (best : Option Choice). IsSearched demands c.args.at.now.depths best) (sym c.in-Some.is)
-    (none_better demands c.in-Some.found c.args.at.now.depths (c.is_no_worse.ensures.yes demands.widths kept.bits c.requires.bits c.if-is_no_worse.true))
+    (none_better demands c.in-Some.found c.args.at.now.depths (c.is_no_worse.ensures.yes demands.widths kept.bits c.requires.bits
+    c.if-is_no_worse.true))

@@ -79,12 +79,12 @@ module _ (p : Plan) (n : ℕ) where
       by_end : (c : ℕ) (st : ClockState) → clock < c → is_done_by clock (settled_verdict p c st) ≡ false
       by_end c st above = elim (cases_Bool (list_all (λ s. s.ended) st.modules)) [
         | inl e ↦ ap (λ (b : Bool). is_done_by clock (cond b (Done c) (cond (list_any (is_spent p.ops) st.modules) (Ops c) (Deadlock c)))) e
-        ∙ false_from_ne_true (nat_le c clock) (λ t. let l = leb-true c clock t in absurd (omega arith))
+            ∙ false_from_ne_true (nat_le c clock) (λ t. let l = leb-true c clock t in absurd (omega arith))
         | inr e ↦ ap (λ (b : Bool). is_done_by clock (cond b (Done c) (cond (list_any (is_spent p.ops) st.modules) (Ops c) (Deadlock c)))) e
-        ∙ elim (cases_Bool (list_any (is_spent p.ops) st.modules)) [
-          | inl s ↦ ap (λ (b : Bool). is_done_by clock (cond b (Ops c) (Deadlock c))) s
-          | inr s ↦ ap (λ (b : Bool). is_done_by clock (cond b (Ops c) (Deadlock c))) s
-        ]
+            ∙ elim (cases_Bool (list_any (is_spent p.ops) st.modules)) [
+              | inl s ↦ ap (λ (b : Bool). is_done_by clock (cond b (Ops c) (Deadlock c))) s
+              | inr s ↦ ap (λ (b : Bool). is_done_by clock (cond b (Ops c) (Deadlock c))) s
+            ]
       ]
 
 -- ---- the limit for a clock

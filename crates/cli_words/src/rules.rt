@@ -2,7 +2,8 @@
 ghost use Rattle.std.specs.Prelude.{◌≡◌, ◌≤◌, ◌^◌, ℕ, IfSome, Some, option_map};
 ghost use Rattle.cli_words.specs.CommandWords.{AreLimits, IsInRange, IsLimit};
 ghost use Rattle.cli_words.specs.CommandWords.{command_of, gen_of, has_options, limit_in, name_of, no_more};
-ghost use Rattle.cli_words.specs.CommandWords.{number_in, options_alone, options_of, slack_in, sweep_of, tells_events, tells_polls, with_slack, without_option};
+ghost use Rattle.cli_words.specs.CommandWords.{number_in, options_alone, options_of, slack_in, sweep_of, tells_events};
+ghost use Rattle.cli_words.specs.CommandWords.{tells_polls, with_slack, without_option};
 ghost use Rattle.cli_words.specs.Given.{rest_of, said_of, text_of};
 
 use crate::parser::Given;

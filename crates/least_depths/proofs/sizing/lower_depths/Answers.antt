@@ -17,8 +17,8 @@ returns-clause-found g c =
     ap (λ (s : Session). s.plan) c.in_ok-session.ensures.opened ∙ (c.limit_cycles.ensures
     ∙ ap (λ (r : Plan). limited c.args.clock (with_depths r c.args.depths)) c.in_ok-own.ensures) in
     let last = c.lower_all.new.session.plan in
-    lowered_of (limited c.args.clock q) c.args.clock c.in_ok-session.session.plan last c.verdict.result c.in_ok-from_slice.field-0 c.in_ok-tries.tries
-    (length p.design.channels) start c.in_ok-tries.ensures.plan c.in_ok-tries.ensures.tries refl
+    lowered_of (limited c.args.clock q) c.args.clock c.in_ok-session.session.plan last c.verdict.result c.in_ok-from_slice.field-0
+    c.in_ok-tries.tries (length p.design.channels) start c.in_ok-tries.ensures.plan c.in_ok-tries.ensures.tries refl
     c.verdict.ensures
     (c.in_ok-from_slice.ensures ∙ (c.as_slice.ensures ∙ ap (λ (r : Plan). r.depths) c.plan.ensures))
     ∙ same_sizes q c.requires.fits c.args.clock (length p.design.channels) c.requires.in_time

@@ -15,17 +15,19 @@ use Rattle.whole_answer.specs.Further.{has_query, fewest_bits, least_told, not_t
 all_false : {X : Type 0} (p : X → Bool) (xs : List X) → list_any p xs ≡ false → All (λ x. p x ≡ false) xs
 all_false p xs none i d l = false_from_ne_true (p (get_or xs i d)) (λ here. true≢false (sym (list_any_at p xs i d l here) ∙ none))
 
-block_asks : Block → Bool
+abbrev block_asks : Block → Bool
 block_asks b = list_any (λ t. is_query t.op) b.ops
 
-module_asks : Module → Bool
+abbrev module_asks : Module → Bool
 module_asks m = list_any block_asks m.blocks
 
 asks_nothing : (p : Plan) → has_query p.design ≡ false → AsksNothing p
+unfolding has_query
 asks_nothing p none i m l j b k =
     all_false (λ t. is_query t.op) _ (all_false block_asks _ (all_false module_asks p.design.modules none i m l) j b k)
 
 has_none : (p : Plan) → AsksNothing p → has_query p.design ≡ false
+unfolding has_query
 has_none p quiet =
     list_any_none module_asks p.design.modules (λ i m l. list_any_none block_asks _ (λ j b k.
     list_any_none (λ t. is_query t.op) _ (quiet i m l j b k)))

@@ -125,11 +125,11 @@ unfoldable pub sized : ℕ → Plan → Answer
 sized slack p = record { text = size_text slack p; status = status_of (sizes slack p).verdict }
 
 -- some operation of the modules is a query
-abbrev pub has_query : Design → Bool
+unfoldable pub has_query : Design → Bool
 has_query design = list_any (λ m. list_any (λ b. list_any (λ t. is_query t.op) b.ops) m.blocks) design.modules
 
 -- the depths of the fewest bits that lose no more than so many clocks, with the status of the verdict with them
-abbrev pub fewest_bits : ℕ → Plan → Answer
+unfoldable pub fewest_bits : ℕ → Plan → Answer
 fewest_bits slack p = record { text = least_text slack p; status = status_of (leasts slack p).verdict }
 
 -- `refused 0 22` where some operation is a query

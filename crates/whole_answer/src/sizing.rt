@@ -1,9 +1,10 @@
 //! What `size` and `least` answer.
 ghost use Rattle.std.specs.Prelude.{◌≡◌, ◌≤◌, IfOk};
 ghost use Rattle.flow_design.specs.StaticRules.{FitsEngine};
+ghost use Rattle.depth_order.specs.Depths.{AsksNothing};
 ghost use Rattle.least_depths.specs.Least.{most_slack};
 ghost use Rattle.whole_answer.specs.Answer.{IsAnswer};
-ghost use Rattle.whole_answer.specs.Further.{sized, least_told};
+ghost use Rattle.whole_answer.specs.Further.{sized, fewest_bits, least_told};
 
 use crate::answer::Answer;
 use crate::refusing::{HAS_QUERY, refuse};
@@ -41,9 +42,7 @@ pub(crate) fn size_fifos<R: Threads + Wait + Sync, G: Gate + Sync>(
     })
 }
 
-/// The depths of a plan's FIFOs that need the fewest bits and lose no more than so many clocks, and the status of the verdict with them.
-/// A plan with a query is refused.
-#[tactic(auto, using(crate::proofs::Queries::answered, crate::proofs::Queries::refused))]
+/// What `least` answers: the depths that need the fewest bits, or a refusal where the plan has a query.
 pub(crate) fn least_fifos<R: Threads + Wait + Sync, G: Gate + Sync>(
     rt: &R,
     alloc: Global,
@@ -56,9 +55,28 @@ pub(crate) fn least_fifos<R: Threads + Wait + Sync, G: Gate + Sync>(
     ensures told { IfOk result (λ whole. whole ≡ least_told slack plan.now) }
     ensures status { IfOk result (λ whole. IsAnswer whole.status) }
 {
-    if !asks_nothing(plan) {
-        return refuse(alloc, HAS_QUERY);
+    if asks_nothing(plan) {
+        fewest_bits(rt, alloc, plan, slack, gate)
+    } else {
+        refuse(alloc, HAS_QUERY)
     }
+}
+
+/// The depths of a plan's FIFOs that need the fewest bits and lose no more than so many clocks, and the status of the verdict with them.
+#[tactic(auto, unfolding(crate::specs::Further::fewest_bits))]
+fn fewest_bits<R: Threads + Wait + Sync, G: Gate + Sync>(
+    rt: &R,
+    alloc: Global,
+    plan: &Plan,
+    slack: u64,
+    gate: &G,
+) -> Result<Answer, OutOfMemory>
+    requires fits { FitsEngine plan.now }
+    requires slack { slack ≤ most_slack }
+    requires quiet { AsksNothing plan.now }
+    ensures told { IfOk result (λ whole. whole ≡ fewest_bits slack plan.now) }
+    ensures status { IfOk result (λ whole. IsAnswer whole.status) }
+{
     let told = tell_least(rt, alloc, plan, slack, &mut ThreadRunner::new(gate))?;
     let status = Status::of(told.verdict);
     Ok(Answer {

@@ -12,6 +12,6 @@ returns-in-Ok-clause-swept g c =
 
 pub returns-in-Err-TooWide-clause-swept : goal.returns-in-Err-TooWide-clause-swept
 returns-in-Err-TooWide-clause-swept g c =
-    subst (λ (a : Answer). IfOk c.refuse_grid.result (λ whole. whole ≡ a))
+    subst (λ (a : Answer). IfOk c.refuse.result (λ whole. whole ≡ a))
     (swept_wide c.args.lo c.args.hi c.args.plan (c.in-Err-TooWide.ensures.too_wide.0 (ap Err c.in-Err-TooWide.field-0-is)))
-    c.refuse_grid.ensures.refused
+    c.refuse.ensures.refused

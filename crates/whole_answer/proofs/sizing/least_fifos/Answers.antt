@@ -1,0 +1,16 @@
+use Rattle.std.proofs.Common.{◌≡◌, subst, IfOk}
+use Rattle.depth_order.specs.Depths.{AsksNothing}
+use Rattle.whole_answer.specs.declared.answer.Answer.{Answer}
+use Rattle.whole_answer.proofs.Queries.{answered, refused}
+use Rattle.whole_answer.proofs.sizing.least_fifos.Goals as goal
+
+pub returns-then-asks_nothing-clause-told : goal.returns-then-asks_nothing-clause-told
+returns-then-asks_nothing-clause-told g c =
+    let quiet : AsksNothing c.args.plan.now = c.asks_nothing.ensures.quiet c.if-asks_nothing.true in
+    subst (λ (a : Answer). IfOk c.fewest_bits.result (λ whole. whole ≡ a)) (answered c.args.slack c.args.plan.now quiet)
+    c.fewest_bits.ensures.told
+
+pub returns-else-asks_nothing-clause-told : goal.returns-else-asks_nothing-clause-told
+returns-else-asks_nothing-clause-told g c =
+    subst (λ (a : Answer). IfOk c.refuse.result (λ whole. whole ≡ a))
+    (refused c.args.slack c.args.plan.now (c.asks_nothing.ensures.asks c.if-asks_nothing.false)) c.refuse.ensures.refused

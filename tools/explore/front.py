@@ -2,6 +2,7 @@
 are done by a clock, found by `size --slack`, made better by single steps, and proved to be the least where `least` has the time."""
 import concurrent.futures
 import dataclasses
+import re
 
 from flow.answers import read_depths, read_least, read_run
 from flow.depths import with_depths
@@ -11,17 +12,23 @@ SHARES = (0, 1, 2, 5, 10, 20, 50)  # of the earliest end, in hundredths: the sla
 STEP = 0.05  # the bits of neighbours differ by at most this share, where there are clocks between them
 MOST_POINTS = 40
 MOST_PAIRS = 450  # of edits, in one session
+QUERY = re.compile(r'^at \d+ (if \S+ )?(tryread|trywrite|empty|full) ', re.MULTILINE)
 
 
 @dataclasses.dataclass
 class Point:
-    """Depths that are done in a clock, how many bits they need, and how many any depths need that are done in this slack."""
+    """Depths that are done in a clock, how many bits they need, and how many any depths need that are done in this slack, where that
+    is known: not of a design with queries."""
     slack: int
     latency: int
     bits: int
     depths: dict
-    bound: int
+    bound: int = None
     is_least: bool = False
+
+    @property
+    def known(self):
+        return 'least' if self.is_least else 'found' if self.bound is None else 'bound'
 
     @property
     def gap(self):
@@ -37,6 +44,7 @@ class Fifos:
         self.program = Program()
         advised = read_depths('advise', self.told(['advise']))
         self.verdict, self.deepest = advised.verdict, advised.depths
+        self.asks = QUERY.search(self.text) is not None
 
     def told(self, words, text=None):
         return self.program.answer(words + self.limits, ((text or self.text) + 'end\n').encode('ascii'))
@@ -135,12 +143,12 @@ def lone_bound(fifos, depths, clock):
 def point_of(fifos, slack):
     """The point of a slack."""
     clock = fifos.verdict.clock + slack
-    proved = fifos.least(slack)
+    proved = None if fifos.asks else fifos.least(slack)
     if proved is not None:
         return Point(slack, fifos.latency(proved.depths), proved.bits, proved.depths, proved.bits, True)
     found = min((fifos.sized(slack, names) for names in fifos.orders()), key=fifos.bits)
     found = exchanged(fifos, found, clock)
-    bits, bound = fifos.bits(found), lone_bound(fifos, found, clock)
+    bits, bound = fifos.bits(found), None if fifos.asks else lone_bound(fifos, found, clock)
     return Point(slack, fifos.latency(found), bits, found, bound, bits == bound)
 
 
@@ -172,15 +180,15 @@ def csv_of(points):
     names = list(points[0].depths) if points else []
     lines = [','.join(['latency', 'bits', 'known', 'bound', 'gap'] + names)]
     for point in points:
-        known = 'least' if point.is_least else 'bound'
-        lines.append(','.join([str(point.latency), str(point.bits), known, str(point.bound), f'{point.gap:.1f}']
-                              + [str(point.depths[name]) for name in names]))
+        bound = ['', ''] if point.bound is None else [str(point.bound), f'{point.gap:.1f}']
+        lines.append(','.join([str(point.latency), str(point.bits), point.known, *bound] + [str(point.depths[name]) for name in names]))
     return '\n'.join(lines) + '\n'
 
 
 def plot_of(points):
     """What gnuplot draws: proved points are filled, and others have a line to their bound."""
-    lines = lambda chosen: '\n'.join(f'{point.bits} {point.latency} {point.bound} {point.bits}' for point in chosen)
+    low = lambda point: point.bits if point.bound is None else point.bound
+    lines = lambda chosen: '\n'.join(f'{point.bits} {point.latency} {low(point)} {point.bits}' for point in chosen)
     clocks = [point.latency for point in points]
     room = max(1, (max(clocks) - min(clocks)) // 20)
     proved, open_ones = [point for point in points if point.is_least], [point for point in points if not point.is_least]

@@ -6,8 +6,6 @@ mod asking;
 #[cfg(test)]
 mod commanding;
 #[cfg(test)]
-mod cuts;
-#[cfg(test)]
 mod ends;
 #[cfg(test)]
 mod exploring;

@@ -46,4 +46,5 @@ depths_fit p h ds a = record {
   cycles = h.cycles;
   some_operations = h.some_operations;
   operations = h.operations;
+  pace = h.pace;
 }

@@ -1,5 +1,6 @@
 -- Which plans the engine takes: those that keep the static rules and the limits of the language.
-use Rattle.std.specs.Prelude.{◌≡◌, ℕ, ◌+◌, ◌*◌, ◌%◌, nat_eq, ◌<◌, ◌≤◌, Bool, false, ◌&&◌, IsTrue, List, [], length, slice_index}
+use Rattle.std.specs.Prelude.{◌≡◌, ℕ, ◌+◌, ◌*◌, ◌%◌, nat_eq, nat_le, ◌<◌, ◌≤◌, Bool, false, ◌&&◌, IsTrue, List, [], length}
+use Rattle.std.specs.Prelude.{slice_index, if◌then◌else◌}
 use Rattle.std.specs.Prelude.{slice_index_or, sum_by, count_by, All, AllPairs, Option, None, Some, IfSome}
 use Rattle.std.specs.List.{list_any}
 use Rattle.flow_word.specs.declared.access.Port.{Port}
@@ -8,7 +9,8 @@ use Rattle.flow_word.specs.declared.access.Side.TheVariants.{Pop, Push}
 use Rattle.flow_word.specs.Kinds.{same_side}
 use Rattle.flow_design.specs.declared.limits.TheConstants.{MODULES, CHANNELS, REGISTERS, TEMPS, MEMORIES, MEMORY_WORDS, BLOCKS, OPERATIONS}
 use Rattle.flow_design.specs.declared.limits.TheConstants.{LIVE_ITERATIONS, BLOCK_CLOCKS, EXPRESSION_NODES, EXPRESSION_DEPTH, INPUT_VALUES}
-use Rattle.flow_design.specs.declared.limits.TheConstants.{FIFO_DEPTH, FIFO_DELAY, CYCLES, COUNTED_OPERATIONS}
+use Rattle.flow_design.specs.declared.limits.TheConstants.{FIFO_DEPTH, FIFO_DELAY, CYCLES, COUNTED_OPERATIONS, LONG_BLOCK_OPERATIONS}
+use Rattle.flow_design.specs.declared.limits.TheConstants.{SHORT_BLOCK_CLOCKS}
 use Rattle.flow_design.specs.declared.expr.Expr.{Expr}
 use Rattle.flow_design.specs.declared.expr.Op.{Op}
 use Rattle.flow_design.specs.declared.design.BlockKind.{BlockKind}
@@ -135,6 +137,10 @@ pub record IsChannelSound (plan : Plan) (f : ℕ) : Type 0 where
   pub pushing : count_by (uses (record { side = Push; channel = f })) plan.design.modules ≡ users_wanted (kind_at plan f) Push
   pub entries : AreEntriesSound (kind_at plan f) (slice_index_or plan.inputs f []) (slice_index plan.depths f)
 
+-- the most clocks of a block where each module may count so many operations: long blocks, or many operations, but not both
+abbrev pub longest_block : ℕ → ℕ
+longest_block operations = if nat_le operations LONG_BLOCK_OPERATIONS then BLOCK_CLOCKS else SHORT_BLOCK_CLOCKS
+
 -- the plan keeps the static rules and the limits
 pub record FitsEngine (plan : Plan) : Type 0 where
   pub channel_count : length plan.design.channels ≤ CHANNELS
@@ -148,3 +154,4 @@ pub record FitsEngine (plan : Plan) : Type 0 where
   pub cycles : plan.cycles ≤ CYCLES
   pub some_operations : 1 ≤ plan.ops
   pub operations : plan.ops ≤ COUNTED_OPERATIONS
+  pub pace : All (λ m. All (λ b. b.len ≤ longest_block plan.ops) m.blocks) plan.design.modules

@@ -155,4 +155,5 @@ limited_fits p h clock =
       cycles = limit.1;
       some_operations = h.some_operations;
       operations = h.operations;
+      pace = h.pace;
     }

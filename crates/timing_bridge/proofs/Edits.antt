@@ -68,6 +68,7 @@ edited_fits p h e fit =
       cycles = h.cycles;
       some_operations = h.some_operations;
       operations = h.operations;
+      pace = h.pace;
     }
 
 -- an edit to the depth that stands is none

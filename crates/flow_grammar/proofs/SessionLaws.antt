@@ -6,6 +6,7 @@ use Rattle.std.specs.List.{list_all, All, AllPairs}
 use Rattle.std.proofs.lemmas.List.{append-nil}
 use Rattle.std.proofs.lemmas.List.Kept.{AllPairs-cons}
 use Rattle.std.proofs.lemmas.List.Elements.{All-nil, All-cons}
+use Rattle.flow_design.specs.declared.limits.Scale.{Scale}
 use Rattle.flow_design.specs.declared.session.Statement.{Statement}
 use Rattle.flow_design.specs.declared.session.Statement.TheVariants.{Fifo}
 use Rattle.flow_grammar.specs.Tokens.{Line, Token, is_name, lines_of, tokens_of}
@@ -53,30 +54,30 @@ written_fits v ts s h = refl
 
 -- ---- statements
 
-keeps_from : (front : List Statement) (lines : List Line) (said : Words) → InOrderFrom front lines said
-    → (i : ℕ) (s : Statement) → slice_get (statements_among said) i ≡ Some s → KeepsRules (front ++ take i (statements_among said)) s
+keeps_from : (scale : Scale) (front : List Statement) (lines : List Line) (said : Words) → InOrderFrom scale front lines said
+    → (i : ℕ) (s : Statement) → slice_get (statements_among said) i ≡ Some s → KeepsRules scale (front ++ take i (statements_among said)) s
 unfolding InOrderFrom
-keeps_from front [] [] p i s e = absurd cc
-keeps_from front (line ∷ lines) (None ∷ said) p i s e = keeps_from front lines said p.1 i s e
-keeps_from front (line ∷ lines) (Some st ∷ said) p zero s e =
+keeps_from scale front [] [] p i s e = absurd cc
+keeps_from scale front (line ∷ lines) (None ∷ said) p i s e = keeps_from scale front lines said p.1 i s e
+keeps_from scale front (line ∷ lines) (Some st ∷ said) p zero s e =
     let same : st ≡ s = (cc) in
-    subst (λ (b : List Statement). KeepsRules b s) (sym (append-nil front))
-    (subst (λ (x : Statement). KeepsRules front x) same
+    subst (λ (b : List Statement). KeepsRules scale b s) (sym (append-nil front))
+    (subst (λ (x : Statement). KeepsRules scale front x) same
     (record {
       well_named = written_named (version (reverse front)) (tokens_of line) st p.0.says;
       fits = written_fits (version (reverse front)) (tokens_of line) st p.0.says;
       permitted = p.0.stands.permitted;
       faultless = p.0.stands.faultless;
     }))
-keeps_from front (line ∷ lines) (Some st ∷ said) p (suc i) s e =
-    subst (λ (b : List Statement). KeepsRules b s) (append_assoc front (st ∷ []) (take i (statements_among said)))
-    (keeps_from (front ++ st ∷ []) lines said p.1 i s e)
-keeps_from front lines said p i s e = absurd p
+keeps_from scale front (line ∷ lines) (Some st ∷ said) p (suc i) s e =
+    subst (λ (b : List Statement). KeepsRules scale b s) (append_assoc front (st ∷ []) (take i (statements_among said)))
+    (keeps_from scale (front ++ st ∷ []) lines said p.1 i s e)
+keeps_from scale front lines said p i s e = absurd p
 
-pub keeps_rules : (text : List ℕ) (s : List Statement) (l : List ℕ) → StandsFor text s l → KeepsReadingRules s
-keeps_rules text s l p =
-    subst KeepsReadingRules (sym p.statements_are)
-    (record { each = keeps_from [] (lines_of text) p.said (ordered (lines_of text) p.said p.in_order); over = p.over })
+pub keeps_rules : (scale : Scale) (text : List ℕ) (s : List Statement) (l : List ℕ) → StandsFor scale text s l → KeepsReadingRules scale s
+keeps_rules scale text s l p =
+    subst (KeepsReadingRules scale) (sym p.statements_are)
+    (record { each = keeps_from scale [] (lines_of text) p.said (ordered scale (lines_of text) p.said p.in_order); over = p.over })
 
 -- ---- line numbers
 
@@ -85,8 +86,8 @@ as_many n [] = refl
 as_many n (None ∷ said) = as_many (n + 1) said
 as_many n (Some s ∷ said) = ap suc (as_many (n + 1) said)
 
-pub numbered : (text : List ℕ) (s : List Statement) (l : List ℕ) → StandsFor text s l → length l ≡ length s
-numbered text s l p = ap length p.numbers_are ∙ as_many 1 p.said ∙ sym (ap length p.statements_are)
+pub numbered : (scale : Scale) (text : List ℕ) (s : List Statement) (l : List ℕ) → StandsFor scale text s l → length l ≡ length s
+numbered scale text s l p = ap length p.numbers_are ∙ as_many 1 p.said ∙ sym (ap length p.statements_are)
 
 at_least : (n m : ℕ) (said : Words) → n ≤ m → All (λ x. n ≤ x) (numbers_among m said)
 at_least n m [] h = All-nil (λ x. n ≤ x)
@@ -100,5 +101,5 @@ rising_from n (Some s ∷ said) =
     AllPairs-cons (λ a b. a < b) n (numbers_among (n + 1) said)
     (λ k d l. let h = at_least (n + 1) (n + 1) said (omega arith) k d l in omega arith) (rising_from (n + 1) said)
 
-pub rising : (text : List ℕ) (s : List Statement) (l : List ℕ) → StandsFor text s l → AllPairs (λ a b. a < b) l
-rising text s l p = subst (AllPairs (λ a b. a < b)) (sym p.numbers_are) (rising_from 1 p.said)
+pub rising : (scale : Scale) (text : List ℕ) (s : List Statement) (l : List ℕ) → StandsFor scale text s l → AllPairs (λ a b. a < b) l
+rising scale text s l p = subst (AllPairs (λ a b. a < b)) (sym p.numbers_are) (rising_from 1 p.said)

@@ -18,7 +18,8 @@ use Rattle.flow_grammar.specs.Text.{FailsFirst, HasNoEnd, StandsFor, HasFault, I
 use Rattle.flow_grammar.proofs.SpellingLaws.{written_is_read, read_is_written}
 use Rattle.std.proofs.lemmas.List.{append-nil}
 use Rattle.std.proofs.lemmas.Bool.{cases_lt, cond_both}
-use Rattle.flow_design.specs.declared.limits.TheConstants.{TEXT_BYTES}
+use Rattle.flow_design.specs.declared.limits.Scale.{Scale}
+use Rattle.flow_design.specs.Limits.{limits_at}
 use Rattle.flow_design.specs.declared.session.Session.{Session}
 use Rattle.flow_grammar.specs.declared.fault.TextFault.{TextFault}
 use Rattle.flow_grammar.specs.declared.fault.ReadFail.{ReadFail}
@@ -29,7 +30,7 @@ pub no_tokens : (v : ℕ) (s : Statement) → statement_of v [] ≡ Some s → �
 unfolding statement_of
 no_tokens v s e = cc
 
-module _ (before : List Statement) (line : Line) where
+module _ (scale : Scale) (before : List Statement) (line : Line) where
   abbrev earlier : List Statement
   earlier = reverse before
 
@@ -39,7 +40,7 @@ module _ (before : List Statement) (line : Line) where
   -- ---- a line without a fault
 
   sound_tokens : (ts : List Token) → tokens_of line ≡ ts → (o : Option Statement) → statement_of declared ts ≡ o
-      → list_all is_permitted line ≡ true → tokens_fault earlier ts ≡ None → IsInOrder before line o
+      → list_all is_permitted line ≡ true → tokens_fault scale earlier ts ≡ None → IsInOrder scale before line o
   unfolding statement_of
   sound_tokens [] t None e b h = record { bytes = b; says = t; stands = tt }
   sound_tokens [] t (Some s) e b h = absurd cc
@@ -50,11 +51,12 @@ module _ (before : List Statement) (line : Line) where
     stands = record { permitted = grind arith; faultless = grind arith };
   }
 
-  pub order_of_line : line_fault before line ≡ None → IsInOrder before line (statement_in before line)
+  pub order_of_line : line_fault scale before line ≡ None → IsInOrder scale before line (statement_in before line)
   unfolding line_fault statement_in
   order_of_line h = sound_tokens (tokens_of line) refl (statement_of declared (tokens_of line)) refl (grind arith) (grind arith)
 
-  pub line_of_order : (o : Option Statement) → IsInOrder before line o → (line_fault before line ≡ None) × (statement_in before line ≡ o)
+  pub line_of_order : (o : Option Statement) → IsInOrder scale before line o
+      → (line_fault scale before line ≡ None) × (statement_in before line ≡ o)
   unfolding line_fault statement_in statement_of
   line_of_order None p = (rw (p.bytes, p.says) refl, rw p.says refl)
   line_of_order (Some s) p =
@@ -64,8 +66,8 @@ module _ (before : List Statement) (line : Line) where
   -- ---- a line with a fault
 
   form_fails : (ts : List Token) → tokens_of line ≡ ts → (ts ≡ [] → ⊥) → (o : Option Statement) → statement_of declared ts ≡ o
-      → (code : Code) → form_fault earlier o ≡ Some code
-      → (IsNoStatement before line × (code ≡ Syntax)) ⊎ BreaksRule before line code
+      → (code : Code) → form_fault scale earlier o ≡ Some code
+      → (IsNoStatement before line × (code ≡ Syntax)) ⊎ BreaksRule scale before line code
   form_fails ts t some None e code h =
       inl (
         record {
@@ -79,8 +81,8 @@ module _ (before : List Statement) (line : Line) where
       wrote : Writes declared (tokens_of line) s
       wrote = rw t (read_is_written declared ts s e)
 
-      go : (b : Bool) → may_follow earlier s ≡ b → cond b (statement_fault earlier s) (Some Syntax) ≡ Some code
-          → (IsNoStatement before line × (code ≡ Syntax)) ⊎ BreaksRule before line code
+      go : (b : Bool) → may_follow earlier s ≡ b → cond b (statement_fault scale earlier s) (Some Syntax) ≡ Some code
+          → (IsNoStatement before line × (code ≡ Syntax)) ⊎ BreaksRule scale before line code
       go true p f = inr (record { statement = s; writes = wrote; permitted = p; fault = f })
       go false p f = inl (
         record {
@@ -94,31 +96,32 @@ module _ (before : List Statement) (line : Line) where
         (cc),
       )
 
-  tokens_fails : (ts : List Token) → tokens_of line ≡ ts → (code : Code) → tokens_fault earlier ts ≡ Some code
-      → (IsNoStatement before line × (code ≡ Syntax)) ⊎ BreaksRule before line code
+  tokens_fails : (ts : List Token) → tokens_of line ≡ ts → (code : Code) → tokens_fault scale earlier ts ≡ Some code
+      → (IsNoStatement before line × (code ≡ Syntax)) ⊎ BreaksRule scale before line code
   tokens_fails [] t code h = absurd cc
   tokens_fails (x ∷ xs) t code h = form_fails (x ∷ xs) t (λ e. absurd cc) (statement_of declared (x ∷ xs)) refl code h
 
-  pub fails_of_line : (code : Code) → line_fault before line ≡ Some code → Fails before line code
+  pub fails_of_line : (code : Code) → line_fault scale before line ≡ Some code → Fails scale before line code
   unfolding line_fault
   fails_of_line code h =
-      cond_both (list_all is_permitted line) (tokens_fault earlier (tokens_of line)) (Some NotAscii)
-      (λ (o : Option Code). o ≡ Some code → Fails before line code) (λ b f. inr (b, tokens_fails (tokens_of line) refl code f))
+      cond_both (list_all is_permitted line) (tokens_fault scale earlier (tokens_of line)) (Some NotAscii)
+      (λ (o : Option Code). o ≡ Some code → Fails scale before line code) (λ b f. inr (b, tokens_fails (tokens_of line) refl code f))
       (λ b f. inl (b, (cc))) h
 
-  no_statement : (ts : List Token) → tokens_of line ≡ ts → IsNoStatement before line → tokens_fault earlier ts ≡ Some Syntax
+  no_statement : (ts : List Token) → tokens_of line ≡ ts → IsNoStatement before line → tokens_fault scale earlier ts ≡ Some Syntax
   no_statement [] t p = absurd (p.some_token t)
   no_statement (x ∷ xs) t p =
       let none = λ (s : Statement) (e : statement_of declared (x ∷ xs) ≡ Some s). p.none s (rw t (read_is_written declared (x ∷ xs) s e)) in
       grind arith
 
-  broken_rule : (ts : List Token) → tokens_of line ≡ ts → (code : Code) → BreaksRule before line code → tokens_fault earlier ts ≡ Some code
+  broken_rule : (ts : List Token) → tokens_of line ≡ ts → (code : Code) → BreaksRule scale before line code
+      → tokens_fault scale earlier ts ≡ Some code
   unfolding statement_of
   broken_rule ts t code p =
       let read = rw t at (written_is_read declared (tokens_of line) p.statement p.writes) in
       let permitted = p.permitted in let fault = p.fault in grind arith
 
-  pub line_of_fails : (code : Code) → Fails before line code → line_fault before line ≡ Some code
+  pub line_of_fails : (code : Code) → Fails scale before line code → line_fault scale before line ≡ Some code
   unfolding line_fault
   line_of_fails code (inl p) = rw (p.0, p.1) refl
   line_of_fails code (inr (b, inl p)) = rw (b, no_statement (tokens_of line) refl p.0, p.1) refl
@@ -131,87 +134,92 @@ Words = List (Option Statement)
 
 -- ---- lines in order, one after the other
 
-unfoldable pub InOrderFrom : List Statement → List Line → Words → Type 0
-InOrderFrom front [] [] = Unit {0}
-InOrderFrom front [] (o ∷ said) = ⊥
-InOrderFrom front (line ∷ lines) [] = ⊥
-InOrderFrom front (line ∷ lines) (o ∷ said) = IsInOrder front line o × InOrderFrom (with_statement front o) lines said
+unfoldable pub InOrderFrom : Scale → List Statement → List Line → Words → Type 0
+InOrderFrom scale front [] [] = Unit {0}
+InOrderFrom scale front [] (o ∷ said) = ⊥
+InOrderFrom scale front (line ∷ lines) [] = ⊥
+InOrderFrom scale front (line ∷ lines) (o ∷ said) = IsInOrder scale front line o × InOrderFrom scale (with_statement front o) lines said
 
 among_more : (front : List Statement) (o : Option Statement) (said : Words)
     → with_statement front o ++ statements_among said ≡ front ++ statements_among (o ∷ said)
 among_more front None said = refl
 among_more front (Some s) said = append_assoc front (s ∷ []) (statements_among said)
 
-same_length : (front : List Statement) (lines : List Line) (said : Words) → InOrderFrom front lines said → length said ≡ length lines
+same_length : (scale : Scale) (front : List Statement) (lines : List Line) (said : Words) → InOrderFrom scale front lines said
+    → length said ≡ length lines
 unfolding InOrderFrom
-same_length front [] [] p = refl
-same_length front (line ∷ lines) (o ∷ said) p = ap suc (same_length (with_statement front o) lines said p.1)
-same_length front lines said p = absurd p
+same_length scale front [] [] p = refl
+same_length scale front (line ∷ lines) (o ∷ said) p = ap suc (same_length scale (with_statement front o) lines said p.1)
+same_length scale front lines said p = absurd p
 
-each_of : (front : List Statement) (lines : List Line) (said : Words) → InOrderFrom front lines said
-    → (i : ℕ) → i < length lines → IsInOrder (front ++ statements_among (take i said)) (get_or lines i []) (get_or said i None)
+each_of : (scale : Scale) (front : List Statement) (lines : List Line) (said : Words) → InOrderFrom scale front lines said
+    → (i : ℕ) → i < length lines → IsInOrder scale (front ++ statements_among (take i said)) (get_or lines i []) (get_or said i None)
 unfolding InOrderFrom
-each_of front [] said p i l = absurd (omega arith)
-each_of front (line ∷ lines) [] p i l = absurd p
-each_of front (line ∷ lines) (o ∷ said) p zero l = subst (λ (b : List Statement). IsInOrder b line o) (sym (append-nil front)) p.0
-each_of front (line ∷ lines) (o ∷ said) p (suc i) l =
-    subst (λ (b : List Statement). IsInOrder b (get_or lines i []) (get_or said i None)) (among_more front o (take i said))
-    (each_of (with_statement front o) lines said p.1 i (omega arith))
+each_of scale front [] said p i l = absurd (omega arith)
+each_of scale front (line ∷ lines) [] p i l = absurd p
+each_of scale front (line ∷ lines) (o ∷ said) p zero l =
+    subst (λ (b : List Statement). IsInOrder scale b line o) (sym (append-nil front)) p.0
+each_of scale front (line ∷ lines) (o ∷ said) p (suc i) l =
+    subst (λ (b : List Statement). IsInOrder scale b (get_or lines i []) (get_or said i None)) (among_more front o (take i said))
+    (each_of scale (with_statement front o) lines said p.1 i (omega arith))
 
-order_from : (front : List Statement) (lines : List Line) (said : Words) → length said ≡ length lines
-    → ((i : ℕ) → i < length lines → IsInOrder (front ++ statements_among (take i said)) (get_or lines i []) (get_or said i None))
-    → InOrderFrom front lines said
+order_from : (scale : Scale) (front : List Statement) (lines : List Line) (said : Words) → length said ≡ length lines
+    → ((i : ℕ) → i < length lines → IsInOrder scale (front ++ statements_among (take i said)) (get_or lines i []) (get_or said i None))
+    → InOrderFrom scale front lines said
 unfolding InOrderFrom
-order_from front [] [] e each = tt
-order_from front (line ∷ lines) (o ∷ said) e each = (
-  subst (λ (b : List Statement). IsInOrder b line o) (append-nil front) (each 0 (omega arith)),
-  order_from (with_statement front o) lines said (omega arith)
-      (λ i l. subst (λ (b : List Statement). IsInOrder b (get_or lines i []) (get_or said i None)) (sym (among_more front o (take i said)))
-      (each (suc i) (omega arith))),
+order_from scale front [] [] e each = tt
+order_from scale front (line ∷ lines) (o ∷ said) e each = (
+  subst (λ (b : List Statement). IsInOrder scale b line o) (append-nil front) (each 0 (omega arith)),
+  order_from scale (with_statement front o) lines said (omega arith)
+      (λ i l. subst (λ (b : List Statement). IsInOrder scale b (get_or lines i []) (get_or said i None))
+      (sym (among_more front o (take i said))) (each (suc i) (omega arith))),
 )
-order_from front lines said e each = absurd (omega arith)
+order_from scale front lines said e each = absurd (omega arith)
 
-pub ordered : (lines : List Line) (said : Words) → AreInOrder lines said → InOrderFrom [] lines said
-ordered lines said p = order_from [] lines said p.count p.each
+pub ordered : (scale : Scale) (lines : List Line) (said : Words) → AreInOrder scale lines said → InOrderFrom scale [] lines said
+ordered scale lines said p = order_from scale [] lines said p.count p.each
 
-pub in_order_of : (lines : List Line) (said : Words) → InOrderFrom [] lines said → AreInOrder lines said
-in_order_of lines said p = record { count = same_length [] lines said p; each = each_of [] lines said p }
+pub in_order_of : (scale : Scale) (lines : List Line) (said : Words) → InOrderFrom scale [] lines said → AreInOrder scale lines said
+in_order_of scale lines said p = record { count = same_length scale [] lines said p; each = each_of scale [] lines said p }
 
 -- ---- what is told of the lines behind some statements
 
-record Stands (front : List Statement) (n : ℕ) (lines : List Line) (r : Read) : Type 0 where
+record Stands (scale : Scale) (front : List Statement) (n : ℕ) (lines : List Line) (r : Read) : Type 0 where
   said : Words
-  in_order : InOrderFrom front lines said
+  in_order : InOrderFrom scale front lines said
   statements_are : r.0 ≡ statements_among said
   numbers_are : r.1 ≡ numbers_among (n + 1) said
   over : is_over (front ++ statements_among said) ≡ true
 
-record FailsFrom (front : List Statement) (n : ℕ) (lines : List Line) (fault : TextFault) : Type 0 where
+record FailsFrom (scale : Scale) (front : List Statement) (n : ℕ) (lines : List Line) (fault : TextFault) : Type 0 where
   said : Words
   some : length said < length lines
-  in_order : InOrderFrom front (take (length said) lines) said
-  fails : Fails (front ++ statements_among said) (get_or lines (length said) []) fault.code
+  in_order : InOrderFrom scale front (take (length said) lines) said
+  fails : Fails scale (front ++ statements_among said) (get_or lines (length said) []) fault.code
   line : fault.line ≡ n + (length said + 1)
 
-record CutFrom (front : List Statement) (n : ℕ) (lines : List Line) (fault : TextFault) : Type 0 where
+record CutFrom (scale : Scale) (front : List Statement) (n : ℕ) (lines : List Line) (fault : TextFault) : Type 0 where
   said : Words
-  in_order : InOrderFrom front lines said
+  in_order : InOrderFrom scale front lines said
   not_over : is_over (front ++ statements_among said) ≡ false
   code : fault.code ≡ Truncated
   line : fault.line ≡ n + length lines
 
-Tells : List Statement → ℕ → List Line → Result Read TextFault → Type 0
-Tells front n lines (Ok r) = Stands front n lines r
-Tells front n lines (Err fault) = FailsFrom front n lines fault ⊎ CutFrom front n lines fault
+Tells : Scale → List Statement → ℕ → List Line → Result Read TextFault → Type 0
+Tells scale front n lines (Ok r) = Stands scale front n lines r
+Tells scale front n lines (Err fault) = FailsFrom scale front n lines fault ⊎ CutFrom scale front n lines fault
 
 -- ---- reading tells it
 
-tells_end : (front : List Statement) (n : ℕ) (over : Bool) → is_over front ≡ over → Tells front n [] (ended over n)
+tells_end : (scale : Scale) (front : List Statement) (n : ℕ) (over : Bool) → is_over front ≡ over → Tells scale front n [] (ended over n)
 unfolding Tells InOrderFrom
-tells_end front n true h = record { said = []; in_order = tt; statements_are = refl; numbers_are = refl; over = rw (append-nil front) h }
-tells_end front n false h = inr (record { said = []; in_order = tt; not_over = rw (append-nil front) h; code = refl; line = omega arith })
+tells_end scale front n true h =
+    record { said = []; in_order = tt; statements_are = refl; numbers_are = refl; over = rw (append-nil front) h }
+tells_end scale front n false h =
+    inr (record { said = []; in_order = tt; not_over = rw (append-nil front) h; code = refl; line = omega arith })
 
-module _ (front : List Statement) (n : ℕ) (line : Line) (lines : List Line) (s : Option Statement) (here : IsInOrder front line s) where
+module _ (scale : Scale) (front : List Statement) (n : ℕ) (line : Line) (lines : List Line) (s : Option Statement)
+    (here : IsInOrder scale front line s) where
   abbrev next : List Statement
   next = with_statement front s
 
@@ -226,7 +234,7 @@ module _ (front : List Statement) (n : ℕ) (line : Line) (lines : List Line) (s
       → (in_front (n + 1) o r).1 ≡ numbers_among (n + 1) (o ∷ said)
   seconds o r said h = grind arith
 
-  stands_more : (r : Read) → Stands next (n + 1) lines r → Stands front n (line ∷ lines) (in_front (n + 1) s r)
+  stands_more : (r : Read) → Stands scale next (n + 1) lines r → Stands scale front n (line ∷ lines) (in_front (n + 1) s r)
   unfolding InOrderFrom
   stands_more r p = record {
     said = s ∷ p.said;
@@ -236,17 +244,17 @@ module _ (front : List Statement) (n : ℕ) (line : Line) (lines : List Line) (s
     over = over_more true p.said p.over;
   }
 
-  fails_more : (fault : TextFault) → FailsFrom next (n + 1) lines fault → FailsFrom front n (line ∷ lines) fault
+  fails_more : (fault : TextFault) → FailsFrom scale next (n + 1) lines fault → FailsFrom scale front n (line ∷ lines) fault
   unfolding InOrderFrom
   fails_more fault p = record {
     said = s ∷ p.said;
     some = (let l = p.some in omega arith);
     in_order = (here, p.in_order);
-    fails = subst (λ (b : List Statement). Fails b (get_or lines (length p.said) []) fault.code) (among_more front s p.said) p.fails;
+    fails = subst (λ (b : List Statement). Fails scale b (get_or lines (length p.said) []) fault.code) (among_more front s p.said) p.fails;
     line = (let l = p.line in omega arith);
   }
 
-  cut_more : (fault : TextFault) → CutFrom next (n + 1) lines fault → CutFrom front n (line ∷ lines) fault
+  cut_more : (fault : TextFault) → CutFrom scale next (n + 1) lines fault → CutFrom scale front n (line ∷ lines) fault
   unfolding InOrderFrom
   cut_more fault p = record {
     said = s ∷ p.said;
@@ -256,43 +264,46 @@ module _ (front : List Statement) (n : ℕ) (line : Line) (lines : List Line) (s
     line = (let l = p.line in omega arith);
   }
 
-  tells_more : (read : Result Read TextFault) → Tells next (n + 1) lines read
-      → Tells front n (line ∷ lines) (read >>= λ r. Ok (in_front (n + 1) s r))
+  tells_more : (read : Result Read TextFault) → Tells scale next (n + 1) lines read
+      → Tells scale front n (line ∷ lines) (read >>= λ r. Ok (in_front (n + 1) s r))
   unfolding Tells
   tells_more (Ok r) p = stands_more r p
   tells_more (Err fault) (inl p) = inl (fails_more fault p)
   tells_more (Err fault) (inr p) = inr (cut_more fault p)
 
-tells_line : (front : List Statement) (n : ℕ) (line : Line) (lines : List Line) (o : Option Code) → line_fault front line ≡ o
-    → Tells (with_statement front (statement_in front line)) (n + 1) lines
-    (reading (with_statement front (statement_in front line)) (n + 1) lines)
-    → Tells front n (line ∷ lines)
-    (at_line (n + 1) (judged o (statement_in front line)) >>= λ s. reading (with_statement front s) (n + 1) lines
+tells_line : (scale : Scale) (front : List Statement) (n : ℕ) (line : Line) (lines : List Line) (o : Option Code)
+    → line_fault scale front line ≡ o
+    → Tells scale (with_statement front (statement_in front line)) (n + 1) lines
+    (reading scale (with_statement front (statement_in front line)) (n + 1) lines)
+    → Tells scale front n (line ∷ lines)
+    (at_line (n + 1) (judged o (statement_in front line)) >>= λ s. reading scale (with_statement front s) (n + 1) lines
     >>= λ r. Ok (in_front (n + 1) s r))
 unfolding Tells InOrderFrom
-tells_line front n line lines None h rest =
-    tells_more front n line lines (statement_in front line) (order_of_line front line h)
-    (reading (with_statement front (statement_in front line)) (n + 1) lines) rest
-tells_line front n line lines (Some code) h rest = inl (record {
+tells_line scale front n line lines None h rest =
+    tells_more scale front n line lines (statement_in front line) (order_of_line scale front line h)
+    (reading scale (with_statement front (statement_in front line)) (n + 1) lines) rest
+tells_line scale front n line lines (Some code) h rest = inl (record {
   said = [];
   some = omega arith;
   in_order = tt;
-  fails = subst (λ (b : List Statement). Fails b line code) (sym (append-nil front)) (fails_of_line front line code h);
+  fails = subst (λ (b : List Statement). Fails scale b line code) (sym (append-nil front)) (fails_of_line scale front line code h);
   line = omega arith;
 })
 
-tells : (front : List Statement) (n : ℕ) (lines : List Line) → Tells front n lines (reading front n lines)
+tells : (scale : Scale) (front : List Statement) (n : ℕ) (lines : List Line) → Tells scale front n lines (reading scale front n lines)
 unfolding reading line_reading
-tells front n [] = tells_end front n (is_over front) refl
-tells front n (line ∷ lines) =
-    tells_line front n line lines (line_fault front line) refl (tells (with_statement front (statement_in front line)) (n + 1) lines)
+tells scale front n [] = tells_end scale front n (is_over front) refl
+tells scale front n (line ∷ lines) =
+    tells_line scale front n line lines (line_fault scale front line) refl
+    (tells scale (with_statement front (statement_in front line)) (n + 1) lines)
 
 -- ---- and nothing else is told
 
-goes_on : (front : List Statement) (n : ℕ) (line : Line) (lines : List Line) (s : Option Statement) → IsInOrder front line s
-    → reading front n (line ∷ lines) ≡ (reading (with_statement front s) (n + 1) lines >>= λ r. Ok (in_front (n + 1) s r))
+goes_on : (scale : Scale) (front : List Statement) (n : ℕ) (line : Line) (lines : List Line) (s : Option Statement)
+    → IsInOrder scale front line s
+    → reading scale front n (line ∷ lines) ≡ (reading scale (with_statement front s) (n + 1) lines >>= λ r. Ok (in_front (n + 1) s r))
 unfolding reading line_reading
-goes_on front n line lines s here = let e = line_of_order front line s here in rw (e.0, e.1) refl
+goes_on scale front n line lines s here = let e = line_of_order scale front line s here in rw (e.0, e.1) refl
 
 abbrev good : Read → Result Read TextFault
 good r = Ok r
@@ -303,19 +314,20 @@ bad fault = Err fault
 same_read : (r : Read) (s : List Statement) (l : List ℕ) → r.0 ≡ s → r.1 ≡ l → good r ≡ good (s, l)
 same_read r s l e f = λ i. Ok (e i, f i)
 
-end_reads : (front : List Statement) (n : ℕ) (over : Bool) → is_over (front ++ []) ≡ over → reading front n [] ≡ ended over n
+end_reads : (scale : Scale) (front : List Statement) (n : ℕ) (over : Bool) → is_over (front ++ []) ≡ over
+    → reading scale front n [] ≡ ended over n
 unfolding reading
-end_reads front n over h = let o = rw (append-nil front) at h in rw o refl
+end_reads scale front n over h = let o = rw (append-nil front) at h in rw o refl
 
-stands_only : (front : List Statement) (n : ℕ) (lines : List Line) (said : Words) → InOrderFrom front lines said
+stands_only : (scale : Scale) (front : List Statement) (n : ℕ) (lines : List Line) (said : Words) → InOrderFrom scale front lines said
     → is_over (front ++ statements_among said) ≡ true
-    → reading front n lines ≡ Ok (statements_among said, numbers_among (n + 1) said)
+    → reading scale front n lines ≡ Ok (statements_among said, numbers_among (n + 1) said)
 unfolding InOrderFrom
-stands_only front n [] [] p over = end_reads front n true over
-stands_only front n (line ∷ lines) (o ∷ said) p over =
-    goes_on front n line lines o p.0
+stands_only scale front n [] [] p over = end_reads scale front n true over
+stands_only scale front n (line ∷ lines) (o ∷ said) p over =
+    goes_on scale front n line lines o p.0
     ∙ ap (λ (read : Result Read TextFault). read >>= λ r. Ok (in_front (n + 1) o r))
-    (stands_only (with_statement front o) (n + 1) lines said p.1 (ap is_over (among_more front o said) ∙ over))
+    (stands_only scale (with_statement front o) (n + 1) lines said p.1 (ap is_over (among_more front o said) ∙ over))
     ∙ put o
   where
     put : (x : Option Statement)
@@ -323,7 +335,7 @@ stands_only front n (line ∷ lines) (o ∷ said) p over =
         ≡ good (statements_among (x ∷ said), numbers_among (n + 1) (x ∷ said))
     put None = refl
     put (Some s) = refl
-stands_only front n lines said p over = absurd p
+stands_only scale front n lines said p over = absurd p
 
 same_fault : (a b : TextFault) → a.line ≡ b.line → a.code ≡ b.code → a ≡ b
 same_fault a b l c = λ i. record { line = l i; code = c i }
@@ -331,52 +343,58 @@ same_fault a b l c = λ i. record { line = l i; code = c i }
 err_is : (a : TextFault) (l : ℕ) (c : Code) → a.line ≡ l → a.code ≡ c → bad (record { line = l; code = c }) ≡ bad a
 err_is a l c e f = λ i. Err (same_fault (record { line = l; code = c }) a (sym e) (sym f) i)
 
-first_fails : (front : List Statement) (n : ℕ) (line : Line) (lines : List Line) (fault : TextFault) → Fails (front ++ []) line fault.code
+first_fails : (scale : Scale) (front : List Statement) (n : ℕ) (line : Line) (lines : List Line) (fault : TextFault)
+    → Fails scale (front ++ []) line fault.code
     → fault.line ≡ n + (0 + 1)
-    → reading front n (line ∷ lines) ≡ Err fault
+    → reading scale front n (line ∷ lines) ≡ Err fault
 unfolding reading line_reading
-first_fails front n line lines fault f e =
-    let h = line_of_fails front line fault.code (subst (λ (b : List Statement). Fails b line fault.code) (append-nil front) f) in
+first_fails scale front n line lines fault f e =
+    let h = line_of_fails scale front line fault.code
+    (subst (λ (b : List Statement). Fails scale b line fault.code) (append-nil front) f) in
     rw h (err_is fault (n + 1) fault.code (omega arith) refl)
 
-fails_only : (front : List Statement) (n : ℕ) (lines : List Line) (fault : TextFault) (said : Words) → length said < length lines
-    → InOrderFrom front (take (length said) lines) said
-    → Fails (front ++ statements_among said) (get_or lines (length said) []) fault.code → fault.line ≡ n + (length said + 1)
-    → reading front n lines ≡ Err fault
+fails_only : (scale : Scale) (front : List Statement) (n : ℕ) (lines : List Line) (fault : TextFault) (said : Words)
+    → length said < length lines
+    → InOrderFrom scale front (take (length said) lines) said
+    → Fails scale (front ++ statements_among said) (get_or lines (length said) []) fault.code → fault.line ≡ n + (length said + 1)
+    → reading scale front n lines ≡ Err fault
 unfolding InOrderFrom
-fails_only front n [] fault said l p f e = absurd (omega arith)
-fails_only front n (line ∷ lines) fault [] l p f e = first_fails front n line lines fault f e
-fails_only front n (line ∷ lines) fault (o ∷ said) l p f e =
-    goes_on front n line lines o p.0
+fails_only scale front n [] fault said l p f e = absurd (omega arith)
+fails_only scale front n (line ∷ lines) fault [] l p f e = first_fails scale front n line lines fault f e
+fails_only scale front n (line ∷ lines) fault (o ∷ said) l p f e =
+    goes_on scale front n line lines o p.0
     ∙ ap (λ (read : Result Read TextFault). read >>= λ r. Ok (in_front (n + 1) o r))
-    (fails_only (with_statement front o) (n + 1) lines fault said (omega arith) p.1
-    (subst (λ (b : List Statement). Fails b (get_or lines (length said) []) fault.code) (sym (among_more front o said)) f) (omega arith))
+    (fails_only scale (with_statement front o) (n + 1) lines fault said (omega arith) p.1
+    (subst (λ (b : List Statement). Fails scale b (get_or lines (length said) []) fault.code) (sym (among_more front o said)) f)
+    (omega arith))
 
-cut_only : (front : List Statement) (n : ℕ) (lines : List Line) (fault : TextFault) (said : Words) → InOrderFrom front lines said
+cut_only : (scale : Scale) (front : List Statement) (n : ℕ) (lines : List Line) (fault : TextFault) (said : Words)
+    → InOrderFrom scale front lines said
     → is_over (front ++ statements_among said) ≡ false
-    → fault.code ≡ Truncated → fault.line ≡ n + length lines → reading front n lines ≡ Err fault
+    → fault.code ≡ Truncated → fault.line ≡ n + length lines → reading scale front n lines ≡ Err fault
 unfolding InOrderFrom
-cut_only front n [] fault [] p over c e = end_reads front n false over ∙ err_is fault n Truncated (omega arith) c
-cut_only front n (line ∷ lines) fault (o ∷ said) p over c e =
-    goes_on front n line lines o p.0
+cut_only scale front n [] fault [] p over c e = end_reads scale front n false over ∙ err_is fault n Truncated (omega arith) c
+cut_only scale front n (line ∷ lines) fault (o ∷ said) p over c e =
+    goes_on scale front n line lines o p.0
     ∙ ap (λ (read : Result Read TextFault). read >>= λ r. Ok (in_front (n + 1) o r))
-    (cut_only (with_statement front o) (n + 1) lines fault said p.1 (ap is_over (among_more front o said) ∙ over) c (omega arith))
-cut_only front n lines fault said p over c e = absurd p
+    (cut_only scale (with_statement front o) (n + 1) lines fault said p.1 (ap is_over (among_more front o said) ∙ over) c (omega arith))
+cut_only scale front n lines fault said p over c e = absurd p
 
 -- ---- texts
 
 -- the lines of a text give an answer to it
-pub answer_of_lines : (text : List ℕ) (read : Result Read TextFault) → length text ≤ TEXT_BYTES → reading [] 0 (lines_of text) ≡ read
-    → Said text read
+pub answer_of_lines : (scale : Scale) (text : List ℕ) (read : Result Read TextFault) → length text ≤ (limits_at scale).text_bytes
+    → reading scale [] 0 (lines_of text) ≡ read
+    → Said scale text read
 unfolding Tells
-answer_of_lines text read short e = go read (subst (Tells [] 0 (lines_of text)) e (tells [] 0 (lines_of text)))
+answer_of_lines scale text read short e = go read (subst (Tells scale [] 0 (lines_of text)) e (tells scale [] 0 (lines_of text)))
   where
-    go : (read : Result Read TextFault) → Tells [] 0 (lines_of text) read → Said text read
+    go : (read : Result Read TextFault) → Tells scale [] 0 (lines_of text) read → Said scale text read
     go (Ok r) p =
         record {
           short = short;
           said = p.said;
-          in_order = in_order_of (lines_of text) p.said p.in_order;
+          in_order = in_order_of scale (lines_of text) p.said p.in_order;
           over = p.over;
           statements_are = p.statements_are;
           numbers_are = p.numbers_are;
@@ -386,7 +404,7 @@ answer_of_lines text read short e = go read (subst (Tells [] 0 (lines_of text)) 
       inl (record {
         said = p.said;
         some = p.some;
-        in_order = in_order_of (take (length p.said) (lines_of text)) p.said p.in_order;
+        in_order = in_order_of scale (take (length p.said) (lines_of text)) p.said p.in_order;
         fails = p.fails;
         line = (let l = p.line in omega arith);
       }),
@@ -397,7 +415,7 @@ answer_of_lines text read short e = go read (subst (Tells [] 0 (lines_of text)) 
           inr
               (record {
                 said = p.said;
-                in_order = in_order_of (lines_of text) p.said p.in_order;
+                in_order = in_order_of scale (lines_of text) p.said p.in_order;
                 not_over = p.not_over;
                 code = p.code;
                 line = (let l = p.line in omega arith);
@@ -405,59 +423,67 @@ answer_of_lines text read short e = go read (subst (Tells [] 0 (lines_of text)) 
         )
 
 -- what a text stands for, its lines give
-pub session_is : (text : List ℕ) (s : List Statement) (l : List ℕ) → StandsFor text s l → reading [] 0 (lines_of text) ≡ Ok (s, l)
-session_is text s l p =
-    stands_only [] 0 (lines_of text) p.said (ordered (lines_of text) p.said p.in_order) p.over
+pub session_is : (scale : Scale) (text : List ℕ) (s : List Statement) (l : List ℕ) → StandsFor scale text s l
+    → reading scale [] 0 (lines_of text) ≡ Ok (s, l)
+session_is scale text s l p =
+    stands_only scale [] 0 (lines_of text) p.said (ordered scale (lines_of text) p.said p.in_order) p.over
     ∙ sym (same_read (s, l) (statements_among p.said) (numbers_among 1 p.said) p.statements_are p.numbers_are)
 
 -- and its fault too
-pub fault_is : (text : List ℕ) (fault : TextFault) → FailsFirst (lines_of text) fault ⊎ HasNoEnd (lines_of text) fault
-    → reading [] 0 (lines_of text) ≡ Err fault
-fault_is text fault (inl p) =
-    fails_only [] 0 (lines_of text) fault p.said p.some (ordered (take (length p.said) (lines_of text)) p.said p.in_order) p.fails
+pub fault_is : (scale : Scale) (text : List ℕ) (fault : TextFault)
+    → FailsFirst scale (lines_of text) fault ⊎ HasNoEnd scale (lines_of text) fault
+    → reading scale [] 0 (lines_of text) ≡ Err fault
+fault_is scale text fault (inl p) =
+    fails_only scale [] 0 (lines_of text) fault p.said p.some
+    (ordered scale (take (length p.said) (lines_of text)) p.said p.in_order) p.fails
     (let l = p.line in omega arith)
-fault_is text fault (inr p) =
-    cut_only [] 0 (lines_of text) fault p.said (ordered (lines_of text) p.said p.in_order) p.not_over p.code (let l = p.line in omega arith)
+fault_is scale text fault (inr p) =
+    cut_only scale [] 0 (lines_of text) fault p.said (ordered scale (lines_of text) p.said p.in_order) p.not_over p.code
+    (let l = p.line in omega arith)
 
 -- each text has an answer
-pub some_answer : (text : List ℕ) → (answer : Result Read TextFault) × Said text answer
-some_answer text = elim (cases_lt TEXT_BYTES (length text)) [
+pub some_answer : (scale : Scale) (text : List ℕ) → (answer : Result Read TextFault) × Said scale text answer
+some_answer scale text = elim (cases_lt (limits_at scale).text_bytes (length text)) [
   | inl long ↦ (Err (record { line = 0; code = TooLong }), inl (long, refl))
-  | inr short ↦ (reading [] 0 (lines_of text), answer_of_lines text (reading [] 0 (lines_of text)) short refl)
+  | inr short ↦ (reading scale [] 0 (lines_of text), answer_of_lines scale text (reading scale [] 0 (lines_of text)) short refl)
 ]
 
 -- and no other
-pub same_answer : (text : List ℕ) (a b : Result Read TextFault) → Said text a → Said text b → a ≡ b
-same_answer text (Ok r) (Ok q) p s = sym (session_is text r.0 r.1 p) ∙ session_is text q.0 q.1 s
-same_answer text (Ok r) (Err g) p (inl s) = absurd (let x = p.short in let y = s.0 in omega arith)
-same_answer text (Ok r) (Err g) p (inr s) = sym (session_is text r.0 r.1 p) ∙ fault_is text g s.1
-same_answer text (Err f) (Ok q) (inl p) s = absurd (let x = s.short in let y = p.0 in omega arith)
-same_answer text (Err f) (Ok q) (inr p) s = sym (fault_is text f p.1) ∙ session_is text q.0 q.1 s
-same_answer text (Err f) (Err g) (inl p) (inl s) = λ i. Err ((p.1 ∙ sym s.1) i)
-same_answer text (Err f) (Err g) (inl p) (inr s) = absurd (let x = p.0 in let y = s.0 in omega arith)
-same_answer text (Err f) (Err g) (inr p) (inl s) = absurd (let x = s.0 in let y = p.0 in omega arith)
-same_answer text (Err f) (Err g) (inr p) (inr s) = sym (fault_is text f p.1) ∙ fault_is text g s.1
+pub same_answer : (scale : Scale) (text : List ℕ) (a b : Result Read TextFault) → Said scale text a → Said scale text b → a ≡ b
+same_answer scale text (Ok r) (Ok q) p s = sym (session_is scale text r.0 r.1 p) ∙ session_is scale text q.0 q.1 s
+same_answer scale text (Ok r) (Err g) p (inl s) = absurd (let x = p.short in let y = s.0 in omega arith)
+same_answer scale text (Ok r) (Err g) p (inr s) = sym (session_is scale text r.0 r.1 p) ∙ fault_is scale text g s.1
+same_answer scale text (Err f) (Ok q) (inl p) s = absurd (let x = s.short in let y = p.0 in omega arith)
+same_answer scale text (Err f) (Ok q) (inr p) s = sym (fault_is scale text f p.1) ∙ session_is scale text q.0 q.1 s
+same_answer scale text (Err f) (Err g) (inl p) (inl s) = λ i. Err ((p.1 ∙ sym s.1) i)
+same_answer scale text (Err f) (Err g) (inl p) (inr s) = absurd (let x = p.0 in let y = s.0 in omega arith)
+same_answer scale text (Err f) (Err g) (inr p) (inl s) = absurd (let x = s.0 in let y = p.0 in omega arith)
+same_answer scale text (Err f) (Err g) (inr p) (inr s) = sym (fault_is scale text f p.1) ∙ fault_is scale text g s.1
 
 -- ---- what a reader answers
 
 -- a reader that gives what the lines give answers the text
-pub answer_given : (text : List ℕ) (result : Result (Session × List ℕ) ReadFail) → length text ≤ TEXT_BYTES
-    → TextGives (λ read. (read.0.statements, read.1)) result (reading [] 0 (lines_of text)) → IsAnswer text (session_of result)
-answer_given text (Ok read) short h = answer_of_lines text (Ok (read.0.statements, read.1)) short h
-answer_given text (Err fails.OutOfMemory) short h = tt
-answer_given text (Err (fails.Text fault)) short h = answer_of_lines text (Err fault) short h
+pub answer_given : (scale : Scale) (text : List ℕ) (result : Result (Session × List ℕ) ReadFail)
+    → length text ≤ (limits_at scale).text_bytes
+    → TextGives (λ read. (read.0.statements, read.1)) result (reading scale [] 0 (lines_of text)) → IsAnswer scale text (session_of result)
+answer_given scale text (Ok read) short h = answer_of_lines scale text (Ok (read.0.statements, read.1)) short h
+answer_given scale text (Err fails.OutOfMemory) short h = tt
+answer_given scale text (Err (fails.Text fault)) short h = answer_of_lines scale text (Err fault) short h
 
 -- an answer is the one answer
-pub only_answer : (text : List ℕ) (result : Result Read ReadFail) (wanted : Result Read TextFault) → IsAnswer text result → Said text wanted
+pub only_answer : (scale : Scale) (text : List ℕ) (result : Result Read ReadFail) (wanted : Result Read TextFault)
+    → IsAnswer scale text result → Said scale text wanted
     → Answers result wanted
-only_answer text (Ok r) wanted a p = same_answer text wanted (Ok r) p a
-only_answer text (Err fails.OutOfMemory) wanted a p = tt
-only_answer text (Err (fails.Text fault)) wanted a p = same_answer text wanted (Err fault) p a
+only_answer scale text (Ok r) wanted a p = same_answer scale text wanted (Ok r) p a
+only_answer scale text (Err fails.OutOfMemory) wanted a p = tt
+only_answer scale text (Err (fails.Text fault)) wanted a p = same_answer scale text wanted (Err fault) p a
 
-pub only_session : (text : List ℕ) (result : Result Read ReadFail) (s : List Statement) (l : List ℕ) → IsAnswer text result
-    → StandsFor text s l → Answers result (Ok (s, l))
-only_session text result s l a p = only_answer text result (Ok (s, l)) a p
+pub only_session : (scale : Scale) (text : List ℕ) (result : Result Read ReadFail) (s : List Statement) (l : List ℕ)
+    → IsAnswer scale text result
+    → StandsFor scale text s l → Answers result (Ok (s, l))
+only_session scale text result s l a p = only_answer scale text result (Ok (s, l)) a p
 
-pub only_fault : (text : List ℕ) (result : Result Read ReadFail) (fault : TextFault) → IsAnswer text result → HasFault text fault
+pub only_fault : (scale : Scale) (text : List ℕ) (result : Result Read ReadFail) (fault : TextFault) → IsAnswer scale text result
+    → HasFault scale text fault
     → Answers result (Err fault)
-only_fault text result fault a p = only_answer text result (Err fault) a p
+only_fault scale text result fault a p = only_answer scale text result (Err fault) a p

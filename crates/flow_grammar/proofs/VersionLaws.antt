@@ -2,6 +2,7 @@
 use Rattle.std.proofs.Common.{◌≡◌, ℕ, ◌+◌, List, [], ◌∷◌, ◌++◌, map, true, Option, None, Some, refl, sym, ap, subst, ◌∙◌, inl, inr, arith}
 use Rattle.std.specs.Prelude.{reverse}
 use Rattle.std.proofs.lemmas.List.{reverse-append}
+use Rattle.flow_design.specs.declared.limits.Scale.{Scale}
 use Rattle.flow_design.specs.declared.session.Statement.{Statement}
 use Rattle.flow_design.specs.declared.session.Statement.TheVariants.{Flow, Fifo}
 use Rattle.flow_grammar.specs.Tokens.{Line, Token, lines_of, tokens_of}
@@ -49,7 +50,7 @@ delays_kept : (ys : List Statement) → has_delays (version (ys ++ Flow 1 ∷ []
 delays_kept [] h = refl
 delays_kept (y ∷ ys) h = let later = delays_kept ys in grind arith
 
-module _ (xs : List Statement) where
+module _ (scale : Scale) (xs : List Statement) where
   abbrev first : ℕ
   first = version (reverse (Flow 1 ∷ xs))
 
@@ -65,7 +66,7 @@ module _ (xs : List Statement) where
   no_word v line s e w = no_tokens v s (written_is_read v [] s (subst (λ (ts : List Token). Writes v ts s) e w))
 
   -- a line says the same behind both
-  same_line : (line : Line) (o u : Option Statement) → IsInOrder (Flow 1 ∷ xs) line o → IsInOrder (Flow 2 ∷ xs) line u → o ≡ u
+  same_line : (line : Line) (o u : Option Statement) → IsInOrder scale (Flow 1 ∷ xs) line o → IsInOrder scale (Flow 2 ∷ xs) line u → o ≡ u
   same_line line None None h k = refl
   same_line line None (Some t) h k = absurd (no_word second line t h.says k.says)
   same_line line (Some s) None h k = absurd (no_word first line s k.says h.says)
@@ -73,21 +74,22 @@ module _ (xs : List Statement) where
       sym (written_is_read second (tokens_of line) s (later_writes first second up (tokens_of line) s h.says))
       ∙ written_is_read second (tokens_of line) t k.says
 
-same_lines : (xs : List Statement) (lines : List Line) (said told : Words)
-    → InOrderFrom (Flow 1 ∷ xs) lines said → InOrderFrom (Flow 2 ∷ xs) lines told → said ≡ told
+same_lines : (scale : Scale) (xs : List Statement) (lines : List Line) (said told : Words)
+    → InOrderFrom scale (Flow 1 ∷ xs) lines said → InOrderFrom scale (Flow 2 ∷ xs) lines told → said ≡ told
 unfolding InOrderFrom
-same_lines xs [] [] [] p q = refl
-same_lines xs [] (o ∷ said) told p q = absurd p
-same_lines xs [] [] (u ∷ told) p q = absurd q
-same_lines xs (line ∷ lines) [] told p q = absurd p
-same_lines xs (line ∷ lines) (o ∷ said) [] p q = absurd q
-same_lines xs (line ∷ lines) (None ∷ said) (None ∷ told) p q = ap (λ (r : Words). None ∷ r) (same_lines xs lines said told p.1 q.1)
-same_lines xs (line ∷ lines) (None ∷ said) (Some t ∷ told) p q = absurd (let e = same_line xs line None (Some t) p.0 q.0 in cc)
-same_lines xs (line ∷ lines) (Some s ∷ said) (None ∷ told) p q = absurd (let e = same_line xs line (Some s) None p.0 q.0 in cc)
-same_lines xs (line ∷ lines) (Some s ∷ said) (Some t ∷ told) p q =
-    let e : s ≡ t = (let o = same_line xs line (Some s) (Some t) p.0 q.0 in cc) in
-    let q' = subst (λ (x : Statement). InOrderFrom (Flow 2 ∷ (xs ++ x ∷ [])) lines told) (sym e) q.1 in
-    let rest = same_lines (xs ++ s ∷ []) lines said told p.1 q' in
+same_lines scale xs [] [] [] p q = refl
+same_lines scale xs [] (o ∷ said) told p q = absurd p
+same_lines scale xs [] [] (u ∷ told) p q = absurd q
+same_lines scale xs (line ∷ lines) [] told p q = absurd p
+same_lines scale xs (line ∷ lines) (o ∷ said) [] p q = absurd q
+same_lines scale xs (line ∷ lines) (None ∷ said) (None ∷ told) p q =
+    ap (λ (r : Words). None ∷ r) (same_lines scale xs lines said told p.1 q.1)
+same_lines scale xs (line ∷ lines) (None ∷ said) (Some t ∷ told) p q = absurd (let e = same_line scale xs line None (Some t) p.0 q.0 in cc)
+same_lines scale xs (line ∷ lines) (Some s ∷ said) (None ∷ told) p q = absurd (let e = same_line scale xs line (Some s) None p.0 q.0 in cc)
+same_lines scale xs (line ∷ lines) (Some s ∷ said) (Some t ∷ told) p q =
+    let e : s ≡ t = (let o = same_line scale xs line (Some s) (Some t) p.0 q.0 in cc) in
+    let q' = subst (λ (x : Statement). InOrderFrom scale (Flow 2 ∷ (xs ++ x ∷ [])) lines told) (sym e) q.1 in
+    let rest = same_lines scale (xs ++ s ∷ []) lines said told p.1 q' in
     λ i. Some (e i) ∷ rest i
 
 -- ---- the lines up to the first statement
@@ -96,30 +98,31 @@ same_lines xs (line ∷ lines) (Some s ∷ said) (Some t ∷ told) p q =
 abbrev nothing : List Line → Words
 nothing front = map (λ line. None) front
 
-record Opens (v : ℕ) (front behind : List Line) (said : Words) : Type 0 where
+record Opens (scale : Scale) (v : ℕ) (front behind : List Line) (said : Words) : Type 0 where
   rest : Words
   are : said ≡ nothing front ++ Some (Flow v) ∷ rest
-  in_order : InOrderFrom (Flow v ∷ []) behind rest
+  in_order : InOrderFrom scale (Flow v ∷ []) behind rest
 
-module _ (v : ℕ) (line : Line) (behind : List Line) (says : Spelled (tokens_of line) (parts (Flow v))) where
-  is_flow : (before : List Statement) (o : Option Statement) → IsInOrder before line o → o ≡ Some (Flow v)
+module _ (scale : Scale) (v : ℕ) (line : Line) (behind : List Line) (says : Spelled (tokens_of line) (parts (Flow v))) where
+  is_flow : (before : List Statement) (o : Option Statement) → IsInOrder scale before line o → o ≡ Some (Flow v)
   is_flow before None h = absurd (subst (λ (ts : List Token). Spelled ts (parts (Flow v))) h.says says)
   is_flow before (Some s) h =
       sym (written_is_read (version (reverse before)) (tokens_of line) s h.says)
       ∙ written_is_read (version (reverse before)) (tokens_of line) (Flow v) says
 
-  no_later : (x : Statement) (xs : List Statement) (front : List Line) (said : Words) → InOrderFrom (x ∷ xs) (front ++ line ∷ behind) said
+  no_later : (x : Statement) (xs : List Statement) (front : List Line) (said : Words)
+      → InOrderFrom scale (x ∷ xs) (front ++ line ∷ behind) said
       → ⊥
   unfolding InOrderFrom
   no_later x xs [] [] p = p
   no_later x xs [] (o ∷ said) p =
-      let h = subst (λ (u : Option Statement). IsInOrder (x ∷ xs) line u) (is_flow (x ∷ xs) o p.0) p.0 in
+      let h = subst (λ (u : Option Statement). IsInOrder scale (x ∷ xs) line u) (is_flow (x ∷ xs) o p.0) p.0 in
       not_behind x xs v h.stands.permitted
   no_later x xs (f ∷ front) [] p = p
   no_later x xs (f ∷ front) (None ∷ said) p = no_later x xs front said p.1
   no_later x xs (f ∷ front) (Some s ∷ said) p = no_later x (xs ++ s ∷ []) front said p.1
 
-  opens : (front : List Line) (said : Words) → InOrderFrom [] (front ++ line ∷ behind) said → Opens v front behind said
+  opens : (front : List Line) (said : Words) → InOrderFrom scale [] (front ++ line ∷ behind) said → Opens scale v front behind said
   unfolding InOrderFrom
   opens [] [] p = absurd p
   opens [] (o ∷ said) p =
@@ -127,7 +130,7 @@ module _ (v : ℕ) (line : Line) (behind : List Line) (says : Spelled (tokens_of
       record {
         rest = said;
         are = λ i. e i ∷ said;
-        in_order = subst (λ (u : Option Statement). InOrderFrom (with_statement [] u) behind said) e p.1;
+        in_order = subst (λ (u : Option Statement). InOrderFrom scale (with_statement [] u) behind said) e p.1;
       }
   opens (f ∷ front) [] p = absurd p
   opens (f ∷ front) (None ∷ said) p =
@@ -147,14 +150,14 @@ same_numbers : (n : ℕ) (front : List Line) (v w : ℕ) (rest : Words)
 same_numbers n [] v w rest = refl
 same_numbers n (f ∷ front) v w rest = same_numbers (n + 1) front v w rest
 
-pub versions_agree : (first second : List ℕ) (s t : List Statement) (l m : List ℕ)
-    → DifferInVersion first second → StandsFor first s l → StandsFor second t m → SameButVersion s t × (l ≡ m)
-versions_agree first second s t l m d p q =
-    let a = opens 1 d.one d.behind d.says_one d.front p.said
-    (subst (λ (lines : List Line). InOrderFrom [] lines p.said) d.first_lines (ordered (lines_of first) p.said p.in_order)) in
-    let b = opens 2 d.two d.behind d.says_two d.front q.said
-    (subst (λ (lines : List Line). InOrderFrom [] lines q.said) d.second_lines (ordered (lines_of second) q.said q.in_order)) in
-    let same : a.rest ≡ b.rest = same_lines [] d.behind a.rest b.rest a.in_order b.in_order in
+pub versions_agree : (scale : Scale) (first second : List ℕ) (s t : List Statement) (l m : List ℕ)
+    → DifferInVersion first second → StandsFor scale first s l → StandsFor scale second t m → SameButVersion s t × (l ≡ m)
+versions_agree scale first second s t l m d p q =
+    let a = opens scale 1 d.one d.behind d.says_one d.front p.said
+    (subst (λ (lines : List Line). InOrderFrom scale [] lines p.said) d.first_lines (ordered scale (lines_of first) p.said p.in_order)) in
+    let b = opens scale 2 d.two d.behind d.says_two d.front q.said
+    (subst (λ (lines : List Line). InOrderFrom scale [] lines q.said) d.second_lines (ordered scale (lines_of second) q.said q.in_order)) in
+    let same : a.rest ≡ b.rest = same_lines scale [] d.behind a.rest b.rest a.in_order b.in_order in
     let told : q.said ≡ nothing d.front ++ Some (Flow 2) ∷ a.rest =
     b.are ∙ sym (ap (λ (rest : Words). nothing d.front ++ Some (Flow 2) ∷ rest) same) in (
       record {

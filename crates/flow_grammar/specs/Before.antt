@@ -84,6 +84,10 @@ abbrev pub input_count : Statement → ℕ
 input_count (Input n values) = length values
 input_count s = 0
 
+abbrev pub word_count : Statement → ℕ
+word_count (Mem n w l) = l
+word_count s = 0
+
 abbrev pub is_operation : Statement → Bool
 is_operation (At off guard o) = true
 is_operation s = false
@@ -109,6 +113,10 @@ registers earlier = filter_map register_name (in_module earlier)
 
 abbrev pub memories : List Statement → List Name
 memories earlier = filter_map memory_name (in_module earlier)
+
+-- the words of all memories of the session
+abbrev pub memory_words : List Statement → ℕ
+memory_words earlier = sum_by word_count earlier
 
 abbrev pub blocks : List Statement → List Name
 blocks earlier = filter_map block_name (in_module earlier)

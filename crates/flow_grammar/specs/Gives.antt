@@ -1,5 +1,6 @@
 -- What a function returned is this, unless memory ran out.
 use Rattle.std.specs.Prelude.{◌≡◌, ℕ, ◌+◌, List, [], ◌∷◌, ◌++◌, Bool, true, false, Option, None, Some, Result, Ok, Err}
+use Rattle.flow_design.specs.declared.limits.Scale.{Scale}
 use Rattle.flow_design.specs.declared.session.Statement.{Statement}
 use Rattle.flow_grammar.specs.declared.fault.Code.{Code}
 use Rattle.flow_grammar.specs.declared.fault.Code.TheVariants.{Truncated, Syntax}
@@ -17,8 +18,8 @@ abbrev pub judged : {A : Type 0} → Option Code → A → Result A Code
 judged None value = Ok value
 judged (Some code) value = Err code
 
-unfoldable pub line_reading : List Statement → List ℕ → Result (Option Statement) Code
-line_reading before line = judged (line_fault before line) (statement_in before line)
+unfoldable pub line_reading : Scale → List Statement → List ℕ → Result (Option Statement) Code
+line_reading scale before line = judged (line_fault scale before line) (statement_in before line)
 
 abbrev pub LineFails : {Y : Type 0} → LineFail → Result Y Code → Type 0
 LineFails line_fails.OutOfMemory read = Unit {0}
@@ -66,11 +67,11 @@ ended true n = Ok ([], [])
 ended false n = Err (record { line = n; code = Truncated })
 
 -- the lines one after the other: `before` are the statements before them, and n lines stand before them
-unfoldable pub reading : List Statement → ℕ → List (List ℕ) → Result Read TextFault
-reading before n [] = ended (is_over before) n
-reading before n (line ∷ lines) =
-    at_line (n + 1) (line_reading before line) >>= λ statement. reading (with_statement before statement) (n + 1) lines >>= λ r. Ok
-    (in_front (n + 1) statement r)
+unfoldable pub reading : Scale → List Statement → ℕ → List (List ℕ) → Result Read TextFault
+reading scale before n [] = ended (is_over before) n
+reading scale before n (line ∷ lines) =
+    at_line (n + 1) (line_reading scale before line) >>= λ statement. reading scale (with_statement before statement) (n + 1) lines
+    >>= λ r. Ok (in_front (n + 1) statement r)
 
 -- the one operand
 abbrev pub only_operand : Option (List Operand) → Result Operand Code

@@ -1,7 +1,8 @@
 -- One line, worked out: its statement depends on that line and on the version that is declared before it, and the first test that
--- it fails on all statements before it.
+-- it fails on all statements before it and on the scale.
 use Rattle.std.specs.Prelude.{List, [], ◌∷◌, reverse, Option, None, Some, if◌then◌else◌}
 use Rattle.std.specs.List.{list_all}
+use Rattle.flow_design.specs.declared.limits.Scale.{Scale}
 use Rattle.flow_design.specs.declared.session.Statement.{Statement}
 use Rattle.flow_grammar.specs.declared.fault.Code.{Code}
 use Rattle.flow_grammar.specs.declared.fault.Code.TheVariants.{NotAscii, Syntax}
@@ -12,18 +13,18 @@ use Rattle.flow_grammar.specs.Places.{may_follow}
 use Rattle.flow_grammar.specs.Rules.{statement_fault}
 
 -- the tests of a statement that is written at a place, `earlier` being those before it, the latest first
-abbrev pub form_fault : List Statement → Option Statement → Option Code
-form_fault earlier None = Some Syntax
-form_fault earlier (Some s) = if may_follow earlier s then statement_fault earlier s else Some Syntax
+abbrev pub form_fault : Scale → List Statement → Option Statement → Option Code
+form_fault scale earlier None = Some Syntax
+form_fault scale earlier (Some s) = if may_follow earlier s then statement_fault scale earlier s else Some Syntax
 
-abbrev pub tokens_fault : List Statement → List Token → Option Code
-tokens_fault earlier [] = None
-tokens_fault earlier (t ∷ ts) = form_fault earlier (statement_of (version earlier) (t ∷ ts))
+abbrev pub tokens_fault : Scale → List Statement → List Token → Option Code
+tokens_fault scale earlier [] = None
+tokens_fault scale earlier (t ∷ ts) = form_fault scale earlier (statement_of (version earlier) (t ∷ ts))
 
 -- the statement that the tokens of a line write, if there is one
 unfoldable pub statement_in : List Statement → Line → Option Statement
 statement_in before line = statement_of (version (reverse before)) (tokens_of line)
 
 -- the first test that a line fails, where these statements stand before it
-unfoldable pub line_fault : List Statement → Line → Option Code
-line_fault before line = if list_all is_permitted line then tokens_fault (reverse before) (tokens_of line) else Some NotAscii
+unfoldable pub line_fault : Scale → List Statement → Line → Option Code
+line_fault scale before line = if list_all is_permitted line then tokens_fault scale (reverse before) (tokens_of line) else Some NotAscii

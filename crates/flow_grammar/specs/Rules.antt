@@ -5,11 +5,13 @@ use Rattle.std.specs.List.{list_all}
 use Rattle.flow_design.specs.declared.expr.Expr.{Expr}
 use Rattle.flow_design.specs.declared.expr.Op.{Op}
 use Rattle.flow_design.specs.declared.expr.Op.TheVariants as op
-use Rattle.flow_design.specs.declared.limits.TheConstants.{MODULES, CHANNELS, REGISTERS, TEMPS, MEMORIES, BLOCKS, OPERATIONS}
-use Rattle.flow_design.specs.declared.limits.TheConstants.{EXPRESSION_NODES, EXPRESSION_DEPTH, INPUT_VALUES, EDITS}
+use Rattle.flow_design.specs.declared.limits.Limits.{Limits}
+use Rattle.flow_design.specs.declared.limits.Scale.{Scale}
+use Rattle.flow_design.specs.declared.limits.TheConstants.{EXPRESSION_NODES, EXPRESSION_DEPTH, ALL_MEMORY_WORDS, EDITS}
 use Rattle.flow_design.specs.declared.session.Statement.{Statement}
 use Rattle.flow_design.specs.declared.session.Statement.TheVariants.{Source, Sink, Fifo, Module, Reg, Mem, Block, Loop, Temp, At, Input}
 use Rattle.flow_design.specs.declared.session.Statement.TheVariants.{Depth}
+use Rattle.flow_design.specs.Limits.{limits_at}
 use Rattle.flow_design.specs.Words.{nodes, depth}
 use Rattle.flow_grammar.specs.declared.fault.Code.{Code}
 use Rattle.flow_grammar.specs.declared.fault.Code.TheVariants.{BadNumber, DoubleName, UnknownName, TooMany}
@@ -18,7 +20,7 @@ use Rattle.flow_grammar.specs.Parts.{Name, Part, New, Use, Label, Num, Space, Ch
 use Rattle.flow_grammar.specs.Parts.{BlockName, Sort, AnyChannel, ASource, AFifo, ARegister, AMemory, AVariable, default_delay, parts}
 use Rattle.flow_grammar.specs.Places.{place, is_end, may_follow}
 use Rattle.flow_grammar.specs.Before.{version, has_delays, channels, sources, fifos, modules, registers, memories, blocks, temps}
-use Rattle.flow_grammar.specs.Before.{operations, inputs, input_values, edits, is_among}
+use Rattle.flow_grammar.specs.Before.{memory_words, operations, inputs, input_values, edits, is_among}
 
 -- ---- names and numbers
 
@@ -32,6 +34,19 @@ is_well_named part = true
 abbrev pub is_in_range : Part → Bool
 is_in_range (Num least most n) = nat_le least n && nat_le n most
 is_in_range part = true
+
+-- the sizes of a statement are within these limits
+abbrev pub is_within : Limits → Statement → Bool
+is_within limits (Fifo n w depth delay) = nat_le depth limits.fifo_depth
+is_within limits (Mem n w l) = nat_le l limits.memory_words
+is_within limits (Block n l) = nat_le l limits.block_clocks
+is_within limits (Loop n ii l r) = nat_le ii limits.block_clocks && nat_le l limits.block_clocks
+is_within limits (Depth n d) = nat_le d limits.fifo_depth
+is_within limits s = true
+
+-- its sizes are within the limits of the scale
+abbrev pub is_sized : Scale → Statement → Bool
+is_sized scale s = is_within (limits_at scale) s
 
 -- the names of a space that stand already: registers, memories and the body's temps share one
 abbrev pub taken : List Statement → Space → List Name
@@ -80,20 +95,21 @@ has_small_trees (op.TryWrite f ok e) = is_small e
 has_small_trees o = true
 
 -- with this statement there are not too many of its kind
-abbrev pub has_room : List Statement → Statement → Bool
-has_room earlier (Source n w) = nat_lt (length (channels earlier)) CHANNELS
-has_room earlier (Sink n w) = nat_lt (length (channels earlier)) CHANNELS
-has_room earlier (Fifo n w depth delay) = nat_lt (length (channels earlier)) CHANNELS
-has_room earlier (Module n) = nat_lt (length (modules earlier)) MODULES
-has_room earlier (Reg n w) = nat_lt (length (registers earlier)) REGISTERS
-has_room earlier (Mem n w l) = nat_lt (length (memories earlier)) MEMORIES
-has_room earlier (Block n l) = nat_lt (length (blocks earlier)) BLOCKS
-has_room earlier (Loop n ii l r) = nat_lt (length (blocks earlier)) BLOCKS
-has_room earlier (Temp n w) = nat_lt (length (temps earlier)) TEMPS
-has_room earlier (At off guard o) = nat_lt (operations earlier) OPERATIONS && has_small_trees o
-has_room earlier (Input n values) = nat_le (input_values earlier + length values) INPUT_VALUES
-has_room earlier (Depth n d) = nat_lt (edits earlier) EDITS
-has_room earlier s = true
+abbrev pub has_room : Scale → List Statement → Statement → Bool
+has_room scale earlier (Source n w) = nat_lt (length (channels earlier)) (limits_at scale).channels
+has_room scale earlier (Sink n w) = nat_lt (length (channels earlier)) (limits_at scale).channels
+has_room scale earlier (Fifo n w depth delay) = nat_lt (length (channels earlier)) (limits_at scale).channels
+has_room scale earlier (Module n) = nat_lt (length (modules earlier)) (limits_at scale).modules
+has_room scale earlier (Reg n w) = nat_lt (length (registers earlier)) (limits_at scale).registers
+has_room scale earlier (Mem n w l) =
+    nat_lt (length (memories earlier)) (limits_at scale).memories && nat_le (memory_words earlier + l) ALL_MEMORY_WORDS
+has_room scale earlier (Block n l) = nat_lt (length (blocks earlier)) (limits_at scale).blocks
+has_room scale earlier (Loop n ii l r) = nat_lt (length (blocks earlier)) (limits_at scale).blocks
+has_room scale earlier (Temp n w) = nat_lt (length (temps earlier)) (limits_at scale).temps
+has_room scale earlier (At off guard o) = nat_lt (operations earlier) (limits_at scale).operations && has_small_trees o
+has_room scale earlier (Input n values) = nat_le (input_values earlier + length values) (limits_at scale).input_values
+has_room scale earlier (Depth n d) = nat_lt (edits earlier) EDITS
+has_room scale earlier s = true
 
 -- ---- versions
 
@@ -113,10 +129,10 @@ first_broken ranged new known room =
     else if not room then Some TooMany
     else None
 
-unfoldable pub statement_fault : List Statement → Statement → Option Code
-statement_fault earlier s =
-    first_broken (list_all is_in_range (parts s)) (list_all (is_new earlier) (parts s) && is_first_input earlier s)
-    (list_all (is_known earlier) (parts s)) (has_room earlier s)
+unfoldable pub statement_fault : Scale → List Statement → Statement → Option Code
+statement_fault scale earlier s =
+    first_broken (list_all is_in_range (parts s) && is_sized scale s) (list_all (is_new earlier) (parts s) && is_first_input earlier s)
+    (list_all (is_known earlier) (parts s)) (has_room scale earlier s)
 
 -- ---- sessions that keep the rules
 
@@ -125,17 +141,17 @@ unfoldable pub is_over : List Statement → Bool
 is_over statements = is_end (place (reverse statements))
 
 -- a statement that keeps the rules behind these statements
-pub record KeepsRules (before : List Statement) (s : Statement) : Type 0 where
+pub record KeepsRules (scale : Scale) (before : List Statement) (s : Statement) : Type 0 where
   -- its names are names
   pub well_named : list_all is_well_named (parts s) ≡ true
   -- it is a statement of the version that is declared before it
   pub fits : fits_version (version (reverse before)) s ≡ true
   -- it may stand here
   pub permitted : may_follow (reverse before) s ≡ true
-  -- its numbers, its new names, the names that it uses and the counts are in order
-  pub faultless : statement_fault (reverse before) s ≡ None
+  -- its numbers, its new names, the names that it uses and the counts are in order at this scale
+  pub faultless : statement_fault scale (reverse before) s ≡ None
 
 -- a whole session that keeps them, as each session that a text stands for does
-pub record KeepsReadingRules (statements : List Statement) : Type 0 where
-  pub each : (i : ℕ) (s : Statement) → slice_get statements i ≡ Some s → KeepsRules (take i statements) s
+pub record KeepsReadingRules (scale : Scale) (statements : List Statement) : Type 0 where
+  pub each : (i : ℕ) (s : Statement) → slice_get statements i ≡ Some s → KeepsRules scale (take i statements) s
   pub over : is_over statements ≡ true

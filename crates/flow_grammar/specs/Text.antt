@@ -1,10 +1,11 @@
--- What a text stands for, and the fault that it has: all its lines at once.
+-- What a text stands for at a scale, and the fault that it has: all its lines at once.
 use Rattle.std.specs.Prelude.{◌≡◌, ℕ, ◌+◌, ◌<◌, ◌≤◌, ◌⊎◌, true, false, List, [], ◌∷◌, length, take, reverse, slice_index_or, Option, None}
 use Rattle.std.specs.Prelude.{Some, IfSome, Result, Ok, Err}
 use Rattle.std.specs.List.{list_all, filter_map}
-use Rattle.flow_design.specs.declared.limits.TheConstants.{TEXT_BYTES}
+use Rattle.flow_design.specs.declared.limits.Scale.{Scale}
 use Rattle.flow_design.specs.declared.session.Statement.{Statement}
 use Rattle.flow_design.specs.declared.session.Session.{Session}
+use Rattle.flow_design.specs.Limits.{limits_at}
 use Rattle.flow_grammar.specs.declared.fault.Code.{Code}
 use Rattle.flow_grammar.specs.declared.fault.Code.TheVariants.{TooLong, NotAscii, Syntax, Truncated}
 use Rattle.flow_grammar.specs.declared.fault.TextFault.{TextFault}
@@ -28,15 +29,15 @@ abbrev pub statements_among : List (Option Statement) → List Statement
 statements_among said = filter_map (λ s. s) said
 
 -- the statement stands in order behind these
-pub record StandsBehind (before : List Statement) (s : Statement) : Type 0 where
+pub record StandsBehind (scale : Scale) (before : List Statement) (s : Statement) : Type 0 where
   pub permitted : may_follow (reverse before) s ≡ true
-  pub faultless : statement_fault (reverse before) s ≡ None
+  pub faultless : statement_fault scale (reverse before) s ≡ None
 
 -- the line is in order behind these statements, and says this
-pub record IsInOrder (before : List Statement) (line : Line) (said : Option Statement) : Type 0 where
+pub record IsInOrder (scale : Scale) (before : List Statement) (line : Line) (said : Option Statement) : Type 0 where
   pub bytes : list_all is_permitted line ≡ true
   pub says : Says (version (reverse before)) line said
-  pub stands : IfSome said (StandsBehind before)
+  pub stands : IfSome said (StandsBehind scale before)
 
 -- no statement that may stand behind these is written by the line
 pub record IsNoStatement (before : List Statement) (line : Line) : Type 0 where
@@ -44,17 +45,17 @@ pub record IsNoStatement (before : List Statement) (line : Line) : Type 0 where
   pub none : (s : Statement) → Writes (version (reverse before)) (tokens_of line) s → may_follow (reverse before) s ≡ false
 
 -- the line writes a statement that may stand here, and this is the first rule that it breaks
-pub record BreaksRule (before : List Statement) (line : Line) (code : Code) : Type 0 where
+pub record BreaksRule (scale : Scale) (before : List Statement) (line : Line) (code : Code) : Type 0 where
   pub statement : Statement
   pub writes : Writes (version (reverse before)) (tokens_of line) statement
   pub permitted : may_follow (reverse before) statement ≡ true
-  pub fault : statement_fault (reverse before) statement ≡ Some code
+  pub fault : statement_fault scale (reverse before) statement ≡ Some code
 
 -- the first test that the line fails behind these statements
-abbrev pub Fails : List Statement → Line → Code → Type 0
-Fails before line code =
+abbrev pub Fails : Scale → List Statement → Line → Code → Type 0
+Fails scale before line code =
     ((list_all is_permitted line ≡ false) × (code ≡ NotAscii))
-    ⊎ ((list_all is_permitted line ≡ true) × (IsNoStatement before line × (code ≡ Syntax) ⊎ BreaksRule before line code))
+    ⊎ ((list_all is_permitted line ≡ true) × (IsNoStatement before line × (code ≡ Syntax) ⊎ BreaksRule scale before line code))
 
 -- ---- all lines
 
@@ -62,9 +63,9 @@ abbrev line_at : List Line → ℕ → Line
 line_at lines i = slice_index_or lines i []
 
 -- the lines are in order, each behind the statements of those before it, and say this
-pub record AreInOrder (lines : List Line) (said : List (Option Statement)) : Type 0 where
+pub record AreInOrder (scale : Scale) (lines : List Line) (said : List (Option Statement)) : Type 0 where
   pub count : length said ≡ length lines
-  pub each : (i : ℕ) → i < length lines → IsInOrder (statements_among (take i said)) (line_at lines i) (slice_index_or said i None)
+  pub each : (i : ℕ) → i < length lines → IsInOrder scale (statements_among (take i said)) (line_at lines i) (slice_index_or said i None)
 
 -- the numbers of the lines with a statement, of which the first line has the number n
 abbrev pub numbers_among : ℕ → List (Option Statement) → List ℕ
@@ -73,43 +74,43 @@ numbers_among n (None ∷ said) = numbers_among (n + 1) said
 numbers_among n (Some s ∷ said) = n ∷ numbers_among (n + 1) said
 
 -- the text stands for these statements, which are on the lines with these numbers
-pub record StandsFor (text : List ℕ) (statements : List Statement) (numbers : List ℕ) : Type 0 where
-  pub short : length text ≤ TEXT_BYTES
+pub record StandsFor (scale : Scale) (text : List ℕ) (statements : List Statement) (numbers : List ℕ) : Type 0 where
+  pub short : length text ≤ (limits_at scale).text_bytes
   pub said : List (Option Statement)
-  pub in_order : AreInOrder (lines_of text) said
+  pub in_order : AreInOrder scale (lines_of text) said
   pub over : is_over (statements_among said) ≡ true
   pub statements_are : statements ≡ statements_among said
   pub numbers_are : numbers ≡ numbers_among 1 said
 
 -- a line fails a test, and those before it are in order
-pub record FailsFirst (lines : List Line) (fault : TextFault) : Type 0 where
+pub record FailsFirst (scale : Scale) (lines : List Line) (fault : TextFault) : Type 0 where
   pub said : List (Option Statement)
   pub some : length said < length lines
-  pub in_order : AreInOrder (take (length said) lines) said
-  pub fails : Fails (statements_among said) (line_at lines (length said)) fault.code
+  pub in_order : AreInOrder scale (take (length said) lines) said
+  pub fails : Fails scale (statements_among said) (line_at lines (length said)) fault.code
   pub line : fault.line ≡ length said + 1
 
 -- all lines are in order, but there is no `end`: the line is 1 + the number of line feeds
-pub record HasNoEnd (lines : List Line) (fault : TextFault) : Type 0 where
+pub record HasNoEnd (scale : Scale) (lines : List Line) (fault : TextFault) : Type 0 where
   pub said : List (Option Statement)
-  pub in_order : AreInOrder lines said
+  pub in_order : AreInOrder scale lines said
   pub not_over : is_over (statements_among said) ≡ false
   pub code : fault.code ≡ Truncated
   pub line : fault.line ≡ length lines
 
 -- the text has this fault
-abbrev pub HasFault : List ℕ → TextFault → Type 0
-HasFault text fault =
-    ((TEXT_BYTES < length text) × (fault ≡ record { line = 0; code = TooLong }))
-    ⊎ ((length text ≤ TEXT_BYTES) × (FailsFirst (lines_of text) fault ⊎ HasNoEnd (lines_of text) fault))
+abbrev pub HasFault : Scale → List ℕ → TextFault → Type 0
+HasFault scale text fault =
+    (((limits_at scale).text_bytes < length text) × (fault ≡ record { line = 0; code = TooLong }))
+    ⊎ ((length text ≤ (limits_at scale).text_bytes) × (FailsFirst scale (lines_of text) fault ⊎ HasNoEnd scale (lines_of text) fault))
 
 -- ---- what a reader answers
 
 -- it answered a session that the text stands for, or a fault that it has, or want of memory
-abbrev pub IsAnswer : List ℕ → Result (List Statement × List ℕ) ReadFail → Type 0
-IsAnswer text (Ok read) = StandsFor text read.0 read.1
-IsAnswer text (Err fails.OutOfMemory) = Unit {0}
-IsAnswer text (Err (fails.Text fault)) = HasFault text fault
+abbrev pub IsAnswer : Scale → List ℕ → Result (List Statement × List ℕ) ReadFail → Type 0
+IsAnswer scale text (Ok read) = StandsFor scale text read.0 read.1
+IsAnswer scale text (Err fails.OutOfMemory) = Unit {0}
+IsAnswer scale text (Err (fails.Text fault)) = HasFault scale text fault
 
 -- it answered this, or want of memory
 abbrev pub Answers : {A : Type 0} → Result A ReadFail → Result A TextFault → Type 0
@@ -123,6 +124,6 @@ session_of (Ok read) = Ok (read.0.statements, read.1)
 session_of (Err fail) = Err fail
 
 -- what is said of a text: that it stands for a session, or that it has a fault
-abbrev pub Said : List ℕ → Result (List Statement × List ℕ) TextFault → Type 0
-Said text (Ok read) = StandsFor text read.0 read.1
-Said text (Err fault) = HasFault text fault
+abbrev pub Said : Scale → List ℕ → Result (List Statement × List ℕ) TextFault → Type 0
+Said scale text (Ok read) = StandsFor scale text read.0 read.1
+Said scale text (Err fault) = HasFault scale text fault

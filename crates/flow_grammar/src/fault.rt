@@ -7,7 +7,7 @@ use thiserror::Error;
 /// The first test that a text fails, with its number in the language.
 #[derive(Clone, Copy, Debug, PartialEq, Eq)]
 pub enum Code {
-    /// The text has more than `TEXT_BYTES` bytes.
+    /// The text has more bytes than its scale takes.
     TooLong = 1,
     /// A byte of the line is not 9, 13 or 32 to 126.
     NotAscii = 2,
@@ -25,13 +25,13 @@ pub enum Code {
     Ends = 8,
     /// Two operations of a body pop, or push, one channel in one clock.
     PortClash = 9,
-    /// A loop's length is less than its interval, or more than 64 times it.
+    /// A loop's length is less than its interval, or so many times it that too many iterations are live at once.
     BadLoop = 10,
     /// An operation's offset is not below its block's length.
     BadOffset = 11,
     /// The text has no `end`.
     Truncated = 12,
-    /// The line is one too many of its kind, or an expression is too large.
+    /// The line is one too many of its kind, the memories have too many words, or an expression is too large.
     TooMany = 13,
     /// An `empty` does not stand in its channel's reader, or a `full` not in its writer.
     WrongSide = 14,

@@ -1,5 +1,6 @@
 //! Laws of the grammar.
 ghost use Rattle.std.specs.Prelude.{◌≡◌, ◌<◌, Some, List, ℕ, Result, length, AllPairs};
+ghost use Rattle.flow_design.specs.declared.limits.Scale.{Scale};
 ghost use Rattle.flow_design.specs.declared.session.Statement.{Statement};
 ghost use Rattle.flow_grammar.specs.declared.fault.TextFault.{TextFault};
 ghost use Rattle.flow_grammar.specs.Rules.{KeepsReadingRules};
@@ -19,23 +20,26 @@ pub fn read_is_written()
     ensures { (version : ℕ) (tokens : List Token) (s : Statement) → statement_of version tokens ≡ Some s → Writes version tokens s }
 {}
 
-/// Each text stands for exactly one session with its lines, or has exactly one fault.
+/// At each scale a text stands for exactly one session with its lines, or has exactly one fault.
 pub fn one_answer()
-    ensures some { (text : List ℕ) → (answer : Result (List Statement × List ℕ) TextFault) × Said text answer }
-    ensures no_other { (text : List ℕ) (a b : Result (List Statement × List ℕ) TextFault) → Said text a → Said text b → a ≡ b }
+    ensures some { (scale : Scale) (text : List ℕ) → (answer : Result (List Statement × List ℕ) TextFault) × Said scale text answer }
+    ensures no_other { (scale : Scale) (text : List ℕ) (a b : Result (List Statement × List ℕ) TextFault) → Said scale text a
+        → Said scale text b → a ≡ b }
 {}
 
 /// A session that a text stands for keeps the rules of reading, and has one line number for each statement, rising.
 pub fn keeps_rules()
-    ensures rules { (text : List ℕ) (s : List Statement) (l : List ℕ) → StandsFor text s l → KeepsReadingRules s }
-    ensures numbered { (text : List ℕ) (s : List Statement) (l : List ℕ) → StandsFor text s l → length l ≡ length s }
-    ensures rising { (text : List ℕ) (s : List Statement) (l : List ℕ) → StandsFor text s l → AllPairs (λ a b. a < b) l }
+    ensures rules { (scale : Scale) (text : List ℕ) (s : List Statement) (l : List ℕ) → StandsFor scale text s l
+        → KeepsReadingRules scale s }
+    ensures numbered { (scale : Scale) (text : List ℕ) (s : List Statement) (l : List ℕ) → StandsFor scale text s l → length l ≡ length s }
+    ensures rising { (scale : Scale) (text : List ℕ) (s : List Statement) (l : List ℕ) → StandsFor scale text s l
+        → AllPairs (λ a b. a < b) l }
 {}
 
-/// Two texts that differ in `flow 1` and `flow 2` alone, and both stand for a session, stand for the same statements but the
-/// first, on the same lines. Neither writes a delay, since version 1 has none.
+/// Two texts that differ in `flow 1` and `flow 2` alone, and both stand for a session at a scale, stand for the same statements but
+/// the first, on the same lines. Neither writes a delay, since version 1 has none.
 pub fn versions_agree()
-    ensures { (first second : List ℕ) (s t : List Statement) (l m : List ℕ) → DifferInVersion first second → StandsFor first s l
-        → StandsFor second t m
+    ensures { (scale : Scale) (first second : List ℕ) (s t : List Statement) (l m : List ℕ) → DifferInVersion first second
+        → StandsFor scale first s l → StandsFor scale second t m
         → SameButVersion s t × (l ≡ m) }
 {}

@@ -4,7 +4,8 @@ use Rattle.std.proofs.Common.{Some, refl, sym, ap, subst, ◌∙◌, append_asso
 use Rattle.std.specs.Prelude.{slice_get, reverse, ◌==◌, ◌||◌, if◌then◌else◌}
 use Rattle.std.proofs.lemmas.Bool.{eqb-true}
 use Rattle.std.proofs.lemmas.List.{reverse-append}
-use Rattle.flow_design.specs.declared.limits.TheConstants.{TEXT_BYTES}
+use Rattle.flow_design.specs.declared.limits.Scale.{Scale}
+use Rattle.flow_design.specs.Limits.{limits_at}
 use Rattle.flow_design.specs.declared.session.Statement.TheVariants.{Flow, Fifo}
 use Rattle.std.specs.List.{list_all, join_with_byte, range_with_len}
 use Rattle.flow_design.specs.declared.session.Statement.{Statement}
@@ -23,9 +24,10 @@ use Rattle.flow_print.proofs.PartLemmas.{parts_printed, fit_parts, written_pass}
 
 -- ---- one line
 
-range_of : (earlier : List Statement) (s : Statement) → statement_fault earlier s ≡ None → list_all is_in_range (parts s) ≡ true
+range_of : (scale : Scale) (earlier : List Statement) (s : Statement) → statement_fault scale earlier s ≡ None
+    → list_all is_in_range (parts s) ≡ true
 unfolding statement_fault
-range_of earlier s h = grind arith
+range_of scale earlier s h = grind arith
 
 -- a statement of the version is written by what is printed of it
 writes_printed : (v : ℕ) (ts : List Token) (s : Statement) → fits_version v s ≡ true → Spelled ts (written_parts v s) → Writes v ts s
@@ -40,18 +42,18 @@ writes_printed v ts s f p = p
 abbrev printed_line : ℕ → Statement → Line
 printed_line v s = join_with_byte 32 (printed_tokens v s)
 
-printed : (v : ℕ) (before : List Statement) (s : Statement) → KeepsRules before s
+printed : (scale : Scale) (v : ℕ) (before : List Statement) (s : Statement) → KeepsRules scale before s
     → (list_all is_printed (printed_tokens v s) ≡ true) × Spelled (printed_tokens v s) (written_parts v s)
-printed v before s k =
+printed scale v before s k =
     parts_printed (written_parts v s) (fit_parts v s) (written_pass v is_well_named s k.well_named)
-    (written_pass v is_in_range s (range_of (reverse before) s k.faultless))
+    (written_pass v is_in_range s (range_of scale (reverse before) s k.faultless))
 
 -- in order, where the line writes the statement in the version that is declared before it
-line_in_order : (v : ℕ) (before : List Statement) (s : Statement) → KeepsRules before s
+line_in_order : (scale : Scale) (v : ℕ) (before : List Statement) (s : Statement) → KeepsRules scale before s
     → ((ts : List Token) → Spelled ts (written_parts v s) → Writes (version (reverse before)) ts s)
-    → IsInOrder before (printed_line v s) (Some s)
-line_in_order v before s k writes =
-    let p = printed v before s k in
+    → IsInOrder scale before (printed_line v s) (Some s)
+line_in_order scale v before s k writes =
+    let p = printed scale v before s k in
     record {
       bytes = line_permitted (printed_tokens v s) p.0;
       says = writes (tokens_of (printed_line v s))
@@ -62,60 +64,67 @@ line_in_order v before s k writes =
 -- ---- all lines
 
 -- each statement keeps the rules behind those before it
-abbrev Keep : List Statement → List Statement → Type 0
-Keep front ss = (i : ℕ) (s : Statement) → slice_get ss i ≡ Some s → KeepsRules (front ++ take i ss) s
+abbrev Keep : Scale → List Statement → List Statement → Type 0
+Keep scale front ss = (i : ℕ) (s : Statement) → slice_get ss i ≡ Some s → KeepsRules scale (front ++ take i ss) s
 
-keep_first : (front : List Statement) (s : Statement) (ss : List Statement) → Keep front (s ∷ ss) → KeepsRules front s
-keep_first front s ss k = subst (λ (b : List Statement). KeepsRules b s) (append-nil front) (k 0 s refl)
+keep_first : (scale : Scale) (front : List Statement) (s : Statement) (ss : List Statement) → Keep scale front (s ∷ ss)
+    → KeepsRules scale front s
+keep_first scale front s ss k = subst (λ (b : List Statement). KeepsRules scale b s) (append-nil front) (k 0 s refl)
 
-keep_rest : (front : List Statement) (s : Statement) (ss : List Statement) → Keep front (s ∷ ss) → Keep (front ++ s ∷ []) ss
-keep_rest front s ss k i t e =
-    subst (λ (b : List Statement). KeepsRules b t) (sym (append_assoc front (s ∷ []) (take i ss))) (k (suc i) t e)
+keep_rest : (scale : Scale) (front : List Statement) (s : Statement) (ss : List Statement) → Keep scale front (s ∷ ss)
+    → Keep scale (front ++ s ∷ []) ss
+keep_rest scale front s ss k i t e =
+    subst (λ (b : List Statement). KeepsRules scale b t) (sym (append_assoc front (s ∷ []) (take i ss))) (k (suc i) t e)
 
 -- what the lines of the statements say, and the line without a byte behind them
 abbrev said_of : List Statement → Words
 said_of ss = map (λ s. Some s) ss ++ None ∷ []
 
 -- behind statements that declare the version
-all_in_order : (v : ℕ) (front ss : List Statement) (e : Statement) (earlier : List Statement)
-    → reverse front ≡ e ∷ earlier → version (e ∷ earlier) ≡ v → Keep front ss
-    → InOrderFrom front (map (printed_line v) ss ++ [] ∷ []) (said_of ss)
+all_in_order : (scale : Scale) (v : ℕ) (front ss : List Statement) (e : Statement) (earlier : List Statement)
+    → reverse front ≡ e ∷ earlier → version (e ∷ earlier) ≡ v → Keep scale front ss
+    → InOrderFrom scale front (map (printed_line v) ss ++ [] ∷ []) (said_of ss)
 unfolding InOrderFrom tokens_of
-all_in_order v front [] e earlier r h k = (record { bytes = refl; says = refl; stands = tt }, tt)
-all_in_order v front (s ∷ ss) e earlier r h k =
-    let here = keep_first front s ss k in
+all_in_order scale v front [] e earlier r h k = (record { bytes = refl; says = refl; stands = tt }, tt)
+all_in_order scale v front (s ∷ ss) e earlier r h k =
+    let here = keep_first scale front s ss k in
     let declared : version (reverse front) ≡ v = ap version r ∙ h in
     let fits : fits_version v s ≡ true = subst (λ (n : ℕ). fits_version n s ≡ true) declared here.fits in
     let permitted : may_follow (e ∷ earlier) s ≡ true = subst (λ (es : List Statement). may_follow es s ≡ true) r here.permitted in (
-      line_in_order v front s here (λ ts p. subst (λ (n : ℕ). Writes n ts s) (sym declared) (writes_printed v ts s fits p)),
-      all_in_order v (front ++ s ∷ []) ss s (e ∷ earlier) (reverse-append front (s ∷ []) ∙ ap (λ (es : List Statement). s ∷ es) r)
-          (same_version e earlier s permitted ∙ h) (keep_rest front s ss k),
+      line_in_order scale v front s here (λ ts p. subst (λ (n : ℕ). Writes n ts s) (sym declared) (writes_printed v ts s fits p)),
+      all_in_order scale v (front ++ s ∷ []) ss s (e ∷ earlier) (reverse-append front (s ∷ []) ∙ ap (λ (es : List Statement). s ∷ es) r)
+          (same_version e earlier s permitted ∙ h) (keep_rest scale front s ss k),
     )
 
 -- from the first statement on, which declares the version
-all_lines : (ss : List Statement) → Keep [] ss → InOrderFrom [] (map (printed_line (version_of ss)) ss ++ [] ∷ []) (said_of ss)
+all_lines : (scale : Scale) (ss : List Statement) → Keep scale [] ss
+    → InOrderFrom scale [] (map (printed_line (version_of ss)) ss ++ [] ∷ []) (said_of ss)
 unfolding InOrderFrom tokens_of may_follow
-all_lines [] k = (record { bytes = refl; says = refl; stands = tt }, tt)
-all_lines (Flow v ∷ ss) k =
-    let here = keep_first [] (Flow v) ss k in
-    (line_in_order v [] (Flow v) here (λ ts p. p), all_in_order v (Flow v ∷ []) ss (Flow v) [] refl refl (keep_rest [] (Flow v) ss k))
-all_lines (s ∷ ss) k = absurd (let p = (keep_first [] s ss k).permitted in cc)
+all_lines scale [] k = (record { bytes = refl; says = refl; stands = tt }, tt)
+all_lines scale (Flow v ∷ ss) k =
+    let here = keep_first scale [] (Flow v) ss k in (
+      line_in_order scale v [] (Flow v) here (λ ts p. p),
+      all_in_order scale v (Flow v ∷ []) ss (Flow v) [] refl refl (keep_rest scale [] (Flow v) ss k),
+    )
+all_lines scale (s ∷ ss) k = absurd (let p = (keep_first scale [] s ss k).permitted in cc)
 
-all_printed : (v : ℕ) (front ss : List Statement) → Keep front ss → list_all (list_all is_printed) (map (printed_tokens v) ss) ≡ true
-all_printed v front [] k = refl
-all_printed v front (s ∷ ss) k =
-    let here = (printed v front s (keep_first front s ss k)).0 in
-    let rest = all_printed v (front ++ s ∷ []) ss (keep_rest front s ss k) in
+all_printed : (scale : Scale) (v : ℕ) (front ss : List Statement) → Keep scale front ss
+    → list_all (list_all is_printed) (map (printed_tokens v) ss) ≡ true
+all_printed scale v front [] k = refl
+all_printed scale v front (s ∷ ss) k =
+    let here = (printed scale v front s (keep_first scale front s ss k)).0 in
+    let rest = all_printed scale v (front ++ s ∷ []) ss (keep_rest scale front s ss k) in
     rw (here, rest) refl
 
 lines_printed : (v : ℕ) (ss : List Statement) → map (join_with_byte 32) (map (printed_tokens v) ss) ≡ map (printed_line v) ss
 lines_printed v [] = refl
 lines_printed v (s ∷ ss) = ap (λ (r : List Line). printed_line v s ∷ r) (lines_printed v ss)
 
-lines_are : (ss : List Statement) → Keep [] ss → lines_of (canonical_text ss) ≡ map (printed_line (version_of ss)) ss ++ [] ∷ []
+lines_are : (scale : Scale) (ss : List Statement) → Keep scale [] ss
+    → lines_of (canonical_text ss) ≡ map (printed_line (version_of ss)) ss ++ [] ∷ []
 unfolding canonical_text
-lines_are ss k =
-    text_lines (map (printed_tokens (version_of ss)) ss) (all_printed (version_of ss) [] ss k)
+lines_are scale ss k =
+    text_lines (map (printed_tokens (version_of ss)) ss) (all_printed scale (version_of ss) [] ss k)
     ∙ ap (λ (r : List Line). r ++ [] ∷ []) (lines_printed (version_of ss) ss)
 
 same_statements : (ss : List Statement) → ss ≡ statements_among (said_of ss)
@@ -126,13 +135,15 @@ same_numbers : (n : ℕ) (ss : List Statement) → range_with_len n (length ss) 
 same_numbers n [] = refl
 same_numbers n (s ∷ ss) = ap (λ (r : List ℕ). n ∷ r) (same_numbers (n + 1) ss)
 
-pub reads_back : (ss : List Statement) → KeepsReadingRules ss → length (canonical_text ss) ≤ TEXT_BYTES
-    → StandsFor (canonical_text ss) ss (range_with_len 1 (length ss))
-reads_back ss rules short = record {
+pub reads_back : (scale : Scale) (ss : List Statement) → KeepsReadingRules scale ss
+    → length (canonical_text ss) ≤ (limits_at scale).text_bytes
+    → StandsFor scale (canonical_text ss) ss (range_with_len 1 (length ss))
+reads_back scale ss rules short = record {
   short = short;
   said = said_of ss;
-  in_order = in_order_of (lines_of (canonical_text ss)) (said_of ss)
-      (subst (λ (lines : List Line). InOrderFrom [] lines (said_of ss)) (sym (lines_are ss rules.each)) (all_lines ss rules.each));
+  in_order = in_order_of scale (lines_of (canonical_text ss)) (said_of ss)
+      (subst (λ (lines : List Line). InOrderFrom scale [] lines (said_of ss)) (sym (lines_are scale ss rules.each))
+      (all_lines scale ss rules.each));
   over = subst (λ (xs : List Statement). is_over xs ≡ true) (same_statements ss) rules.over;
   statements_are = same_statements ss;
   numbers_are = same_numbers 1 ss;

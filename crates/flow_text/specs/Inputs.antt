@@ -1,7 +1,6 @@
 -- The values of an input.
 use Rattle.std.specs.Prelude.{ℕ, ◌+◌, ◌-◌, ◌^◌, Bool, List, length, ◌&&◌, not, nat_le, if◌then◌else◌, Option, None, Some, Result, Ok, Err}
 use Rattle.std.specs.List.{list_all}
-use Rattle.flow_design.specs.declared.limits.TheConstants.{INPUT_VALUES}
 use Rattle.flow_design.specs.declared.session.Statement.{Statement}
 use Rattle.flow_design.specs.declared.session.Statement.TheVariants.{Input}
 use Rattle.flow_grammar.specs.declared.fault.Code.{Code}
@@ -24,7 +23,7 @@ input_of_words t n None = Err BadNumber
 input_of_words t n (Some values) =
     if is_among t.inputs n then Err DoubleName
     else if not (is_among t.sources n) then Err UnknownName
-    else if nat_le (t.input_values + length values) INPUT_VALUES then Ok (Input n values)
+    else if nat_le (t.input_values + length values) t.limits.input_values then Ok (Input n values)
     else Err TooMany
 
 -- what a name and its values give, where the values are words

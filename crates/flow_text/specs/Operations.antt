@@ -4,7 +4,6 @@ use Rattle.std.specs.List.{list_all}
 use Rattle.flow_design.specs.declared.expr.Expr.{Expr}
 use Rattle.flow_design.specs.declared.expr.Op.{Op}
 use Rattle.flow_design.specs.declared.expr.Op.TheVariants as op
-use Rattle.flow_design.specs.declared.limits.TheConstants.{OPERATIONS}
 use Rattle.flow_design.specs.declared.session.Statement.{Statement}
 use Rattle.flow_design.specs.declared.session.Statement.TheVariants.{At}
 use Rattle.flow_grammar.specs.declared.fault.Code.{Code}
@@ -130,7 +129,7 @@ offset_there true false (Some off) true = Err TooMany
 
 -- what an offset, a guard that is known or not, and an operation give
 abbrev pub timed_reading : Tables → Option ℕ → Option Name → Bool → Result (Op Name) Code → Result Statement Code
-timed_reading t off guard known o = timed_by (takes_operations t.place) (nat_lt t.operations OPERATIONS) off guard known o
+timed_reading t off guard known o = timed_by (takes_operations t.place) (nat_lt t.operations t.limits.operations) off guard known o
 
 abbrev pub guard_known : Tables → Option Name → Bool
 guard_known t None = true

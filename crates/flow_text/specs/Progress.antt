@@ -1,5 +1,6 @@
 -- Where a reader of lines stands.
 use Rattle.std.specs.Prelude.{◌≡◌, ℕ, List, [], ◌++◌, reverse, Option, Result, Ok}
+use Rattle.flow_design.specs.declared.limits.Scale.{Scale}
 use Rattle.flow_design.specs.declared.session.Statement.{Statement}
 use Rattle.flow_grammar.specs.declared.fault.TextFault.{TextFault}
 use Rattle.flow_grammar.specs.Tokens.{Line, lines_of}
@@ -7,29 +8,32 @@ use Rattle.flow_grammar.specs.Gives.{◌>>=◌, Read, reading, at_line, line_rea
 use Rattle.name_tables.specs.TablesOf.{tables_of}
 use Rattle.flow_text.specs.declared.progress.Progress.{Progress}
 
--- the tables are those of the statements so far
+-- the tables are those of the statements so far, at the session's scale
 abbrev pub IsKept : Progress → Type 0
-IsKept p = p.tables ≡ tables_of (reverse p.statements)
+IsKept p = p.tables ≡ tables_of p.scale (reverse p.statements)
 
--- nothing is read so far
-pub record IsOpening (p : Progress) : Type 0 where
-  pub tables : p.tables ≡ tables_of []
+-- nothing is read so far of a session of this scale
+pub record IsOpening (scale : Scale) (p : Progress) : Type 0 where
+  pub scale_is : p.scale ≡ scale
+  pub tables : p.tables ≡ tables_of scale []
   pub statements : p.statements ≡ []
   pub numbers : p.numbers ≡ []
 
 -- the line with this number is read behind what was read before
 pub record IsAdded (old new : Progress) (number : ℕ) (line : Line) : Type 0 where
   pub said : Option Statement
-  pub reads : at_line number (line_reading old.statements line) ≡ Ok said
+  pub reads : at_line number (line_reading old.scale old.statements line) ≡ Ok said
   pub statements : new.statements ≡ with_statement old.statements said
   pub numbers : new.numbers ≡ with_number old.numbers number said
+  pub same_scale : new.scale ≡ old.scale
   pub kept : IsKept new
 
 -- what was read before, and what is still read
 abbrev pub with_front : List Statement → List ℕ → Result Read TextFault → Result Read TextFault
 with_front statements numbers read = read >>= λ r. Ok (statements ++ r.0, numbers ++ r.1)
 
--- all lines are read, so many
-pub record IsThrough (text : List ℕ) (p : Progress) (n : ℕ) : Type 0 where
+-- all lines are read, so many, of a session of this scale
+pub record IsThrough (scale : Scale) (text : List ℕ) (p : Progress) (n : ℕ) : Type 0 where
+  pub same_scale : p.scale ≡ scale
   pub kept : IsKept p
-  pub reads : with_front p.statements p.numbers (reading p.statements n []) ≡ reading [] 0 (lines_of text)
+  pub reads : with_front p.statements p.numbers (reading scale p.statements n []) ≡ reading scale [] 0 (lines_of text)

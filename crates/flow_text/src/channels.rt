@@ -9,7 +9,7 @@ ghost use Rattle.name_tables.specs.TablesOf.{accepted, IsOfStatements};
 ghost use Rattle.name_tables.specs.TableTests.{reading_by};
 
 use crate::ensure::{Parsed, ensure, syntax};
-use flow_design::limits::{CHANNELS, FIFO_DELAY, FIFO_DEPTH};
+use flow_design::limits::{FIFO_DELAY, FIFO_DEPTH};
 use flow_design::{Name, Statement};
 use flow_grammar::{Code, LineFail, is_identifier, is_numeral, number_in, width_of};
 use name_tables::Tables;
@@ -28,7 +28,10 @@ pub fn source<'a>(alloc: Global, tables: &mut Tables<'a>, tokens: &[&'a [u8]]) -
     syntax(tables.place.takes_channels() && is_identifier(name) && is_numeral(width))?;
     let width = width_of(width).ok_or(LineFail::Fault(Code::BadNumber))?;
     ensure(!tables.channels.has(name), Code::DoubleName)?;
-    ensure(tables.channels.has_room(CHANNELS), Code::TooMany)?;
+    ensure(
+        tables.channels.has_room(tables.limits.channels),
+        Code::TooMany,
+    )?;
     tables.add_source(*name)?;
     Ok(Statement::Source(Name::new(alloc, *name)?, width))
 }
@@ -45,7 +48,10 @@ pub fn sink<'a>(alloc: Global, tables: &mut Tables<'a>, tokens: &[&'a [u8]]) -> 
     syntax(tables.place.takes_channels() && is_identifier(name) && is_numeral(width))?;
     let width = width_of(width).ok_or(LineFail::Fault(Code::BadNumber))?;
     ensure(!tables.channels.has(name), Code::DoubleName)?;
-    ensure(tables.channels.has_room(CHANNELS), Code::TooMany)?;
+    ensure(
+        tables.channels.has_room(tables.limits.channels),
+        Code::TooMany,
+    )?;
     tables.add_sink(*name)?;
     Ok(Statement::Sink(Name::new(alloc, *name)?, width))
 }
@@ -72,8 +78,12 @@ fn new_fifo<'a>(
     let width = width_of(width).ok_or(LineFail::Fault(Code::BadNumber))?;
     let depth = number_in(depth, 1, FIFO_DEPTH).ok_or(LineFail::Fault(Code::BadNumber))?;
     let delay = number_in(delay, 1, FIFO_DELAY).ok_or(LineFail::Fault(Code::BadNumber))?;
+    ensure(depth <= tables.limits.fifo_depth, Code::BadNumber)?;
     ensure(!tables.channels.has(name), Code::DoubleName)?;
-    ensure(tables.channels.has_room(CHANNELS), Code::TooMany)?;
+    ensure(
+        tables.channels.has_room(tables.limits.channels),
+        Code::TooMany,
+    )?;
     tables.add_fifo(name)?;
     let name = Name::new(alloc, name)?;
     Ok(Statement::Fifo {

@@ -103,6 +103,7 @@ pub fn edit<'a>(alloc: Global, tables: &mut Tables<'a>, tokens: &[&'a [u8]]) -> 
     };
     syntax(tables.place.takes_edits() && is_identifier(fifo) && is_numeral(depth))?;
     let depth = number_in(depth, 1, FIFO_DEPTH).ok_or(LineFail::Fault(Code::BadNumber))?;
+    ensure(depth <= tables.limits.fifo_depth, Code::BadNumber)?;
     ensure(tables.fifos.has(fifo), Code::UnknownName)?;
     ensure(tables.edits < EDITS, Code::TooMany)?;
     tables.add_edit();

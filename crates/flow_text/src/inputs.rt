@@ -10,7 +10,6 @@ ghost use Rattle.name_tables.specs.TablesOf.{accepted};
 ghost use Rattle.name_tables.specs.TableTests.{reading_by};
 
 use crate::ensure::{Parsed, ensure, syntax};
-use flow_design::limits::INPUT_VALUES;
 use flow_design::{Name, Statement};
 use flow_grammar::{Code, LineFail, is_identifier, is_numeral, number_in};
 use flow_word::{List, OutOfMemory, Words};
@@ -62,8 +61,9 @@ fn given_input<'a>(
     ensure(!tables.inputs.has(name), Code::DoubleName)?;
     ensure(tables.sources.has(name), Code::UnknownName)?;
     let count = words.len();
+    let most = tables.limits.input_values;
     ensure(
-        count <= INPUT_VALUES && tables.input_values <= INPUT_VALUES - count,
+        count <= most && tables.input_values <= most - count,
         Code::TooMany,
     )?;
     tables.add_input(name, count)?;

@@ -1,15 +1,14 @@
 //! The forms of modules, registers, memories, blocks, loops and temps.
-ghost use Rattle.std.specs.Prelude.{◌≡◌, map, IfOk};
-ghost use Rattle.flow_design.specs.declared.session.Statement.TheVariants.{Module, Reg, Block, Temp};
+ghost use Rattle.std.specs.Prelude.{◌≡◌, true, map, IfOk, Some};
+ghost use Rattle.flow_design.specs.declared.session.Statement.TheVariants.{Module, Reg, Block, Loop, Temp};
+ghost use Rattle.flow_grammar.specs.Tokens.{is_number, number_of};
 ghost use Rattle.flow_grammar.specs.Forms.{name_width, one_name, mem_of, loop_of};
 ghost use Rattle.flow_grammar.specs.Gives.{LineGives};
 ghost use Rattle.name_tables.specs.TablesOf.{accepted};
 ghost use Rattle.name_tables.specs.TableTests.{reading_by};
 
 use crate::ensure::{Parsed, ensure, syntax};
-use flow_design::limits::{
-    BLOCK_CLOCKS, BLOCKS, MEMORIES, MEMORY_WORDS, MODULES, REGISTERS, TEMPS,
-};
+use flow_design::limits::{ALL_MEMORY_WORDS, BLOCK_CLOCKS, MEMORY_WORDS};
 use flow_design::{Name, Statement};
 use flow_grammar::{Code, LineFail, is_identifier, is_numeral, is_word, number_in, width_of};
 use name_tables::Tables;
@@ -26,7 +25,10 @@ pub fn module<'a>(alloc: Global, tables: &mut Tables<'a>, tokens: &[&'a [u8]]) -
     };
     syntax(tables.place.takes_modules() && is_identifier(name))?;
     ensure(!tables.modules.has(name), Code::DoubleName)?;
-    ensure(tables.modules.has_room(MODULES), Code::TooMany)?;
+    ensure(
+        tables.modules.has_room(tables.limits.modules),
+        Code::TooMany,
+    )?;
     tables.add_module(*name)?;
     Ok(Statement::Module(Name::new(alloc, *name)?))
 }
@@ -47,7 +49,10 @@ pub fn register<'a>(
     syntax(tables.place.takes_registers() && is_identifier(name) && is_numeral(width))?;
     let width = width_of(width).ok_or(LineFail::Fault(Code::BadNumber))?;
     ensure(!tables.has_register_or_memory(name), Code::DoubleName)?;
-    ensure(tables.registers.has_room(REGISTERS), Code::TooMany)?;
+    ensure(
+        tables.registers.has_room(tables.limits.registers),
+        Code::TooMany,
+    )?;
     tables.add_register(*name)?;
     Ok(Statement::Reg(Name::new(alloc, *name)?, width))
 }
@@ -65,9 +70,14 @@ pub fn memory<'a>(alloc: Global, tables: &mut Tables<'a>, tokens: &[&'a [u8]]) -
     syntax(is_numeral(width) && is_numeral(len))?;
     let width = width_of(width).ok_or(LineFail::Fault(Code::BadNumber))?;
     let len = number_in(len, 1, MEMORY_WORDS).ok_or(LineFail::Fault(Code::BadNumber))?;
+    ensure(len <= tables.limits.memory_words, Code::BadNumber)?;
     ensure(!tables.has_register_or_memory(name), Code::DoubleName)?;
-    ensure(tables.memories.has_room(MEMORIES), Code::TooMany)?;
-    tables.add_memory(*name)?;
+    ensure(
+        tables.memories.has_room(tables.limits.memories),
+        Code::TooMany,
+    )?;
+    ensure(tables.memory_words <= ALL_MEMORY_WORDS - len, Code::TooMany)?;
+    tables.add_memory(*name, len)?;
     Ok(Statement::Mem(Name::new(alloc, *name)?, width, len))
 }
 
@@ -82,14 +92,50 @@ pub fn block<'a>(alloc: Global, tables: &mut Tables<'a>, tokens: &[&'a [u8]]) ->
     };
     syntax(tables.place.takes_blocks() && is_identifier(name) && is_numeral(len))?;
     let len = number_in(len, 1, BLOCK_CLOCKS).ok_or(LineFail::Fault(Code::BadNumber))?;
+    ensure(len <= tables.limits.block_clocks, Code::BadNumber)?;
     ensure(!tables.blocks.has(name), Code::DoubleName)?;
-    ensure(tables.blocks.has_room(BLOCKS), Code::TooMany)?;
+    ensure(tables.blocks.has_room(tables.limits.blocks), Code::TooMany)?;
     tables.add_block(*name)?;
     Ok(Statement::Block(Name::new(alloc, *name)?, len))
 }
 
+/// The loop of this name, II and LEN, which goes on while its register is not 0.
+#[tactic(auto, unfolding(name_tables::specs::TableTests::fault_by))]
+fn new_loop<'a>(
+    alloc: Global,
+    tables: &mut Tables<'a>,
+    name: &'a [u8],
+    interval: &[u8],
+    len: &[u8],
+    register: &[u8],
+) -> Parsed<Statement>
+    requires interval { is_number interval.now ≡ true }
+    requires len { is_number len.now ≡ true }
+    ensures given { LineGives (λ s. s) result
+        (reading_by tables.old (Some (Loop name.now (number_of interval.now) (number_of len.now) register.now))) }
+    ensures kept { IfOk result (λ s. tables.new ≡ accepted tables.old s) }
+{
+    syntax(tables.place.takes_blocks())?;
+    let interval = number_in(interval, 1, BLOCK_CLOCKS).ok_or(LineFail::Fault(Code::BadNumber))?;
+    let len = number_in(len, 1, BLOCK_CLOCKS).ok_or(LineFail::Fault(Code::BadNumber))?;
+    let longest = tables.limits.block_clocks;
+    ensure(interval <= longest && len <= longest, Code::BadNumber)?;
+    ensure(!tables.blocks.has(name), Code::DoubleName)?;
+    ensure(tables.registers.has(register), Code::UnknownName)?;
+    ensure(tables.blocks.has_room(tables.limits.blocks), Code::TooMany)?;
+    tables.add_block(name)?;
+    let name = Name::new(alloc, name)?;
+    let again = Name::new(alloc, register)?;
+    Ok(Statement::Loop {
+        name,
+        interval,
+        len,
+        again,
+    })
+}
+
 /// `loop N II LEN while R`, behind its keyword.
-#[tactic(auto, unfolding(name_tables::specs::TableTests::fault_by, flow_grammar::specs::Forms::loop_of))]
+#[tactic(auto, unfolding(flow_grammar::specs::Forms::loop_of))]
 pub fn pipelined_loop<'a>(
     alloc: Global,
     tables: &mut Tables<'a>,
@@ -101,23 +147,9 @@ pub fn pipelined_loop<'a>(
     let [name, interval, len, word, register] = tokens else {
         return Err(LineFail::Fault(Code::Syntax));
     };
-    syntax(tables.place.takes_blocks() && is_identifier(name))?;
-    syntax(is_numeral(interval) && is_numeral(len))?;
+    syntax(is_identifier(name) && is_numeral(interval) && is_numeral(len))?;
     syntax(is_word(word, b"while") && is_identifier(register))?;
-    let interval = number_in(interval, 1, BLOCK_CLOCKS).ok_or(LineFail::Fault(Code::BadNumber))?;
-    let len = number_in(len, 1, BLOCK_CLOCKS).ok_or(LineFail::Fault(Code::BadNumber))?;
-    ensure(!tables.blocks.has(name), Code::DoubleName)?;
-    ensure(tables.registers.has(register), Code::UnknownName)?;
-    ensure(tables.blocks.has_room(BLOCKS), Code::TooMany)?;
-    tables.add_block(*name)?;
-    let name = Name::new(alloc, *name)?;
-    let again = Name::new(alloc, *register)?;
-    Ok(Statement::Loop {
-        name,
-        interval,
-        len,
-        again,
-    })
+    new_loop(alloc, tables, *name, *interval, *len, *register)
 }
 
 /// `temp N W`, behind its keyword.
@@ -132,7 +164,7 @@ pub fn temp<'a>(alloc: Global, tables: &mut Tables<'a>, tokens: &[&'a [u8]]) -> 
     syntax(tables.place.takes_temps() && is_identifier(name) && is_numeral(width))?;
     let width = width_of(width).ok_or(LineFail::Fault(Code::BadNumber))?;
     ensure(!tables.has_variable_or_memory(name), Code::DoubleName)?;
-    ensure(tables.temps.has_room(TEMPS), Code::TooMany)?;
+    ensure(tables.temps.has_room(tables.limits.temps), Code::TooMany)?;
     tables.add_temp(*name)?;
     Ok(Statement::Temp(Name::new(alloc, *name)?, width))
 }

@@ -7,26 +7,29 @@ ghost use Rattle.name_tables.specs.TablesOf.{IsOfStatements};
 
 use crate::lines::line_statement;
 use flow_design::Statement;
+use flow_design::limits::Scale;
 use flow_grammar::{LineFail, ReadFail, TextFault};
 use flow_word::{List, OutOfMemory, Words};
 use name_tables::Tables;
 use std::alloc::Global;
 
-/// The statements so far, the number of each one's line, and what they declare.
+/// The statements so far, the number of each one's line, and what they declare, in a session of a scale.
 #[derive(Drop)]
 pub struct Progress<'a> {
+    pub scale: Scale,
     pub tables: Tables<'a>,
     pub statements: List<Statement>,
     pub numbers: Words,
 }
 
 impl<'a> Progress<'a> {
-    /// Nothing.
-    pub fn new(alloc: Global) -> Progress<'a>
-        ensures { IsOpening result }
+    /// Nothing of a session of this scale.
+    pub fn new(alloc: Global, scale: Scale) -> Progress<'a>
+        ensures { IsOpening scale result }
     {
         Progress {
-            tables: Tables::new(alloc),
+            scale,
+            tables: Tables::new(alloc, scale),
             statements: List::new(alloc),
             numbers: List::new(alloc),
         }
@@ -78,7 +81,8 @@ pub fn read_line<'a>(
 ) -> Result<(), ReadFail>
     requires { IsKept progress.old }
     ensures ok { OnOk result (IsAdded progress.old progress.new number line.now) }
-    ensures err { IfErr result (λ fail. TextFails fail (at_line number (line_reading progress.old.statements line.now))) }
+    ensures err { IfErr result (λ fail. TextFails fail
+        (at_line number (line_reading progress.old.scale progress.old.statements line.now))) }
 {
     match numbered_statement(alloc, &mut progress.tables, number, line) {
         Ok(statement) => {

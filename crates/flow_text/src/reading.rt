@@ -4,14 +4,15 @@ ghost use Rattle.std.specs.Option.{option_copied};
 ghost use Rattle.flow_design.specs.declared.session.Statement.{Statement as StatementValue};
 ghost use Rattle.flow_grammar.specs.declared.fault.TextFault.{TextFault as FaultValue};
 ghost use Rattle.flow_grammar.specs.Tokens.{lines_of, is_line_feed};
-ghost use Rattle.flow_grammar.specs.Gives.{TextGives, TextFails, reading};
+ghost use Rattle.flow_grammar.specs.Gives.{TextGives, TextFails, ended, reading};
+ghost use Rattle.flow_grammar.specs.Places.{place as place_behind};
+ghost use Rattle.flow_grammar.specs.Rules.{is_over};
 ghost use Rattle.flow_grammar.specs.Text.{StandsFor, HasFault, IsAnswer, Answers, session_of};
 ghost use Rattle.flow_text.specs.Lines.{lines_left, bytes_left};
 ghost use Rattle.flow_text.specs.Progress.{IsKept, IsOpening, IsThrough, with_front};
-ghost use Rattle.name_tables.specs.TablesOf.{tables_of};
 
 use crate::progress::{Progress, read_line};
-use flow_design::limits::TEXT_BYTES;
+use flow_design::limits::Scale;
 use flow_design::{Session, Statement};
 use flow_grammar::{Code, Place, ReadFail, TextFault};
 use flow_word::{List, Words};
@@ -40,9 +41,9 @@ fn first_line(text: &[u8]) -> (&[u8], Option<&[u8]>)
 
 /// Reads all lines of a text, and tells how many they are.
 fn read_on<'a>(alloc: Global, progress: &mut Progress<'a>, text: &'a [u8]) -> Result<u64, ReadFail>
-    requires { IsOpening progress.old }
-    ensures ok { IfOk result (λ n. IsThrough text.now progress.new n) }
-    ensures err { IfErr result (λ fail. TextFails fail (reading [] 0 (lines_of text.now))) }
+    requires { IsOpening progress.old.scale progress.old }
+    ensures ok { IfOk result (λ n. IsThrough progress.old.scale text.now progress.new n) }
+    ensures err { IfErr result (λ fail. TextFails fail (reading progress.old.scale [] 0 (lines_of text.now))) }
 {
     let mut number = 0u64;
     let mut left = Some(text);
@@ -66,8 +67,8 @@ fn closed(
     numbers: Words,
     lines: u64,
 ) -> Result<(Session, Words), ReadFail>
-    requires { place ≡ (tables_of (reverse statements)).place }
-    ensures { TextGives (λ read. (read.0.statements, read.1)) result (with_front statements numbers (reading statements lines [])) }
+    requires { place ≡ place_behind (reverse statements) }
+    ensures { TextGives (λ read. (read.0.statements, read.1)) result (with_front statements numbers (ended (is_over statements) lines)) }
 {
     if !place.is_end() {
         return Err(ReadFail::Text(TextFault {
@@ -79,15 +80,17 @@ fn closed(
 }
 
 /// The session of what was read, so many lines, or that it has no end.
+#[tactic(auto, unfolding(name_tables::specs::TablesOf::tables_of, flow_grammar::specs::Gives::reading))]
 fn finished(progress: Progress<'_>, lines: u64) -> Result<(Session, Words), ReadFail>
     requires { IsKept progress }
     ensures { TextGives (λ read. (read.0.statements, read.1)) result
-        (with_front progress.entry.statements progress.entry.numbers (reading progress.entry.statements lines [])) }
+        (with_front progress.entry.statements progress.entry.numbers (reading progress.entry.scale progress.entry.statements lines [])) }
 {
     let Progress {
         tables,
         statements,
         numbers,
+        ..
     } = progress;
     let place = tables.place;
     // A call: a drop at the end of the block is proved field by field, which takes a hundred times as long.
@@ -96,10 +99,10 @@ fn finished(progress: Progress<'_>, lines: u64) -> Result<(Session, Words), Read
 }
 
 /// The lines, one after the other.
-fn read_lines(alloc: Global, text: &[u8]) -> Result<(Session, Words), ReadFail>
-    ensures { TextGives (λ read. (read.0.statements, read.1)) result (reading [] 0 (lines_of text.now)) }
+fn read_lines(alloc: Global, scale: Scale, text: &[u8]) -> Result<(Session, Words), ReadFail>
+    ensures { TextGives (λ read. (read.0.statements, read.1)) result (reading scale [] 0 (lines_of text.now)) }
 {
-    let mut progress = Progress::new(alloc);
+    let mut progress = Progress::new(alloc, scale);
     match read_on(alloc, &mut progress, text) {
         Ok(lines) => finished(progress, lines),
         Err(fail) => {
@@ -111,30 +114,29 @@ fn read_lines(alloc: Global, text: &[u8]) -> Result<(Session, Words), ReadFail>
 }
 
 /// The answer to a text.
-#[tactic(auto, using(flow_grammar::proofs::TextLaws::answer_given))]
-fn answer(alloc: Global, text: &[u8]) -> Result<(Session, Words), ReadFail>
-    ensures { IsAnswer text.now (session_of result) }
+fn answer(alloc: Global, scale: Scale, text: &[u8]) -> Result<(Session, Words), ReadFail>
+    ensures { IsAnswer scale text.now (session_of result) }
 {
-    if text.len() as u64 > TEXT_BYTES {
+    if text.len() as u64 > scale.limits().text_bytes {
         return Err(ReadFail::Text(TextFault {
             line: 0,
             code: Code::TooLong,
         }));
     }
-    read_lines(alloc, text)
+    read_lines(alloc, scale, text)
 }
 
-/// The session that a text stands for, with the number of each statement's line, or the fault that the text has: the first
-/// test that its first failing line fails. `OutOfMemory` is the one free answer. Each text stands for one session or has one
-/// fault (`flow_grammar::one_answer`).
+/// The session that a text stands for at a scale, with the number of each statement's line, or the fault that the text has: the
+/// first test that its first failing line fails. `OutOfMemory` is the one free answer. At a scale each text stands for one session
+/// or has one fault (`flow_grammar::one_answer`).
 #[tactic(auto, using(flow_grammar::proofs::TextLaws::only_session, flow_grammar::proofs::TextLaws::only_fault))]
-pub fn read_session(alloc: Global, text: &[u8]) -> Result<(Session, Words), ReadFail>
+pub fn read_session(alloc: Global, scale: Scale, text: &[u8]) -> Result<(Session, Words), ReadFail>
     // What is answered is so.
-    ensures answer { IsAnswer text.now (session_of result) }
+    ensures answer { IsAnswer scale text.now (session_of result) }
     // A text that stands for a session is read as that session.
-    ensures session { (s : Items StatementValue) (l : Items ℕ) → StandsFor text.now s l → Answers (session_of result) (Ok (s, l)) }
+    ensures session { (s : Items StatementValue) (l : Items ℕ) → StandsFor scale text.now s l → Answers (session_of result) (Ok (s, l)) }
     // A text with a fault is refused with that fault.
-    ensures fault { (f : FaultValue) → HasFault text.now f → Answers (session_of result) (Err f) }
+    ensures fault { (f : FaultValue) → HasFault scale text.now f → Answers (session_of result) (Err f) }
 {
-    answer(alloc, text)
+    answer(alloc, scale, text)
 }

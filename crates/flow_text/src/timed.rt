@@ -1,5 +1,5 @@
 //! The form of `at`.
-ghost use Rattle.std.specs.Prelude.{◌≡◌, ◌<◌, ◌∷◌, true, nat_lt, map, option_map, IfOk, Option, Some, None, Ok, Err};
+ghost use Rattle.std.specs.Prelude.{◌≡◌, ◌+◌, ◌<◌, ◌^◌, ◌∷◌, true, nat_lt, map, option_map, IfOk, Option, Some, None, Ok, Err};
 ghost use Rattle.flow_design.specs.declared.session.Statement.TheVariants.{At};
 ghost use Rattle.flow_grammar.specs.Tokens.{is_number, is_name, number_of};
 ghost use Rattle.flow_grammar.specs.Forms.{op_form_of, op_of, if_then, guarded_of, at_of};
@@ -9,12 +9,10 @@ ghost use Rattle.flow_text.specs.Operations as operations;
 ghost use Rattle.flow_text.specs.Operations.{op_reading, timed_reading};
 ghost use Rattle.name_tables.specs.TablesOf.{accepted};
 ghost use Rattle.flow_grammar.specs.Places.{takes_operations};
-ghost use Rattle.flow_design.specs.declared.limits.TheConstants.{OPERATIONS};
 ghost use Rattle.name_tables.specs.TableTests.{reading_by};
 
 use crate::ensure::{Judged, Parsed, ensure, syntax};
 use crate::operations::{TwoNames, load, set, store, try_read, try_write, two_names, write};
-use flow_design::limits::OPERATIONS;
 use flow_design::{Name, Op, Statement};
 use flow_grammar::{
     Code, Known, LineFail, Verb, is_identifier, is_numeral, is_word, number_in, verb_in,
@@ -87,15 +85,16 @@ fn refused(
 {
     syntax(tables.place.takes_operations())?;
     ensure(offset.is_some(), Code::BadNumber)?;
-    let code = first_code(known, tables.operations < OPERATIONS, code);
+    let code = first_code(known, tables.operations < tables.limits.operations, code);
     Err(LineFail::Fault(code))
 }
 
 /// The offset, where what stands beside a whole operation passes its tests.
 fn tested_offset(tables: &Tables<'_>, offset: Option<u64>, known: bool) -> Judged<u64>
     ensures value { result
-        ≡ operations.offset_there (takes_operations tables.now.place) (nat_lt tables.now.operations OPERATIONS) offset known }
-    ensures room { IfOk result (λ _. tables.now.operations < OPERATIONS) }
+        ≡ operations.offset_there (takes_operations tables.now.place) (nat_lt tables.now.operations tables.now.limits.operations)
+        offset known }
+    ensures room { IfOk result (λ _. tables.now.operations + 1 < 2 ^ 64) }
 {
     if !tables.place.takes_operations() {
         return Err(Code::Syntax);
@@ -106,7 +105,7 @@ fn tested_offset(tables: &Tables<'_>, offset: Option<u64>, known: bool) -> Judge
     if !known {
         return Err(Code::UnknownName);
     }
-    if tables.operations >= OPERATIONS {
+    if tables.operations >= tables.limits.operations {
         return Err(Code::TooMany);
     }
     Ok(offset)

@@ -27,9 +27,9 @@ module _ (part : Statement → Option Name) (are : IsPart part) where
 -- what is no channel is no source
 pub new_source : (t : Tables) (n : Name) → IsOfStatements t → is_among t.channels n ≡ false → is_among t.sources n ≡ false
 unfolding tables_of
-new_source t n (earlier, e) h = rw e (absent source_name sources_are earlier n (rw e at h))
+new_source t n (scale, earlier, e) h = rw e (absent source_name sources_are earlier n (rw e at h))
 
 -- and no FIFO
 pub new_fifo : (t : Tables) (n : Name) → IsOfStatements t → is_among t.channels n ≡ false → is_among t.fifos n ≡ false
 unfolding tables_of
-new_fifo t n (earlier, e) h = rw e (absent fifo_name fifos_are earlier n (rw e at h))
+new_fifo t n (scale, earlier, e) h = rw e (absent fifo_name fifos_are earlier n (rw e at h))

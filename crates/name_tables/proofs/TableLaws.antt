@@ -5,7 +5,8 @@ use Rattle.std.specs.List.{list_all}
 use Rattle.std.proofs.lemmas.List.Sums.{sum_by-cons, take_while-cons}
 use Rattle.flow_grammar.specs.declared.fault.Code.TheVariants.{Syntax}
 use Rattle.flow_grammar.specs.Before.{in_body, is_no_module, is_no_block}
-use Rattle.flow_grammar.specs.Before.{is_operation, input_count, is_edit}
+use Rattle.flow_grammar.specs.Before.{word_count, is_operation, input_count, is_edit}
+use Rattle.flow_design.specs.declared.limits.Scale.{Scale}
 use Rattle.flow_design.specs.declared.session.Statement.{Statement}
 use Rattle.flow_design.specs.declared.session.Statement.TheVariants.{Flow}
 use Rattle.flow_grammar.specs.Parts.{Part, parts}
@@ -17,39 +18,44 @@ use Rattle.flow_grammar.specs.Line.{form_fault}
 use Rattle.name_tables.specs.TableTests.{fault_by, form_fault_by, is_new, is_first_input, is_known, has_room}
 
 -- what a part is by the tables and by the grammar
-part_same : (earlier : List Statement) (p : Part)
-    → (is_new (tables_of earlier) p ≡ rules.is_new earlier p) × (is_known (tables_of earlier) p ≡ rules.is_known earlier p)
+part_same : (scale : Scale) (earlier : List Statement) (p : Part)
+    → (is_new (tables_of scale earlier) p ≡ rules.is_new earlier p) × (is_known (tables_of scale earlier) p ≡ rules.is_known earlier p)
 unfolding tables_of
-part_same earlier p = (grind arith, grind arith)
+part_same scale earlier p = (grind arith, grind arith)
 
 -- and what a statement is
-statement_same : (s : Statement) (earlier : List Statement)
-    → (is_first_input (tables_of earlier) s ≡ rules.is_first_input earlier s) × (has_room (tables_of earlier) s ≡ rules.has_room earlier s)
+statement_same : (scale : Scale) (s : Statement) (earlier : List Statement)
+    → (is_first_input (tables_of scale earlier) s ≡ rules.is_first_input earlier s)
+    × (has_room (tables_of scale earlier) s ≡ rules.has_room scale earlier s)
 unfolding tables_of
-statement_same (Flow n) earlier = (refl, refl)
-statement_same s earlier = (refl, refl)
+statement_same scale (Flow n) earlier = (refl, refl)
+statement_same scale s earlier = (refl, refl)
 
-place_same : (s : Statement) (earlier : List Statement) → may_stand s (tables_of earlier).place ≡ may_follow earlier s
+place_same : (scale : Scale) (s : Statement) (earlier : List Statement) → may_stand s (tables_of scale earlier).place ≡ may_follow earlier s
 unfolding tables_of may_follow
-place_same s earlier = refl
+place_same scale s earlier = refl
 
-fault_same : (s : Statement) (earlier : List Statement) → fault_by (tables_of earlier) s ≡ statement_fault earlier s
-unfolding fault_by statement_fault
-fault_same s earlier =
-    λ i. rules.first_broken (list_all rules.is_in_range (parts s))
-    (list_all (λ p. (part_same earlier p).0 i) (parts s) && (statement_same s earlier).0 i)
-    (list_all (λ p. (part_same earlier p).1 i) (parts s)) ((statement_same s earlier).1 i)
+fault_same : (scale : Scale) (s : Statement) (earlier : List Statement)
+    → fault_by (tables_of scale earlier) s ≡ statement_fault scale earlier s
+unfolding fault_by statement_fault tables_of
+fault_same scale s earlier =
+    λ i. rules.first_broken (list_all rules.is_in_range (parts s) && rules.is_sized scale s)
+    (list_all (λ p. (part_same scale earlier p).0 i) (parts s) && (statement_same scale s earlier).0 i)
+    (list_all (λ p. (part_same scale earlier p).1 i) (parts s)) ((statement_same scale s earlier).1 i)
 
 -- the first test that tokens fail, by the tables and by the grammar
-pub form_fault_same : (s : Option Statement) (earlier : List Statement) → form_fault_by (tables_of earlier) s ≡ form_fault earlier s
-form_fault_same None earlier = refl
-form_fault_same (Some s) earlier = λ i. if place_same s earlier i then fault_same s earlier i else Some Syntax
+pub form_fault_same : (scale : Scale) (s : Option Statement) (earlier : List Statement)
+    → form_fault_by (tables_of scale earlier) s ≡ form_fault scale earlier s
+form_fault_same scale None earlier = refl
+form_fault_same scale (Some s) earlier = λ i. if place_same scale s earlier i then fault_same scale s earlier i else Some Syntax
 
 -- the tables of one statement more
-pub accepted_same : (s : Statement) (earlier : List Statement) → accepted (tables_of earlier) s ≡ tables_of (s ∷ earlier)
+pub accepted_same : (scale : Scale) (s : Statement) (earlier : List Statement)
+    → accepted (tables_of scale earlier) s ≡ tables_of scale (s ∷ earlier)
 unfolding tables_of
-accepted_same s earlier =
+accepted_same scale s earlier =
     let own = take_while-cons is_no_module s earlier in let body = take_while-cons is_no_block s earlier in
     let operations = sum_by-cons (λ x. cond (is_operation x) 1 0) s (in_body earlier) in
-    let values = sum_by-cons input_count s earlier in let edits = sum_by-cons (λ x. cond (is_edit x) 1 0) s earlier in
+    let words = sum_by-cons word_count s earlier in let values = sum_by-cons input_count s earlier in
+    let edits = sum_by-cons (λ x. cond (is_edit x) 1 0) s earlier in
     grind arith

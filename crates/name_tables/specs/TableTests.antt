@@ -2,8 +2,7 @@
 use Rattle.std.specs.Prelude.{ℕ, ◌+◌, Bool, true, List, ◌++◌, ◌&&◌, not, nat_le, nat_lt, length, if◌then◌else◌, Option, None, Some, Result}
 use Rattle.std.specs.Prelude.{Err}
 use Rattle.std.specs.List.{list_all}
-use Rattle.flow_design.specs.declared.limits.TheConstants.{MODULES, CHANNELS, REGISTERS, TEMPS, MEMORIES, BLOCKS, OPERATIONS, INPUT_VALUES}
-use Rattle.flow_design.specs.declared.limits.TheConstants.{EDITS}
+use Rattle.flow_design.specs.declared.limits.TheConstants.{ALL_MEMORY_WORDS, EDITS}
 use Rattle.flow_design.specs.declared.session.Statement.{Statement}
 use Rattle.flow_design.specs.declared.session.Statement.TheVariants.{Source, Sink, Fifo, Module, Reg, Mem, Block, Loop, Temp, At, Input}
 use Rattle.flow_design.specs.declared.session.Statement.TheVariants.{Depth}
@@ -11,7 +10,7 @@ use Rattle.flow_grammar.specs.declared.fault.Code.{Code}
 use Rattle.flow_grammar.specs.declared.fault.Code.TheVariants.{Syntax}
 use Rattle.flow_grammar.specs.Places.{may_stand}
 use Rattle.flow_grammar.specs.Before.{is_among}
-use Rattle.flow_grammar.specs.Rules.{is_in_range, has_small_trees, first_broken}
+use Rattle.flow_grammar.specs.Rules.{is_in_range, is_within, has_small_trees, first_broken}
 use Rattle.flow_grammar.specs.Parts.{Part, New, Use, Space, ChannelName, ModuleName, RegisterName, MemoryName, TempName, BlockName, Sort}
 use Rattle.flow_grammar.specs.Parts.{AnyChannel, ASource, AFifo, ARegister, AMemory, AVariable, parts}
 use Rattle.flow_grammar.specs.Gives.{judged}
@@ -52,25 +51,25 @@ is_known t part = true
 
 -- one more of these is not too many
 abbrev pub has_room : Tables → Statement → Bool
-has_room t (Source n w) = nat_lt (length t.channels) CHANNELS
-has_room t (Sink n w) = nat_lt (length t.channels) CHANNELS
-has_room t (Fifo n w depth delay) = nat_lt (length t.channels) CHANNELS
-has_room t (Module n) = nat_lt (length t.modules) MODULES
-has_room t (Reg n w) = nat_lt (length t.registers) REGISTERS
-has_room t (Mem n w l) = nat_lt (length t.memories) MEMORIES
-has_room t (Block n l) = nat_lt (length t.blocks) BLOCKS
-has_room t (Loop n ii l r) = nat_lt (length t.blocks) BLOCKS
-has_room t (Temp n w) = nat_lt (length t.temps) TEMPS
-has_room t (At off guard o) = nat_lt t.operations OPERATIONS && has_small_trees o
-has_room t (Input n values) = nat_le (t.input_values + length values) INPUT_VALUES
+has_room t (Source n w) = nat_lt (length t.channels) t.limits.channels
+has_room t (Sink n w) = nat_lt (length t.channels) t.limits.channels
+has_room t (Fifo n w depth delay) = nat_lt (length t.channels) t.limits.channels
+has_room t (Module n) = nat_lt (length t.modules) t.limits.modules
+has_room t (Reg n w) = nat_lt (length t.registers) t.limits.registers
+has_room t (Mem n w l) = nat_lt (length t.memories) t.limits.memories && nat_le (t.memory_words + l) ALL_MEMORY_WORDS
+has_room t (Block n l) = nat_lt (length t.blocks) t.limits.blocks
+has_room t (Loop n ii l r) = nat_lt (length t.blocks) t.limits.blocks
+has_room t (Temp n w) = nat_lt (length t.temps) t.limits.temps
+has_room t (At off guard o) = nat_lt t.operations t.limits.operations && has_small_trees o
+has_room t (Input n values) = nat_le (t.input_values + length values) t.limits.input_values
 has_room t (Depth n d) = nat_lt t.edits EDITS
 has_room t s = true
 
 -- the first rule that a statement breaks
 unfoldable pub fault_by : Tables → Statement → Option Code
 fault_by t s =
-    first_broken (list_all is_in_range (parts s)) (list_all (is_new t) (parts s) && is_first_input t s) (list_all (is_known t) (parts s))
-    (has_room t s)
+    first_broken (list_all is_in_range (parts s) && is_within t.limits s) (list_all (is_new t) (parts s) && is_first_input t s)
+    (list_all (is_known t) (parts s)) (has_room t s)
 
 -- the first test that tokens fail that write this statement, or none
 abbrev pub form_fault_by : Tables → Option Statement → Option Code

@@ -1,8 +1,10 @@
--- The tables of the statements before a line, the latest first, and what each statement does to them.
+-- The tables of the statements before a line, the latest first, at a scale, and what each statement does to them.
 use Rattle.std.specs.Prelude.{◌≡◌, ℕ, ◌+◌, List, [], ◌∷◌, length}
+use Rattle.flow_design.specs.declared.limits.Scale.{Scale}
 use Rattle.flow_design.specs.declared.session.Statement.{Statement}
 use Rattle.flow_design.specs.declared.session.Statement.TheVariants.{Flow, Source, Sink, Fifo, Module, Reg, Mem, Block, Loop, Temp, At}
 use Rattle.flow_design.specs.declared.session.Statement.TheVariants.{Goto, Branch, Stop, Input, Limits, Depth, End}
+use Rattle.flow_design.specs.Limits.{limits_at}
 use Rattle.flow_grammar.specs.Before as before
 use Rattle.flow_grammar.specs.declared.place.Place.{Place}
 use Rattle.flow_grammar.specs.declared.place.Place.TheVariants.{AmongChannels, AmongRegisters, AmongTemps, AmongOperations, AfterBody}
@@ -14,10 +16,11 @@ abbrev Name : Type 0
 Name = List ℕ
 
 -- the tables of some statements, the latest first
-unfoldable pub tables_of : List Statement → Tables
-tables_of earlier = record {
+unfoldable pub tables_of : Scale → List Statement → Tables
+tables_of scale earlier = record {
   place = place earlier;
   version = before.version earlier;
+  limits = limits_at scale;
   channels = before.channels earlier;
   sources = before.sources earlier;
   fifos = before.fifos earlier;
@@ -27,6 +30,7 @@ tables_of earlier = record {
   blocks = before.blocks earlier;
   temps = before.temps earlier;
   inputs = before.inputs earlier;
+  memory_words = before.memory_words earlier;
   operations = before.operations earlier;
   input_values = before.input_values earlier;
   edits = before.edits earlier;
@@ -54,8 +58,8 @@ with_module t n = record t { place = AmongRegisters; modules = n ∷ t.modules; 
 abbrev pub with_register : Tables → Name → Tables
 with_register t n = record t { place = AmongRegisters; registers = n ∷ t.registers }
 
-abbrev pub with_memory : Tables → Name → Tables
-with_memory t n = record t { place = AmongRegisters; memories = n ∷ t.memories }
+abbrev pub with_memory : Tables → Name → ℕ → Tables
+with_memory t n words = record t { place = AmongRegisters; memories = n ∷ t.memories; memory_words = t.memory_words + words }
 
 -- a body begins with no temp and no operation
 abbrev pub with_block : Tables → Name → Tables
@@ -84,7 +88,7 @@ accepted t (Sink n w) = with_sink t n
 accepted t (Fifo n w depth delay) = with_fifo t n
 accepted t (Module n) = with_module t n
 accepted t (Reg n w) = with_register t n
-accepted t (Mem n w l) = with_memory t n
+accepted t (Mem n w l) = with_memory t n l
 accepted t (Block n l) = with_block t n
 accepted t (Loop n ii l r) = with_block t n
 accepted t (Temp n w) = with_temp t n
@@ -97,6 +101,6 @@ accepted t (Limits c o) = at_place t AmongEdits
 accepted t (Depth n d) = with_edit t
 accepted t End = at_place t AtEnd
 
--- they are the tables of some statements
+-- they are the tables of some statements at some scale
 abbrev pub IsOfStatements : Tables → Type 0
-IsOfStatements t = (earlier : List Statement) × (t ≡ tables_of earlier)
+IsOfStatements t = (scale : Scale) × (earlier : List Statement) × (t ≡ tables_of scale earlier)

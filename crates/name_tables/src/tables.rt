@@ -1,6 +1,6 @@
 //! The tables of what is declared before a line.
 ghost use Rattle.std.specs.Prelude.{◌≡◌, ◌+◌, ◌<◌, ◌≤◌, ◌^◌, [], false, length, OnOk, OnErr, ◌⊎◌};
-ghost use Rattle.flow_design.specs.declared.limits.TheConstants.{OPERATIONS, INPUT_VALUES, EDITS};
+ghost use Rattle.flow_design.specs.declared.limits.TheConstants.{ALL_MEMORY_WORDS, EDITS};
 ghost use Rattle.flow_grammar.specs.Before as before;
 ghost use Rattle.flow_grammar.specs.Before.{is_among};
 ghost use Rattle.flow_grammar.specs.Parts.{RegisterName, TempName, AVariable};
@@ -8,6 +8,7 @@ ghost use Rattle.name_tables.specs.TableTests as tests;
 ghost use Rattle.name_tables.specs.TablesOf as given;
 
 use crate::names::Names;
+use flow_design::limits::{Limits, Scale};
 use flow_grammar::{Known, Place, has_delays};
 use flow_word::OutOfMemory;
 use std::alloc::Global;
@@ -19,6 +20,8 @@ pub struct Tables<'a> {
     pub place: Place,
     /// The version of the language that is declared.
     pub version: u64,
+    /// The limits that the session keeps.
+    pub limits: Limits,
     pub channels: Names<'a>,
     /// The channels that are sources.
     pub sources: Names<'a>,
@@ -35,6 +38,8 @@ pub struct Tables<'a> {
     pub temps: Names<'a>,
     /// The sources that have an `input`.
     pub inputs: Names<'a>,
+    /// The words of all memories.
+    pub memory_words: u64,
     /// How many operations this body has.
     pub operations: u64,
     /// How many values all inputs have.
@@ -53,14 +58,15 @@ impl Known for Tables<'_> {
 }
 
 impl<'a> Tables<'a> {
-    /// The tables of no statement.
+    /// The tables of no statement, in a session of this scale.
     #[tactic(auto, unfolding(crate::specs::TablesOf::tables_of))]
-    pub fn new(alloc: Global) -> Tables<'a>
-        ensures { result ≡ given.tables_of [] }
+    pub fn new(alloc: Global, scale: Scale) -> Tables<'a>
+        ensures { result ≡ given.tables_of scale [] }
     {
         Tables {
             place: Place::AtStart,
             version: 1,
+            limits: scale.limits(),
             channels: Names::new(alloc),
             sources: Names::new(alloc),
             fifos: Names::new(alloc),
@@ -70,6 +76,7 @@ impl<'a> Tables<'a> {
             blocks: Names::new(alloc),
             temps: Names::new(alloc),
             inputs: Names::new(alloc),
+            memory_words: 0,
             operations: 0,
             input_values: 0,
             edits: 0,
@@ -179,14 +186,16 @@ impl<'a> Tables<'a> {
         Ok(())
     }
 
-    /// Adds a memory. After want of memory the tables are as they were.
+    /// Adds a memory of so many words. After want of memory the tables are as they were.
     #[tactic(auto, using(crate::proofs::NameLemmas::absent_append))]
-    pub fn add_memory(&mut self, name: &'a [u8]) -> Result<(), OutOfMemory>
-        requires { is_among (tests.taken self.old RegisterName) name.now ≡ false }
-        ensures ok { OnOk result (self.new ≡ given.with_memory self.old name.now) }
+    pub fn add_memory(&mut self, name: &'a [u8], words: u64) -> Result<(), OutOfMemory>
+        requires new { is_among (tests.taken self.old RegisterName) name.now ≡ false }
+        requires room { self.old.memory_words + words ≤ ALL_MEMORY_WORDS }
+        ensures ok { OnOk result (self.new ≡ given.with_memory self.old name.now words) }
         ensures err { OnErr result (self.new ≡ self.old) }
     {
         self.memories.add(name)?;
+        self.memory_words += words;
         self.place = Place::AmongRegisters;
         Ok(())
     }
@@ -218,7 +227,7 @@ impl<'a> Tables<'a> {
 
     /// Counts an operation.
     pub fn add_operation(&mut self)
-        requires { self.old.operations < OPERATIONS }
+        requires { self.old.operations + 1 < 2 ^ 64 }
         ensures { self.new ≡ given.with_operation self.old }
     {
         self.operations += 1;
@@ -228,7 +237,7 @@ impl<'a> Tables<'a> {
     /// Adds an input of so many values. After want of memory the tables are as they were.
     pub fn add_input(&mut self, name: &'a [u8], count: u64) -> Result<(), OutOfMemory>
         requires new { is_among self.old.inputs name.now ≡ false }
-        requires room { self.old.input_values + count ≤ INPUT_VALUES }
+        requires room { self.old.input_values + count < 2 ^ 64 }
         ensures ok { OnOk result (self.new ≡ given.with_input self.old name.now count) }
         ensures err { OnErr result (self.new ≡ self.old) }
     {

@@ -6,4 +6,4 @@ pub returns-clause-rules : goal.returns-clause-rules
 returns-clause-rules c = reads_back
 
 pub returns-clause-read : goal.returns-clause-read
-returns-clause-read c = λ text s l p short. reads_back s (keeps_rules text s l p) short
+returns-clause-read c = λ scale text s l p short. reads_back scale s (keeps_rules scale text s l p) short

@@ -16,13 +16,15 @@ use Rattle.flow_grammar.specs.Parts.{parts, Part, expr_parts, op_parts}
 use Rattle.flow_grammar.specs.Before.{is_among, is_no_module, is_no_block, channels, registers, memories, temps, channel_name}
 use Rattle.flow_grammar.specs.Before.{register_name, memory_name, temp_name, is_operation, in_body}
 use Rattle.flow_grammar.specs.Places.{may_follow}
-use Rattle.flow_grammar.specs.Rules.{is_well_named, is_in_range, is_new, is_known, has_room, statement_fault, KeepsRules}
+use Rattle.flow_grammar.specs.Rules.{is_well_named, is_in_range, is_new, is_known, is_sized, has_room, statement_fault, KeepsRules}
 use Rattle.flow_grammar.specs.Rules.{KeepsReadingRules, is_small, has_small_trees}
 use Rattle.session_plan.specs.Names.{Name, number_of, Scope}
 use Rattle.session_plan.specs.Sections.{begins, body_of, declared}
 use Rattle.session_plan.specs.declared.section.Level.{Level}
 use Rattle.std.proofs.lemmas.List.Elements.{All-nil, All-cons}
-use Rattle.flow_design.specs.declared.limits.TheConstants.{TEMPS, OPERATIONS, BLOCK_CLOCKS}
+use Rattle.flow_design.specs.declared.limits.TheConstants.{BLOCK_CLOCKS}
+use Rattle.flow_design.specs.declared.limits.Scale.{Scale}
+use Rattle.flow_design.specs.Limits.{limits_at}
 use Rattle.flow_design.specs.declared.expr.Expr.{Expr}
 use Rattle.flow_design.specs.declared.expr.Expr.TheVariants.{Unary}
 use Rattle.flow_design.specs.declared.expr.UnOp.{UnOp}
@@ -46,43 +48,45 @@ use Rattle.flow_design.specs.declared.session.Statement.TheVariants as s
 use Rattle.flow_design.specs.declared.design.Next.TheVariants as next
 use Rattle.session_plan.specs.declared.section.Sort.TheVariants as sort
 
--- the statement keeps the rules behind these, the latest first
-pub record Keeps (earlier : List Statement) (s : Statement) : Type 0 where
+-- the statement keeps the rules at a scale behind these, the latest first
+pub record Keeps (scale : Scale) (earlier : List Statement) (s : Statement) : Type 0 where
   pub named : list_all is_well_named (parts s) ≡ true
   pub permitted : may_follow earlier s ≡ true
   pub ranged : list_all is_in_range (parts s) ≡ true
+  pub sized : is_sized scale s ≡ true
   pub fresh : list_all (is_new earlier) (parts s) ≡ true
   pub known : list_all (is_known earlier) (parts s) ≡ true
-  pub room : has_room earlier s ≡ true
+  pub room : has_room scale earlier s ≡ true
 
 -- each of these keeps them behind those before it
-abbrev pub Follow : List Statement → List Statement → Type 0
-Follow earlier [] = Unit {0}
-Follow earlier (s ∷ rest) = Keeps earlier s × Follow (s ∷ earlier) rest
+abbrev pub Follow : Scale → List Statement → List Statement → Type 0
+Follow scale earlier [] = Unit {0}
+Follow scale earlier (s ∷ rest) = Keeps scale earlier s × Follow scale (s ∷ earlier) rest
 
-keeps : (before : List Statement) (s : Statement) → KeepsRules before s → Keeps (reverse before) s
+keeps : (scale : Scale) (before : List Statement) (s : Statement) → KeepsRules scale before s → Keeps scale (reverse before) s
 unfolding statement_fault
-keeps before s rules = record {
+keeps scale before s rules = record {
   named = rules.well_named;
   permitted = rules.permitted;
   ranged = grind arith;
+  sized = grind arith;
   fresh = grind arith;
   known = grind arith;
   room = grind arith;
 }
 
-following : (front statements : List Statement)
-    → ((i : ℕ) (s : Statement) → slice_get statements i ≡ Some s → KeepsRules (front ++ take i statements) s)
-    → Follow (reverse front) statements
-following front [] each = tt
-following front (s ∷ rest) each = (
-  keeps front s (subst (λ (l : List Statement). KeepsRules l s) (append-nil front) (each 0 s refl)),
-  subst (λ (l : List Statement). Follow l rest) (reverse-append front (s ∷ [])) (following (front ++ s ∷ []) rest (λ i t e.
-      subst (λ (l : List Statement). KeepsRules l t) (sym (append_assoc front (s ∷ []) (take i rest))) (each (suc i) t e))),
+following : (scale : Scale) (front statements : List Statement)
+    → ((i : ℕ) (s : Statement) → slice_get statements i ≡ Some s → KeepsRules scale (front ++ take i statements) s)
+    → Follow scale (reverse front) statements
+following scale front [] each = tt
+following scale front (s ∷ rest) each = (
+  keeps scale front s (subst (λ (l : List Statement). KeepsRules scale l s) (append-nil front) (each 0 s refl)),
+  subst (λ (l : List Statement). Follow scale l rest) (reverse-append front (s ∷ [])) (following scale (front ++ s ∷ []) rest (λ i t e.
+      subst (λ (l : List Statement). KeepsRules scale l t) (sym (append_assoc front (s ∷ []) (take i rest))) (each (suc i) t e))),
 )
 
-pub all_follow : (statements : List Statement) → KeepsReadingRules statements → Follow [] statements
-all_follow statements rules = following [] statements rules.each
+pub all_follow : (scale : Scale) (statements : List Statement) → KeepsReadingRules scale statements → Follow scale [] statements
+all_follow scale statements rules = following scale [] statements rules.each
 
 -- ---- bodies
 
@@ -105,10 +109,11 @@ pub plain_body : (level : Level) (rest : List Statement) → Plain level (body_o
 plain_body level [] = tt
 plain_body level (s ∷ rest) = of_body (Plain level) level s rest tt (λ e. (e, plain_body level rest))
 
-pub follow_body : (level : Level) (earlier rest : List Statement) → Follow earlier rest → Follow earlier (body_of level rest)
-follow_body level earlier [] follow = tt
-follow_body level earlier (s ∷ rest) follow =
-    of_body (Follow earlier) level s rest tt (λ e. (follow.0, follow_body level (s ∷ earlier) rest follow.1))
+pub follow_body : (scale : Scale) (level : Level) (earlier rest : List Statement) → Follow scale earlier rest
+    → Follow scale earlier (body_of level rest)
+follow_body scale level earlier [] follow = tt
+follow_body scale level earlier (s ∷ rest) follow =
+    of_body (Follow scale earlier) level s rest tt (λ e. (follow.0, follow_body scale level (s ∷ earlier) rest follow.1))
 
 -- what stands before, as far as the last beginning
 abbrev pub inside : Level → List Statement → List Statement
@@ -136,24 +141,26 @@ grows level (s ∷ body) plain = (no_beginning level s plain.0, grows level body
 -- ---- counts
 
 -- where each statement that f takes finds fewer than the limit that it took before, it takes at most as many as the limit
-within : {Y : Type 0} (part : List Statement → List Statement) (f : Statement → Option Y) (most : ℕ)
-    → ((earlier : List Statement) (s : Statement) → Keeps earlier s → is_some (f s) ≡ true → length (filter_map f (part earlier)) < most)
-    → (earlier body : List Statement) → Follow earlier body → Grows part body → length (filter_map f (part earlier)) ≤ most
+within : {Y : Type 0} (scale : Scale) (part : List Statement → List Statement) (f : Statement → Option Y) (most : ℕ)
+    → ((earlier : List Statement) (s : Statement) → Keeps scale earlier s → is_some (f s) ≡ true
+    → length (filter_map f (part earlier)) < most)
+    → (earlier body : List Statement) → Follow scale earlier body → Grows part body → length (filter_map f (part earlier)) ≤ most
     → length (filter_map f (part earlier)) + length (filter_map f body) ≤ most
-within part f most few earlier [] follow grown h = omega arith
-within part f most few earlier (s ∷ body) follow grown h =
-    let later = within part f most few (s ∷ earlier) body follow.1 grown.1 in
+within scale part f most few earlier [] follow grown h = omega arith
+within scale part f most few earlier (s ∷ body) follow grown h =
+    let later = within scale part f most few (s ∷ earlier) body follow.1 grown.1 in
     let below = few earlier s follow.0 in
     let more = ap (λ (l : List Statement). length (filter_map f l)) (grown.0 earlier) in
     grind arith
 
 -- the same where nothing stands before
-pub at_most : {Y : Type 0} (part : List Statement → List Statement) (f : Statement → Option Y) (most : ℕ)
-    → ((earlier : List Statement) (s : Statement) → Keeps earlier s → is_some (f s) ≡ true → length (filter_map f (part earlier)) < most)
-    → (earlier body : List Statement) → part earlier ≡ [] → Follow earlier body → Grows part body → length (filter_map f body) ≤ most
-at_most part f most few earlier body nothing follow grown =
+pub at_most : {Y : Type 0} (scale : Scale) (part : List Statement → List Statement) (f : Statement → Option Y) (most : ℕ)
+    → ((earlier : List Statement) (s : Statement) → Keeps scale earlier s → is_some (f s) ≡ true
+    → length (filter_map f (part earlier)) < most)
+    → (earlier body : List Statement) → part earlier ≡ [] → Follow scale earlier body → Grows part body → length (filter_map f body) ≤ most
+at_most scale part f most few earlier body nothing follow grown =
     let none : length (filter_map f (part earlier)) ≡ 0 = ap (λ (l : List Statement). length (filter_map f l)) nothing in
-    let all = within part f most few earlier body follow grown (omega arith) in
+    let all = within scale part f most few earlier body follow grown (omega arith) in
     omega arith
 
 -- what takes the same statements takes as many
@@ -208,6 +215,9 @@ both_more f names s before after h = (heard_more f names s before after h.0 h.1,
 
 pub in_range : (least n most : ℕ) → nat_le least n && nat_le n most ≡ true → (least ≤ n) × (n ≤ most)
 in_range least n most h = (grind (arith, nat_tests), grind (arith, nat_tests))
+
+pub at_most_as : (n most : ℕ) → nat_le n most ≡ true → n ≤ most
+at_most_as n most h = grind (arith, nat_tests)
 
 -- ---- sizes
 
@@ -411,76 +421,82 @@ abbrev pub TimedRead : Scope → Timed → Type 0
 TimedRead own t = IfSome t.guard (λ g. g < length (places own))
     × OpRead (length (places own)) (length own.memories) (length own.channels) t.op
 
-at_read : (earlier : List Statement) (own : Scope) → Within (registers earlier ++ temps earlier) (places own)
+at_read : (scale : Scale) (earlier : List Statement) (own : Scope) → Within (registers earlier ++ temps earlier) (places own)
     → Within (memories earlier) own.memories → Within (channels earlier) own.channels
-    → (offset : ℕ) (guard : Option Name) (o : Op Name) → Keeps earlier (s.At offset guard o)
+    → (offset : ℕ) (guard : Option Name) (o : Op Name) → Keeps scale earlier (s.At offset guard o)
     → TimedRead own (record { offset = offset; guard = option_map (number_of (places own)) guard; op = operation own o })
-at_read earlier own v m c offset None o keeps =
+at_read scale earlier own v m c offset None o keeps =
     let small = and_parts _ _ keeps.room in
     (tt, op_read earlier own v m c o keeps.known small.1)
-at_read earlier own v m c offset (Some r) o keeps =
+at_read scale earlier own v m c offset (Some r) o keeps =
     let small = and_parts _ _ keeps.room in let both = and_parts _ _ keeps.known in
     (number_below (places own) r (v r both.0), op_read earlier own v m c o both.1 small.1)
 
-timed_more : (earlier : List Statement) (own : Scope) → Within (registers earlier ++ temps earlier) (places own)
+timed_more : (scale : Scale) (earlier : List Statement) (own : Scope) → Within (registers earlier ++ temps earlier) (places own)
     → Within (memories earlier) own.memories → Within (channels earlier) own.channels
-    → (x : Statement) → Keeps earlier x → (later : List Timed) → All (TimedRead own) later
+    → (x : Statement) → Keeps scale earlier x → (later : List Timed) → All (TimedRead own) later
     → All (TimedRead own) (cons_option (timed own x) later)
-timed_more earlier own v m c (s.At offset guard o) keeps later h
-    = All-cons (TimedRead own) _ later (at_read earlier own v m c offset guard o keeps) h
-timed_more earlier own v m c x keeps later h = h
+timed_more scale earlier own v m c (s.At offset guard o) keeps later h
+    = All-cons (TimedRead own) _ later (at_read scale earlier own v m c offset guard o keeps) h
+timed_more scale earlier own v m c x keeps later h = h
 
-pub ops_read : (own : Scope) (earlier body : List Statement) → Follow earlier body → Plain level.Modules body → Plain level.Blocks body
+pub ops_read : (scale : Scale) (own : Scope) (earlier body : List Statement) → Follow scale earlier body → Plain level.Modules body
+    → Plain level.Blocks body
     → Hears own earlier body → Both temp_name own.temps (inside level.Blocks earlier) body
     → All (TimedRead own) (filter_map (timed own) body)
-ops_read own earlier [] follow pm pb hears t = All-nil (TimedRead own)
-ops_read own earlier (x ∷ body) follow pm pb hears t =
-    timed_more earlier own (within_both (registers earlier) (temps earlier) own.registers own.temps hears.registers.0 t.0)
+ops_read scale own earlier [] follow pm pb hears t = All-nil (TimedRead own)
+ops_read scale own earlier (x ∷ body) follow pm pb hears t =
+    timed_more scale earlier own (within_both (registers earlier) (temps earlier) own.registers own.temps hears.registers.0 t.0)
     hears.memories.0 hears.channels.0 x follow.0 (filter_map (timed own) body)
-    (ops_read own (x ∷ earlier) body follow.1 pm.1 pb.1 (hears_more own earlier x body pm.0 hears)
+    (ops_read scale own (x ∷ earlier) body follow.1 pm.1 pb.1 (hears_more own earlier x body pm.0 hears)
     (rw (no_beginning level.Blocks x pb.0 earlier) (both_more temp_name own.temps x (inside level.Blocks earlier) body t)))
 
 -- ---- the terminator
 
-next_more : (own : Scope) (earlier : List Statement) (x : Statement) → Keeps earlier x → Within (registers earlier) own.registers
+next_more : (scale : Scale) (own : Scope) (earlier : List Statement) (x : Statement) → Keeps scale earlier x
+    → Within (registers earlier) own.registers
     → (later : List Next)
     → IsNextRead (length own.registers) (first_or next.Stop later)
     → IsNextRead (length own.registers) (first_or next.Stop (cons_option (terminator own x) later))
-next_more own earlier (s.Goto b) keeps heard later h = tt
-next_more own earlier (s.Branch r b c) keeps heard later h =
+next_more scale own earlier (s.Goto b) keeps heard later h = tt
+next_more scale own earlier (s.Branch r b c) keeps heard later h =
     let known = and_parts _ _ keeps.known in
     number_below own.registers r (heard r known.0)
-next_more own earlier s.Stop keeps heard later h = tt
-next_more own earlier x keeps heard later h = h
+next_more scale own earlier s.Stop keeps heard later h = tt
+next_more scale own earlier x keeps heard later h = h
 
-pub next_read : (own : Scope) (earlier body : List Statement) → Follow earlier body → Plain level.Modules body → Hears own earlier body
+pub next_read : (scale : Scale) (own : Scope) (earlier body : List Statement) → Follow scale earlier body → Plain level.Modules body
+    → Hears own earlier body
     → IsNextRead (length own.registers) (first_or next.Stop (filter_map (terminator own) body))
-next_read own earlier [] follow pm hears = tt
-next_read own earlier (x ∷ body) follow pm hears =
-    next_more own earlier x follow.0 hears.registers.0 (filter_map (terminator own) body)
-    (next_read own (x ∷ earlier) body follow.1 pm.1 (hears_more own earlier x body pm.0 hears))
+next_read scale own earlier [] follow pm hears = tt
+next_read scale own earlier (x ∷ body) follow pm hears =
+    next_more scale own earlier x follow.0 hears.registers.0 (filter_map (terminator own) body)
+    (next_read scale own (x ∷ earlier) body follow.1 pm.1 (hears_more own earlier x body pm.0 hears))
 
 -- ---- blocks
 
-pub few_temps : (earlier : List Statement) (x : Statement) → Keeps earlier x → is_some (declared sort.Temps x) ≡ true
-    → length (filter_map (declared sort.Temps) (inside level.Blocks earlier)) < TEMPS
-few_temps earlier x keeps h =
+pub few_temps : (scale : Scale) (earlier : List Statement) (x : Statement) → Keeps scale earlier x → is_some (declared sort.Temps x) ≡ true
+    → length (filter_map (declared sort.Temps) (inside level.Blocks earlier)) < (limits_at scale).temps
+few_temps scale earlier x keeps h =
     let room = keeps.room in let long = as_many temp_name (declared sort.Temps) (λ y. ap is_some (temp_same y)) (in_body earlier) in
     grind (arith, nat_tests)
 
-pub few_operations : (own : Scope) (earlier : List Statement) (x : Statement) → Keeps earlier x → is_some (timed own x) ≡ true
-    → length (filter_map (timed own) (inside level.Blocks earlier)) < OPERATIONS
-few_operations own earlier x keeps h =
+pub few_operations : (scale : Scale) (own : Scope) (earlier : List Statement) (x : Statement) → Keeps scale earlier x
+    → is_some (timed own x) ≡ true
+    → length (filter_map (timed own) (inside level.Blocks earlier)) < (limits_at scale).operations
+few_operations scale own earlier x keeps h =
     let room = keeps.room in let long = counted is_operation (timed own) (λ y. grind arith) (in_body earlier) in grind (arith, nat_tests)
 
-pub len_read : (earlier : List Statement) (head : Statement) → begins level.Blocks head ≡ true → Keeps earlier head → (1 ≤ len_of head)
-    × (len_of head ≤ BLOCK_CLOCKS)
-len_read earlier head b keeps = let ranged = keeps.ranged in (grind (arith, nat_tests), grind (arith, nat_tests))
+pub len_read : (scale : Scale) (earlier : List Statement) (head : Statement) → begins level.Blocks head ≡ true
+    → Keeps scale earlier head → (1 ≤ len_of head)
+    × (len_of head ≤ (limits_at scale).block_clocks)
+len_read scale earlier head b keeps =
+    let ranged = keeps.ranged in let sized = keeps.sized in (grind (arith, nat_tests), grind (arith, nat_tests))
 
-pub kind_read : (scope : Scope) (earlier : List Statement) (head : Statement) → Keeps earlier head
+pub kind_read : (scale : Scale) (scope : Scope) (earlier : List Statement) (head : Statement) → Keeps scale earlier head
     → Within (registers earlier) scope.registers → IsKindRead (length scope.registers) (kind_of scope head)
-kind_read scope earlier (s.Loop n ii len again) keeps heard =
+kind_read scale scope earlier (s.Loop n ii len again) keeps heard =
     let first = and_parts _ _ keeps.ranged in let interval = in_range 1 ii BLOCK_CLOCKS first.0 in
     let known = and_parts _ _ keeps.known in
     (interval.0, number_below scope.registers again (heard again known.0))
-kind_read scope earlier x keeps heard = tt
+kind_read scale scope earlier x keeps heard = tt

@@ -1,14 +1,16 @@
 -- The first of a plan that breaks a rule, and the order of items.
 use Rattle.std.proofs.Common.{◌≡◌, ℕ, zero, suc, ◌+◌, ◌<◌, ◌≤◌, List, [], ◌∷◌, ◌++◌, length, take, Option, None, Some, option_map, Bool}
 use Rattle.std.proofs.Common.{true, false, cond, refl, sym, ap, subst, ◌∙◌, arith, true≢false, inl, inr, append_assoc, append-nil}
-use Rattle.std.proofs.Common.{slice_get}
+use Rattle.std.proofs.Common.{slice_get, drop, get_or}
 use Rattle.std.specs.Prelude.{◌⊎◌}
 use Rattle.std.proofs.lemmas.Bool.{cond_both}
+use Rattle.std.proofs.lemmas.List.{at_drop_more}
 use Rattle.std.proofs.lemmas.Option.{cond_some, some_pair_parts}
 use Rattle.std.specs.List.{enumerate_from}
 use Rattle.flow_design.specs.declared.design.Block.{Block}
 use Rattle.flow_design.specs.declared.design.Channel.{Channel}
 use Rattle.flow_design.specs.declared.design.Module.{Module}
+use Rattle.flow_design.specs.declared.limits.Scale.{Scale}
 use Rattle.flow_design.specs.declared.plan.Plan.{Plan}
 use Rattle.flow_grammar.specs.declared.fault.Code.{Code}
 use Rattle.flow_check.specs.declared.item.Spot.{Spot}
@@ -51,6 +53,18 @@ mapped f None y h = absurd cc
 mapped f (Some x) y h = (x, refl, cc)
 
 -- ---- the first of a list
+
+-- where none before gives anything, what this one gives is found
+pub found_here : {A B C : Type 0} (f : A → Option B) (g : ℕ × B → C) (xs : List A) (at : ℕ) (x : A) (y : B)
+    → first_in f xs ≡ option_map (λ p. (at + p.0, p.1)) (first_in f (drop at xs)) → at < length xs → x ≡ get_or xs at x → f x ≡ Some y
+    → Some (g (at, y)) ≡ option_map g (first_in f xs)
+found_here {A} {B} f g xs at x y before there is gives =
+    let here : first_in f (drop at xs) ≡ Some (0, y)
+    = at_drop_more (first_in f) xs at x there
+    ∙ ap (λ (o : Option B). sooner o (first_in f (drop (at + 1) xs))) (ap f (sym is) ∙ gives) in
+    let place : at ≡ at + 0 = omega arith in
+    ap (λ (k : ℕ). Some (g (k, y))) place
+    ∙ sym (ap (option_map g) (before ∙ ap (option_map (λ (p : ℕ × B). (at + p.0, p.1))) here))
 
 -- what f gives at the first item passes the test of what f gives there
 pub in_some : {A B : Type 0} (f : A → Option B) (test : B → A → Bool) → ((x : A) (v : B) → f x ≡ Some v → test v x ≡ true)
@@ -128,47 +142,51 @@ where_least p xs j is = let least = behind_least (λ earlier. p) [] xs j is in (
 
 -- ---- of a block
 
-pub spot_some : (rule : Code) (m : Module) (b : Block) (a : Spot) → spot rule m b ≡ Some a → spot_breaks rule m b a ≡ true
-spot_some code.UnknownName m b a h =
+pub spot_some : (scale : Scale) (rule : Code) (m : Module) (b : Block) (a : Spot) → spot scale rule m b ≡ Some a
+    → spot_breaks scale rule m b a ≡ true
+spot_some scale code.UnknownName m b a h =
     let p = cond_some (leads_out (length m.blocks) b.next) Terminator a h in rw (← p.1) p.0
-spot_some code.PortClash m b a h =
+spot_some scale code.PortClash m b a h =
     let p = mapped Operation (first_behind (clashes b.kind) [] b.ops) a h in rw (← p.2) (behind_some (clashes b.kind) [] b.ops p.0 p.1)
-spot_some code.BadLoop m b a h =
-    let p = cond_some (is_bad_loop b.len b.kind) Head a h in rw (← p.1) p.0
-spot_some code.BadOffset m b a h =
+spot_some scale code.BadLoop m b a h =
+    let p = cond_some (is_bad_loop scale b.len b.kind) Head a h in rw (← p.1) p.0
+spot_some scale code.BadOffset m b a h =
     let p = mapped Operation (place_where (is_too_late b.len) b.ops) a h in rw (← p.2) (where_some (is_too_late b.len) b.ops p.0 p.1)
-spot_some code.WrongSide m b a h =
+spot_some scale code.WrongSide m b a h =
     let p = mapped Operation (place_where (is_on_wrong_side m) b.ops) a h in rw (← p.2) (where_some (is_on_wrong_side m) b.ops p.0 p.1)
-spot_some rule m b a h = absurd cc
+spot_some scale rule m b a h = absurd cc
 
-pub spot_least : (rule : Code) (m : Module) (b : Block) (d : Spot) → spot_breaks rule m b d ≡ true
-    → (a : Spot) × (spot rule m b ≡ Some a) × SpotUpto a d
-spot_least code.UnknownName m b Terminator h = (Terminator, ap (λ (c : Bool). cond c (Some Terminator) None) h, tt)
-spot_least code.PortClash m b (Operation k) h =
+pub spot_least : (scale : Scale) (rule : Code) (m : Module) (b : Block) (d : Spot) → spot_breaks scale rule m b d ≡ true
+    → (a : Spot) × (spot scale rule m b ≡ Some a) × SpotUpto a d
+spot_least scale code.UnknownName m b Terminator h = (Terminator, ap (λ (c : Bool). cond c (Some Terminator) None) h, tt)
+spot_least scale code.PortClash m b (Operation k) h =
     let found = behind_least (clashes b.kind) [] b.ops k h in (Operation found.0, ap (option_map Operation) found.1, found.2)
-spot_least code.BadLoop m b Head h = (Head, ap (λ (c : Bool). cond c (Some Head) None) h, tt)
-spot_least code.BadOffset m b (Operation k) h =
+spot_least scale code.BadLoop m b Head h = (Head, ap (λ (c : Bool). cond c (Some Head) None) h, tt)
+spot_least scale code.BadOffset m b (Operation k) h =
     let found = where_least (is_too_late b.len) b.ops k h in (Operation found.0, ap (option_map Operation) found.1, found.2)
-spot_least code.WrongSide m b (Operation k) h =
+spot_least scale code.WrongSide m b (Operation k) h =
     let found = where_least (is_on_wrong_side m) b.ops k h in (Operation found.0, ap (option_map Operation) found.1, found.2)
-spot_least rule m b d h = absurd (true≢false (sym h))
+spot_least scale rule m b d h = absurd (true≢false (sym h))
 
 -- ---- of a plan
 
-module _ (plan : Plan) (rule : Code) where
-  pub module_some : (i : Item) → option_map in_module (first_in (spot_in rule) plan.design.modules) ≡ Some i → breaks plan rule i ≡ true
+module _ (scale : Scale) (plan : Plan) (rule : Code) where
+  pub module_some : (i : Item) → option_map in_module (first_in (spot_in scale rule) plan.design.modules) ≡ Some i
+      → breaks scale plan rule i ≡ true
   module_some i h =
-      let p = mapped in_module (first_in (spot_in rule) plan.design.modules) i h in
-      rw (← p.2) (in_some (spot_in rule) (λ v own. passes (λ (b : Block). spot_breaks rule own b v.1) (slice_get own.blocks v.0))
-      (λ own v. in_some (spot rule own) (λ a b. spot_breaks rule own b a) (spot_some rule own) own.blocks v.0 v.1)
+      let p = mapped in_module (first_in (spot_in scale rule) plan.design.modules) i h in
+      rw (← p.2) (in_some (spot_in scale rule)
+      (λ v own. passes (λ (b : Block). spot_breaks scale rule own b v.1) (slice_get own.blocks v.0))
+      (λ own v. in_some (spot scale rule own) (λ a b. spot_breaks scale rule own b a) (spot_some scale rule own) own.blocks v.0 v.1)
       plan.design.modules (p.0).0 (p.0).1 p.1)
 
-  pub module_least : (n c : ℕ) (d : Spot) → breaks plan rule (item.InModule n (c, d)) ≡ true
-      → (i : Item) × (option_map in_module (first_in (spot_in rule) plan.design.modules) ≡ Some i) × Upto i (item.InModule n (c, d))
+  pub module_least : (n c : ℕ) (d : Spot) → breaks scale plan rule (item.InModule n (c, d)) ≡ true
+      → (i : Item) × (option_map in_module (first_in (spot_in scale rule) plan.design.modules) ≡ Some i) × Upto i (item.InModule n (c, d))
   module_least n c d h =
-      let least = in_least (spot_in rule) (λ own. passes (λ (b : Block). spot_breaks rule own b d) (slice_get own.blocks c))
+      let least = in_least (spot_in scale rule) (λ own. passes (λ (b : Block). spot_breaks scale rule own b d) (slice_get own.blocks c))
       (λ w. (w.0 < c) ⊎ ((w.0 ≡ c) × SpotUpto w.1 d))
-      (λ own. in_least (spot rule own) (λ b. spot_breaks rule own b d) (λ a. SpotUpto a d) (λ b. spot_least rule own b d) own.blocks c)
+      (λ own. in_least (spot scale rule own) (λ b. spot_breaks scale rule own b d) (λ a. SpotUpto a d) (λ b. spot_least scale rule own b d)
+      own.blocks c)
       plan.design.modules n h in
       (in_module least.0, ap (option_map in_module) least.1, least.2)
 
@@ -180,9 +198,10 @@ enumerated {A} (x ∷ xs) n (suc k) =
     enumerated xs (n + 1) k ∙ ap (λ (i : ℕ). option_map (λ (y : A). (i, y)) (slice_get xs k)) on
 
 -- a channel with its number, and the channel of a number
-lacking : (plan : Plan) (f : ℕ) → passes (lacks_users plan.design.modules) (slice_get (enumerate_from 0 plan.design.channels) f)
-    ≡ breaks plan code.Ends (item.Channel f)
-lacking plan f =
+lacking : (scale : Scale) (plan : Plan) (f : ℕ)
+    → passes (lacks_users plan.design.modules) (slice_get (enumerate_from 0 plan.design.channels) f)
+    ≡ breaks scale plan code.Ends (item.Channel f)
+lacking scale plan f =
     ap (passes (lacks_users plan.design.modules)) (enumerated plan.design.channels 0 f) ∙ by (slice_get plan.design.channels f)
   where
     by : (o : Option Channel) → passes (lacks_users plan.design.modules) (option_map (λ x. (0 + f, x)) o)
@@ -190,26 +209,28 @@ lacking plan f =
     by None = refl
     by (Some c) = ap (λ (k : ℕ). lacks_users plan.design.modules (k, c)) (omega arith)
 
-pub broken_some : (plan : Plan) (rule : Code) (i : Item) → broken_by plan rule ≡ Some i → breaks plan rule i ≡ true
-broken_some plan code.BadLimit i h =
-    let p = cond_some (breaks_limits plan.cycles plan.ops) item.Limits i h in rw (← p.1) p.0
-broken_some plan code.Ends i h =
+pub broken_some : (scale : Scale) (plan : Plan) (rule : Code) (i : Item) → broken_by scale plan rule ≡ Some i
+    → breaks scale plan rule i ≡ true
+broken_some scale plan code.BadLimit i h =
+    let p = cond_some (breaks_limits scale plan.cycles plan.ops) item.Limits i h in rw (← p.1) p.0
+broken_some scale plan code.Ends i h =
     let p = mapped item.Channel (place_where (lacks_users plan.design.modules) (enumerate_from 0 plan.design.channels)) i h in
-    rw (← p.2) (sym (lacking plan p.0)
+    rw (← p.2) (sym (lacking scale plan p.0)
     ∙ where_some (lacks_users plan.design.modules) (enumerate_from 0 plan.design.channels) p.0 p.1)
-broken_some plan rule i h = module_some plan rule i h
+broken_some scale plan rule i h = module_some scale plan rule i h
 
-pub broken_least : (plan : Plan) (rule : Code) (j : Item) → breaks plan rule j ≡ true → (i : Item) × (broken_by plan rule ≡ Some i)
+pub broken_least : (scale : Scale) (plan : Plan) (rule : Code) (j : Item) → breaks scale plan rule j ≡ true
+    → (i : Item) × (broken_by scale plan rule ≡ Some i)
     × Upto i j
-broken_least plan code.BadLimit item.Limits h = (item.Limits, ap (λ (c : Bool). cond c (Some item.Limits) None) h, tt)
-broken_least plan code.Ends (item.Channel f) h =
-    let found = where_least (lacks_users plan.design.modules) (enumerate_from 0 plan.design.channels) f (lacking plan f ∙ h) in
+broken_least scale plan code.BadLimit item.Limits h = (item.Limits, ap (λ (c : Bool). cond c (Some item.Limits) None) h, tt)
+broken_least scale plan code.Ends (item.Channel f) h =
+    let found = where_least (lacks_users plan.design.modules) (enumerate_from 0 plan.design.channels) f (lacking scale plan f ∙ h) in
     (item.Channel found.0, ap (option_map item.Channel) found.1, found.2)
-broken_least plan code.BadLimit (item.InModule n (c, d)) h = absurd (grind arith)
-broken_least plan code.Ends (item.InModule n (c, d)) h = absurd (grind arith)
-broken_least plan rule (item.InModule n (c, d)) h = module_least plan rule n c d h
-broken_least plan rule item.Limits h = absurd (true≢false (sym h))
-broken_least plan rule (item.Channel f) h = absurd (grind arith)
+broken_least scale plan code.BadLimit (item.InModule n (c, d)) h = absurd (grind arith)
+broken_least scale plan code.Ends (item.InModule n (c, d)) h = absurd (grind arith)
+broken_least scale plan rule (item.InModule n (c, d)) h = module_least scale plan rule n c d h
+broken_least scale plan rule item.Limits h = absurd (true≢false (sym h))
+broken_least scale plan rule (item.Channel f) h = absurd (grind arith)
 
 -- ---- the items of the statements of a session stand in order
 

@@ -1,9 +1,9 @@
--- A plan that was read breaks no rule of checking exactly where the engine takes it.
-use Rattle.std.proofs.Common.{◌≡◌, ℕ, zero, suc, ◌+◌, ◌%◌, ◌<◌, List, [], ◌∷◌, ◌++◌, length, take, get_or, Option, None, Some, IfSome}
+-- A plan that was read breaks no rule of checking at a scale exactly where the engine takes it, and it keeps the scale.
+use Rattle.std.proofs.Common.{◌≡◌, ℕ, zero, suc, ◌+◌, ◌%◌, ◌<◌, ◌≤◌, List, [], ◌∷◌, ◌++◌, length, take, get_or, Option, None, Some, IfSome}
 use Rattle.std.proofs.Common.{option_map, Bool, true, false, cond, refl, sym, ap, ◌∙◌, arith, true≢false, append_assoc, append-nil, subst}
 use Rattle.std.specs.Prelude.{◌==◌, nat_lt, slice_get, IsTrue}
 use Rattle.std.specs.List.{All, AllPairs, enumerate_from}
-use Rattle.std.proofs.Math.Nat.{mod-eq_of_lt}
+use Rattle.std.proofs.Math.Nat.{le_trans, mod-eq_of_lt}
 use Rattle.std.proofs.lemmas.Bool.{and_parts, eqb-true, eq-eqb, and_from, lt-ltb, not_from_true, false_from_ne_true}
 use Rattle.std.proofs.lemmas.List.{get_or-take, length-take, get_or_default}
 use Rattle.std.proofs.lemmas.List.Folds.{list_any_at, list_any_none}
@@ -22,6 +22,8 @@ use Rattle.flow_design.specs.Operations.{port_of, used_port}
 use Rattle.flow_design.specs.Plans.{no_channel, kind_at}
 use Rattle.flow_design.specs.StaticRules.{same_port, uses, IsTimedSound, IsKindSound, IsNextSound, Clashes, IsBlockSound, IsModuleSound}
 use Rattle.flow_design.specs.StaticRules.{IsChannelSound, FitsEngine}
+use Rattle.flow_design.specs.declared.limits.Scale.{Scale}
+use Rattle.flow_design.specs.Limits.{limits_at}
 use Rattle.session_plan.proofs.Giving.{numbered_at}
 use Rattle.flow_grammar.specs.declared.fault.Code.{Code}
 use Rattle.flow_check.specs.declared.item.Spot.TheVariants.{Head, Operation, Terminator}
@@ -32,6 +34,8 @@ use Rattle.flow_check.specs.Rules.{takes_again, clashes, is_bad_loop, is_too_lat
 use Rattle.flow_check.specs.Rules.{broken_by, rules, checking_fault, Slot}
 use Rattle.flow_check.proofs.Firsts.{where_behind, behind_least}
 use Rattle.std.proofs.lemmas.Option.{none-some, slice_get-get_or}
+use Rattle.flow_check.specs.Scales.{IsLive, IsBlockWithin, KeepsScale}
+use Rattle.flow_check.proofs.Scales.{limits_most, live_most, at_pace}
 use Rattle.flow_check.specs.Read.{IsTimedRead, IsKindRead, IsNextRead, IsBlockRead, IsPlanRead}
 use Rattle.flow_grammar.specs.declared.fault.Code.TheVariants as code
 
@@ -88,11 +92,20 @@ side_kept m a h = grind arith
 
 -- ---- blocks
 
-kind_sound : (registers len : ℕ) (kind : BlockKind) → IsKindRead registers kind → is_bad_loop len kind ≡ false
+kept_live : (scale : Scale) (len : ℕ) (kind : BlockKind) → is_bad_loop scale len kind ≡ false → IsLive scale len kind
+kept_live scale len kind h = grind (arith, nat_tests)
+
+kind_sound : (scale : Scale) (registers len : ℕ) (kind : BlockKind) → IsKindRead registers kind → is_bad_loop scale len kind ≡ false
     → IsKindSound registers len kind
-kind_sound registers len Plain read h = tt
-kind_sound registers len (Loop ii again) read h =
-    record { interval = read.0; least = grind (arith, nat_tests); most = grind (arith, nat_tests); register = read.1 }
+kind_sound scale registers len Plain read h = tt
+kind_sound scale registers len (Loop ii again) read h =
+    let live = kept_live scale len (Loop ii again) h in
+    record {
+      interval = read.0;
+      least = grind (arith, nat_tests);
+      most = le_trans live (live_most scale ii);
+      register = read.1;
+    }
 
 next_sound : (registers blocks : ℕ) (next : Next) → IsNextRead registers next → leads_out blocks next ≡ false
     → IsNextSound registers blocks next
@@ -132,14 +145,15 @@ timed_sound channels own block t was early right = record {
   };
 }
 
-block_sound : (channels : ℕ) (own : Module) (block : Block) → IsBlockRead channels own block → ((rule : Code) → spot rule own block ≡ None)
+block_sound : (scale : Scale) (channels : ℕ) (own : Module) (block : Block) → IsBlockRead scale channels own block → ((rule : Code)
+    → spot scale rule own block ≡ None)
     → IsBlockSound channels own block
-block_sound channels own block was none = record {
+block_sound scale channels own block was none = record {
   least = was.least;
-  most = was.most;
-  kind = kind_sound (length own.registers) block.len block.kind was.kind (let kept = none code.BadLoop in grind arith);
-  temps = was.temps;
-  count = was.count;
+  most = le_trans was.most (limits_most scale).block_clocks;
+  kind = kind_sound scale (length own.registers) block.len block.kind was.kind (let kept = none code.BadLoop in grind arith);
+  temps = le_trans was.temps (limits_most scale).temps;
+  count = le_trans was.count (limits_most scale).operations;
   operations = each;
   apart = apart block (none_mapped Operation _ (none code.PortClash)) (λ i d there. (each i d there).offset);
   next = next_sound (length own.registers) (length own.blocks) block.next was.next (let kept = none code.UnknownName in grind arith);
@@ -153,13 +167,18 @@ block_sound channels own block was none = record {
 
 -- ---- modules and channels
 
-module _ (plan : Plan) (read : IsPlanRead plan) (faultless : (rule : Code) → first_in (spot_in rule) plan.design.modules ≡ None) where
+-- where the head of a block is not at fault, its test fails
+no_head : (bad : Bool) → cond bad (Some Head) None ≡ None → bad ≡ false
+no_head bad h = grind arith
+
+module _ (scale : Scale) (plan : Plan) (read : IsPlanRead scale plan)
+    (faultless : (rule : Code) → first_in (spot_in scale rule) plan.design.modules ≡ None) where
   none_at : (rule : Code) (m : ℕ) (dm : Module) → m < length plan.design.modules → (b : ℕ) (db : Block)
       → b < length (get_or plan.design.modules m dm).blocks
-      → spot rule (get_or plan.design.modules m dm) (get_or (get_or plan.design.modules m dm).blocks b db) ≡ None
+      → spot scale rule (get_or plan.design.modules m dm) (get_or (get_or plan.design.modules m dm).blocks b db) ≡ None
   none_at rule m dm lm b db lb =
-      none_in (spot rule (get_or plan.design.modules m dm)) (get_or plan.design.modules m dm).blocks
-      (none_in (spot_in rule) plan.design.modules (faultless rule) m dm lm) b db lb
+      none_in (spot scale rule (get_or plan.design.modules m dm)) (get_or plan.design.modules m dm).blocks
+      (none_in (spot_in scale rule) plan.design.modules (faultless rule) m dm lm) b db lb
 
   module_sound : (m : ℕ) (dm : Module) → m < length plan.design.modules
       → IsModuleSound (length plan.design.channels) (get_or plan.design.modules m dm)
@@ -167,18 +186,26 @@ module _ (plan : Plan) (read : IsPlanRead plan) (faultless : (rule : Code) → f
       let was = read.modules m dm lm in
       record {
         name = was.name;
-        registers = was.registers;
-        memories = was.memories;
-        words = was.words;
+        registers = le_trans was.registers (limits_most scale).registers;
+        memories = le_trans was.memories (limits_most scale).memories;
+        words = λ w dw lw. let kept = was.words w dw lw in
+            record { least = kept.least; most = le_trans kept.most (limits_most scale).memory_words };
         some = was.some;
-        count = was.count;
-        blocks = λ b db lb. block_sound _ _ _ (was.blocks b db lb) (λ rule. none_at rule m dm lm b db lb);
+        count = le_trans was.count (limits_most scale).blocks;
+        blocks = λ b db lb. block_sound scale _ _ _ (was.blocks b db lb) (λ rule. none_at rule m dm lm b db lb);
       }
 
-channel_sound : (plan : Plan) → IsPlanRead plan
+  module_within : (m : ℕ) (dm : Module) → m < length plan.design.modules
+      → All (IsBlockWithin scale) (get_or plan.design.modules m dm).blocks
+  module_within m dm lm b db lb =
+      let clocks = ((read.modules m dm lm).blocks b db lb).most in
+      let no_loop = none_at code.BadLoop m dm lm b db lb in
+      record { clocks = clocks; live = kept_live scale _ _ (no_head _ no_loop) }
+
+channel_sound : (scale : Scale) (plan : Plan) → IsPlanRead scale plan
     → place_where (lacks_users plan.design.modules) (enumerate_from 0 plan.design.channels) ≡ None
     → (f : ℕ) → f < length plan.design.channels → IsChannelSound plan f
-channel_sound plan read h f there =
+channel_sound scale plan read h f there =
     let at = numbered_at plan.design.channels no_channel f there in
     let kept = none_where (lacks_users plan.design.modules) (enumerate_from 0 plan.design.channels) h f (0, no_channel)
     (rw length-enumerate_from there) in
@@ -191,36 +218,44 @@ channel_sound plan read h f there =
 
 -- ---- the whole
 
-each_rule : (plan : Plan) → first_for (broken_by plan) rules ≡ None → (rule : Code) → first_in (spot_in rule) plan.design.modules ≡ None
-each_rule plan h code.UnknownName = none_mapped in_module _ (none_of (broken_by plan) rules h 0 code.UnknownName refl)
-each_rule plan h code.PortClash = none_mapped in_module _ (none_of (broken_by plan) rules h 3 code.PortClash refl)
-each_rule plan h code.BadLoop = none_mapped in_module _ (none_of (broken_by plan) rules h 4 code.BadLoop refl)
-each_rule plan h code.BadOffset = none_mapped in_module _ (none_of (broken_by plan) rules h 5 code.BadOffset refl)
-each_rule plan h code.WrongSide = none_mapped in_module _ (none_of (broken_by plan) rules h 6 code.WrongSide refl)
-each_rule plan h rule = in_none (spot_in rule) no_module plan.design.modules (λ m lm.
-    in_none (spot rule (get_or plan.design.modules m no_module)) no_block (get_or plan.design.modules m no_module).blocks (λ b lb. refl))
+each_rule : (scale : Scale) (plan : Plan) → first_for (broken_by scale plan) rules ≡ None → (rule : Code)
+    → first_in (spot_in scale rule) plan.design.modules ≡ None
+each_rule scale plan h code.UnknownName = none_mapped in_module _ (none_of (broken_by scale plan) rules h 0 code.UnknownName refl)
+each_rule scale plan h code.PortClash = none_mapped in_module _ (none_of (broken_by scale plan) rules h 3 code.PortClash refl)
+each_rule scale plan h code.BadLoop = none_mapped in_module _ (none_of (broken_by scale plan) rules h 4 code.BadLoop refl)
+each_rule scale plan h code.BadOffset = none_mapped in_module _ (none_of (broken_by scale plan) rules h 5 code.BadOffset refl)
+each_rule scale plan h code.WrongSide = none_mapped in_module _ (none_of (broken_by scale plan) rules h 6 code.WrongSide refl)
+each_rule scale plan h rule = in_none (spot_in scale rule) no_module plan.design.modules (λ m lm.
+    in_none (spot scale rule (get_or plan.design.modules m no_module)) no_block (get_or plan.design.modules m no_module).blocks
+    (λ b lb. refl))
 
-pub fits : (plan : Plan) → IsPlanRead plan → checking_fault plan ≡ None → FitsEngine plan
+pub fits : (scale : Scale) (plan : Plan) → IsPlanRead scale plan → checking_fault scale plan ≡ None
+    → FitsEngine plan × KeepsScale scale plan
 unfolding checking_fault
-fits plan read h =
-    let in_limits = none_of (broken_by plan) rules h 1 code.BadLimit refl in
-    let served = none_of (broken_by plan) rules h 2 code.Ends refl in
-    let limits : breaks_limits plan.cycles plan.ops ≡ false = grind arith in
-    record {
-      channel_count = read.channel_count;
-      module_count = read.module_count;
-      inputs = read.inputs;
-      depths = read.depths;
-      input_count = read.input_count;
-      channels = λ f there. channel_sound plan read (none_mapped _ _ served) f there;
-      modules = λ m dm lm. module_sound plan read (each_rule plan h) m dm lm;
-      some_cycles = grind (arith, nat_tests);
-      cycles = grind (arith, nat_tests);
-      some_operations = grind (arith, nat_tests);
-      operations = grind (arith, nat_tests);
-    }
+fits scale plan read h =
+    let in_limits = none_of (broken_by scale plan) rules h 1 code.BadLimit refl in
+    let served = none_of (broken_by scale plan) rules h 2 code.Ends refl in
+    let limits : breaks_limits scale plan.cycles plan.ops ≡ false = grind arith in
+    let counted : plan.ops ≤ (limits_at scale).counted_operations = grind (arith, nat_tests) in
+    let within = module_within scale plan read (each_rule scale plan h) in (
+      record {
+        channel_count = le_trans read.channel_count (limits_most scale).channels;
+        module_count = le_trans read.module_count (limits_most scale).modules;
+        inputs = read.inputs;
+        depths = read.depths;
+        input_count = le_trans read.input_count (limits_most scale).input_values;
+        channels = λ f there. channel_sound scale plan read (none_mapped _ _ served) f there;
+        modules = λ m dm lm. module_sound scale plan read (each_rule scale plan h) m dm lm;
+        some_cycles = grind (arith, nat_tests);
+        cycles = grind (arith, nat_tests);
+        some_operations = grind (arith, nat_tests);
+        operations = le_trans counted (limits_most scale).counted_operations;
+        pace = λ m dm lm b db lb. at_pace scale plan.ops _ counted (within m dm lm b db lb).clocks;
+      },
+      record { operations = counted; blocks = within },
+    )
 
--- ---- a plan that the engine takes breaks no rule of checking
+-- ---- a plan that the engine takes, and that keeps the scale, breaks no rule of checking
 
 behind_none : {A : Type 0} (fails : List A → A → Bool) (d : A) (before xs : List A)
     → ((k : ℕ) → k < length xs → fails (before ++ take k xs) (get_or xs k d) ≡ false) → first_behind fails before xs ≡ None
@@ -280,19 +315,22 @@ no_clash b d apart k there = by (slot b.kind (get_or b.ops k d)) refl
 next_within : (registers blocks : ℕ) (next : Next) → IsNextSound registers blocks next → leads_out blocks next ≡ false
 next_within registers blocks next sound = grind (arith, nat_tests)
 
-loop_within : (registers len : ℕ) (kind : BlockKind) → IsKindSound registers len kind → is_bad_loop len kind ≡ false
-loop_within registers len kind sound = grind (arith, nat_tests)
+loop_within : (scale : Scale) (registers len : ℕ) (kind : BlockKind) → IsKindSound registers len kind → IsLive scale len kind
+    → is_bad_loop scale len kind ≡ false
+loop_within scale registers len kind sound live = grind (arith, nat_tests)
 
 port_kept : (m : Module) (o : Option Port) → IfSome o (λ a. IsTrue (uses a m)) → lacks_port m o ≡ false
 port_kept m o h = grind arith
 
-module _ (channels : ℕ) (m : Module) (b : Block) (sound : IsBlockSound channels m b) (d : Timed) where
-  no_spot : (rule : Code) → spot rule m b ≡ None
+module _ (scale : Scale) (channels : ℕ) (m : Module) (b : Block) (sound : IsBlockSound channels m b)
+    (within : IsBlockWithin scale b) (d : Timed) where
+  no_spot : (rule : Code) → spot scale rule m b ≡ None
   no_spot code.UnknownName =
       ap (λ (c : Bool). cond c (Some Terminator) None) (next_within (length m.registers) (length m.blocks) b.next sound.next)
   no_spot code.PortClash =
       ap (option_map Operation) (behind_none (clashes b.kind) d [] b.ops (λ k there. no_clash b d sound.apart k there))
-  no_spot code.BadLoop = ap (λ (c : Bool). cond c (Some Head) None) (loop_within (length m.registers) b.len b.kind sound.kind)
+  no_spot code.BadLoop = ap (λ (c : Bool). cond c (Some Head) None)
+      (loop_within scale (length m.registers) b.len b.kind sound.kind within.live)
   no_spot code.BadOffset = ap (option_map Operation) (where_none (is_too_late b.len) d b.ops (λ k there.
       not_from_true (nat_lt (get_or b.ops k d).offset b.len) (lt-ltb _ _ (sound.operations k d there).offset)))
   no_spot code.WrongSide = ap (option_map Operation) (where_none (is_on_wrong_side m) d b.ops (λ k there.
@@ -301,15 +339,18 @@ module _ (channels : ℕ) (m : Module) (b : Block) (sound : IsBlockSound channel
 
 -- ---- plans
 
-module _ (plan : Plan) (fits : FitsEngine plan) where
-  no_module_breaks : (rule : Code) → first_in (spot_in rule) plan.design.modules ≡ None
-  no_module_breaks rule = in_none (spot_in rule) no_module plan.design.modules (λ m lm.
-      in_none (spot rule (get_or plan.design.modules m no_module)) no_block (get_or plan.design.modules m no_module).blocks (λ b lb.
-      no_spot (length plan.design.channels) (get_or plan.design.modules m no_module) _
-      ((fits.modules m no_module lm).blocks b no_block lb) no_operation rule))
+module _ (scale : Scale) (plan : Plan) (fits : FitsEngine plan) (keeps : KeepsScale scale plan) where
+  no_module_breaks : (rule : Code) → first_in (spot_in scale rule) plan.design.modules ≡ None
+  no_module_breaks rule = in_none (spot_in scale rule) no_module plan.design.modules (λ m lm.
+      in_none (spot scale rule (get_or plan.design.modules m no_module)) no_block (get_or plan.design.modules m no_module).blocks (λ b lb.
+      no_spot scale (length plan.design.channels) (get_or plan.design.modules m no_module) _
+      ((fits.modules m no_module lm).blocks b no_block lb) (keeps.blocks m no_module lm b no_block lb) no_operation rule))
 
-  limits_kept : breaks_limits plan.cycles plan.ops ≡ false
-  limits_kept = grind (arith, nat_tests)
+  limits_kept : breaks_limits scale plan.cycles plan.ops ≡ false
+  limits_kept =
+      let counted = keeps.operations in let some_cycles = fits.some_cycles in let cycles = fits.cycles in
+      let some_operations = fits.some_operations in
+      grind (arith, nat_tests)
 
   all_served : place_where (lacks_users plan.design.modules) (enumerate_from 0 plan.design.channels) ≡ None
   all_served = where_none (lacks_users plan.design.modules) (0, no_channel) (enumerate_from 0 plan.design.channels) (λ f l.
@@ -319,10 +360,10 @@ module _ (plan : Plan) (fits : FitsEngine plan) where
       ∙ not_from_true (is_served plan.design.modules f (kind_at plan f))
       (and_from _ _ (eq-eqb _ _ sound.popping) (eq-eqb _ _ sound.pushing)))
 
-  pub strict : checking_fault plan ≡ None
+  pub strict : checking_fault scale plan ≡ None
   unfolding checking_fault
   strict =
-      let none_for : (rule : Code) → broken_by plan rule ≡ None = unbroken in
+      let none_for : (rule : Code) → broken_by scale plan rule ≡ None = unbroken in
       rw (
         none_for code.UnknownName,
         none_for code.BadLimit,
@@ -334,7 +375,7 @@ module _ (plan : Plan) (fits : FitsEngine plan) where
         none_for code.WrongSide,
       ) refl
     where
-      unbroken : (rule : Code) → broken_by plan rule ≡ None
+      unbroken : (rule : Code) → broken_by scale plan rule ≡ None
       unbroken code.BadLimit = ap (λ (c : Bool). cond c (Some Item.Limits) None) limits_kept
       unbroken code.Ends = ap (option_map Item.Channel) all_served
       unbroken rule = ap (option_map in_module) (no_module_breaks rule)

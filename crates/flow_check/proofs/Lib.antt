@@ -3,5 +3,7 @@ pub mod Counting
 pub mod Firsts
 pub mod Fits
 pub mod Reading
+pub mod Scales
 pub mod Slots
 pub mod Telling
+pub mod Tally

@@ -2,6 +2,8 @@
 use Rattle.std.proofs.Common.{◌≡◌, ℕ, zero, suc, ◌+◌, List, [], ◌∷◌, length, map, Some, option_map, Bool, true, false, cond, refl, sym}
 use Rattle.std.proofs.Common.{ap, subst, ◌∙◌, arith, true≢false, take, slice_get, ◌<◌, ◌≤◌, ◌++◌, Option, None, unwrap_or}
 use Rattle.std.specs.List.{filter_map, All}
+use Rattle.flow_design.specs.declared.limits.Scale.{Scale}
+use Rattle.flow_design.specs.declared.limits.Scale.TheVariants.{Standard, Large}
 use Rattle.flow_design.specs.declared.session.Statement.{Statement}
 use Rattle.flow_design.specs.declared.design.Block.{Block}
 use Rattle.flow_design.specs.declared.design.Module.{Module}
@@ -62,10 +64,16 @@ channel_stands earlier [] n least most = absurd (omega arith)
 channel_stands earlier (st ∷ rest) n least most =
     let step = counted earlier st in let later = channel_stands (st ∷ earlier) rest n in grind (arith, nat_tests)
 
-limits_stand : (earlier rest : List Statement) → breaks_limits (limits_of rest).0 (limits_of rest).1 ≡ true
+-- the limits of a session that gives none are in their ranges
+default_kept : (scale : Scale) → breaks_limits scale (limits_of scale []).0 (limits_of scale []).1 ≡ false
+default_kept Standard = refl
+default_kept Large = refl
+
+limits_stand : (scale : Scale) (earlier rest : List Statement)
+    → breaks_limits scale (limits_of scale rest).0 (limits_of scale rest).1 ≡ true
     → stands earlier rest item.Limits ≡ true
-limits_stand earlier [] h = absurd (true≢false (sym h))
-limits_stand earlier (st ∷ rest) h = let later = limits_stand (st ∷ earlier) rest in grind arith
+limits_stand scale earlier [] h = absurd (true≢false (sym h ∙ default_kept scale))
+limits_stand scale earlier (st ∷ rest) h = let later = limits_stand scale (st ∷ earlier) rest in grind arith
 
 -- ---- in a body
 
@@ -109,13 +117,14 @@ There count b Terminator = leads_out count b.next ≡ true
 there_is : {A : Type 0} (test : A → Bool) (xs : List A) (k : ℕ) → passes test (slice_get xs k) ≡ true → k < length xs
 there_is test xs k h = let p = passed test (slice_get xs k) h in slice_get_within xs k p.0 p.1
 
-there : (rule : Code) (m : Module) (b : Block) (a : Spot) → spot_breaks rule m b a ≡ true → There (length m.blocks) b a
-there code.UnknownName m b Terminator h = h
-there code.PortClash m b (Operation k) h = there_is (clashes b.kind (take k b.ops)) b.ops k h
-there code.BadLoop m b Head h = tt
-there code.BadOffset m b (Operation k) h = there_is (is_too_late b.len) b.ops k h
-there code.WrongSide m b (Operation k) h = there_is (is_on_wrong_side m) b.ops k h
-there rule m b a h = absurd (true≢false (sym h))
+there : (scale : Scale) (rule : Code) (m : Module) (b : Block) (a : Spot) → spot_breaks scale rule m b a ≡ true
+    → There (length m.blocks) b a
+there scale code.UnknownName m b Terminator h = h
+there scale code.PortClash m b (Operation k) h = there_is (clashes b.kind (take k b.ops)) b.ops k h
+there scale code.BadLoop m b Head h = tt
+there scale code.BadOffset m b (Operation k) h = there_is (is_too_late b.len) b.ops k h
+there scale code.WrongSide m b (Operation k) h = there_is (is_on_wrong_side m) b.ops k h
+there scale rule m b a h = absurd (true≢false (sym h))
 
 begun : (m : ℕ) (earlier : List Statement) (head : Statement) → begins level.Blocks head ≡ true → (counts earlier).modules ≡ m + 1
     → AreLast (counts (head ∷ earlier)) m (counts earlier).blocks × ((counts (head ∷ earlier)).operations ≡ 0)
@@ -197,19 +206,20 @@ module_stands names earlier (st ∷ rest) k n c own blk a is at block_at h =
     behind earlier rest st (item.InModule n (c, a)) (module_stands names (st ∷ earlier) rest k n c own blk a (grind arith) at block_at h)
 
 -- an item that breaks a rule has its statement
-pub exists : (statements : List Statement) (rule : Code) (i : Item) → breaks (plan_of statements) rule i ≡ true
+pub exists : (scale : Scale) (statements : List Statement) (rule : Code) (i : Item) → breaks scale (plan_of scale statements) rule i ≡ true
     → stands [] statements i ≡ true
 unfolding plan_of
-exists statements code.BadLimit item.Limits h = limits_stand [] statements h
-exists statements code.Ends (item.Channel f) h =
-    let below = there_is (channel_breaks code.Ends (plan_of statements) f) (channels_of statements) f h in
+exists scale statements code.BadLimit item.Limits h = limits_stand scale [] statements h
+exists scale statements code.Ends (item.Channel f) h =
+    let below = there_is (channel_breaks code.Ends (plan_of scale statements) f) (channels_of statements) f h in
     channel_stands [] statements f (omega arith) (omega arith)
-exists statements rule (item.InModule n (c, a)) h =
-    let own = passed (λ (o : Module). passes (λ (b : Block). spot_breaks rule o b a) (slice_get o.blocks c))
+exists scale statements rule (item.InModule n (c, a)) h =
+    let own = passed (λ (o : Module). passes (λ (b : Block). spot_breaks scale rule o b a) (slice_get o.blocks c))
     (slice_get (modules_of statements) n) h in
-    let blk = passed (λ (b : Block). spot_breaks rule own.0 b a) (slice_get (own.0).blocks c) own.2 in
-    module_stands (channel_names statements) [] statements n n c own.0 blk.0 a (omega arith) own.1 blk.1 (there rule own.0 blk.0 a blk.2)
-exists statements rule i h = absurd (grind arith)
+    let blk = passed (λ (b : Block). spot_breaks scale rule own.0 b a) (slice_get (own.0).blocks c) own.2 in
+    module_stands (channel_names statements) [] statements n n c own.0 blk.0 a (omega arith) own.1 blk.1
+    (there scale rule own.0 blk.0 a blk.2)
+exists scale statements rule i h = absurd (grind arith)
 
 -- ---- a refusal tells the first statement that breaks the first rule that is broken
 
@@ -263,12 +273,13 @@ first_rule {A} {B} f (z ∷ xs) x y h = by (f z) refl (first_rule f xs x y) h
 
 -- ---- the first statement
 
-module _ (statements : List Statement) (rule : Code) (i : Item) (is : broken_by (plan_of statements) rule ≡ Some i) where
-  breaking : breaks (plan_of statements) rule i ≡ true
-  breaking = broken_some (plan_of statements) rule i is
+module _ (scale : Scale) (statements : List Statement) (rule : Code) (i : Item)
+    (is : broken_by scale (plan_of scale statements) rule ≡ Some i) where
+  breaking : breaks scale (plan_of scale statements) rule i ≡ true
+  breaking = broken_some scale (plan_of scale statements) rule i is
 
   found : (k : ℕ) × (place_where (is_item i) (items_of statements) ≡ Some k)
-  found = has_place (is_item i) (items_of statements) (exists statements rule i breaking)
+  found = has_place (is_item i) (items_of statements) (exists scale statements rule i breaking)
 
   at_place : slice_get (items_of statements) (place_of statements i) ≡ Some (Some i)
   at_place =
@@ -277,15 +288,15 @@ module _ (statements : List Statement) (rule : Code) (i : Item) (is : broken_by 
       ap (λ (o : Option ℕ). slice_get (items_of statements) (unwrap_or o (length statements))) found.1
       ∙ there.1 ∙ ap Some (stands_for i there.0 there.2)
 
-  broken : statement_breaks statements rule (place_of statements i) ≡ true
-  broken = ap (passes (passes (breaks (plan_of statements) rule))) at_place ∙ breaking
+  broken : statement_breaks scale statements rule (place_of statements i) ≡ true
+  broken = ap (passes (passes (breaks scale (plan_of scale statements) rule))) at_place ∙ breaking
 
-  first : (k : ℕ) → k < place_of statements i → statement_breaks statements rule k ≡ false
-  first k before = false_from_ne_true (statement_breaks statements rule k) (λ h.
-      let at = passed (passes (breaks (plan_of statements) rule)) (slice_get (items_of statements) k) h in
-      let j = passed (breaks (plan_of statements) rule) at.0 at.2 in
+  first : (k : ℕ) → k < place_of statements i → statement_breaks scale statements rule k ≡ false
+  first k before = false_from_ne_true (statement_breaks scale statements rule k) (λ h.
+      let at = passed (passes (breaks scale (plan_of scale statements) rule)) (slice_get (items_of statements) k) h in
+      let j = passed (breaks scale (plan_of scale statements) rule) at.0 at.2 in
       let at_j : slice_get (items_of statements) k ≡ Some (Some j.0) = at.1 ∙ ap Some j.1 in
-      let least = broken_least (plan_of statements) rule j.0 j.2 in
+      let least = broken_least scale (plan_of scale statements) rule j.0 j.2 in
       let same : i ≡ least.0 = same_Some _ _ (sym is ∙ least.1) in
       let one : j.0 ≡ i = one_item [] statements k (place_of statements i) j.0 i before at_j at_place (rw same least.2) in
       let sooner = where_least (is_item i) (items_of statements) k
@@ -294,24 +305,25 @@ module _ (statements : List Statement) (rule : Code) (i : Item) (is : broken_by 
       let l : sooner.0 ≤ k = sooner.2 in
       absurd (omega arith))
 
-pub tells_first : (statements : List Statement) (lines : List ℕ) (fault : TextFault) → fault_of statements lines ≡ Some fault
-    → TellsFirst statements lines fault
+pub tells_first : (scale : Scale) (statements : List Statement) (lines : List ℕ) (fault : TextFault)
+    → fault_of scale statements lines ≡ Some fault
+    → TellsFirst scale statements lines fault
 unfolding checking_fault
-tells_first statements lines fault h =
-    let p = mapped (at_line statements lines) (checking_fault (plan_of statements)) fault h in
+tells_first scale statements lines fault h =
+    let p = mapped (at_line statements lines) (checking_fault scale (plan_of scale statements)) fault h in
     let rule : Code = (p.0).0 in
     let i : Item = (p.0).1 in
-    let f = first_rule (broken_by (plan_of statements)) rules rule i p.1 in
-    subst (TellsFirst statements lines) p.2 (record {
+    let f = first_rule (broken_by scale (plan_of scale statements)) rules rule i p.1 in
+    subst (TellsFirst scale statements lines) p.2 (record {
       place = place_of statements i;
       line = refl;
-      broken = broken statements rule i f.gives;
-      first = first statements rule i f.gives;
+      broken = broken scale statements rule i f.gives;
+      first = first scale statements rule i f.gives;
       earlier = f.earlier;
       later = f.later;
       order = f.order;
-      kept = λ k d there j. false_from_ne_true (breaks (plan_of statements) _ j) (λ b.
-          let least = broken_least (plan_of statements) _ j b in
+      kept = λ k d there j. false_from_ne_true (breaks scale (plan_of scale statements) _ j) (λ b.
+          let least = broken_least scale (plan_of scale statements) _ j b in
           never (sym (f.none k d there) ∙ least.1));
     })
   where

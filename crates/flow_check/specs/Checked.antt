@@ -1,5 +1,6 @@
 -- The checking fault of a session: the first rule that it breaks, at the line of the first statement that breaks it.
 use Rattle.std.specs.Prelude.{◌≡◌, ℕ, List, Option, Some, option_map}
+use Rattle.flow_design.specs.declared.limits.Scale.{Scale}
 use Rattle.flow_design.specs.declared.session.Statement.{Statement}
 use Rattle.flow_grammar.specs.declared.fault.Code.{Code}
 use Rattle.flow_grammar.specs.declared.fault.TextFault.{TextFault}
@@ -13,11 +14,11 @@ use Rattle.flow_check.specs.Rules.{checking_fault}
 abbrev pub at_line : List Statement → List ℕ → Code × Item → TextFault
 at_line statements lines (code, item) = record { line = line_of statements lines item; code = code }
 
--- the checking fault of these statements, which stand at these lines, if they have one
-abbrev pub fault_of : List Statement → List ℕ → Option TextFault
-fault_of statements lines = option_map (at_line statements lines) (checking_fault (plan_of statements))
+-- the checking fault of these statements at a scale, which stand at these lines, if they have one
+abbrev pub fault_of : Scale → List Statement → List ℕ → Option TextFault
+fault_of scale statements lines = option_map (at_line statements lines) (checking_fault scale (plan_of scale statements))
 
 -- want of memory is a free answer, and any other refusal is the checking fault
-abbrev pub IsRefusal : List Statement → List ℕ → ReadFail → Type 0
-IsRefusal statements lines (Text fault) = fault_of statements lines ≡ Some fault
-IsRefusal statements lines OutOfMemory = Unit {0}
+abbrev pub IsRefusal : Scale → List Statement → List ℕ → ReadFail → Type 0
+IsRefusal scale statements lines (Text fault) = fault_of scale statements lines ≡ Some fault
+IsRefusal scale statements lines OutOfMemory = Unit {0}

@@ -5,3 +5,5 @@ pub mod Places
 pub mod Ports
 pub mod Read
 pub mod Rules
+pub mod Scales
+pub mod Users

@@ -1,21 +1,22 @@
--- What the rules of reading give of a plan: all that the engine wants of it, but for what is checked.
+-- What the rules of reading give of a plan at a scale: all that the engine wants of it, but for what is checked.
 use Rattle.std.proofs.Common.{◌≡◌, ℕ, ◌+◌, ◌<◌, ◌≤◌, length, sum_by, IsTrue, IfSome}
 use Rattle.std.specs.List.{All}
 use Rattle.std.specs.Prelude.{slice_index, slice_index_or, []}
-use Rattle.flow_design.specs.declared.limits.TheConstants.{MODULES, CHANNELS, REGISTERS, TEMPS, MEMORIES, BLOCKS, OPERATIONS, BLOCK_CLOCKS}
-use Rattle.flow_design.specs.declared.limits.TheConstants.{INPUT_VALUES}
+use Rattle.flow_design.specs.declared.limits.Scale.{Scale}
+use Rattle.flow_design.specs.Limits.{limits_at}
 use Rattle.flow_design.specs.declared.design.BlockKind.{BlockKind}
 use Rattle.flow_design.specs.declared.design.BlockKind.TheVariants.{Plain, Loop}
 use Rattle.flow_design.specs.declared.design.Next.{Next}
 use Rattle.flow_design.specs.declared.design.Next.TheVariants.{Goto, Branch, Stop}
 use Rattle.flow_design.specs.declared.design.Timed.{Timed}
 use Rattle.flow_design.specs.declared.design.Block.{Block}
+use Rattle.flow_design.specs.declared.design.Memory.{Memory}
 use Rattle.flow_design.specs.declared.design.Module.{Module}
 use Rattle.flow_design.specs.declared.plan.Plan.{Plan}
 use Rattle.flow_design.specs.Names.{is_name}
 use Rattle.flow_design.specs.Operations.{places_of, expressions_of, memory_of, port_of}
 use Rattle.flow_design.specs.Plans.{no_channel, kind_at}
-use Rattle.flow_design.specs.StaticRules.{IsExpressionSound, IsMemorySound, AreEntriesSound}
+use Rattle.flow_design.specs.StaticRules.{IsExpressionSound, AreEntriesSound}
 
 pub record IsTimedRead (channels : ℕ) (m : Module) (b : Block) (t : Timed) : Type 0 where
   pub guard : IfSome t.guard (λ g. g < length m.registers + length b.temps)
@@ -33,32 +34,37 @@ IsNextRead registers (Goto n) = Unit {0}
 IsNextRead registers (Branch r n o) = r < registers
 IsNextRead registers Stop = Unit {0}
 
-pub record IsBlockRead (channels : ℕ) (m : Module) (b : Block) : Type 0 where
+pub record IsBlockRead (scale : Scale) (channels : ℕ) (m : Module) (b : Block) : Type 0 where
   pub least : 1 ≤ b.len
-  pub most : b.len ≤ BLOCK_CLOCKS
+  pub most : b.len ≤ (limits_at scale).block_clocks
   pub kind : IsKindRead (length m.registers) b.kind
-  pub temps : length b.temps ≤ TEMPS
-  pub count : length b.ops ≤ OPERATIONS
+  pub temps : length b.temps ≤ (limits_at scale).temps
+  pub count : length b.ops ≤ (limits_at scale).operations
   pub operations : All (IsTimedRead channels m b) b.ops
   pub next : IsNextRead (length m.registers) b.next
 
-pub record IsModuleRead (channels : ℕ) (m : Module) : Type 0 where
-  pub name : IsTrue (is_name m.name)
-  pub registers : length m.registers ≤ REGISTERS
-  pub memories : length m.memories ≤ MEMORIES
-  pub words : All IsMemorySound m.memories
-  pub some : 1 ≤ length m.blocks
-  pub count : length m.blocks ≤ BLOCKS
-  pub blocks : All (IsBlockRead channels m) m.blocks
+pub record IsMemoryRead (scale : Scale) (memory : Memory) : Type 0 where
+  pub least : 1 ≤ memory.len
+  pub most : memory.len ≤ (limits_at scale).memory_words
 
-pub record IsPlanRead (plan : Plan) : Type 0 where
-  pub channel_count : length plan.design.channels ≤ CHANNELS
-  pub module_count : length plan.design.modules ≤ MODULES
+pub record IsModuleRead (scale : Scale) (channels : ℕ) (m : Module) : Type 0 where
+  pub name : IsTrue (is_name m.name)
+  pub registers : length m.registers ≤ (limits_at scale).registers
+  pub memories : length m.memories ≤ (limits_at scale).memories
+  pub words : All (IsMemoryRead scale) m.memories
+  pub some : 1 ≤ length m.blocks
+  pub count : length m.blocks ≤ (limits_at scale).blocks
+  pub blocks : All (IsBlockRead scale channels m) m.blocks
+
+pub record IsPlanRead (scale : Scale) (plan : Plan) : Type 0 where
+  pub channel_count : length plan.design.channels ≤ (limits_at scale).channels
+  pub module_count : length plan.design.modules ≤ (limits_at scale).modules
   pub inputs : length plan.inputs ≡ length plan.design.channels
   pub depths : length plan.depths ≡ length plan.design.channels
-  pub input_count : sum_by length plan.inputs ≤ INPUT_VALUES
+  pub input_count : sum_by length plan.inputs ≤ (limits_at scale).input_values
   pub names : (f : ℕ) → f < length plan.design.channels
       → IsTrue (is_name (slice_index_or plan.design.channels f no_channel).name)
   pub entries : (f : ℕ) → f < length plan.design.channels
       → AreEntriesSound (kind_at plan f) (slice_index_or plan.inputs f []) (slice_index plan.depths f)
-  pub modules : All (IsModuleRead (length plan.design.channels)) plan.design.modules
+  pub deep : All (λ depth. depth ≤ (limits_at scale).fifo_depth) plan.depths
+  pub modules : All (IsModuleRead scale (length plan.design.channels)) plan.design.modules

@@ -1,11 +1,12 @@
--- The rules that a session is checked by, on its plan: for each rule the first item that breaks it, in the order of the text.
+-- The rules that a session is checked by at a scale, on its plan: for each rule the first item that breaks it, in the order of the text.
 use Rattle.std.specs.Prelude.{ℕ, ◌*◌, ◌%◌, ◌==◌, ◌&&◌, not, nat_lt, nat_le, Bool, false, List, [], ◌∷◌, length, count_by, Option, None}
 use Rattle.std.specs.Prelude.{Some, option_map, if◌then◌else◌}
 use Rattle.std.specs.List.{list_any, enumerate_from}
 use Rattle.flow_word.specs.declared.access.Side.{Side}
 use Rattle.flow_word.specs.declared.access.Side.TheVariants.{Pop, Push}
 use Rattle.flow_word.specs.declared.access.Port.{Port}
-use Rattle.flow_design.specs.declared.limits.TheConstants.{LIVE_ITERATIONS, CYCLES, COUNTED_OPERATIONS}
+use Rattle.flow_design.specs.declared.limits.TheConstants.{CYCLES}
+use Rattle.flow_design.specs.declared.limits.Scale.{Scale}
 use Rattle.flow_design.specs.declared.design.ChannelKind.{ChannelKind}
 use Rattle.flow_design.specs.declared.design.Channel.{Channel}
 use Rattle.flow_design.specs.declared.design.BlockKind.{BlockKind}
@@ -16,6 +17,7 @@ use Rattle.flow_design.specs.declared.design.Timed.{Timed}
 use Rattle.flow_design.specs.declared.design.Block.{Block}
 use Rattle.flow_design.specs.declared.design.Module.{Module}
 use Rattle.flow_design.specs.declared.plan.Plan.{Plan}
+use Rattle.flow_design.specs.Limits.{limits_at}
 use Rattle.flow_design.specs.Operations.{port_of, used_port}
 use Rattle.flow_design.specs.StaticRules.{same_port, uses, users_wanted}
 use Rattle.flow_grammar.specs.declared.fault.Code.{Code}
@@ -33,10 +35,11 @@ leads_out blocks (Goto b) = not (nat_lt b blocks)
 leads_out blocks (Branch r b c) = not (nat_lt b blocks && nat_lt c blocks)
 leads_out blocks Stop = false
 
--- ---- the cycle limit and the operation limit are at least 1 and within the limits of the language
+-- ---- the cycle limit and the operation limit are at least 1, and within the limits of the language and of the scale
 
-abbrev pub breaks_limits : ℕ → ℕ → Bool
-breaks_limits cycles ops = not ((nat_le 1 cycles && nat_le cycles CYCLES) && (nat_le 1 ops && nat_le ops COUNTED_OPERATIONS))
+abbrev pub breaks_limits : Scale → ℕ → ℕ → Bool
+breaks_limits scale cycles ops =
+    not ((nat_le 1 cycles && nat_le cycles CYCLES) && (nat_le 1 ops && nat_le ops (limits_at scale).counted_operations))
 
 -- ---- each channel has the readers and writers that its kind wants
 
@@ -80,9 +83,9 @@ clashes kind before t = takes_again kind before (slot kind t)
 
 -- ---- a loop's LEN is at least II, and not more than so many times II as iterations may be live at once
 
-abbrev pub is_bad_loop : ℕ → BlockKind → Bool
-is_bad_loop len Plain = false
-is_bad_loop len (Loop ii again) = not (nat_le ii len && nat_le len (LIVE_ITERATIONS * ii))
+abbrev pub is_bad_loop : Scale → ℕ → BlockKind → Bool
+is_bad_loop scale len Plain = false
+is_bad_loop scale len (Loop ii again) = not (nat_le ii len && nat_le len ((limits_at scale).live_iterations * ii))
 
 -- ---- an operation's offset is below its block's LEN
 
@@ -101,16 +104,16 @@ is_on_wrong_side m t = lacks_port m (port_of t.op)
 -- ---- the rules in blocks
 
 -- the first of a block that breaks a rule
-abbrev pub spot : Code → Module → Block → Option Spot
-spot code.UnknownName m b = if leads_out (length m.blocks) b.next then Some Terminator else None
-spot code.PortClash m b = option_map Operation (first_behind (clashes b.kind) [] b.ops)
-spot code.BadLoop m b = if is_bad_loop b.len b.kind then Some Head else None
-spot code.BadOffset m b = option_map Operation (place_where (is_too_late b.len) b.ops)
-spot code.WrongSide m b = option_map Operation (place_where (is_on_wrong_side m) b.ops)
-spot rule m b = None
+abbrev pub spot : Scale → Code → Module → Block → Option Spot
+spot scale code.UnknownName m b = if leads_out (length m.blocks) b.next then Some Terminator else None
+spot scale code.PortClash m b = option_map Operation (first_behind (clashes b.kind) [] b.ops)
+spot scale code.BadLoop m b = if is_bad_loop scale b.len b.kind then Some Head else None
+spot scale code.BadOffset m b = option_map Operation (place_where (is_too_late b.len) b.ops)
+spot scale code.WrongSide m b = option_map Operation (place_where (is_on_wrong_side m) b.ops)
+spot scale rule m b = None
 
-abbrev pub spot_in : Code → Module → Option (ℕ × Spot)
-spot_in rule m = first_in (spot rule m) m.blocks
+abbrev pub spot_in : Scale → Code → Module → Option (ℕ × Spot)
+spot_in scale rule m = first_in (spot scale rule m) m.blocks
 
 abbrev pub in_module : ℕ × (ℕ × Spot) → Item
 in_module (m, place) = item.InModule m place
@@ -118,15 +121,16 @@ in_module (m, place) = item.InModule m place
 -- ---- all rules
 
 -- the first of a plan that breaks a rule
-abbrev pub broken_by : Plan → Code → Option Item
-broken_by plan code.BadLimit = if breaks_limits plan.cycles plan.ops then Some item.Limits else None
-broken_by plan code.Ends = option_map item.Channel (place_where (lacks_users plan.design.modules) (enumerate_from 0 plan.design.channels))
-broken_by plan rule = option_map in_module (first_in (spot_in rule) plan.design.modules)
+abbrev pub broken_by : Scale → Plan → Code → Option Item
+broken_by scale plan code.BadLimit = if breaks_limits scale plan.cycles plan.ops then Some item.Limits else None
+broken_by scale plan code.Ends =
+    option_map item.Channel (place_where (lacks_users plan.design.modules) (enumerate_from 0 plan.design.channels))
+broken_by scale plan rule = option_map in_module (first_in (spot_in scale rule) plan.design.modules)
 
 -- the rules in their order: each is tried on the whole plan, before the next
 abbrev pub rules : List Code
 rules = code.UnknownName ∷ code.BadLimit ∷ code.Ends ∷ code.PortClash ∷ code.BadLoop ∷ code.BadOffset ∷ code.WrongSide ∷ []
 
 -- the first rule that a plan breaks, and the first that breaks it
-unfoldable pub checking_fault : Plan → Option (Code × Item)
-checking_fault plan = first_for (broken_by plan) rules
+unfoldable pub checking_fault : Scale → Plan → Option (Code × Item)
+checking_fault scale plan = first_for (broken_by scale plan) rules

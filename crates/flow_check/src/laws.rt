@@ -1,7 +1,9 @@
 //! Laws of checked sessions.
-ghost use Rattle.std.specs.Prelude.{◌≡◌, ℕ, List, None, Some, All};
+ghost use Rattle.std.specs.Prelude.{◌≡◌, ◌≤◌, ℕ, List, None, Some, All};
+ghost use Rattle.flow_design.specs.declared.limits.Scale.{Scale};
 ghost use Rattle.flow_design.specs.declared.session.Statement.{Statement};
 ghost use Rattle.flow_design.specs.declared.plan.Plan.{Plan};
+ghost use Rattle.flow_design.specs.Limits.{limits_at};
 ghost use Rattle.flow_design.specs.Plans.{EditFits};
 ghost use Rattle.flow_design.specs.StaticRules.{FitsEngine};
 ghost use Rattle.flow_grammar.specs.Rules.{KeepsReadingRules};
@@ -11,31 +13,41 @@ ghost use Rattle.flow_check.specs.Broken.{TellsFirst};
 ghost use Rattle.flow_check.specs.Checked.{fault_of};
 ghost use Rattle.flow_check.specs.Read.{IsPlanRead};
 ghost use Rattle.flow_check.specs.Rules.{checking_fault};
+ghost use Rattle.flow_check.specs.Scales.{KeepsScale};
 
-/// The rules of reading give all that the engine wants of the plan of a session, but for the rules of checking.
+/// The rules of reading at a scale give all that the engine wants of the plan of a session, but for the rules of checking, and
+/// keep the limits of the scale.
 pub fn read_sessions_have_plans()
-    ensures { (statements : List Statement) → KeepsReadingRules statements → IsPlanRead (plan_of statements) }
+    ensures { (scale : Scale) (statements : List Statement) → KeepsReadingRules scale statements
+        → IsPlanRead scale (plan_of scale statements) }
 {}
 
-/// The plan of a session that was read and has no checking fault is one that the engine takes.
+/// The plan of a session that was read at a scale and has no checking fault is one that the engine takes, and keeps the scale.
 pub fn checked_plans_fit()
-    ensures { (statements : List Statement) → KeepsReadingRules statements → checking_fault (plan_of statements) ≡ None
-        → FitsEngine (plan_of statements) }
+    ensures engine { (scale : Scale) (statements : List Statement) → KeepsReadingRules scale statements
+        → checking_fault scale (plan_of scale statements) ≡ None → FitsEngine (plan_of scale statements) }
+    ensures keeps { (scale : Scale) (statements : List Statement) → KeepsReadingRules scale statements
+        → checking_fault scale (plan_of scale statements) ≡ None → KeepsScale scale (plan_of scale statements) }
 {}
 
-/// The converse: a plan that the engine takes breaks no rule of checking. So `check` refuses no session whose plan fits.
+/// The converse: a plan that the engine takes, and that keeps a scale, breaks no rule of checking at it. So `check` refuses no
+/// session whose plan fits.
 pub fn fitting_plans_are_checked()
-    ensures plans { (plan : Plan) → FitsEngine plan → checking_fault plan ≡ None }
-    ensures sessions { (statements : List Statement) (lines : List ℕ) → FitsEngine (plan_of statements) → fault_of statements lines ≡ None }
+    ensures plans { (scale : Scale) (plan : Plan) → FitsEngine plan → KeepsScale scale plan → checking_fault scale plan ≡ None }
+    ensures sessions { (scale : Scale) (statements : List Statement) (lines : List ℕ) → FitsEngine (plan_of scale statements)
+        → KeepsScale scale (plan_of scale statements) → fault_of scale statements lines ≡ None }
 {}
 
 /// A refusal tells the line of the first statement that breaks the rule told, and no rule before that one is broken.
 pub fn refusals_tell_the_first()
-    ensures { (statements : List Statement) (lines : List ℕ) (fault : TextFault) → fault_of statements lines ≡ Some fault
-        → TellsFirst statements lines fault }
+    ensures { (scale : Scale) (statements : List Statement) (lines : List ℕ) (fault : TextFault)
+        → fault_of scale statements lines ≡ Some fault → TellsFirst scale statements lines fault }
 {}
 
-/// Each edit of a session that was read is one that its plan takes.
+/// Each edit of a session that was read at a scale is one that its plan takes, to a depth within the limit of the scale.
 pub fn read_edits_fit()
-    ensures { (statements : List Statement) → KeepsReadingRules statements → All (EditFits (plan_of statements)) (edits_of statements) }
+    ensures fit { (scale : Scale) (statements : List Statement) → KeepsReadingRules scale statements
+        → All (EditFits (plan_of scale statements)) (edits_of statements) }
+    ensures within { (scale : Scale) (statements : List Statement) → KeepsReadingRules scale statements
+        → All (λ edit. edit.depth ≤ (limits_at scale).fifo_depth) (edits_of statements) }
 {}

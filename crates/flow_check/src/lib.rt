@@ -7,6 +7,7 @@ mod place;
 mod ports;
 mod rules;
 mod session;
+mod users;
 
 pub use laws::{
     checked_plans_fit, fitting_plans_are_checked, read_edits_fit, read_sessions_have_plans,

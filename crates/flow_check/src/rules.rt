@@ -1,16 +1,20 @@
 //! The rules, each on a whole plan.
-ghost use Rattle.std.specs.Prelude.{◌≡◌, ◌≤◌, ◌^◌, List as Items, length, count_by, if◌then◌else◌, option_map, IfOk};
+ghost use Rattle.std.specs.Prelude.{◌≡◌, ◌<◌, ◌≤◌, ◌^◌, List as Items, length, if◌then◌else◌, option_map, IfOk};
 ghost use Rattle.std.specs.List.{enumerate_from};
 ghost use Rattle.flow_design.specs.declared.design.Module.{Module as ModuleOf};
-ghost use Rattle.flow_design.specs.StaticRules.{uses, users_wanted};
+ghost use Rattle.flow_design.specs.StaticRules.{users_wanted};
+ghost use Rattle.flow_word.specs.declared.access.Side.TheVariants.{Pop, Push};
 ghost use Rattle.flow_check.specs.First.{first_in, first_for, place_where};
 ghost use Rattle.flow_check.specs.Ports.{has, HasPorts, HavePorts};
 ghost use Rattle.flow_check.specs.Rules.{leads_out, breaks_limits, has_users, is_served, lacks_users, is_bad_loop, is_too_late};
+ghost use Rattle.flow_check.specs.Users.{AreUsers};
 ghost use Rattle.flow_check.specs.Rules.{is_on_wrong_side, spot, spot_in, in_module, broken_by, rules, checking_fault};
 
 use crate::item::{Item, Spot};
 use crate::ports::{first_clash, ports_of_each};
-use flow_design::{Block, BlockKind, Channel, ChannelKind, Module, Next, Plan, Timed, limits};
+use crate::users::count_users;
+use flow_design::limits::{self, Scale};
+use flow_design::{Block, BlockKind, Channel, ChannelKind, Module, Next, Plan, Timed};
 use flow_grammar::Code;
 use flow_word::{OutOfMemory, Port, Side};
 use indexmap::IndexSet;
@@ -27,20 +31,22 @@ fn leads_out(blocks: u64, next: Next) -> bool
     }
 }
 
-/// Whether the limits are out of their ranges.
-fn breaks_limits(cycles: u64, ops: u64) -> bool
-    ensures { result ≡ breaks_limits cycles ops }
+/// Whether the limits of a plan are out of their ranges.
+fn breaks_limits(scale: Scale, cycles: u64, ops: u64) -> bool
+    ensures { result ≡ breaks_limits scale cycles ops }
 {
-    cycles < 1 || cycles > limits::CYCLES || ops < 1 || ops > limits::COUNTED_OPERATIONS
+    cycles < 1 || cycles > limits::CYCLES || ops < 1 || ops > scale.limits().counted_operations
 }
 
 /// Whether a loop's length is less than its interval, or more iterations than may be live at once.
-fn is_bad_loop(len: u64, kind: BlockKind) -> bool
-    ensures { result ≡ is_bad_loop len kind }
+fn is_bad_loop(scale: Scale, len: u64, kind: BlockKind) -> bool
+    ensures { result ≡ is_bad_loop scale len kind }
 {
     match kind {
         BlockKind::Plain => false,
-        BlockKind::Loop { ii, again: _ } => len < ii || len.div_ceil(limits::LIVE_ITERATIONS) > ii,
+        BlockKind::Loop { ii, again: _ } => {
+            len < ii || len.div_ceil(scale.limits().live_iterations) > ii
+        }
     }
 }
 
@@ -83,20 +89,21 @@ fn first_too_late(len: u64, ops: &[Timed]) -> Option<u64>
 /// What of a block breaks a rule: the first.
 fn spot(
     alloc: Global,
+    scale: Scale,
     rule: Code,
     of: &Module,
     ports: &IndexSet<Port>,
     block: &Block,
 ) -> Result<Option<Spot>, OutOfMemory>
     requires { HasPorts ports.now of.now }
-    ensures { IfOk result (λ s. s ≡ spot rule of.now block.now) }
+    ensures { IfOk result (λ s. s ≡ spot scale rule of.now block.now) }
 {
     let ops = block.ops.as_slice();
     let operation = match rule {
         Code::UnknownName => {
             return Ok(when(leads_out(of.blocks.len(), block.next), Spot::Terminator));
         }
-        Code::BadLoop => return Ok(when(is_bad_loop(block.len, block.kind), Spot::Head)),
+        Code::BadLoop => return Ok(when(is_bad_loop(scale, block.len, block.kind), Spot::Head)),
         Code::PortClash => first_clash(alloc, block.kind, ops)?,
         Code::BadOffset => first_too_late(block.len, ops),
         Code::WrongSide => first_on_wrong_side(of, ports, ops),
@@ -118,15 +125,16 @@ fn when(holds: bool, spot: Spot) -> Option<Spot>
 /// What of a module breaks a rule: the first, with its block's number.
 fn spot_in(
     alloc: Global,
+    scale: Scale,
     rule: Code,
     of: &Module,
     ports: &IndexSet<Port>,
 ) -> Result<Option<(u64, Spot)>, OutOfMemory>
     requires { HasPorts ports.now of.now }
-    ensures { IfOk result (λ s. s ≡ spot_in rule of.now) }
+    ensures { IfOk result (λ s. s ≡ spot_in scale rule of.now) }
 {
     for (at, block) in of.blocks.as_slice().iter().enumerate() {
-        if let Some(found) = spot(alloc, rule, of, ports, block)? {
+        if let Some(found) = spot(alloc, scale, rule, of, ports, block)? {
             return Ok(Some((at as u64, found)));
         }
     }
@@ -137,15 +145,16 @@ fn spot_in(
 #[tactic(auto, using(crate::proofs::Slots::long, crate::proofs::Slots::at_place))]
 fn item_in(
     alloc: Global,
+    scale: Scale,
     rule: Code,
     modules: &[Module],
     all: &[IndexSet<Port>],
 ) -> Result<Option<Item>, OutOfMemory>
     requires { HavePorts all.now modules.now }
-    ensures { IfOk result (λ i. i ≡ option_map in_module (first_in (spot_in rule) modules.now)) }
+    ensures { IfOk result (λ i. i ≡ option_map in_module (first_in (spot_in scale rule) modules.now)) }
 {
     for (at, of) in modules.iter().enumerate() {
-        if let Some((block, found)) = spot_in(alloc, rule, of, &all[at])? {
+        if let Some((block, found)) = spot_in(alloc, scale, rule, of, &all[at])? {
             return Ok(Some(Item::InModule(at as u64, (block, found))));
         }
     }
@@ -159,13 +168,6 @@ fn has(ports: &IndexSet<Port>, port: Port) -> bool
     ports.contains(&port)
 }
 
-/// How many of these have a port.
-fn count_users(all: &[IndexSet<Port>], port: Port) -> u64
-    ensures { result ≡ count_by (λ ports. has ports port) all.now }
-{
-    all.iter().filter(|ports| has(ports, port)).count() as u64
-}
-
 /// How many modules pop or push a channel of this kind.
 fn users_wanted(kind: ChannelKind, side: Side) -> u64
     ensures { result ≡ users_wanted kind side }
@@ -176,74 +178,99 @@ fn users_wanted(kind: ChannelKind, side: Side) -> u64
     }
 }
 
-/// Whether a channel has as many users at a side as its kind wants.
-fn has_users(all: &[IndexSet<Port>], channel: u32, kind: ChannelKind, side: Side) -> bool
-    ensures { (modules : Items ModuleOf) → HavePorts all.now modules → result ≡ has_users modules channel kind side }
+/// Whether a channel has as many users at a side as its kind wants, where it is told how many modules use each channel.
+fn has_users(users: &[u8], channel: u32, kind: ChannelKind, side: Side) -> bool
+    requires { channel < length users.now }
+    ensures { (modules : Items ModuleOf) → AreUsers modules side users.now → result ≡ has_users modules channel kind side }
 {
-    count_users(all, Port { side, channel }) == users_wanted(kind, side)
+    users[channel as usize] as u64 == users_wanted(kind, side)
 }
 
 /// Whether a channel has the readers and writers that its kind wants.
-fn is_served(all: &[IndexSet<Port>], channel: u32, kind: ChannelKind) -> bool
-    ensures { (modules : Items ModuleOf) → HavePorts all.now modules → result ≡ is_served modules channel kind }
+fn is_served(readers: &[u8], writers: &[u8], channel: u32, kind: ChannelKind) -> bool
+    requires popped { channel < length readers.now }
+    requires pushed { channel < length writers.now }
+    ensures { (modules : Items ModuleOf) → AreUsers modules Pop readers.now → AreUsers modules Push writers.now
+        → result ≡ is_served modules channel kind }
 {
-    let popped = has_users(all, channel, kind, Side::Pop);
-    let pushed = has_users(all, channel, kind, Side::Push);
+    let popped = has_users(readers, channel, kind, Side::Pop);
+    let pushed = has_users(writers, channel, kind, Side::Push);
     popped && pushed
 }
 
 /// The number of the first channel that lacks them.
-fn first_lacking(all: &[IndexSet<Port>], channels: &[Channel]) -> Option<u64>
-    requires { length channels.now ≤ 2 ^ 30 }
-    ensures { (modules : Items ModuleOf) → HavePorts all.now modules
+fn first_unserved(readers: &[u8], writers: &[u8], channels: &[Channel]) -> Option<u64>
+    requires few { length channels.now ≤ 2 ^ 30 }
+    requires popped { length readers.now ≡ length channels.now }
+    requires pushed { length writers.now ≡ length channels.now }
+    ensures { (modules : Items ModuleOf) → AreUsers modules Pop readers.now → AreUsers modules Push writers.now
         → result ≡ place_where (lacks_users modules) (enumerate_from 0 channels.now) }
 {
     for (at, channel) in channels.iter().enumerate() {
-        if !is_served(all, at as u32, channel.kind) {
+        if !is_served(readers, writers, at as u32, channel.kind) {
             return Some(at as u64);
         }
     }
     None
 }
 
+/// The number of the first channel that lacks readers or writers, where each module uses these ports.
+fn first_lacking(
+    alloc: Global,
+    all: &[IndexSet<Port>],
+    channels: &[Channel],
+) -> Result<Option<u64>, OutOfMemory>
+    requires { length channels.now ≤ 2 ^ 30 }
+    ensures { (modules : Items ModuleOf) → HavePorts all.now modules
+        → IfOk result (λ first. first ≡ place_where (lacks_users modules) (enumerate_from 0 channels.now)) }
+{
+    let readers = count_users(alloc, all, Side::Pop, channels.len())?;
+    let writers = count_users(alloc, all, Side::Push, channels.len())?;
+    Ok(first_unserved(readers.as_slice(), writers.as_slice(), channels))
+}
+
 /// The first of a plan that breaks a rule.
 fn broken_by(
     alloc: Global,
+    scale: Scale,
     plan: &Plan,
     all: &[IndexSet<Port>],
     rule: Code,
 ) -> Result<Option<Item>, OutOfMemory>
     requires ports { HavePorts all.now plan.now.design.modules }
     requires few { length plan.now.design.channels ≤ 2 ^ 30 }
-    ensures { IfOk result (λ i. i ≡ broken_by plan.now rule) }
+    ensures { IfOk result (λ i. i ≡ broken_by scale plan.now rule) }
 {
     match rule {
-        Code::BadLimit => Ok(if breaks_limits(plan.cycles, plan.ops) {
+        Code::BadLimit => Ok(if breaks_limits(scale, plan.cycles, plan.ops) {
             Some(Item::Limits)
         } else {
             None
         }),
-        Code::Ends => Ok(match first_lacking(all, plan.design.channels.as_slice()) {
-            Some(number) => Some(Item::Channel(number)),
-            None => None,
-        }),
-        _ => item_in(alloc, rule, plan.design.modules.as_slice(), all),
+        Code::Ends => Ok(
+            match first_lacking(alloc, all, plan.design.channels.as_slice())? {
+                Some(number) => Some(Item::Channel(number)),
+                None => None,
+            },
+        ),
+        _ => item_in(alloc, scale, rule, plan.design.modules.as_slice(), all),
     }
 }
 
 /// The first of these rules that a plan breaks, and the first that breaks it.
 fn first_broken(
     alloc: Global,
+    scale: Scale,
     plan: &Plan,
     all: &[IndexSet<Port>],
     rules: &[Code],
 ) -> Result<Option<(Code, Item)>, OutOfMemory>
     requires ports { HavePorts all.now plan.now.design.modules }
     requires few { length plan.now.design.channels ≤ 2 ^ 30 }
-    ensures { IfOk result (λ fault. fault ≡ first_for (broken_by plan.now) rules.now) }
+    ensures { IfOk result (λ fault. fault ≡ first_for (broken_by scale plan.now) rules.now) }
 {
     for rule in rules {
-        if let Some(item) = broken_by(alloc, plan, all, *rule)? {
+        if let Some(item) = broken_by(alloc, scale, plan, all, *rule)? {
             return Ok(Some((*rule, item)));
         }
     }
@@ -254,10 +281,11 @@ fn first_broken(
 #[tactic(auto, unfolding(crate::specs::Rules::checking_fault))]
 pub(crate) fn checking_fault(
     alloc: Global,
+    scale: Scale,
     plan: &Plan,
 ) -> Result<Option<(Code, Item)>, OutOfMemory>
     requires { length plan.now.design.channels ≤ 2 ^ 30 }
-    ensures { IfOk result (λ fault. fault ≡ checking_fault plan.now) }
+    ensures { IfOk result (λ fault. fault ≡ checking_fault scale plan.now) }
 {
     let all = ports_of_each(alloc, plan.design.modules.as_slice())?;
     let rules = [
@@ -269,5 +297,5 @@ pub(crate) fn checking_fault(
         Code::BadOffset,
         Code::WrongSide,
     ];
-    first_broken(alloc, plan, all.as_slice(), &rules)
+    first_broken(alloc, scale, plan, all.as_slice(), &rules)
 }

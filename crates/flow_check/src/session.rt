@@ -5,31 +5,39 @@ ghost use Rattle.flow_design.specs.StaticRules.{FitsEngine};
 ghost use Rattle.flow_grammar.specs.Rules.{KeepsReadingRules};
 ghost use Rattle.session_plan.specs.Plans.{plan_of, edits_of};
 ghost use Rattle.flow_check.specs.Checked.{fault_of, IsRefusal};
+ghost use Rattle.flow_check.specs.Scales.{KeepsScale};
 
 use crate::place::line_of;
 use crate::rules::checking_fault;
+use flow_design::limits::Scale;
 use flow_design::{Session, Statement};
 use flow_grammar::{ReadFail, TextFault};
 use flow_word::{OutOfMemory, Words};
 use session_plan::{Checked, elaborate};
 use std::alloc::Global;
 
-/// Checks a session, of which each statement stands at the line of its number among `lines`, and gives its plan and its
-/// edits.
-pub fn check(alloc: Global, session: &Session, lines: &Words) -> Result<Checked, ReadFail>
+/// Checks a session at a scale, of which each statement stands at the line of its number among `lines`, and gives its
+/// plan and its edits.
+pub fn check(
+    alloc: Global,
+    scale: Scale,
+    session: &Session,
+    lines: &Words,
+) -> Result<Checked, ReadFail>
     // A session that is checked has no fault, and this is its plan, and these are its edits.
-    ensures faultless { IfOk result (λ _. fault_of session.now.statements lines.now ≡ None) }
-    ensures plan { IfOk result (λ checked. checked.plan ≡ plan_of session.now.statements) }
+    ensures faultless { IfOk result (λ _. fault_of scale session.now.statements lines.now ≡ None) }
+    ensures plan { IfOk result (λ checked. checked.plan ≡ plan_of scale session.now.statements) }
     ensures edits { IfOk result (λ checked. checked.edits ≡ edits_of session.now.statements) }
-    // The engine takes the plan, and the plan each edit, where the session was read.
-    ensures engine { KeepsReadingRules session.now.statements → IfOk result (λ checked. FitsEngine checked.plan) }
-    ensures editable { KeepsReadingRules session.now.statements → IfOk result (λ checked. All (EditFits checked.plan) checked.edits) }
+    // Where the session was read, the engine takes the plan, which keeps the scale, and the plan takes each edit.
+    ensures engine { KeepsReadingRules scale session.now.statements → IfOk result (λ checked. FitsEngine checked.plan) }
+    ensures keeps { KeepsReadingRules scale session.now.statements → IfOk result (λ checked. KeepsScale scale checked.plan) }
+    ensures editable { KeepsReadingRules scale session.now.statements → IfOk result (λ checked. All (EditFits checked.plan) checked.edits) }
     // A session that is refused has this fault.
-    ensures fault { IfErr result (IsRefusal session.now.statements lines.now) }
+    ensures fault { IfErr result (IsRefusal scale session.now.statements lines.now) }
 {
     let statements = session.statements.as_slice();
-    let checked = elaborate(alloc, statements)?;
-    match fault_of(alloc, &checked, statements, lines.as_slice())? {
+    let checked = elaborate(alloc, scale, statements)?;
+    match fault_of(alloc, scale, &checked, statements, lines.as_slice())? {
         Some(fault) => Err(ReadFail::Text(fault)),
         None => Ok(checked),
     }
@@ -38,15 +46,16 @@ pub fn check(alloc: Global, session: &Session, lines: &Words) -> Result<Checked,
 /// The checking fault of a session, from its plan.
 fn fault_of(
     alloc: Global,
+    scale: Scale,
     checked: &Checked,
     statements: &[Statement],
     lines: &[u64],
 ) -> Result<Option<TextFault>, OutOfMemory>
-    requires plan { checked.now.plan ≡ plan_of statements.now }
+    requires plan { checked.now.plan ≡ plan_of scale statements.now }
     requires few { length checked.now.plan.design.channels ≤ 2 ^ 30 }
-    ensures { IfOk result (λ fault. fault ≡ fault_of statements.now lines.now) }
+    ensures { IfOk result (λ fault. fault ≡ fault_of scale statements.now lines.now) }
 {
-    match checking_fault(alloc, &checked.plan)? {
+    match checking_fault(alloc, scale, &checked.plan)? {
         Some((code, item)) => Ok(Some(TextFault {
             line: line_of(statements, lines, &item),
             code,

@@ -6,6 +6,7 @@ use Rattle.std.specs.List.{AllByRecursion, filter_map}
 use Rattle.std.proofs.lemmas.Bool.{and_parts, cond_both}
 use Rattle.std.proofs.lemmas.Bool.Decides.{nat_tests}
 use Rattle.std.proofs.lemmas.List.Sums.{take_while-cons}
+use Rattle.flow_design.specs.declared.limits.Scale.TheVariants.{Standard}
 use Rattle.flow_design.specs.declared.session.Statement.{Statement}
 use Rattle.flow_design.specs.declared.session.Statement.TheVariants.{Block, Loop, At}
 use Rattle.flow_design.specs.declared.design.Module.{Module}
@@ -56,7 +57,7 @@ none_in l f g (x ∷ xs) none h =
 
 -- ---- the two rules on a loop's clocks
 
-loop_kept : (m : Module) (scope : Scope) (x : Section) → Fits x.0 → spot code.BadLoop m (block scope x) ≡ None
+loop_kept : (m : Module) (scope : Scope) (x : Section) → Fits x.0 → spot Standard code.BadLoop m (block scope x) ≡ None
 unfolding block
 loop_kept m scope (Loop n ii len again, body) f = let paced = f.paced in grind (arith, nat_tests)
 loop_kept m scope (s, body) f = refl
@@ -73,20 +74,20 @@ in_time scope len least (At off guard o ∷ body) f =
     let early = f.0.paced in let later = in_time scope len least body f.1 in grind (arith, nat_tests)
 in_time scope len least (s ∷ body) f = in_time scope len least body f.1
 
-offsets_kept : (m : Module) (scope : Scope) (x : Section) → IsSection level.Blocks x → spot code.BadOffset m (block scope x) ≡ None
+offsets_kept : (m : Module) (scope : Scope) (x : Section) → IsSection level.Blocks x → spot Standard code.BadOffset m (block scope x) ≡ None
 unfolding block
 offsets_kept m scope x p = ap (option_map Operation)
     (in_time (record scope { temps = filter_map (declared sort.Temps) x.1 }) (len_of x.0) (long_enough x.0 p.0 p.1.paced) x.1 p.2)
 
 -- a rule that each block keeps
-kept : (rule : Code) → ((m : Module) (scope : Scope) (x : Section) → IsSection level.Blocks x → spot rule m (block scope x) ≡ None)
+kept : (rule : Code) → ((m : Module) (scope : Scope) (x : Section) → IsSection level.Blocks x → spot Standard rule m (block scope x) ≡ None)
     → (ss : List Statement) → AllFit ss
-    → option_map in_module (first_in (spot_in rule) (map (module_of (channel_names ss)) (sections level.Modules ss)))
+    → option_map in_module (first_in (spot_in Standard rule) (map (module_of (channel_names ss)) (sections level.Modules ss)))
     ≡ None
 unfolding module_of
 kept rule keeps ss f =
-    ap (option_map in_module) (none_in level.Modules (spot_in rule) (module_of (channel_names ss)) (sections level.Modules ss)
-    (λ x p. none_in level.Blocks (spot rule (module_of (channel_names ss) x)) (block (scope_of (channel_names ss) x.1))
+    ap (option_map in_module) (none_in level.Modules (spot_in Standard rule) (module_of (channel_names ss)) (sections level.Modules ss)
+    (λ x p. none_in level.Blocks (spot Standard rule (module_of (channel_names ss) x)) (block (scope_of (channel_names ss) x.1))
     (sections level.Blocks x.1) (keeps (module_of (channel_names ss) x) (scope_of (channel_names ss) x.1))
     (sections_fit level.Blocks x.1 p.2)) (sections_fit level.Modules ss f))
 
@@ -95,7 +96,7 @@ kept rule keeps ss f =
 none_of : {X : Type 0} (o : Option X) → not (is_some o) ≡ true → o ≡ None
 none_of o h = grind arith
 
-pub faultless : (seed modules : ℕ) → 1 ≤ modules → modules ≤ 64 → checking_fault (plan_of (session seed modules)) ≡ None
+pub faultless : (seed modules : ℕ) → 1 ≤ modules → modules ≤ 64 → checking_fault Standard (plan_of Standard (session seed modules)) ≡ None
 unfolding session checks checking_fault plan_of
 faultless seed zero some most = absurd (omega arith)
 faultless seed (suc n) some most =
@@ -104,14 +105,14 @@ faultless seed (suc n) some most =
     let names = and_parts _ _ (all_checked (drawn seed) n (omega arith)) in
     let limits = and_parts _ _ names.1 in let ends = and_parts _ _ limits.1 in let ports = and_parts _ _ ends.1 in
     rw (
-      none_of (broken_by (plan_of ss) code.UnknownName) names.0,
-      none_of (broken_by (plan_of ss) code.BadLimit) limits.0,
-      none_of (broken_by (plan_of ss) code.Ends) ends.0,
-      none_of (broken_by (plan_of ss) code.PortClash) ports.0,
+      none_of (broken_by Standard (plan_of Standard ss) code.UnknownName) names.0,
+      none_of (broken_by Standard (plan_of Standard ss) code.BadLimit) limits.0,
+      none_of (broken_by Standard (plan_of Standard ss) code.Ends) ends.0,
+      none_of (broken_by Standard (plan_of Standard ss) code.PortClash) ports.0,
       kept code.BadLoop (λ m scope x p. loop_kept m scope x p.1) ss fits,
       kept code.BadOffset offsets_kept ss fits,
-      none_of (broken_by (plan_of ss) code.WrongSide) (and_parts _ _ ports.1).0,
+      none_of (broken_by Standard (plan_of Standard ss) code.WrongSide) (and_parts _ _ ports.1).0,
     ) refl
 
-pub checked : (seed modules : ℕ) (lines : List ℕ) → 1 ≤ modules → modules ≤ 64 → fault_of (session seed modules) lines ≡ None
+pub checked : (seed modules : ℕ) (lines : List ℕ) → 1 ≤ modules → modules ≤ 64 → fault_of Standard (session seed modules) lines ≡ None
 checked seed modules lines some most = ap (option_map (at_line (session seed modules) lines)) (faultless seed modules some most)

@@ -5,7 +5,8 @@ use Rattle.std.specs.Prelude.{max, nat_le, codes}
 use Rattle.std.specs.List.{AllByRecursion, list_all}
 use Rattle.std.proofs.lemmas.Bool.{and_from, and_parts, le-leb}
 use Rattle.std.proofs.lemmas.List.Folds.{list_all-append}
-use Rattle.flow_design.specs.declared.limits.TheConstants.{BLOCK_CLOCKS, EXPRESSION_DEPTH, EXPRESSION_NODES, FIFO_DEPTH, LIVE_ITERATIONS}
+use Rattle.flow_design.specs.declared.limits.TheConstants.{BLOCK_CLOCKS, EXPRESSION_DEPTH, EXPRESSION_NODES, FIFO_DEPTH, STANDARD}
+use Rattle.flow_design.specs.declared.limits.Scale.TheVariants.{Standard}
 use Rattle.flow_design.specs.declared.session.Statement.{Statement}
 use Rattle.flow_design.specs.declared.session.Statement.TheVariants.{Flow, Source, Sink, Block, Loop, At, Input, End}
 use Rattle.flow_design.specs.declared.expr.Op.TheVariants.{Set, Write}
@@ -16,7 +17,7 @@ use Rattle.flow_design.specs.declared.expr.BinOp.TheVariants.{Add, LtU}
 use Rattle.flow_design.specs.Words.{nodes, depth, layer_nodes, layer_depth}
 use Rattle.flow_grammar.specs.Operators.{binary_word}
 use Rattle.flow_grammar.specs.Parts.{Part, Word, Use, AVariable, plain, parts, expr_parts}
-use Rattle.flow_grammar.specs.Rules.{is_in_range, is_small, has_room}
+use Rattle.flow_grammar.specs.Rules.{is_in_range, is_sized, is_small, has_room}
 use Rattle.flow_grammar.proofs.SpellingLaws.{parts_Number, parts_Var, parts_Binary}
 use Rattle.flow_grammar.proofs.Trees.{folded-Number, folded-Var, folded-Binary}
 use Rattle.flow_gen.specs.Generated.{Name, drawn, drawn_from, each, fifo_behind, first_clock, head_of, module_of, second_clock, session_of}
@@ -83,7 +84,7 @@ in_word n below = and_from _ _ (le-leb 0 n (omega arith)) (le-leb n (2 ^ 64 - 1)
 
 -- a loop whose iteration takes at least two clocks, and an operation in the first two
 abbrev pub IsPaced : Statement → Type 0
-IsPaced (Loop n ii len again) = (2 ≤ len) × (ii ≤ len) × (len ≤ LIVE_ITERATIONS * ii)
+IsPaced (Loop n ii len again) = (2 ≤ len) × (ii ≤ len) × (len ≤ STANDARD.live_iterations * ii)
 IsPaced (Block n len) = 2 ≤ len
 IsPaced (At off guard o) = off < 2
 IsPaced s = Unit {0}
@@ -93,17 +94,19 @@ pub record Fits (s : Statement) : Type 0 where
   pub covers : (q : Part → Bool) → ((w : List ℕ) → nat_le (length w) 64 ≡ true → q (Word w) ≡ true)
       → ((n : ℕ) → n < 2 ^ 64 → q (plain n) ≡ true)
       → list_all q (seen s) ≡ true → list_all q (parts s) ≡ true
-  pub room : (earlier : List Statement) → has_place earlier s ≡ true → has_room earlier s ≡ true
+  pub room : (earlier : List Statement) → has_place earlier s ≡ true → has_room Standard earlier s ≡ true
   pub ranges : list_all is_in_range (parts s) ≡ true
+  pub sized : is_sized Standard s ≡ true
   pub few : length (parts s) ≤ most_parts s
   pub paced : IsPaced s
 
-whole : (s : Statement) → seen s ≡ parts s → ((earlier : List Statement) → has_place earlier s ≡ true → has_room earlier s ≡ true)
-    → list_all is_in_range (parts s) ≡ true → length (parts s) ≤ most_parts s → IsPaced s → Fits s
-whole s same room ranges few paced = record {
+whole : (s : Statement) → seen s ≡ parts s → ((earlier : List Statement) → has_place earlier s ≡ true → has_room Standard earlier s ≡ true)
+    → list_all is_in_range (parts s) ≡ true → is_sized Standard s ≡ true → length (parts s) ≤ most_parts s → IsPaced s → Fits s
+whole s same room ranges sized few paced = record {
   covers = λ q w p h. subst (λ (ps : List Part). list_all q ps ≡ true) same h;
   room = room;
   ranges = ranges;
+  sized = sized;
   few = few;
   paced = paced;
 }
@@ -121,6 +124,7 @@ setting r e s h f a b = record {
       (and_from _ _ both.0 (f.covers q w p both.1))));
   room = λ earlier place. and_from _ _ place (is_small_by e s h f a b);
   ranges = f.covers is_in_range (λ w short. refl) in_word refl;
+  sized = refl;
   few = omega (arith, f.count_is);
   paced = omega arith;
 }
@@ -133,6 +137,7 @@ writing output e s h f a b = record {
       (and_from _ _ both.0 (f.covers q w p both.1))));
   room = λ earlier place. and_from _ _ place (is_small_by e s h f a b);
   ranges = f.covers is_in_range (λ w short. refl) in_word refl;
+  sized = refl;
   few = omega (arith, f.count_is);
   paced = omega arith;
 }
@@ -167,7 +172,8 @@ fifo_fits : (k : ℕ) (d : Drawn) → IsDrawn d → AllFit (fifo_behind k d)
 fifo_fits k d drawn =
     let low = le-leb 1 d.depth drawn.some_depth in
     let high = le-leb d.depth FIFO_DEPTH (omega (arith, drawn.few)) in
-    (whole _ refl (λ e h. h) (and_from _ _ (and_from _ _ low high) refl) (omega arith) tt, tt)
+    let sized = le-leb d.depth STANDARD.fifo_depth (omega (arith, drawn.few)) in
+    (whole _ refl (λ e h. h) (and_from _ _ (and_from _ _ low high) refl) sized (omega arith) tt, tt)
 
 module_fits : (modules k : ℕ) (d : Drawn) → IsDrawn d → AllFit (module_of modules k d)
 unfolding head_of first_clock second_clock
@@ -176,32 +182,33 @@ module_fits modules k d drawn =
     let at_most = le-leb d.interval BLOCK_CLOCKS (omega (arith, drawn.most)) in
     let longer = and_from _ _ (le-leb 1 (d.interval + 1) (omega arith))
     (le-leb (d.interval + 1) BLOCK_CLOCKS (omega (arith, drawn.most))) in
+    let sized = and_from _ _ at_most (le-leb (d.interval + 1) BLOCK_CLOCKS (omega (arith, drawn.most))) in
     let counted = binary Add (Var (codes "n")) (Number 1) 1 1 1 1 refl of_n (number 1 (omega arith)) in
     let compared = binary LtU (Var (codes "n")) (Number 999) 1 1 1 1 refl of_n (number 999 (omega arith)) in
     let added = binary Add (Number d.addend) (Var (codes "e")) 1 1 1 1 refl (number d.addend (omega (arith, drawn.small))) of_e in (
-      whole _ refl (λ e h. h) refl (omega arith) tt,
+      whole _ refl (λ e h. h) refl refl (omega arith) tt,
       (
-        whole _ refl (λ e h. h) refl (omega arith) tt,
+        whole _ refl (λ e h. h) refl refl (omega arith) tt,
         (
-          whole _ refl (λ e h. h) refl (omega arith) tt,
+          whole _ refl (λ e h. h) refl refl (omega arith) tt,
           (
-            whole _ refl (λ e h. h) refl (omega arith) tt,
+            whole _ refl (λ e h. h) refl refl (omega arith) tt,
             (
-              whole _ refl (λ e h. h) refl (omega arith) tt,
+              whole _ refl (λ e h. h) refl refl (omega arith) tt,
               (
-                whole _ refl (λ e h. h) (and_from _ _ (and_from _ _ at_least at_most) (and_from _ _ longer refl)) (omega arith)
+                whole _ refl (λ e h. h) (and_from _ _ (and_from _ _ at_least at_most) (and_from _ _ longer refl)) sized (omega arith)
                     (omega (arith, drawn.least), omega arith, omega (arith, drawn.least)),
                 (
-                  whole _ refl (λ e h. and_from _ _ h refl) refl (omega arith) (omega arith),
+                  whole _ refl (λ e h. and_from _ _ h refl) refl refl (omega arith) (omega arith),
                   (
-                    whole _ refl (λ e h. and_from _ _ h refl) refl (omega arith) (omega arith),
+                    whole _ refl (λ e h. and_from _ _ h refl) refl refl (omega arith) (omega arith),
                     (
                       setting _ _ 3 2 counted (omega arith) (omega arith),
                       (
                         setting _ _ 3 2 compared (omega arith) (omega arith),
                         (
                           writing _ _ 5 3 (binary Add (Var (codes "x")) _ 1 3 1 2 refl of_x added) (omega arith) (omega arith),
-                          (whole _ refl (λ e h. h) refl (omega arith) tt, tt),
+                          (whole _ refl (λ e h. h) refl refl (omega arith) tt, tt),
                         ),
                       ),
                     ),
@@ -219,14 +226,14 @@ unfolding values
 session_fits seed modules =
     let good : (k : ℕ) → IsDrawn (drawn seed k) = λ k. from_state (state_after seed (3 * k)) in
     both_fit (Flow 1 ∷ Source (codes "a") 32 ∷ Sink (codes "y") 32 ∷ []) _ (
-      whole _ refl (λ e h. h) refl (omega arith) tt,
+      whole _ refl (λ e h. h) refl refl (omega arith) tt,
       (
-        whole _ refl (λ e h. h) refl (omega arith) tt,
-        (whole _ refl (λ e h. h) refl (omega arith) tt, tt),
+        whole _ refl (λ e h. h) refl refl (omega arith) tt,
+        (whole _ refl (λ e h. h) refl refl (omega arith) tt, tt),
       ),
     )
     (both_fit (each fifo_behind (drawn seed) (modules - 1)) _
     (each_fits fifo_behind (drawn seed) (modules - 1) (λ k. fifo_fits k (drawn seed k) (good k)))
     (both_fit (each (module_of modules) (drawn seed) modules) (Input (codes "a") values ∷ End ∷ [])
     (each_fits (module_of modules) (drawn seed) modules (λ k. module_fits modules k (drawn seed k) (good k)))
-    (whole _ refl (λ e h. h) refl (omega arith) tt, (whole _ refl (λ e h. h) refl (omega arith) tt, tt))))
+    (whole _ refl (λ e h. h) refl refl (omega arith) tt, (whole _ refl (λ e h. h) refl refl (omega arith) tt, tt))))

@@ -4,7 +4,8 @@ use Rattle.std.specs.Prelude.{◌&&◌, nat_le, nat_lt, codes}
 use Rattle.std.specs.Fmt.{digits}
 use Rattle.std.specs.List.{list_all}
 use Rattle.std.proofs.lemmas.Bool.{agree_below_at}
-use Rattle.flow_design.specs.declared.limits.TheConstants.{OPERATIONS, TEXT_BYTES}
+use Rattle.flow_design.specs.declared.limits.TheConstants.{STANDARD}
+use Rattle.flow_design.specs.declared.limits.Scale.TheVariants.{Standard}
 use Rattle.flow_design.specs.declared.expr.Op.TheVariants as op
 use Rattle.flow_design.specs.declared.session.Statement.{Statement}
 use Rattle.flow_design.specs.declared.session.Statement.TheVariants.{At, Input}
@@ -32,8 +33,8 @@ seen s = parts s
 
 -- there is room for a statement, but for its expression
 abbrev pub has_place : List Statement → Statement → Bool
-has_place earlier (At off guard o) = nat_lt (operations earlier) OPERATIONS
-has_place earlier s = has_room earlier s
+has_place earlier (At off guard o) = nat_lt (operations earlier) STANDARD.operations
+has_place earlier s = has_room Standard earlier s
 
 -- no token of the part is long
 abbrev pub is_brief : Part → Bool
@@ -64,10 +65,10 @@ module _ (draws : ℕ → Drawn) where
   unfoldable pub reads : ℕ → Bool
   reads n =
       follow [] (session_of draws (suc n))
-      && (is_over (session_of draws (suc n)) && nat_le (sum_by (λ s. 65 * most_parts s + 1) (session_of draws (suc n))) TEXT_BYTES)
+      && (is_over (session_of draws (suc n)) && nat_le (sum_by (λ s. 65 * most_parts s + 1) (session_of draws (suc n))) STANDARD.text_bytes)
 
   unfoldable pub checks : ℕ → Bool
-  checks n = list_all (λ rule. not (is_some (broken_by (plan_of (session_of draws (suc n))) rule))) rules
+  checks n = list_all (λ rule. not (is_some (broken_by Standard (plan_of Standard (session_of draws (suc n))) rule))) rules
 
   pub all_read : (n : ℕ) → n < 64 → reads n ≡ true
   unfolding reads each head_of first_clock second_clock values digits is_name may_follow is_over

@@ -8,7 +8,8 @@ use Rattle.std.proofs.lemmas.Fmt.{length-decimal-le}
 use Rattle.std.proofs.lemmas.List.{reverse-append}
 use Rattle.std.proofs.lemmas.List.Concat.{flat_map-cons}
 use Rattle.std.proofs.lemmas.List.Sums.{sum_by-cons}
-use Rattle.flow_design.specs.declared.limits.TheConstants.{TEXT_BYTES}
+use Rattle.flow_design.specs.declared.limits.TheConstants.{STANDARD}
+use Rattle.flow_design.specs.declared.limits.Scale.TheVariants.{Standard}
 use Rattle.flow_design.specs.declared.session.Statement.{Statement}
 use Rattle.flow_grammar.specs.Parts.{Part, Word, Num, parts}
 use Rattle.flow_grammar.specs.Rules.{is_well_named, is_first_input, is_in_range, is_new, is_known, statement_fault}
@@ -24,7 +25,7 @@ use Rattle.flow_gen.proofs.Fitting.{Fits, AllFit, session_fits}
 
 -- ---- the rules of reading
 
-keeps_rules : (before : List Statement) (s : Statement) → keeps (reverse before) s ≡ true → Fits s → KeepsRules before s
+keeps_rules : (before : List Statement) (s : Statement) → keeps (reverse before) s ≡ true → Fits s → KeepsRules Standard before s
 unfolding statement_fault
 keeps_rules before s h f =
     let named = and_parts _ _ (and_parts _ _ h).1 in
@@ -38,18 +39,18 @@ keeps_rules before s h f =
       well_named = f.covers is_well_named (λ w short. refl) (λ n below. refl) named.0;
       fits = version.0;
       permitted = follows.0;
-      faultless = rw (ranges, all_new, all_known, room) refl;
+      faultless = rw (ranges, f.sized, all_new, all_known, room) refl;
     }
 
 each_keeps : (before rest : List Statement) → follow (reverse before) rest ≡ true → AllFit rest → (i : ℕ) (s : Statement)
-    → slice_get rest i ≡ Some s → KeepsRules (before ++ take i rest) s
+    → slice_get rest i ≡ Some s → KeepsRules Standard (before ++ take i rest) s
 each_keeps before [] h f i s e = absurd cc
 each_keeps before (t ∷ rest) h f zero s e =
     let same : t ≡ s = cc in
-    subst (λ (l : List Statement). KeepsRules l s) (sym (append-nil before))
-    (subst (KeepsRules before) same (keeps_rules before t (and_parts _ _ h).0 f.0))
+    subst (λ (l : List Statement). KeepsRules Standard l s) (sym (append-nil before))
+    (subst (KeepsRules Standard before) same (keeps_rules before t (and_parts _ _ h).0 f.0))
 each_keeps before (t ∷ rest) h f (suc i) s e =
-    subst (λ (l : List Statement). KeepsRules l s) (append_assoc before (t ∷ []) (take i rest))
+    subst (λ (l : List Statement). KeepsRules Standard l s) (append_assoc before (t ∷ []) (take i rest))
     (each_keeps (before ++ t ∷ []) rest (subst (λ (l : List Statement). follow l rest ≡ true) (sym (reverse-append before (t ∷ [])))
     (and_parts _ _ h).1) f.1 i s e)
 
@@ -96,7 +97,7 @@ text_short earlier (s ∷ rest) h f =
 
 -- ---- the whole
 
-pub kept : (seed modules : ℕ) → 1 ≤ modules → modules ≤ 64 → KeepsReadingRules (session seed modules)
+pub kept : (seed modules : ℕ) → 1 ≤ modules → modules ≤ 64 → KeepsReadingRules Standard (session seed modules)
 unfolding session reads
 kept seed zero some most = absurd (omega arith)
 kept seed (suc n) some most =
@@ -105,15 +106,15 @@ kept seed (suc n) some most =
       over = (and_parts _ _ tests.1).0;
     }
 
-short : (seed modules : ℕ) → 1 ≤ modules → modules ≤ 64 → length (session_text seed modules) ≤ TEXT_BYTES
+short : (seed modules : ℕ) → 1 ≤ modules → modules ≤ 64 → length (session_text seed modules) ≤ STANDARD.text_bytes
 unfolding session reads canonical_text
 short seed zero some most = absurd (omega arith)
 short seed (suc n) some most =
     let ss : List Statement = session_of (drawn seed) (suc n) in
     let tests = and_parts (follow [] ss) _ (all_read (drawn seed) n (omega arith)) in
-    let few : sum_by (λ s. 65 * most_parts s + 1) ss ≤ TEXT_BYTES = leb-true _ TEXT_BYTES (and_parts _ _ tests.1).1 in
+    let few : sum_by (λ s. 65 * most_parts s + 1) ss ≤ STANDARD.text_bytes = leb-true _ STANDARD.text_bytes (and_parts _ _ tests.1).1 in
     omega (arith, few, text_short [] ss tests.0 (session_fits seed (suc n)))
 
 pub stands : (seed modules : ℕ) → 1 ≤ modules → modules ≤ 64
-    → StandsFor (session_text seed modules) (session seed modules) (range_with_len 1 (length (session seed modules)))
-stands seed modules some most = reads_back (session seed modules) (kept seed modules some most) (short seed modules some most)
+    → StandsFor Standard (session_text seed modules) (session seed modules) (range_with_len 1 (length (session seed modules)))
+stands seed modules some most = reads_back Standard (session seed modules) (kept seed modules some most) (short seed modules some most)

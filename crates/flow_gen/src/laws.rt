@@ -2,7 +2,8 @@
 ghost use Rattle.std.specs.Prelude.{◌≡◌, ◌≤◌, ℕ, List, None, length};
 ghost use Rattle.std.specs.List.{range_with_len};
 ghost use Rattle.flow_design.specs.StaticRules.{FitsEngine};
-ghost use Rattle.flow_design.specs.declared.limits.TheConstants.{MODULES};
+ghost use Rattle.flow_design.specs.declared.limits.Scale.TheVariants.{Standard};
+ghost use Rattle.flow_design.specs.declared.limits.TheConstants.{STANDARD};
 ghost use Rattle.flow_gen.specs.Generated.{session, session_text};
 ghost use Rattle.flow_grammar.specs.Text.{StandsFor};
 ghost use Rattle.flow_check.specs.Checked.{fault_of};
@@ -11,18 +12,19 @@ ghost use Rattle.session_plan.specs.Plans.{plan_of};
 use flow_check::checked_plans_fit;
 
 /// The text of each seed and each number of modules from 1 to 64 stands for the session of which it is the canonical text, with its
-/// statements on the lines 1, 2, 3 and so on.
+/// statements on the lines 1, 2, 3 and so on. It keeps the limits of the language as it stands.
 pub fn generated_texts_are_read()
-    ensures { (seed modules : ℕ) → 1 ≤ modules → modules ≤ MODULES
-        → StandsFor (session_text seed modules) (session seed modules) (range_with_len 1 (length (session seed modules))) }
+    ensures { (seed modules : ℕ) → 1 ≤ modules → modules ≤ STANDARD.modules
+        → StandsFor Standard (session_text seed modules) (session seed modules) (range_with_len 1 (length (session seed modules))) }
 {}
 
 /// The session of each seed and each number of modules from 1 to 64 has no fault of checking, whatever its lines, and the engine takes
 /// its plan.
 pub fn generated_sessions_are_checked()
-    ensures faultless { (seed modules : ℕ) (lines : List ℕ) → 1 ≤ modules → modules ≤ MODULES
-        → fault_of (session seed modules) lines ≡ None }
-    ensures engine { (seed modules : ℕ) → 1 ≤ modules → modules ≤ MODULES → FitsEngine (plan_of (session seed modules)) }
+    ensures faultless { (seed modules : ℕ) (lines : List ℕ) → 1 ≤ modules → modules ≤ STANDARD.modules
+        → fault_of Standard (session seed modules) lines ≡ None }
+    ensures engine { (seed modules : ℕ) → 1 ≤ modules → modules ≤ STANDARD.modules
+        → FitsEngine (plan_of Standard (session seed modules)) }
 {
     checked_plans_fit();
 }

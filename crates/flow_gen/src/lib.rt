@@ -2,7 +2,7 @@
 #![tactic(auto)]
 
 ghost use Rattle.std.specs.Prelude.{◌≡◌, ◌≤◌, IfOk};
-ghost use Rattle.flow_design.specs.declared.limits.TheConstants.{MODULES};
+ghost use Rattle.flow_design.specs.declared.limits.TheConstants.{STANDARD};
 ghost use Rattle.flow_gen.specs.Generated.{session_text};
 
 mod draws;
@@ -23,7 +23,7 @@ use std::alloc::Global;
 pub fn generate(alloc: Global, seed: u64, modules: u64) -> Result<List<u8>, OutOfMemory>
     requires seed { seed ≤ 65_535 }
     requires some { 1 ≤ modules }
-    requires most { modules ≤ MODULES }
+    requires most { modules ≤ STANDARD.modules }
     ensures { IfOk result (λ text. text ≡ session_text seed modules) }
 {
     print_session(alloc, &generate_session(alloc, seed, modules)?)

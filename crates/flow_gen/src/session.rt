@@ -1,6 +1,6 @@
 //! The statements of the session.
 ghost use Rattle.std.specs.Prelude.{◌≡◌, ◌++◌, ◌≤◌, ◌<◌, IfOk, OnOk};
-ghost use Rattle.flow_design.specs.declared.limits.TheConstants.{MODULES};
+ghost use Rattle.flow_design.specs.declared.limits.TheConstants.{STANDARD};
 ghost use Rattle.flow_gen.specs.Generated.{drawn, each, fifo_behind, fifo_name, first_clock, head_of, input_of, module_name};
 ghost use Rattle.flow_gen.specs.Generated.{module_of, output_of, second_clock, session, values as values_given};
 
@@ -17,7 +17,7 @@ const VALUES: u64 = 1000;
 pub fn generate_session(alloc: Global, seed: u64, modules: u64) -> Result<Session, OutOfMemory>
     requires seed { seed ≤ 65_535 }
     requires some { 1 ≤ modules }
-    requires most { modules ≤ MODULES }
+    requires most { modules ≤ STANDARD.modules }
     ensures { IfOk result (λ made. made.statements ≡ session seed modules) }
 {
     let mut statements = List::new(alloc);
@@ -45,7 +45,7 @@ impl Maker {
     #[tactic(auto, using(crate::proofs::Steps::pushing))]
     fn push_fifos(&mut self, seed: u64, fifos: u64) -> Result<(), OutOfMemory>
         requires seed { seed ≤ 65_535 }
-        requires most { fifos ≤ MODULES }
+        requires most { fifos ≤ STANDARD.modules }
         ensures { OnOk result (self.new.statements ≡ self.old.statements ++ each fifo_behind (drawn seed) fifos) }
     {
         let mut state = seed;
@@ -59,7 +59,7 @@ impl Maker {
     #[tactic(auto, using(crate::proofs::Steps::pushing))]
     fn push_modules(&mut self, seed: u64, modules: u64) -> Result<(), OutOfMemory>
         requires seed { seed ≤ 65_535 }
-        requires most { modules ≤ MODULES }
+        requires most { modules ≤ STANDARD.modules }
         ensures { OnOk result (self.new.statements ≡ self.old.statements ++ each (module_of modules) (drawn seed) modules) }
     {
         let mut state = seed;
@@ -70,7 +70,7 @@ impl Maker {
     }
 
     fn push_fifo(&mut self, k: u64, drawn: Drawn) -> Result<(), OutOfMemory>
-        requires { k < MODULES }
+        requires { k < STANDARD.modules }
         ensures { OnOk result (self.new.statements ≡ self.old.statements ++ fifo_behind k drawn) }
     {
         let depth = u64::from(drawn.depth);
@@ -84,7 +84,7 @@ impl Maker {
     }
 
     fn push_module(&mut self, modules: u64, k: u64, drawn: Drawn) -> Result<(), OutOfMemory>
-        requires { k < MODULES }
+        requires { k < STANDARD.modules }
         ensures { OnOk result (self.new.statements ≡ self.old.statements ++ module_of modules k drawn) }
     {
         self.push_head(k, u64::from(drawn.interval))?;
@@ -187,7 +187,7 @@ fn input_of(alloc: Global, k: u64) -> Result<Name, OutOfMemory>
 
 /// The channel that a module writes: the sink, or the FIFO behind it.
 fn output_of(alloc: Global, modules: u64, k: u64) -> Result<Name, OutOfMemory>
-    requires { k < MODULES }
+    requires { k < STANDARD.modules }
     ensures { IfOk result (λ name. name ≡ output_of modules k) }
 {
     if k + 1 == modules {

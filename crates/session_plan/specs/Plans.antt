@@ -14,11 +14,13 @@ use Rattle.flow_design.specs.declared.design.Module.{Module as ModuleOfPlan}
 use Rattle.flow_design.specs.declared.design.Next.TheVariants as next
 use Rattle.flow_design.specs.declared.plan.Plan.{Plan}
 use Rattle.flow_design.specs.declared.plan.Edit.{Edit}
+use Rattle.flow_design.specs.declared.limits.Scale.{Scale}
+use Rattle.flow_design.specs.Limits.{limits_at}
 use Rattle.flow_design.specs.Words.{cut_to}
 use Rattle.session_plan.specs.Names.{Name, number_of, Scope}
 use Rattle.session_plan.specs.Sections.{sections, declared, declared_width}
 use Rattle.session_plan.specs.Numbered.{timed, terminator}
-use Rattle.session_plan.specs.declared.defaults.TheConstants.{CYCLES, COUNTED_OPERATIONS}
+use Rattle.session_plan.specs.declared.defaults.TheConstants.{CYCLES}
 use Rattle.session_plan.specs.declared.section.Level.TheVariants as level
 use Rattle.session_plan.specs.declared.section.Sort.TheVariants as sort
 
@@ -115,8 +117,8 @@ limits (Limits cycles ops) = Some (cycles, ops)
 limits s = None
 
 -- the same of a session: the defaults where no statement gives any
-abbrev pub limits_of : List Statement → ℕ × ℕ
-limits_of statements = first_or (CYCLES, COUNTED_OPERATIONS) (filter_map limits statements)
+abbrev pub limits_of : Scale → List Statement → ℕ × ℕ
+limits_of scale statements = first_or (CYCLES, (limits_at scale).default_operations) (filter_map limits statements)
 
 abbrev pub edit : List Name → Statement → Option Edit
 edit names (Depth n depth) = Some (record { channel = number_of names n; depth = depth })
@@ -133,12 +135,12 @@ channel_names statements = filter_map (declared sort.Channels) statements
 abbrev pub modules_of : List Statement → List ModuleOfPlan
 modules_of statements = map (module_of (channel_names statements)) (sections level.Modules statements)
 
-unfoldable pub plan_of : List Statement → Plan
-plan_of statements = record {
+unfoldable pub plan_of : Scale → List Statement → Plan
+plan_of scale statements = record {
   design = record { channels = channels_of statements; modules = modules_of statements };
   inputs = map (inputs_for (channel_names statements) statements) (enumerate_from 0 (channels_of statements));
-  cycles = (limits_of statements).0;
-  ops = (limits_of statements).1;
+  cycles = (limits_of scale statements).0;
+  ops = (limits_of scale statements).1;
   depths = map (λ c. depth_in c.kind) (channels_of statements);
 }
 

@@ -5,6 +5,7 @@ ghost use Rattle.session_plan.specs.Plans.{channel, channel_names, channels_of, 
 
 use crate::defaults;
 use crate::names::Names;
+use flow_design::limits::Scale;
 use flow_design::{Channel, ChannelKind, Edit, Statement};
 use flow_word::{List, OutOfMemory, TryCopy, Width, Words, cut};
 use std::alloc::Global;
@@ -81,15 +82,15 @@ pub(crate) fn depths_of(alloc: Global, channels: &[Channel]) -> Result<Words, Ou
 }
 
 /// The cycle limit, in clocks, and the operation limit of each module.
-pub(crate) fn limits_of(statements: &[Statement]) -> (u64, u64)
-    ensures { result ≡ limits_of statements.now }
+pub(crate) fn limits_of(scale: Scale, statements: &[Statement]) -> (u64, u64)
+    ensures { result ≡ limits_of scale statements.now }
 {
     for statement in statements {
         if let Statement::Limits { cycles, ops } = statement {
             return (*cycles, *ops);
         }
     }
-    (defaults::CYCLES, defaults::COUNTED_OPERATIONS)
+    (defaults::CYCLES, scale.limits().default_operations)
 }
 
 /// The edits of a session.

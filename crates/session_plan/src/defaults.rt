@@ -1,7 +1,4 @@
-//! What a session has that gives no limits of its own.
+//! What a session has that gives no limits of its own. Its operation limit is the default of its scale.
 
 /// The cycle limit, in clocks.
 pub const CYCLES: u64 = 1_000_000_000;
-
-/// The operation limit of a module.
-pub const COUNTED_OPERATIONS: u64 = 100_000;

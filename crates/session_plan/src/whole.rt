@@ -8,6 +8,7 @@ use crate::modules::modules_of;
 use crate::names::Names;
 use crate::scope::names_of;
 use crate::section::Sort;
+use flow_design::limits::Scale;
 use flow_design::{Channel, Design, Edit, Plan, Statement};
 use flow_word::{List, OutOfMemory};
 use std::alloc::Global;
@@ -22,10 +23,15 @@ pub struct Checked {
 
 /// The plan and the edits that these statements write: channels, modules, blocks, registers and memories are numbered in
 /// order of their statements, and the temps of a body follow the module's registers. A name that stands for nothing
-/// gets the count of the names among which it was looked for, so that its number is out of range.
+/// gets the count of the names among which it was looked for, so that its number is out of range. Where no statement
+/// limits the operations of a module, the scale does.
 #[tactic(auto, unfolding(crate::specs::Plans::edits_of))]
-pub fn elaborate(alloc: Global, statements: &[Statement]) -> Result<Checked, OutOfMemory>
-    ensures plan { IfOk result (λ checked. checked.plan ≡ plan_of statements.now) }
+pub fn elaborate(
+    alloc: Global,
+    scale: Scale,
+    statements: &[Statement],
+) -> Result<Checked, OutOfMemory>
+    ensures plan { IfOk result (λ checked. checked.plan ≡ plan_of scale statements.now) }
     ensures edits { IfOk result (λ checked. checked.edits ≡ edits_of statements.now) }
     // 32 bits hold the number of each channel.
     ensures few { IfOk result (λ checked. length checked.plan.design.channels ≤ 2 ^ 30) }
@@ -33,7 +39,7 @@ pub fn elaborate(alloc: Global, statements: &[Statement]) -> Result<Checked, Out
     let names = names_of(alloc, Sort::Channels, statements)?;
     let edits = edits_of(alloc, &names, statements)?;
     let channels = channels_of(alloc, &names, statements)?;
-    let plan = plan_in(alloc, &names, channels, statements)?;
+    let plan = plan_in(alloc, scale, &names, channels, statements)?;
     Ok(Checked { plan, edits })
 }
 
@@ -41,19 +47,20 @@ pub fn elaborate(alloc: Global, statements: &[Statement]) -> Result<Checked, Out
 #[tactic(auto, unfolding(crate::specs::Plans::plan_of))]
 fn plan_in(
     alloc: Global,
+    scale: Scale,
     names: &Names,
     channels: List<Channel>,
     statements: &[Statement],
 ) -> Result<Plan, OutOfMemory>
     requires channels { channels ≡ channels_of statements.now }
     requires names { names.now ≡ channel_names statements.now }
-    ensures plan { IfOk result (λ plan. plan ≡ plan_of statements.now) }
+    ensures plan { IfOk result (λ plan. plan ≡ plan_of scale statements.now) }
     ensures channels { IfOk result (λ plan. plan.design.channels ≡ channels) }
 {
     let inputs = inputs_in(alloc, names, channels.as_slice(), statements)?;
     let depths = depths_of(alloc, channels.as_slice())?;
     let modules = modules_of(alloc, names, statements)?;
-    let (cycles, ops) = limits_of(statements);
+    let (cycles, ops) = limits_of(scale, statements);
     Ok(Plan {
         design: Design { channels, modules },
         inputs,

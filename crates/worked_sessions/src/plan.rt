@@ -4,6 +4,7 @@ ghost use Rattle.flow_design.specs.StaticRules.{FitsEngine};
 
 use flow_check::check;
 use flow_design::Plan;
+use flow_design::limits::Scale;
 use flow_grammar::{ReadFail, keeps_rules};
 use flow_text::read_session;
 use std::alloc::Global;
@@ -13,7 +14,7 @@ pub fn read_plan(alloc: Global, text: &[u8]) -> Result<Plan, ReadFail>
     ensures fits { IfOk result (λ plan. FitsEngine plan) }
 {
     keeps_rules();
-    let (session, lines) = read_session(alloc, text)?;
-    let checked = check(alloc, &session, &lines)?;
+    let (session, lines) = read_session(alloc, Scale::Standard, text)?;
+    let checked = check(alloc, Scale::Standard, &session, &lines)?;
     Ok(checked.plan)
 }

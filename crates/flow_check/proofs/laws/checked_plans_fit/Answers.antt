@@ -4,4 +4,7 @@ use Rattle.flow_check.proofs.Reading.{plan_read}
 use Rattle.flow_check.proofs.laws.checked_plans_fit.Goals as goal
 
 pub returns : goal.returns
-returns c = λ statements rules none. fits (plan_of statements) (plan_read statements rules) none
+returns c = record {
+  engine = λ scale statements rules none. (fits scale (plan_of scale statements) (plan_read scale statements rules) none).0;
+  keeps = λ scale statements rules none. (fits scale (plan_of scale statements) (plan_read scale statements rules) none).1;
+}

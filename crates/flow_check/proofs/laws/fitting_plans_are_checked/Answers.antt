@@ -8,5 +8,6 @@ use Rattle.flow_check.proofs.laws.fitting_plans_are_checked.Goals as goal
 pub returns : goal.returns
 returns c = record {
   plans = strict;
-  sessions = λ statements lines fits. ap (option_map (at_line statements lines)) (strict (plan_of statements) fits);
+  sessions = λ scale statements lines fits keeps.
+      ap (option_map (at_line statements lines)) (strict scale (plan_of scale statements) fits keeps);
 }

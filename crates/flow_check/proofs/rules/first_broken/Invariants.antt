@@ -5,4 +5,4 @@ use Rattle.flow_check.proofs.rules.first_broken.Given as goal
 
 -- no rule so far is broken
 abbrev pub invariant-loop-rule : goal.invariant-loop-rule
-invariant-loop-rule l = first_for (broken_by l.plan) (drop l.rule-index l.rules) ≡ first_for (broken_by l.plan) l.rules
+invariant-loop-rule l = first_for (broken_by l.scale l.plan) (drop l.rule-index l.rules) ≡ first_for (broken_by l.scale l.plan) l.rules

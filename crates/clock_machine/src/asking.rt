@@ -1,9 +1,11 @@
 //! What a module asks of the channels.
 ghost use Rattle.std.specs.Prelude.{◌≡◌, ◌<◌, ◌≤◌, ◌^◌, IfOk, OnOk, true, length, slice_index_or};
 ghost use Rattle.flow_design.specs.StaticRules.{FitsEngine};
+ghost use Rattle.flow_design.specs.Module.{block_of};
 ghost use Rattle.lockstep_defs.specs.Machine.{is_over, nobody, requests};
 ghost use Rattle.lockstep_defs.specs.Channels.{all_ready};
 ghost use Rattle.lockstep_defs.specs.Lockstep.{module_at, moves, state_at};
+ghost use Rattle.block_code.specs.Codes.{IsBlockCodeOf};
 ghost use Rattle.module_move.specs.Sound.{IsStateSound};
 ghost use Rattle.module_move.specs.Moves.{notes_of};
 ghost use Rattle.clock_machine.specs.Parts.{AreCodes};
@@ -13,7 +15,7 @@ ghost use Rattle.clock_machine.specs.Clocks.{Runs};
 use crate::channels::any_stalls_ever;
 use crate::seat::Seat;
 use crate::standing::{Compiled, Standing};
-use block_code::Noted;
+use block_code::{BlockCode, Noted};
 use flow_design::{ClockState, Module, ModuleState, Plan, Request};
 use flow_word::{List, OutOfMemory, Words};
 use module_move::{is_over, note};
@@ -36,6 +38,19 @@ pub fn state_at(state: &ClockState, i: usize) -> &ModuleState
     &state.modules.as_slice()[i]
 }
 
+/// The code of the block in which module number i stands.
+#[inline(always)]
+pub fn code_at<'a>(of: &Compiled<'a>, i: usize, state: &ModuleState) -> &'a BlockCode
+    requires codes { AreCodes of.now.plan.now of.now.codes.now }
+    requires within { i < length of.now.plan.now.design.modules }
+    requires block { state.now.control.block < length (module_at of.now.plan.now i).blocks }
+    ensures { IsBlockCodeOf of.now.plan.now.design.channels (module_at of.now.plan.now i)
+        (block_of (module_at of.now.plan.now i) state.now) result.now }
+{
+    let own = &of.codes[i];
+    &own.as_slice()[state.control.block as usize]
+}
+
 /// Fills in what is noted of the due operations of module number i, in this state, and the requests of the FIFO operations
 /// among them.
 #[inline(always)]
@@ -55,13 +70,9 @@ pub fn note_one(
     ensures noted { OnOk result (noted.new ≡ notes_of (module_at of.now.plan.now i) state.now) }
     ensures asked { OnOk result (asked.new ≡ requests of.now.plan.now.design.channels (module_at of.now.plan.now i) state.now) }
 {
-    let own = &of.codes[i];
-    let code = &own.as_slice()[state.control.block as usize];
-    let channels = of.plan.design.channels.as_slice();
     note(
-        channels,
         module_at(of.plan, i),
-        code,
+        code_at(of, i, state),
         state,
         words,
         noted,

@@ -1,38 +1,22 @@
 //! One module's turn in a clock: what it asks, the replies, and its move, all by the contents from before the clock.
 ghost use Rattle.std.specs.Prelude.{◌≡◌, ◌+◌, ◌<◌, ◌≤◌, IfOk, OnOk, not, true, false, [], ◌++◌, if◌then◌else◌, length, map};
 ghost use Rattle.std.specs.List.{list_any};
-ghost use Rattle.flow_design.specs.Module.{block_of};
 ghost use Rattle.lockstep_defs.specs.Machine.{is_over};
 ghost use Rattle.lockstep_defs.specs.Channels.{stalls, reply};
-ghost use Rattle.lockstep_defs.specs.Lockstep.{module_at, answered};
+ghost use Rattle.lockstep_defs.specs.Lockstep.{answered};
 ghost use Rattle.lockstep_defs.specs.Report.{outcomes};
-ghost use Rattle.block_code.specs.Codes.{IsBlockCodeOf};
-ghost use Rattle.clock_machine.specs.Parts.{outcomes_in, popped, pushed, AreCodes};
+ghost use Rattle.clock_machine.specs.Parts.{outcomes_in, popped, pushed};
 ghost use Rattle.clock_machine.specs.Seats.{IsSeated, FallsAsleep};
 ghost use Rattle.clock_machine.specs.Clocks.{Runs, HasDone, does_move, step_at};
 
-use crate::asking::{module_at, note_seat};
+use crate::asking::{code_at, module_at, note_seat};
 use crate::channels::{answer_one, stalls};
 use crate::seat::{Round, Seat, Traffic};
 use crate::standing::Standing;
 use crate::telling::tell_kept_events;
-use block_code::BlockCode;
 use flow_design::{ModuleState, Reply, Request};
 use flow_word::{Flags, List, OutOfMemory};
 use module_move::{go_on, is_over, make_move, tick_to};
-
-/// The code of the block in which module number i stands.
-#[inline(always)]
-fn code_at<'a>(at: &Standing<'a>, i: usize, state: &ModuleState) -> &'a BlockCode
-    requires codes { AreCodes at.now.of.now.plan.now at.now.of.now.codes.now }
-    requires within { i < length at.now.of.now.plan.now.design.modules }
-    requires block { state.now.control.block < length (module_at at.now.of.now.plan.now i).blocks }
-    ensures { IsBlockCodeOf at.now.of.now.plan.now.design.channels (module_at at.now.of.now.plan.now i)
-        (block_of (module_at at.now.of.now.plan.now i) state.now) result.now }
-{
-    let own = &at.of.codes[i];
-    &own.as_slice()[state.control.block as usize]
-}
 
 /// Whether the request on which a module stalled still can't be done.
 #[inline(always)]
@@ -118,7 +102,7 @@ fn act(
         return Ok(false);
     }
     tell_kept_events(at, i, requests, &mut round.events)?;
-    let code = code_at(at, i, state);
+    let code = code_at(at.of, i, state);
     let noted = seat.noted.as_slice();
     let replies = round.replies.as_slice();
     make_move(
@@ -170,7 +154,7 @@ fn fall_asleep(
         return Ok(false);
     }
     let now = state.control.clock;
-    let next = code_at(at, i, state).schedule.next_due(&state.control);
+    let next = code_at(at.of, i, state).schedule.next_due(&state.control);
     if next == now {
         return Ok(false);
     }

@@ -18,7 +18,7 @@ use Rattle.module_interp.specs.Paths.{LeadsTo, KeepsRest, IsAtStep, IsAtEnd}
 use Rattle.module_interp.specs.Runs.{StandsAt}
 use Rattle.module_interp.proofs.Ways.{has_begun}
 use Rattle.module_interp.proofs.Standing.{IsAtRest, step_rest, end_rest, accesses_are, asked_leads}
-use Rattle.module_interp.proofs.Unnamed.{asks_same}
+use Rattle.module_interp.proofs.Keeping.{asked_same}
 
 -- the way that was kept began at the path in the box
 pub kept_on : (x z y : Path) → z ≡ x → KeepsRest z y → KeepsRest x y
@@ -61,7 +61,7 @@ can_list p i o r y keeps s h =
     let count : o.state.count ≡ y.state.count = ap (λ z. z.count) rest.state in
     let small = began.count in
     let few = s.few in
-    let asked : y.asked ≡ requests_of p (i, y.state) = h.asked ∙ asks_same p i y b in
+    let asked : y.asked ≡ requests_of p (i, y.state) = asked_same p i y b h.asked in
     record {
       few = omega arith;
       all = subst (All (λ (r : Request). r.channel < length p.design.channels)) (sym asked)

@@ -33,11 +33,10 @@ use Rattle.module_interp.specs.Paths.{after_move, CanAsk, IsStageSoundBy, IsInTi
 use Rattle.module_interp.specs.Runs.{is_asked, StandsAt}
 use Rattle.module_interp.proofs.Gaps.{IsOwnInTime, next_in_time, least_gap}
 use Rattle.module_interp.proofs.Counting.{move_up}
-use Rattle.module_interp.proofs.Keeping.{at_stage, sound_at, begun_alive}
+use Rattle.module_interp.proofs.Keeping.{at_stage, sound_at, asked_same, begun_alive}
 use Rattle.module_interp.proofs.Standing.{IsAtRest, at_rest, some_asked}
 use Rattle.module_interp.proofs.Tallies.{length-paired}
 use Rattle.module_interp.proofs.Timing.{module_sound, step_in_time}
-use Rattle.module_interp.proofs.Unnamed.{asks_same}
 
 pub asked_stage : (g : Stage) → is_asked g ≡ true → g ≡ Asked
 asked_stage Begun h = cc
@@ -66,7 +65,7 @@ waits_at p i o x l asked =
     let b = l.path in
     let can : CanAsk x = sound_at x Asked asked b.stage in
     let here : after_move x ≡ x.state = at_stage x Asked asked in
-    let same : x.asked ≡ requests_of p (i, x.state) = can.asked ∙ asks_same p i x b in
+    let same : x.asked ≡ requests_of p (i, x.state) = asked_same p i x b can.asked in
     let life = begun_alive x.limit x.state can.alive in
     record {
       can = can;
@@ -112,7 +111,6 @@ fed_leads p i o x y qs l asked h =
     let b = l.path in
     let f = h.frame in
     let of : y.of ≡ x.of = ap (λ (z : Path). z.of) f in
-    let channels : y.channels ≡ x.channels = ap (λ (z : Path). z.channels) f in
     let codes : y.codes ≡ x.codes = ap (λ (z : Path). z.codes) f in
     let ticked : y.stage ≡ Ticked = ap (λ (z : Path). z.stage) f in
     let there : after_move (record y { since = 1 }) ≡ move x.of x.state qs = at_stage (record y { since = 1 }) Ticked ticked ∙ h.moved in
@@ -132,10 +130,9 @@ fed_leads p i o x y qs l asked h =
       path = record {
         fits = b.fits;
         owner = b.owner;
-        channels = channels ∙ b.channels;
         of = of ∙ b.of;
         limit = ap (λ (z : Path). z.limit) f ∙ b.limit;
-        codes = rw (channels, of, codes) b.codes;
+        codes = rw (of, codes) b.codes;
         state = subst (IsStateOf m) (sym same) (move_state (length p.design.channels) m sound x.state qs w.state w.alive);
         operations = subst (λ (s : ModuleState). s.count < 2 ^ 32) (sym same) (omega arith);
         time = subst (λ (s : ModuleState). IsInTime p m s 1) (sym same)

@@ -2,22 +2,23 @@
 use Rattle.std.proofs.Common.{◌≡◌, ℕ, zero, suc, ◌+◌, ◌-◌, ◌*◌, ◌^◌, ◌<◌, ◌≤◌, ◌⊎◌, inl, inr, true, false, cond, [], length, refl, sym, ap}
 use Rattle.std.proofs.Common.{subst, arith, ◌∙◌, add-zero}
 use Rattle.std.proofs.lemmas.Bool.{or_from, cond-true, cond-false, cases_Bool, both_ways}
+use Rattle.flow_design.specs.declared.limits.TheConstants.{OPERATIONS, LIVE_ITERATIONS, COUNTED_OPERATIONS}
 use Rattle.flow_design.specs.declared.design.Module.{Module}
 use Rattle.flow_design.specs.declared.plan.Plan.{Plan}
 use Rattle.flow_design.specs.declared.state.ModuleState.{ModuleState}
-use Rattle.flow_design.specs.Module.{block_of, due}
+use Rattle.flow_design.specs.Module.{due}
 use Rattle.flow_design.specs.StaticRules.{FitsEngine}
 use Rattle.lockstep_defs.proofs.Agrees.{not_ended, below_limit}
-use Rattle.lockstep_defs.specs.Machine.{is_over}
+use Rattle.lockstep_defs.specs.Machine.{requests, is_over}
 use Rattle.lockstep_defs.specs.Lockstep.{module_at, requests_of}
 use Rattle.lockstep_defs.specs.OwnRun.{Own}
-use Rattle.lockstep_defs.specs.Quiet.{quiet, skip, rests, is_some_request, clocks_left}
+use Rattle.lockstep_defs.specs.Quiet.{quiet, skip, rests, is_some_request}
 use Rattle.lockstep_defs.specs.States.{IsStateOf}
 use Rattle.lockstep_defs.proofs.Moves.{move_falls}
 use Rattle.module_move.proofs.Readiness.{few_due}
 use Rattle.module_interp.specs.declared.path.Stage.{Stage}
 use Rattle.module_interp.specs.declared.path.Path.{Path}
-use Rattle.module_interp.specs.Paths.{block_bound, clocks_to_go, after_move_by, after_move, IsStageSoundBy, IsPathOf, LeadsTo, KeepsRest}
+use Rattle.module_interp.specs.Paths.{clocks_to_go, after_move_by, after_move, HasAsked, IsStageSoundBy, IsPathOf, LeadsTo, KeepsRest}
 use Rattle.module_interp.specs.Paths.{IsPath, clocks_to_end}
 use Rattle.module_interp.proofs.Counting.{move_up}
 use Rattle.module_interp.proofs.Rests.{nearer, same_rest}
@@ -26,12 +27,11 @@ use Rattle.module_interp.proofs.Timing.{module_sound, lives, GoesOn, skip_goes_o
 -- ---- the same module
 
 pub record IsFixed (x y : Path) : Type 0 where
-  pub channels : y.channels ≡ x.channels
   pub of : y.of ≡ x.of
   pub limit : y.limit ≡ x.limit
   pub codes : y.codes ≡ x.codes
 
-few : (n ops due : ℕ) → n < ops → ops ≤ 200000 → due ≤ 65536 → n + due + 2 < 2 ^ 32
+few : (n ops due : ℕ) → n < ops → ops ≤ COUNTED_OPERATIONS → due ≤ LIVE_ITERATIONS * OPERATIONS → n + due + 2 < 2 ^ 32
 few n ops due h k l = omega arith
 
 skip_few : (p : Plan) → FitsEngine p → (i : ℕ) → i < length p.design.modules → (s : ModuleState) (elapsed : ℕ) → GoesOn p i s elapsed
@@ -68,10 +68,9 @@ leads_on p i o x y n l f goes moved later stage =
       path = record {
         fits = b.fits;
         owner = b.owner;
-        channels = f.channels ∙ b.channels;
         of = f.of ∙ b.of;
         limit = f.limit ∙ b.limit;
-        codes = rw (f.channels, f.of, f.codes) b.codes;
+        codes = rw (f.of, f.codes) b.codes;
         state = subst (IsStateOf (module_at p i)) (sym moved) on.state;
         operations = subst (λ (z : ModuleState). z.count < 2 ^ 32) (sym moved) small;
         time = rw (moved, later) on.time;
@@ -109,7 +108,7 @@ sound_at x stage e h = subst (λ (s : Stage). IsStageSoundBy s x) e h
 -- ---- the end comes nearer
 
 abbrev end_by : ℕ → Module → ModuleState → ℕ
-end_by limit m s = cond s.ended 0 ((limit - s.count) * block_bound + clocks_left (block_of m s) s.control + 1)
+end_by limit m s = cond s.ended 0 (clocks_to_go limit m s + 1)
 
 pub same_end : (x y : Path) → y.of ≡ x.of → y.limit ≡ x.limit → after_move y ≡ after_move x → clocks_to_end y ≡ clocks_to_end x
 same_end x y of limit same =
@@ -118,12 +117,12 @@ same_end x y of limit same =
 
 pub skip_falls : (p : Plan) → FitsEngine p → (i : ℕ) → i < length p.design.modules → (s : ModuleState) (elapsed : ℕ) → GoesOn p i s elapsed
     → (n : ℕ) → ((j : ℕ) → j < suc n → rests p i (skip p i j s) ≡ false)
-    → ((skip p i (suc n) s).ended ≡ true) ⊎ (clocks_to_go p (module_at p i) (skip p i (suc n) s) < clocks_to_go p (module_at p i) s)
+    → ((skip p i (suc n) s).ended ≡ true) ⊎ (clocks_to_go p.ops (module_at p i) (skip p i (suc n) s) < clocks_to_go p.ops (module_at p i) s)
 skip_falls p h i inside s elapsed g n goes = by_number n goes
   where
     one : (n : ℕ) → ((j : ℕ) → j < suc n → rests p i (skip p i j s) ≡ false)
         → ((skip p i (suc n) s).ended ≡ true)
-        ⊎ (clocks_to_go p (module_at p i) (skip p i (suc n) s) < clocks_to_go p (module_at p i) (skip p i n s))
+        ⊎ (clocks_to_go p.ops (module_at p i) (skip p i (suc n) s) < clocks_to_go p.ops (module_at p i) (skip p i n s))
     one n goes =
         let m = module_at p i in
         let t = skip p i n s in
@@ -131,11 +130,12 @@ skip_falls p h i inside s elapsed g n goes = by_number n goes
         let after = skip_goes_on p h i inside s elapsed g (suc n) goes in
         let alive = lives p i t (goes n (omega arith)) in
         falls p m t (skip p i (suc n) s) alive.1
-        (left_bound (length p.design.channels) m (skip p i (suc n) s) (module_sound p h i inside) after.state)
+        (left_bound p h i inside (skip p i (suc n) s) after.state)
         (move_falls m t [] before.state.control.goes)
 
     by_number : (n : ℕ) → ((j : ℕ) → j < suc n → rests p i (skip p i j s) ≡ false)
-        → ((skip p i (suc n) s).ended ≡ true) ⊎ (clocks_to_go p (module_at p i) (skip p i (suc n) s) < clocks_to_go p (module_at p i) s)
+        → ((skip p i (suc n) s).ended ≡ true)
+        ⊎ (clocks_to_go p.ops (module_at p i) (skip p i (suc n) s) < clocks_to_go p.ops (module_at p i) s)
     by_number zero goes = one zero goes
     by_number (suc n) goes =
         let last = one (suc n) goes in
@@ -147,7 +147,7 @@ skip_falls p h i inside s elapsed g n goes = by_number n goes
         ]
 
 to_end_of : (x : Path) (p : Plan) (m : Module) → x.of ≡ m → x.limit ≡ p.ops → (after_move x).ended ≡ false
-    → clocks_to_end x ≡ clocks_to_go p m (after_move x) + 1
+    → clocks_to_end x ≡ clocks_to_go p.ops m (after_move x) + 1
 to_end_of x p m of limit alive =
     ap (λ (m : Module). end_by x.limit m (after_move x)) of
     ∙ (ap (λ (n : ℕ). end_by n m (after_move x)) limit ∙ cond-false (after_move x).ended 0 _ alive)
@@ -165,13 +165,17 @@ end_nearer p i x y n b f goes moved =
           omega arith
       | inr on ↦
           let after = to_end_of y p (module_at p i) (f.of ∙ b.of) (f.limit ∙ b.limit) on in
-          let same : clocks_to_go p (module_at p i) (after_move y) ≡ clocks_to_go p (module_at p i) (skip p i (suc n) s) =
-          ap (clocks_to_go p (module_at p i)) moved in
+          let same : clocks_to_go p.ops (module_at p i) (after_move y) ≡ clocks_to_go p.ops (module_at p i) (skip p i (suc n) s) =
+          ap (clocks_to_go p.ops (module_at p i)) moved in
           elim (skip_falls p b.fits i b.owner s x.since (record { state = b.state; time = b.time }) n goes) [
             | inl over ↦ absurd (both_ways (after_move y).ended on (ap (λ (z : ModuleState). z.ended) moved ∙ over))
             | inr less ↦ omega arith
           ]
     ]
+
+-- what was asked is what the module asks
+pub asked_same : (p : Plan) (i : ℕ) (x : Path) → IsPathOf p i x → HasAsked x → x.asked ≡ requests_of p (i, x.state)
+asked_same p i x b h = h p.design.channels b.codes ∙ ap (λ (m : Module). requests p.design.channels m x.state) b.of
 
 -- a state that isn't over and asks nothing doesn't rest
 pub asks_nothing : (p : Plan) (i : ℕ) (s : ModuleState) → is_over p.ops s ≡ false → requests_of p (i, s) ≡ [] → rests p i s ≡ false

@@ -12,5 +12,4 @@ pub mod Rests
 pub mod Standing
 pub mod Tallies
 pub mod Timing
-pub mod Unnamed
 pub mod Ways

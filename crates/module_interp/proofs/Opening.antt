@@ -1,5 +1,5 @@
 -- A run begins on the way to its first rest.
-use Rattle.std.proofs.Common.{◌≡◌, ℕ, ◌+◌, ◌^◌, ◌<◌, List, [], map, length, get_or, refl, sym, ap, subst, arith, ◌∙◌}
+use Rattle.std.proofs.Common.{◌≡◌, ℕ, ◌+◌, ◌^◌, ◌<◌, List, [], length, get_or, refl, sym, ap, subst, arith, ◌∙◌}
 use Rattle.std.specs.Prelude.{All}
 use Rattle.std.proofs.lemmas.List.{get_or_default}
 use Rattle.flow_design.specs.declared.design.Module.{Module}
@@ -20,18 +20,17 @@ use Rattle.module_interp.specs.declared.path.Stage.TheVariants.{Begun, Asked}
 use Rattle.module_interp.specs.declared.path.Path.{Path}
 use Rattle.module_interp.specs.declared.run.ModuleRun.{ModuleRun}
 use Rattle.module_interp.specs.OwnRests.{first_rest}
-use Rattle.module_interp.specs.Paths.{after_move, IsStageSoundBy, LeadsTo, IsTallyOf, unnamed}
+use Rattle.module_interp.specs.Paths.{after_move, IsStageSoundBy, LeadsTo, IsTallyOf}
 use Rattle.module_interp.specs.Runs.{StandsAt}
 use Rattle.module_interp.proofs.Gaps.{first_in_time}
 use Rattle.module_interp.proofs.Keeping.{at_stage}
 use Rattle.module_interp.proofs.Timing.{module_sound, opened_in_time}
 
 pub opened_leads : (p : Plan) → FitsEngine p → (i : ℕ) → i < length p.design.modules → (x : Path)
-    → x.channels ≡ map unnamed p.design.channels
     → x.of ≡ module_at p i
-    → x.limit ≡ p.ops → AreCodesOf x.channels x.of x.codes
+    → x.limit ≡ p.ops → AreCodesOf p.design.channels x.of x.codes
     → x.state ≡ opened x.of → x.stage ≡ Begun → x.since ≡ 0 → LeadsTo p i (first_rest p i) x
-opened_leads p h i inside x channels of limit codes state begun since =
+opened_leads p h i inside x of limit codes state begun since =
     let m = module_at p i in
     let s = opened m in
     let base : after_move x ≡ s = at_stage x Begun begun ∙ (state ∙ ap opened of) in
@@ -41,7 +40,6 @@ opened_leads p h i inside x channels of limit codes state begun since =
       path = record {
         fits = h;
         owner = inside;
-        channels = channels;
         of = of;
         limit = limit;
         codes = codes;

@@ -7,7 +7,7 @@ use Rattle.flow_design.specs.declared.state.Advance.{Advance}
 use Rattle.flow_design.specs.declared.state.Advance.TheVariants.{Step, Ended, Spent}
 use Rattle.flow_design.specs.declared.state.Request.{Request}
 use Rattle.flow_design.specs.declared.state.ModuleState.{ModuleState}
-use Rattle.lockstep_defs.specs.Machine.{requests, is_over, is_spent}
+use Rattle.lockstep_defs.specs.Machine.{is_over, is_spent}
 use Rattle.lockstep_defs.specs.Lockstep.{module_at, requests_of}
 use Rattle.lockstep_defs.specs.OwnRun.{Own, access_of}
 use Rattle.lockstep_defs.specs.Report.{queries}
@@ -16,11 +16,10 @@ use Rattle.lockstep_defs.specs.States.{IsStateOf}
 use Rattle.module_interp.specs.declared.path.Stage.TheVariants.{Begun, Asked}
 use Rattle.module_interp.specs.declared.path.Path.{Path}
 use Rattle.module_interp.specs.OwnRests.{done_in, accesses_at, mark_at}
-use Rattle.module_interp.specs.Paths.{after_move, LeadsTo, IsAtStep, IsAtEnd}
-use Rattle.module_interp.proofs.Keeping.{leads_still, at_stage, begun_alive}
+use Rattle.module_interp.specs.Paths.{after_move, HasAsked, LeadsTo, IsAtStep, IsAtEnd}
+use Rattle.module_interp.proofs.Keeping.{leads_still, at_stage, asked_same, begun_alive}
 use Rattle.module_interp.proofs.Rests.{none_at_rest}
 use Rattle.module_interp.proofs.Ways.{has_begun}
-use Rattle.module_interp.proofs.Unnamed.{asks_same}
 
 -- ---- at a rest
 
@@ -48,7 +47,7 @@ some_asked (r ∷ rs) h = refl
 pub step_rest : (p : Plan) (i : ℕ) (o : Own) (x : Path) → LeadsTo p i o x → IsAtStep x → IsAtRest p i o x
 step_rest p i o x l h =
     let b = l.path in
-    let asked : requests_of p (i, x.state) ≡ x.asked = sym (h.asked ∙ asks_same p i x b) in
+    let asked : requests_of p (i, x.state) ≡ x.asked = sym (asked_same p i x b h.asked) in
     at_rest p i o x l (at_stage x Begun h.begun)
     (or_right (is_over p.ops x.state) _ (ap is_some_request asked ∙ some_asked x.asked h.some))
 
@@ -98,18 +97,17 @@ step_mark p i o x accesses n l h alive same asks =
 -- ---- a step that was given
 
 pub accesses_are : (p : Plan) (i : ℕ) (o : Own) (x : Path) (accesses : List Access) → LeadsTo p i o x → IsAtRest p i o x
-    → x.asked ≡ requests x.channels x.of x.state
-    → accesses ≡ map (access_of (done_in o.steps)) x.asked → accesses ≡ accesses_at p i o
+    → HasAsked x → accesses ≡ map (access_of (done_in o.steps)) x.asked → accesses ≡ accesses_at p i o
 accesses_are p i o x accesses l h asked are =
     let b = l.path in
-    let same : x.asked ≡ requests_of p (i, o.state) = rw h.state (asked ∙ asks_same p i x b) in
+    let same : x.asked ≡ requests_of p (i, o.state) = rw h.state (asked_same p i x b asked) in
     are ∙ ap (map (access_of (done_in o.steps))) same
 
 pub asked_leads : (p : Plan) (i : ℕ) (o : Own) (x : Path) → LeadsTo p i o x → IsAtStep x → LeadsTo p i o (record x { stage = Asked })
 asked_leads p i o x l h =
     let began = has_begun x (record { plan = p; number = i; is = l.path }) h.begun h.alive in
     leads_still p i o x (record x { stage = Asked }) l
-    (record { channels = refl; of = refl; limit = refl; codes = refl })
+    (record { of = refl; limit = refl; codes = refl })
     (sym (at_stage x Begun h.begun)) refl
     (record {
       answer = record { state = began.sound; noted = h.noted; clock = began.clock; count = began.count };

@@ -1,9 +1,10 @@
 -- How long a module can run.
-use Rattle.std.proofs.Common.{◌≡◌, ℕ, zero, suc, ◌+◌, ◌-◌, ◌<◌, ◌≤◌, ◌⊎◌, inl, inr, Bool, true, false, ◌&&◌, ◌==◌, cond, List, [], refl}
+use Rattle.std.proofs.Common.{◌≡◌, ℕ, zero, suc, ◌+◌, ◌-◌, ◌*◌, ◌<◌, ◌≤◌, ◌⊎◌, inl, inr, Bool, true, false, ◌&&◌, ◌==◌}
+use Rattle.std.proofs.Common.{cond, List, [], refl}
 use Rattle.std.proofs.Common.{sym, ap, subst, arith, length, add-zero}
-use Rattle.std.specs.Prelude.{slice_index}
-use Rattle.std.proofs.lemmas.Bool.{cond_both, or_parts}
-use Rattle.flow_design.specs.declared.limits.TheConstants.{BLOCK_CLOCKS, COUNTED_OPERATIONS}
+use Rattle.std.specs.Prelude.{slice_index, nat_le}
+use Rattle.std.proofs.lemmas.Bool.{cond_both, or_parts, leb-true}
+use Rattle.flow_design.specs.declared.limits.TheConstants.{BLOCK_CLOCKS, SHORT_BLOCK_CLOCKS, COUNTED_OPERATIONS, LONG_BLOCK_OPERATIONS}
 use Rattle.flow_design.specs.declared.design.Block.{Block}
 use Rattle.flow_design.specs.declared.design.Module.{Module}
 use Rattle.flow_design.specs.declared.design.Next.{Next}
@@ -12,8 +13,8 @@ use Rattle.flow_design.specs.declared.plan.Plan.{Plan}
 use Rattle.flow_design.specs.declared.state.Control.{Control}
 use Rattle.flow_design.specs.declared.state.ModuleState.{ModuleState}
 use Rattle.flow_design.specs.declared.state.Reply.{Reply}
-use Rattle.flow_design.specs.Module.{block_of, interval}
-use Rattle.flow_design.specs.StaticRules.{IsModuleSound, FitsEngine}
+use Rattle.flow_design.specs.Module.{no_block, block_of, interval}
+use Rattle.flow_design.specs.StaticRules.{IsModuleSound, FitsEngine, longest_block}
 use Rattle.lockstep_defs.specs.Machine.{move, entered, decided, finished, followed, started, stopped, again_of, is_block_over, is_over}
 use Rattle.lockstep_defs.specs.Lockstep.{no_module, module_at, requests_of}
 use Rattle.lockstep_defs.specs.Quiet.{rests, skip, clocks_left, is_some_request}
@@ -32,18 +33,20 @@ pub module_sound : (p : Plan) → FitsEngine p → (i : ℕ) → i < length p.de
     → IsModuleSound (length p.design.channels) (module_at p i)
 module_sound p h i inside = h.modules i no_module inside
 
-few_left : (l : Bool) (interval len clock newest : ℕ) → newest ≤ clock → interval ≤ BLOCK_CLOCKS → len ≤ BLOCK_CLOCKS
-    → cond l (((interval + newest) - clock) + len + 1) ((len + newest) - clock) < block_bound
-few_left true interval len clock newest h i n = omega arith
-few_left false interval len clock newest h i n = omega arith
+few_left : (l : Bool) (most interval len clock newest : ℕ) → newest ≤ clock → interval ≤ most → len ≤ most
+    → cond l (((interval + newest) - clock) + len + 1) ((len + newest) - clock) < 2 * most + 2
+few_left true most interval len clock newest h i n = omega arith
+few_left false most interval len clock newest h i n = omega arith
 
-pub left_bound : (channels : ℕ) (m : Module) (s : ModuleState) → IsModuleSound channels m → IsStateOf m s
-    → clocks_left (block_of m s) s.control < block_bound
-left_bound channels m s sound h =
-    let block = block_sound channels m s.control.block sound h.block in
-    let short = short_interval channels m (block_of m s) block in
-    few_left s.control.looping (interval (block_of m s)) (block_of m s).len s.control.clock s.control.newest h.control.has_started
-    (omega (arith, block.most)) block.most
+pub left_bound : (p : Plan) → FitsEngine p → (i : ℕ) → i < length p.design.modules → (s : ModuleState) → IsStateOf (module_at p i) s
+    → clocks_left (block_of (module_at p i) s) s.control < block_bound p.ops
+left_bound p h i inside s state =
+    let m = module_at p i in
+    let block = block_sound (length p.design.channels) m s.control.block (module_sound p h i inside) state.block in
+    let short = short_interval (length p.design.channels) m (block_of m s) block in
+    let most : (block_of m s).len ≤ longest_block p.ops = h.pace i no_module inside s.control.block no_block state.block in
+    few_left s.control.looping (longest_block p.ops) (interval (block_of m s)) (block_of m s).len s.control.clock s.control.newest
+    state.control.has_started (omega arith) most
 
 some_left : (l : Bool) (interval len clock newest : ℕ) → clock < newest + len
     → 0 < cond l (((interval + newest) - clock) + len + 1) ((len + newest) - clock)
@@ -53,6 +56,13 @@ some_left false interval len clock newest h = omega arith
 left_some : (m : Module) (s : ModuleState) → IsStateOf m s → s.ended ≡ false → 0 < clocks_left (block_of m s) s.control
 left_some m s h alive =
     some_left s.control.looping (interval (block_of m s)) (block_of m s).len s.control.clock s.control.newest (h.young alive)
+
+more : (a b : ℕ) → 0 < b → 0 < a + b
+more a b h = omega arith
+
+some_to_go : (p : Plan) (m : Module) (s : ModuleState) → IsStateOf m s → s.ended ≡ false → 0 < clocks_to_go p.ops m s
+unfolding clocks_to_go
+some_to_go p m s h alive = more ((p.ops - s.count) * block_bound p.ops) (clocks_left (block_of m s) s.control) (left_some m s h alive)
 
 -- ---- the clock of a move
 
@@ -90,16 +100,42 @@ move_clock m s replies =
 
 -- ---- the clocks to go
 
-pub falls : (p : Plan) (m : Module) (s t : ModuleState) → s.count < p.ops → clocks_left (block_of m t) t.control < block_bound
-    → Fallen m s t
-    → (t.ended ≡ true) ⊎ (clocks_to_go p m t < clocks_to_go p m s)
-falls p m s t few bound (inl over) = inl over
-falls p m s t few bound (inr (inl up)) = let a = up.0 in inr (omega arith)
-falls p m s t few bound (inr (inr near)) = let a = near.0 in let b = near.1 in inr (omega arith)
+count_up : (few : Bool) (operations before after left nearer : ℕ) → before < operations → before < after
+    → nearer < 2 * cond few BLOCK_CLOCKS SHORT_BLOCK_CLOCKS + 2
+    → (operations - after) * (2 * cond few BLOCK_CLOCKS SHORT_BLOCK_CLOCKS + 2) + nearer
+    < (operations - before) * (2 * cond few BLOCK_CLOCKS SHORT_BLOCK_CLOCKS + 2) + left
+count_up true operations before after left nearer some up bound = omega arith
+count_up false operations before after left nearer some up bound = omega arith
 
-at_most : (p : Plan) (m : Module) (s : ModuleState) → p.ops ≤ COUNTED_OPERATIONS → clocks_left (block_of m s) s.control < block_bound
-    → 1 + clocks_to_go p m s ≤ clock_bound
-at_most p m s few bound = omega arith
+comes_nearer : (few : Bool) (operations before after left nearer : ℕ) → before ≤ after → nearer < left
+    → (operations - after) * (2 * cond few BLOCK_CLOCKS SHORT_BLOCK_CLOCKS + 2) + nearer
+    < (operations - before) * (2 * cond few BLOCK_CLOCKS SHORT_BLOCK_CLOCKS + 2) + left
+comes_nearer true operations before after left nearer up near = omega arith
+comes_nearer false operations before after left nearer up near = omega arith
+
+pub falls : (p : Plan) (m : Module) (s t : ModuleState) → s.count < p.ops → clocks_left (block_of m t) t.control < block_bound p.ops
+    → Fallen m s t
+    → (t.ended ≡ true) ⊎ (clocks_to_go p.ops m t < clocks_to_go p.ops m s)
+unfolding clocks_to_go
+falls p m s t some bound (inl over) = inl over
+falls p m s t some bound (inr (inl up)) =
+    inr (count_up (nat_le p.ops LONG_BLOCK_OPERATIONS) p.ops s.count t.count (clocks_left (block_of m s) s.control)
+    (clocks_left (block_of m t) t.control) some (let a = up.0 in omega arith) bound)
+falls p m s t some bound (inr (inr near)) =
+    inr (comes_nearer (nat_le p.ops LONG_BLOCK_OPERATIONS) p.ops s.count t.count (clocks_left (block_of m s) s.control)
+    (clocks_left (block_of m t) t.control) near.0 near.1)
+
+within : (few : Bool) (operations count left : ℕ) → nat_le operations LONG_BLOCK_OPERATIONS ≡ few → operations ≤ COUNTED_OPERATIONS
+    → left < 2 * cond few BLOCK_CLOCKS SHORT_BLOCK_CLOCKS + 2
+    → 1 + ((operations - count) * (2 * cond few BLOCK_CLOCKS SHORT_BLOCK_CLOCKS + 2) + left) ≤ clock_bound
+within true operations count left few most bound = let least = leb-true operations LONG_BLOCK_OPERATIONS few in omega arith
+within false operations count left few most bound = omega arith
+
+at_most : (p : Plan) (m : Module) (s : ModuleState) → p.ops ≤ COUNTED_OPERATIONS → clocks_left (block_of m s) s.control < block_bound p.ops
+    → 1 + clocks_to_go p.ops m s ≤ clock_bound
+unfolding clocks_to_go
+at_most p m s most bound =
+    within (nat_le p.ops LONG_BLOCK_OPERATIONS) p.ops s.count (clocks_left (block_of m s) s.control) refl most bound
 
 -- one local clock more
 pub moved_in_time : (p : Plan) → FitsEngine p → (i : ℕ) → i < length p.design.modules
@@ -111,8 +147,8 @@ moved_in_time p h i inside s replies elapsed state alive few time =
     let t = move m s replies in
     let sound = module_sound p h i inside in
     let later = move_state (length p.design.channels) m sound s replies state alive in
-    let bound = left_bound (length p.design.channels) m t sound later in
-    let some = left_some m s state alive in
+    let bound = left_bound p h i inside t later in
+    let some = some_to_go p m s state alive in
     let left = time.left alive in
     let clock = time.clock alive in
     let next = move_clock m s replies in
@@ -134,7 +170,7 @@ step_in_time p h i inside s replies elapsed state alive few time =
     let t = move m s replies in
     let sound = module_sound p h i inside in
     let later = move_state (length p.design.channels) m sound s replies state alive in
-    let bound = left_bound (length p.design.channels) m t sound later in
+    let bound = left_bound p h i inside t later in
     let most = at_most p m t h.operations bound in
     let moved = moved_in_time p h i inside s replies elapsed state alive few time in
     record { since = omega arith; left = λ e. most; clock = moved.clock }
@@ -145,7 +181,7 @@ pub opened_in_time : (p : Plan) → FitsEngine p → (i : ℕ) → i < length p.
     → IsInTime p (module_at p i) s 0
 opened_in_time p h i inside s state first =
     let m = module_at p i in
-    let most = at_most p m s h.operations (left_bound (length p.design.channels) m s (module_sound p h i inside) state) in
+    let most = at_most p m s h.operations (left_bound p h i inside s state) in
     record { since = omega arith; left = λ e. omega arith; clock = λ e. omega arith }
 
 -- ---- quiet clocks

@@ -2,6 +2,7 @@
 use Rattle.std.proofs.Common.{◌≡◌, ℕ, suc, ◌+◌, ◌-◌, ◌^◌, ◌<◌, ◌≤◌, Bool, true, false, ◌&&◌, ◌||◌, not, nat_lt, List, [], ◌∷◌, length}
 use Rattle.std.proofs.Common.{get_or, refl, sym, ap, subst, arith, ◌∙◌}
 use Rattle.std.proofs.lemmas.Bool.{ltb-true, and_parts}
+use Rattle.flow_design.specs.declared.design.Channel.{Channel}
 use Rattle.flow_design.specs.declared.design.Module.{Module}
 use Rattle.flow_design.specs.declared.plan.Plan.{Plan}
 use Rattle.flow_design.specs.declared.state.Request.{Request}
@@ -15,17 +16,16 @@ use Rattle.module_move.specs.Moves.{ticked_to, gone_on}
 use Rattle.module_move.specs.Sound.{IsStateSound}
 use Rattle.block_code.specs.declared.code.BlockCode.{BlockCode}
 use Rattle.block_code.specs.declared.noted.Noted.{Noted}
-use Rattle.block_code.specs.Codes.{IsBlockCodeOf}
+use Rattle.block_code.specs.Codes.{IsBlockCodeOf, AreCodesOf}
 use Rattle.block_schedule.specs.Work.{IsNextDue, StandsIn}
 use Rattle.module_interp.specs.declared.path.Stage.{Stage}
 use Rattle.module_interp.specs.declared.path.Stage.TheVariants.{Begun, Ticked}
 use Rattle.module_interp.specs.declared.path.Path.{Path}
-use Rattle.module_interp.specs.Paths.{clock_bound, IsInTime, after_move, IsStageSoundBy, IsPathOf, KeepsRest, IsPath}
+use Rattle.module_interp.specs.Paths.{clock_bound, IsInTime, after_move, AsksNothing, IsStageSoundBy, IsPathOf, KeepsRest, IsPath}
 use Rattle.module_interp.specs.Paths.{clocks_to_end}
 use Rattle.module_interp.proofs.Idle.{IsIdle, skip_ticks, skip_on, never_rests}
 use Rattle.module_interp.proofs.Timing.{GoesOn, skip_goes_on, lives}
 use Rattle.module_interp.proofs.Keeping.{IsFixed, leads_on, leads_still, at_stage, end_nearer, asks_nothing, begun_alive}
-use Rattle.module_interp.proofs.Unnamed.{asks_same}
 
 -- ---- a local clock that has begun
 
@@ -61,7 +61,6 @@ pub looked_up : (x y : Path) (ns : List Noted) (rs : List Request) (ws : List �
 looked_up x y ns rs ws begun frame =
     begun_same x y
     (record {
-      channels = ap (λ (z : Path). z.channels) frame;
       of = ap (λ (z : Path). z.of) frame;
       limit = ap (λ (z : Path). z.limit) frame;
       codes = ap (λ (z : Path). z.codes) frame;
@@ -106,7 +105,7 @@ passes_nearer x y n path h =
 
 -- a clock in which no FIFO operation is due
 pub one_passes : (x y : Path) → IsFixed x y → x.stage ≡ Begun → y.stage ≡ Ticked → y.since ≡ x.since + 1 → is_over x.limit x.state ≡ false
-    → requests x.channels x.of x.state ≡ [] → gone_on y.of y.state ≡ move x.of x.state []
+    → AsksNothing x → gone_on y.of y.state ≡ move x.of x.state []
     → y.state.control.block ≡ x.state.control.block → y.state.control.newest ≤ y.state.control.clock → Passes x y 0
 one_passes x y f begun ticked later alive none moved block started = record {
   fixed_parts = f;
@@ -117,7 +116,8 @@ one_passes x y f begun ticked later alive none moved block started = record {
   has_started = started;
   never_rests = λ p i b j less.
       let zero_ : 0 ≡ j = omega arith in
-      let asks : requests_of p (i, x.state) ≡ [] = sym (asks_same p i x b) ∙ none in
+      let asks : requests_of p (i, x.state) ≡ [] =
+      sym (ap (λ (m : Module). requests p.design.channels m x.state) b.of) ∙ none p.design.channels b.codes in
       subst (λ (k : ℕ). rests p i (skip p i k x.state) ≡ false) zero_ (asks_nothing p i x.state (rw (← b.limit) alive) asks);
   moved = λ p i b. moved ∙ ap (λ (m : Module). move m x.state []) b.of;
 }
@@ -153,7 +153,7 @@ jumps x clock n path begun alive next far =
     let sound = (has_begun x path begun alive).sound in
     let started = sound.state.control.has_started in
     record {
-      fixed_parts = record { channels = refl; of = refl; limit = refl; codes = refl };
+      fixed_parts = record { of = refl; limit = refl; codes = refl };
       begun = begun;
       ticked = refl;
       later = omega arith;
@@ -210,13 +210,10 @@ stands x path begun alive =
         let less = ltb-true clock (newest + ii) (and_parts (nat_lt 0 ii) (nat_lt clock (newest + ii)) g).1 in omega arith
     near false ii clock newest e g = cc
 
-pub has_code : (x : Path) → IsPath x → (d : BlockCode) → x.state.control.block < length x.of.blocks
-    → IsBlockCodeOf x.channels x.of (block_of x.of x.state) (get_or x.codes x.state.control.block d)
-has_code x path d inside = path.is.codes.each x.state.control.block d inside
-
 -- the code that was read
-pub code_read : (x : Path) → IsPath x → (xs : List BlockCode) (d : BlockCode) → xs ≡ x.codes → d ≡ get_or xs x.state.control.block d
-    → x.state.control.block < length x.of.blocks → IsBlockCodeOf x.channels x.of (block_of x.of x.state) d
-code_read x path xs d same read inside =
-    subst (IsBlockCodeOf x.channels x.of (block_of x.of x.state))
-    (sym (read ∙ ap (λ (ys : List BlockCode). get_or ys x.state.control.block d) same)) (has_code x path d inside)
+pub code_read : (x : Path) {channels : List Channel} → AreCodesOf channels x.of x.codes → (xs : List BlockCode) (d : BlockCode)
+    → xs ≡ x.codes → d ≡ get_or xs x.state.control.block d → x.state.control.block < length x.of.blocks
+    → IsBlockCodeOf channels x.of (block_of x.of x.state) d
+code_read x {channels} codes xs d same read inside =
+    subst (IsBlockCodeOf channels x.of (block_of x.of x.state))
+    (sym (read ∙ ap (λ (ys : List BlockCode). get_or ys x.state.control.block d) same)) (codes.each x.state.control.block d inside)

@@ -1,12 +1,12 @@
 -- How the program's run stands in a module's own run.
-use Rattle.std.specs.Prelude.{ℕ, ◌≡◌, ◌+◌, ◌-◌, ◌*◌, ◌^◌, ◌<◌, ◌≤◌, if◌then◌else◌, true, false, List, [], map, length, slice_index}
+use Rattle.std.specs.Prelude.{ℕ, ◌≡◌, ◌+◌, ◌-◌, ◌*◌, ◌^◌, ◌<◌, ◌≤◌, if◌then◌else◌, true, false, List, [], length, slice_index}
 use Rattle.flow_word.specs.declared.access.Side.TheVariants.{Pop, Push}
-use Rattle.flow_design.specs.declared.limits.TheConstants.{BLOCK_CLOCKS, COUNTED_OPERATIONS}
+use Rattle.flow_design.specs.declared.limits.TheConstants.{BLOCK_CLOCKS, LONG_BLOCK_OPERATIONS}
 use Rattle.flow_design.specs.declared.design.Channel.{Channel}
 use Rattle.flow_design.specs.declared.design.Module.{Module}
 use Rattle.flow_design.specs.declared.plan.Plan.{Plan}
 use Rattle.flow_design.specs.declared.state.ModuleState.{ModuleState}
-use Rattle.flow_design.specs.StaticRules.{FitsEngine}
+use Rattle.flow_design.specs.StaticRules.{FitsEngine, longest_block}
 use Rattle.flow_design.specs.Module.{block_of}
 use Rattle.lockstep_defs.specs.Machine.{requests, is_over}
 use Rattle.lockstep_defs.specs.Channels.{Exchange, moved_by}
@@ -25,23 +25,23 @@ use Rattle.module_interp.specs.declared.tally.Tally.{Tally}
 
 -- ---- how long a module can run
 
--- no block goes on for so many local clocks from its last start of an iteration
-abbrev pub block_bound : ℕ
-block_bound = 2 * BLOCK_CLOCKS + 2
+-- where each module may count so many operations, no block goes on for so many local clocks from its last start of an iteration
+abbrev pub block_bound : ℕ → ℕ
+block_bound operations = 2 * longest_block operations + 2
 
--- no module runs for so many local clocks
+-- no module runs for so many local clocks: its blocks may be long, or its operations many, but not both
 abbrev pub clock_bound : ℕ
-clock_bound = (COUNTED_OPERATIONS + 1) * block_bound
+clock_bound = (LONG_BLOCK_OPERATIONS + 1) * (2 * BLOCK_CLOCKS + 2)
 
 -- falls in each local clock: the operation count goes up, or the next decision or the block's end comes nearer
-abbrev pub clocks_to_go : Plan → Module → ModuleState → ℕ
-clocks_to_go p m s = (p.ops - s.count) * block_bound + clocks_left (block_of m s) s.control
+unfoldable pub clocks_to_go : ℕ → Module → ModuleState → ℕ
+clocks_to_go operations m s = (operations - s.count) * block_bound operations + clocks_left (block_of m s) s.control
 
 -- the local clocks since a step, and the block's local clock, stay below the bound
 pub record IsInTime (p : Plan) (m : Module) (s : ModuleState) (elapsed : ℕ) : Type 0 where
   pub since : elapsed ≤ clock_bound
-  pub left : s.ended ≡ false → elapsed + clocks_to_go p m s ≤ clock_bound
-  pub clock : s.ended ≡ false → s.control.clock + clocks_to_go p m s ≤ clock_bound
+  pub left : s.ended ≡ false → elapsed + clocks_to_go p.ops m s ≤ clock_bound
+  pub clock : s.ended ≡ false → s.control.clock + clocks_to_go p.ops m s ≤ clock_bound
 
 -- ---- the move in which a module stands
 
@@ -53,6 +53,14 @@ after_move_by Ticked x = gone_on x.of x.state
 -- the state behind what is left to do
 abbrev pub after_move : Path → ModuleState
 after_move x = after_move_by x.stage x
+
+-- what the due operations of the state ask, in channels for which the codes are right, is what was asked
+abbrev pub HasAsked : Path → Type 0
+HasAsked x = (channels : List Channel) → AreCodesOf channels x.of x.codes → x.asked ≡ requests channels x.of x.state
+
+-- they ask nothing
+abbrev pub AsksNothing : Path → Type 0
+AsksNothing x = (channels : List Channel) → AreCodesOf channels x.of x.codes → requests channels x.of x.state ≡ []
 
 -- what is needed to do it
 pub record CanAnswer (x : Path) : Type 0 where
@@ -69,25 +77,20 @@ pub record CanAsk (x : Path) : Type 0 where
   pub answer : CanAnswer x
   pub alive : is_over x.limit x.state ≡ false
   pub some : 0 < length x.asked
-  pub asked : x.asked ≡ requests x.channels x.of x.state
+  pub asked : HasAsked x
 
 abbrev pub IsStageSoundBy : Stage → Path → Type 0
 IsStageSoundBy Begun x = Unit {0}
 IsStageSoundBy Asked x = CanAsk x
 IsStageSoundBy Ticked x = CanGoOn x
 
--- a channel without its name
-abbrev pub unnamed : Channel → Channel
-unnamed c = record { name = []; width = c.width; kind = c.kind }
-
 -- the path is that of module i of a plan
 pub record IsPathOf (p : Plan) (i : ℕ) (x : Path) : Type 0 where
   pub fits : FitsEngine p
   pub owner : i < length p.design.modules
-  pub channels : x.channels ≡ map unnamed p.design.channels
   pub of : x.of ≡ module_at p i
   pub limit : x.limit ≡ p.ops
-  pub codes : AreCodesOf x.channels x.of x.codes
+  pub codes : AreCodesOf p.design.channels x.of x.codes
   pub state : IsStateOf (module_at p i) (after_move x)
   pub operations : (after_move x).count < 2 ^ 32
   pub time : IsInTime p (module_at p i) (after_move x) x.since
@@ -115,7 +118,7 @@ pub record IsPath (x : Path) : Type 0 where
 abbrev pub clocks_to_end : Path → ℕ
 clocks_to_end x =
     let s = after_move x in
-    if s.ended then 0 else (x.limit - s.count) * block_bound + clocks_left (block_of x.of s) s.control + 1
+    if s.ended then 0 else clocks_to_go x.limit x.of s + 1
 
 -- ---- rests
 
@@ -124,7 +127,7 @@ pub record IsAtStep (x : Path) : Type 0 where
   pub begun : x.stage ≡ Begun
   pub alive : is_over x.limit x.state ≡ false
   pub noted : x.noted ≡ notes_of x.of x.state
-  pub asked : x.asked ≡ requests x.channels x.of x.state
+  pub asked : HasAsked x
   pub some : 0 < length x.asked
 
 -- the module is ended or spent

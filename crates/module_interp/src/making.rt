@@ -1,14 +1,14 @@
 //! How a run begins.
-ghost use Rattle.std.specs.Prelude.{◌≡◌, ℕ, ◌<◌, length, map, IfOk, OnOk};
+ghost use Rattle.std.specs.Prelude.{◌≡◌, ℕ, ◌<◌, length, IfOk, OnOk};
 ghost use Rattle.flow_design.specs.StaticRules.{FitsEngine};
 ghost use Rattle.flow_design.specs.declared.plan.Plan.{Plan as PlanOf};
 ghost use Rattle.module_interp.specs.declared.path.Stage.TheVariants.{Begun};
 ghost use Rattle.module_interp.specs.OwnRests.{first_rest};
-ghost use Rattle.module_interp.specs.Paths.{IsPath, IsPathOf, LeadsTo, unnamed};
+ghost use Rattle.module_interp.specs.Paths.{IsPath, IsPathOf, LeadsTo};
 
 use crate::path::{Path, Stage};
 use block_code::codes_of;
-use flow_design::{Channel, Name, Plan};
+use flow_design::Plan;
 use flow_word::{List, OutOfMemory, TryCopy};
 use module_move::open;
 use std::alloc::Global;
@@ -22,11 +22,9 @@ pub fn first_path(alloc: Global, plan: &Plan, number: u32) -> Result<Path, OutOf
 {
     let of = plan.design.modules.as_slice()[number as usize].try_copy(alloc)?;
     let state = open(alloc, &of)?;
-    let channels = unnamed(alloc, plan.design.channels.as_slice())?;
-    let codes = codes_of(alloc, channels.as_slice(), &of)?;
+    let codes = codes_of(alloc, plan.design.channels.as_slice(), &of)?;
     Ok(Path {
         alloc,
-        channels,
         of,
         limit: plan.ops,
         codes,
@@ -49,19 +47,4 @@ pub fn go_to_start(alloc: Global, path: &mut Path) -> Result<(), OutOfMemory>
     path.stage = Stage::Begun;
     path.since = 0;
     Ok(())
-}
-
-/// Channels without their names: a run asks for widths alone.
-fn unnamed(alloc: Global, channels: &[Channel]) -> Result<List<Channel>, OutOfMemory>
-    ensures { IfOk result (λ copies. copies ≡ map unnamed channels.now) }
-{
-    let mut copies = List::with_room(alloc, channels.len() as u64)?;
-    for channel in channels {
-        copies.push(Channel {
-            name: Name::new(alloc, &[])?,
-            width: channel.width,
-            kind: channel.kind,
-        })?;
-    }
-    Ok(copies)
 }

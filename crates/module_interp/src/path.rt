@@ -1,6 +1,6 @@
 //! How far a module's own run has come.
 use block_code::{BlockCode, Noted};
-use flow_design::{Channel, Module, ModuleState, Request};
+use flow_design::{Module, ModuleState, Request};
 use flow_word::{List, Words};
 use std::alloc::Global;
 
@@ -19,8 +19,6 @@ pub enum Stage {
 #[derive(Drop)]
 pub struct Path {
     pub alloc: Global,
-    /// The channels of the plan, without their names.
-    pub channels: List<Channel>,
     pub of: Module,
     /// The operation limit.
     pub limit: u64,

@@ -1,11 +1,12 @@
 //! The local clocks in which a module asks nothing of the channels.
 ghost use Rattle.std.specs.Prelude.{◌≡◌, ◌≢◌, ℕ, ◌<◌, ◌≤◌, ◌^◌, ◌⊎◌, [], true, false, IfOk, OnOk, OnErr};
 ghost use Rattle.flow_design.specs.Module.{block_of};
-ghost use Rattle.lockstep_defs.specs.Machine.{move, requests, is_over};
+ghost use Rattle.lockstep_defs.specs.Machine.{move, is_over};
 ghost use Rattle.module_move.specs.Moves.{notes_of, ticked_to, gone_on};
 ghost use Rattle.block_schedule.specs.Work.{IsNextDue};
 ghost use Rattle.module_interp.specs.declared.path.Stage.TheVariants.{Begun, Asked, Ticked};
-ghost use Rattle.module_interp.specs.Paths.{after_move, CanAnswer, IsPath, KeepsRest, clocks_to_end, IsAtStep, IsAtEnd};
+ghost use Rattle.module_interp.specs.Paths.{after_move, HasAsked, AsksNothing, CanAnswer, IsPath, KeepsRest, clocks_to_end};
+ghost use Rattle.module_interp.specs.Paths.{IsAtStep, IsAtEnd};
 
 use crate::path::{Path, Stage};
 use flow_design::Reply;
@@ -98,7 +99,7 @@ impl Path {
         requires begun { self.old.stage ≡ Begun }
         requires alive { is_over self.old.limit self.old.state ≡ false }
         requires noted { self.old.noted ≡ notes_of self.old.of self.old.state }
-        requires none { requests self.old.channels self.old.of self.old.state ≡ [] }
+        requires none { AsksNothing self.old }
         ensures kept { KeepsRest self.old self.new }
         ensures unasked { self.new.stage ≢ Asked }
         ensures nearer { clocks_to_end self.new < clocks_to_end self.old }
@@ -140,11 +141,10 @@ impl Path {
         ensures frame { self.new
             ≡ record self.old { noted = self.new.noted; asked = self.new.asked; scratch = self.new.scratch } }
         ensures noted { OnOk result (self.new.noted ≡ notes_of self.old.of self.old.state) }
-        ensures asked { OnOk result (self.new.asked ≡ requests self.old.channels self.old.of self.old.state) }
+        ensures asked { OnOk result (HasAsked self.new) }
     {
         let code = &self.codes.as_slice()[self.state.control.block as usize];
         note(
-            self.channels.as_slice(),
             &self.of,
             code,
             &self.state,
@@ -162,7 +162,7 @@ impl Path {
         requires begun { self.old.stage ≡ Begun }
         requires alive { is_over self.old.limit self.old.state ≡ false }
         requires noted { self.old.noted ≡ notes_of self.old.of self.old.state }
-        requires none { requests self.old.channels self.old.of self.old.state ≡ [] }
+        requires none { AsksNothing self.old }
         ensures kept { KeepsRest self.old self.new }
         ensures unasked { self.new.stage ≢ Asked }
         ensures nearer { clocks_to_end self.new < clocks_to_end self.old }

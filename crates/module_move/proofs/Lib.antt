@@ -1,4 +1,5 @@
 pub mod Ages
+pub mod Asked
 pub mod Begins
 pub mod Looking
 pub mod Moving

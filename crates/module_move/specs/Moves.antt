@@ -1,13 +1,19 @@
 -- The parts of a move: what is noted, the commits, the clock, and how the loop and the block go on.
-use Rattle.std.specs.Prelude.{ℕ, ◌+◌, ◌-◌, List, map, filter, length, drop}
+use Rattle.std.specs.Prelude.{ℕ, ◌+◌, ◌-◌, List, map, filter, length, drop, slice_index_or, Option, None}
 use Rattle.flow_design.specs.declared.design.Block.{Block}
 use Rattle.flow_design.specs.declared.design.Module.{Module}
 use Rattle.flow_design.specs.declared.state.Due.{Due}
 use Rattle.flow_design.specs.declared.state.ModuleState.{ModuleState}
 use Rattle.flow_design.specs.declared.state.Reply.{Reply}
+use Rattle.flow_design.specs.declared.state.Request.{Request}
 use Rattle.flow_design.specs.Module.{block_of, operation_at, temps_of, passes, live_count, due}
 use Rattle.lockstep_defs.specs.Machine.{committed, decided, finished}
+use Rattle.block_code.specs.declared.action.Action.TheVariants.{Empty}
+use Rattle.block_code.specs.declared.code.BlockCode.{BlockCode}
+use Rattle.block_code.specs.declared.code.Guarded.{Guarded}
 use Rattle.block_code.specs.declared.noted.Noted.{Noted}
+use Rattle.block_code.specs.declared.target.Target.TheVariants.{Register}
+use Rattle.block_code.specs.Actions.{action_request}
 use Rattle.block_code.specs.Notes.{noted_for}
 
 -- those of these operations of a live iteration that have no guard, or one that is not 0
@@ -18,6 +24,14 @@ passing b s place ns = map (λ n. record { iteration = place; op = n })
 -- what is noted of the due operations, in commit order
 abbrev pub notes_of : Module → ModuleState → List Noted
 notes_of m s = map (noted_for (block_of m s) s) (due m s)
+
+-- what stands where a number names no action
+abbrev pub no_action : Guarded
+no_action = record { guard = None; action = Empty 0 (Register 0 0) }
+
+-- what a due operation asks of a channel, by the code of its block
+abbrev pub asked_by : BlockCode → ModuleState → Due → Option Request
+asked_by code s d = action_request s d.iteration (slice_index_or code.actions d.op no_action).action
 
 -- the due operations have committed and count
 abbrev pub counted : Module → ModuleState → List Reply → ModuleState

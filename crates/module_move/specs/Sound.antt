@@ -7,9 +7,12 @@ use Rattle.flow_design.specs.declared.state.Due.{Due}
 use Rattle.flow_design.specs.StaticRules.{IsModuleSound}
 use Rattle.lockstep_defs.specs.States.{IsStateOf}
 use Rattle.flow_design.specs.Module.{block_of}
+use Rattle.block_code.specs.declared.action.Action.{Action}
 use Rattle.block_code.specs.declared.code.BlockCode.{BlockCode}
 use Rattle.block_code.specs.declared.noted.Noted.{Noted}
+use Rattle.block_code.specs.Actions.{action_value, action_address, IsActionReady}
 use Rattle.block_code.specs.Codes.{IsBlockCodeOf}
+use Rattle.block_code.specs.Notes.{noted_for}
 use Rattle.module_move.specs.Moves.{notes_of}
 
 -- a state that the module comes to, in which it is not ended
@@ -25,6 +28,17 @@ IsRunnable m s = s.ended ≡ false → IsStateSound m s
 pub record IsDueSound (m : Module) (s : ModuleState) (d : Due) : Type 0 where
   pub iteration : d.iteration < length s.temps
   pub op : d.op < length (block_of m s).ops
+
+-- the action gives of the state what the due operation gives, and finds what it looks up
+pub record IsActionAt (m : Module) (s : ModuleState) (d : Due) (action : Action) : Type 0 where
+  pub value : action_value s d.iteration action ≡ (noted_for (block_of m s) s d).value
+  pub address : action_address s d.iteration action ≡ (noted_for (block_of m s) s d).address
+  pub ready : IsActionReady s d.iteration action
+
+-- what is needed to look up the due operations: the code of the block in which the module stands
+pub record HasCode (channels : List Channel) (m : Module) (s : ModuleState) (code : BlockCode) : Type 0 where
+  pub of : IsModuleSound (length channels) m
+  pub code_is : IsBlockCodeOf channels m (block_of m s) code
 
 -- what is needed to commit: in a sound state, by the code of its block, what was noted of all that is due
 pub record CanCommit (channels : List Channel) (m : Module) (s : ModuleState) (code : BlockCode) (noted : List Noted) : Type 0 where

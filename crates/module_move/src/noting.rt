@@ -1,18 +1,18 @@
 //! What is noted of the due operations before the replies, and what they ask of the channels.
 ghost use Rattle.std.specs.Prelude.{◌≡◌, ℕ, ◌+◌, ◌*◌, ◌<◌, ◌≤◌, ◌^◌, ◌++◌, ◌∷◌, [], if◌then◌else◌, length, map, filter_map, All};
-ghost use Rattle.std.specs.Prelude.{IfSome, OnOk};
+ghost use Rattle.std.specs.Prelude.{List as Items, IfSome, OnOk};
 ghost use Rattle.flow_design.specs.declared.limits.TheConstants.{LIVE_ITERATIONS, OPERATIONS};
-ghost use Rattle.flow_design.specs.StaticRules.{IsModuleSound};
-ghost use Rattle.flow_design.specs.Module.{block_of, operation_at, passes, temps_of};
-ghost use Rattle.lockstep_defs.specs.Machine.{request_for, requests};
-ghost use Rattle.block_code.specs.Actions.{IsActionOf, action_room};
+ghost use Rattle.flow_design.specs.declared.design.Channel.{Channel as ChannelOf};
+ghost use Rattle.flow_design.specs.Module.{block_of, due, passes, temps_of};
+ghost use Rattle.lockstep_defs.specs.Machine.{requests};
+ghost use Rattle.block_code.specs.Actions.{action_request, action_room};
 ghost use Rattle.block_code.specs.Codes.{IsBlockCodeOf};
 ghost use Rattle.block_code.specs.Notes.{noted_for};
-ghost use Rattle.module_move.specs.Moves.{passing, notes_of};
-ghost use Rattle.module_move.specs.Sound.{IsStateSound, IsDueSound};
+ghost use Rattle.module_move.specs.Moves.{asked_by, passing, notes_of};
+ghost use Rattle.module_move.specs.Sound.{HasCode, IsActionAt, IsStateSound};
 
 use block_code::{Action, BlockCode, Noted, Prepared, prepare, temps_of};
-use flow_design::{Channel, Due, Module, ModuleState, Request};
+use flow_design::{Due, Module, ModuleState, Request};
 use flow_expr::variable;
 use flow_word::{List, OutOfMemory, Words};
 
@@ -20,7 +20,6 @@ use flow_word::{List, OutOfMemory, Words};
 /// `asked` with the requests of the FIFO operations among them, both in commit order. What the two lists held before is gone.
 /// `scratch` is room that is used again, and what it holds means nothing.
 pub fn note(
-    channels: &[Channel],
     of: &Module,
     code: &BlockCode,
     state: &ModuleState,
@@ -28,17 +27,17 @@ pub fn note(
     noted: &mut List<Noted>,
     asked: &mut List<Request>,
 ) -> Result<(), OutOfMemory>
-    requires module { IsModuleSound (length channels.now) of.now }
     requires sound { IsStateSound of.now state.now }
-    requires code { IsBlockCodeOf channels.now of.now (block_of of.now state.now) code.now }
+    requires code { (channels : Items ChannelOf) × HasCode channels of.now state.now code.now }
     requires small { state.now.control.clock < 2 ^ 60 }
     ensures noted { OnOk result (noted.new ≡ notes_of of.now state.now) }
-    ensures asked { OnOk result (asked.new ≡ requests channels.now of.now state.now) }
+    ensures asked { OnOk result ((channels : Items ChannelOf)
+        → IsBlockCodeOf channels of.now (block_of of.now state.now) code.now → asked.new ≡ requests channels of.now state.now) }
     ensures few { OnOk result (length noted.new ≤ LIVE_ITERATIONS * OPERATIONS) }
 {
     make_room(scratch, code.room)?;
     let room = scratch.as_mut_slice();
-    note_due(channels, of, code, state, room, noted, asked)?;
+    note_due(of, code, state, room, noted, asked)?;
     Ok(())
 }
 
@@ -53,10 +52,8 @@ fn make_room(scratch: &mut Words, room: u64) -> Result<(), OutOfMemory>
 }
 
 /// Fills the two lists, where there is room for the results of each expression.
-#[tactic(auto, unfolding(lockstep_defs::specs::Machine::requests))]
 #[inline(always)]
 fn note_due(
-    channels: &[Channel],
     of: &Module,
     code: &BlockCode,
     state: &ModuleState,
@@ -64,13 +61,12 @@ fn note_due(
     noted: &mut List<Noted>,
     asked: &mut List<Request>,
 ) -> Result<(), OutOfMemory>
-    requires module { IsModuleSound (length channels.now) of.now }
     requires sound { IsStateSound of.now state.now }
-    requires code { IsBlockCodeOf channels.now of.now (block_of of.now state.now) code.now }
+    requires code { (channels : Items ChannelOf) × HasCode channels of.now state.now code.now }
     requires small { state.now.control.clock < 2 ^ 60 }
     requires room { code.now.room ≤ length scratch.old }
     ensures noted { OnOk result (noted.new ≡ notes_of of.now state.now) }
-    ensures asked { OnOk result (asked.new ≡ requests channels.now of.now state.now) }
+    ensures asked { OnOk result (asked.new ≡ filter_map (asked_by code.now state.now) (due of.now state.now)) }
 {
     let step = code.schedule.interval();
     let newest_age = state.control.clock - state.control.newest;
@@ -81,9 +77,7 @@ fn note_due(
     while left > 0 {
         left -= 1;
         let numbers = code.schedule.due(newest_age + left * step);
-        note_iteration(
-            channels, of, code, state, place, numbers, scratch, noted, asked,
-        )?;
+        note_iteration(of, code, state, place, numbers, scratch, noted, asked)?;
         place += 1;
     }
     Ok(())
@@ -92,7 +86,6 @@ fn note_due(
 /// Adds what is noted of those of these operations of a live iteration that have no guard, or one that is not 0, and their requests.
 #[inline(always)]
 fn note_iteration(
-    channels: &[Channel],
     of: &Module,
     code: &BlockCode,
     state: &ModuleState,
@@ -102,9 +95,8 @@ fn note_iteration(
     noted: &mut List<Noted>,
     asked: &mut List<Request>,
 ) -> Result<(), OutOfMemory>
-    requires module { IsModuleSound (length channels.now) of.now }
     requires sound { IsStateSound of.now state.now }
-    requires code { IsBlockCodeOf channels.now of.now (block_of of.now state.now) code.now }
+    requires code { (channels : Items ChannelOf) × HasCode channels of.now state.now code.now }
     requires place { place < length state.now.temps }
     requires numbers { All (λ n. n < length (block_of of.now state.now).ops) numbers.now }
     requires room { code.now.room ≤ length scratch.old }
@@ -112,7 +104,7 @@ fn note_iteration(
         ≡ noted.old ++ map (noted_for (block_of of.now state.now) state.now)
         (passing (block_of of.now state.now) state.now place numbers.now)) }
     ensures asked { OnOk result (asked.new
-        ≡ asked.old ++ filter_map (request_for channels.now of.now state.now)
+        ≡ asked.old ++ filter_map (asked_by code.now state.now)
         (passing (block_of of.now state.now) state.now place numbers.now)) }
     ensures room { OnOk result (length scratch.new ≡ length scratch.old) }
 {
@@ -129,7 +121,6 @@ fn note_iteration(
         let passes = passes(guarded.guard, state.registers.as_slice(), temps);
         note_if(
             passes,
-            channels,
             of,
             &guarded.action,
             state,
@@ -159,7 +150,6 @@ fn passes(guard: Option<u32>, registers: &[u64], temps: &[u64]) -> bool
 #[inline(always)]
 fn note_if(
     passes: bool,
-    channels: &[Channel],
     of: &Module,
     action: &Action,
     state: &ModuleState,
@@ -169,17 +159,13 @@ fn note_if(
     noted: &mut List<Noted>,
     asked: &mut List<Request>,
 ) -> Result<(), OutOfMemory>
-    requires module { IsModuleSound (length channels.now) of.now }
-    requires sound { IsStateSound of.now state.now }
-    requires action { IsActionOf channels.now of.now (block_of of.now state.now) action.now
-        (operation_at (block_of of.now state.now) due.op).op }
-    requires due { IsDueSound of.now state.now due }
+    requires action { IsActionAt of.now state.now due action.now }
     requires temps { temps.now ≡ temps_of state.now due.iteration }
     requires room { action_room action.now ≤ length scratch.old }
     ensures noted { OnOk result (noted.new
         ≡ noted.old ++ map (noted_for (block_of of.now state.now) state.now) (if passes then due ∷ [] else [])) }
     ensures asked { OnOk result (asked.new
-        ≡ asked.old ++ filter_map (request_for channels.now of.now state.now) (if passes then due ∷ [] else [])) }
+        ≡ asked.old ++ filter_map (λ d. action_request state.now d.iteration action.now) (if passes then due ∷ [] else [])) }
     ensures room { OnOk result (length scratch.new ≡ length scratch.old) }
 {
     if passes {

@@ -16,5 +16,5 @@ returns-clause-leads c =
     let of =
     module_is p c.args.number c.as_slice.result.now c.index-as_slice-number.result c.in_ok-of.of c.requires.owner c.as_slice.ensures
     c.index-as_slice-number.is c.in_ok-of.ensures in
-    opened_leads p c.requires.fits c.args.number c.requires.owner _ (rw c.as_slice-2.ensures at c.in_ok-channels.ensures) of refl
-    (rw c.as_slice-3.ensures at c.in_ok-codes.ensures) c.in_ok-state.ensures.state refl refl
+    opened_leads p c.requires.fits c.args.number c.requires.owner _ of refl (rw c.as_slice-2.ensures at c.in_ok-codes.ensures)
+    c.in_ok-state.ensures.state refl refl

@@ -1,9 +1,8 @@
 use Rattle.std.proofs.Common.{◌≡◌, ◌++◌, take, map, length}
 use Rattle.std.specs.List.{filter_map}
 use Rattle.flow_design.specs.Module.{block_of}
-use Rattle.lockstep_defs.specs.Machine.{request_for}
 use Rattle.block_code.specs.Notes.{noted_for}
-use Rattle.module_move.specs.Moves.{passing}
+use Rattle.module_move.specs.Moves.{asked_by, passing}
 use Rattle.module_move.proofs.noting.note_iteration.Given as goal
 
 -- what those that pass among the numbers so far give was added
@@ -13,7 +12,7 @@ invariant-loop-number l = record {
       ≡ l.initial.noted ++ map (noted_for (block_of l.of l.state) l.state) (passing (block_of l.of l.state) l.state l.place (take
       l.number-index l.numbers));
   asked : l.asked
-      ≡ l.initial.asked ++ filter_map (request_for l.channels l.of l.state) (passing (block_of l.of l.state) l.state l.place (take
+      ≡ l.initial.asked ++ filter_map (asked_by l.code l.state) (passing (block_of l.of l.state) l.state l.place (take
       l.number-index l.numbers));
   room : length l.scratch ≡ length l.initial.scratch;
 }

@@ -1,5 +1,4 @@
 use Rattle.std.proofs.Common.{◌≡◌, ◌∙◌, arith, List, get_or}
-use Rattle.std.proofs.lemmas.List.{length-map}
 use Rattle.block_code.specs.declared.code.BlockCode.{BlockCode}
 use Rattle.block_code.specs.declared.noted.Noted.{Noted}
 use Rattle.module_move.specs.Sound.{CanCommit}
@@ -10,12 +9,13 @@ use Rattle.module_interp.proofs.Timing.{module_sound}
 use Rattle.module_interp.proofs.Ways.{code_read}
 use Rattle.module_interp.proofs.path.Path.commit_due.Goals as goal
 
-can_commit : (x : Path) → IsPath x → CanAnswer x → (xs : List BlockCode) (d : BlockCode) → xs ≡ x.codes
-    → d ≡ get_or xs x.state.control.block d → (noted : List Noted) → noted ≡ x.noted → CanCommit x.channels x.of x.state d noted
+can_commit : (x : Path) (path : IsPath x) → CanAnswer x → (xs : List BlockCode) (d : BlockCode) → xs ≡ x.codes
+    → d ≡ get_or xs x.state.control.block d → (noted : List Noted) → noted ≡ x.noted
+    → CanCommit path.plan.design.channels x.of x.state d noted
 can_commit x path can xs d same read noted is = record {
-  of = rw (path.is.channels, length-map, path.is.of) (module_sound path.plan path.is.fits path.number path.is.owner);
+  of = rw path.is.of (module_sound path.plan path.is.fits path.number path.is.owner);
   state = can.state;
-  code_is = code_read x path xs d same read can.state.state.block;
+  code_is = code_read x path.is.codes xs d same read can.state.state.block;
   noted_are = is ∙ can.noted;
   few = omega (arith, can.count);
 }
@@ -25,7 +25,7 @@ commit-requires c =
     let x = c.args.self.now in
     record {
       can = (
-        x.channels,
+        c.requires.path.plan.design.channels,
         (
           x.of,
           can_commit x c.requires.path c.requires.answer c.as_slice.result.now c.index-as_slice-self.result c.as_slice.ensures
@@ -38,6 +38,6 @@ pub returns-clause-moved : goal.returns-clause-moved
 returns-clause-moved c =
     let x = c.args.self.now in
     moved_is x.of x.state c.commit.new.state c.tick_to.new.state c.args.replies.now
-    (c.commit.ensures.committed x.channels x.of
+    (c.commit.ensures.committed c.requires.path.plan.design.channels x.of
     (can_commit x c.requires.path c.requires.answer c.as_slice.result.now c.index-as_slice-self.result c.as_slice.ensures
     c.index-as_slice-self.is c.as_slice-2.result.now c.as_slice-2.ensures)) c.tick_to.ensures.ticked

@@ -1,8 +1,9 @@
 use Rattle.std.proofs.Common.{◌≡◌, ◌+◌, ◌≤◌, false, [], ap}
-use Rattle.lockstep_defs.specs.Machine.{move, requests, is_over}
+use Rattle.lockstep_defs.specs.Machine.{move, is_over}
 use Rattle.module_move.specs.Moves.{gone_on}
 use Rattle.module_interp.specs.declared.path.Path.{Path}
 use Rattle.module_interp.specs.declared.path.Stage.TheVariants.{Begun, Ticked}
+use Rattle.module_interp.specs.Paths.{AsksNothing}
 use Rattle.module_interp.proofs.Ways.{Passes, has_begun, one_passes, passes_keep, passes_nearer}
 use Rattle.module_interp.proofs.path.Path.pass.Goals as goal
 
@@ -12,14 +13,13 @@ commit_due-requires-clause-answer c =
     record { state = h.sound; noted = c.requires.noted; clock = h.clock; count = h.count }
 
 passed : (x y : Path) → y ≡ record x { state = y.state; stage = Ticked }
-    → x.stage ≡ Begun → is_over x.limit x.state ≡ false → requests x.channels x.of x.state ≡ []
+    → x.stage ≡ Begun → is_over x.limit x.state ≡ false → AsksNothing x
     → gone_on y.of y.state ≡ move x.of x.state [] → y.state.control.block ≡ x.state.control.block
     → y.state.control.newest ≤ y.state.control.clock
     → Passes x (record y { since = y.since + 1 }) 0
 passed x y f begun alive none moved block started =
     one_passes x (record y { since = y.since + 1 })
     (record {
-      channels = ap (λ (z : Path). z.channels) f;
       of = ap (λ (z : Path). z.of) f;
       limit = ap (λ (z : Path). z.limit) f;
       codes = ap (λ (z : Path). z.codes) f;

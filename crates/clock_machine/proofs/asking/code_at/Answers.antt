@@ -5,7 +5,7 @@ use Rattle.lockstep_defs.specs.Lockstep.{module_at}
 use Rattle.block_code.specs.declared.code.BlockCode.{BlockCode}
 use Rattle.block_code.specs.Codes.{IsBlockCodeOf, AreCodesOf}
 use Rattle.clock_machine.specs.Parts.{AreCodes}
-use Rattle.clock_machine.proofs.turn.code_at.Goals as goal
+use Rattle.clock_machine.proofs.asking.code_at.Goals as goal
 
 own_codes : (p : Plan) (codes : List (List BlockCode)) (i : ℕ) (own : List BlockCode) → AreCodes p codes → i < length p.design.modules
     → own ≡ get_or codes i own → AreCodesOf p.design.channels (module_at p i) own
@@ -13,20 +13,20 @@ own_codes p codes i own are inside is = subst (AreCodesOf p.design.channels (mod
 
 pub bounds-as_slice-state : goal.bounds-as_slice-state
 bounds-as_slice-state c =
-    let p = c.args.at.now.of.now.plan.now in
-    let own = own_codes p c.args.at.now.of.now.codes.now c.args.i c.index-at-i.result c.requires.codes c.requires.within c.index-at-i.is in
+    let p = c.args.of.now.plan.now in
+    let own = own_codes p c.args.of.now.codes.now c.args.i c.index-of-i.result c.requires.codes c.requires.within c.index-of-i.is in
     let count = own.count in
-    let same = ap length c.index-at-i.is in
+    let same = ap length c.index-of-i.is in
     let block = c.requires.block in
     rw c.as_slice.ensures (omega arith)
 
 pub returns : goal.returns
 returns c =
-    let p = c.args.at.now.of.now.plan.now in
-    let own = own_codes p c.args.at.now.of.now.codes.now c.args.i c.index-at-i.result c.requires.codes c.requires.within c.index-at-i.is in
+    let p = c.args.of.now.plan.now in
+    let own = own_codes p c.args.of.now.codes.now c.args.i c.index-of-i.result c.requires.codes c.requires.within c.index-of-i.is in
     let s = c.args.state.now in
     let code = c.index-as_slice-state.result in
     subst (IsBlockCodeOf p.design.channels (module_at p c.args.i) (block_of (module_at p c.args.i) s))
     (sym (c.index-as_slice-state.is ∙ ap (λ (cs : List BlockCode). get_or cs s.control.block code)
-    (c.as_slice.ensures ∙ sym c.index-at-i.is)))
+    (c.as_slice.ensures ∙ sym c.index-of-i.is)))
     (own.each s.control.block code c.requires.block)

@@ -1,0 +1,25 @@
+use Rattle.std.proofs.Common.{◌≡◌, ◌∙◌, sym, subst, ap}
+use Rattle.flow_design.specs.declared.design.Module.{Module}
+use Rattle.flow_design.specs.Module.{block_of}
+use Rattle.lockstep_defs.specs.Lockstep.{no_module}
+use Rattle.lockstep_defs.specs.Machine.{requests}
+use Rattle.block_code.specs.Codes.{IsBlockCodeOf}
+use Rattle.module_move.specs.Sound.{HasCode}
+use Rattle.clock_machine.proofs.asking.note_one.Goals as goal
+
+pub note-requires-clause-code : goal.note-requires-clause-code
+note-requires-clause-code c =
+    let p = c.args.of.now.plan.now in (
+      p.design.channels,
+      subst (λ (m : Module). HasCode p.design.channels m c.args.state.now c.code_at.result.now) (sym c.module_at.ensures)
+          (record { of = c.requires.fits.modules c.args.i no_module c.requires.within; code_is = c.code_at.ensures }),
+    )
+
+pub returns-clause-asked : goal.returns-clause-asked
+returns-clause-asked c =
+    let p = c.args.of.now.plan.now in
+    let s = c.args.state.now in
+    let code = c.code_at.result.now in
+    c.in_ok-note.ensures.asked p.design.channels
+    (subst (λ (m : Module). IsBlockCodeOf p.design.channels m (block_of m s) code) (sym c.module_at.ensures) c.code_at.ensures)
+    ∙ ap (λ (m : Module). requests p.design.channels m s) c.module_at.ensures

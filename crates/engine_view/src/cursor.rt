@@ -2,18 +2,19 @@
 ghost use Rattle.std.specs.Prelude.{◌≡◌, ℕ, ◌<◌, ◌≤◌, ◌⊎◌, IfSome, IsNone, false, true};
 ghost use Rattle.engine_view.specs.Cursors.{IsNext, IsPassed, GoesRound, turns_left};
 
-use crate::hints::{next_of, without};
+use crate::hints::Hints;
 use std::marker::Model;
 
-/// Goes round the modules, to those that are hinted before the others, until it has passed them all and nothing was done meanwhile.
+/// Goes round the modules until it has passed them all and nothing was done meanwhile.
 ///
-/// Contracts see where it stands, and which modules count as idle: those that it passed since something was last done.
+/// Contracts see where it stands, and which modules count as idle: those that it passed since something was last done. Before others it
+/// may go to hinted modules. Each time it takes a hint away, so that between two actions it does so at most once for each module.
 #[derive(Drop)]
 pub struct Cursor {
     count: u32,
     at: u32,
     idle: u32,
-    hints: u64,
+    jumps: u32,
 }
 
 impl Model for Cursor {
@@ -22,7 +23,7 @@ impl Model for Cursor {
 
     ghost Value = { CursorView };
 
-    ghost view = { λ c. record { count = c.count; at = c.at; idle = c.idle; hints = c.hints } };
+    ghost view = { λ c. record { count = c.count; at = c.at; idle = c.idle; jumps = c.jumps } };
 
     ghost invariant = { λ c. (c.idle ≤ c.count) × (0 < c.count → c.at < c.count) };
 }
@@ -33,14 +34,13 @@ impl Cursor {
     pub fn new(count: u32) -> Cursor
         ensures count { result.count ≡ count }
         ensures at { result.at ≡ 0 }
-        ensures unhinted { result.hints ≡ 0 }
         ensures idle { (m : ℕ) → IsPassed result m → ⊥ }
     {
         Cursor {
             count,
             at: 0,
             idle: 0,
-            hints: 0,
+            jumps: count,
         }
     }
 
@@ -57,57 +57,71 @@ impl Cursor {
         }
     }
 
-    /// Something was done, by which these are hinted: none counts as idle any more. It stays where it stands.
+    /// Something was done: none counts as idle any more. It stays where it stands.
     #[inline(always)]
-    pub fn acted(&mut self, woken: u64)
+    pub fn acted(&mut self)
         ensures count { self.new.count ≡ self.old.count }
         ensures idle { (m : ℕ) → IsPassed self.new m → ⊥ }
         ensures stays { self.new.at ≡ self.old.at }
-        ensures unhinted { self.old.hints ≡ 0 → woken ≡ 0 → self.new.hints ≡ 0 }
         ensures less { (before after : ℕ) → after < before → turns_left after self.new < turns_left before self.old }
     {
-        self.hints |= woken;
         self.idle = 0;
+        self.jumps = self.count;
     }
 
-    /// Nothing was to be done where it stands: it goes to the next hinted module, and else to the next one.
+    /// Nothing was to be done where it stands: it goes to the next module.
     #[inline(always)]
     pub fn passed(&mut self)
         requires { self.old.idle < self.old.count }
         ensures count { self.new.count ≡ self.old.count }
         ensures idle { (m : ℕ) → IsPassed self.new m → (m ≡ self.old.at) ⊎ IsPassed self.old m }
-        ensures unhinted { self.old.hints ≡ 0 → GoesRound self.old self.new }
+        ensures round { GoesRound self.old self.new }
         ensures less { (actions : ℕ) → turns_left actions self.new < turns_left actions self.old }
     {
-        if !self.jump() {
-            self.idle += 1;
-            self.at = if self.at + 1 < self.count {
-                self.at + 1
-            } else {
-                0
-            };
+        self.idle += 1;
+        self.at = if self.at + 1 < self.count {
+            self.at + 1
+        } else {
+            0
+        };
+    }
+
+    /// Nothing was to be done where it stands: it goes to the next hinted module, and else to the next one.
+    #[inline(always)]
+    pub fn passed_by(&mut self, hints: &mut Hints)
+        requires { self.old.idle < self.old.count }
+        ensures count { self.new.count ≡ self.old.count }
+        ensures idle { (m : ℕ) → IsPassed self.new m → (m ≡ self.old.at) ⊎ IsPassed self.old m }
+        ensures less { (actions : ℕ) → turns_left actions self.new < turns_left actions self.old }
+        ensures hints { hints.new ≡ hints.old }
+    {
+        if !self.jump(hints) {
+            self.passed();
         }
     }
 
     /// Goes to the next hinted module, where there is one, and tells whether it did. By this none is passed.
     #[inline(always)]
-    pub fn jump(&mut self) -> bool
+    pub fn jump(&mut self, hints: &mut Hints) -> bool
         requires { 0 < self.old.count }
         ensures count { self.new.count ≡ self.old.count }
         ensures idle { (m : ℕ) → IsPassed self.new m → IsPassed self.old m }
         ensures stays { result ≡ false → self.new ≡ self.old }
-        ensures hinted { result ≡ true → 0 < self.old.hints }
         ensures no_more { (actions : ℕ) → turns_left actions self.new ≤ turns_left actions self.old }
         ensures less { result ≡ true → (actions : ℕ) → turns_left actions self.new < turns_left actions self.old }
+        ensures hints { hints.new ≡ hints.old }
     {
-        match next_of(self.hints, self.at, self.count) {
-            Some(next) => {
+        if self.jumps == 0 {
+            return false;
+        }
+        match hints.take_from(self.at + 1) {
+            Some(next) if next < self.count => {
                 self.idle = 0;
                 self.at = next;
-                self.hints = without(self.hints, next);
+                self.jumps -= 1;
                 true
             }
-            None => false,
+            Some(_) | None => false,
         }
     }
 }

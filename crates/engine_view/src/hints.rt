@@ -1,46 +1,88 @@
-//! Hints: modules of which something may have changed, as the bits of a number, one for each of the first 64.
-ghost use Rattle.std.specs.Prelude.{◌≡◌, ℕ, ◌+◌, ◌^◌, ◌<◌, ◌≤◌, IfSome, IsNone};
-ghost use Rattle.engine_view.specs.Hints.{bit_of, IsHinted, IsFirstHinted, IsNextHinted};
+//! Hints: modules of which something may have changed.
+ghost use Rattle.std.specs.Prelude.{◌≡◌, ◌<◌, [], length, slice_index_or};
 
-/// The bit of a module, where it is one of the first 64, and else none.
-pub fn bit_of(owner: u32) -> u64
-    ensures { result ≡ bit_of owner }
-{
-    1u64.checked_shl(owner).unwrap_or(0)
+use flow_word::List;
+use module_sets::{Mask, ModuleSet};
+use std::marker::Model;
+
+/// The modules beside each, and the hinted ones: those of which something may have changed.
+///
+/// Contracts see the masks of the modules beside each. Which are hinted says only where to look first.
+pub struct Hints {
+    beside: List<List<Mask>>,
+    hinted: ModuleSet,
 }
 
-/// The first hinted module behind one, going round so many modules. None where no module is hinted.
-pub fn next_of(hints: u64, at: u32, count: u32) -> Option<u32>
-    requires { at < count }
-    ensures next { IfSome result (λ next. IsNextHinted hints at count next) }
-    ensures none { IsNone result → (m : ℕ) → m < count → IsHinted hints m → ⊥ }
-{
-    match first_from(hints, at + 1) {
-        Some(next) if next < count => Some(next),
-        Some(_) | None => match first_from(hints, 0) {
-            Some(next) if next < count => Some(next),
-            Some(_) | None => None,
-        },
+impl Drop for Hints {
+    fn drop(self) {
+        let Hints {
+            beside: _beside,
+            hinted: _hinted,
+        } = self;
     }
 }
 
-/// The hints without that of a module.
-pub fn without(hints: u64, owner: u32) -> u64
-    requires { IsHinted hints owner }
-    ensures { result + 2 ^ owner ≡ hints }
-{
-    hints - (1 << owner)
+impl Model for Hints {
+    ghost use Rattle.std.specs.Prelude.{List};
+    ghost use Rattle.module_sets.specs.declared.mask.Mask.{Mask};
+
+    ghost Value = { List (List Mask) };
+
+    ghost view = { λ hints. hints.beside };
 }
 
-/// The first hinted module from this one on. None where there is none.
-fn first_from(hints: u64, from: u32) -> Option<u32>
-    ensures first { IfSome result (λ m. IsFirstHinted hints from m) }
-    ensures none { IsNone result → (m : ℕ) → from ≤ m → IsHinted hints m → ⊥ }
-{
-    let behind = hints.checked_shr(from)?;
-    if behind == 0 {
-        None
-    } else {
-        Some(from + behind.trailing_zeros())
+impl Hints {
+    /// Of each module the masks of those beside it, and those that are hinted at first.
+    pub fn new(beside: List<List<Mask>>, hinted: ModuleSet) -> Hints
+        ensures { result ≡ beside }
+    {
+        Hints { beside, hinted }
+    }
+
+    /// The masks of the modules beside one.
+    #[inline(always)]
+    pub fn beside(&self, owner: u32) -> &[Mask]
+        requires { owner < length self.now }
+        ensures { result.now ≡ slice_index_or self.now owner [] }
+    {
+        self.beside.as_slice()[owner as usize].as_slice()
+    }
+
+    /// None is hinted any more.
+    pub fn clear(&mut self)
+        ensures { self.new ≡ self.old }
+    {
+        self.hinted.clear();
+    }
+
+    /// Hints a module.
+    #[inline(always)]
+    pub fn hint(&mut self, owner: u32)
+        ensures { self.new ≡ self.old }
+    {
+        self.hinted.add(owner);
+    }
+
+    /// Hints the modules beside one.
+    #[inline(always)]
+    pub fn hint_beside(&mut self, owner: u32)
+        ensures { self.new ≡ self.old }
+    {
+        if let Some(masks) = self.beside.as_slice().get(owner as usize) {
+            self.hinted.add_masks(masks.as_slice());
+        }
+    }
+
+    /// The first hinted module from this one on, going round. It is not hinted any more. None where none is.
+    #[inline(always)]
+    pub(crate) fn take_from(&mut self, from: u32) -> Option<u32>
+        ensures { self.new ≡ self.old }
+    {
+        let next = match self.hinted.first_from(from) {
+            Some(next) => next,
+            None => self.hinted.first_from(0)?,
+        };
+        self.hinted.remove(next);
+        Some(next)
     }
 }

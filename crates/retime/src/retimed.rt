@@ -9,7 +9,7 @@ ghost use Rattle.retime.specs.Touched.{IsEditIn};
 ghost use Rattle.retime.specs.Cuts.{AreNumbered, AreAssumed, IsCutBack, HasRetimed, KeepsRoomEdited};
 
 use crate::rounds::time_all;
-use engine_view::Engine;
+use engine_view::{Engine, Hints};
 use event_graph::{Graph, Place};
 use flow_design::Edit;
 use flow_word::Steps;
@@ -20,10 +20,11 @@ use std::sync::ledger::Ledger;
 /// Sets a FIFO's depth, forgets the cycles from a clock on and takes their outcomes as assumed, and gives cycles and
 /// answers queries anew as long as that is permitted, or until an outcome is not as it was assumed.
 ///
-/// Without a clock no cycle below the limit is forgotten. The cycles that were given stay where an outcome differs. It
-/// takes no memory.
+/// Without a clock no cycle below the limit is forgotten. The cycles that were given stay where an outcome differs. The hints say
+/// where to look first. It takes no memory.
 pub fn retime<L: Ledger>(
     engine: &mut Engine,
+    hints: &mut Hints,
     edit: &Edit,
     from: Option<u64>,
     limit: u64,
@@ -32,6 +33,7 @@ pub fn retime<L: Ledger>(
     requires edit { IsEditIn engine.old.fifos.channels edit.now }
     requires limit { limit ≤ cycle_bound }
     requires core { IsSomeCore engine.old }
+    ensures hints { hints.new ≡ hints.old }
     ensures retimed { HasRetimed result edit.now (unwrap_or from limit) limit engine.old engine.new }
     ensures core { IsSomeCore engine.new }
     ensures room { KeepsRoomEdited edit.now engine.old engine.new }
@@ -41,7 +43,7 @@ pub fn retime<L: Ledger>(
         ≡ steps.old + cycles_in engine.new.graph.lanes }
 {
     cut_back(engine, edit, from.unwrap_or(limit));
-    time_all(engine, limit, steps)
+    time_all(engine, hints, limit, steps)
 }
 
 /// Sets a FIFO's depth, forgets the cycles from a clock on, and takes the outcomes of all steps without a cycle as assumed.

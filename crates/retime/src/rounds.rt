@@ -5,8 +5,7 @@ ghost use Rattle.engine_view.specs.Taking.{kinds_in};
 ghost use Rattle.engine_view.specs.Turns.{IsSomeCore, KeepsRoom};
 ghost use Rattle.retime.specs.Rounds.{HasGone, IsAtEnd, only_steps, cycles_in};
 
-use engine_view::{Cursor, Engine, Timing, bit_of};
-use fifo_table::FifoTable;
+use engine_view::{Cursor, Engine, Hints, Timing};
 use flow_word::Steps;
 use outcome_guard::Guard;
 use std::sync::ledger::Ledger;
@@ -15,9 +14,15 @@ use std::sync::ledger::Ledger;
 ///
 /// At a module it does all that it can, and then goes round to the next one of which something may have changed, or, where there is
 /// none such, to the next one. It takes no memory.
-pub fn time_all<L: Ledger>(engine: &mut Engine, limit: u64, steps: &mut Steps<L>) -> Guard
+pub fn time_all<L: Ledger>(
+    engine: &mut Engine,
+    hints: &mut Hints,
+    limit: u64,
+    steps: &mut Steps<L>,
+) -> Guard
     requires limit { limit ≤ cycle_bound }
     requires core { IsSomeCore engine.old }
+    ensures hints { hints.new ≡ hints.old }
     ensures acts { HasGone limit engine.old engine.new }
     ensures ended { IsAtEnd result limit engine.new }
     ensures core { IsSomeCore engine.new }
@@ -26,46 +31,18 @@ pub fn time_all<L: Ledger>(engine: &mut Engine, limit: u64, steps: &mut Steps<L>
     ensures kinds { kinds_in engine.new.fifos.channels ≡ kinds_in engine.old.fifos.channels }
     ensures ticks { steps.new + cycles_in engine.old.graph.lanes ≡ steps.old + cycles_in engine.new.graph.lanes }
 {
-    // The modules beside each: a bit for each of the first 64.
-    let beside = neighbours(&engine.fifos);
+    hints.clear();
     let mut cursor = Cursor::new(engine.graph.modules());
     while let Some(at) = cursor.at() {
         match engine.time_first(at, limit, steps) {
-            Timing::Assigned(_) => cursor.acted(bits_beside(&beside, at)),
-            Timing::Answered(_) => cursor.acted(0),
+            Timing::Assigned(_) => {
+                hints.hint_beside(at);
+                cursor.acted();
+            }
+            Timing::Answered(_) => cursor.acted(),
             Timing::Differs(query) => return Guard::Differs(query),
-            Timing::Nothing => cursor.passed(),
+            Timing::Nothing => cursor.passed_by(hints),
         }
     }
     Guard::Same
-}
-
-/// Of each of the first 64 modules, the bits of the modules at the other ends of its channels.
-fn neighbours(fifos: &FifoTable) -> [u64; 64] {
-    let mut beside = [0; 64];
-    for channel in 0..fifos.len() {
-        if let Some(popper) = fifos.popper(channel)
-            && let Some(pusher) = fifos.pusher(channel)
-        {
-            add_bit(&mut beside, popper, pusher);
-            add_bit(&mut beside, pusher, popper);
-        }
-    }
-    beside
-}
-
-/// Adds the bit of another module to those of a module, where it is one of the first 64.
-fn add_bit(beside: &mut [u64; 64], owner: u32, other: u32) {
-    if owner < 64 {
-        beside[owner as usize] |= bit_of(other);
-    }
-}
-
-/// The bits of the modules beside one, where it is one of the first 64.
-fn bits_beside(beside: &[u64; 64], owner: u32) -> u64 {
-    if owner < 64 {
-        beside[owner as usize]
-    } else {
-        0
-    }
 }

@@ -30,6 +30,7 @@ use Rattle.module_interp.specs.contracts.path.Path as path
 use Rattle.module_interp.specs.contracts.run.ModuleRun as run
 use Rattle.event_graph.proofs.candidate.Candidate.TheSendSync as candidate
 use Rattle.engine_view.proofs.engine.Engine.TheSendSync as held
+use Rattle.module_sets.proofs.set.ModuleSet.TheSendSync as set
 use Rattle.sim_core.proofs.machine.Scratch.TheSendSync as scratch
 use Rattle.sim_core.proofs.unread.Unread.TheSendSync as unread
 use Rattle.sim_core.proofs.wiring.Wiring.TheSendSync as wiring
@@ -89,23 +90,20 @@ path_field =
     struct_send (shape path.the_type) (
       (search (crosses, sendable) depth 20 fits 5000),
       (
-        list.the_send _ channel.the_send,
+        module_field,
         (
-          module_field,
+          plain_send _ _ _ _ _,
           (
-            plain_send _ _ _ _ _,
+            list.the_send _ code.the_send,
             (
-              list.the_send _ code.the_send,
+              (search (state.the_field_send, sendable) depth 20 fits 5000),
               (
-                (search (state.the_field_send, sendable) depth 20 fits 5000),
+                (search (stage.the_field_send, sendable) depth 20 fits 5000),
                 (
-                  (search (stage.the_field_send, sendable) depth 20 fits 5000),
+                  plain_send _ _ _ _ _,
                   (
-                    plain_send _ _ _ _ _,
-                    (
-                      list.the_send _ noted.the_send,
-                      (list.the_send _ request.the_send, (words_send, tt)),
-                    ),
+                    list.the_send _ noted.the_send,
+                    (list.the_send _ request.the_send, (words_send, tt)),
                   ),
                 ),
               ),
@@ -143,7 +141,7 @@ core_field =
               (
                 list.the_send _ unread.the_send,
                 (
-                  plain_send _ _ _ _ _,
+                  set.the_send,
                   ((search (candidate.the_send, crosses, sendable) depth 30 fits 5000), (scratch.the_field_send, tt)),
                 ),
               ),

@@ -2,4 +2,4 @@ pub mod Lists
 pub mod Places
 pub mod Openings
 pub mod Crossing
-pub mod Naming
+mod Named

@@ -271,7 +271,7 @@ impl Bells {
         let mut light = Light::none();
         for which in 0..MODULES as u32 {
             if self.is_light(which) {
-                light = light.with(which);
+                light.add(which);
             }
         }
         light

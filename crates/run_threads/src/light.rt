@@ -1,13 +1,22 @@
 //! Which modules the caller drives from the start of a run.
-ghost use Rattle.std.specs.Prelude.{◌≡◌, ◌⊎◌, ◌↔◌, ℕ, ◌<◌, ◌≤◌, IsTrue};
+ghost use Rattle.std.specs.Prelude.{◌≡◌, ◌⊎◌, ◌↔◌, ℕ, ◌<◌, ◌≤◌, IsTrue, length};
+ghost use Rattle.flow_design.specs.declared.limits.TheConstants.{MODULES};
+ghost use Rattle.flow_design.specs.StaticRules.{FitsEngine};
 ghost use Rattle.run_threads.specs.Lights.{IsNamed};
 
-use engine_view::bit_of;
+use flow_design::limits::MODULES;
+use flow_design::{Module, Plan};
+use flow_word::OutOfMemory;
+use std::alloc::Global;
 
-/// The modules whose bursts are light, as far as is known: it would take longer to wake a thread than to make one of their bursts.
+/// How many modules have a thread at most.
+const THREADS: usize = 64;
+
+/// The modules that have no thread of their own: those whose bursts are light, as far as is known, so that it would take longer to wake
+/// a thread than to make one of them; and, where there are many modules, those with few operations.
 #[derive(Clone, Copy, Debug, PartialEq, Eq)]
 pub struct Light {
-    bits: u64,
+    named: [bool; MODULES as usize],
 }
 
 impl Light {
@@ -15,31 +24,88 @@ impl Light {
     pub fn none() -> Light
         ensures { (m : ℕ) → IsNamed result m → ⊥ }
     {
-        Light { bits: 0 }
+        Light {
+            named: [false; MODULES as usize],
+        }
     }
 
-    /// The modules from this one on, of the first 64.
+    /// The modules from this one on.
     pub fn from_module(first: u32) -> Light
-        ensures { (m : ℕ) → IsNamed result m ↔ ((first ≤ m) × (m < 64)) }
+        ensures { (m : ℕ) → IsNamed result m ↔ ((first ≤ m) × (m < MODULES)) }
     {
-        Light {
-            bits: u64::MAX.checked_shl(first).unwrap_or(0),
+        let mut light = Light::none();
+        for which in first..MODULES as u32 {
+            light.add(which);
         }
+        light
     }
 
     /// Whether the module is one of them.
-    pub fn has(self, which: u32) -> bool
-        ensures { IsTrue result ↔ IsNamed self which }
+    pub fn has(&self, which: u32) -> bool
+        ensures { IsTrue result ↔ IsNamed self.now which }
     {
-        self.bits & bit_of(which) != 0
+        let which = which as usize;
+        which < self.named.len() && self.named[which]
     }
 
-    /// These and one module more, where it is one of the first 64.
-    pub fn with(self, which: u32) -> Light
-        ensures { (m : ℕ) → IsNamed result m ↔ (IsNamed self m ⊎ ((m ≡ which) × (m < 64))) }
+    /// Adds a module, which is one of as many as a plan has.
+    pub fn add(&mut self, which: u32)
+        ensures { (m : ℕ) → IsNamed self.new m ↔ (IsNamed self.old m ⊎ ((m ≡ which) × (m < MODULES))) }
     {
-        Light {
-            bits: self.bits | bit_of(which),
+        let which = which as usize;
+        if which < self.named.len() {
+            self.named[which] = true;
         }
     }
+
+    /// Where a plan has more modules than may have threads, adds those with the fewest operations, so that for the others there are
+    /// enough. It takes memory for the counts, and after want of it some are added.
+    pub(crate) fn add_small(&mut self, alloc: Global, plan: &Plan) -> Result<(), OutOfMemory>
+        requires { FitsEngine plan.now }
+        ensures kept { (m : ℕ) → IsNamed self.old m → IsNamed self.new m }
+        ensures few { length plan.now.design.modules ≤ 64 → self.new ≡ self.old }
+    {
+        let count = plan.design.modules.len();
+        if count <= THREADS as u64 {
+            return Ok(());
+        }
+        let sizes = sizes_of(alloc, plan)?;
+        for size in sizes.as_slice().iter().take(count as usize - THREADS) {
+            self.add(size.which);
+        }
+        Ok(())
+    }
+}
+
+/// How many operations a module has.
+#[derive(Clone, Copy, Debug, PartialEq, Eq, PartialOrd, Ord)]
+struct Size {
+    operations: u64,
+    which: u32,
+}
+
+/// The sizes of a plan's modules, the smallest first.
+fn sizes_of(alloc: Global, plan: &Plan) -> Result<Vec<Size>, OutOfMemory>
+    requires { FitsEngine plan.now }
+{
+    let modules = plan.design.modules.as_slice();
+    let mut sizes = Vec::with_capacity(alloc, modules.len())?;
+    for which in 0..modules.len() {
+        let operations = count_operations(&modules[which]);
+        sizes.push(Size {
+            operations,
+            which: which as u32,
+        })?;
+    }
+    sizes.sort_unstable();
+    Ok(sizes)
+}
+
+/// How many operations stand in the bodies of a module.
+fn count_operations(declared: &Module) -> u64 {
+    let mut count = 0u64;
+    for block in declared.blocks.as_slice() {
+        count = count.saturating_add(block.ops.len());
+    }
+    count
 }

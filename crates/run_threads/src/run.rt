@@ -60,15 +60,15 @@ fn run_all<G: Gate + Sync, R: Threads + Wait + Sync>(
             ensures { IsPerfOf hub.entry.now result.0 × HasGoneOn (perf_view perf) (perf_view result.0)
                 × IsOverAt (perf_view result.0).seen × (length result.1.items ≡ length seats.items) × AreHere hub.entry.now result.1.items }
         {
-            let slots = start_all(scope, rt, alloc, hub, gate, bells, seats, light, slots);
+            let slots = start_all(scope, rt, alloc, hub, gate, bells, seats, &light, slots);
             let (perf, slots) = lead(rt, alloc, hub, gate, bells, &parker, perf, slots);
             (perf, gather(rt, hub, slots, passes))
         },
     )
 }
 
-/// As `run_threads`, of a core in which nothing is emitted yet. The caller drives the modules whose bursts are known to be light; those
-/// that it drives at the end are known to be light then.
+/// As `run_threads`, of a core in which nothing is emitted yet. The caller drives the modules whose bursts are known to be light, and where
+/// there are more than 64, those with few operations; those that it drives at the end are known to be light then.
 ///
 /// An error leaves what was known, and the core is gone.
 pub fn run_core<G: Gate + Sync, R: Threads + Wait + Sync>(
@@ -82,6 +82,10 @@ pub fn run_core<G: Gate + Sync, R: Threads + Wait + Sync>(
     requires own { AreOwn core }
     ensures run { IfOk result (λ threaded. IsRun core.plan threaded) }
 {
+    // The core agrees with its plan.
+    let _count = core.modules();
+    let mut driven = *light;
+    driven.add_small(alloc, core.plan())?;
     let (mut bells, parker) = Bells::new(alloc, &core)?;
     let (hub, perf, modules) = Hub::new(alloc, core)?;
     let Ok(slots) = Vec::with_capacity(alloc, modules.len()) else {
@@ -92,7 +96,7 @@ pub fn run_core<G: Gate + Sync, R: Threads + Wait + Sync>(
     };
     let seats = seat_all(alloc, &mut bells, modules)?;
     let (perf, modules) = run_all(
-        rt, alloc, &hub, gate, &bells, parker, perf, seats, *light, slots, passes,
+        rt, alloc, &hub, gate, &bells, parker, perf, seats, driven, slots, passes,
     );
     match hub.close(perf, modules) {
         Closed::Final(threaded) => {
@@ -103,8 +107,8 @@ pub fn run_core<G: Gate + Sync, R: Threads + Wait + Sync>(
     }
 }
 
-/// A final core of the plan, and the turns that led to it, by a thread for each module; the caller gives the cycles. Where a thread
-/// can't be started, the caller drives its module too.
+/// A final core of the plan, and the turns that led to it, by a thread for each module, of more than 64 for those with the most operations;
+/// the caller gives the cycles, and drives the modules that have no thread. Where a thread can't be started, it drives that module too.
 ///
 /// An error leaves nothing, and the plan is gone.
 pub fn run_threads<G: Gate + Sync, R: Threads + Wait + Sync>(

@@ -90,7 +90,7 @@ fn start_one<'s, 'e, G: Gate + Sync, R: Threads + Wait + Sync>(
     }
 }
 
-/// Starts a module's thread, or leaves the module to the caller, where its bursts are light.
+/// Starts a module's thread, or leaves the module to the caller, where it is to have none.
 fn place_one<'s, 'e, G: Gate + Sync, R: Threads + Wait + Sync>(
     scope: &'s Scope<'s, &'e ()>,
     rt: &'e R,
@@ -99,12 +99,12 @@ fn place_one<'s, 'e, G: Gate + Sync, R: Threads + Wait + Sync>(
     gate: &'e G,
     bells: &'e Bells,
     seat: Seat,
-    light: Light,
+    light: &Light,
 ) -> Slot
     requires own { IsOfHub hub.now seat.pass }
     requires home { HasNoDeskOut (module_of seat.pass) (module_view seat.pass) }
     ensures slot { SlotIs hub.now (module_of seat.pass) result }
-    ensures kept { IsNamed light (module_of seat.pass) → IsKept result }
+    ensures kept { IsNamed light.now (module_of seat.pass) → IsKept result }
 {
     let which = seat.pass.which();
     if light.has(which) {
@@ -115,7 +115,7 @@ fn place_one<'s, 'e, G: Gate + Sync, R: Threads + Wait + Sync>(
     }
 }
 
-/// Starts a thread for each module but those with light bursts, which the caller drives.
+/// Starts a thread for each module but those that the caller drives.
 pub fn start_all<'s, 'e, G: Gate + Sync, R: Threads + Wait + Sync>(
     scope: &'s Scope<'s, &'e ()>,
     rt: &'e R,
@@ -124,7 +124,7 @@ pub fn start_all<'s, 'e, G: Gate + Sync, R: Threads + Wait + Sync>(
     gate: &'e G,
     bells: &'e Bells,
     seats: Vec<Seat>,
-    light: Light,
+    light: &Light,
     slots: Vec<Slot>,
 ) -> Vec<Slot>
     requires here { AreHere hub.now (passes_in seats.items) }

@@ -133,7 +133,7 @@ core_runs p s ends runs c m run there =
 
 -- a core whose runs are lent, or go over to another
 pub stored_left : {p : Plan} {s : Engine} {ends : List (Option Advance)} {runs : List (Option ModuleRun)} {wiring : Wiring}
-    {unread : List Unread} {asking : ℕ} {candidates : List Candidate}
+    {unread : List Unread} {asking : List ℕ} {candidates : List Candidate}
     → IsStoredCore p s ends runs wiring unread asking candidates → (left : List (Option ModuleRun)) → AreLeft runs left
     → IsStoredCore p s ends left wiring unread asking candidates
 stored_left {p} {s} {ends} {runs} {wiring} {unread} {asking} {candidates} k left l = record {

@@ -49,7 +49,6 @@ module _ (p : Plan) (fits : FitsEngine p) (e : Edit) (fit : EditFits p e) (i : â
   path_edited x y = record {
     fits = edited_fits p fits e fit;
     owner = y.owner;
-    channels = y.channels;
     of = y.of;
     limit = y.limit;
     codes = y.codes;

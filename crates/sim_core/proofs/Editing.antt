@@ -60,7 +60,8 @@ use Rattle.sim_core.specs.Runs.{IsCore, IsStoredCore, IsWired, over_of}
 use Rattle.sim_core.specs.declared.unread.Unread.{Unread}
 use Rattle.sim_core.specs.declared.wiring.Wiring.{Wiring}
 use Rattle.event_graph.specs.declared.candidate.Candidate.{Candidate}
-use Rattle.sim_core.proofs.Asking.{asking_all, beside_edited}
+use Rattle.module_sets.specs.Sets.{Has, capacity}
+use Rattle.sim_core.proofs.Asking.{asking_all, beside_edited, still_room}
 use Rattle.sim_core.proofs.Leaving.{unread_none}
 use Rattle.sim_core.proofs.Cut.{final_of, history_of, cut_of}
 use Rattle.sim_core.proofs.EditedRuns.{run_edited, end_edited, channel_inside, fifo_there, depth_there, kinds_edited}
@@ -314,19 +315,21 @@ unfolding owner
 wired_edited {p} {w} k channel depth = record {
   ports_are = record { count = k.ports_are.count; each = k.ports_are.each };
   readers_are = record { count = k.readers_are.count; each = k.readers_are.each };
-  beside_are = beside_edited p channel depth w.beside k.beside_are;
+  beside_are = beside_edited p channel depth w.hints k.beside_are;
+  bodies_are = record { count = k.bodies_are.count; each = k.bodies_are.each };
 }
 
 -- so a core is stored after an edit, with nothing unread, and each module may be asked
 pub stored_edited : {p : Plan} {s : Engine} {ends : List (Option Advance)} {runs : List (Option ModuleRun)} {wiring : Wiring}
-    {unread : List Unread} {asking : ℕ} {candidates : List Candidate}
+    {unread : List Unread} {asking : List ℕ} {candidates : List Candidate}
     → IsStoredCore p s ends runs wiring unread asking candidates → (e : Edit) (t : Engine)
     → IsCore (with_depth p e.channel e.depth) t ends runs
-    → IsStoredCore (with_depth p e.channel e.depth) t ends runs wiring [] 18446744073709551615 candidates
-stored_edited {p} {s} {ends} {runs} {wiring} {unread} {asking} {candidates} k e t core = record {
+    → (now : List ℕ) → length now ≡ length asking → ((n : ℕ) → n < capacity now → Has now n)
+    → IsStoredCore (with_depth p e.channel e.depth) t ends runs wiring [] now candidates
+stored_edited {p} {s} {ends} {runs} {wiring} {unread} {asking} {candidates} k e t core now same all = record {
   core = core;
   wired = wired_edited k.wired e.channel e.depth;
   unread_are = unread_none _ _;
-  asking_are = asking_all (with_depth p e.channel e.depth) core.fits _;
+  asking_are = asking_all (with_depth p e.channel e.depth) _ now (still_room p asking now same k.asking_are.room) all;
   candidate_count = k.candidate_count;
 }

@@ -1,5 +1,6 @@
 pub mod Resting
 pub mod Marking
+pub mod QueryRoom
 pub mod Finding
 pub mod Staying
 pub mod Fed

@@ -8,6 +8,7 @@ use Rattle.flow_design.specs.declared.state.ModuleState.{ModuleState}
 use Rattle.flow_design.specs.declared.state.Advance.{Advance}
 use Rattle.flow_design.specs.declared.state.Advance.TheVariants.{Step}
 use Rattle.flow_design.specs.StaticRules.{FitsEngine}
+use Rattle.lockstep_defs.specs.Lockstep.{module_at}
 use Rattle.lockstep_defs.specs.OwnRun.{Own}
 use Rattle.module_interp.specs.declared.run.ModuleRun.{ModuleRun}
 use Rattle.module_interp.specs.OwnRests.{next_rest, accesses_at, mark_at}
@@ -27,15 +28,15 @@ use Rattle.run_ahead.specs.declared.mail.Task.{Task}
 use Rattle.run_ahead.specs.declared.mail.Burst.{Burst}
 use Rattle.run_ahead.specs.Working.{burst_of}
 use Rattle.run_ahead.specs.Mails.{taken_after, none_taken, task_left, IsAtStep, IsPast, GoesOn, IsBurst, IsBurstFrom}
-use Rattle.sim_core.specs.Returned.{core_in, most_queries, HasRoomForMarks, IsNextMark, AreReturned}
-use Rattle.sim_core.specs.Runs.{IsCore, rest_behind, over_of, lent_of}
+use Rattle.sim_core.specs.Returned.{core_in, HasRoomForMarks, IsNextMark, AreReturned}
+use Rattle.sim_core.specs.Runs.{HasBodiesWithin, IsCore, rest_behind, over_of, lent_of}
 use Rattle.sim_core.specs.Tasks.{IsTaskFor, IsTaskLeft, rest_of}
+use Rattle.sim_core.proofs.QueryRoom.{room_for_step}
 use Rattle.sim_core.proofs.Ahead.{Goes, Waits, waits_behind, over_behind, goes_on, waiting_stands, going_stands, over_stands}
 use Rattle.sim_core.proofs.Tasks.{waits_first, goes_first}
 use Rattle.sim_core.proofs.Emission.{IsReady}
 use Rattle.sim_core.proofs.Emission as emission
 use Rattle.engine_view.specs.Rooms.{CanEmit, HasEmitted}
-use Rattle.engine_view.proofs.Roomy.{few_queries}
 use Rattle.module_interp.proofs.Sound.{gap_at}
 
 -- ---- one mark
@@ -65,10 +66,8 @@ module _ {p : Plan} {s : Engine} {ends : List (Option Advance)} {runs : List (Op
 
       pub core_emitted : {f : Engine} → HasEmitted s m t f → IsCore p f ends runs
       core_emitted done =
-          let few = few_queries t.accesses in
-          let most = (small_step e).few in
-          let outcomes = n.room.outcomes in
-          emission.step_core (may_record inside) (mark_step e) short_rest (small_step e) done n.room.places (omega arith)
+          emission.step_core (may_record inside) (mark_step e) short_rest (small_step e) done n.room.places
+          (room_for_step p n.room.core.fits m rest t (mark_step e) n.room.outcomes)
 
       pub acts_emitted : {f : Engine} → HasEmitted s m t f → Acts (design p) p.cycles (core_in p s ends) (Run m) (core_in p f ends)
       acts_emitted done = emission.acts_to (may_record inside) (mark_step e) short_rest (small_step e) done
@@ -220,7 +219,7 @@ module _ {p : Plan} {s : Engine} {ends : List (Option Advance)} {runs : List (Op
       core = core;
       lent = r.room.lent;
       places = let l = r.room.places in omega arith;
-      outcomes = let l = r.room.outcomes in rw log l;
+      outcomes = rw log r.room.outcomes;
     };
     on = subst (λ (x : Core ModuleState). IsOnWay p x m mail short last more) (sym after) far.on;
     acts = λ y a. r.acts y (core_in p t ends', (may, after), a);
@@ -241,7 +240,8 @@ all_acts {p} {s} {ends} r = r.acts (core_in p s ends) refl
 -- with room, a burst of a task for the core can come back
 pub are_returned : (s : Engine) {p : Plan} {t : Engine} {ends : List (Option Advance)} {runs : List (Option ModuleRun)} {m : ℕ}
     {burst : Burst} → held_in t (over_of ends) ≡ held_in s (over_of ends) → IsCore p t ends runs
-    → get_or (lent_of runs) m true ≡ true → 2 * length burst.emitted ≤ get_or t.credits.items m 0 → most_queries ≤ get_or t.log.rooms m 0
+    → get_or (lent_of runs) m true ≡ true → 2 * length burst.emitted ≤ get_or t.credits.items m 0
+    → HasBodiesWithin (module_at p m) (get_or t.log.rooms m 0)
     → (task : Task) × (IsTaskFor p (core_in p s ends) m task × IsBurst p m (rest_of p (core_in p s ends) m task) task burst)
     → AreReturned p t ends runs m burst.emitted (task_left burst)
 are_returned s {p} {t} {ends} {runs} {m} {burst} same core lent places outcomes (task, (for', is)) = record {

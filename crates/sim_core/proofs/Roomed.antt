@@ -1,11 +1,12 @@
 -- A core as it is stored: a module's run is taken out or put back; room is made for a module's marks, and Runs of that module follow.
 use Rattle.std.proofs.Common.{◌≡◌, ◌∙◌, ℕ, ◌<◌, List, [], length, get_or, set, Bool, Option, None, Some, arith}
-use Rattle.std.specs.Prelude.{All, IfSome, bit_or}
+use Rattle.std.specs.Prelude.{All, IfSome}
 use Rattle.flow_word.specs.declared.access.Port.{Port}
 use Rattle.flow_design.specs.declared.plan.Plan.{Plan}
 use Rattle.flow_design.specs.declared.state.Advance.{Advance}
 use Rattle.flow_design.specs.declared.state.ModuleState.{ModuleState}
 use Rattle.module_interp.specs.declared.run.ModuleRun.{ModuleRun}
+use Rattle.module_sets.specs.Sets.{IsAdded}
 use Rattle.event_graph.specs.declared.candidate.Candidate.{Candidate}
 use Rattle.event_timing.specs.Machines.{Design}
 use Rattle.event_timing.specs.Core.{core_values}
@@ -14,7 +15,6 @@ use Rattle.event_timing.specs.Actions as actions
 use Rattle.timing_bridge.specs.Designs.{design}
 use Rattle.engine_view.specs.declared.engine.Engine.{Engine}
 use Rattle.engine_view.specs.Engines.{held_in}
-use Rattle.engine_view.specs.Hints.{bit_of}
 use Rattle.engine_view.specs.Rooms.{HasModule, IsSameButRoom, IsRoomy, AreAllPorts}
 use Rattle.sim_core.specs.declared.unread.Unread.{Unread}
 use Rattle.sim_core.specs.declared.wiring.Wiring.{Wiring}
@@ -31,7 +31,7 @@ use Rattle.sim_core.proofs.Ports as ports
 -- ---- a run that is taken out or put back
 
 module _ {p : Plan} {s : Engine} {ends : List (Option Advance)} {runs : List (Option ModuleRun)} {wiring : Wiring}
-    {unread : List Unread} {asking : ℕ} {candidates : List Candidate}
+    {unread : List Unread} {asking : List ℕ} {candidates : List Candidate}
     (k : IsStoredCore p s ends runs wiring unread asking candidates) (m : ℕ) (inside : m < length p.design.modules) where
   pub stored_lent : (o : Option ModuleRun) → ((run : ModuleRun) → o ≡ Some run → IsRunOf p (core_in p s ends) m run)
       → IsStoredCore p s ends (set runs m o) wiring unread asking candidates
@@ -52,7 +52,7 @@ module _ {p : Plan} {s : Engine} {ends : List (Option Advance)} {runs : List (Op
 -- ---- room for a module's marks
 
 module _ {p : Plan} {s : Engine} {ends : List (Option Advance)} {runs : List (Option ModuleRun)} {wiring : Wiring}
-    {unread : List Unread} {asking : ℕ} {candidates : List Candidate}
+    {unread : List Unread} {asking : List ℕ} {candidates : List Candidate}
     (k : IsStoredCore p s ends runs wiring unread asking candidates) (m : ℕ) (inside : m < length p.design.modules)
     (own : List Port) (own_is : own ≡ get_or wiring.ports m []) where
   own_ports : own ≡ ports_to p m (length p.design.channels)
@@ -87,12 +87,13 @@ module _ {p : Plan} {s : Engine} {ends : List (Option Advance)} {runs : List (Op
     unread_are : AreUnread (core_values (design p) (core_in p t ends)) (length p.design.channels) unread
     unread_are = leaving.unread_same p (held_in s (over_of ends)) (held_in t (over_of ends)) unread held_same k.unread_are
 
-    pub stored_roomed : (bits : ℕ) → IsStoredCore p t ends runs wiring unread (bit_or asking bits) candidates
-    stored_roomed bits = record {
+    pub stored_roomed : (now : List ℕ) → IsAdded asking m now → IsStoredCore p t ends runs wiring unread now candidates
+    stored_roomed now added = record {
       core = core;
       wired = k.wired;
       unread_are = unread_are;
-      asking_are = asking_kept p (held_in s (over_of ends)) (held_in t (over_of ends)) held_same k.core.fits asking k.asking_are bits;
+      asking_are = asking_kept p (held_in s (over_of ends)) (held_in t (over_of ends)) held_same k.core.fits asking k.asking_are now m
+          added;
       candidate_count = k.candidate_count;
     }
 
@@ -105,12 +106,12 @@ module _ {p : Plan} {s : Engine} {ends : List (Option Advance)} {runs : List (Op
 
       pub stored_ran : (runs' : List (Option ModuleRun)) → IsCore p f ends' runs' → (unread' : List Unread)
           → AreUnread (core_values (design p) (core_in p f ends')) (length p.design.channels) unread'
-          → (bit : ℕ) → bit ≡ bit_of m → IsStoredCore p f ends' runs' wiring unread' (bit_or asking bit) candidates
-      stored_ran runs' core' unread' are bit is = record {
+          → (now : List ℕ) → IsAdded asking m now → IsStoredCore p f ends' runs' wiring unread' now candidates
+      stored_ran runs' core' unread' are now added = record {
         core = core';
         wired = k.wired;
         unread_are = are;
         asking_are = asking_returned p (held_in s (over_of ends)) (held_in t (over_of ends)) held_same k.core.fits core.agreed asking
-            k.asking_are m bit is count (core_in p f ends') acts;
+            k.asking_are now m added count (core_in p f ends') acts;
         candidate_count = k.candidate_count;
       }

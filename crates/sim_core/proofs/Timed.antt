@@ -1,8 +1,10 @@
 -- What a turn at a module leaves of all that a core keeps.
-use Rattle.std.proofs.Common.{◌≡◌, ◌≢◌, sym, ap, ◌∙◌, ℕ, ◌<◌, true, List, Option, length, slice_index, arith}
+use Rattle.std.proofs.Common.{◌≡◌, ◌≢◌, sym, ap, ◌∙◌, ℕ, ◌<◌, true, List, [], Option, length, arith}
+use Rattle.std.specs.Prelude.{slice_index_or}
 use Rattle.flow_design.specs.declared.plan.Plan.{Plan}
 use Rattle.flow_design.specs.declared.state.Advance.{Advance}
 use Rattle.module_interp.specs.declared.run.ModuleRun.{ModuleRun}
+use Rattle.module_sets.specs.Sets.{Has, HasMask, capacity}
 use Rattle.event_graph.specs.declared.candidate.Candidate.{Candidate}
 use Rattle.event_timing.specs.Actions.{MayAssign}
 use Rattle.timing_bridge.specs.Designs.{design}
@@ -12,10 +14,9 @@ use Rattle.engine_view.specs.declared.turn.Timing.{Timing}
 use Rattle.engine_view.specs.declared.turn.Timing.TheVariants.{Nothing}
 use Rattle.engine_view.specs.Held.{core_of}
 use Rattle.engine_view.specs.Engines.{held_in}
-use Rattle.engine_view.specs.Hints.{IsHinted}
 use Rattle.engine_view.specs.Taking.{kinds_in}
 use Rattle.engine_view.specs.Turns.{MayTakeIn, HasTimed, KeepsRoom, is_progress, left}
-use Rattle.sim_core.specs.Asking.{IsUnhinted}
+use Rattle.sim_core.specs.Asking.{Lacks}
 use Rattle.sim_core.specs.Runs.{IsStoredCore, lent_of, over_of}
 use Rattle.sim_core.specs.Turns.{HasTurned}
 use Rattle.sim_core.specs.Views.{CoreView}
@@ -27,14 +28,14 @@ use Rattle.sim_core.proofs.Turning as turning
 
 -- the step that may be given its cycle is so in the engine
 pub may_take : {p : Plan} {s : Engine} {ends : List (Option Advance)} {runs : List (Option ModuleRun)} {wiring : Wiring}
-    {unread : List Unread} {asking : ℕ} {candidates : List Candidate} → IsStoredCore p s ends runs wiring unread asking candidates
+    {unread : List Unread} {asking : List ℕ} {candidates : List Candidate} → IsStoredCore p s ends runs wiring unread asking candidates
     → (m c : ℕ) → MayAssign (design p) p.cycles (core_of (design p) (held_in s (over_of ends))) m c → MayTakeIn s m c
 may_take {p} {s} {ends} k m c may =
     (design p, over_of ends, p.cycles, k.core.fits.cycles, plan_is_design p k.core.fits, kept_of k.core, may)
 
 -- the engine behind the turn, and who may be given a cycle or an answer then
 module _ {p : Plan} {s : Engine} {ends : List (Option Advance)} {runs : List (Option ModuleRun)} {wiring : Wiring} {unread : List Unread}
-    {asking : ℕ} {candidates : List Candidate} (k : IsStoredCore p s ends runs wiring unread asking candidates) (m : ℕ)
+    {asking : List ℕ} {candidates : List Candidate} (k : IsStoredCore p s ends runs wiring unread asking candidates) (m : ℕ)
     (inside : m < length p.design.modules) (t : Engine) (r : Timing) (done : HasTimed r p.cycles m s t) (room : KeepsRoom s t)
     (kinds : kinds_in t.fifos.channels ≡ kinds_in s.fifos.channels) (less : is_progress r ≡ true → left t < left s) where
   abbrev seen : Engine → CoreView
@@ -46,15 +47,17 @@ module _ {p : Plan} {s : Engine} {ends : List (Option Advance)} {runs : List (Op
       turning.turned k.core t m r (lent_of runs) done (λ cycle e.
       turning.changed (design p) s t (over_of ends) (core.sound.lanes ∙ sym k.core.sound.lanes) (less (ap is_progress e)))
 
-  pub stored : (now : ℕ) → ((n : ℕ) → n < 64 → n ≢ m → IsUnhinted now n → IsUnhinted asking n)
-      → (r ≢ Nothing → IsUnhinted now m → IsUnhinted asking m) → (is_progress r ≡ true → m < 64 → IsHinted now m)
-      → (is_progress r ≡ true → (n : ℕ) → IsUnhinted now n → IsUnhinted (slice_index wiring.beside m) n)
+  pub stored : (now : List ℕ) → length now ≡ length asking → ((n : ℕ) → n ≢ m → Lacks now n → Lacks asking n)
+      → (r ≢ Nothing → Lacks now m → Lacks asking m) → (is_progress r ≡ true → m < capacity asking → Has now m)
+      → (is_progress r ≡ true → (n : ℕ) → n < capacity asking → Lacks now n → HasMask (slice_index_or wiring.hints m []) n → ⊥)
       → IsStoredCore p t ends runs wiring unread now candidates
-  stored now others own acted beside = record {
+  stored now roomed others own acted beside = record {
     core = turning.core_timed k.core t m r done room kinds;
     wired = k.wired;
     unread_are = turning.unread_timed k.core t m r unread done k.unread_are;
-    asking_are = asking_turned (seen s) (seen t) k.core.fits asking k.asking_are wiring.beside k.wired.beside_are m inside now others r
-        turned own (λ e. let modules = k.core.fits.module_count in acted e (omega arith)) beside;
+    asking_are =
+        let room = k.asking_are.room in
+        asking_turned (seen s) (seen t) k.core.fits asking k.asking_are wiring.hints k.wired.beside_are m inside now roomed others r turned
+        own (λ e. acted e (omega arith)) (λ e n l. beside e n (omega arith));
     candidate_count = k.candidate_count;
   }

@@ -2,6 +2,7 @@
 use Rattle.std.proofs.Common.{◌≡◌, sym, ap, subst, ◌∙◌, ℕ, suc, ◌+◌, ◌*◌, ◌^◌, ◌<◌, ◌≤◌, ◌⊎◌, inl, inr, true, false}
 use Rattle.std.proofs.Common.{length, Some, None, arith, mul-le-mul_right}
 use Rattle.std.proofs.lemmas.Bool.{cases_Bool}
+use Rattle.flow_design.specs.declared.limits.TheConstants.{MODULES, COUNTED_OPERATIONS}
 use Rattle.flow_design.specs.declared.plan.Plan.{Plan}
 use Rattle.flow_design.specs.declared.state.ModuleState.{ModuleState}
 use Rattle.flow_design.specs.StaticRules.{FitsEngine}
@@ -110,21 +111,20 @@ module _ {first now : CoreView} {before ticks : ℕ} {cursor : CursorView} {done
       let ops = r.fits.operations in
       bound (length first.plan.design.modules) first.plan.ops done _ _ modules ops few most
     where
-      bound : (n o done a b : ℕ) → n ≤ 64 → o ≤ 200000 → done + a ≤ b → b ≤ n * (3 * o + 1) → done + 1 < 2 ^ 64
+      bound : (n o done a b : ℕ) → n ≤ MODULES → o ≤ COUNTED_OPERATIONS → done + a ≤ b → b ≤ n * (3 * o + 1) → done + 1 < 2 ^ 64
       bound n o done a b l u f m =
-          let p : n * (3 * o + 1) ≤ 64 * (3 * o + 1) = mul-le-mul_right (3 * o + 1) l in
+          let p : n * (3 * o + 1) ≤ MODULES * (3 * o + 1) = mul-le-mul_right (3 * o + 1) l in
           omega arith
 
   pub went : {next : CoreView} {later m : ℕ} {cursor' : CursorView} → IsNext cursor m → IsTimed now ticks m next later
-      → cursor'.count ≡ cursor.count → cursor'.at ≡ cursor.at → cursor'.hints ≡ 0 → ((n : ℕ) → IsPassed cursor' n → ⊥)
+      → cursor'.count ≡ cursor.count → cursor'.at ≡ cursor.at → ((n : ℕ) → IsPassed cursor' n → ⊥)
       → IsTimingRound first next before later cursor' (done + 1)
-  went {next} {later} {m} {cursor'} n o count at unhinted none = record {
+  went {next} {later} {m} {cursor'} n o count at none = record {
     goes = rounds.goes_join first now next before ticks later r.goes o.goes.goes;
     agreed = r.agreed;
     fits = r.fits;
     verified = r.verified;
     counted = count ∙ r.counted ∙ ap (λ (q : Plan). length q.design.modules) (sym o.goes.goes.plan);
-    unhinted = unhinted;
     at_most = let l = r.at_most in omega arith;
     idle = λ k passed. absurd (none k passed);
     rounds = λ more. rw at (more_rounds more);
@@ -159,10 +159,9 @@ module _ {first now : CoreView} {before ticks : ℕ} {cursor : CursorView} {done
         fits = r.fits;
         verified = r.verified;
         counted = count ∙ r.counted;
-        unhinted = goes.unhinted;
-        at_most = elim goes.to [ inl (l, e) ↦ omega arith | inr (l, e) ↦ omega arith ];
+        at_most = elim goes [ inl (l, e) ↦ omega arith | inr (l, e) ↦ omega arith ];
         idle = idle_more (IsUntimable now) cursor cursor' more (rw n.is at none) r.idle;
-        rounds = λ k. r.rounds k ∙ from_next k goes.to;
+        rounds = λ k. r.rounds k ∙ from_next k goes;
         few = r.few;
       })
     where

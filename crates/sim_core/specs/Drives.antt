@@ -39,13 +39,13 @@ pub record GoesOn (v : CoreView) (before : ℕ) (w : CoreView) (after : ℕ) : T
 
 -- Assigns and Answers of module m, as far as they are permitted
 abbrev pub HasTimed : Visit → CoreView → ℕ → ℕ → CoreView → ℕ → Type 0
-HasTimed (Acted bits) v before m w after = GoesOn v before w after
+HasTimed (Acted again) v before m w after = GoesOn v before w after
 HasTimed (Differs q) v before m w after = (w ≡ v) × (after ≡ before) × IsDifferent (design v.plan) v.plan.cycles v.held m q
 HasTimed Idle v before m w after = (w ≡ v) × (after ≡ before) × IsIdle (design v.plan) v.plan.cycles (theory_of v) m
 
 -- and its Runs
 abbrev pub HasVisited : Visit → CoreView → ℕ → ℕ → CoreView → ℕ → Type 0
-HasVisited (Acted bits) v before m w after = GoesOn v before w after
+HasVisited (Acted again) v before m w after = GoesOn v before w after
 HasVisited (Differs q) v before m w after = (w ≡ v) × (after ≡ before) × IsDifferent (design v.plan) v.plan.cycles v.held m q
 HasVisited Idle v before m w after = (w ≡ v) × (after ≡ before) × IsStill v m
 

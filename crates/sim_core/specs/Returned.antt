@@ -1,9 +1,9 @@
 -- Marks that come back to a core.
 use Rattle.std.specs.Prelude.{◌≡◌, ℕ, ◌*◌, ◌<◌, ◌≤◌, Bool, true, false, List, length, slice_index, slice_index_or, Option}
-use Rattle.flow_design.specs.declared.limits.TheConstants.{LIVE_ITERATIONS, OPERATIONS}
 use Rattle.flow_design.specs.declared.plan.Plan.{Plan}
 use Rattle.flow_design.specs.declared.state.Advance.{Advance}
 use Rattle.flow_design.specs.declared.state.ModuleState.{ModuleState}
+use Rattle.lockstep_defs.specs.Lockstep.{module_at}
 use Rattle.module_interp.specs.declared.run.ModuleRun.{ModuleRun}
 use Rattle.module_interp.specs.OwnRests.{mark_at}
 use Rattle.module_interp.specs.Runs.{waits, IsSoundMark}
@@ -16,16 +16,12 @@ use Rattle.engine_view.specs.Engines.{held_in}
 use Rattle.run_ahead.specs.declared.mail.Task.{Task}
 use Rattle.run_ahead.specs.Mails.{IsBurst}
 use Rattle.run_ahead.specs.Working.{burst_of}
-use Rattle.sim_core.specs.Runs.{IsRunOf, IsCore, lent_of, over_of, rest_behind}
+use Rattle.sim_core.specs.Runs.{HasBodiesWithin, IsRunOf, IsCore, lent_of, over_of, rest_behind}
 use Rattle.sim_core.specs.Tasks.{IsTaskFor, rest_of}
 
 -- what is stored, as the theory's core
 abbrev pub core_in : Plan → Engine → List (Option Advance) → Core ModuleState
 core_in p s ends = core_of (design p) (held_in s (over_of ends))
-
--- no step has more queries
-abbrev pub most_queries : ℕ
-most_queries = LIVE_ITERATIONS * OPERATIONS
 
 -- a core whose run of this module is out, with room for so many marks of it
 pub record HasRoomForMarks (p : Plan) (s : Engine) (ends : List (Option Advance)) (runs : List (Option ModuleRun))
@@ -33,7 +29,8 @@ pub record HasRoomForMarks (p : Plan) (s : Engine) (ends : List (Option Advance)
   pub core : IsCore p s ends runs
   pub lent : slice_index_or (lent_of runs) m true ≡ true
   pub places : 2 * count ≤ slice_index s.credits.items m
-  pub outcomes : most_queries ≤ slice_index s.log.rooms m
+  -- a step has no more queries than its body has operations
+  pub outcomes : HasBodiesWithin (module_at p m) (slice_index s.log.rooms m)
 
 -- the mark is the module's next, there is room for it, and a Run is permitted
 pub record IsNextMark (p : Plan) (s : Engine) (ends : List (Option Advance)) (runs : List (Option ModuleRun)) (m : ℕ)

@@ -1,9 +1,12 @@
 -- Where the modules' runs stand beside the core, and what a core keeps.
-use Rattle.std.specs.Prelude.{◌≡◌, ℕ, suc, ◌<◌, Bool, true, false, List, Option, None, Some, map, is_none, is_some, slice_index_or, length}
+use Rattle.std.specs.Prelude.{◌≡◌, ℕ, suc, ◌<◌, ◌≤◌, Bool, true, false, List, Option, None, Some, map, is_none, is_some, slice_index_or, length}
+use Rattle.std.specs.Prelude.{slice_index, All}
 use Rattle.flow_design.specs.StaticRules.{FitsEngine}
+use Rattle.flow_design.specs.declared.design.Module.{Module}
 use Rattle.flow_design.specs.declared.plan.Plan.{Plan}
 use Rattle.flow_design.specs.declared.state.Advance.{Advance}
 use Rattle.flow_design.specs.declared.state.ModuleState.{ModuleState}
+use Rattle.lockstep_defs.specs.Lockstep.{module_at}
 use Rattle.lockstep_defs.specs.OwnRun.{Own}
 use Rattle.module_interp.specs.declared.run.ModuleRun.{ModuleRun}
 use Rattle.module_interp.specs.Chains.{rest_at}
@@ -87,16 +90,26 @@ abbrev pub AreUnreadIn : Plan → Engine → List (Option Advance) → List Unre
 AreUnreadIn p s ends unread = AreUnread (core_values (design p) (core_of (design p) (held_in s (over_of ends)))) (length p.design.channels)
     unread
 
--- each module has its own ports, it is told who pops each channel, and who shares a channel with whom
+-- no body of the module has more operations than so many
+abbrev pub HasBodiesWithin : Module → ℕ → Type 0
+HasBodiesWithin m most = All (λ b. length b.ops ≤ most) m.blocks
+
+-- for so many modules it is told how long their bodies are at most
+pub record AreBodyLengths (p : Plan) (many : ℕ) (lengths : List ℕ) : Type 0 where
+  pub count : length lengths ≡ many
+  pub each : (m : ℕ) → m < many → HasBodiesWithin (module_at p m) (slice_index lengths m)
+
+-- each module has its own ports, it is told who pops each channel, who shares a channel with whom, and how long the bodies are
 pub record IsWired (p : Plan) (w : Wiring) : Type 0 where
   pub ports_are : AreOwnPorts p (length p.design.modules) w.ports
   pub readers_are : AreReaders p w.readers.items
-  pub beside_are : AreBeside p w.beside
+  pub beside_are : AreBeside p w.hints
+  pub bodies_are : AreBodyLengths p (length p.design.modules) w.bodies
 
 -- and it is told who stands where, what came back unread, and who may be given a cycle or an answer, and there is a candidate for each
 -- module
 pub record IsStoredCore (p : Plan) (s : Engine) (ends : List (Option Advance)) (runs : List (Option ModuleRun)) (wiring : Wiring)
-    (unread : List Unread) (asking : ℕ) (candidates : List Candidate) : Type 0 where
+    (unread : List Unread) (asking : List ℕ) (candidates : List Candidate) : Type 0 where
   pub core : IsCore p s ends runs
   pub wired : IsWired p wiring
   pub unread_are : AreUnreadIn p s ends unread

@@ -30,7 +30,6 @@ pub record IsTimingRound (first now : CoreView) (before ticks : ℕ) (cursor : C
   pub fits : FitsEngine first.plan
   pub verified : AllVerified (theory_of first)
   pub counted : cursor.count ≡ length now.plan.design.modules
-  pub unhinted : cursor.hints ≡ 0
   pub at_most : cursor.at ≤ cursor.count
   pub idle : AreIdle (IsUntimable now) cursor
   -- the rounds that are left are the rest of all

@@ -1,14 +1,15 @@
 //! All that is left to do.
-ghost use Rattle.std.specs.Prelude.{◌≡◌, ℕ, ◌<◌, true, false, length, slice_index_or, IfOk, OnErr};
+ghost use Rattle.std.specs.Prelude.{◌≡◌, ℕ, ◌<◌, ◌≤◌, ◌⊎◌, true, false, length, slice_index_or, IfOk, OnErr};
 ghost use Rattle.event_timing.specs.Actions.{MayRun};
 ghost use Rattle.event_timing.specs.Agreement.{AllVerified};
+ghost use Rattle.engine_view.specs.Cursors.{IsPassed, turns_left};
 ghost use Rattle.timing_bridge.specs.Designs.{design};
 ghost use Rattle.sim_core.specs.Views.{theory_of};
 ghost use Rattle.sim_core.specs.Drives.{Goes, HasDriven};
 
 use crate::machine::Core;
 use crate::visit::Visit;
-use engine_view::{Cursor, bit_of};
+use engine_view::Cursor;
 use flow_word::{OutOfMemory, Steps};
 use outcome_guard::Guard;
 use std::sync::ledger::Ledger;
@@ -26,25 +27,22 @@ impl Core {
         ensures same { AllVerified (theory_of self.old) → IfOk result (λ guard. guard ≡ Guard.Same) }
     {
         let mut cursor = Cursor::new(self.modules());
-        // Those of which all was done.
-        let mut done = 0;
         loop {
             match cursor.at() {
                 Some(at) => match self.visit(at, steps)? {
-                    Visit::Acted(woken) => {
-                        cursor.acted(woken & !done);
-                        let _ = cursor.jump();
+                    Visit::Acted { again } => {
+                        cursor.acted();
+                        self.hint_around(at, again);
+                        self.jump(&mut cursor);
                     }
-                    Visit::Idle => {
-                        done |= self.bit_if_done(at);
-                        cursor.passed();
-                    }
+                    Visit::Idle => self.pass(&mut cursor),
                     Visit::Differs(query) => return Ok(Guard::Differs(query)),
                 },
                 None => match self.answer_least() {
                     Some((owner, Guard::Same)) => {
-                        cursor.acted(bit_of(owner));
-                        let _ = cursor.jump();
+                        cursor.acted();
+                        self.hint(owner);
+                        self.jump(&mut cursor);
                     }
                     Some((_, Guard::Differs(query))) => return Ok(Guard::Differs(query)),
                     None => return Ok(Guard::Same),
@@ -53,14 +51,42 @@ impl Core {
         }
     }
 
-    /// The bit of a module that is over and each of whose steps has its cycle. None of another.
-    fn bit_if_done(&self, owner: u32) -> u64
-        requires { owner < length self.now.plan.design.modules }
+    /// Hints a module.
+    fn hint(&mut self, owner: u32)
+        ensures { self.new ≡ self.old }
     {
-        if self.is_over(owner) && self.is_timed(owner) {
-            bit_of(owner)
-        } else {
-            0
+        self.wiring.hints.hint(owner);
+    }
+
+    /// Hints the modules beside one that acted, and that one too, where it is to be visited again at once.
+    fn hint_around(&mut self, owner: u32, again: bool)
+        ensures { self.new ≡ self.old }
+    {
+        self.wiring.hints.hint_beside(owner);
+        if again {
+            self.hint(owner);
         }
+    }
+
+    /// Sends a cursor to the next hinted module, where there is one.
+    fn jump(&mut self, cursor: &mut Cursor)
+        requires { 0 < cursor.old.count }
+        ensures same { self.new ≡ self.old }
+        ensures count { cursor.new.count ≡ cursor.old.count }
+        ensures idle { (m : ℕ) → IsPassed cursor.new m → IsPassed cursor.old m }
+        ensures no_more { (actions : ℕ) → turns_left actions cursor.new ≤ turns_left actions cursor.old }
+    {
+        let _ = cursor.jump(&mut self.wiring.hints);
+    }
+
+    /// Sends a cursor on from where nothing was to be done.
+    fn pass(&mut self, cursor: &mut Cursor)
+        requires { cursor.old.idle < cursor.old.count }
+        ensures same { self.new ≡ self.old }
+        ensures count { cursor.new.count ≡ cursor.old.count }
+        ensures idle { (m : ℕ) → IsPassed cursor.new m → (m ≡ cursor.old.at) ⊎ IsPassed cursor.old m }
+        ensures less { (actions : ℕ) → turns_left actions cursor.new < turns_left actions cursor.old }
+    {
+        cursor.passed_by(&mut self.wiring.hints);
     }
 }

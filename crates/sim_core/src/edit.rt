@@ -42,7 +42,7 @@ impl Core {
         }
         let limit = self.plan.cycles;
         self.unread.truncate(0);
-        self.asking = u64::MAX;
+        self.asking.fill();
         let from = first_touched(&self.engine.graph, &self.engine.fifos, edit);
         edit_plan(&mut self.plan, edit);
         if change_few(
@@ -55,7 +55,14 @@ impl Core {
         ) {
             return Guard::Same;
         }
-        retime(&mut self.engine, edit, from, limit, steps)
+        retime(
+            &mut self.engine,
+            &mut self.wiring.hints,
+            edit,
+            from,
+            limit,
+            steps,
+        )
     }
 }
 

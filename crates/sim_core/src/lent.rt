@@ -8,12 +8,11 @@ ghost use Rattle.sim_core.specs.Tasks.{IsBurstOf, IsTaskOf};
 ghost use Rattle.sim_core.specs.Views.{theory_of};
 
 use crate::back::record_all;
+use crate::bodies::body_length;
 use crate::machine::Core;
 use crate::post::{Wants, make_mail};
 use crate::unread::{Inlets, keep_unread};
 use crate::wiring::ports_of;
-use engine_view::bit_of;
-use flow_design::limits::{LIVE_ITERATIONS, OPERATIONS};
 use flow_word::{List, OutOfMemory};
 use module_interp::ModuleRun;
 use run_ahead::{Burst, Mail, Task};
@@ -115,7 +114,7 @@ impl Core {
             short: _,
             mut mail,
         } = burst;
-        self.asking |= bit_of(owner);
+        self.asking.add(owner);
         let Some(wanted) = emitted.len().checked_mul(2) else {
             return Err(OutOfMemory);
         };
@@ -123,7 +122,7 @@ impl Core {
         self.engine.make_room_for(
             owner,
             ports_of(&self.wiring.ports, owner),
-            LIVE_ITERATIONS * OPERATIONS,
+            body_length(&self.wiring.bodies, owner),
             places,
         )?;
         record_all(&mut self.engine, &mut self.ends, owner, &mut emitted);

@@ -5,6 +5,7 @@ mod access_log;
 mod alone;
 mod back;
 mod beside;
+mod bodies;
 mod bursts;
 mod drive;
 mod edit;

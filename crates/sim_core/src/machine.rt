@@ -18,6 +18,7 @@ use event_graph::Candidate;
 use flow_design::{Advance, Plan, Reply};
 use flow_word::{List, Port, Queue};
 use module_interp::ModuleRun;
+use module_sets::ModuleSet;
 use std::alloc::Global;
 use std::marker::Model;
 
@@ -36,8 +37,8 @@ pub struct Core {
     pub(crate) wiring: Wiring,
     /// For each channel what came back unread with the run that pops it.
     pub(crate) unread: List<Unread>,
-    /// The modules of which an Assign or an Answer may be permitted, as bits.
-    pub(crate) asking: u64,
+    /// The modules of which an Assign or an Answer may be permitted.
+    pub(crate) asking: ModuleSet,
     /// Room for a candidate of each module.
     pub(crate) candidates: Vec<Candidate>,
     pub(crate) scratch: Scratch,
@@ -83,7 +84,7 @@ impl Drop for Core {
             runs: _runs,
             wiring: _wiring,
             unread: _unread,
-            asking: _,
+            asking: _asking,
             candidates: _candidates,
             scratch: _scratch,
         } = self;

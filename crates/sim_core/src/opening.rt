@@ -22,6 +22,7 @@ use fifo_table::{FifoTable, TableChannel};
 use flow_design::{Advance, ChannelKind, Plan, copy_plan};
 use flow_word::{List, OutOfMemory, Width, Words, cut};
 use module_interp::ModuleRun;
+use module_sets::ModuleSet;
 use query_log::QueryLog;
 use std::alloc::Global;
 
@@ -83,6 +84,8 @@ fn begin(alloc: Global, plan: Plan, runs: Vec<Option<ModuleRun>>) -> Result<Core
     };
     let wiring = find_wiring(alloc, &plan)?;
     let unread = nothing_unread(alloc, plan.design.channels.len())?;
+    let mut asking = ModuleSet::new(alloc, modules)?;
+    asking.fill();
     let candidates = no_candidates(alloc, modules)?;
     Ok(Core {
         plan,
@@ -91,7 +94,7 @@ fn begin(alloc: Global, plan: Plan, runs: Vec<Option<ModuleRun>>) -> Result<Core
         runs,
         wiring,
         unread,
-        asking: u64::MAX,
+        asking,
         candidates,
         scratch: Scratch::new(alloc),
     })

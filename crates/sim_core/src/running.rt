@@ -8,11 +8,10 @@ ghost use Rattle.sim_core.specs.Views.{theory_of};
 ghost use Rattle.sim_core.specs.Runs.{IsAnswered, IsOut};
 
 use crate::back::emit_mark;
+use crate::bodies::body_length;
 use crate::machine::Core;
 use crate::wiring::ports_of;
-use engine_view::bit_of;
 use event_graph::Place;
-use flow_design::limits::{LIVE_ITERATIONS, OPERATIONS};
 use flow_word::OutOfMemory;
 use module_interp::ModuleRun;
 use run_ahead::{find_replies, first_missing};
@@ -187,11 +186,13 @@ impl Core {
         ensures plan { self.new.plan ≡ self.old.plan }
         ensures lent { self.new.lent ≡ self.old.lent }
     {
-        self.asking |= bit_of(owner);
-        // No step makes more queries.
-        let queries = LIVE_ITERATIONS * OPERATIONS;
-        self.engine
-            .make_room(owner, ports_of(&self.wiring.ports, owner), queries)?;
+        self.asking.add(owner);
+        // Each operation of a body makes one query of a step at most.
+        self.engine.make_room(
+            owner,
+            ports_of(&self.wiring.ports, owner),
+            body_length(&self.wiring.bodies, owner),
+        )?;
         emit_mark(&mut self.engine, &mut self.ends, owner, run)?;
         Ok(())
     }

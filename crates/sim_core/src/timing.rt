@@ -9,7 +9,6 @@ ghost use Rattle.sim_core.specs.Views.{theory_of};
 ghost use Rattle.sim_core.specs.Drives.{Goes};
 ghost use Rattle.sim_core.specs.Timings.{HasMore, IsTimed, IsUntimable};
 
-use crate::beside::asks;
 use crate::machine::Core;
 use engine_view::{Cursor, Timing};
 use event_graph::Candidate;
@@ -32,7 +31,7 @@ impl Core {
         let mut done = 0;
         while let Some(at) = cursor.at() {
             if self.time_one(at, steps) {
-                cursor.acted(0);
+                cursor.acted();
                 done += 1;
             } else {
                 cursor.passed();
@@ -51,7 +50,7 @@ impl Core {
     {
         // The core agrees with its plan.
         let _count = self.modules();
-        if !asks(self.asking, owner) {
+        if !self.asking.has(owner) {
             return false;
         }
         match self.time(owner, steps) {

@@ -9,9 +9,9 @@ ghost use Rattle.sim_core.specs.Views.{theory_of};
 ghost use Rattle.sim_core.specs.Turns.{HasTurned, HasAnsweredLeast, IsFirstEarliest};
 ghost use Rattle.sim_core.specs.Candidates.{AreCandidates};
 
-use crate::beside::asking_after;
+use crate::beside::ask_after;
 use crate::machine::Core;
-use engine_view::{Timing, bit_of};
+use engine_view::Timing;
 use event_graph::{Candidate, Graph};
 use fifo_table::FifoTable;
 use flow_word::Steps;
@@ -32,7 +32,8 @@ impl Core {
     {
         let limit = self.plan.cycles;
         let timing = self.engine.time_first(owner, limit, steps);
-        self.asking = asking_after(self.asking, self.wiring.beside.as_slice(), owner, &timing);
+        let beside = self.wiring.hints.beside(owner);
+        ask_after(&mut self.asking, beside, owner, &timing);
         timing
     }
 
@@ -47,8 +48,8 @@ impl Core {
         ensures ticks { steps.new ≡ steps.old + 1 }
     {
         self.engine.assign_first(owner, cycle, steps);
-        let timing = Timing::Assigned(cycle);
-        self.asking = asking_after(self.asking, self.wiring.beside.as_slice(), owner, &timing);
+        let beside = self.wiring.hints.beside(owner);
+        ask_after(&mut self.asking, beside, owner, &Timing::Assigned(cycle));
     }
 
     /// Where no Run, Assign or Answer of any module is permitted, answers the first of the least open steps, and gives its
@@ -81,7 +82,9 @@ impl Core {
         ensures plan { self.new.plan ≡ self.old.plan }
         ensures lent { self.new.lent ≡ self.old.lent }
     {
-        self.asking = self.wiring.beside.as_slice()[owner as usize] | bit_of(owner);
+        self.asking.clear();
+        let beside = self.wiring.hints.beside(owner);
+        ask_after(&mut self.asking, beside, owner, &Timing::Answered(cycle));
         self.engine.answer_first(owner, cycle)
     }
 }

@@ -7,9 +7,8 @@ ghost use Rattle.sim_core.specs.Runs.{IsOut};
 ghost use Rattle.sim_core.specs.Views.{theory_of};
 ghost use Rattle.sim_core.specs.Drives.{Goes, GoesOn, HasTimed, HasVisited};
 
-use crate::beside::asks;
 use crate::machine::Core;
-use engine_view::{Timing, bit_of};
+use engine_view::Timing;
 use flow_word::{OutOfMemory, Steps};
 use module_interp::ModuleRun;
 use outcome_guard::Query;
@@ -21,8 +20,8 @@ const STRETCH: u32 = 64;
 /// What was done at a module.
 #[derive(Clone, Copy, Debug, PartialEq, Eq)]
 pub(crate) enum Visit {
-    /// Something. The modules of which something may have changed by it, as bits.
-    Acted(u64),
+    /// Something, by which something may have changed of the modules beside it. Whether the module itself is to be visited again at once.
+    Acted { again: bool },
     /// The outcome of this query is not as it was assumed. Nothing changed.
     Differs(Query),
     /// None is permitted, but perhaps an Earliest. Nothing changed.
@@ -44,25 +43,27 @@ impl Core {
     {
         match self.run_on(owner, steps)? {
             None => Ok(self.time_on(owner, steps)),
-            Some(woken) => match self.time_on(owner, steps) {
-                Visit::Acted(more) => Ok(Visit::Acted(woken | more)),
-                Visit::Differs(_) | Visit::Idle => Ok(Visit::Acted(woken)),
+            Some(again) => match self.time_on(owner, steps) {
+                Visit::Acted { again: more } => Ok(Visit::Acted {
+                    again: again | more,
+                }),
+                Visit::Differs(_) | Visit::Idle => Ok(Visit::Acted { again }),
             },
         }
     }
 
     /// Runs of a module, as long as they are permitted, with the Assigns and Answers by which its queries get their outcomes. None where
-    /// no Run was.
+    /// no Run was; else whether the module is to be visited again at once.
     fn run_on<L: Ledger>(
         &mut self,
         owner: u32,
         steps: &mut Steps<L>,
-    ) -> Result<Option<u64>, OutOfMemory>
+    ) -> Result<Option<bool>, OutOfMemory>
         requires owner { owner < length self.old.plan.design.modules }
         requires here { slice_index_or self.old.lent owner true ≡ false }
-        ensures some { IfOk result (λ woken. IfSome woken (λ bits. GoesOn self.old steps.old self.new steps.new)) }
-        ensures unchanged { IfOk result (λ woken. IsNone woken → (self.new ≡ self.old) × (steps.new ≡ steps.old)) }
-        ensures none { IfOk result (λ woken. IsNone woken → MayRun (design self.old.plan) (theory_of self.old) owner → ⊥) }
+        ensures some { IfOk result (λ ran. IfSome ran (λ again. GoesOn self.old steps.old self.new steps.new)) }
+        ensures unchanged { IfOk result (λ ran. IsNone ran → (self.new ≡ self.old) × (steps.new ≡ steps.old)) }
+        ensures none { IfOk result (λ ran. IsNone ran → MayRun (design self.old.plan) (theory_of self.old) owner → ⊥) }
         ensures no_memory { OnErr result (Goes self.old steps.old self.new steps.new) }
         ensures permitted { OnErr result (MayRun (design self.new.plan) (theory_of self.new) owner) }
     {
@@ -72,9 +73,9 @@ impl Core {
         let Some(mut run) = self.take_out(owner) else {
             return Ok(None);
         };
-        let woken = self.run_stretch(owner, &mut run, steps);
+        let ran = self.run_stretch(owner, &mut run, steps);
         self.put_back(owner, run);
-        woken
+        ran
     }
 
     /// Runs a stretch of a module by its own run, which is out of the core.
@@ -83,27 +84,29 @@ impl Core {
         owner: u32,
         run: &mut ModuleRun,
         steps: &mut Steps<L>,
-    ) -> Result<Option<u64>, OutOfMemory>
+    ) -> Result<Option<bool>, OutOfMemory>
         requires out { IsOut self.old owner run.old }
-        ensures some { IfOk result (λ woken. IfSome woken (λ bits. GoesOn self.old steps.old self.new steps.new)) }
-        ensures unchanged { IfOk result (λ woken. IsNone woken → (self.new ≡ self.old) × (steps.new ≡ steps.old)) }
-        ensures none { IfOk result (λ woken. IsNone woken → MayRun (design self.old.plan) (theory_of self.old) owner → ⊥) }
+        ensures some { IfOk result (λ ran. IfSome ran (λ again. GoesOn self.old steps.old self.new steps.new)) }
+        ensures unchanged { IfOk result (λ ran. IsNone ran → (self.new ≡ self.old) × (steps.new ≡ steps.old)) }
+        ensures none { IfOk result (λ ran. IsNone ran → MayRun (design self.old.plan) (theory_of self.old) owner → ⊥) }
         ensures no_memory { OnErr result (Goes self.old steps.old self.new steps.new) }
         ensures permitted { OnErr result (MayRun (design self.new.plan) (theory_of self.new) owner) }
         ensures out { IsOut self.new owner run.new }
         ensures plan { self.new.plan ≡ self.old.plan }
         ensures lent { self.new.lent ≡ self.old.lent }
     {
-        let Some(mut woken) = self.run_once(owner, run)? else {
+        let ran = self.run_once(owner, run)?;
+        if !ran {
             return Ok(None);
-        };
+        }
+        let mut again = false;
         for _ in 1..STRETCH {
             match self.go_on(owner, run, steps)? {
-                Some(more) => woken |= more,
-                None => return Ok(Some(woken)),
+                Some(more) => again |= more,
+                None => return Ok(Some(again)),
             }
         }
-        Ok(Some(woken | bit_of(owner)))
+        Ok(Some(true))
     }
 
     /// Another Run, or, where the module's newest step waits for an outcome, the Assigns and Answers by which it may get it. None where
@@ -114,19 +117,20 @@ impl Core {
         owner: u32,
         run: &mut ModuleRun,
         steps: &mut Steps<L>,
-    ) -> Result<Option<u64>, OutOfMemory>
+    ) -> Result<Option<bool>, OutOfMemory>
         requires out { IsOut self.old owner run.old }
-        ensures some { IfOk result (λ woken. IfSome woken (λ bits. GoesOn self.old steps.old self.new steps.new)) }
-        ensures unchanged { IfOk result (λ woken. IsNone woken → (self.new ≡ self.old) × (steps.new ≡ steps.old)) }
+        ensures some { IfOk result (λ ran. IfSome ran (λ again. GoesOn self.old steps.old self.new steps.new)) }
+        ensures unchanged { IfOk result (λ ran. IsNone ran → (self.new ≡ self.old) × (steps.new ≡ steps.old)) }
         ensures no_memory { OnErr result ((self.new ≡ self.old) × (steps.new ≡ steps.old)) }
         ensures permitted { OnErr result (MayRun (design self.new.plan) (theory_of self.new) owner) }
         ensures out { IsOut self.new owner run.new }
     {
         if !self.has_asked(owner, run) {
-            return self.run_once(owner, run);
+            let ran = self.run_once(owner, run)?;
+            return Ok(if ran { Some(false) } else { None });
         }
         match self.time_on(owner, steps) {
-            Visit::Acted(woken) => Ok(Some(woken)),
+            Visit::Acted { again } => Ok(Some(again)),
             Visit::Differs(_) | Visit::Idle => Ok(None),
         }
     }
@@ -143,12 +147,12 @@ impl Core {
                 .is_some_and(|access| !access.kind.is_blocking())
     }
 
-    /// Does one Run of a stretch, where it is permitted.
-    fn run_once(&mut self, owner: u32, run: &mut ModuleRun) -> Result<Option<u64>, OutOfMemory>
+    /// Does one Run of a stretch, where it is permitted. Whether it was.
+    fn run_once(&mut self, owner: u32, run: &mut ModuleRun) -> Result<bool, OutOfMemory>
         requires out { IsOut self.old owner run.old }
-        ensures some { IfOk result (λ woken. IfSome woken (λ bits. (n : ℕ) → GoesOn self.old n self.new n)) }
-        ensures unchanged { IfOk result (λ woken. IsNone woken → self.new ≡ self.old) }
-        ensures none { IfOk result (λ woken. IsNone woken → MayRun (design self.old.plan) (theory_of self.old) owner → ⊥) }
+        ensures some { IfOk result (λ ran. ran ≡ true → (n : ℕ) → GoesOn self.old n self.new n) }
+        ensures unchanged { IfOk result (λ ran. ran ≡ false → self.new ≡ self.old) }
+        ensures none { IfOk result (λ ran. ran ≡ false → MayRun (design self.old.plan) (theory_of self.old) owner → ⊥) }
         ensures no_memory { OnErr result (self.new ≡ self.old) }
         ensures permitted { OnErr result (MayRun (design self.new.plan) (theory_of self.new) owner) }
         ensures out { IsOut self.new owner run.new }
@@ -157,11 +161,7 @@ impl Core {
     {
         // The core agrees with its plan.
         let _count = self.modules();
-        if self.run_with(owner, run)? {
-            Ok(Some(self.bits_beside(owner)))
-        } else {
-            Ok(None)
-        }
+        self.run_with(owner, run)
     }
 
     /// Assigns and Answers of a module, as long as they are permitted. A run of it that is out of the core stands where it stood.
@@ -170,25 +170,25 @@ impl Core {
         ensures timed { HasTimed result self.old steps.old owner self.new steps.new }
         ensures out { (run : RunOf) → IsOut self.old owner run → IsOut self.new owner run }
     {
-        let mut woken = match self.time_once(owner, steps) {
-            Visit::Acted(first) => first,
+        let mut again = match self.time_once(owner, steps) {
+            Visit::Acted { again: first } => first,
             other => return other,
         };
         for _ in 1..STRETCH {
             if self.is_timed(owner) {
-                return Visit::Acted(woken);
+                return Visit::Acted { again };
             }
             match self.time_once(owner, steps) {
-                Visit::Acted(more) => woken |= more,
-                Visit::Differs(_) | Visit::Idle => return Visit::Acted(woken),
+                Visit::Acted { again: more } => again |= more,
+                Visit::Differs(_) | Visit::Idle => return Visit::Acted { again },
             }
         }
-        Visit::Acted(woken | bit_of(owner))
+        Visit::Acted { again: true }
     }
 
     /// Whether each step of a module has its cycle.
     #[inline(always)]
-    pub(crate) fn is_timed(&self, owner: u32) -> bool
+    fn is_timed(&self, owner: u32) -> bool
         requires { owner < length self.now.plan.design.modules }
     {
         self.engine.graph.frontier(owner) == self.engine.graph.len(owner)
@@ -203,24 +203,17 @@ impl Core {
     {
         // The core agrees with its plan.
         let _count = self.modules();
-        if !asks(self.asking, owner) {
+        if !self.asking.has(owner) {
             return Visit::Idle;
         }
         match self.time(owner, steps) {
-            Timing::Assigned(_) => Visit::Acted(self.bits_beside(owner)),
+            Timing::Assigned(_) => Visit::Acted { again: false },
             Timing::Answered(cycle) => {
                 self.assign(owner, cycle, steps);
-                Visit::Acted(self.bits_beside(owner) | bit_of(owner))
+                Visit::Acted { again: true }
             }
             Timing::Differs(query) => Visit::Differs(query),
             Timing::Nothing => Visit::Idle,
         }
-    }
-
-    /// The modules beside one, as bits.
-    fn bits_beside(&self, owner: u32) -> u64
-        requires { owner < length self.now.plan.design.modules }
-    {
-        self.wiring.beside.as_slice()[owner as usize]
     }
 }

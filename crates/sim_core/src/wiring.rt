@@ -1,15 +1,18 @@
 //! Who stands at which channel, found once for a plan.
-ghost use Rattle.std.specs.Prelude.{◌≡◌, ◌++◌, ◌<◌, [], length, slice_index_or, IfOk, OnOk};
+ghost use Rattle.std.specs.Prelude.{◌≡◌, ◌++◌, ◌<◌, ℕ, eqb, [], length, replicate, slice_index_or, IfOk, OnOk};
 ghost use Rattle.flow_word.specs.declared.access.Side.TheVariants.{Push};
 ghost use Rattle.flow_design.specs.StaticRules.{FitsEngine};
-ghost use Rattle.sim_core.specs.Opening.{port_where, ports_to, AreOwnPorts};
+ghost use Rattle.sim_core.specs.Opening.{port_where, AreOwnPorts};
 ghost use Rattle.sim_core.specs.Readers.{AreReaders, AreUsers};
 ghost use Rattle.sim_core.specs.Runs.{IsWired};
 
 use crate::beside::find_beside;
+use crate::bodies::find_body_lengths;
 use crate::readers::find_users;
+use engine_view::Hints;
 use flow_design::Plan;
 use flow_word::{List, OutOfMemory, Port, Side, Words};
+use module_sets::ModuleSet;
 use std::alloc::Global;
 
 /// Who stands at which channel of a plan.
@@ -18,8 +21,10 @@ pub(crate) struct Wiring {
     pub(crate) ports: List<List<Port>>,
     /// For each channel the module that pops it; the number of modules where none does.
     pub(crate) readers: Vec<u32>,
-    /// For each module the others that access one of its channels, as bits.
-    pub(crate) beside: Words,
+    /// For each module the others that access one of its channels; and where to look first.
+    pub(crate) hints: Hints,
+    /// For each module the most operations of one of its bodies.
+    pub(crate) bodies: Words,
 }
 
 impl Drop for Wiring {
@@ -27,7 +32,8 @@ impl Drop for Wiring {
         let Wiring {
             ports: _ports,
             readers: _readers,
-            beside: _beside,
+            hints: _hints,
+            bodies: _bodies,
         } = self;
     }
 }
@@ -41,48 +47,43 @@ pub(crate) fn find_wiring(alloc: Global, plan: &Plan) -> Result<Wiring, OutOfMem
     let writers = find_users(alloc, plan, Side::Push)?;
     let ports = make_ports(alloc, plan, readers.as_slice(), writers.as_slice())?;
     let beside = find_beside(alloc, plan, &ports, readers.as_slice(), writers.as_slice())?;
+    let room = ModuleSet::new(alloc, plan.design.modules.len() as u32)?;
     Ok(Wiring {
         ports,
         readers,
-        beside,
+        hints: Hints::new(beside, room),
+        bodies: find_body_lengths(alloc, plan)?,
     })
 }
 
-/// Adds a port, where it is the module's.
+/// No ports of each of so many modules.
+fn no_ports(alloc: Global, modules: u64) -> Result<List<List<Port>>, OutOfMemory>
+    ensures { IfOk result (λ ports. ports ≡ replicate modules []) }
+{
+    let mut ports = List::with_room(alloc, modules)?;
+    for _ in 0..modules {
+        ports.push(List::new(alloc))?;
+    }
+    Ok(ports)
+}
+
+/// Adds a port to those of its module, where it has one.
 fn add_port(
-    ports: &mut List<Port>,
-    is_own: bool,
+    ports: &mut List<List<Port>>,
+    owner: u32,
     side: Side,
     channel: u32,
 ) -> Result<(), OutOfMemory>
-    ensures { OnOk result (ports.new ≡ ports.old ++ port_where is_own side channel) }
+    ensures count { OnOk result (length ports.new ≡ length ports.old) }
+    ensures each { OnOk result ((m : ℕ) → m < length ports.old
+        → slice_index_or ports.new m [] ≡ slice_index_or ports.old m [] ++ port_where (eqb owner m) side channel) }
 {
-    if is_own {
-        ports.push(Port { side, channel })?;
+    let at = owner as usize;
+    let all = ports.as_mut_slice();
+    if at < all.len() {
+        all[at].push(Port { side, channel })?;
     }
     Ok(())
-}
-
-/// The ports of a module, where it is told who pops and who pushes each channel.
-fn make_own_ports(
-    alloc: Global,
-    plan: &Plan,
-    readers: &[u32],
-    writers: &[u32],
-    owner: u32,
-) -> Result<List<Port>, OutOfMemory>
-    requires fits { FitsEngine plan.now }
-    requires readers { AreReaders plan.now readers.now }
-    requires writers { AreUsers plan.now Push writers.now }
-    ensures { IfOk result (λ ports. ports ≡ ports_to plan.now owner (length plan.now.design.channels)) }
-{
-    let mut ports = List::new(alloc);
-    for channel in 0..plan.design.channels.len() as u32 {
-        let at = channel as usize;
-        add_port(&mut ports, readers[at] == owner, Side::Pop, channel)?;
-        add_port(&mut ports, writers[at] == owner, Side::Push, channel)?;
-    }
-    Ok(ports)
 }
 
 /// The ports of each module, where it is told who pops and who pushes each channel.
@@ -97,10 +98,11 @@ fn make_ports(
     requires writers { AreUsers plan.now Push writers.now }
     ensures { IfOk result (λ ports. AreOwnPorts plan.now (length plan.now.design.modules) ports) }
 {
-    let mut ports = List::new(alloc);
-    for owner in 0..plan.design.modules.len() as u32 {
-        let own = make_own_ports(alloc, plan, readers, writers, owner)?;
-        ports.push(own)?;
+    let mut ports = no_ports(alloc, plan.design.modules.len())?;
+    for channel in 0..plan.design.channels.len() as u32 {
+        let at = channel as usize;
+        add_port(&mut ports, readers[at], Side::Pop, channel)?;
+        add_port(&mut ports, writers[at], Side::Push, channel)?;
     }
     Ok(ports)
 }

@@ -7,6 +7,7 @@ loop-at-init g c = record {
   turned = none_turned c.args.limit c.args.engine.now c.args.steps.now c.requires.core;
   counted = c.new-cursor.ensures.count ∙ c.modules.ensures.count;
   idle = λ m passed. absurd (c.new-cursor.ensures.idle m passed);
+  hints = refl;
 }
 
 pub loop-at-smaller-in-Assigned : goal.loop-at-smaller-in-Assigned
@@ -19,6 +20,7 @@ loop-at-preserved-in-Assigned g c = record {
       c.time_first.ensures.ticks;
   counted = c.acted.ensures.count ∙ c.loop-at.invariant.counted;
   idle = λ m passed. absurd (c.acted.ensures.idle m passed);
+  hints = c.hint_beside.ensures ∙ c.loop-at.invariant.hints;
 }
 
 pub loop-at-preserved-in-Answered : goal.loop-at-preserved-in-Answered
@@ -28,6 +30,7 @@ loop-at-preserved-in-Answered g c = record {
       c.time_first.ensures.ticks;
   counted = c.acted-in-Answered.ensures.count ∙ c.loop-at.invariant.counted;
   idle = λ m passed. absurd (c.acted-in-Answered.ensures.idle m passed);
+  hints = c.loop-at.invariant.hints;
 }
 
 pub loop-at-preserved : goal.loop-at-preserved
@@ -35,9 +38,10 @@ loop-at-preserved g c = record {
   turned = turned _ _ c.time_first.result c.in-Some.ensures.next c.loop-at.invariant.counted c.loop-at.invariant.turned
       c.time_first.ensures.done c.time_first.ensures.room c.time_first.ensures.lanes c.time_first.ensures.kinds
       c.time_first.ensures.ticks;
-  counted = c.passed.ensures.count ∙ c.loop-at.invariant.counted;
-  idle = idle_on c.args.limit c.in-Some.at c.loop-at.engine c.time_first.new.self c.loop-at.cursor c.passed.new.self
-      c.in-Some.ensures.next c.in-Nothing.ensures.done c.passed.ensures.idle c.loop-at.invariant.idle;
+  counted = c.passed_by.ensures.count ∙ c.loop-at.invariant.counted;
+  idle = idle_on c.args.limit c.in-Some.at c.loop-at.engine c.time_first.new.self c.loop-at.cursor c.passed_by.new.self
+      c.in-Some.ensures.next c.in-Nothing.ensures.done c.passed_by.ensures.idle c.loop-at.invariant.idle;
+  hints = c.passed_by.ensures.hints ∙ c.loop-at.invariant.hints;
 }
 
 pub returns-clause-ended : goal.returns-clause-ended

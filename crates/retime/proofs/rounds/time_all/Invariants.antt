@@ -9,6 +9,7 @@ invariant-loop-at g l = record {
   turned : HasTurned l.limit l.initial.engine l.engine l.initial.steps l.steps;
   counted : l.cursor.count ≡ length l.initial.engine.graph.lanes;
   idle : AreIdle (IsIdleIn l.limit l.engine) l.cursor;
+  hints : l.hints ≡ l.initial.hints;
 }
 
 abbrev pub decreases-loop-at : goal.decreases-loop-at

@@ -1,20 +1,26 @@
 use Rattle.std.proofs.Common.{refl, ◌∙◌, ◌<◌, length, arith}
-use Rattle.sim_core.proofs.Asking.{beside_more}
+use Rattle.sim_core.proofs.Asking.{beside_more, still_room}
 use Rattle.sim_core.proofs.Ports.{all_within}
 use Rattle.sim_core.proofs.beside.find_beside.Goals as goal
 
-pub bits_across-bits-requires-clause-within : goal.bits_across-bits-requires-clause-within
-bits_across-bits-requires-clause-within c =
+pub add_across-requires-clause-within : goal.add_across-requires-clause-within
+add_across-requires-clause-within c =
     all_within c.args.plan.now c.loop-owner.owner (length c.args.plan.now.design.channels) c.ports_of.result.now refl
     (c.ports_of.ensures ∙ c.requires.ports.each c.loop-owner.owner
     (let a = c.loop-owner-test.true in let b = c.loop-owner.auto.owner-end in let e = c.len-owner-end.ensures in
     let n = c.requires.ports.count in omega arith))
 
+pub add_across-requires-clause-room : goal.add_across-requires-clause-room
+add_across-requires-clause-room c = still_room c.args.plan.now _ _ c.clear.ensures.room c.loop-owner.invariant.1
+
 pub loop-owner-preserved : goal.loop-owner-preserved
 loop-owner-preserved c =
     let within : c.loop-owner.owner < length c.args.plan.now.design.modules =
     (let a = c.loop-owner-test.true in let b = c.loop-owner.auto.owner-end in let e = c.len-owner-end.ensures in
-    let n = c.requires.ports.count in omega arith) in
-    beside_more c.args.plan.now c.requires.fits c.loop-owner.owner within c.loop-owner.beside c.push.new.self
-    c.bits_across-bits.result c.loop-owner.invariant c.in_ok-push.ensures.ok c.ports_of.result.now
-    (c.ports_of.ensures ∙ c.requires.ports.each c.loop-owner.owner within) c.bits_across-bits.ensures
+    let n = c.requires.ports.count in omega arith) in (
+      beside_more c.args.plan.now c.requires.fits c.loop-owner.owner within c.loop-owner.beside c.push.new.self
+          c.in_ok-masks.masks c.loop-owner.invariant.0 c.in_ok-push.ensures.ok c.ports_of.result.now
+          (c.ports_of.ensures ∙ c.requires.ports.each c.loop-owner.owner within) c.add_across.new.set c.add_across.ensures.across
+          c.in_ok-masks.ensures,
+      c.add_across.ensures.room,
+    )

@@ -44,7 +44,8 @@ invariant_of-result c =
           (c.in_ok-credits.ensures.items_if_clones_equal (λ x e. e));
       wired = c.in_ok-wiring.ensures;
       unread_are = c.in_ok-unread.ensures _ _;
-      asking_are = asking_all c.args.plan c.requires.fits _;
+      asking_are = asking_all c.args.plan _ _ (let a = c.in_ok-asking.ensures.room in let e = c.fill.ensures.room in omega arith)
+          c.fill.ensures.full;
       candidate_count = c.in_ok-candidates.ensures ∙ count;
     }
 

@@ -1,10 +1,7 @@
-use Rattle.std.proofs.Common.{◌<◌, ℕ, List, sym, ap, subst, length, slice_index, arith}
-use Rattle.std.specs.Prelude.{bit_or}
+use Rattle.std.proofs.Common.{◌<◌, ◌∙◌, refl, length, arith}
 use Rattle.engine_view.specs.Engines.{held_in}
-use Rattle.sim_core.specs.Views.{theory_of}
 use Rattle.sim_core.specs.Runs.{lent_of, over_of}
-use Rattle.sim_core.specs.Asking.{AreAsking}
-use Rattle.sim_core.proofs.Asking.{asking_least}
+use Rattle.sim_core.proofs.Asking.{asking_least, still_room}
 use Rattle.sim_core.proofs.Turning as turning
 use Rattle.sim_core.proofs.machine.Core.answer_open.Goals as goal
 
@@ -16,13 +13,12 @@ answer_first-requires-clause-unsure c =
     let k = c.self.invariant.core in
     turning.open_unsure k (rw (← c.self.view_is) at c.requires)
 
-pub bounds-as_slice-owner : goal.bounds-as_slice-owner
-bounds-as_slice-owner c =
+pub beside-beside-requires : goal.beside-beside-requires
+beside-beside-requires c =
     let k = c.self.invariant.core in
     let u = (turning.open_unsure k (rw (← c.self.view_is) at c.requires)).inside in
     let lanes = k.sound.lanes in
     let count = c.self.invariant.wired.beside_are.count in
-    let same = ap (λ (bits : List ℕ). length bits) c.as_slice.ensures in
     omega arith
 
 pub invariant_of-self : goal.invariant_of-self
@@ -41,15 +37,17 @@ invariant_of-self c =
       wired = c.self.invariant.wired;
       unread_are = turning.unread_answered k may t c.answer_first.result c.self.inside.unread c.answer_first.ensures.answered
           c.self.invariant.unread_are;
-      asking_are = subst (λ (bits : List ℕ). AreAsking c.self.inside.plan (theory_of (record {
-        plan = c.self.inside.plan;
-        held = held_in t over;
-        lent = lent;
-      })) (bit_or (slice_index bits c.args.owner) c.bit_of.result)) (sym c.as_slice.ensures)
-          (asking_least (record { plan = c.self.inside.plan; held = held_in s over; lent = lent })
-          (record { plan = c.self.inside.plan; held = held_in t over; lent = lent }) k.fits c.self.inside.wiring.beside
-          c.self.invariant.wired.beside_are c.args.owner inside c.bit_of.result c.bit_of.ensures c.args.cycle may c.answer_first.result
-          (turning.open_answered k may t c.answer_first.result lent c.answer_first.ensures.answered));
+      asking_are =
+          let before = c.self.invariant.asking_are.room in
+          let same = c.ask_after.ensures.room ∙ c.clear.ensures.room in
+          asking_least (record { plan = c.self.inside.plan; held = held_in s over; lent = lent })
+          (record { plan = c.self.inside.plan; held = held_in t over; lent = lent }) k.fits c.self.inside.wiring.hints
+          c.self.invariant.wired.beside_are c.args.owner inside c.ask_after.new.asking
+          (still_room c.self.inside.plan c.self.inside.asking c.ask_after.new.asking same before)
+          (c.ask_after.ensures.acted refl (let e = c.clear.ensures.room in omega arith))
+          (λ n l. (rw c.beside-beside.ensures at c.ask_after.ensures.beside) refl n (let e = c.clear.ensures.room in omega arith))
+          c.args.cycle may c.answer_first.result
+          (turning.open_answered k may t c.answer_first.result lent c.answer_first.ensures.answered);
       candidate_count = c.self.invariant.candidate_count;
     }
 

@@ -1,8 +1,7 @@
-use Rattle.std.proofs.Common.{subst, ap, ℕ, List, slice_index}
+use Rattle.std.proofs.Common.{ap, arith}
 use Rattle.engine_view.specs.declared.engine.Engine.{Engine}
 use Rattle.engine_view.specs.declared.turn.Timing.TheVariants.{Assigned}
 use Rattle.engine_view.specs.Taking.{kinds_in}
-use Rattle.sim_core.specs.Asking.{IsUnhinted}
 use Rattle.sim_core.proofs.Timed as timed
 use Rattle.sim_core.proofs.machine.Core.assign.Goals as goal
 
@@ -15,10 +14,12 @@ invariant_of-self g c =
     timed.stored c.self.invariant c.args.owner (rw (← c.self.view_is) at c.requires.owner) c.assign_first.new.self (Assigned c.args.cycle)
     (c.assign_first.ensures.done c.self.inside.plan.cycles (rw (← c.self.view_is) at c.requires.may.determined.below))
     c.assign_first.ensures.room (ap (λ (e : Engine). kinds_in e.fifos.channels) c.assign_first.ensures.rest)
-    (λ e. c.assign_first.ensures.less) c.asking_after-self-inside.result c.asking_after-self-inside.ensures.others
-    c.asking_after-self-inside.ensures.own c.asking_after-self-inside.ensures.acted
-    (λ e n none. subst (λ (bits : List ℕ). IsUnhinted (slice_index bits c.args.owner) n) c.as_slice.ensures
-    (c.asking_after-self-inside.ensures.beside e n none))
+    (λ e. c.assign_first.ensures.less) c.ask_after.new.asking c.ask_after.ensures.room c.ask_after.ensures.others c.ask_after.ensures.own
+    c.ask_after.ensures.acted (rw c.beside-beside.ensures at c.ask_after.ensures.beside)
+
+pub beside-beside-requires : goal.beside-beside-requires
+beside-beside-requires g c =
+    let owner = rw (← c.self.view_is) at c.requires.owner in let n = c.self.invariant.wired.beside_are.count in omega arith
 
 pub returns-clause-done : goal.returns-clause-done
 returns-clause-done g c =

@@ -12,6 +12,7 @@ use Rattle.engine_view.specs.Engines.{held_in}
 use Rattle.sim_core.specs.Returned.{CanGoOn, core_in}
 use Rattle.sim_core.specs.Runs.{IsCore, over_of}
 use Rattle.sim_core.proofs.Lending as lending
+use Rattle.sim_core.proofs.QueryRoom.{bodies_told}
 use Rattle.sim_core.proofs.Roomed as roomed
 use Rattle.sim_core.proofs.machine.Core.emit_next.Goals.{In_ok-make_room}
 use Rattle.sim_core.proofs.machine.Core.emit_next.Goals as goal
@@ -48,7 +49,7 @@ module _ (c : In_ok-make_room) where
           core = core;
           lent = rw (← c.self.view_is) at c.requires.out.lent;
           places = c.in_ok-make_room.ensures.credit;
-          outcomes = c.in_ok-make_room.ensures.queries;
+          outcomes = bodies_told p c.self.invariant.wired.bodies_are c.args.owner inside c.body_length.ensures c.in_ok-make_room.ensures.queries;
         };
         inside = inside;
         run_is = rw same (rw (← c.self.view_is) at c.requires.out.run_is);
@@ -59,6 +60,10 @@ module _ (c : In_ok-make_room) where
 pub ports_of-requires : goal.ports_of-requires
 ports_of-requires c =
     let a = rw (← c.self.view_is) at c.requires.out.inside in let n = c.self.invariant.wired.ports_are.count in omega arith
+
+pub body_length-requires : goal.body_length-requires
+body_length-requires c =
+    let a = rw (← c.self.view_is) at c.requires.out.inside in let n = c.self.invariant.wired.bodies_are.count in omega arith
 
 pub make_room-requires : goal.make_room-requires
 make_room-requires c =
@@ -71,7 +76,7 @@ make_room-requires c =
 pub invariant_of-self : goal.invariant_of-self
 invariant_of-self c =
     roomed.stored_roomed c.self.invariant c.args.owner (rw (← c.self.view_is) at c.requires.out.inside) _ c.ports_of.ensures
-    c.make_room.new.self c.make_room.ensures.same c.make_room.ensures.room c.bit_of.result
+    c.make_room.new.self c.make_room.ensures.same c.make_room.ensures.room c.add.new.self c.add.ensures
 
 pub emit_mark-requires : goal.emit_mark-requires
 emit_mark-requires c =
@@ -81,7 +86,7 @@ pub invariant_of-self-in_err-emit_mark : goal.invariant_of-self-in_err-emit_mark
 invariant_of-self-in_err-emit_mark c =
     rw (c.in_err-emit_mark.ensures.unchanged, c.in_err-emit_mark.ensures.no_end)
     (roomed.stored_roomed c.self.invariant c.args.owner (rw (← c.self.view_is) at c.requires.out.inside) _ c.ports_of.ensures
-    c.make_room.new.self c.make_room.ensures.same c.make_room.ensures.room c.bit_of.result)
+    c.make_room.new.self c.make_room.ensures.same c.make_room.ensures.room c.add.new.self c.add.ensures)
 
 -- what the core is where the run had no memory
 pub returns-in_err-emit_mark-clause-out : goal.returns-in_err-emit_mark-clause-out
@@ -114,7 +119,7 @@ invariant_of-self-2 c =
     c.make_room.ensures.room c.emit_mark.new.engine c.emit_mark.new.ends.items 1 acts in
     roomed.stored_ran c.self.invariant c.args.owner (inside at) _ c.ports_of.ensures (t at) c.make_room.ensures.same
     c.make_room.ensures.room c.emit_mark.new.engine c.emit_mark.new.ends.items 1 acts (runs at)
-    (c.emit_mark.ensures.core (p at) (runs at) (ready at)) c.self.inside.unread unread c.bit_of.result c.bit_of.ensures
+    (c.emit_mark.ensures.core (p at) (runs at) (ready at)) c.self.inside.unread unread c.add.new.self c.add.ensures
 
 pub returns-clause-acts : goal.returns-clause-acts
 returns-clause-acts c =

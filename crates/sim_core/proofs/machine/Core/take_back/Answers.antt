@@ -15,6 +15,7 @@ use Rattle.sim_core.specs.Runs.{over_of, IsCore}
 use Rattle.sim_core.specs.Views.{CoreView, theory_of}
 use Rattle.sim_core.proofs.Asking.{asking_more}
 use Rattle.sim_core.proofs.Lends as lends
+use Rattle.sim_core.proofs.QueryRoom.{bodies_told}
 use Rattle.sim_core.proofs.Returning as returning
 use Rattle.sim_core.proofs.Roomed as roomed
 use Rattle.sim_core.proofs.machine.Core.take_back.Goals.{In_ok-make_room_for}
@@ -52,7 +53,7 @@ module _ (c : In_ok-make_room_for) where
       returning.are_returned c.self.inside.engine same core (rw (← c.self.view_is) at c.requires.lent)
       (let a = c.in_ok-make_room_for.ensures.credit in let w = c.places_for-places.ensures.wanted in let b = c.in-Some.ensures.1 in
       let l = c.len.ensures in omega arith)
-      c.in_ok-make_room_for.ensures.queries
+      (bodies_told p c.self.invariant.wired.bodies_are c.args.owner inside c.body_length.ensures c.in_ok-make_room_for.ensures.queries)
       (rw (← c.self.view_is) at c.requires.burst)
 
 -- ---- the calls
@@ -60,6 +61,10 @@ module _ (c : In_ok-make_room_for) where
 pub ports_of-requires : goal.ports_of-requires
 ports_of-requires c =
     let a = rw (← c.self.view_is) at c.requires.owner in let n = c.self.invariant.wired.ports_are.count in omega arith
+
+pub body_length-requires : goal.body_length-requires
+body_length-requires c =
+    let a = rw (← c.self.view_is) at c.requires.owner in let n = c.self.invariant.wired.bodies_are.count in omega arith
 
 pub make_room_for-requires-clause-owner : goal.make_room_for-requires-clause-owner
 make_room_for-requires-clause-owner c =
@@ -74,14 +79,15 @@ invariant_of-self c = record {
   core = c.self.invariant.core;
   wired = c.self.invariant.wired;
   unread_are = c.self.invariant.unread_are;
-  asking_are = asking_more c.self.inside.plan c.self.invariant.core.fits _ c.self.inside.asking c.self.invariant.asking_are c.bit_of.result;
+  asking_are = asking_more c.self.inside.plan c.self.invariant.core.fits _ c.self.inside.asking c.self.invariant.asking_are
+      c.add.new.self c.args.owner c.add.ensures;
   candidate_count = c.self.invariant.candidate_count;
 }
 
 pub invariant_of-self-in_err-make_room_for : goal.invariant_of-self-in_err-make_room_for
 invariant_of-self-in_err-make_room_for c =
     roomed.stored_roomed c.self.invariant c.args.owner (rw (← c.self.view_is) at c.requires.owner) _ c.ports_of.ensures
-    c.make_room_for.new.self c.make_room_for.ensures.same c.make_room_for.ensures.room c.bit_of.result
+    c.make_room_for.new.self c.make_room_for.ensures.same c.make_room_for.ensures.room c.add.new.self c.add.ensures
 
 pub record_all-requires-clause-returned : goal.record_all-requires-clause-returned
 record_all-requires-clause-returned c =
@@ -115,7 +121,7 @@ invariant_of-self-2 c =
     (c.keep_unread.ensures (core_values (design (p there)) (core_in (p there) u ends2)) (length (p there).design.channels) unread
     (λ channel within mine. lends.left_next core2 (inside there)
     (c.record_all.ensures.left (p there) (runs there) last back) c.popped.result.now c.popped.ensures.each channel within))
-    c.bit_of.result c.bit_of.ensures
+    c.add.new.self c.add.ensures
 
 pub put_back-requires : goal.put_back-requires
 put_back-requires c =

@@ -1,5 +1,4 @@
-use Rattle.std.proofs.Common.{subst, ℕ, List, slice_index, arith}
-use Rattle.sim_core.specs.Asking.{IsUnhinted}
+use Rattle.std.proofs.Common.{arith}
 use Rattle.sim_core.proofs.Timed as timed
 use Rattle.sim_core.proofs.Turning as turning
 use Rattle.sim_core.proofs.machine.Core.time.Goals as goal
@@ -15,10 +14,12 @@ pub invariant_of-self : goal.invariant_of-self
 invariant_of-self g c =
     timed.stored c.self.invariant c.args.owner (rw (← c.self.view_is) at c.requires.owner) c.time_first-timing.new.self
     c.time_first-timing.result c.time_first-timing.ensures.done c.time_first-timing.ensures.room c.time_first-timing.ensures.kinds
-    c.time_first-timing.ensures.less c.asking_after-self-inside.result c.asking_after-self-inside.ensures.others
-    c.asking_after-self-inside.ensures.own c.asking_after-self-inside.ensures.acted
-    (λ e n none. subst (λ (bits : List ℕ). IsUnhinted (slice_index bits c.args.owner) n) c.as_slice.ensures
-    (c.asking_after-self-inside.ensures.beside e n none))
+    c.time_first-timing.ensures.less c.ask_after.new.asking c.ask_after.ensures.room c.ask_after.ensures.others c.ask_after.ensures.own
+    c.ask_after.ensures.acted (rw c.beside-beside.ensures at c.ask_after.ensures.beside)
+
+pub beside-beside-requires : goal.beside-beside-requires
+beside-beside-requires g c =
+    let owner = rw (← c.self.view_is) at c.requires.owner in let n = c.self.invariant.wired.beside_are.count in omega arith
 
 pub returns-clause-done : goal.returns-clause-done
 returns-clause-done g c =

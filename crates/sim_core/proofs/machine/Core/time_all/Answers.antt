@@ -15,13 +15,13 @@ loop-at-smaller-then-time_one g c =
 pub loop-at-preserved-then-time_one : goal.loop-at-preserved-then-time_one
 loop-at-preserved-then-time_one g c =
     timing.went c.loop-at.invariant c.in-Some.ensures.next (c.time_one.ensures.done c.if-time_one.true) c.acted.ensures.count
-    c.acted.ensures.stays (c.acted.ensures.unhinted c.loop-at.invariant.unhinted refl) c.acted.ensures.idle
+    c.acted.ensures.stays c.acted.ensures.idle
 
 pub loop-at-preserved : goal.loop-at-preserved
 loop-at-preserved g c =
     let same = c.time_one.ensures.unchanged c.if-time_one.false in
     timing.passed c.loop-at.invariant c.in-Some.ensures.next same.0 same.1 (c.time_one.ensures.none c.if-time_one.false)
-    c.passed.ensures.count (c.passed.ensures.unhinted c.loop-at.invariant.unhinted) c.passed.ensures.idle
+    c.passed.ensures.count c.passed.ensures.round c.passed.ensures.idle
 
 pub returns-clause-rounds : goal.returns-clause-rounds
 returns-clause-rounds g c = timing.all_rounds c.loop-at.invariant (c.in_default.ensures.all refl)

@@ -1,4 +1,4 @@
-use Rattle.std.proofs.Common.{refl, sym, subst, arith}
+use Rattle.std.proofs.Common.{refl, sym, subst}
 use Rattle.flow_design.specs.declared.plan.Plan.{Plan}
 use Rattle.flow_design.specs.StaticRules.{FitsEngine}
 use Rattle.turn_history.proofs.Timings.{no_timing_at}
@@ -14,11 +14,10 @@ use Rattle.sim_core.proofs.machine.Core.time_once.Given.{Over}
 use Rattle.sim_core.proofs.machine.Core.time_once.Goals.{In-Answered}
 use Rattle.sim_core.proofs.machine.Core.time_once.Goals as goal
 
-pub returns-then-not-asks-clause-timed : goal.returns-then-not-asks-clause-timed
-returns-then-not-asks-clause-timed g c =
+pub returns-then-not-has-clause-timed : goal.returns-then-not-has-clause-timed
+returns-then-not-has-clause-timed g c =
     let inside = rw (← c.self.view_is) at c.requires in
-    let modules = c.self.invariant.core.fits.module_count in
-    let none = c.self.invariant.asking_are c.args.owner inside (c.asks.ensures c.if-not-asks.true (omega arith)) in (
+    let none = c.self.invariant.asking_are.idle c.args.owner inside (c.has.ensures.none c.if-not-has.true) in (
       refl,
       refl,
       subst (λ (v : CoreView). IsIdle (design v.plan) v.plan.cycles (theory_of v) c.args.owner) c.self.view_is

@@ -1,4 +1,4 @@
-use Rattle.std.proofs.Common.{subst, arith}
+use Rattle.std.proofs.Common.{subst}
 use Rattle.sim_core.specs.Timings.{IsUntimable}
 use Rattle.sim_core.specs.Views.{CoreView}
 use Rattle.sim_core.proofs.TimingRounds as timing
@@ -16,9 +16,8 @@ returns-in-Differs-clause-none g c = λ e.
     c.modules-count.ensures.agreed c.time.result c.time.new.steps c.requires.verified c.time.ensures.done c.time.ensures.ticks
     (timing.rested c.time.result c.in-Differs.is)).0
 
-pub returns-then-not-asks-clause-none : goal.returns-then-not-asks-clause-none
-returns-then-not-asks-clause-none g c = λ e.
+pub returns-then-not-has-clause-none : goal.returns-then-not-has-clause-none
+returns-then-not-has-clause-none g c = λ e.
     let inside = rw (← c.self.view_is) at c.requires.owner in
-    let modules = c.self.invariant.core.fits.module_count in
     subst (λ (v : CoreView). IsUntimable v c.args.owner) c.self.view_is
-    (c.self.invariant.asking_are c.args.owner inside (c.asks.ensures c.if-not-asks.true (omega arith)))
+    (c.self.invariant.asking_are.idle c.args.owner inside (c.has.ensures.none c.if-not-has.true))

@@ -1,0 +1,11 @@
+use Rattle.std.proofs.Common.{ℕ, List, sym, subst}
+use Rattle.module_sets.specs.Sets.{Has}
+use Rattle.std.proofs.lemmas.List.{length-replicate}
+use Rattle.module_sets.proofs.Words.{all_in}
+use Rattle.module_sets.proofs.set.ModuleSet.fill.Goals as goal
+
+pub returns-clause-full : goal.returns-clause-full
+returns-clause-full c = λ n l.
+    let is = c.fill.ensures.items (λ y e. e) in
+    let inside = rw (is, length-replicate) at l in
+    subst (λ (words : List ℕ). Has words n) (sym is) (all_in _ n inside)

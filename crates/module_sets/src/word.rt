@@ -1,0 +1,17 @@
+//! The bits of one word.
+ghost use Rattle.std.specs.Prelude.{ℕ, ◌<◌, ◌≤◌, IfSome, IsNone};
+ghost use Rattle.module_sets.specs.Sets.{IsSet, IsFirstBit};
+
+/// The first bit of a word that is set, from this one on. None where there is none.
+pub(crate) fn first_bit(word: u64, from: u32) -> Option<u32>
+    ensures first { IfSome result (λ bit. IsFirstBit word from bit) }
+    ensures inside { IfSome result (λ bit. bit < 64) }
+    ensures none { IsNone result → (bit : ℕ) → from ≤ bit → IsSet word bit → ⊥ }
+{
+    let behind = word.checked_shr(from)?;
+    if behind == 0 {
+        None
+    } else {
+        Some(from + behind.trailing_zeros())
+    }
+}

@@ -1,5 +1,0 @@
-use Rattle.sim_core.specs.Asking.{AreAcrossTo}
-use Rattle.sim_core.proofs.beside.bits_across.Given as goal
-
-abbrev pub invariant-loop-port : goal.invariant-loop-port
-invariant-loop-port l = AreAcrossTo l.plan l.ports l.port-index l.bits

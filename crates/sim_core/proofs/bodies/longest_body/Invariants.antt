@@ -1,0 +1,6 @@
+use Rattle.std.proofs.Common.{◌≤◌, length, take}
+use Rattle.std.specs.Prelude.{All}
+use Rattle.sim_core.proofs.bodies.longest_body.Given as goal
+
+abbrev pub invariant-loop-block : goal.invariant-loop-block
+invariant-loop-block l = All (λ b. length b.ops ≤ l.longest) (take l.block-index l.of.blocks)

@@ -1,0 +1,37 @@
+//! How long the bodies of the modules are.
+ghost use Rattle.std.specs.Prelude.{◌≡◌, ◌<◌, length, slice_index, IfOk};
+ghost use Rattle.sim_core.specs.Runs.{HasBodiesWithin, AreBodyLengths};
+
+use flow_design::{Module, Plan};
+use flow_word::{OutOfMemory, Words};
+use std::alloc::Global;
+
+/// For each module of a plan the most operations of one of its bodies.
+pub(crate) fn find_body_lengths(alloc: Global, plan: &Plan) -> Result<Words, OutOfMemory>
+    ensures { IfOk result (λ lengths. AreBodyLengths plan.now (length plan.now.design.modules) lengths) }
+{
+    let mut lengths = Words::new(alloc);
+    for of in plan.design.modules.as_slice() {
+        lengths.push(longest_body(of))?;
+    }
+    Ok(lengths)
+}
+
+/// The most operations of a body of the module.
+fn longest_body(of: &Module) -> u64
+    ensures { HasBodiesWithin of.now result }
+{
+    let mut longest = 0;
+    for block in of.blocks.as_slice() {
+        longest = longest.max(block.ops.len());
+    }
+    longest
+}
+
+/// The most operations of a body of this module, where it is told for all.
+pub(crate) fn body_length(lengths: &Words, owner: u32) -> u64
+    requires { owner < length lengths.now }
+    ensures { result ≡ slice_index lengths.now owner }
+{
+    lengths.as_slice()[owner as usize]
+}

@@ -18,6 +18,8 @@ mod limited;
 #[cfg(test)]
 mod refusing;
 #[cfg(test)]
+mod scales;
+#[cfg(test)]
 mod views;
 #[cfg(test)]
 mod working;

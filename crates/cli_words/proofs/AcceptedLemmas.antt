@@ -1,31 +1,59 @@
 -- What can give no command, whatever words follow.
 use Rattle.std.proofs.Common.{◌≡◌, List, [], ◌∷◌, ◌&&◌, ◌||◌, Option, Some, None, refl, true, false, subst, Bool, cond, length}
 use Rattle.std.proofs.Common.{arith, length-append, is_some}
-use Rattle.std.specs.Prelude.{option_and_then, nat_lt, not}
+use Rattle.std.specs.Prelude.{ℕ, ◌^◌, option_and_then, nat_lt, not, Result, Ok, Err}
 use Rattle.std.proofs.lemmas.Bool.Decides.{nat_tests}
+use Rattle.flow_design.specs.Limits.{limits_at}
+use Rattle.flow_word.specs.Number.{number_of}
+use Rattle.flow_word.specs.declared.number.NumberFault.{NumberFault}
 use Rattle.cli_words.specs.declared.Command.{Command}
 use Rattle.cli_words.specs.declared.rules.CommandName.{CommandName}
 use Rattle.cli_words.specs.declared.rules.CommandName.TheVariants as name
-use Rattle.cli_words.specs.CommandWords.{Key, Cycles, Ops, Slack, Said, Text, Word, End, Events, Polls, Lone, Takes, Has, Positional, Unknown}
-use Rattle.cli_words.specs.CommandWords.{after_word}
-use Rattle.cli_words.specs.CommandWords.{command_by, command_named, command_of, name_of, options_of, said_from, slack_in}
+use Rattle.cli_words.specs.CommandWords.{Key, Cycles, Ops, Slack, Said, Text, Word, End, Events, Polls, Large, Lone, Takes, Has, Positional}
+use Rattle.cli_words.specs.CommandWords.{Unknown, after_word}
+use Rattle.cli_words.specs.CommandWords.{command_by, command_named, command_of, limit_in, name_of, said_from, scale_of, slack_in}
 use Rattle.cli_words.specs.CommandWords.{with_option, with_positionals, word_of}
 
--- the values of the options are in bounds
-abbrev pub has_values : Said → Bool
-has_values said = is_some (options_of said) && is_some (slack_in said.slack)
+-- the digits write a number
+abbrev is_written : Result ℕ NumberFault → Bool
+is_written (Ok n) = true
+is_written (Err fault) = false
 
--- they are not, or there are more than three positionals
+-- the value is a number, if one is given
+abbrev is_number : Option Text → Bool
+is_number None = true
+is_number (Some text) = is_written (number_of text)
+
+-- the values of the options are numbers, in bounds or not
+abbrev pub has_values : Said → Bool
+has_values said = is_number said.cycles && (is_number said.ops && is_number said.slack)
+
+-- they are none, or there are more than three positionals
 abbrev pub is_doomed : Said → Bool
 is_doomed said = not (has_values said) || nat_lt 3 (length said.positionals)
 
 abbrev pub given : Option Said → Option Command
 given = option_and_then command_of
 
--- no command takes options whose values are out of bounds
+no_limit : (high : ℕ) (value : Option Text) → is_number value ≡ false → limit_in high value ≡ None
+no_limit high value bad = grind arith
+
+no_slack : (value : Option Text) → is_number value ≡ false → slack_in value ≡ None
+no_slack value bad = grind arith
+
+-- no command takes options whose values are no numbers
 options_fail : (said : Said) (rest : List Text) → has_values said ≡ false → (n : CommandName) → command_named said rest n ≡ None
-options_fail said rest bad name.Check = grind arith
-options_fail said rest bad n = grind arith
+options_fail said rest bad n =
+    let cycles = no_limit (10 ^ 15) said.cycles in
+    let ops = no_limit (limits_at (scale_of said)).counted_operations said.ops in
+    let slack = no_slack said.slack in
+    by n cycles ops slack
+  where
+    by : (n : CommandName) → (is_number said.cycles ≡ false → limit_in (10 ^ 15) said.cycles ≡ None)
+        → (is_number said.ops ≡ false → limit_in (limits_at (scale_of said)).counted_operations said.ops ≡ None)
+        → (is_number said.slack ≡ false → slack_in said.slack ≡ None) → command_named said rest n ≡ None
+    by name.Check cycles ops slack = grind arith
+    by n cycles ops slack = grind arith
 
 -- no command has three further positionals
 many_fail : (said : Said) (b c d : Text) (rest : List Text) (n : CommandName) → command_named said (b ∷ c ∷ d ∷ rest) n ≡ None
@@ -61,6 +89,7 @@ doomed_stays (word ∷ rest) None said d = by (word_of word) (doomed_stays rest)
     by End stays = doomed_none (with_positionals rest said) (grind (arith, nat_tests, length-append said.positionals rest))
     by (Lone Events) stays = let used = stays None (record said { events = true }) (grind arith) in grind arith
     by (Lone Polls) stays = let used = stays None (record said { polls = true }) (grind arith) in grind arith
+    by (Lone Large) stays = let used = stays None (record said { large = true }) (grind arith) in grind arith
     by (Takes key) stays = stays (Some key) said d
     by (Has Cycles value) stays = let used = stays None (record said { cycles = Some value }) in grind arith
     by (Has Ops value) stays = let used = stays None (record said { ops = Some value }) in grind arith

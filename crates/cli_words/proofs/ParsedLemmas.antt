@@ -14,7 +14,7 @@ use Rattle.clap.specs.declared.parser.matches.Found.{Found}
 use Rattle.clap.specs.declared.error.kind.ErrorKind.TheVariants as kind
 use Rattle.clap.proofs.WalkLemmas.{first_value-rows, one_text-rows}
 use Rattle.cli_words.specs.Parser.{parser}
-use Rattle.cli_words.specs.CommandWords.{Events, Polls, Said, accepted, command_of}
+use Rattle.cli_words.specs.CommandWords.{Events, Large, Polls, Said, accepted, command_of}
 use Rattle.cli_words.specs.Given.{IsGivenBy, positionals_of, said_of, text_of}
 use Rattle.cli_words.specs.declared.parser.Given.{Given}
 use Rattle.cli_words.specs.declared.WordFault.{WordFault}
@@ -48,25 +48,26 @@ three (a ∷ b ∷ []) few = refl
 three (a ∷ b ∷ c ∷ []) few = refl
 three (a ∷ b ∷ c ∷ d ∷ rest) few = absurd (omega arith)
 
-said_by : (e e' l l' : Bool) (c c' o o' s s' : Option Text) (p q r : Option Text) (ps : List Text) → e ≡ e' → l ≡ l' → c ≡ c'
-    → o ≡ o' → s ≡ s' → p ≡ slice_get ps 0 → q ≡ slice_get ps 1 → r ≡ slice_get ps 2 → length ps ≤ 3
-    → ◌≡◌ {A = Said} (record { events = e; polls = l; cycles = c; ops = o; slack = s; positionals = positionals_of p q r })
-    (record { events = e'; polls = l'; cycles = c'; ops = o'; slack = s'; positionals = ps })
-said_by e e' l l' c c' o o' s s' p q r ps he hl hc ho hs hp hq hr few =
+said_by : (e e' l l' b b' : Bool) (c c' o o' s s' : Option Text) (p q r : Option Text) (ps : List Text) → e ≡ e' → l ≡ l' → b ≡ b'
+    → c ≡ c' → o ≡ o' → s ≡ s' → p ≡ slice_get ps 0 → q ≡ slice_get ps 1 → r ≡ slice_get ps 2 → length ps ≤ 3
+    → ◌≡◌ {A = Said} (record { events = e; polls = l; large = b; cycles = c; ops = o; slack = s; positionals = positionals_of p q r })
+    (record { events = e'; polls = l'; large = b'; cycles = c'; ops = o'; slack = s'; positionals = ps })
+said_by e e' l l' b b' c c' o o' s s' p q r ps he hl hb hc ho hs hp hq hr few =
     let at : positionals_of p q r ≡ ps = (λ i. positionals_of (hp i) (hq i) (hr i)) ∙ three ps few in
-    λ i. record { events = he i; polls = hl i; cycles = hc i; ops = ho i; slack = hs i; positionals = at i }
+    λ i. record { events = he i; polls = hl i; large = hb i; cycles = hc i; ops = ho i; slack = hs i; positionals = at i }
 
 -- what the getters gave, of a parse that went well
 pub given_ok : (words : List Text) → AllByRecursion IsUtf8 words → (f : Found) → fault_of parser words ≡ []
     → rows_of f ≡ matches_of parser words → (g : Given)
     → ((b : Bool) → one_text f (codes "events") ≡ Some (bool_text b) → g.events ≡ b)
     → ((b : Bool) → one_text f (codes "polls") ≡ Some (bool_text b) → g.polls ≡ b)
+    → ((b : Bool) → one_text f (codes "large") ≡ Some (bool_text b) → g.large ≡ b)
     → text_of g.cycles ≡ first_value f (codes "cycles") → text_of g.ops ≡ first_value f (codes "ops")
     → text_of g.slack ≡ first_value f (codes "slack")
     → text_of g.command ≡ first_value f (codes "command") → text_of g.second ≡ first_value f (codes "second")
     → text_of g.third ≡ first_value f (codes "third")
     → accepted words ≡ command_of (said_of g)
-given_ok words u f clear rows g events polls cycles ops slack command second third = go (agrees words u)
+given_ok words u f clear rows g events polls large cycles ops slack command second third = go (agrees words u)
   where
     read : (id : Text) → first_value f id ≡ first_of id (matches_of parser words)
     read id = first_value-rows f id ∙ ap (first_of id) rows
@@ -75,15 +76,18 @@ given_ok words u f clear rows g events polls cycles ops slack command second thi
     go (refuses bad none) = absurd (bad clear)
     go (takes said few none final same) =
         same ∙ ap command_of
-        (sym (said_by g.events said.events g.polls said.polls (text_of g.cycles) said.cycles (text_of g.ops) said.ops (text_of g.slack) said.slack
+        (sym (said_by g.events said.events g.polls said.polls g.large said.large (text_of g.cycles) said.cycles (text_of g.ops) said.ops
+        (text_of g.slack) said.slack
         (text_of g.command) (text_of g.second) (text_of g.third) said.positionals
         (events said.events (one_text-rows f (codes "events") ∙ ap (one_of (codes "events")) rows ∙ final.flags Events))
         (polls said.polls (one_text-rows f (codes "polls") ∙ ap (one_of (codes "polls")) rows ∙ final.flags Polls))
-        (cycles ∙ read (codes "cycles") ∙ final.values AtCycles refl refl) (ops ∙ read (codes "ops") ∙ final.values AtOps refl refl)
-        (slack ∙ read (codes "slack") ∙ final.values AtSlack refl refl)
-        (command ∙ read (codes "command") ∙ final.values AtCommand refl refl)
-        (second ∙ read (codes "second") ∙ final.values AtSecond refl refl)
-        (third ∙ read (codes "third") ∙ final.values AtThird refl refl) few))
+        (large said.large (one_text-rows f (codes "large") ∙ ap (one_of (codes "large")) rows ∙ final.flags Large))
+        (cycles ∙ read (codes "cycles") ∙ final.values AtCycles refl refl refl)
+        (ops ∙ read (codes "ops") ∙ final.values AtOps refl refl refl)
+        (slack ∙ read (codes "slack") ∙ final.values AtSlack refl refl refl)
+        (command ∙ read (codes "command") ∙ final.values AtCommand refl refl refl)
+        (second ∙ read (codes "second") ∙ final.values AtSecond refl refl refl)
+        (third ∙ read (codes "third") ∙ final.values AtThird refl refl refl) few))
 
 either_way : (words : List Text) (w : WordFault) → accepted words ≡ None → IsGivenBy words (Err w)
 either_way words fault.Refused e = e

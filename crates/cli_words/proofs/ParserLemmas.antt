@@ -15,8 +15,8 @@ use Rattle.clap.specs.declared.builder.value_parser.Reading.TheVariants.{AsWritt
 use Rattle.clap.proofs.FaultLemmas.{leaf_fault}
 use Rattle.clap.proofs.SimpleLemmas.{is_nil}
 use Rattle.cli_words.specs.Parser.{parser}
-use Rattle.cli_words.specs.CommandWords.{Events, Flag, Polls, Said, Text, accepted, command_of, nothing, said_from}
-use Rattle.cli_words.proofs.RowLemmas.{AtEvents, AtPolls, Rows, Slot, has_row-row_at, id_of, missing, other, own, row_at, rules}
+use Rattle.cli_words.specs.CommandWords.{Events, Flag, Large, Polls, Said, Text, accepted, command_of, nothing, said_from}
+use Rattle.cli_words.proofs.RowLemmas.{AtEvents, AtLarge, AtPolls, Rows, Slot, has_row-row_at, id_of, missing, other, own, row_at, rules}
 use Rattle.cli_words.proofs.RowLemmas.{text_said}
 use Rattle.cli_words.proofs.RowLemmas.{value_row}
 use Rattle.cli_words.proofs.WalkSteps.{AtMostThree, Ends, Holds, at, clear, end_of, fails, fault_at, first_clear, flag_at, passes}
@@ -48,7 +48,7 @@ defaulted f rows = with_default rows (flag_at f)
 
 -- the rows at the end
 abbrev completed : List Row → List Row
-completed rows = defaulted Polls (defaulted Events rows)
+completed rows = defaulted Large (defaulted Polls (defaulted Events rows))
 
 module _ (rows : List Row) where
   events_default : default_fault rows (flag_at Events) ≡ []
@@ -57,27 +57,33 @@ module _ (rows : List Row) where
   polls_default : default_fault (defaulted Events rows) (flag_at Polls) ≡ []
   polls_default = grind arith
 
+  large_default : default_fault (defaulted Polls (defaulted Events rows)) (flag_at Large) ≡ []
+  large_default = grind arith
+
   defaults_clear : defaults_fault rows rules ≡ []
   unfolding defaults_fault
-  defaults_clear = clear _ _ events_default (clear _ _ polls_default (no_defaults (completed rows) (drop 2 rules) refl).0)
+  defaults_clear =
+      clear _ _ events_default (clear _ _ polls_default (clear _ _ large_default (no_defaults (completed rows) (drop 3 rules) refl).0))
 
   completed_is : fold with_default rows rules ≡ completed rows
-  completed_is = (no_defaults (completed rows) (drop 2 rules) refl).1
+  completed_is = (no_defaults (completed rows) (drop 3 rules) refl).1
 
 -- ---- what the getters read
 
 abbrev slot_of : Flag → Slot
 slot_of Events = AtEvents
 slot_of Polls = AtPolls
+slot_of Large = AtLarge
 
 abbrev flag_said : Said → Flag → Bool
 flag_said said Events = said.events
 flag_said said Polls = said.polls
+flag_said said Large = said.large
 
 pub record Final (said : Said) (rows : List Row) : Type 0 where
   pub flags : (f : Flag) → one_of (id_of (slot_of f)) rows ≡ Some (bool_text (flag_said said f))
   pub values : (k : Slot) → bytes_eq (codes "events") (id_of k) ≡ false → bytes_eq (codes "polls") (id_of k) ≡ false
-      → first_of (id_of k) rows ≡ text_said said k
+      → bytes_eq (codes "large") (id_of k) ≡ false → first_of (id_of k) rows ≡ text_said said k
 
 first_is : (id : Text) (o : Option Text) (rows : List Row) → row_at id rows ≡ value_row id o
     → first_of id rows ≡ o
@@ -119,17 +125,25 @@ final said rows h =
     let events = completes (codes "events") refl said.events rows (h AtEvents) in
     let first = defaulted Events rows in
     let polls = completes (codes "polls") refl said.polls first (events.others (codes "polls") refl ∙ h AtPolls) in
+    let second = defaulted Polls first in
+    let large = completes (codes "large") refl said.large second
+    (polls.others (codes "large") refl ∙ (events.others (codes "large") refl ∙ h AtLarge)) in
     record {
-      flags = by_flag (ap (option_and_then row_text) (polls.others (codes "events") refl) ∙ events.told) polls.told;
-      values = λ k a b.
-          first_is (id_of k) (text_said said k) (completed rows) (polls.others (id_of k) b ∙ (events.others (id_of k) a ∙ h k));
+      flags = by_flag
+          (ap (option_and_then row_text) (large.others (codes "events") refl ∙ polls.others (codes "events") refl) ∙ events.told)
+          (ap (option_and_then row_text) (large.others (codes "polls") refl) ∙ polls.told) large.told;
+      values = λ k a b c.
+          first_is (id_of k) (text_said said k) (completed rows)
+          (large.others (id_of k) c ∙ (polls.others (id_of k) b ∙ (events.others (id_of k) a ∙ h k)));
     }
   where
     by_flag : one_of (codes "events") (completed rows) ≡ Some (bool_text said.events)
         → one_of (codes "polls") (completed rows) ≡ Some (bool_text said.polls)
+        → one_of (codes "large") (completed rows) ≡ Some (bool_text said.large)
         → (f : Flag) → one_of (id_of (slot_of f)) (completed rows) ≡ Some (bool_text (flag_said said f))
-    by_flag e p Events = e
-    by_flag e p Polls = p
+    by_flag e p l Events = e
+    by_flag e p l Polls = p
+    by_flag e p l Large = l
 
 -- ---- the whole parse
 
@@ -145,6 +159,7 @@ starts = record { skip = refl; settles = refl; rows = none_yet }
     none_yet : Rows nothing []
     none_yet AtEvents = refl
     none_yet AtPolls = refl
+    none_yet AtLarge = refl
     none_yet k = refl
 
 fault_is : (words : List Text)

@@ -8,8 +8,8 @@ use Rattle.clap.specs.Walk.{Held, Row, Rule, Walk, arg_by_long, idle, option, re
 use Rattle.clap.specs.Kinds.{or_else}
 use Rattle.clap.specs.Faults.{turn_fault, use_fault, walk_fault}
 use Rattle.clap.specs.declared.error.kind.ErrorKind.TheVariants as kind
-use Rattle.cli_words.specs.CommandWords.{Cycles, Events, Key, Ops, Polls, Positional, Said, Slack, Text, Word, after_word, command_of}
-use Rattle.cli_words.specs.CommandWords.{option_named, said_from}
+use Rattle.cli_words.specs.CommandWords.{Cycles, Events, Key, Large, Ops, Polls, Positional, Said, Slack, Text, Word, after_word}
+use Rattle.cli_words.specs.CommandWords.{command_of, option_named, said_from}
 use Rattle.cli_words.specs.CommandWords.{Flag, with_flag, with_option, with_positionals}
 use Rattle.cli_words.proofs.RowLemmas.{Rows, rules, top}
 use Rattle.cli_words.proofs.AcceptedLemmas.{given, doomed_none, doomed_stays, hyphen, hyphen_dooms}
@@ -31,7 +31,7 @@ trails [] said h holds few =
     passes said refl holds few
     (ap (λ ps. command_of (record said { positionals = ps })) (append-nil said.positionals))
 trails (w ∷ ws) said h holds few =
-    go (placing said.events said.polls said.cycles said.ops said.slack true h w said.positionals holds few)
+    go (placing said.events said.polls said.large said.cycles said.ops said.slack true h w said.positionals holds few)
     (λ now. trails ws (with_positionals (w ∷ []) said) now)
   where
     go : Placed said true h w
@@ -70,7 +70,7 @@ plain_step : (word : Text) (rest : List Text) (said : Said) (h : Held) → Holds
     → Reads rest → IsPlain word
     → Ends (between said h) (word ∷ rest) (after_word Positional word rest said (rest_of rest))
 plain_step word rest said h holds few reads plain =
-    go (placing said.events said.polls said.cycles said.ops said.slack false h word said.positionals holds few)
+    go (placing said.events said.polls said.large said.cycles said.ops said.slack false h word said.positionals holds few)
   where
     p : ℕ
     p = suc (length said.positionals)
@@ -142,16 +142,18 @@ module _ (word : Text) (rest : List Text) (said : Said) (h : Held) (holds : Hold
   attached k t turn is =
       used_here (rule_at k) (t ∷ []) _ (using k t said (rows_in h) holds.rows) (turn ∙ turned k t) (is ∙ went k t)
 
-  -- `--events` or `--polls`
+  -- `--events`, `--polls` or `--large`
   flagged : (f : Flag) → Turns (Some (flag_at f)) None → Walks (Some (flag_at f)) None
       → here (option_and_then (rest_of rest None) (with_flag f said))
   flagged Events turn is = used_here (flag_at Events) [] _ (flagging Events said (rows_in h) holds.rows) turn is
   flagged Polls turn is = used_here (flag_at Polls) [] _ (flagging Polls said (rows_in h) holds.rows) turn is
+  flagged Large turn is = used_here (flag_at Large) [] _ (flagging Large said (rows_in h) holds.rows) turn is
 
   -- with a value it is refused
   valued : (f : Flag) (t : Text) → Turns (Some (flag_at f)) (Some t) → turn_fault top [] (at idle p false h) word ≡ [] → ⊥
   valued Events t turn e = some_kind kind.TooManyValues [] (sym turn ∙ e)
   valued Polls t turn e = some_kind kind.TooManyValues [] (sym turn ∙ e)
+  valued Large t turn e = some_kind kind.TooManyValues [] (sym turn ∙ e)
 
   -- `--cycles`
   apart : Awaits rest → (k : Key) → Turns (Some (rule_at k)) None → Walks (Some (rule_at k)) None

@@ -60,11 +60,12 @@ own id r (x ∷ xs) e none = let later = own id r xs e in grind arith
 
 -- what has a row
 pub data Slot : Type 0 where
-  AtEvents AtPolls AtCycles AtOps AtSlack AtCommand AtSecond AtThird : Slot
+  AtEvents AtPolls AtLarge AtCycles AtOps AtSlack AtCommand AtSecond AtThird : Slot
 
 abbrev pub id_of : Slot → Text
 id_of AtEvents = codes "events"
 id_of AtPolls = codes "polls"
+id_of AtLarge = codes "large"
 id_of AtCycles = codes "cycles"
 id_of AtOps = codes "ops"
 id_of AtSlack = codes "slack"
@@ -76,6 +77,7 @@ id_of AtThird = codes "third"
 abbrev pub text_said : Said → Slot → Option Text
 text_said said AtEvents = cond said.events (Some (codes "true")) None
 text_said said AtPolls = cond said.polls (Some (codes "true")) None
+text_said said AtLarge = cond said.large (Some (codes "true")) None
 text_said said AtCycles = said.cycles
 text_said said AtOps = said.ops
 text_said said AtSlack = said.slack
@@ -113,6 +115,9 @@ events_same said j e = grind arith
 pub polls_same : (said : Said) → SameBut AtPolls said (record said { polls = true })
 polls_same said j e = grind arith
 
+pub large_same : (said : Said) → SameBut AtLarge said (record said { large = true })
+large_same said j e = grind arith
+
 pub cycles_same : (said : Said) (v : Text) → SameBut AtCycles said (record said { cycles = Some v })
 cycles_same said v j e = grind arith
 
@@ -122,9 +127,9 @@ ops_same said v j e = grind arith
 pub slack_same : (said : Said) (v : Text) → SameBut AtSlack said (record said { slack = Some v })
 slack_same said v j e = grind arith
 
-module _ (events polls : Bool) (cycles ops slack : Option Text) where
+module _ (events polls large : Bool) (cycles ops slack : Option Text) where
   abbrev pub having : List Text → Said
-  having ps = record { events = events; polls = polls; cycles = cycles; ops = ops; slack = slack; positionals = ps }
+  having ps = record { events = events; polls = polls; large = large; cycles = cycles; ops = ops; slack = slack; positionals = ps }
 
   pub first_same : (v : Text) → SameBut AtCommand (having []) (having (v ∷ []))
   first_same v j e = grind arith

@@ -11,14 +11,14 @@ use Rattle.clap.specs.Kinds.{Kinds, or_else}
 use Rattle.clap.specs.Faults.{positional_fault, settle_fault, step_fault, turn_fault, use_fault, walk_fault}
 use Rattle.clap.specs.declared.error.kind.ErrorKind.{ErrorKind}
 use Rattle.clap.specs.declared.error.kind.ErrorKind.TheVariants as kind
-use Rattle.cli_words.specs.Parser.{cycles_rule, events_rule, ops_rule, polls_rule, slack_rule}
-use Rattle.cli_words.specs.CommandWords.{Cycles, Events, Flag, Key, Ops, Polls, Said, Slack, Text, Unknown, Word, command_of, option_named}
-use Rattle.cli_words.specs.CommandWords.{with_flag, with_option}
+use Rattle.cli_words.specs.Parser.{cycles_rule, events_rule, large_rule, ops_rule, polls_rule, slack_rule}
+use Rattle.cli_words.specs.CommandWords.{Cycles, Events, Flag, Key, Large, Ops, Polls, Said, Slack, Text, Unknown, Word}
+use Rattle.cli_words.specs.CommandWords.{command_of, option_named, with_flag, with_option}
 use Rattle.cli_words.specs.CommandWords.{with_positionals, with_value, without_value}
-use Rattle.cli_words.proofs.RowLemmas.{AtCommand, AtCycles, AtEvents, AtOps, AtPolls, AtSecond, AtSlack, AtThird, Rows, added, cycles_same}
-use Rattle.cli_words.proofs.RowLemmas.{events_same, polls_same}
-use Rattle.cli_words.proofs.RowLemmas.{first_same, has_row-row_at, having as said_with, ops_same, row_at, rows_more, rules, second_same, slack_same}
-use Rattle.cli_words.proofs.RowLemmas.{SameBut, Slot, id_of, row, text_said, third_same, top, value_row}
+use Rattle.cli_words.proofs.RowLemmas.{AtCommand, AtCycles, AtEvents, AtLarge, AtOps, AtPolls, AtSecond, AtSlack, AtThird, Rows, added}
+use Rattle.cli_words.proofs.RowLemmas.{cycles_same, events_same, large_same, polls_same}
+use Rattle.cli_words.proofs.RowLemmas.{first_same, has_row-row_at, having as said_with, ops_same, row_at, rows_more, rules, second_same}
+use Rattle.cli_words.proofs.RowLemmas.{slack_same, SameBut, Slot, id_of, row, text_said, third_same, top, value_row}
 use Rattle.cli_words.proofs.AcceptedLemmas.{given}
 
 -- ---- kinds of fault
@@ -98,6 +98,7 @@ has_no id rows o e = has_row-row_at id rows ∙ ap is_some e
 abbrev pub flag_at : Flag → Rule
 flag_at Events = filled events_rule
 flag_at Polls = filled polls_rule
+flag_at Large = filled large_rule
 
 abbrev pub rule_at : Key → Rule
 rule_at Cycles = filled cycles_rule
@@ -111,21 +112,22 @@ pub data Named (v : Option Text) (o : Option Rule) (w : Word) : Type 0 where
   unnamed : o ≡ None → w ≡ Unknown → Named v o w
 
 pub named : (n : Text) (v : Option Text) → Named v (arg_by_long rules n) (option_named (45 ∷ 45 ∷ n) v)
-named n v = go (bytes_eq (codes "events") n) (bytes_eq (codes "polls") n) (bytes_eq (codes "cycles") n) (bytes_eq (codes "ops") n)
-    (bytes_eq (codes "slack") n)
+named n v = go (bytes_eq (codes "events") n) (bytes_eq (codes "polls") n) (bytes_eq (codes "large") n) (bytes_eq (codes "cycles") n)
+    (bytes_eq (codes "ops") n) (bytes_eq (codes "slack") n)
   where
-    go : (a p b c d : Bool)
+    go : (a p l b c d : Bool)
         → Named v (cond (a || false) (Some (flag_at Events)) (cond (p || false) (Some (flag_at Polls))
-        (cond (b || false) (Some (rule_at Cycles)) (cond (c || false) (Some (rule_at Ops))
-        (cond (d || false) (Some (rule_at Slack)) None)))))
-        (cond a (without_value Events v) (cond p (without_value Polls v) (cond b (with_value Cycles v)
-        (cond c (with_value Ops v) (cond d (with_value Slack v) Unknown)))))
-    go true p b c d = flag Events refl refl
-    go false true b c d = flag Polls refl refl
-    go false false true c d = keyed Cycles refl refl
-    go false false false true d = keyed Ops refl refl
-    go false false false false true = keyed Slack refl refl
-    go false false false false false = unnamed refl refl
+        (cond (l || false) (Some (flag_at Large)) (cond (b || false) (Some (rule_at Cycles)) (cond (c || false) (Some (rule_at Ops))
+        (cond (d || false) (Some (rule_at Slack)) None))))))
+        (cond a (without_value Events v) (cond p (without_value Polls v) (cond l (without_value Large v) (cond b (with_value Cycles v)
+        (cond c (with_value Ops v) (cond d (with_value Slack v) Unknown))))))
+    go true p l b c d = flag Events refl refl
+    go false true l b c d = flag Polls refl refl
+    go false false true b c d = flag Large refl refl
+    go false false false true c d = keyed Cycles refl refl
+    go false false false false true d = keyed Ops refl refl
+    go false false false false false true = keyed Slack refl refl
+    go false false false false false false = unnamed refl refl
 
 abbrev pub rows_in : Held → List Row
 rows_in h = settled_rows rules h.pending h.rows
@@ -179,6 +181,10 @@ flagging Polls said rows h =
     let now : Said = record said { polls = true } in
     subst (λ (o : Option Said). Used (flag_at Polls) [] o said rows) (once said.polls now)
     (used_at (flag_at Polls) [] AtPolls (codes "true") said now rows h (polls_same said) refl refl (grind arith) refl)
+flagging Large said rows h =
+    let now : Said = record said { large = true } in
+    subst (λ (o : Option Said). Used (flag_at Large) [] o said rows) (once said.large now)
+    (used_at (flag_at Large) [] AtLarge (codes "true") said now rows h (large_same said) refl refl (grind arith) refl)
 
 -- ---- positionals
 
@@ -228,9 +234,9 @@ slot_passes : (id : Text) (i : ℕ) (word : Text) (rows : List Row) → has_row 
     → use_fault false (slot i id) (word ∷ []) rows ≡ []
 slot_passes id i word rows e = ap (λ b. or_else (cond (b && true) (kind.ArgumentConflict ∷ []) []) []) e
 
-module _ (events polls : Bool) (cycles ops slack : Option Text) (t : Bool) (h : Held) (word : Text) where
+module _ (events polls large : Bool) (cycles ops slack : Option Text) (t : Bool) (h : Held) (word : Text) where
   abbrev having : List Text → Said
-  having ps = said_with events polls cycles ops slack ps
+  having ps = said_with events polls large cycles ops slack ps
 
   -- the word is held for a slot for which nothing was said
   held : (k : Slot) (i : ℕ) (said now : Said) → Holds said h → text_said said k ≡ None → text_said now k ≡ Some word → SameBut k said now
@@ -252,17 +258,19 @@ module _ (events polls : Bool) (cycles ops slack : Option Text) (t : Bool) (h : 
   placing [] holds few =
       placed (holding (slot 1 (codes "command")) word h) (fault_is (slot 1 (codes "command")) h refl holds.settles)
       (ap₂ (λ (b : Bool) (x : Held). at idle 2 b x) (or_false t) (holding_is (slot 1 (codes "command")) word h refl))
-      (held AtCommand 1 (having []) (having (word ∷ [])) holds refl refl (first_same events polls cycles ops slack word) refl refl) (omega arith)
+      (held AtCommand 1 (having []) (having (word ∷ [])) holds refl refl (first_same events polls large cycles ops slack word) refl refl)
+      (omega arith)
   placing (a ∷ []) holds few =
       placed (holding (slot 2 (codes "second")) word h) (fault_is (slot 2 (codes "second")) h refl holds.settles)
       (ap₂ (λ (b : Bool) (x : Held). at idle 3 b x) (or_false t) (holding_is (slot 2 (codes "second")) word h refl))
-      (held AtSecond 2 (having (a ∷ [])) (having (a ∷ word ∷ [])) holds refl refl (second_same events polls cycles ops slack a word) refl refl)
+      (held AtSecond 2 (having (a ∷ [])) (having (a ∷ word ∷ [])) holds refl refl
+      (second_same events polls large cycles ops slack a word) refl refl)
       (omega arith)
   placing (a ∷ b ∷ []) holds few =
       placed (holding (slot 3 (codes "third")) word h) (fault_is (slot 3 (codes "third")) h refl holds.settles)
       (ap₂ (λ (b : Bool) (x : Held). at idle 4 b x) (or_false t) (holding_is (slot 3 (codes "third")) word h refl))
       (held AtThird 3 (having (a ∷ b ∷ [])) (having (a ∷ b ∷ word ∷ [])) holds refl refl
-      (third_same events polls cycles ops slack a b word) refl refl)
+      (third_same events polls large cycles ops slack a b word) refl refl)
       (omega arith)
   placing (a ∷ b ∷ c ∷ []) holds few = stray (λ e. some_kind _ _ e) (omega arith)
   placing (a ∷ b ∷ c ∷ d ∷ rest) holds few = absurd (omega arith)

@@ -4,6 +4,9 @@ use Rattle.std.specs.Prelude.{Option, Some, None, Result, Ok, Err, codes, if◌t
 use Rattle.std.specs.Prelude.{IfSome, is_some, nat_le, option_and_then, option_map}
 use Rattle.std.specs.List.{after_first, before_first, list_any}
 use Rattle.std.specs.Str.{bytes_eq}
+use Rattle.flow_design.specs.Limits.{limits_at}
+use Rattle.flow_design.specs.declared.limits.Scale.{Scale}
+use Rattle.flow_design.specs.declared.limits.Scale.TheVariants as scales
 use Rattle.flow_word.specs.Number.{number_of}
 use Rattle.flow_word.specs.declared.number.NumberFault.{NumberFault}
 use Rattle.cli_words.specs.declared.Command.{Command}
@@ -27,6 +30,7 @@ Text = List ℕ
 pub data Flag : Type 0 where
   Events : Flag
   Polls : Flag
+  Large : Flag
 
 -- the options that take a value
 pub data Key : Type 0 where
@@ -38,7 +42,7 @@ pub data Key : Type 0 where
 pub data Word : Type 0 where
   -- `--`
   End : Word
-  -- `--events` or `--polls`
+  -- `--events`, `--polls` or `--large`
   Lone : Flag → Word
   -- `--cycles`, `--ops` or `--slack`, which take the next word
   Takes : Key → Word
@@ -77,6 +81,7 @@ abbrev pub option_named : Text → Option Text → Word
 option_named name value =
     if bytes_eq (codes "--events") name then without_value Events value
     else if bytes_eq (codes "--polls") name then without_value Polls value
+    else if bytes_eq (codes "--large") name then without_value Large value
     else if bytes_eq (codes "--cycles") name then with_value Cycles value
     else if bytes_eq (codes "--ops") name then with_value Ops value
     else if bytes_eq (codes "--slack") name then with_value Slack value
@@ -95,6 +100,7 @@ word_of word =
 pub record Said : Type 0 where
   pub events : Bool
   pub polls : Bool
+  pub large : Bool
   pub cycles : Option Text
   pub ops : Option Text
   pub slack : Option Text
@@ -102,12 +108,13 @@ pub record Said : Type 0 where
 
 -- before the first word
 abbrev pub nothing : Said
-nothing = record { events = false; polls = false; cycles = None; ops = None; slack = None; positionals = [] }
+nothing = record { events = false; polls = false; large = false; cycles = None; ops = None; slack = None; positionals = [] }
 
--- `--events` and `--polls` occur at most once
+-- `--events`, `--polls` and `--large` occur at most once
 abbrev pub with_flag : Flag → Said → Option Said
 with_flag Events said = if said.events then None else Some (record said { events = true })
 with_flag Polls said = if said.polls then None else Some (record said { polls = true })
+with_flag Large said = if said.large then None else Some (record said { large = true })
 
 -- so do `--cycles`, `--ops` and `--slack`
 abbrev pub with_option : Key → Text → Said → Option Said
@@ -189,11 +196,19 @@ abbrev pub no_more : {T : Type 0} → List Text → Option T → Option T
 no_more [] found = found
 no_more (word ∷ words) found = None
 
--- an option is given
+-- `--large` chooses the limits that the session keeps
+abbrev pub scale_of : Said → Scale
+scale_of said = if said.large then scales.Large else scales.Standard
+
+-- the command that asks for this task
+abbrev pub asked : Said → Task → Command
+asked said task = Of (record { scale = scale_of said; task = task })
+
+-- another option is given
 abbrev pub has_options : Said → Bool
 has_options said = said.events || (said.polls || (is_some said.cycles || (is_some said.ops || is_some said.slack)))
 
--- no option
+-- no option but `--large`
 abbrev pub without_option : {T : Type 0} → Said → Option T → Option T
 without_option said found = if has_options said then None else found
 
@@ -202,14 +217,14 @@ abbrev pub both : {A B C : Type 0} → (A → B → C) → Option A → Option B
 both f None b = None
 both f (Some x) b = option_map (f x) b
 
--- the options, with a cycle limit of 1 to 10^15 and an operation limit of 1 to 200,000
+-- the options, with a cycle limit of 1 to 10^15 and an operation limit of 1 to that of the scale
 abbrev pub options_of : Said → Option Options
 options_of said = both (λ cycles ops. record {
   events = said.events;
   polls = said.polls;
   cycles = cycles;
   ops = ops;
-}) (limit_in (10 ^ 15) said.cycles) (limit_in 200_000 said.ops)
+}) (limit_in (10 ^ 15) said.cycles) (limit_in (limits_at (scale_of said)).counted_operations said.ops)
 
 -- nothing where an option is given that the command does not take
 abbrev pub if_taken : {T : Type 0} → Bool → Bool → Option T → Option T
@@ -245,7 +260,7 @@ range_in lo hi = option_and_then (λ l. option_map (λ h. (l, h)) (number_in l 6
 abbrev pub sweep_of : Said → List Text → Option Command
 sweep_of said (lo ∷ hi ∷ []) =
     if_taken false said.events (if_taken false said.polls (if_taken false (is_some said.slack)
-    (both (λ range o. Of (Sweep range.0 range.1 o)) (range_in lo hi) (options_of said))))
+    (both (λ range o. asked said (Sweep range.0 range.1 o)) (range_in lo hi) (options_of said))))
 sweep_of said _ = None
 
 -- the value of `--slack`, of 0 to 10^15, and 0 where it is not given
@@ -257,17 +272,17 @@ slack_in (Some text) = number_in 0 (10 ^ 15) text
 abbrev pub with_slack : (ℕ → Options → Task) → Said → List Text → Option Command
 with_slack task said rest =
     if_taken false said.events (if_taken false said.polls
-    (no_more rest (both (λ slack o. Of (task slack o)) (slack_in said.slack) (options_of said))))
+    (no_more rest (both (λ slack o. asked said (task slack o)) (slack_in said.slack) (options_of said))))
 
 -- the rule of each command, on what was said and on the positionals behind the name
 abbrev pub command_named : Said → List Text → CommandName → Option Command
-command_named said rest (name.Simulate by) = option_map (λ o. Of (Simulate by o)) (options_alone true false said rest)
-command_named said rest name.Check = without_option said (no_more rest (Some (Of Check)))
-command_named said rest name.Gen = without_option said (gen_of rest)
-command_named said rest name.Advise = option_map (λ o. Of (Advise o)) (options_alone false false said rest)
+command_named said rest (name.Simulate by) = option_map (λ o. asked said (Simulate by o)) (options_alone true false said rest)
+command_named said rest name.Check = without_option said (no_more rest (Some (asked said Check)))
+command_named said rest name.Gen = if_taken false said.large (without_option said (gen_of rest))
+command_named said rest name.Advise = option_map (λ o. asked said (Advise o)) (options_alone false false said rest)
 command_named said rest (name.Show view) =
-    option_map (λ o. Of (Show view o)) (options_alone (tells_events view) (tells_polls view) said rest)
-command_named said rest name.Order = without_option said (no_more rest (Some (Of Order)))
+    option_map (λ o. asked said (Show view o)) (options_alone (tells_events view) (tells_polls view) said rest)
+command_named said rest name.Order = without_option said (no_more rest (Some (asked said Order)))
 command_named said rest name.Sweep = sweep_of said rest
 command_named said rest name.Size = with_slack Size said rest
 command_named said rest name.Least = with_slack Least said rest
@@ -294,21 +309,21 @@ abbrev pub IsLimit : ℕ → Option ℕ → Type 0
 IsLimit high limit = IfSome limit (λ n. (1 ≤ n) × (n ≤ high))
 
 -- the limits that the options give
-abbrev pub AreLimits : Options → Type 0
-AreLimits options = IsLimit (10 ^ 15) options.cycles × IsLimit 200_000 options.ops
+abbrev pub AreLimits : Scale → Options → Type 0
+AreLimits scale options = IsLimit (10 ^ 15) options.cycles × IsLimit (limits_at scale).counted_operations options.ops
 
 -- the numbers of a task are within their bounds
-abbrev pub IsSound : Task → Type 0
-IsSound (Simulate by options) = AreLimits options
-IsSound Check = Unit {0}
-IsSound (Advise options) = AreLimits options
-IsSound (Show view options) = AreLimits options
-IsSound Order = Unit {0}
-IsSound (Sweep lo hi options) = (1 ≤ lo) × (lo ≤ hi) × (hi ≤ 64) × AreLimits options
-IsSound (Size slack options) = (slack ≤ 10 ^ 15) × AreLimits options
-IsSound (Least slack options) = (slack ≤ 10 ^ 15) × AreLimits options
+abbrev pub IsSound : Scale → Task → Type 0
+IsSound scale (Simulate by options) = AreLimits scale options
+IsSound scale Check = Unit {0}
+IsSound scale (Advise options) = AreLimits scale options
+IsSound scale (Show view options) = AreLimits scale options
+IsSound scale Order = Unit {0}
+IsSound scale (Sweep lo hi options) = (1 ≤ lo) × (lo ≤ hi) × (hi ≤ 64) × AreLimits scale options
+IsSound scale (Size slack options) = (slack ≤ 10 ^ 15) × AreLimits scale options
+IsSound scale (Least slack options) = (slack ≤ 10 ^ 15) × AreLimits scale options
 
 -- the numbers of a command are within their bounds
 abbrev pub IsInRange : Command → Type 0
-IsInRange (Of task) = IsSound task
+IsInRange (Of asked) = IsSound asked.scale asked.task
 IsInRange (Gen seed modules) = (seed ≤ 65_535) × (1 ≤ modules) × (modules ≤ 64)

@@ -30,6 +30,7 @@ abbrev pub said_of : Given → Said
 said_of g = record {
   events = g.events;
   polls = g.polls;
+  large = g.large;
   cycles = text_of g.cycles;
   ops = text_of g.ops;
   slack = text_of g.slack;

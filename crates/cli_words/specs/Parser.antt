@@ -11,12 +11,15 @@ flag_rule name = record (new_rule name) { long = Some name; action = Some SetTru
 abbrev pub option_rule : Text → Rule
 option_rule name = record (new_rule name) { long = Some name }
 
--- the five options
+-- the six options
 abbrev pub events_rule : Rule
 events_rule = flag_rule (codes "events")
 
 abbrev pub polls_rule : Rule
 polls_rule = flag_rule (codes "polls")
+
+abbrev pub large_rule : Rule
+large_rule = flag_rule (codes "large")
 
 abbrev pub cycles_rule : Rule
 cycles_rule = option_rule (codes "cycles")
@@ -38,9 +41,9 @@ bare_parser = let a = new_app (codes "omnisim") in record {
   subs = [];
 }
 
--- five options and three positionals
+-- six options and three positionals
 abbrev pub parser : App
 parser =
-    with_rule (with_rule (with_rule (with_rule (with_rule (with_rule (with_rule (with_rule bare_parser events_rule) polls_rule)
-    cycles_rule) ops_rule) slack_rule) (new_rule (codes "command"))) (new_rule (codes "second")))
+    with_rule (with_rule (with_rule (with_rule (with_rule (with_rule (with_rule (with_rule (with_rule bare_parser events_rule) polls_rule)
+    large_rule) cycles_rule) ops_rule) slack_rule) (new_rule (codes "command"))) (new_rule (codes "second")))
     (new_rule (codes "third"))

@@ -7,6 +7,7 @@ ghost use Rattle.cli_words.specs.CommandWords.{accepted, IsInRange};
 mod parser;
 mod rules;
 
+use flow_design::limits::Scale;
 use std::alloc::Global;
 use thiserror::Error;
 
@@ -19,7 +20,7 @@ pub struct Options {
     pub polls: bool,
     /// The cycle limit, in clocks, in place of the session's.
     pub cycles: Option<u64>,
-    /// The operation limit, in place of the session's.
+    /// The operation limit, in place of the session's. It is within the limits of the scale.
     pub ops: Option<u64>,
 }
 
@@ -70,11 +71,20 @@ pub enum Task {
     Least { slack: u64, options: Options },
 }
 
+/// What is asked of a session.
+#[derive(Clone, Copy, Debug, PartialEq, Eq)]
+pub struct Asked {
+    /// Which limits the session keeps.
+    pub scale: Scale,
+    /// What is to be made of it.
+    pub task: Task,
+}
+
 /// What the words ask for.
 #[derive(Clone, Copy, Debug, PartialEq, Eq)]
 pub enum Command {
-    /// Make this of the session that is read.
-    Of(Task),
+    /// This of the session that is read.
+    Of(Asked),
     /// Simulate the session made from this seed, with so many modules.
     Gen { seed: u64, modules: u64 },
 }

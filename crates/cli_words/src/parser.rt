@@ -14,6 +14,7 @@ use std::alloc::Global;
 pub struct Given<'a> {
     pub events: bool,
     pub polls: bool,
+    pub large: bool,
     pub cycles: Option<&'a str>,
     pub ops: Option<&'a str>,
     pub slack: Option<&'a str>,
@@ -30,6 +31,7 @@ pub fn parse<'a>(alloc: Global, words: &'a [String]) -> Result<Given<'a>, WordFa
         Ok(matches) => Ok(Given {
             events: matches.get_flag("events"),
             polls: matches.get_flag("polls"),
+            large: matches.get_flag("large"),
             cycles: matches.get_str("cycles"),
             ops: matches.get_str("ops"),
             slack: matches.get_str("slack"),
@@ -41,7 +43,7 @@ pub fn parse<'a>(alloc: Global, words: &'a [String]) -> Result<Given<'a>, WordFa
     }
 }
 
-/// The words, read as five options and at most three positionals.
+/// The words, read as six options and at most three positionals.
 fn matches<'a>(alloc: Global, words: &'a [String]) -> Result<ArgMatches<'a>, clap::Error>
     ensures fails { FailsBy (fault_of parser (map string_bytes words.entry.now)) result }
     ensures rows { IfOk result (λ m. rows_of (found_of m)
@@ -50,6 +52,7 @@ fn matches<'a>(alloc: Global, words: &'a [String]) -> Result<ArgMatches<'a>, cla
     let parser = bare_parser(alloc)
         .arg(flag(alloc, "events"))?
         .arg(flag(alloc, "polls"))?
+        .arg(flag(alloc, "large"))?
         .arg(option(alloc, "cycles"))?
         .arg(option(alloc, "ops"))?
         .arg(option(alloc, "slack"))?

@@ -1,18 +1,17 @@
 //! The rules on commands: which options and positionals each one takes.
 ghost use Rattle.std.specs.Prelude.{◌≡◌, ◌≤◌, ◌^◌, ℕ, IfSome, Some, option_map};
-ghost use Rattle.cli_words.specs.CommandWords.{AreLimits, IsInRange, IsLimit};
+ghost use Rattle.cli_words.specs.CommandWords.{AreLimits, asked, IsInRange, IsLimit};
 ghost use Rattle.cli_words.specs.CommandWords.{command_of, gen_of, has_options, limit_in, name_of, no_more};
 ghost use Rattle.cli_words.specs.CommandWords.{number_in, options_alone, options_of, slack_in, sweep_of, tells_events};
-ghost use Rattle.cli_words.specs.CommandWords.{tells_polls, with_slack, without_option};
+ghost use Rattle.cli_words.specs.CommandWords.{scale_of, tells_polls, with_slack, without_option};
 ghost use Rattle.cli_words.specs.Given.{rest_of, said_of, text_of};
 
 use crate::parser::Given;
-use crate::{Command, Options, Simulator, Task, View};
+use crate::{Asked, Command, Options, Simulator, Task, View};
+use flow_design::limits::Scale;
 use flow_word::read_number;
 
 const MOST_CYCLES: u64 = 1_000_000_000_000_000;
-
-const MOST_OPERATIONS: u64 = 200_000;
 
 const MOST_SLACK: u64 = 1_000_000_000_000_000;
 
@@ -44,28 +43,28 @@ pub fn command_of(given: &Given<'_>) -> Option<Command>
     match name_of(given.command?)? {
         CommandName::Simulate(by) => {
             let options = options_alone(given, true, false)?;
-            Some(Command::Of(Task::Simulate(by, options)))
+            Some(asked(given, Task::Simulate(by, options)))
         }
         CommandName::Check => bare(given, Task::Check),
-        CommandName::Gen if has_options(given) => None,
+        CommandName::Gen if given.large || has_options(given) => None,
         CommandName::Gen => gen_of(given),
         CommandName::Advise => {
             let options = options_alone(given, false, false)?;
-            Some(Command::Of(Task::Advise(options)))
+            Some(asked(given, Task::Advise(options)))
         }
         CommandName::Show(view) => {
             let options = options_alone(given, tells_events(view), tells_polls(view))?;
-            Some(Command::Of(Task::Show(view, options)))
+            Some(asked(given, Task::Show(view, options)))
         }
         CommandName::Order => bare(given, Task::Order),
         CommandName::Sweep => sweep_of(given),
         CommandName::Size => {
             let (slack, options) = with_slack(given)?;
-            Some(Command::Of(Task::Size { slack, options }))
+            Some(asked(given, Task::Size { slack, options }))
         }
         CommandName::Least => {
             let (slack, options) = with_slack(given)?;
-            Some(Command::Of(Task::Least { slack, options }))
+            Some(asked(given, Task::Least { slack, options }))
         }
     }
 }
@@ -93,6 +92,28 @@ fn name_of(word: &str) -> Option<CommandName>
     }
 }
 
+/// Which limits the session keeps.
+fn scale_of(given: &Given<'_>) -> Scale
+    ensures { result ≡ scale_of (said_of given.now) }
+{
+    if given.large {
+        Scale::Large
+    } else {
+        Scale::Standard
+    }
+}
+
+/// The command that asks for this task.
+fn asked(given: &Given<'_>, task: Task) -> Command
+    ensures { result ≡ asked (said_of given.now) task }
+{
+    Command::Of(Asked {
+        scale: scale_of(given),
+        task,
+    })
+}
+
+/// Whether an option is given that some commands take.
 fn has_options(given: &Given<'_>) -> bool
     ensures { result ≡ has_options (said_of given.now) }
 {
@@ -103,21 +124,22 @@ fn has_options(given: &Given<'_>) -> bool
         || given.slack.is_some()
 }
 
-/// A task of a command that takes no option and no further positional.
+/// A task of a command that takes `--large` alone, and no further positional.
 fn bare(given: &Given<'_>, task: Task) -> Option<Command>
-    ensures command { result ≡ without_option (said_of given.now) (no_more (rest_of given.now) (Some (Command.Of task))) }
-    ensures same { IfSome result (λ found. found ≡ Command.Of task) }
+    ensures command { result ≡ without_option (said_of given.now) (no_more (rest_of given.now)
+        (Some (asked (said_of given.now) task))) }
+    ensures same { IfSome result (λ found. found ≡ asked (said_of given.now) task) }
 {
     if has_options(given) || given.second.is_some() {
         return None;
     }
-    Some(Command::Of(task))
+    Some(asked(given, task))
 }
 
 /// The options of a command without further positionals, by whether it takes `--events` and `--polls`.
 fn options_alone(given: &Given<'_>, takes_events: bool, takes_polls: bool) -> Option<Options>
     ensures options { result ≡ options_alone takes_events takes_polls (said_of given.now) (rest_of given.now) }
-    ensures range { IfSome result AreLimits }
+    ensures range { IfSome result (AreLimits (scale_of (said_of given.now))) }
 {
     let untaken = given.events && !takes_events || given.polls && !takes_polls;
     if given.second.is_some() || untaken || given.slack.is_some() {
@@ -140,16 +162,16 @@ fn tells_polls(view: View) -> bool
     matches!(view, View::Stalls | View::Path)
 }
 
-/// The options, each in its bounds.
+/// The options, each in its bounds: those of the operation limit are the scale's.
 fn options_of(given: &Given<'_>) -> Option<Options>
     ensures options { result ≡ options_of (said_of given.now) }
-    ensures range { IfSome result AreLimits }
+    ensures range { IfSome result (AreLimits (scale_of (said_of given.now))) }
 {
     Some(Options {
         events: given.events,
         polls: given.polls,
         cycles: limit(MOST_CYCLES, given.cycles)?,
-        ops: limit(MOST_OPERATIONS, given.ops)?,
+        ops: limit(scale_of(given).limits().counted_operations, given.ops)?,
     })
 }
 
@@ -185,14 +207,14 @@ fn sweep_of(given: &Given<'_>) -> Option<Command>
     let lo = number(1, MOST_SWEPT, given.second?)?;
     let hi = number(lo, MOST_SWEPT, given.third?)?;
     let options = options_of(given)?;
-    Some(Command::Of(Task::Sweep { lo, hi, options }))
+    Some(asked(given, Task::Sweep { lo, hi, options }))
 }
 
 /// How much later the end may be, and the limits.
 fn with_slack(given: &Given<'_>) -> Option<(u64, Options)>
     ensures command { (task : ℕ → Options → Task) → with_slack task (said_of given.now) (rest_of given.now)
-        ≡ option_map (λ found. Command.Of (task found.0 found.1)) result }
-    ensures range { IfSome result (λ found. (found.0 ≤ 10 ^ 15) × AreLimits found.1) }
+        ≡ option_map (λ found. asked (said_of given.now) (task found.0 found.1)) result }
+    ensures range { IfSome result (λ found. (found.0 ≤ 10 ^ 15) × AreLimits (scale_of (said_of given.now)) found.1) }
 {
     if given.events || given.polls || given.second.is_some() {
         return None;

@@ -8,6 +8,7 @@ ghost use Rattle.sim_core.specs.Drives.{AreOwn};
 
 use flow_check::check;
 use flow_design::Edit;
+use flow_design::limits::Scale;
 use flow_grammar::keeps_rules;
 use flow_text::read_session;
 use flow_word::Steps;
@@ -113,8 +114,8 @@ fn moved_from<R: AllocGlobal + Abort>(
     touched: u64,
 ) -> Result<usize, Fail> {
     keeps_rules();
-    let (session, lines) = read_session(rt.alloc(), text)?;
-    let checked = check(rt.alloc(), &session, &lines)?;
+    let (session, lines) = read_session(rt.alloc(), Scale::Standard, text)?;
+    let checked = check(rt.alloc(), Scale::Standard, &session, &lines)?;
     let edits = checked.edits.as_slice();
     assert!(rt; number < edits.len());
     let edit = edits[number];

@@ -10,6 +10,7 @@ ghost use Rattle.core_tests.specs.Ticks.{others_of, HasTicked};
 
 use flow_check::check;
 use flow_design::Edit;
+use flow_design::limits::Scale;
 use flow_grammar::keeps_rules;
 use flow_text::read_session;
 use flow_word::{OutOfMemory, Steps};
@@ -109,8 +110,8 @@ fn count_edit<L: Ledger, R: AllocGlobal + Abort>(
 /// Of how many steps an edit of a session changes the cycle.
 fn moved_by<R: AllocGlobal + Abort>(rt: &R, text: &[u8], number: usize) -> Result<usize, Fail> {
     keeps_rules();
-    let (session, lines) = read_session(rt.alloc(), text)?;
-    let checked = check(rt.alloc(), &session, &lines)?;
+    let (session, lines) = read_session(rt.alloc(), Scale::Standard, text)?;
+    let checked = check(rt.alloc(), Scale::Standard, &session, &lines)?;
     let edits = checked.edits.as_slice();
     assert!(rt; number < edits.len());
     let edit = edits[number];

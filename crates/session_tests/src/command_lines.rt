@@ -1,5 +1,6 @@
 //! Lines of the command with their words.
-use cli_words::{Command, Options, Simulator, Task, View, WordFault, read_words};
+use cli_words::{Asked, Command, Options, Simulator, Task, View, WordFault, read_words};
+use flow_design::limits::Scale;
 use std::alloc::Global;
 use std::test::Fail;
 
@@ -10,9 +11,21 @@ const NOTHING: Options = Options {
     ops: None,
 };
 
+/// A task without `--large`.
+fn of(task: Task) -> Command {
+    let scale = Scale::Standard;
+    Command::Of(Asked { scale, task })
+}
+
+/// A task with `--large`.
+fn of_large(task: Task) -> Command {
+    let scale = Scale::Large;
+    Command::Of(Asked { scale, task })
+}
+
 /// `size` with so many clocks to spare.
 fn size(slack: u64, options: Options) -> Command {
-    Command::Of(Task::Size { slack, options })
+    of(Task::Size { slack, options })
 }
 
 /// Reads the words of a line, which stand between its single spaces.
@@ -42,36 +55,37 @@ fn accepted_and_refused(rt: HostRuntime) -> Result<(), Fail> {
         cycles: Some(1_000_000_000_000_000),
         ops: Some(200_000),
     };
+    let most = Options {
+        ops: Some(1_000_000_000),
+        ..NOTHING
+    };
     let accepted = [
         (
             "run --cycles=3",
-            Command::Of(Task::Simulate(Simulator::Threads, three)),
+            of(Task::Simulate(Simulator::Threads, three)),
         ),
         (
             "--cycles 003 -- alone",
-            Command::Of(Task::Simulate(Simulator::Alone, three)),
+            of(Task::Simulate(Simulator::Alone, three)),
         ),
         (
             "--ops 200000 clock --events --cycles=1000000000000000",
-            Command::Of(Task::Simulate(Simulator::Clock, all)),
+            of(Task::Simulate(Simulator::Clock, all)),
         ),
-        ("check", Command::Of(Task::Check)),
-        ("advise", Command::Of(Task::Advise(NOTHING))),
-        (
-            "wave --cycles 3",
-            Command::Of(Task::Show(View::Wave, three)),
-        ),
-        ("log", Command::Of(Task::Show(View::Log, NOTHING))),
-        ("stalls", Command::Of(Task::Show(View::Stalls, NOTHING))),
+        ("check", of(Task::Check)),
+        ("advise", of(Task::Advise(NOTHING))),
+        ("wave --cycles 3", of(Task::Show(View::Wave, three))),
+        ("log", of(Task::Show(View::Log, NOTHING))),
+        ("stalls", of(Task::Show(View::Stalls, NOTHING))),
         (
             "--polls stalls --cycles 3",
-            Command::Of(Task::Show(View::Stalls, polled)),
+            of(Task::Show(View::Stalls, polled)),
         ),
         (
             "path --events --ops=200000 --cycles 1000000000000000",
-            Command::Of(Task::Show(View::Path, all)),
+            of(Task::Show(View::Path, all)),
         ),
-        ("trace", Command::Of(Task::Show(View::Trace, NOTHING))),
+        ("trace", of(Task::Show(View::Trace, NOTHING))),
         ("size --cycles 3", size(0, three)),
         ("size --slack 0 --cycles=3", size(0, three)),
         (
@@ -80,7 +94,7 @@ fn accepted_and_refused(rt: HostRuntime) -> Result<(), Fail> {
         ),
         (
             "least --ops=200000",
-            Command::Of(Task::Least {
+            of(Task::Least {
                 slack: 0,
                 options: Options {
                     ops: Some(200_000),
@@ -90,21 +104,27 @@ fn accepted_and_refused(rt: HostRuntime) -> Result<(), Fail> {
         ),
         (
             "--slack=4 least",
-            Command::Of(Task::Least {
+            of(Task::Least {
                 slack: 4,
                 options: NOTHING,
             }),
         ),
-        ("order", Command::Of(Task::Order)),
+        ("order", of(Task::Order)),
         (
             "sweep 01 --cycles=3 64",
-            Command::Of(Task::Sweep {
+            of(Task::Sweep {
                 lo: 1,
                 hi: 64,
                 options: three,
             }),
         ),
-        ("check --", Command::Of(Task::Check)),
+        ("check --", of(Task::Check)),
+        ("check --large", of_large(Task::Check)),
+        ("--large order", of_large(Task::Order)),
+        (
+            "--ops=1000000000 alone --large",
+            of_large(Task::Simulate(Simulator::Alone, most)),
+        ),
         (
             "gen 0 2",
             Command::Gen {
@@ -136,6 +156,10 @@ fn accepted_and_refused(rt: HostRuntime) -> Result<(), Fail> {
         "run --cycles=1000000000000001",
         "run --cycles=18446744073709551617",
         "run --ops 200001",
+        "run --ops 1000000001 --large",
+        "run --large --large",
+        "run --large=1",
+        "gen 1 1 --large",
         "run --ops -1",
         "run --ops -",
         "run --ops",

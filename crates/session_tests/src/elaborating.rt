@@ -1,4 +1,5 @@
 //! Inputs, depths and an edit; and a plan's copy.
+use flow_design::limits::Scale;
 use flow_design::{Edit, copy_plan};
 use flow_text::read_session;
 use session_plan::elaborate;
@@ -18,8 +19,8 @@ end
 
 #[test]
 fn names_become_numbers(rt: HostRuntime) -> Result<(), Fail> {
-    let (session, _) = read_session(rt.alloc(), EDITED)?;
-    let checked = elaborate(rt.alloc(), session.statements.as_slice())?;
+    let (session, _) = read_session(rt.alloc(), Scale::Standard, EDITED)?;
+    let checked = elaborate(rt.alloc(), Scale::Standard, session.statements.as_slice())?;
     let edit = Edit {
         channel: 1,
         depth: 2,

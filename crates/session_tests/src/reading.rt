@@ -3,13 +3,14 @@ mod names;
 mod order;
 
 use flow_design::Statement;
+use flow_design::limits::Scale;
 use flow_text::{ReadFail, TextFault, read_session};
 use std::alloc::Global;
 use std::test::Fail;
 
 /// The line and the number of the code of a text's fault, or two zeros where it has none.
 fn fault(alloc: Global, text: &[u8]) -> Result<(u64, u64), ReadFail> {
-    match read_session(alloc, text) {
+    match read_session(alloc, Scale::Standard, text) {
         Ok(_) => Ok((0, 0)),
         Err(ReadFail::Text(TextFault { line, code })) => Ok((line, code as u64)),
         Err(fail) => Err(fail),
@@ -25,7 +26,7 @@ fn fault_of(alloc: Global, lines: &str) -> Result<(u64, u64), Fail> {
 #[test]
 fn plain_case(rt: HostRuntime) -> Result<(), Fail> {
     let text = b" flow\t01\r\n\n# note\nfifo b 064 # small\ndepth b 3\nend";
-    let (session, lines) = read_session(rt.alloc(), text)?;
+    let (session, lines) = read_session(rt.alloc(), Scale::Standard, text)?;
     assert_eq!(rt; lines.as_slice(), [1, 4, 5, 6].as_slice());
     let short = matches!(
         session.statements.as_slice(),

@@ -15,7 +15,7 @@ use Rattle.flow_grammar.specs.Text.{Said, StandsFor, HasFault}
 use Rattle.flow_check.specs.Checked.{fault_of}
 use Rattle.cli_words.specs.declared.Command.{Command}
 use Rattle.cli_words.specs.declared.Command.TheVariants.{Of, Gen}
-use Rattle.cli_words.specs.declared.Task.{Task}
+use Rattle.cli_words.specs.declared.Asked.{Asked}
 use Rattle.whole_answer.specs.declared.answer.Answer.{Answer}
 use Rattle.whole_answer.specs.Made.{refused_words, refused, made, generated}
 use Rattle.whole_answer.specs.Answer.{AnswersSession, AnswersText, AnswersCommand, IsRest, Begins}
@@ -25,39 +25,40 @@ use Rattle.whole_answer.specs.Answer.AnswersText.{misread, read}
 -- ---- the answer to a session
 
 -- by its checking fault
-abbrev answer_by : Option TextFault → Task → List Statement → List ℕ → Answer
-answer_by None task s l = made task s
-answer_by (Some fault) task s l = refused fault
+abbrev answer_by : Option TextFault → Asked → List Statement → List ℕ → Answer
+answer_by None asked s l = made asked.scale asked.task s
+answer_by (Some fault) asked s l = refused fault
 
-pub session_answer : (task : Task) (s : List Statement) (l : List ℕ) → AnswersSession task s l (answer_by (fault_of s l) task s l)
-session_answer task s l = go (fault_of s l) refl
+pub session_answer : (asked : Asked) (s : List Statement) (l : List ℕ)
+    → AnswersSession asked s l (answer_by (fault_of asked.scale s l) asked s l)
+session_answer asked s l = go (fault_of asked.scale s l) refl
   where
-    go : (o : Option TextFault) → fault_of s l ≡ o → AnswersSession task s l (answer_by o task s l)
+    go : (o : Option TextFault) → fault_of asked.scale s l ≡ o → AnswersSession asked s l (answer_by o asked s l)
     go None e = fit e refl
     go (Some fault) e = misfit fault e refl
 
-pub session_only : (task : Task) (s : List Statement) (l : List ℕ) (a : Answer) → AnswersSession task s l a
-    → a ≡ answer_by (fault_of s l) task s l
-session_only task s l a (misfit fault e h) = rw e h
-session_only task s l a (fit e h) = rw e h
+pub session_only : (asked : Asked) (s : List Statement) (l : List ℕ) (a : Answer) → AnswersSession asked s l a
+    → a ≡ answer_by (fault_of asked.scale s l) asked s l
+session_only asked s l a (misfit fault e h) = rw e h
+session_only asked s l a (fit e h) = rw e h
 
 -- ---- the answer to a text
 
 -- by what is said of it
-abbrev pub answer_to : Result (List Statement × List ℕ) TextFault → Task → Answer
-answer_to (Ok r) task = answer_by (fault_of r.0 r.1) task r.0 r.1
-answer_to (Err fault) task = refused fault
+abbrev pub answer_to : Result (List Statement × List ℕ) TextFault → Asked → Answer
+answer_to (Ok r) asked = answer_by (fault_of asked.scale r.0 r.1) asked r.0 r.1
+answer_to (Err fault) asked = refused fault
 
-pub text_answer : (task : Task) (text : List ℕ) (r : Result (List Statement × List ℕ) TextFault) → Said text r
-    → AnswersText task text (answer_to r task)
-text_answer task text (Ok r) said = read r.0 r.1 said (session_answer task r.0 r.1)
-text_answer task text (Err fault) said = misread fault said refl
+pub text_answer : (asked : Asked) (text : List ℕ) (r : Result (List Statement × List ℕ) TextFault) → Said asked.scale text r
+    → AnswersText asked text (answer_to r asked)
+text_answer asked text (Ok r) said = read r.0 r.1 said (session_answer asked r.0 r.1)
+text_answer asked text (Err fault) said = misread fault said refl
 
-pub text_only : (task : Task) (text : List ℕ) (r : Result (List Statement × List ℕ) TextFault)
-    → ((x : Result (List Statement × List ℕ) TextFault) → Said text x → x ≡ r)
-    → (a : Answer) → AnswersText task text a → a ≡ answer_to r task
-text_only task text r only a (misread fault said h) = subst (λ x. a ≡ answer_to x task) (only (Err fault) said) h
-text_only task text r only a (read s l said h) = subst (λ x. a ≡ answer_to x task) (only (Ok (s, l)) said) (session_only task s l a h)
+pub text_only : (asked : Asked) (text : List ℕ) (r : Result (List Statement × List ℕ) TextFault)
+    → ((x : Result (List Statement × List ℕ) TextFault) → Said asked.scale text x → x ≡ r)
+    → (a : Answer) → AnswersText asked text a → a ≡ answer_to r asked
+text_only asked text r only a (misread fault said h) = subst (λ x. a ≡ answer_to x asked) (only (Err fault) said) h
+text_only asked text r only a (read s l said h) = subst (λ x. a ≡ answer_to x asked) (only (Ok (s, l)) said) (session_only asked s l a h)
 
 -- ---- what the code makes
 
@@ -101,14 +102,15 @@ begins_as_err IsIt old new e r f b =
     record { whole = b.whole; is_it = b.is_it; rest = IfOk-from_err r _ f; prefix = on_err r b.prefix }
 
 -- what is made of a session answers the text that stands for it
-pub made_text : (task : Task) (text : List ℕ) (s : List Statement) (l : List ℕ) → StandsFor text s l → fault_of s l ≡ None
-    → AnswersText task text (made task s)
-made_text task text s l stands e = read s l stands (fit e refl)
+pub made_text : (asked : Asked) (text : List ℕ) (s : List Statement) (l : List ℕ) → StandsFor asked.scale text s l
+    → fault_of asked.scale s l ≡ None
+    → AnswersText asked text (made asked.scale asked.task s)
+made_text asked text s l stands e = read s l stands (fit e refl)
 
 -- and so does a refusal with its checking fault
-pub refused_session : (task : Task) (text : List ℕ) (s : List Statement) (l : List ℕ) (fault : TextFault) → StandsFor text s l
-    → fault_of s l ≡ Some fault → AnswersText task text (refused fault)
-refused_session task text s l fault stands e = read s l stands (misfit fault e refl)
+pub refused_session : (asked : Asked) (text : List ℕ) (s : List Statement) (l : List ℕ) (fault : TextFault) → StandsFor asked.scale text s l
+    → fault_of asked.scale s l ≡ Some fault → AnswersText asked text (refused fault)
+refused_session asked text s l fault stands e = read s l stands (misfit fault e refl)
 
 -- ---- what was read
 
@@ -140,14 +142,14 @@ of_long P (Some x) (Some y) n c h = h x (omega (arith, ap length c.consumed, len
 
 -- ---- the answer to a command
 
-pub command_some : ((task : Task) (text : List ℕ) → (a : Answer) × AnswersText task text a)
+pub command_some : ((asked : Asked) (text : List ℕ) → (a : Answer) × AnswersText asked text a)
     → (command : Option Command) (bytes : List ℕ) → (a : Answer) × AnswersCommand command bytes a
 command_some some None bytes = (refused_words, refl)
-command_some some (Some (Of task)) bytes = some task bytes
+command_some some (Some (Of asked)) bytes = some asked bytes
 command_some some (Some (Gen seed modules)) bytes = (generated seed modules, refl)
 
-pub command_only : ((task : Task) (text : List ℕ) (a b : Answer) → AnswersText task text a → AnswersText task text b → a ≡ b)
+pub command_only : ((asked : Asked) (text : List ℕ) (a b : Answer) → AnswersText asked text a → AnswersText asked text b → a ≡ b)
     → (command : Option Command) (bytes : List ℕ) (a b : Answer) → AnswersCommand command bytes a → AnswersCommand command bytes b → a ≡ b
 command_only only None bytes a b p q = p ∙ sym q
-command_only only (Some (Of task)) bytes a b p q = only task bytes a b p q
+command_only only (Some (Of asked)) bytes a b p q = only asked bytes a b p q
 command_only only (Some (Gen seed modules)) bytes a b p q = p ∙ sym q

@@ -8,9 +8,9 @@ use Rattle.flow_grammar.specs.declared.fault.TextFault.{TextFault}
 use Rattle.flow_grammar.specs.Text.{StandsFor, HasFault}
 use Rattle.flow_check.specs.Checked.{fault_of}
 use Rattle.cli_words.specs.CommandWords.{accepted}
+use Rattle.cli_words.specs.declared.Asked.{Asked}
 use Rattle.cli_words.specs.declared.Command.{Command}
 use Rattle.cli_words.specs.declared.Command.TheVariants.{Of, Gen}
-use Rattle.cli_words.specs.declared.Task.{Task}
 use Rattle.whole_answer.specs.declared.answer.Answer.{Answer}
 use Rattle.whole_answer.specs.Made.{refused_words, refused, made, generated}
 use Rattle.whole_answer.specs.declared.status.Status.{Status}
@@ -18,28 +18,29 @@ use Rattle.whole_answer.specs.declared.status.Status.TheVariants.{ReadFault, Wri
 
 -- ---- a session, and a text
 
--- the answer to a session that was read
-pub data AnswersSession (task : Task) (statements : List Statement) (lines : List ℕ) (answer : Answer) : Type 0 where
+-- the answer to a session that was read at the scale that is asked for
+pub data AnswersSession (asked : Asked) (statements : List Statement) (lines : List ℕ) (answer : Answer) : Type 0 where
   -- it has a checking fault, and is refused with it
-  misfit : (fault : TextFault) → fault_of statements lines ≡ Some fault → answer ≡ refused fault
-      → AnswersSession task statements lines answer
+  misfit : (fault : TextFault) → fault_of asked.scale statements lines ≡ Some fault → answer ≡ refused fault
+      → AnswersSession asked statements lines answer
   -- it has none
-  fit : fault_of statements lines ≡ None → answer ≡ made task statements → AnswersSession task statements lines answer
+  fit : fault_of asked.scale statements lines ≡ None → answer ≡ made asked.scale asked.task statements
+      → AnswersSession asked statements lines answer
 
--- the answer to a text
-pub data AnswersText (task : Task) (text : List ℕ) (answer : Answer) : Type 0 where
+-- the answer to a text, which is read at that scale
+pub data AnswersText (asked : Asked) (text : List ℕ) (answer : Answer) : Type 0 where
   -- it has a reading fault, and is refused with it
-  misread : (fault : TextFault) → HasFault text fault → answer ≡ refused fault → AnswersText task text answer
+  misread : (fault : TextFault) → HasFault asked.scale text fault → answer ≡ refused fault → AnswersText asked text answer
   -- it stands for a session
-  read : (statements : List Statement) (lines : List ℕ) → StandsFor text statements lines → AnswersSession task statements lines answer
-      → AnswersText task text answer
+  read : (statements : List Statement) (lines : List ℕ) → StandsFor asked.scale text statements lines
+      → AnswersSession asked statements lines answer → AnswersText asked text answer
 
 -- ---- the words
 
 -- the answer to a command, with these bytes as the input
 abbrev pub AnswersCommand : Option Command → List ℕ → Answer → Type 0
 AnswersCommand None bytes answer = answer ≡ refused_words
-AnswersCommand (Some (Of task)) bytes answer = AnswersText task bytes answer
+AnswersCommand (Some (Of asked)) bytes answer = AnswersText asked bytes answer
 -- the session of the seed takes the place of the input
 AnswersCommand (Some (Gen seed modules)) bytes answer = answer ≡ generated seed modules
 
@@ -51,7 +52,7 @@ Answers words = AnswersCommand (accepted words)
 abbrev pub takes_input : Option Command → Bool
 takes_input None = false
 takes_input (Some (Gen seed modules)) = false
-takes_input (Some (Of task)) = true
+takes_input (Some (Of asked)) = true
 
 -- ---- what a result tells
 

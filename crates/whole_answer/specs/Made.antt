@@ -1,5 +1,7 @@
 -- What the program makes of a session that passes reading and checking.
 use Rattle.std.specs.Prelude.{ℕ, ◌%◌, ◌^◌, List, [], ◌∷◌, length, codes, decimal, slice_index_or, sum_by, unwrap_or}
+use Rattle.flow_design.specs.declared.limits.Scale.{Scale}
+use Rattle.flow_design.specs.declared.limits.Scale.TheVariants.{Standard}
 use Rattle.flow_design.specs.declared.plan.Plan.{Plan}
 use Rattle.flow_design.specs.declared.report.Report.{Report}
 use Rattle.flow_design.specs.declared.session.Statement.{Statement}
@@ -56,8 +58,8 @@ abbrev pub with_limits : Options → Plan → Plan
 with_limits o p = record p { cycles = unwrap_or o.cycles p.cycles; ops = unwrap_or o.ops p.ops }
 
 -- the job of its plan, under these limits, and of its edits
-abbrev pub simulated : Options → List Statement → Answer
-simulated o statements = job o.events (with_limits o (plan_of statements)) (edits_of statements)
+abbrev pub simulated : Scale → Options → List Statement → Answer
+simulated scale o statements = job o.events (with_limits o (plan_of scale statements)) (edits_of statements)
 
 -- ---- the canonical form
 
@@ -88,19 +90,19 @@ summary seed modules p = record {
   status = status_of (report p).verdict;
 }
 
--- ---- what a task makes of the statements of a session
+-- ---- what a task makes of the statements of a session, which is read at a scale
 
-abbrev pub made : Task → List Statement → Answer
+abbrev pub made : Scale → Task → List Statement → Answer
 -- whatever simulates it
-made (Simulate by o) statements = simulated o statements
-made Check statements = canonical statements
-made (Advise o) statements = advice (with_limits o (plan_of statements))
-made (Show view o) statements = shown view o (with_limits o (plan_of statements))
-made Order statements = ordered (plan_of statements).design
-made (Sweep lo hi o) statements = swept lo hi (with_limits o (plan_of statements))
-made (Size slack o) statements = sized slack (with_limits o (plan_of statements))
-made (Least slack o) statements = least_told slack (with_limits o (plan_of statements))
+made scale (Simulate by o) statements = simulated scale o statements
+made scale Check statements = canonical statements
+made scale (Advise o) statements = advice (with_limits o (plan_of scale statements))
+made scale (Show view o) statements = shown view o (with_limits o (plan_of scale statements))
+made scale Order statements = ordered (plan_of scale statements).design
+made scale (Sweep lo hi o) statements = swept lo hi (with_limits o (plan_of scale statements))
+made scale (Size slack o) statements = sized slack (with_limits o (plan_of scale statements))
+made scale (Least slack o) statements = least_told slack (with_limits o (plan_of scale statements))
 
 -- the summary of the session of this seed
 abbrev pub generated : ℕ → ℕ → Answer
-generated seed modules = summary seed modules (plan_of (session seed modules))
+generated seed modules = summary seed modules (plan_of Standard (session seed modules))

@@ -9,9 +9,9 @@ use crate::host::Host;
 use crate::laws::{one_answer, one_text_answer};
 use crate::making::{make, summarize};
 use crate::status::Status;
-use cli_words::{Command, Task, WordFault, read_words};
+use cli_words::{Asked, Command, WordFault, read_words};
 use flow_check::check;
-use flow_design::limits;
+use flow_design::limits::Scale;
 use flow_gen::{generate_session, generated_sessions_are_checked};
 use flow_grammar::{Code, ReadFail, TextFault, keeps_rules};
 use flow_text::read_session;
@@ -129,23 +129,23 @@ fn obey<R: Threads + Wait + Sync, S: Source, G: Gate + Sync, K: Sink>(
     ensures reads_none { takes_input (Some command) ≡ false → result ≢ Err Unanswered.ReadFault }
 {
     match command {
-        Command::Of(task) => answer_source(rt, alloc, &task, source, gate, sink),
+        Command::Of(asked) => answer_source(rt, alloc, &asked, source, gate, sink),
         Command::Gen { seed, modules } => Ok(answer_generated(rt, alloc, seed, modules, gate)?),
     }
 }
 
-/// Begins the answer to a task and the text that the source gives.
+/// Begins the answer to what is asked of the text that the source gives.
 fn answer_source<R: Threads + Wait + Sync, S: Source, G: Gate + Sync, K: Sink>(
     rt: &R,
     alloc: Global,
-    task: &Task,
+    asked: &Asked,
     source: &mut S,
     gate: &G,
     sink: &mut K,
 ) -> Result<Answer, Unanswered>
-    requires { IsSound task.now }
+    requires { IsSound asked.now.scale asked.now.task }
     ensures answers { IfSome (S.left source.old) (λ bytes.
-        Begins (AnswersText task.now bytes) (K.held sink.old) (K.held sink.new) result) }
+        Begins (AnswersText asked.now bytes) (K.held sink.old) (K.held sink.new) result) }
     ensures status { IfOk result (λ rest. IsAnswer rest.status) }
     ensures read_fault { result ≡ Err Unanswered.ReadFault → Rose (S.faults source.old) (S.faults source.new) }
     ensures unwritten { result ≡ Err Unanswered.ReadFault → sink.new ≡ sink.old }
@@ -154,8 +154,8 @@ fn answer_source<R: Threads + Wait + Sync, S: Source, G: Gate + Sync, K: Sink>(
     ensures sink_faults { K.faults sink.old ≤ K.faults sink.new }
 {
     one_text_answer();
-    match read_all(alloc, source, limits::TEXT_BYTES) {
-        Ok(text) => Ok(answer_text(rt, alloc, task, text.as_slice(), gate, sink)?),
+    match read_all(alloc, source, asked.scale.limits().text_bytes) {
+        Ok(text) => Ok(answer_text(rt, alloc, asked, text.as_slice(), gate, sink)?),
         Err(TakeFault::ReadFault) => Err(Unanswered::ReadFault),
         Err(TakeFault::TooLong) => Ok(refuse(alloc, TOO_LONG)?),
         Err(TakeFault::OutOfMemory) => Err(Unanswered::OutOfMemory),
@@ -176,34 +176,35 @@ fn answer_generated<R: Threads + Wait + Sync, G: Gate + Sync>(
 {
     generated_sessions_are_checked();
     let session = generate_session(alloc, seed, modules)?;
-    let plan = elaborate(alloc, session.statements.as_slice())?.plan;
+    let plan = elaborate(alloc, Scale::Standard, session.statements.as_slice())?.plan;
     summarize(rt, alloc, seed, modules, plan, gate)
 }
 
-/// Begins the answer to a text: it is read to a session, the session is checked, and the task makes the answer of it.
+/// Begins the answer to a text: it is read to a session, the session is checked, and the task makes the answer of it, all at the
+/// scale that is asked for.
 fn answer_text<R: Threads + Wait + Sync, G: Gate + Sync, K: Sink>(
     rt: &R,
     alloc: Global,
-    task: &Task,
+    asked: &Asked,
     text: &[u8],
     gate: &G,
     sink: &mut K,
 ) -> Result<Answer, TellFault>
-    requires { IsSound task.now }
-    ensures answers { Begins (AnswersText task.now text.now) (K.held sink.old) (K.held sink.new) result }
+    requires { IsSound asked.now.scale asked.now.task }
+    ensures answers { Begins (AnswersText asked.now text.now) (K.held sink.old) (K.held sink.new) result }
     ensures status { IfOk result (λ rest. IsAnswer rest.status) }
     ensures write_fault { IsErrOf result TellFault.WriteFault → Rose (K.faults sink.old) (K.faults sink.new) }
     ensures faults { K.faults sink.old ≤ K.faults sink.new }
 {
     keeps_rules();
     one_text_answer();
-    let (session, lines) = match read_session(alloc, text) {
+    let (session, lines) = match read_session(alloc, asked.scale, text) {
         Ok(read) => read,
         Err(ReadFail::Text(fault)) => return Ok(refuse(alloc, fault)?),
         Err(ReadFail::OutOfMemory) => return Err(TellFault::OutOfMemory),
     };
-    match check(alloc, &session, &lines) {
-        Ok(checked) => make(&Host { rt, alloc, gate }, task, &session, checked, sink),
+    match check(alloc, asked.scale, &session, &lines) {
+        Ok(checked) => make(&Host { rt, alloc, gate }, asked, &session, checked, sink),
         Err(ReadFail::Text(fault)) => Ok(refuse(alloc, fault)?),
         Err(ReadFail::OutOfMemory) => Err(TellFault::OutOfMemory),
     }

@@ -8,7 +8,7 @@ ghost use Rattle.lockstep_defs.specs.Report.{report};
 ghost use Rattle.engine_report.specs.Finished.{report_with};
 ghost use Rattle.report_text.specs.ReportText.{report_text_of};
 ghost use Rattle.whole_answer.specs.Answer.{Answers, AnswersText};
-ghost use Rattle.cli_words.specs.declared.Task.{Task};
+ghost use Rattle.cli_words.specs.declared.Asked.{Asked};
 
 use flow_grammar::one_answer as one_reading;
 use lockstep_defs::reports_name_their_plans;
@@ -21,10 +21,10 @@ pub fn one_answer()
     one_text_answer();
 }
 
-/// Each text has exactly one answer under each task.
+/// Each text has exactly one answer under each task at each scale.
 pub(crate) fn one_text_answer()
-    ensures some { (task : Task) (text : List ℕ) → (a : Answer) × AnswersText task text a }
-    ensures no_other { (task : Task) (text : List ℕ) (a b : Answer) → AnswersText task text a → AnswersText task text b → a ≡ b }
+    ensures some { (asked : Asked) (text : List ℕ) → (a : Answer) × AnswersText asked text a }
+    ensures no_other { (asked : Asked) (text : List ℕ) (a b : Answer) → AnswersText asked text a → AnswersText asked text b → a ≡ b }
 {
     one_reading();
 }

@@ -5,7 +5,8 @@ ghost use Rattle.flow_design.specs.Plans.{EditFits};
 ghost use Rattle.flow_design.specs.StaticRules.{FitsEngine};
 ghost use Rattle.session_plan.specs.Plans.{plan_of, edits_of};
 ghost use Rattle.report_text.specs.Lines.{line, text_of_lines};
-ghost use Rattle.cli_words.specs.CommandWords.{AreLimits, IsSound};
+ghost use Rattle.cli_words.specs.CommandWords.{IsSound};
+ghost use Rattle.flow_check.specs.Scales.{KeepsScale};
 ghost use Rattle.whole_answer.specs.Job.{job};
 ghost use Rattle.whole_answer.specs.Made.{made, with_limits, canonical, summary, summary_lines, sum_tokens, values_in};
 ghost use Rattle.whole_answer.specs.Answer.{IsAnswer, IsRest};
@@ -19,7 +20,7 @@ use crate::showing::show;
 use crate::sizing::{least_fifos, size_fifos};
 use crate::status::Status;
 use crate::sweeping::sweep_depths;
-use cli_words::{Options, Simulator, Task};
+use cli_words::{Asked, Options, Simulator, Task};
 use depth_session::{DepthSession, ThreadRunner};
 use flow_check::Checked;
 use flow_design::{Plan, Report, Session};
@@ -32,27 +33,31 @@ use std::alloc::Global;
 use std::sync::Wait;
 use std::thread::Threads;
 
-/// What the task makes of a session that passes the check: a prefix of its text is written, and the rest is handed out.
+/// What is asked of a session that passes the check: a prefix of its text is written, and the rest is handed out.
+#[tactic(auto, using(crate::proofs::Limits::limits_fit))]
 pub(crate) fn make<R: Threads + Wait + Sync, G: Gate + Sync, K: Sink>(
     host: &Host<'_, R, G>,
-    task: &Task,
+    asked: &Asked,
     session: &Session,
     checked: Checked,
     sink: &mut K,
 ) -> Result<Answer, TellFault>
-    requires sound { IsSound task.now }
-    requires plan { checked.plan ≡ plan_of session.now.statements }
+    requires sound { IsSound asked.now.scale asked.now.task }
+    requires plan { checked.plan ≡ plan_of asked.now.scale session.now.statements }
     requires edits { checked.edits ≡ edits_of session.now.statements }
     requires fits { FitsEngine checked.plan }
+    requires keeps { KeepsScale asked.now.scale checked.plan }
     requires edits_fit { All (EditFits checked.plan) checked.edits }
-    ensures rest { IfOk result (λ rest. IsRest (made task.now session.now.statements) (K.held sink.old) (K.held sink.new) rest) }
+    ensures rest { IfOk result (λ rest. IsRest (made asked.now.scale asked.now.task session.now.statements)
+        (K.held sink.old) (K.held sink.new) rest) }
     ensures status { IfOk result (λ rest. IsAnswer rest.status) }
-    ensures prefix { OnErr result (AppendsPrefix (K.held sink.old) (K.held sink.new) (made task.now session.now.statements).text) }
+    ensures prefix { OnErr result (AppendsPrefix (K.held sink.old) (K.held sink.new)
+        (made asked.now.scale asked.now.task session.now.statements).text) }
     ensures write_fault { IsErrOf result TellFault.WriteFault → Rose (K.faults sink.old) (K.faults sink.new) }
     ensures faults { K.faults sink.old ≤ K.faults sink.new }
 {
     let Host { rt, alloc, gate } = *host;
-    match task {
+    match &asked.task {
         Task::Simulate(by, options) => simulate(host, *by, options, checked, sink),
         Task::Check => unwritten(print(alloc, session)),
         Task::Advise(options) => {
@@ -107,8 +112,7 @@ fn simulate<R: Threads + Wait + Sync, G: Gate + Sync, K: Sink>(
     checked: Checked,
     sink: &mut K,
 ) -> Result<Answer, TellFault>
-    requires limits { AreLimits options.now }
-    requires fits { FitsEngine checked.plan }
+    requires fits { FitsEngine (with_limits options.now checked.plan) }
     requires edits_fit { All (EditFits checked.plan) checked.edits }
     ensures rest { IfOk result (λ rest. IsRest (job options.now.events (with_limits options.now checked.plan) checked.edits)
         (K.held sink.old) (K.held sink.new) rest) }
@@ -125,8 +129,7 @@ fn simulate<R: Threads + Wait + Sync, G: Gate + Sync, K: Sink>(
 
 /// The plan of a session under the limits of the options. Its edits are let go of.
 fn limited(checked: Checked, options: &Options) -> Plan
-    requires limits { AreLimits options.now }
-    requires fits { FitsEngine checked.plan }
+    requires fits { FitsEngine (with_limits options.now checked.plan) }
     ensures plan { result ≡ with_limits options.now checked.plan }
     ensures fits { FitsEngine result }
 {

@@ -11,15 +11,16 @@ module _ (c : goal.After-try_get_matches_from) where
   parser_is : app_of c.in_ok-parser.parser ≡ parser
   parser_is =
       c.in_ok-parser.ensures.shape c.positional-3.ensures.local ∙ ap₂ with_rule (
-      c.in_ok-arg-7.ensures.shape c.positional-2.ensures.local ∙ ap₂ with_rule (
-      c.in_ok-arg-6.ensures.shape c.positional.ensures.local ∙ ap₂ with_rule (
-      c.in_ok-arg-5.ensures.shape c.option-3.ensures.local ∙ ap₂ with_rule (
-      c.in_ok-arg-4.ensures.shape c.option-2.ensures.local ∙ ap₂ with_rule (
-      c.in_ok-arg-3.ensures.shape c.option.ensures.local ∙ ap₂ with_rule (
+      c.in_ok-arg-8.ensures.shape c.positional-2.ensures.local ∙ ap₂ with_rule (
+      c.in_ok-arg-7.ensures.shape c.positional.ensures.local ∙ ap₂ with_rule (
+      c.in_ok-arg-6.ensures.shape c.option-3.ensures.local ∙ ap₂ with_rule (
+      c.in_ok-arg-5.ensures.shape c.option-2.ensures.local ∙ ap₂ with_rule (
+      c.in_ok-arg-4.ensures.shape c.option.ensures.local ∙ ap₂ with_rule (
+      c.in_ok-arg-3.ensures.shape c.flag-3.ensures.local ∙ ap₂ with_rule (
       c.in_ok-arg-2.ensures.shape c.flag-2.ensures.local ∙ ap₂ with_rule (
       c.in_ok-arg.ensures.shape c.flag.ensures.local
-      ∙ ap₂ with_rule c.bare_parser.ensures (c.flag.ensures.rule)) (c.flag-2.ensures.rule)) (c.option.ensures.rule))
-      (c.option-2.ensures.rule)) (c.option-3.ensures.rule))
+      ∙ ap₂ with_rule c.bare_parser.ensures (c.flag.ensures.rule)) (c.flag-2.ensures.rule)) (c.flag-3.ensures.rule))
+      (c.option.ensures.rule)) (c.option-2.ensures.rule)) (c.option-3.ensures.rule))
       (c.positional.ensures.rule)) (c.positional-2.ensures.rule)) (c.positional-3.ensures.rule)
 
 pub returns-clause-fails : goal.returns-clause-fails

@@ -12,6 +12,8 @@ returns-in-Ok c =
     (codes "events")) c.get_flag.result c.get_flag.ensures.value c.get_flag.ensures.other)
     (by_flag (one_text (found_of c.in-Ok.matches)
     (codes "polls")) c.get_flag-in-Ok.result c.get_flag-in-Ok.ensures.value c.get_flag-in-Ok.ensures.other)
+    (by_flag (one_text (found_of c.in-Ok.matches)
+    (codes "large")) c.get_flag-in-Ok-2.result c.get_flag-in-Ok-2.ensures.value c.get_flag-in-Ok-2.ensures.other)
     c.get_str.ensures c.get_str-in-Ok.ensures c.get_str-in-Ok-2.ensures c.get_str-in-Ok-3.ensures c.get_str-in-Ok-4.ensures
     c.get_str-in-Ok-5.ensures
 

@@ -12,9 +12,9 @@ HERE = os.path.dirname(os.path.realpath(__file__))
 sys.path.insert(0, os.path.dirname(HERE))
 from desk.differing import tell_difference  # noqa: E402
 from flow.depths import depths_of, with_depths  # noqa: E402
+from flow.limits import LARGE, STANDARD  # noqa: E402
 
 OMNISIM = os.path.join(os.path.dirname(os.path.dirname(HERE)), 'omnisim')
-MOST_DEPTH = 1_000_000
 REFUSED = 1  # the status of refused words
 VERDICTS = (0, 3, 4, 5)  # the statuses of answers
 
@@ -43,25 +43,25 @@ def read(path):
         raise Refused(f'{path}: {error.strerror}') from error
 
 
-def depth_of(word, known):
+def depth_of(word, known, limits):
     """A FIFO and its depth, off FIFO=N."""
     name, mark, depth = word.partition('=')
-    if not mark or not depth.isdigit() or not 1 <= int(depth) <= MOST_DEPTH:
-        raise Refused(f'--depth takes FIFO=N, with N from 1 to {MOST_DEPTH:,}, and not {word!r}')
+    if not mark or not depth.isdigit() or not 1 <= int(depth) <= limits.fifo_depth:
+        raise Refused(f'--depth takes FIFO=N, with N from 1 to {limits.fifo_depth:,}, and not {word!r}')
     if name not in known:
         near = difflib.get_close_matches(name, known, 1)
         raise Refused(f'the session has no FIFO {name}' + (f'; did you mean {near[0]}?' if near else ''))
     return name, int(depth)
 
 
-def changed(text, depths):
-    """The session with these depths, each given as FIFO=N."""
-    known = depths_of(text)
-    return with_depths(text, dict(depth_of(word, known) for word in depths))
+def changed(text, found):
+    """The session with the depths that the words give, each as FIFO=N."""
+    known, limits = depths_of(text), LARGE if found.large else STANDARD
+    return with_depths(text, dict(depth_of(word, known, limits) for word in found.depth))
 
 
 def limits_of(found):
-    return [word for name in ('cycles', 'ops') if getattr(found, name) is not None for word in (f'--{name}', getattr(found, name))]
+    return ['--large'] * found.large + [word for name in ('cycles', 'ops') if getattr(found, name) is not None for word in (f'--{name}', getattr(found, name))]
 
 
 def parsed(words):
@@ -72,6 +72,7 @@ def parsed(words):
     parser.add_argument('--depth', action='append', default=[])
     parser.add_argument('--apply', action='store_true')
     parser.add_argument('--json', action='store_true')
+    parser.add_argument('--large', action='store_true')
     parser.add_argument('--events', action='store_true')
     parser.add_argument('--polls', action='store_true')
     parser.add_argument('--cycles')
@@ -119,12 +120,12 @@ def as_json(command, answer, status):
 def differ(found):
     """Tells the first difference of two sessions, or of one before and after other depths."""
     if found.apply or found.json or found.events or found.polls or found.slack is not None:
-        raise Refused('diff takes --depth, --cycles and --ops alone')
+        raise Refused('diff takes --depth, --large, --cycles and --ops alone')
     if len(found.rest) == 2 and not found.depth:
         texts = [read(path) for path in found.rest]
     elif len(found.rest) == 1 and found.depth:
         text = read(found.rest[0])
-        texts = [text, changed(text, found.depth)]
+        texts = [text, changed(text, found)]
     else:
         raise Refused('diff takes two sessions, or one and --depth FIFO=N')
     return tell_difference(ask, texts, limits_of(found))
@@ -138,7 +139,7 @@ def run(words):
     if found.apply and (found.command not in ('size', 'least', 'advise') or found.json):
         raise Refused('--apply goes with size, least and advise, without --json')
     asked, path = session_of(found)
-    text = changed(read(path), found.depth)
+    text = changed(read(path), found)
     answer, status = ask(asked, text)
     if found.apply:
         return apply(found.command, answer, status, text)

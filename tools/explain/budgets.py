@@ -1,18 +1,21 @@
 """Where operations went: which modules used theirs up, and loops that never end."""
 from explain.program import answer
 from flow.depths import with_depths
-
-MOST_OPS = 200_000
-OPS = 100_000  # where the session and the words name no limit
+from flow.limits import STANDARD, limits_of
 
 
 def ops_of(options, session):
     """The operation limit that holds."""
-    return int(options[options.index('--ops') + 1]) if '--ops' in options else session.ops or OPS
+    return int(options[options.index('--ops') + 1]) if '--ops' in options else session.ops or limits_of(options).default_operations
 
 
 def most_ops_reached(options, session):
-    return ops_of(options, session) >= MOST_OPS
+    return ops_of(options, session) >= limits_of(options).counted_operations
+
+
+def more_ops(options, session):
+    """More operations, to see who goes on: the most of a standard session or twice as many, and no more than there may be."""
+    return min(max(2 * ops_of(options, session), STANDARD.counted_operations), limits_of(options).counted_operations)
 
 
 def with_ops(options, ops):
@@ -34,7 +37,7 @@ def out_of_operations(options, text, session, held):
     over = [module.name for module in session.modules if module.name not in blocked]
     if most_ops_reached(options, session):
         return f'Out of operations{"" if len(over) == 1 else ", or ended"}: {", ".join(over)}.'
-    before, after = clocks_of(options, text), clocks_of(with_ops(options, MOST_OPS), text)
+    before, after = clocks_of(options, text), clocks_of(with_ops(options, more_ops(options, session)), text)
     spent = [name for name in over if before.get(name) != after.get(name)] or over
     return f'Out of operations: {", ".join(spent)}.'
 

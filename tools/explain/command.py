@@ -23,11 +23,12 @@ def words_of(words):
     """The session's path, and the options that the program takes."""
     parser = argparse.ArgumentParser(prog='explain', description=ABOUT, epilog=DETAILS, allow_abbrev=False)
     parser.add_argument('session', metavar='SESSION', help='a file, or - for standard input')
+    parser.add_argument('--large', action='store_true', help='the limits for designs of real size')
     parser.add_argument('--cycles', metavar='N', type=int, help="a cycle limit in place of the session's")
     parser.add_argument('--ops', metavar='N', type=int, help="an operation limit in place of the session's")
     found = parser.parse_args(words)
     limits = [('--cycles', found.cycles), ('--ops', found.ops)]
-    return found.session, [word for name, limit in limits if limit is not None for word in (name, str(limit))]
+    return found.session, ['--large'] * found.large + [word for name, limit in limits if limit is not None for word in (name, str(limit))]
 
 
 def text_of(path):
@@ -57,9 +58,10 @@ def explain(path, options):
     text = text_of(path)
     name = 'standard input' if path == '-' else path
     source = text.decode('ascii', 'replace').split('\n')
-    told, status = ask(['check'], text)
+    large = ['--large'] * ('--large' in options)
+    told, status = ask(['check'] + large, text)
     if status == 2:
-        tell_refused(told.splitlines(), source, name)
+        tell_refused(told.splitlines(), source, name, options)
     if status != 0:
         return status
     session = Session(source)
@@ -67,7 +69,7 @@ def explain(path, options):
     if status not in ANSWERED:
         print(told, end='')
         return status
-    tell_slips(session, ask(['order'], text)[0].splitlines(), name)
+    tell_slips(session, ask(['order'] + large, text)[0].splitlines(), name)
     tell_reports(read_run(told), options, text, session)
     return status
 

@@ -3,12 +3,14 @@ import difflib
 import re
 
 from explain.language import (
-    BODY, FIRST, FOLLOW, FORMS, MOST, NUMBERS, OPERANDS, OPERATIONS, POPS, PUSHES, RANGES, count_of, plain, table)
+    BODY, FIRST, FOLLOW, FORMS, NUMBERS, OPERANDS, OPERATIONS, POPS, PUSHES, count_of, most_of, plain, ranges_of, table)
 from explain.program import ask
 from explain.session import Session, tokens_of
+from flow.limits import STANDARD, limits_of
 
 LONGEST = 200  # of a line of the session that is shown
 MOST_FAULTS = 10  # that are told of one text
+BY_LIMITS = (1, 4, 7, 10, 13)  # the codes of what is more than a limit
 
 
 def sorts_in_scope(session):
@@ -132,12 +134,12 @@ def wrong_statement(words, statements):
     return min(len(words) - 1, len(FORMS[key].split(' (')[0].split())), form, None
 
 
-def wrong_number(words):
+def wrong_number(words, limits):
     """The place of a number that is out of its range, and its range."""
     for place, word in enumerate(words):
         if not word.isdigit():
             continue
-        low, high, what = RANGES.get((words[0], place), (0, 2 ** 64 - 1, 'number'))
+        low, high, what = ranges_of(limits).get((words[0], place), (0, 2 ** 64 - 1, 'number'))
         if words[place - 1] == 'sext':
             low, high, what = 1, 64, 'width of sext'
         if not low <= int(word) <= high:
@@ -157,12 +159,14 @@ def ends_of(session, channel):
     return ', and '.join(parts)
 
 
-def wrong_in_body(code, number, words, before):
+def wrong_in_body(code, words, before, limits):
     """What can be said of an operation or a loop in its body."""
     body = before.modules[-1].bodies[-1] if before.modules and before.modules[-1].bodies else None
     if code == 10 and words[2].isdigit() and words[3].isdigit():
         interval, length = int(words[2]), int(words[3])
-        return 3, f'LEN {length} is below II {interval}' if length < interval else f'LEN {length} is above 64 times II, {64 * interval}'
+        if length < interval:
+            return 3, f'LEN {length} is below II {interval}'
+        return 3, f'LEN {length} is above {limits.live_iterations:,} times II, {limits.live_iterations * interval}'
     if body and code == 11:
         return 1, f'{body.name} has {count_of(body.length, "clock")}, so its last offset is {body.length - 1}'
     if body and code == 9:
@@ -176,7 +180,7 @@ def wrong_in_body(code, number, words, before):
     return None, None
 
 
-def more_of(code, number, lines, whole):
+def more_of(code, number, lines, whole, limits):
     """Of a fault: the column that it points at, what can be said of it, and what may have been meant there."""
     line = lines[number - 1] if 1 <= number <= len(lines) else ''
     if code == 2:
@@ -191,7 +195,7 @@ def more_of(code, number, lines, whole):
     if code == 3:
         place, told, near = wrong_statement(words, before.statements)
     elif code == 4:
-        place, told = wrong_number(words)
+        place, told = wrong_number(words, limits)
     elif code == 5:
         place, told = 1, f'{words[1]} has an input already' if words[0] == 'input' else f'{words[1]} is declared already'
     elif code == 6:
@@ -200,11 +204,19 @@ def more_of(code, number, lines, whole):
         name = words[1] if code == 8 else words[operation_at(words) + 1]
         place, told = words.index(name), ends_of(whole, name) if name in whole.channels else None
     elif code in (9, 10, 11):
-        place, told = wrong_in_body(code, number, words, before)
+        place, told = wrong_in_body(code, words, before, limits)
     elif code == 13:
-        told = MOST.get(words[0]) if words[0] != 'at' else 'at most 1,024 operations in a body, and 256 nodes and depth 32 in an expression'
+        told = most_of(limits).get(words[0])
     column = None if place is None else tokens[place][1] if place < len(tokens) else tokens[-1][1] + len(tokens[-1][0]) + 1
     return column, told, near
+
+
+def is_large(code, answer, lines, limits):
+    """Whether the line of a fault is in order with the larger limits."""
+    if limits is not STANDARD or code not in BY_LIMITS:
+        return False
+    told, _ = ask(['check', '--large'], '\n'.join(lines).encode('ascii', 'replace'))
+    return told.splitlines()[:1] != answer[:1]
 
 
 def tell_fault(number, code, lines, path, found):
@@ -259,8 +271,9 @@ def mended(line, code, column, near, lost, unused):
     return '# ' + ''.join(char if ' ' <= char <= '~' else '?' for char in line)
 
 
-def tell_refused(answer, lines, path):
+def tell_refused(answer, lines, path, options=()):
     """Tells the fault of a text, and the faults that are left when its line is mended."""
+    limits = limits_of(options)
     shown, lines = lines, list(lines)
     lost, unused, told, numbers = set(), set(), 0, False
     for _ in range(4 * MOST_FAULTS):
@@ -268,7 +281,7 @@ def tell_refused(answer, lines, path):
         number, code = int(number), int(code)
         whole = Session(lines)
         line = lines[number - 1] if 1 <= number <= len(lines) else ''
-        found = more_of(code, number, lines, whole)
+        found = more_of(code, number, lines, whole, limits)
         faulty = next((word for word, column in tokens_of(line) if column == found[0]), None)
         follows = (code == 6 and faulty in lost or code in (8, 14) and declared_by(line) in lost | unused
                    or code in (10, 11) and numbers)
@@ -276,13 +289,15 @@ def tell_refused(answer, lines, path):
             print(end='\n' if told else '')
             same = line and line == shown[number - 1]
             tell_fault(number, code, shown, path, found if same else (None,) + found[1:])
+            if is_large(code, answer, lines, limits):
+                print('With --large this is in order: its limits are larger.')
             told += 1
         better = mended(line, code, found[0], found[2], lost, unused) if line else None
         if better is None or told == MOST_FAULTS or code == 8 and follows is False and declared_by(line) is None:
             break
         numbers = numbers or code == 4
         lines[number - 1] = better
-        told_next, status = ask(['check'], '\n'.join(lines).encode('ascii', 'replace'))
+        told_next, status = ask(['check', *limits.word], '\n'.join(lines).encode('ascii', 'replace'))
         if status != 2:
             break
         answer = told_next.splitlines()

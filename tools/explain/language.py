@@ -2,6 +2,8 @@
 import os
 import re
 
+from flow.limits import ALL_MEMORY_WORDS, EDITS, FIFO_DELAY
+
 TOP = os.path.dirname(os.path.dirname(os.path.dirname(os.path.realpath(__file__))))
 POPS = ('read', 'tryread', 'empty')
 PUSHES = ('write', 'trywrite', 'full')
@@ -36,14 +38,28 @@ FIRST.update({key: ' (registers and memories come before all bodies of their mod
 FIRST['temp'] = ' (temps come before the operations of their body)'
 BODY = ('block', 'loop', 'temp', 'at')
 NUMBERS = ('VERSION', 'WIDTH', 'DEPTH', 'DELAY', 'WORDS', 'LENGTH', 'II', 'OFFSET', 'VALUE', 'CYCLES', 'OPS')
-RANGES = {(key, 2): (1, 64, 'width') for key in ('source', 'sink', 'fifo', 'reg', 'mem', 'temp')}
-RANGES.update({('flow', 1): (1, 2, 'version'), ('fifo', 3): (1, 1_000_000, 'depth'), ('fifo', 4): (1, 1_000, 'delay'),
-               ('mem', 3): (1, 4_096, 'number of words'), ('block', 2): (1, 10 ** 12, 'LEN'), ('loop', 2): (1, 10 ** 12, 'II'),
-               ('loop', 3): (1, 10 ** 12, 'LEN'), ('depth', 2): (1, 1_000_000, 'depth')})
-MOST = {'module': 'at most 64 modules', 'reg': 'at most 256 registers in a module', 'mem': 'at most 16 memories in a module',
-        'temp': 'at most 64 temps in a body', 'input': 'at most 100,000 input values in all', 'depth': 'at most 1,000 edits'}
-MOST.update({key: 'at most 256 sources, sinks and FIFOs' for key in ('source', 'sink', 'fifo')})
-MOST.update({key: 'at most 256 blocks and loops in a module' for key in ('block', 'loop')})
+
+
+def ranges_of(limits):
+    """Of each place of a statement with a number: the least and the greatest one, and what it is."""
+    ranges = {(key, 2): (1, 64, 'width') for key in ('source', 'sink', 'fifo', 'reg', 'mem', 'temp')}
+    ranges.update({('flow', 1): (1, 2, 'version'), ('fifo', 3): (1, limits.fifo_depth, 'depth'), ('fifo', 4): (1, FIFO_DELAY, 'delay'),
+                   ('mem', 3): (1, limits.memory_words, 'number of words'), ('block', 2): (1, limits.block_clocks, 'LEN'),
+                   ('loop', 2): (1, limits.block_clocks, 'II'), ('loop', 3): (1, limits.block_clocks, 'LEN'),
+                   ('depth', 2): (1, limits.fifo_depth, 'depth')})
+    return ranges
+
+
+def most_of(limits):
+    """Of each statement how many there may be."""
+    most = {'module': f'at most {limits.modules:,} modules', 'reg': f'at most {limits.registers:,} registers in a module',
+            'mem': f'at most {limits.memories:,} memories in a module, and {ALL_MEMORY_WORDS:,} words in all memories',
+            'temp': f'at most {limits.temps:,} temps in a body', 'input': f'at most {limits.input_values:,} input values in all',
+            'depth': f'at most {EDITS:,} edits',
+            'at': f'at most {limits.operations:,} operations in a body, and 256 nodes and depth 32 in an expression'}
+    most.update({key: f'at most {limits.channels:,} sources, sinks and FIFOs' for key in ('source', 'sink', 'fifo')})
+    most.update({key: f'at most {limits.blocks:,} blocks and loops in a module' for key in ('block', 'loop')})
+    return most
 
 
 def table(heading):

@@ -5,6 +5,7 @@ from explain.budgets import most_ops_reached, out_of_operations
 from explain.language import count_of, plain, table
 from explain.session import asks_outcomes
 from flow.circles import circles_of
+from flow.limits import STANDARD, limits_of
 
 
 def reason_of(session, module, waiting, spent):
@@ -41,7 +42,8 @@ def remedy_of(kind, held, row, options, session):
         return ('whoever should read has ended: let it read on, or let the writer stop; a deeper FIFO helps only if the writer comes to '
                 'its end')
     if kind == 'ops' and most_ops_reached(options, session):
-        return 'mend a loop that never ends, or simulate fewer values: the operation limit is the greatest that there is'
+        more = ', or give more operations with --large' if limits_of(options) is STANDARD else ''
+        return f'mend a loop that never ends, or simulate fewer values: the operation limit is the greatest that there is{more}'
     return plain(row[2])
 
 

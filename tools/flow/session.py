@@ -2,10 +2,12 @@
 import re
 from dataclasses import dataclass, field
 
+from flow.limits import STANDARD
+
 OPERANDS = {'~': 1, '?:': 3}
 OPERANDS.update({word: 2 for word in '+ - * & | ^ << >> == != <u <s / %'.split()})
 POPS, PUSHES = ('read', 'tryread'), ('write', 'trywrite')
-CYCLES, OPS, DEPTH = 10 ** 9, 100_000, 2
+CYCLES, DEPTH = 10 ** 9, 2  # where the session names none
 
 
 class SessionFault(Exception):
@@ -71,7 +73,7 @@ class Session:
     modules: list = field(default_factory=list)
     edits: list = field(default_factory=list)
     cycles: int = CYCLES
-    ops: int = OPS
+    ops: int = STANDARD.default_operations
     has_end: bool = False
 
     def fifos(self):
@@ -185,9 +187,9 @@ def check_whole(session):
                 raise SessionFault(f'block {block.name} of module {module.name} goes on with a block that is not there')
 
 
-def read_session(text):
+def read_session(text, limits=STANDARD):
     """The session of a text. A SessionFault says what is wrong, and in which line where it is one line."""
-    session = Session()
+    session = Session(ops=limits.default_operations)
     number = 0
     try:
         for number, line in enumerate(text.split('\n'), 1):

@@ -3,6 +3,7 @@ import os
 from concurrent.futures import ThreadPoolExecutor
 
 from flow import answers
+from flow.limits import limits_of
 from flow.program import NoAnswer, TookTooLong
 from report.facts import Facts, asks_outcomes
 from report.timeline import Timeline
@@ -41,11 +42,15 @@ def sizes_of(program, options, text, wait):
         return None
 
 
-def gather(program, path, text, canonical, limits, wait):
-    """The facts of an accepted session: its file, its text in bytes, its canonical form, limits by option, and how many
+def number_after(option, options, other):
+    """The number that the words give after an option, or else another one."""
+    return int(options[options.index(option) + 1]) if option in options else other
+
+
+def gather(program, path, text, canonical, options, wait):
+    """The facts of an accepted session: its file, its text in bytes, its canonical form, the words for its limits, and how many
     seconds `size` may take."""
-    session = read_session(canonical)
-    options = [word for option, number in limits.items() for word in (option, number)]
+    session = read_session(canonical, limits_of(options))
     with ThreadPoolExecutor(AT_ONCE) as pool:
         size = pool.submit(sizes_of, program, options, text, wait)
         lines = pool.submit(explained, program.top, path, text, options, wait + AFTERWARDS)
@@ -57,4 +62,4 @@ def gather(program, path, text, canonical, limits, wait):
         return Facts(
             title_of(path), session, answers.read_run(run.result()), stalls, chain, size.result(),
             answers.read_depths('advise', advise.result()), timeline, words_of(lines.result()),
-            (int(limits.get('--cycles', session.cycles)), int(limits.get('--ops', session.ops))), wait)
+            (number_after('--cycles', options, session.cycles), number_after('--ops', options, session.ops)), wait)

@@ -68,6 +68,8 @@ def part(name):
 
 PACKAGE, FIFO, SOURCE = part('flow_words.sv'), part('flow_fifo.sv'), part('flow_source.sv')
 SMALLEST = 64  # places of a FIFO's memory, so that greater depths can be tried
+GREATEST = 1 << 20  # a FIFO that is deeper has so many places, and the simulation stops where it would hold more
+DEPTH = 31  # bits of a depth
 
 
 class DesignText:
@@ -108,7 +110,7 @@ class DesignText:
             return [('input', channel.width, 'front'), ('input', 1, 'empty'), ('output', 1, 'pop')]
         if channel.kind == 'sink':
             return [('output', 1, 'push'), ('output', channel.width, 'data')]
-        return [('input', 21, 'depth')]
+        return [('input', DEPTH, 'depth')]
 
     def design_lines(self):
         ports = ['input  wire clk', 'input  wire rst', f'input  wire {vector(COUNT)}ops_limit']
@@ -147,15 +149,15 @@ class DesignText:
         lines = ['  // The limits and the depths; plus-arguments change them.',
                  f'  longint unsigned cycle_limit = {number(session.cycles, 64)};',
                  f'  logic {vector(COUNT)}ops_limit = {number(session.ops, COUNT)};']
-        lines += [f'  logic [20:0] {fifo.name}_depth = {number(fifo.depth, 21)};' for fifo in session.fifos()]
+        lines += [f'  logic {vector(DEPTH)}{fifo.name}_depth = {number(fifo.depth, DEPTH)};' for fifo in session.fifos()]
         lines += ['  string file;', '  longint unsigned given, named;', '  initial begin', '    named = 0;',
                   '    if ($value$plusargs("cycles=%d", cycle_limit)) begin end',
                   '    if ($value$plusargs("ops=%d", ops_limit)) begin end']
         for fifo in session.fifos():
-            most = places(session, fifo)
+            most = max(places(session, fifo), session.deepest(fifo))
             lines += [f'    if ($value$plusargs("depth_{fifo.name}=%d", given)) begin', '      named = named + 1;',
                       f'      if (given < 1 || given > {most}) $fatal(1, "FIFO {fifo.name} has 1 to {most} places; raise its MAX_DEPTH");',
-                      f'      {fifo.name}_depth = given[20:0];', '    end']
+                      f'      {fifo.name}_depth = given[{DEPTH - 1}:0];', '    end']
         lines += ['    if ($test$plusargs("depth_") != 0 && named == 0) $fatal(1, "+depth_ names no FIFO of the design");']
         return lines + ['    if ($value$plusargs("vcd=%s", file)) begin', '      $dumpfile(file);',
                         f'      $dumpvars(0, {self.testbench});', '    end', '  end']
@@ -207,4 +209,4 @@ class DesignText:
 
 def places(session, fifo):
     """The places of a FIFO's memory: a power of 2."""
-    return max(SMALLEST, 1 << (session.deepest(fifo) - 1).bit_length())
+    return min(GREATEST, max(SMALLEST, 1 << (session.deepest(fifo) - 1).bit_length()))

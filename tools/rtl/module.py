@@ -2,7 +2,7 @@
 from flow.session import POPS, PUSHES
 from .words import Expressions, Names, bits, cast, number, vector
 
-COUNT = 18  # bits of an operation count, which ends below 2^18
+COUNT = 31  # bits of an operation count, which ends below 2^31
 OWN = '''clk rst ops_limit block phase count moves stall ended spent over held log_events log_held cycle block_t ENDED done
 quotient remainder less_signed sign_extended shifted_left shifted_right'''.split()
 

@@ -3,10 +3,9 @@ import os
 import re
 import unittest
 
-from desk import command
-from explain import budgets, language
-from flow import design
-from flow import session
+from explain.language import most_of, ranges_of
+from flow import design, session
+from flow.limits import ALL_MEMORY_WORDS, CYCLES, EDITS, FIFO_DELAY, LARGE, STANDARD
 
 TOP = os.path.dirname(os.path.dirname(os.path.dirname(os.path.realpath(__file__))))
 
@@ -25,34 +24,40 @@ def constants(crate, file):
 LIMITS = constants('flow_design', 'limits')
 
 
-class Limits(unittest.TestCase):
-    def test_ranges_of_statements(self):
-        wanted = {('fifo', 3): 'FIFO_DEPTH', ('fifo', 4): 'FIFO_DELAY', ('mem', 3): 'MEMORY_WORDS', ('block', 2): 'BLOCK_CLOCKS',
-                  ('loop', 2): 'BLOCK_CLOCKS', ('loop', 3): 'BLOCK_CLOCKS', ('depth', 2): 'FIFO_DEPTH'}
-        for place, name in wanted.items():
-            self.assertEqual(language.RANGES[place][:2], (1, LIMITS[name]), name)
+def record(name):
+    """The limits of a scale, as the source has them: numbers, or names of constants."""
+    body = re.search(rf'pub const {name}: Limits = Limits {{(.*?)}};', read('crates', 'flow_design', 'src', 'limits.rt'), re.DOTALL)[1]
+    found = re.findall(r'(\w+): (\w+),', body)
+    return {field: LIMITS[value] if value in LIMITS else int(value.replace('_', '')) for field, value in found}
 
-    def test_how_many_there_may_be(self):
-        wanted = {'module': 'MODULES', 'reg': 'REGISTERS', 'mem': 'MEMORIES', 'temp': 'TEMPS', 'input': 'INPUT_VALUES', 'depth': 'EDITS',
-                  'fifo': 'CHANNELS', 'block': 'BLOCKS'}
-        for key, name in wanted.items():
-            self.assertIn(f'at most {LIMITS[name]:,} ', language.MOST[key])
+
+class Limits(unittest.TestCase):
+    def test_both_scales(self):
+        for name, limits in (('STANDARD', STANDARD), ('LARGE', LARGE)):
+            told = vars(limits).copy()
+            del told['word']
+            self.assertEqual(told, record(name))
+
+    def test_limits_at_each_scale(self):
+        self.assertEqual((CYCLES, EDITS, FIFO_DELAY, ALL_MEMORY_WORDS),
+                         tuple(LIMITS[name] for name in ('CYCLES', 'EDITS', 'FIFO_DELAY', 'ALL_MEMORY_WORDS')))
+
+    def test_ranges_of_statements(self):
+        for limits in (STANDARD, LARGE):
+            self.assertEqual(ranges_of(limits)['mem', 3][:2], (1, limits.memory_words))
+            self.assertIn(f'at most {limits.modules:,} modules', most_of(limits)['module'])
 
     def test_limits_of_runs(self):
-        self.assertEqual(budgets.MOST_OPS, LIMITS['COUNTED_OPERATIONS'])
         script = read('omnisim')
-        self.assertIn(f'most={LIMITS["CYCLES"]} ;;', script)
-        self.assertIn(f'most={LIMITS["COUNTED_OPERATIONS"]} ;;', script)
-
-    def test_depths_and_operations(self):
-        self.assertEqual(command.MOST_DEPTH, LIMITS['FIFO_DEPTH'])
-        self.assertIn(f'MOST_DEPTH = {LIMITS["FIFO_DEPTH"]:_}\n', read('explore'))
-        self.assertEqual(design.OPERATIONS, LIMITS['OPERATIONS'])
+        self.assertIn(f'most={CYCLES} ;;', script)
+        self.assertIn(f'most_ops={STANDARD.counted_operations}\n', script)
+        self.assertIn(f'most_ops={LARGE.counted_operations}\n', script)
 
     def test_limits_that_a_session_leaves_out(self):
-        found = constants('session_plan', 'defaults')
-        self.assertEqual((session.CYCLES, session.OPS), (found['CYCLES'], found['COUNTED_OPERATIONS']))
-        self.assertEqual(budgets.OPS, found['COUNTED_OPERATIONS'])
+        cycles = constants('session_plan', 'defaults')['CYCLES']
+        for limits in (STANDARD, LARGE):
+            read = session.read_session('end\n', limits)
+            self.assertEqual((read.cycles, read.ops), (cycles, limits.default_operations))
 
 
 if __name__ == '__main__':

@@ -22,7 +22,7 @@ use Rattle.flow_design.specs.declared.plan.Edit.{Edit}
 use Rattle.query_log.specs.Logs.{RoomedLogs}
 use Rattle.retime.specs.Rounds.{only_steps}
 use Rattle.retime.proofs.Counts.{same_length, same_steps}
-use Rattle.step_looks.specs.OtherCycles.{HasOtherCycles}
+use Rattle.cycle_changes.specs.OtherCycles.{HasOtherCycles}
 use Rattle.cycle_changes.specs.declared.changes.Put.{Put}
 use Rattle.cycle_changes.specs.Puts.{undone, ArePut, HasPut}
 use Rattle.cycle_changes.specs.Changed.{LosesNoRoom}

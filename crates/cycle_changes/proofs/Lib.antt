@@ -1,3 +1,6 @@
+pub mod HeldSteps
+pub mod RightLooks
+pub mod OtherHeld
 pub mod InTurn
 pub mod Waiting
 pub mod RightChanges

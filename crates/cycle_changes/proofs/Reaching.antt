@@ -20,7 +20,7 @@ use Rattle.engine_view.specs.Engines.{held_in}
 use Rattle.engine_view.specs.Shown.{IsSound}
 use Rattle.engine_view.specs.Turns.{IsSomeCore, first_of}
 use Rattle.engine_view.proofs.Knowing.{timed_within}
-use Rattle.step_looks.specs.Looks.{IsLooked}
+use Rattle.cycle_changes.specs.Looks.{IsLooked}
 use Rattle.cycle_changes.specs.Around.{AreLooked, StandsSomewhere, StandsAs, WaitsAt, WaitsFor}
 use Rattle.cycle_changes.proofs.InTurn.{inside, taker_owner, taker_before, taker_after, takers_there}
 use Rattle.cycle_changes.proofs.Waiting.{IsFreedBy, no_access, numbered, taking, waits_freed}

@@ -31,10 +31,10 @@ use Rattle.engine_view.specs.declared.engine.Engine.{Engine}
 use Rattle.engine_view.specs.Engines.{held_in}
 use Rattle.engine_view.proofs.Bounds.{candidate_is}
 use Rattle.engine_view.proofs.Knowing.{timed_within}
-use Rattle.step_looks.specs.Looks.{IsLooked, cycle_held}
-use Rattle.step_looks.specs.OtherCycles.{HasOtherCycles}
-use Rattle.step_looks.proofs.OtherHeld.{other_now}
-use Rattle.step_looks.proofs.RightLooks.{look_is}
+use Rattle.cycle_changes.specs.Looks.{IsLooked, cycle_held}
+use Rattle.cycle_changes.specs.OtherCycles.{HasOtherCycles}
+use Rattle.cycle_changes.proofs.OtherHeld.{other_now}
+use Rattle.cycle_changes.proofs.RightLooks.{look_is}
 use Rattle.cycle_changes.specs.Around.{IsLookedAround, StandsAt, WaitsFor}
 use Rattle.cycle_changes.specs.Changed.{AreRightChanges}
 use Rattle.cycle_changes.proofs.Waiting.{event_found, no_access}

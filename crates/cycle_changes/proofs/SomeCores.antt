@@ -12,8 +12,8 @@ use Rattle.engine_view.specs.declared.engine.Engine.{Engine}
 use Rattle.engine_view.specs.Engines.{held_in}
 use Rattle.engine_view.specs.Turns.{IsSomeCore}
 use Rattle.retime.specs.Cuts.{KeepsRoomEdited}
-use Rattle.step_looks.specs.OtherCycles.{HasOtherCycles}
-use Rattle.step_looks.proofs.OtherHeld.{other_now, other_room}
+use Rattle.cycle_changes.specs.OtherCycles.{HasOtherCycles}
+use Rattle.cycle_changes.proofs.OtherHeld.{other_now, other_room}
 use Rattle.cycle_changes.specs.Changed.{LosesNoRoom}
 
 module _ (s t : Engine) (edit : Edit) (inside : edit.channel < length s.fifos.channels)

@@ -11,7 +11,7 @@ use Rattle.time_engine.specs.Possible.{enabler_at}
 use Rattle.time_engine.specs.Cycles.{determined}
 use Rattle.engine_view.specs.Held.{Held, step_of}
 use Rattle.engine_view.specs.Turns.{first_of}
-use Rattle.step_looks.specs.Looks.{IsLooked, cycle_held}
+use Rattle.cycle_changes.specs.Looks.{IsLooked, cycle_held}
 
 -- the access stands at this side of the channel
 abbrev pub StandsAt : Side → ℕ → Access → Type 0

@@ -17,8 +17,8 @@ use Rattle.engine_view.specs.Taking.{kinds_in}
 use Rattle.engine_view.specs.Turns.{IsSomeCore, OfEach}
 use Rattle.retime.specs.Cuts.{KeepsRoomEdited}
 use Rattle.retime.specs.Rounds.{only_steps}
-use Rattle.step_looks.specs.Looks.{IsLooked, cycle_held}
-use Rattle.step_looks.specs.OtherCycles.{HasOtherCycles}
+use Rattle.cycle_changes.specs.Looks.{IsLooked, cycle_held}
+use Rattle.cycle_changes.specs.OtherCycles.{HasOtherCycles}
 use Rattle.cycle_changes.specs.Around.{IsLookedAround, AreLate}
 use Rattle.cycle_changes.specs.Seeds.{AreSeeds}
 

@@ -3,7 +3,7 @@ use Rattle.std.specs.Prelude.{ℕ, List, [], map, All}
 use Rattle.flow_word.specs.declared.access.Place.{Place}
 use Rattle.engine_view.specs.declared.engine.Engine.{Engine}
 use Rattle.engine_view.specs.Engines.{held_in}
-use Rattle.step_looks.specs.Looks.{IsLooked}
+use Rattle.cycle_changes.specs.Looks.{IsLooked}
 use Rattle.cycle_changes.specs.declared.changes.Put.{Put}
 use Rattle.cycle_changes.specs.Around.{IsLookedAround, AreLate}
 use Rattle.cycle_changes.specs.Seeds.{AreSeeds}

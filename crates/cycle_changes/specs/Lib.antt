@@ -1,3 +1,5 @@
+pub mod Looks
+pub mod OtherCycles
 pub mod Around
 pub mod Seeds
 pub mod Changed

@@ -5,7 +5,7 @@ use Rattle.flow_word.specs.declared.access.Place.{Place}
 use Rattle.engine_view.specs.Emitted.{place_of}
 use Rattle.engine_view.specs.Held.{Held, step_of}
 use Rattle.engine_view.specs.Turns.{first_of}
-use Rattle.step_looks.specs.Looks.{IsLooked}
+use Rattle.cycle_changes.specs.Looks.{IsLooked}
 use Rattle.cycle_changes.specs.Around.{StandsSomewhere}
 
 -- of the steps that stand at the FIFO's pushing side, those in which a look finds the depth felt are among these places

@@ -3,14 +3,14 @@ ghost use Rattle.std.specs.Prelude.{◌≡◌, suc, ◌<◌, ◌≤◌, [], true
 ghost use Rattle.event_graph.specs.Lanes.{HasStep, lane_at, cycle_bound};
 ghost use Rattle.engine_view.specs.Engines.{held_in};
 ghost use Rattle.engine_view.specs.Turns.{IsSomeCore, first_of};
-ghost use Rattle.step_looks.specs.Looks.{IsLooked};
+ghost use Rattle.cycle_changes.specs.Looks.{IsLooked};
 ghost use Rattle.cycle_changes.specs.Around.{IsLookedAround, AreLate};
 
+use crate::looking::look;
 use crate::reach::are_waiting_right;
 use crate::timed::has_cycle;
 use engine_view::Engine;
 use event_graph::{Candidate, Graph, Place};
-use step_looks::look;
 use time_engine::candidate;
 
 /// Whether all that a change of a step's cycle can reach is right: the step, below the limit, the next one of its module,

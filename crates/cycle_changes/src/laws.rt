@@ -7,7 +7,7 @@ ghost use Rattle.engine_view.specs.declared.engine.Engine.{Engine};
 ghost use Rattle.engine_view.specs.Engines.{held_in};
 ghost use Rattle.engine_view.specs.Turns.{IsSomeCore};
 ghost use Rattle.retime.specs.Cuts.{KeepsRoomEdited};
-ghost use Rattle.step_looks.specs.OtherCycles.{HasOtherCycles};
+ghost use Rattle.cycle_changes.specs.OtherCycles.{HasOtherCycles};
 ghost use Rattle.cycle_changes.specs.Changed.{AreRightChanges, StaysRight, LosesNoRoom};
 
 /// With a new depth and new cycles an engine is some core still, of the edited design, and the room that a credit promises is left.

@@ -5,13 +5,13 @@ ghost use Rattle.event_graph.specs.Lanes.{HasStep};
 ghost use Rattle.engine_view.specs.Held.{step_of};
 ghost use Rattle.engine_view.specs.Engines.{held_in};
 ghost use Rattle.engine_view.specs.Turns.{IsSomeCore, first_of};
-ghost use Rattle.step_looks.specs.Looks.{IsLooked};
+ghost use Rattle.cycle_changes.specs.Looks.{IsLooked};
 ghost use Rattle.cycle_changes.specs.Around.{AreLooked, StandsAt, StandsSomewhere, StandsAs, WaitsFor, WaitsAt};
 
+use crate::looking::look;
 use engine_view::Engine;
 use event_graph::{Access, Place};
 use flow_word::Port;
-use step_looks::look;
 
 /// Whether each step with a cycle that waits for this one is right.
 pub fn are_waiting_right(engine: &Engine, at: Place) -> bool

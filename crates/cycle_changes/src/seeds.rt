@@ -5,7 +5,7 @@ ghost use Rattle.event_graph.specs.Lanes.{HasStep};
 ghost use Rattle.engine_view.specs.Held.{step_of};
 ghost use Rattle.engine_view.specs.Engines.{held_in};
 ghost use Rattle.engine_view.specs.Turns.{IsSomeCore, first_of};
-ghost use Rattle.step_looks.specs.Looks.{IsLooked};
+ghost use Rattle.cycle_changes.specs.Looks.{IsLooked};
 ghost use Rattle.cycle_changes.specs.Around.{StandsSomewhere};
 ghost use Rattle.cycle_changes.specs.Seeds.{AreSeeds};
 

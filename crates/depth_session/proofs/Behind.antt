@@ -13,8 +13,8 @@ use Rattle.query_log.specs.declared.query.Query.{Query}
 use Rattle.outcome_guard.specs.Prefixes.{IsPrefix}
 use Rattle.outcome_guard.specs.declared.guard.Guard.{Guard}
 use Rattle.outcome_guard.specs.declared.guard.Guard.TheVariants.{Same, Differs}
-use Rattle.edit_runs.specs.declared.count.RunCount.{RunCount}
-use Rattle.edit_runs.specs.Runs.{all_go_on, next_counts}
+use Rattle.outcome_guard.specs.declared.count.RunCount.{RunCount}
+use Rattle.outcome_guard.specs.Runs.{all_go_on, next_counts}
 use Rattle.retime.specs.Edits.{OutcomesGrow}
 use Rattle.sim_core.specs.Views.{CoreView}
 use Rattle.sim_core.specs.Drives.{AreOwn, Goes, HasDriven, IsDiffering}

@@ -5,8 +5,8 @@ use Rattle.std.specs.Prelude.{slice_get}
 use Rattle.std.proofs.lemmas.Bool.{cases_lt, lt-ltb, le-ltb}
 use Rattle.std.proofs.lemmas.List.{length-append}
 use Rattle.outcome_guard.specs.Prefixes.{IsPrefix}
-use Rattle.edit_runs.specs.Runs.{goes_on, longer, all_go_on, all_longer, next_counts}
-use Rattle.edit_runs.proofs.Kept.{tells_alike, goes_alike}
+use Rattle.outcome_guard.specs.Runs.{goes_on, longer, all_go_on, all_longer, next_counts}
+use Rattle.outcome_guard.proofs.Kept.{tells_alike, goes_alike}
 use Rattle.depth_session.specs.Records.{GoesOn, RepeatsAnswers, answers_of, counted}
 
 -- ---- one module

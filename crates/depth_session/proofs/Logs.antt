@@ -4,7 +4,7 @@ use Rattle.std.proofs.Math.ListN.{get_or-map}
 use Rattle.std.proofs.Math.Seq.{take-length}
 use Rattle.std.proofs.lemmas.List.{length-map, take-append-drop}
 use Rattle.query_log.specs.Logs.{Log, no_log, log_at}
-use Rattle.edit_runs.specs.Runs.{next_counts}
+use Rattle.outcome_guard.specs.Runs.{next_counts}
 use Rattle.retime.specs.Edits.{OutcomesGrow}
 use Rattle.depth_session.specs.Records.{GoesOn, answers_of, counted}
 use Rattle.sim_core.specs.Records.{recorded_in, verified_in}

@@ -1,7 +1,7 @@
 -- The record of a module's answers beside those of a report.
 use Rattle.std.specs.Prelude.{◌≡◌, ℕ, ◌<◌, ◌⊎◌, Bool, List, [], length, slice_index_or}
 use Rattle.outcome_guard.specs.Prefixes.{IsPrefix}
-use Rattle.edit_runs.specs.declared.count.RunCount.{RunCount}
+use Rattle.outcome_guard.specs.declared.count.RunCount.{RunCount}
 
 -- the answers of a module
 abbrev pub answers_of : List (List Bool) → ℕ → List Bool

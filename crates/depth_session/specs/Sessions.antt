@@ -4,8 +4,8 @@ use Rattle.flow_design.specs.declared.plan.Edit.{Edit}
 use Rattle.flow_design.specs.declared.plan.Plan.{Plan}
 use Rattle.flow_design.specs.Plans.{with_depth}
 use Rattle.lockstep_defs.specs.Report.{report}
-use Rattle.edit_runs.specs.declared.count.RunCount.{RunCount}
-use Rattle.edit_runs.specs.Runs.{first_counts, next_counts}
+use Rattle.outcome_guard.specs.declared.count.RunCount.{RunCount}
+use Rattle.outcome_guard.specs.Runs.{first_counts, next_counts}
 
 -- the plan that stands, the answers that are kept with the count of runs, and whether there was memory for each edit so far
 pub record Session : Type 0 where

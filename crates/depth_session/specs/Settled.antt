@@ -4,8 +4,8 @@ use Rattle.flow_design.specs.declared.plan.Edit.{Edit}
 use Rattle.outcome_guard.specs.declared.guard.Guard.{Guard}
 use Rattle.outcome_guard.specs.declared.guard.Guard.TheVariants.{Same, Differs}
 use Rattle.lockstep_defs.specs.Report.{report}
-use Rattle.edit_runs.specs.declared.count.RunCount.{RunCount}
-use Rattle.edit_runs.specs.Runs.{next_counts}
+use Rattle.outcome_guard.specs.declared.count.RunCount.{RunCount}
+use Rattle.outcome_guard.specs.Runs.{next_counts}
 use Rattle.event_timing.specs.Actions.{IsFinal, MayRun}
 use Rattle.timing_bridge.specs.Designs.{design}
 use Rattle.sim_core.specs.Views.{CoreView, theory_of}

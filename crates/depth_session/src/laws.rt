@@ -1,6 +1,6 @@
 //! The laws of what is kept of the answers.
 ghost use Rattle.std.specs.Prelude.{◌≡◌, ◌≢◌, ℕ, ◌+◌, ◌<◌, Bool, List, length, slice_get, Some};
-ghost use Rattle.edit_runs.specs.Runs.{next_counts};
+ghost use Rattle.outcome_guard.specs.Runs.{next_counts};
 ghost use Rattle.depth_session.specs.Records.{GoesOn, RepeatsAnswers, answers_of, counted};
 ghost use Rattle.query_log.specs.Logs.{Log, log_at};
 ghost use Rattle.sim_core.specs.Records.{recorded_in, verified_in};

@@ -12,7 +12,7 @@ use Rattle.flow_design.specs.declared.plan.Plan.{Plan}
 use Rattle.flow_design.specs.declared.plan.Edit.{Edit}
 use Rattle.flow_design.specs.Plans.{is_fifo, kind_at, with_depth, EditFits}
 use Rattle.flow_design.specs.StaticRules.{FitsEngine}
-use Rattle.edit_runs.specs.Edits.{depth_after, plan_after}
+use Rattle.outcome_guard.specs.Edits.{depth_after, plan_after}
 use Rattle.fifo_fills.specs.Fills.{fifos}
 use Rattle.depth_sweep.specs.Grid.{depth_edits, with_depths}
 use Rattle.flow_word.proofs.Ranges.{range_more}

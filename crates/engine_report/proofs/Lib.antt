@@ -1,3 +1,6 @@
+pub mod Waiting
+pub mod SpanSame
+pub mod Stepping
 pub mod Loops
 pub mod Sorting
 pub mod Asking

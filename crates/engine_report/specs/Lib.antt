@@ -1,3 +1,4 @@
+pub mod Reading
 pub mod Standings
 pub mod Read
 pub mod Finished

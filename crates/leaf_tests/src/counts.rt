@@ -1,5 +1,5 @@
 //! Every call once.
-use edit_runs::RunCount;
+use outcome_guard::RunCount;
 use flow_word::{Flags, List, OutOfMemory};
 use std::alloc::Global;
 use std::test::Fail;

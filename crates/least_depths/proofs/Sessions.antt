@@ -7,8 +7,8 @@ use Rattle.flow_design.specs.declared.plan.Plan.{Plan}
 use Rattle.flow_design.specs.declared.report.Report.{Report}
 use Rattle.lockstep_defs.specs.Report.{report}
 use Rattle.lockstep_defs.specs.Verdict.{verdict}
-use Rattle.edit_runs.specs.declared.count.RunCount.{RunCount}
-use Rattle.edit_runs.specs.Runs.{all_go_on, next_counts}
+use Rattle.outcome_guard.specs.declared.count.RunCount.{RunCount}
+use Rattle.outcome_guard.specs.Runs.{all_go_on, next_counts}
 use Rattle.depth_session.specs.Sessions.{Session, plan_behind, with_edit}
 
 runs_more : (count : RunCount) (found : List (List Bool)) → (next_counts count found).runs ≤ count.runs + 1

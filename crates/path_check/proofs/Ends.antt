@@ -22,8 +22,8 @@ use Rattle.engine_view.specs.Held.{Held, core_of, emitted_of}
 use Rattle.engine_view.proofs.Knowing.{timed_within}
 use Rattle.engine_report.specs.Finished.{IsFinished, IsEndMark}
 use Rattle.engine_report.specs.Standings.{end_at, gap_of}
-use Rattle.late_paths.specs.Paths.{Same}
-use Rattle.late_paths.proofs.Late.{ends_later, never_ends}
+use Rattle.path_check.specs.Paths.{Same}
+use Rattle.path_check.proofs.Late.{ends_later, never_ends}
 use Rattle.path_check.specs.Waits.{IsTried, cycle_at, IsTimed, ComesAfter, Adds, IsAlong, place_at, moves_behind}
 use Rattle.path_check.proofs.Steps.{moves_on, moves_last}
 

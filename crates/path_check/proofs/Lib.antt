@@ -1,3 +1,5 @@
+pub mod After
+pub mod Late
 pub mod Steps
 pub mod Reading
 pub mod Ends

@@ -30,7 +30,7 @@ use Rattle.engine_view.specs.Shown.{IsKind, IsTakenAt}
 use Rattle.engine_view.proofs.Knowing.{shown_inside}
 use Rattle.engine_report.specs.Finished.{IsFinished}
 use Rattle.engine_report.proofs.Ending.{apart_at}
-use Rattle.late_paths.specs.Paths.{blocks_at, waits_at}
+use Rattle.path_check.specs.Paths.{blocks_at, waits_at}
 use Rattle.path_check.specs.Waits.{IsTried, free_with, OneWaits, cycle_at, IsTimed, Adds}
 use Rattle.path_check.proofs.Steps.{comes_next, comes_after, gap_behind}
 

@@ -16,8 +16,8 @@ use Rattle.event_timing.proofs.Threshold.{taken_view}
 use Rattle.stall_spans.specs.CoreDoings.{arrives}
 use Rattle.stall_spans.proofs.Placed.{arrives_is, arrives_before, stands_at}
 use Rattle.stall_spans.proofs.Waits.{moves_early, cycle_moves}
-use Rattle.late_paths.specs.Paths.{waits_at, IsAfter, Later, Own, Waits}
-use Rattle.late_paths.proofs.After.{owned_there}
+use Rattle.path_check.specs.Paths.{waits_at, IsAfter, Later, Own, Waits}
+use Rattle.path_check.proofs.After.{owned_there}
 
 -- the clocks from a step to where its module comes to the next one, or to its end
 abbrev pub gap_behind : {S : Type 0} → Design S → Core S → ℕ → ℕ → ℕ

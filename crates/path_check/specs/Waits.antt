@@ -18,7 +18,7 @@ use Rattle.engine_view.specs.Engines.{held_in}
 use Rattle.engine_view.specs.Held.{Held}
 use Rattle.engine_report.specs.Finished.{IsFinished}
 use Rattle.engine_report.specs.Standings.{end_at, gap_of}
-use Rattle.late_paths.specs.Paths.{IsAfter}
+use Rattle.path_check.specs.Paths.{IsAfter}
 
 -- ---- the depths
 

@@ -3,7 +3,7 @@ use Rattle.std.proofs.Common.{ℕ, ◌+◌, ◌<◌, ◌≤◌, Bool, true, fals
 use Rattle.std.specs.Prelude.{sum_by}
 use Rattle.std.proofs.lemmas.List.Sums.{sum_by_more_le_part}
 use Rattle.depth_order.specs.declared.link.Link.{Link}
-use Rattle.latency_path.specs.declared.link.Polled.{Polled}
+use Rattle.path_text.specs.declared.link.Polled.{Polled}
 use Rattle.path_text.specs.Counts.{clocks_of, clocks_at, clocks_in, clocks_waited, waiting, waiting_at}
 
 part : (m : ℕ) (l : Link) → clocks_at m l ≤ clocks_of l

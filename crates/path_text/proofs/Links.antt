@@ -12,13 +12,13 @@ use Rattle.depth_order.specs.declared.link.Link.{Link}
 use Rattle.depth_order.specs.Chain.{moves_at}
 use Rattle.depth_order.specs.Sums.{spent}
 use Rattle.depth_order.proofs.Chained.{starts}
-use Rattle.latency_path.specs.declared.link.Polled.{Polled}
-use Rattle.latency_path.specs.declared.link.PolledLink.{PolledLink}
-use Rattle.latency_path.specs.Walks.{link_at}
-use Rattle.latency_path.specs.Polls.{AreAccesses, if_some, last_poll, link_by, links_in, polled_link, polled_path, polls_in}
-use Rattle.latency_path.proofs.Doings.{mover_inside}
-use Rattle.latency_path.proofs.Chains.{crossing_inside}
-use Rattle.latency_path.proofs.Followed.{all_in_path, poll_is}
+use Rattle.path_text.specs.declared.link.Polled.{Polled}
+use Rattle.path_text.specs.declared.link.PolledLink.{PolledLink}
+use Rattle.path_text.specs.Walks.{link_at}
+use Rattle.path_text.specs.Polls.{AreAccesses, if_some, last_poll, link_by, links_in, polled_link, polled_path, polls_in}
+use Rattle.path_text.proofs.Doings.{mover_inside}
+use Rattle.path_text.proofs.Chains.{crossing_inside}
+use Rattle.path_text.proofs.Followed.{all_in_path, poll_is}
 use Rattle.path_text.specs.Counts.{clocks_of, waiting, IsLinkOf, AreLinksOf, IsPollOf, ArePollsOf}
 use Rattle.path_text.proofs.Totals.{left_within, polled_total}
 

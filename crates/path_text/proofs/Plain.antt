@@ -19,13 +19,13 @@ use Rattle.depth_order.specs.Depths.{AsksNothing}
 use Rattle.depth_order.specs.declared.link.Link.{Link}
 use Rattle.depth_order.specs.Chain.{span_start, stood_at, goes_on, chain, first_mover, chain_from, path}
 use Rattle.depth_order.proofs.Order.{no_queries}
-use Rattle.latency_path.specs.declared.walk.At.{At}
-use Rattle.latency_path.specs.declared.link.PolledLink.{PolledLink}
-use Rattle.latency_path.specs.Walks.{before_link, link_at}
-use Rattle.latency_path.specs.Polls.{before_polled, clock_of, ends_poll, going_on, last_move, last_poll, latest, link_by, links_in, move_by}
-use Rattle.latency_path.specs.Polls.{polled_chain, polled_from, polled_path, polls_in, seeks}
-use Rattle.latency_path.proofs.Latest.{all_filter, none}
-use Rattle.latency_path.proofs.Logged.{all_logged}
+use Rattle.path_text.specs.declared.walk.At.{At}
+use Rattle.path_text.specs.declared.link.PolledLink.{PolledLink}
+use Rattle.path_text.specs.Walks.{before_link, link_at}
+use Rattle.path_text.specs.Polls.{before_polled, clock_of, ends_poll, going_on, last_move, last_poll, latest, link_by, links_in, move_by}
+use Rattle.path_text.specs.Polls.{polled_chain, polled_from, polled_path, polls_in, seeks}
+use Rattle.path_text.proofs.Latest.{all_filter, none}
+use Rattle.path_text.proofs.Logged.{all_logged}
 
 -- no link ends a poll
 abbrev pub NothingPolled : Plan → List LoggedAccess → Type 0

@@ -18,7 +18,7 @@ use Rattle.flow_design.specs.StaticRules.{FitsEngine, is_port}
 use Rattle.lockstep_defs.specs.Verdict.{verdict}
 use Rattle.timing_bridge.specs.Designs.{lag_in}
 use Rattle.depth_order.specs.declared.link.Link.{Link}
-use Rattle.latency_path.specs.declared.link.Polled.{Polled}
+use Rattle.path_text.specs.declared.link.Polled.{Polled}
 use Rattle.sim_core.specs.AccessLog.{log_of}
 use Rattle.depth_order.specs.Sums.{spent, clocks_across, under_way, chain_clocks, IsEnd, MovesLast, NoneMoves}
 use Rattle.depth_order.proofs.Adds.{whole_chain, chain_to, no_chain}

@@ -9,8 +9,8 @@ use Rattle.sim_core.specs.AccessLog.{log_of}
 use Rattle.sim_core.specs.declared.access_log.LoggedAccess.{LoggedAccess}
 use Rattle.depth_order.specs.Depths.{AsksNothing}
 use Rattle.depth_order.specs.declared.link.Link.{Link}
-use Rattle.latency_path.specs.declared.link.Polled.{Polled}
-use Rattle.latency_path.specs.Polls.{AreAccesses, links_in, polled_path, polls_in}
+use Rattle.path_text.specs.declared.link.Polled.{Polled}
+use Rattle.path_text.specs.Polls.{AreAccesses, links_in, polled_path, polls_in}
 use Rattle.report_text.specs.Lines.{text_of_lines}
 use Rattle.path_text.specs.Counts.{clocks_of, waiting, AreLinksOf, ArePollsOf}
 use Rattle.path_text.specs.PathText.{path_lines, path_text, told_links, told_polls}

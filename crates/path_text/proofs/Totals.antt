@@ -15,14 +15,14 @@ use Rattle.depth_order.specs.Chain.{moves_at, span_start, stood_at, goes_on, cha
 use Rattle.depth_order.specs.Sums.{spent, clocks_across, under_way, chain_clocks}
 use Rattle.depth_order.proofs.Chained.{starts, chain_more, found_true}
 use Rattle.depth_order.proofs.Adds.{adds_up}
-use Rattle.latency_path.specs.declared.walk.At.{At}
-use Rattle.latency_path.specs.declared.link.Polled.{Polled}
-use Rattle.latency_path.specs.declared.link.PolledLink.{PolledLink}
-use Rattle.latency_path.specs.Walks.{before_link, link_at, MovesBefore}
-use Rattle.latency_path.specs.Polls.{AreAccesses, before_polled, going_on, if_some, last_move, last_poll, link_by, links_in, move_by}
-use Rattle.latency_path.specs.Polls.{polled_chain, polled_from, polled_link, polled_path, polls_in}
-use Rattle.latency_path.proofs.Chains.{crossed_at}
-use Rattle.latency_path.proofs.Followed.{last_moves, left, next_polled, poll_is, polled_more}
+use Rattle.path_text.specs.declared.walk.At.{At}
+use Rattle.path_text.specs.declared.link.Polled.{Polled}
+use Rattle.path_text.specs.declared.link.PolledLink.{PolledLink}
+use Rattle.path_text.specs.Walks.{before_link, link_at, MovesBefore}
+use Rattle.path_text.specs.Polls.{AreAccesses, before_polled, going_on, if_some, last_move, last_poll, link_by, links_in, move_by}
+use Rattle.path_text.specs.Polls.{polled_chain, polled_from, polled_link, polled_path, polls_in}
+use Rattle.path_text.proofs.Chains.{crossed_at}
+use Rattle.path_text.proofs.Followed.{last_moves, left, next_polled, poll_is, polled_more}
 use Rattle.path_text.specs.Counts.{waiting}
 
 -- ---- one link

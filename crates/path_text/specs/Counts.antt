@@ -5,7 +5,7 @@ use Rattle.flow_word.specs.declared.access.Side.TheVariants.{Pop, Push}
 use Rattle.flow_design.specs.declared.design.Design.{Design}
 use Rattle.flow_design.specs.StaticRules.{is_port}
 use Rattle.depth_order.specs.declared.link.Link.{Link}
-use Rattle.latency_path.specs.declared.link.Polled.{Polled}
+use Rattle.path_text.specs.declared.link.Polled.{Polled}
 
 -- the clocks of a link
 abbrev pub clocks_of : Link → ℕ

@@ -13,8 +13,8 @@ use Rattle.report_text.specs.ReportText.{module_name, channel_name}
 use Rattle.depth_order.specs.declared.link.Link.{Link}
 use Rattle.depth_order.specs.Chain.{path}
 use Rattle.sim_core.specs.AccessLog.{log_of}
-use Rattle.latency_path.specs.declared.link.Polled.{Polled}
-use Rattle.latency_path.specs.Polls.{polled_path, links_in, polls_in}
+use Rattle.path_text.specs.declared.link.Polled.{Polled}
+use Rattle.path_text.specs.Polls.{polled_path, links_in, polls_in}
 use Rattle.path_text.specs.Counts.{clocks_in, clocks_waited, crossings, times_polled}
 
 -- `spend M N`, where the chain spends N clocks in the module of this name; nothing where it spends none

@@ -3,9 +3,9 @@ ghost use Rattle.std.specs.Prelude.{◌≡◌, ◌==◌, ℕ, ◌<◌, ◌≤◌
 ghost use Rattle.flow_design.specs.StaticRules.{is_port};
 ghost use Rattle.path_text.specs.Counts.{clocks_of, clocks_at, clocks_in, clocks_waited, crossings, times_polled, waiting, waiting_at};
 
+use crate::link::Polled;
 use depth_order::Link;
 use flow_word::{List, OutOfMemory, Port, Side};
-use latency_path::Polled;
 use std::alloc::Global;
 
 /// How many clocks a chain spends in each of so many modules.

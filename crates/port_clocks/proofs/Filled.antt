@@ -7,8 +7,8 @@ use Rattle.flow_design.specs.Plans.{is_fifo, kind_at}
 use Rattle.flow_design.specs.StaticRules.{FitsEngine}
 use Rattle.fifo_fills.specs.Fills.{fill, last_clock}
 use Rattle.fifo_fills.proofs.Counting.{counted}
-use Rattle.queue_clocks.specs.Leads.{before}
-use Rattle.queue_clocks.proofs.Counting.{same_clocks}
+use Rattle.port_clocks.specs.Leads.{before}
+use Rattle.port_clocks.proofs.Counting.{same_clocks}
 use Rattle.port_clocks.specs.Clocks.{ArePortClocks}
 
 pub one_list : (p : Plan) (port : Port) (xs ys : List ℕ) → ArePortClocks p port xs → ArePortClocks p port ys → xs ≡ ys

@@ -31,7 +31,7 @@ use Rattle.timing_bridge.proofs.InOrder.{reported_history}
 use Rattle.engine_view.specs.Held.{Held, core_of}
 use Rattle.engine_view.specs.Shown.{IsTakenAt}
 use Rattle.engine_report.specs.Finished.{IsFinished}
-use Rattle.queue_clocks.proofs.Counting.{told_clocks, told_counts}
+use Rattle.port_clocks.proofs.Counting.{told_clocks, told_counts}
 use Rattle.port_clocks.specs.Clocks.{ArePortClocks}
 use Rattle.port_clocks.specs.Reading.{cycle_in, AreCycles}
 use Rattle.port_clocks.specs.Walks.{never, PassesAt}

@@ -3,7 +3,7 @@ use Rattle.std.specs.Prelude.{ℕ, ◌≡◌, ◌≤◌, List}
 use Rattle.flow_word.specs.declared.access.Port.{Port}
 use Rattle.flow_design.specs.declared.plan.Plan.{Plan}
 use Rattle.fifo_fills.specs.Fills.{last_clock, moved_before}
-use Rattle.queue_clocks.specs.Leads.{before, AreClocks}
+use Rattle.port_clocks.specs.Leads.{before, AreClocks}
 
 -- these are the clocks below the verdict's in which elements pass the port: as many before each clock as elements passed it before
 pub record ArePortClocks (p : Plan) (port : Port) (clocks : List ℕ) : Type 0 where

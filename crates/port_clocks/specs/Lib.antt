@@ -1,3 +1,4 @@
+pub mod Leads
 pub mod Clocks
 pub mod Reading
 pub mod Walks

@@ -6,7 +6,7 @@ ghost use Rattle.flow_design.specs.declared.plan.Plan.{Plan};
 ghost use Rattle.flow_design.specs.Plans.{is_fifo, kind_at};
 ghost use Rattle.flow_design.specs.StaticRules.{FitsEngine};
 ghost use Rattle.fifo_fills.specs.Fills.{fill, last_clock};
-ghost use Rattle.queue_clocks.specs.Leads.{before};
+ghost use Rattle.port_clocks.specs.Leads.{before};
 ghost use Rattle.port_clocks.specs.Clocks.{ArePortClocks};
 
 /// No other clocks are those of a port. In each clock up to the verdict's a FIFO holds so many elements as clocks of its pushes come

@@ -2,10 +2,12 @@
 #![tactic(auto)]
 
 mod laws;
+mod leads;
 mod ports;
 mod reading;
 mod walk;
 
 pub use laws::clocks_tell_fills;
+pub use leads::{ahead_clocks, most_ahead};
 pub use ports::{clocks_at, own_clocks};
 pub use walk::FifoWalk;

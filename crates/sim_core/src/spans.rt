@@ -8,7 +8,7 @@ ghost use Rattle.stall_spans.specs.Spans.{AreSpans};
 ghost use Rattle.sim_core.specs.Views.{theory_of};
 
 use crate::machine::Core;
-use core_spans::spans_of;
+use engine_report::spans_of;
 use flow_word::{List, OutOfMemory};
 use stall_spans::Span;
 use std::alloc::Global;

@@ -30,7 +30,7 @@ use Rattle.timing_bridge.proofs.Requests.{stand}
 use Rattle.fifo_fills.specs.Passed.{Act, acts_in, acts_before, acts, moved_in}
 use Rattle.fifo_fills.specs.Fills.{last_clock}
 use Rattle.fifo_fills.proofs.Acts.{acts-zero, acts-suc, begins, early, late, moved_are}
-use Rattle.queue_clocks.specs.Leads.{before}
+use Rattle.port_clocks.specs.Leads.{before}
 use Rattle.sim_core.specs.AccessLog.{logged, logged_in, log_of}
 use Rattle.sim_core.specs.declared.access_log.LoggedAccess.{LoggedAccess}
 use Rattle.stall_text.specs.Stalls.{moved_at, clocks_of}

@@ -20,7 +20,7 @@ use Rattle.lockstep_defs.specs.Lockstep.{state, history}
 use Rattle.lockstep_defs.specs.Laws.{all_in}
 use Rattle.lockstep_defs.proofs.Counts.{is_counted, delay_positive, fifo_opens_empty}
 use Rattle.fifo_fills.specs.Fills.{fill, last_clock}
-use Rattle.queue_clocks.specs.Leads.{before, is_ahead, ahead_clocks, most_ahead}
+use Rattle.port_clocks.specs.Leads.{before, is_ahead, ahead_clocks, most_ahead}
 use Rattle.port_clocks.specs.Clocks.{ArePortClocks}
 use Rattle.port_clocks.proofs.Filled.{fill_told}
 use Rattle.stall_text.specs.Stalls.{most, empty_clocks, full_clocks}

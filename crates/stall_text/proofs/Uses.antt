@@ -13,7 +13,7 @@ use Rattle.lockstep_defs.specs.Ports.{owner}
 use Rattle.event_timing.proofs.OwnRuns.{same_side_is}
 use Rattle.fifo_fills.specs.Passed.{Act, acts, acts_before}
 use Rattle.fifo_fills.specs.Fills.{last_clock, moved_before}
-use Rattle.queue_clocks.specs.Leads.{before}
+use Rattle.port_clocks.specs.Leads.{before}
 use Rattle.port_clocks.specs.Clocks.{ArePortClocks}
 use Rattle.port_clocks.proofs.Filled.{one_list}
 use Rattle.sim_core.specs.AccessLog.{log_of}

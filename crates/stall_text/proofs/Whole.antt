@@ -23,7 +23,7 @@ use Rattle.report_text.specs.ReportText.{module_name, channel_name}
 use Rattle.report_text.proofs.LineLemmas.{text-append, numbers_more}
 use Rattle.fifo_fills.specs.Fills.{fifos, last_clock}
 use Rattle.fifo_fills.proofs.Ending.{last_within}
-use Rattle.queue_clocks.specs.Leads.{most_ahead, ahead_clocks}
+use Rattle.port_clocks.specs.Leads.{most_ahead, ahead_clocks}
 use Rattle.port_clocks.specs.Clocks.{ArePortClocks}
 use Rattle.stall_spans.specs.Totals.{moved_clocks, still_clocks, still_clocks_at}
 use Rattle.stall_text.specs.declared.fifos.Filling.{Filling}

@@ -1,7 +1,7 @@
 -- How full a FIFO is, by the clocks of its pops and pushes.
 use Rattle.std.specs.Prelude.{ℕ, ◌≡◌, ◌+◌, ◌-◌, List, map}
 use Rattle.flow_design.specs.declared.plan.Plan.{Plan}
-use Rattle.queue_clocks.specs.Leads.{ahead_clocks}
+use Rattle.port_clocks.specs.Leads.{ahead_clocks}
 use Rattle.stall_text.specs.declared.fifos.Filling.{Filling}
 use Rattle.stall_text.specs.Stalls.{most, empty_clocks, full_clocks}
 

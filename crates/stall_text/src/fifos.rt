@@ -8,15 +8,15 @@ ghost use Rattle.flow_design.specs.Plans.{delay_at, is_fifo, kind_at};
 ghost use Rattle.report_text.specs.Lines.{line, text_of_lines};
 ghost use Rattle.fifo_fills.specs.Fills.{fifos, last_clock};
 ghost use Rattle.sim_core.specs.Views.{theory_of};
-ghost use Rattle.queue_clocks.specs.Leads as counts;
-ghost use Rattle.queue_clocks.specs.Leads.{AreClocks};
+ghost use Rattle.port_clocks.specs.Leads as counts;
+ghost use Rattle.port_clocks.specs.Leads.{AreClocks};
 ghost use Rattle.stall_text.specs.StallText.{fifo_line, fifo_tokens};
 ghost use Rattle.stall_text.specs.Filling.{IsFilling, later, empty_by};
 
 use flow_design::ChannelKind;
 use flow_word::{List, OutOfMemory, Port, Side, Words};
 use port_clocks::clocks_at;
-use queue_clocks::{ahead_clocks, most_ahead};
+use port_clocks::{ahead_clocks, most_ahead};
 use report_text::{channel_name, push_token, push_value};
 use sim_core::Core;
 use std::alloc::Global;

@@ -17,9 +17,9 @@ use Rattle.flow_design.specs.Plans.{with_depth, EditFits}
 use Rattle.flow_design.specs.StaticRules.{FitsEngine}
 use Rattle.lockstep_defs.specs.Report.{report}
 use Rattle.engine_report.specs.Finished.{report_with}
-use Rattle.edit_runs.specs.declared.count.RunCount.{RunCount}
-use Rattle.edit_runs.specs.Edits.{depth_after, plan_after}
-use Rattle.edit_runs.specs.Runs.{all_go_on, next_counts, counts_after, first_counts}
+use Rattle.outcome_guard.specs.declared.count.RunCount.{RunCount}
+use Rattle.outcome_guard.specs.Edits.{depth_after, plan_after}
+use Rattle.outcome_guard.specs.Runs.{all_go_on, next_counts, counts_after, first_counts}
 use Rattle.report_text.specs.Lines.{line, runs_tokens}
 use Rattle.report_text.specs.ReportText.{report_text_of}
 use Rattle.sim_io.specs.Causes.{AppendsPrefix}

@@ -5,8 +5,8 @@ use Rattle.flow_design.specs.declared.plan.Plan.{Plan}
 use Rattle.flow_design.specs.declared.plan.Edit.{Edit}
 use Rattle.flow_design.specs.StaticRules.{FitsEngine}
 use Rattle.lockstep_defs.specs.Report.{report}
-use Rattle.edit_runs.specs.Runs.{first_counts, next_counts}
-use Rattle.edit_runs.specs.declared.count.RunCount.{RunCount}
+use Rattle.outcome_guard.specs.Runs.{first_counts, next_counts}
+use Rattle.outcome_guard.specs.declared.count.RunCount.{RunCount}
 use Rattle.whole_answer.specs.declared.status.Status.{Status}
 use Rattle.whole_answer.specs.Answer.{IsAnswer}
 use Rattle.whole_answer.specs.Job.{plan_at, first_numbers, texts_of, counts_in, status_of, is_done, first_not_done, statuses_of}

@@ -7,9 +7,9 @@ use Rattle.flow_design.specs.declared.report.Report.{Report}
 use Rattle.flow_design.specs.declared.report.Verdict.{Verdict}
 use Rattle.flow_design.specs.declared.report.Verdict.TheVariants as verdict
 use Rattle.lockstep_defs.specs.Report.{report}
-use Rattle.edit_runs.specs.declared.count.RunCount.{RunCount}
-use Rattle.edit_runs.specs.Edits.{plan_after}
-use Rattle.edit_runs.specs.Runs.{first_counts, counts_after}
+use Rattle.outcome_guard.specs.declared.count.RunCount.{RunCount}
+use Rattle.outcome_guard.specs.Edits.{plan_after}
+use Rattle.outcome_guard.specs.Runs.{first_counts, counts_after}
 use Rattle.report_text.specs.Lines.{line, runs_tokens}
 use Rattle.report_text.specs.ReportText.{report_text_of}
 use Rattle.whole_answer.specs.declared.answer.Answer.{Answer}

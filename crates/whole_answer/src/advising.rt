@@ -6,7 +6,7 @@ ghost use Rattle.whole_answer.specs.Further.{advice};
 
 use crate::answer::Answer;
 use crate::status::Status;
-use depth_advice::{advise, print_depths};
+use depth_advice::{advised_depths, print_depths};
 use depth_session::ThreadRunner;
 use flow_design::{Plan, copy_plan};
 use flow_word::{List, OutOfMemory};
@@ -29,9 +29,9 @@ pub(crate) fn advise_depths<R: Threads + Wait + Sync, G: Gate + Sync>(
     ensures status { IfOk result (λ whole. IsAnswer whole.status) }
 {
     let own = copy_plan(alloc, &plan)?;
-    let found = advise(rt, alloc, own, &mut ThreadRunner::new(gate))?;
+    let found = advised_depths(rt, alloc, own, &mut ThreadRunner::new(gate))?;
     let mut text = List::from_slice(alloc, b"advise\n")?;
-    print_verdict(&mut text, found.report.verdict)?;
+    print_verdict(&mut text, found.verdict)?;
     print_depths(
         &mut text,
         plan.design.channels.as_slice(),
@@ -39,6 +39,6 @@ pub(crate) fn advise_depths<R: Threads + Wait + Sync, G: Gate + Sync>(
     )?;
     Ok(Answer {
         text,
-        status: Status::of(found.report.verdict),
+        status: Status::of(found.verdict),
     })
 }

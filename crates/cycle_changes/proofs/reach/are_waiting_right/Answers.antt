@@ -4,7 +4,7 @@ use Rattle.flow_word.specs.declared.access.Access.{Access}
 use Rattle.flow_word.specs.declared.access.Step.{Step}
 use Rattle.event_graph.specs.Packed.{whole}
 use Rattle.engine_view.specs.Engines.{held_in}
-use Rattle.step_looks.proofs.HeldSteps.{step_is}
+use Rattle.cycle_changes.proofs.HeldSteps.{step_is}
 use Rattle.cycle_changes.specs.Around.{AreLooked, WaitsAt}
 use Rattle.cycle_changes.proofs.Reaching.{waits_some}
 use Rattle.cycle_changes.proofs.SoFar.{all_more, all_there}

@@ -3,7 +3,7 @@ use Rattle.flow_word.specs.declared.access.Access.{Access}
 use Rattle.flow_word.specs.declared.access.Step.{Step}
 use Rattle.engine_view.specs.Engines.{held_in}
 use Rattle.cycle_changes.specs.Around.{StandsAt}
-use Rattle.step_looks.proofs.HeldSteps.{step_is}
+use Rattle.cycle_changes.proofs.HeldSteps.{step_is}
 use Rattle.event_graph.specs.Packed.{whole}
 use Rattle.cycle_changes.proofs.reach.is_right_or_elsewhere.Goals as goal
 

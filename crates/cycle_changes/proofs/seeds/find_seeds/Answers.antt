@@ -8,7 +8,7 @@ use Rattle.engine_view.specs.Emitted.{place_of}
 use Rattle.engine_view.specs.Held.{step_of}
 use Rattle.engine_view.specs.Engines.{held_in}
 use Rattle.engine_view.specs.Turns.{first_of}
-use Rattle.step_looks.specs.Looks.{IsLooked}
+use Rattle.cycle_changes.specs.Looks.{IsLooked}
 use Rattle.cycle_changes.specs.Around.{StandsSomewhere}
 use Rattle.cycle_changes.proofs.Reaching.{as_owner, has_owner}
 use Rattle.cycle_changes.proofs.seeds.find_seeds.Goals as goal

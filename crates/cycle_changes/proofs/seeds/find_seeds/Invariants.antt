@@ -4,7 +4,7 @@ use Rattle.flow_word.specs.declared.access.Side.TheVariants.{Push}
 use Rattle.engine_view.specs.Emitted.{place_of}
 use Rattle.engine_view.specs.Held.{step_of}
 use Rattle.engine_view.specs.Engines.{held_in}
-use Rattle.step_looks.specs.Looks.{IsLooked}
+use Rattle.cycle_changes.specs.Looks.{IsLooked}
 use Rattle.cycle_changes.specs.Around.{StandsSomewhere}
 use Rattle.cycle_changes.proofs.seeds.find_seeds.Given as goal
 

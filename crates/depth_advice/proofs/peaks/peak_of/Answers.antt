@@ -2,7 +2,7 @@ use Rattle.std.proofs.Common.{◌∙◌, ap₂, sym, subst}
 use Rattle.std.specs.Prelude.{All, AllPairs, List, ℕ, ◌≤◌, ◌<◌, ◌+◌, ◌^◌}
 use Rattle.fifo_fills.specs.Fills.{last_clock}
 use Rattle.flow_design.specs.declared.limits.TheConstants.{FIFO_DEPTH}
-use Rattle.queue_clocks.specs.Leads.{most_ahead}
+use Rattle.port_clocks.specs.Leads.{most_ahead}
 use Rattle.depth_advice.proofs.Finding.{peak_is, peak_small, clock_early}
 use Rattle.depth_advice.proofs.peaks.peak_of.Goals as goal
 

@@ -2,7 +2,7 @@ use Rattle.std.proofs.Common.{sym, ap, subst, ◌∙◌, ◌+◌, Bool, List, ar
 use Rattle.flow_design.specs.declared.plan.Plan.{Plan}
 use Rattle.lockstep_defs.specs.Report.{report}
 use Rattle.outcome_guard.specs.declared.guard.Guard.{Guard}
-use Rattle.edit_runs.specs.declared.count.RunCount.{RunCount}
+use Rattle.outcome_guard.specs.declared.count.RunCount.{RunCount}
 use Rattle.sim_core.specs.Records.{HasOtherAnswer, recorded_in}
 use Rattle.depth_session.specs.Records.{RepeatsAnswers, counted}
 use Rattle.depth_session.specs.Settled.{HasGoneOn, count_of}

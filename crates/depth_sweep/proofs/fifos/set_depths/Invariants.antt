@@ -1,6 +1,6 @@
 use Rattle.std.proofs.Common.{◌≡◌, take}
 use Rattle.flow_design.specs.StaticRules.{FitsEngine}
-use Rattle.edit_runs.specs.Edits.{plan_after}
+use Rattle.outcome_guard.specs.Edits.{plan_after}
 use Rattle.depth_sweep.specs.Grid.{depth_edits}
 use Rattle.depth_sweep.proofs.fifos.set_depths.Given as goal
 

@@ -6,9 +6,9 @@ use Rattle.flow_design.specs.StaticRules.{FitsEngine}
 use Rattle.lockstep_defs.specs.Verdict.{verdict}
 use Rattle.flow_design.specs.Reports.{clock_of}
 use Rattle.stall_spans.specs.declared.span.Span.{Span}
-use Rattle.latency_path.specs.Walks.{HasSpans}
-use Rattle.latency_path.specs.Polls.{AreAccesses, links_in, polled_path, polls_in}
-use Rattle.latency_path.specs.declared.link.Polled.{Polled}
+use Rattle.path_text.specs.Walks.{HasSpans}
+use Rattle.path_text.specs.Polls.{AreAccesses, links_in, polled_path, polls_in}
+use Rattle.path_text.specs.declared.link.Polled.{Polled}
 use Rattle.depth_order.specs.declared.link.Link.{Link}
 use Rattle.report_text.specs.Lines.{line, text_of_lines, verdict_tokens}
 use Rattle.path_text.specs.Counts.{clocks_of, waiting, AreLinksOf, ArePollsOf}

@@ -1,6 +1,6 @@
 use Rattle.std.proofs.Common.{◌∙◌, ◌≤◌, ◌<◌, ◌+◌, ◌-◌, ◌^◌, sym, subst, arith}
 use Rattle.std.specs.Prelude.{All, AllPairs}
-use Rattle.queue_clocks.proofs.Counts.{ahead_at_most}
+use Rattle.port_clocks.proofs.Counts.{ahead_at_most}
 use Rattle.stall_text.proofs.Fills.{later_rises, later_early}
 use Rattle.stall_text.proofs.fifos.filling_of.Goals as goal
 

@@ -11,7 +11,7 @@ use Rattle.sim_io.specs.Causes.{AppendsPrefix}
 use Rattle.sim_io.proofs.Pending.{prefix_none}
 use Rattle.block_code.specs.declared.code.BlockCode.{BlockCode}
 use Rattle.clock_machine.specs.Parts.{AreCodes}
-use Rattle.edit_runs.specs.Runs.{first_counts, next_counts}
+use Rattle.outcome_guard.specs.Runs.{first_counts, next_counts}
 use Rattle.whole_answer.specs.Answer.{IsAnswer}
 use Rattle.whole_answer.specs.Going.{Told, IsGoing, told_of}
 use Rattle.whole_answer.specs.Job.{status_of, is_done}

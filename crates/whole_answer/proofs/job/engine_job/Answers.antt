@@ -6,7 +6,7 @@ use Rattle.flow_design.specs.declared.plan.Plan.{Plan}
 use Rattle.flow_design.specs.declared.report.Report.{Report}
 use Rattle.flow_design.specs.StaticRules.{FitsEngine}
 use Rattle.lockstep_defs.specs.Report.{report}
-use Rattle.edit_runs.specs.Runs.{next_counts}
+use Rattle.outcome_guard.specs.Runs.{next_counts}
 use Rattle.depth_session.specs.Sessions.{Session, opened, with_edit}
 use Rattle.report_text.specs.Lines.{line, runs_tokens}
 use Rattle.report_text.specs.ReportText.{report_text_of}

@@ -9,7 +9,7 @@ use Rattle.timing_bridge.specs.Designs.{design}
 use Rattle.engine_view.specs.Engines.{held_in}
 use Rattle.engine_report.specs.Finished.{IsFinished}
 use Rattle.stall_spans.specs.Spans.{AreSpans}
-use Rattle.core_spans.proofs.Stepping.{has_module}
+use Rattle.engine_report.proofs.Stepping.{has_module}
 use Rattle.sim_core.specs.Runs.{over_of}
 use Rattle.sim_core.specs.Views.{CoreView, theory_of}
 use Rattle.sim_core.proofs.Ending.{finished}

@@ -1,3 +1,0 @@
-pub mod Waiting
-pub mod Same
-pub mod Stepping

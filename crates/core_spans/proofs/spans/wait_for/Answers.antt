@@ -1,9 +1,0 @@
-use Rattle.std.proofs.Common.{rules}
-use Rattle.core_spans.proofs.Waiting.{both_ok, passed_blocking}
-use Rattle.core_spans.proofs.spans.wait_for.Goals as goal
-
-pub returns : goal.returns
-returns c = both_ok c.go_on.result
-    (λ s b. passed_blocking c.args.engine.now.graph.lanes c.args.engine.now.fifos.channels c.args.access.now c.args.until c.args.spans.now
-    c.go_on.new.spans c.possible_from-from.result c.side.result c.possible_from-from.ensures c.side.ensures (search rules) s b)
-    c.go_on.ensures.spans c.go_on.ensures.reached

@@ -1,0 +1,36 @@
+//! The laws of looks, for any design `d` over states of any type `S`.
+ghost use Rattle.std.specs.Prelude.{◌↔◌, ℕ, ◌<◌, ◌≤◌, length, List, slice_index};
+ghost use Rattle.flow_word.specs.declared.access.Side.{Side};
+ghost use Rattle.flow_design.specs.declared.plan.Edit.{Edit};
+ghost use Rattle.event_graph.specs.Lanes.{lane_at};
+ghost use Rattle.fifo_table.specs.Channels.{IsFifo, channel_at};
+ghost use Rattle.fifo_table.specs.Roomed.{RoomedChannels};
+ghost use Rattle.event_timing.specs.Machines.{Design, IsDesign};
+ghost use Rattle.event_timing.specs.Edits.{edited};
+ghost use Rattle.right_records.specs.Records.{IsRight, with_cycles};
+ghost use Rattle.engine_view.specs.Held.{Held, core_of};
+ghost use Rattle.engine_view.specs.Kept.{IsKept, IsNow};
+ghost use Rattle.engine_view.specs.Rooms.{HasRoom, room_of};
+ghost use Rattle.engine_view.specs.Shown.{IsSound};
+ghost use Rattle.cycle_changes.specs.Looks.{IsLooked, cycle_held};
+ghost use Rattle.cycle_changes.specs.OtherCycles.{HasOtherCycles};
+
+/// A step with a cycle is right exactly where a look at it, by the graph and the table, finds its cycle and its outcomes again.
+pub fn looks_are_right<S>()
+    ensures { (d : Design S) → IsDesign d → (h : Held) → IsSound d h → (m k : ℕ) → k < length (lane_at h.lanes m).cycles
+        → IsLooked h m k ↔ IsRight d (core_of d h) m k }
+{}
+
+/// What is held with another depth of a FIFO and other cycles is the core with those cycles, kept for the edited design, and no room is
+/// lost.
+pub fn other_cycles_are_held<S>()
+    ensures now { (d : Design S) (h : Held) → IsKept d h → (e : Edit) → e.channel < length h.channels
+        → IsFifo (channel_at h.channels e.channel).kind → (g : Held) → HasOtherCycles h g e
+        → IsNow (edited d e.channel e.depth) g (with_cycles (core_of d h) (cycle_held g)) }
+    ensures room { (d : Design S) (h : Held) → IsKept d h → (e : Edit) → e.channel < length h.channels
+        → IsFifo (channel_at h.channels e.channel).kind → (g : Held) → HasOtherCycles h g e
+        → (lanes lanes_left : List ℕ) (table table_left : RoomedChannels) (logs credits : List ℕ)
+        → HasRoom d h lanes table logs credits → ((k : ℕ) → slice_index lanes k ≤ slice_index lanes_left k)
+        → ((side : Side) (c : ℕ) → room_of table side c ≤ room_of table_left side c)
+        → HasRoom (edited d e.channel e.depth) g lanes_left table_left logs credits }
+{}

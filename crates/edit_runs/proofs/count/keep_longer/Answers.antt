@@ -1,6 +1,0 @@
-use Rattle.std.proofs.Common.{◌∙◌, sym, arith}
-use Rattle.edit_runs.proofs.Kept.{longer_behind}
-use Rattle.edit_runs.proofs.count.keep_longer.Goals as goal
-
-pub returns : goal.returns
-returns c = sym (longer_behind c.loop-at.kept c.loop-at.found c.loop-at.at (omega arith)) ∙ c.loop-at.invariant

@@ -1,0 +1,18 @@
+use Rattle.std.proofs.Common.{◌≡◌, ◌<◌, map}
+use Rattle.std.specs.Prelude.{is_some}
+use Rattle.flow_design.specs.declared.plan.Plan.{Plan}
+use Rattle.lockstep_defs.specs.Verdict.{verdict}
+use Rattle.flow_design.specs.Reports.{clock_of}
+use Rattle.event_graph.specs.Lanes.{lane_at, cycle_bound}
+use Rattle.engine_view.specs.Engines.{held_in}
+use Rattle.engine_report.specs.Finished.{IsFinished}
+use Rattle.engine_report.specs.Reading.{cycle_before, HasPassedSteps}
+use Rattle.engine_report.proofs.spans.spans_of.Given as goal
+
+abbrev pub invariant-loop-step : goal.invariant-loop-step
+invariant-loop-step l = record {
+  last : l.last ≡ cycle_before (lane_at l.engine.graph.lanes l.owner).cycles l.step;
+  below : l.last < cycle_bound;
+  passed : (p : Plan) → IsFinished p (held_in l.engine (map is_some l.ends)) l.ends
+      → l.clock ≡ clock_of (verdict p) → HasPassedSteps p l.owner l.clock (lane_at l.engine.graph.lanes l.owner).cycles l.step l.spans;
+}

@@ -1,0 +1,177 @@
+//! The spans of a module.
+ghost use Rattle.std.specs.Prelude.{ℕ, ◌≡◌, ◌<◌, ◌≤◌, ◌+◌, min, max, length, map, is_some, All, IfOk, OnOk};
+ghost use Rattle.time_engine.specs.Conditions.{IsAccess, HasAccesses, HasPlaces};
+ghost use Rattle.time_engine.specs.Possible.{when_possible};
+ghost use Rattle.flow_design.specs.declared.plan.Plan.{Plan};
+ghost use Rattle.lockstep_defs.specs.Verdict.{verdict};
+ghost use Rattle.flow_design.specs.Reports.{clock_of};
+ghost use Rattle.event_graph.specs.Lanes.{HasStep, cycle_bound, gap_bound};
+ghost use Rattle.engine_view.specs.Engines.{held_in};
+ghost use Rattle.engine_report.specs.Finished.{IsFinished};
+ghost use Rattle.engine_report.specs.Standings.{end_at, gap_of};
+ghost use Rattle.stall_spans.specs.declared.span.Doing.TheVariants.{Moves};
+ghost use Rattle.stall_spans.specs.Spans.{AreSpans};
+ghost use Rattle.stall_spans.specs.Coming.{reached, Comes, Does};
+ghost use Rattle.engine_report.specs.Reading.{known_until, step_at, Stands, HasWaited, HasPassed};
+
+use engine_view::Engine;
+use event_graph::Place;
+use flow_design::Advance;
+use flow_word::{Access, List, OutOfMemory, Port};
+use stall_spans::{Doing, Span, go_on};
+use std::alloc::Global;
+use time_engine::{Known, known_of};
+
+/// The spans of a module, read off what an engine holds when nothing is left to do: the steps of all modules with their cycles, the
+/// pushes and pops, and the end mark of each module whose own run came to one. The spans are those of the lockstep machine below the
+/// clock of its verdict.
+///
+/// It looks at each step of the module once and at each of its accesses once. It takes memory for the spans. An error leaves nothing.
+pub fn spans_of(
+    alloc: Global,
+    engine: &Engine,
+    ends: &[Option<Advance>],
+    owner: u32,
+    clock: u64,
+) -> Result<List<Span>, OutOfMemory>
+    requires owner { owner < length engine.now.graph.lanes }
+    requires accesses { HasAccesses engine.now.graph.lanes engine.now.fifos.channels }
+    requires places { HasPlaces engine.now.graph.lanes engine.now.fifos.channels }
+    requires ends { owner < length ends.now }
+    requires short { gap_of (end_at ends.now owner) < gap_bound }
+    ensures { IfOk result (λ spans. (p : Plan)
+        → IsFinished p (held_in engine.now (map is_some ends.now)) ends.now → clock ≡ clock_of (verdict p)
+        → AreSpans p owner spans) }
+{
+    let mut spans = List::new(alloc);
+    let mut last = 0u64;
+    let timed = engine.graph.frontier(owner);
+    for step in 0..timed {
+        let place = Place {
+            module: owner,
+            step,
+        };
+        let cycle = engine.graph.cycle_of(place).unwrap_or(0);
+        stand(&mut spans, engine, place, last, cycle.min(clock))?;
+        go_on(&mut spans, (cycle + 1).min(clock), Doing::Moves)?;
+        last = cycle;
+    }
+    if timed == engine.graph.len(owner) {
+        let end = last + gap_of(&ends[owner as usize]);
+        go_on(&mut spans, end.min(clock), Doing::Moves)?;
+    } else {
+        let place = Place {
+            module: owner,
+            step: timed,
+        };
+        stand(&mut spans, engine, place, last, clock)?;
+    }
+    Ok(spans)
+}
+
+/// A module comes to a step, the last one before which was in this cycle, and stands at it up to a clock.
+fn stand(
+    spans: &mut List<Span>,
+    engine: &Engine,
+    place: Place,
+    last: u64,
+    until: u64,
+) -> Result<(), OutOfMemory>
+    requires step { HasStep engine.now.graph.lanes place }
+    requires last { last < cycle_bound }
+    requires accesses { HasAccesses engine.now.graph.lanes engine.now.fifos.channels }
+    requires places { HasPlaces engine.now.graph.lanes engine.now.fifos.channels }
+    ensures spans { OnOk result ((p : Plan) (i : ℕ) → Comes p i spans.old
+        → Does p i (reached spans.old) (min (last + (step_at engine.now.graph.lanes place).gap) until) Moves
+        → Stands p i engine.now.graph.lanes engine.now.fifos.channels (step_at engine.now.graph.lanes place).accesses
+        (max (reached spans.old) (min (last + (step_at engine.now.graph.lanes place).gap) until)) until
+        → Comes p i spans.new) }
+    ensures reached { OnOk result (reached spans.new ≡ max (reached spans.old) until) }
+{
+    let step = engine.graph.step(place);
+    let arrival = (last + step.gap).min(until);
+    stand_from(spans, engine, step.accesses.as_slice(), arrival, until)
+}
+
+/// A module comes to a step in a clock, and stands at it up to another.
+fn stand_from(
+    spans: &mut List<Span>,
+    engine: &Engine,
+    accesses: &[Access],
+    arrival: u64,
+    until: u64,
+) -> Result<(), OutOfMemory>
+    requires inside { All (IsAccess engine.now.fifos.channels) accesses.now }
+    requires places { HasPlaces engine.now.graph.lanes engine.now.fifos.channels }
+    requires arrival { arrival ≤ until }
+    ensures spans { OnOk result ((p : Plan) (i : ℕ) → Comes p i spans.old → Does p i (reached spans.old) arrival Moves
+        → Stands p i engine.now.graph.lanes engine.now.fifos.channels accesses.now (max (reached spans.old) arrival) until
+        → Comes p i spans.new) }
+    ensures reached { OnOk result (reached spans.new ≡ max (reached spans.old) until) }
+{
+    go_on(spans, arrival, Doing::Moves)?;
+    wait(spans, engine, accesses, until)?;
+    go_on(spans, until, Doing::Moves)
+}
+
+/// The causes for which it stands still there, one after the other.
+fn wait(
+    spans: &mut List<Span>,
+    engine: &Engine,
+    accesses: &[Access],
+    until: u64,
+) -> Result<(), OutOfMemory>
+    requires inside { All (IsAccess engine.now.fifos.channels) accesses.now }
+    requires places { HasPlaces engine.now.graph.lanes engine.now.fifos.channels }
+    ensures { OnOk result (HasWaited engine.now.graph.lanes engine.now.fifos.channels accesses.now until (length accesses.now)
+        spans.old spans.new) }
+{
+    for access in accesses {
+        wait_for(spans, engine, access, until)?;
+    }
+    Ok(())
+}
+
+/// The clocks in which this access is the cause, where none before it is.
+fn wait_for(
+    spans: &mut List<Span>,
+    engine: &Engine,
+    access: &Access,
+    until: u64,
+) -> Result<(), OutOfMemory>
+    requires access { IsAccess engine.now.fifos.channels access.now }
+    requires places { HasPlaces engine.now.graph.lanes engine.now.fifos.channels }
+    ensures { OnOk result (HasPassed engine.now.graph.lanes engine.now.fifos.channels access.now until spans.old spans.new) }
+{
+    if !access.kind.is_blocking() {
+        return Ok(());
+    }
+    let port = Port {
+        side: access.kind.side(),
+        channel: access.channel,
+    };
+    let from = possible_from(engine, access, until);
+    go_on(spans, from, Doing::Still(port))
+}
+
+/// The clock from which an access is possible, at most this one.
+fn possible_from(engine: &Engine, access: &Access, until: u64) -> u64
+    requires access { IsAccess engine.now.fifos.channels access.now }
+    requires places { HasPlaces engine.now.graph.lanes engine.now.fifos.channels }
+    ensures { result ≡ known_until (when_possible engine.now.graph.lanes engine.now.fifos.channels access.now) until }
+{
+    match known_of(&engine.graph, &engine.fifos, access) {
+        Known::From(clock) => clock.min(until),
+        Known::Never | Known::Unknown => until,
+    }
+}
+
+/// The local clocks from a module's last step to its end.
+fn gap_of(end: &Option<Advance>) -> u64
+    ensures { result ≡ gap_of end.now }
+{
+    match end {
+        Some(Advance::Ended(gap)) | Some(Advance::Spent(gap)) => *gap,
+        Some(Advance::Step(_)) | None => 0,
+    }
+}

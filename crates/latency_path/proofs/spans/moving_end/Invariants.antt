@@ -1,6 +1,0 @@
-use Rattle.std.specs.Prelude.{◌≡◌, take}
-use Rattle.latency_path.specs.Walks.{moving_end}
-use Rattle.latency_path.proofs.spans.moving_end.Given as goal
-
-abbrev pub invariant-loop-span : goal.invariant-loop-span
-invariant-loop-span l = l.end ≡ moving_end (take l.span-index l.spans)

@@ -1,7 +1,0 @@
-use Rattle.std.specs.Prelude.{ℕ}
-use Rattle.flow_design.specs.declared.plan.Plan.{Plan}
-use Rattle.latency_path.specs.Walks.{HasSpans, IsLastMove}
-use Rattle.latency_path.proofs.walk.last_move.Given as goal
-
-abbrev pub invariant-loop-owner : goal.invariant-loop-owner
-invariant-loop-owner l = (p : Plan) (end : ℕ) → HasSpans p end l.spans → IsLastMove p end l.owner l.last

@@ -1,4 +1,0 @@
-pub mod Walks
-pub mod Owners
-pub mod Polls
-pub mod Finds

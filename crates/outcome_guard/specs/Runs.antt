@@ -1,0 +1,55 @@
+-- How many runs the reports of a design after its edits count: a report counts none where its answers go on where the kept ones end.
+use Rattle.std.specs.Prelude.{◌+◌, Bool, true, false, not, ◌&&◌, ◌||◌, if◌then◌else◌, nat_lt, List, [], ◌∷◌, length}
+use Rattle.outcome_guard.specs.declared.count.RunCount.{RunCount}
+
+-- ---- one list of outcomes beside another
+
+abbrev pub same_outcome : Bool → Bool → Bool
+same_outcome true b = b
+same_outcome false b = not b
+
+-- the second list begins with the first
+abbrev pub begins : List Bool → List Bool → Bool
+begins [] b = true
+begins (x ∷ a) [] = false
+begins (x ∷ a) (y ∷ b) = same_outcome x y && begins a b
+
+-- one of the lists is a prefix of the other
+abbrev pub goes_on : List Bool → List Bool → Bool
+goes_on a b = begins a b || begins b a
+
+-- the longer of two lists, the first where they are as long
+abbrev pub longer : List Bool → List Bool → List Bool
+longer a b = if nat_lt (length a) (length b) then b else a
+
+-- ---- the answers of all modules
+
+-- in every module
+abbrev pub all_go_on : List (List Bool) → List (List Bool) → Bool
+all_go_on [] found = true
+all_go_on (a ∷ kept) [] = true
+all_go_on (a ∷ kept) (b ∷ found) = goes_on a b && all_go_on kept found
+
+abbrev pub all_longer : List (List Bool) → List (List Bool) → List (List Bool)
+all_longer [] found = []
+all_longer (a ∷ kept) [] = a ∷ kept
+all_longer (a ∷ kept) (b ∷ found) = longer a b ∷ all_longer kept found
+
+-- ---- the count
+
+-- with the answers of the first report
+abbrev pub first_counts : List (List Bool) → RunCount
+first_counts answers = record { kept = answers; runs = 1 }
+
+-- with those of one report more: where in every module one of the lists is a prefix of the other, every module keeps the longer one; else
+-- there is one run more, whose answers are kept
+unfoldable pub next_counts : RunCount → List (List Bool) → RunCount
+next_counts old found =
+    if all_go_on old.kept found
+    then record { kept = all_longer old.kept found; runs = old.runs }
+    else record { kept = found; runs = old.runs + 1 }
+
+-- with those of all further reports
+abbrev pub counts_after : RunCount → List (List (List Bool)) → RunCount
+counts_after old [] = old
+counts_after old (found ∷ more) = counts_after (next_counts old found) more

@@ -1,0 +1,13 @@
+//! What edits come to one after the other.
+ghost use Rattle.std.specs.Prelude.{◌≡◌, ◌<◌, [], ◌∷◌, ◌++◌, length, List};
+ghost use Rattle.flow_design.specs.declared.plan.Plan.{Plan};
+ghost use Rattle.flow_design.specs.declared.plan.Edit.{Edit};
+ghost use Rattle.flow_design.specs.Plans.{with_depth};
+ghost use Rattle.outcome_guard.specs.Edits.{plan_after};
+
+/// Without edits a plan stays as it is, and one edit more sets one depth more.
+pub fn edits_in_order()
+    ensures none { (p : Plan) → plan_after p [] ≡ p }
+    ensures one_more { (p : Plan) (edits : List Edit) (e : Edit) → e.channel < length p.depths
+        → plan_after p (edits ++ e ∷ []) ≡ with_depth (plan_after p edits) e.channel e.depth }
+{}

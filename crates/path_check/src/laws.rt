@@ -1,0 +1,25 @@
+//! The laws, for any plan `p` that the engine takes.
+ghost use Rattle.std.specs.Prelude.{◌≡◌, ◌≢◌, ℕ, zero, suc, ◌+◌, ◌≤◌, IsTrue, List as Items};
+ghost use Rattle.flow_design.specs.declared.plan.Plan.{Plan};
+ghost use Rattle.flow_design.specs.declared.report.Verdict.TheVariants.{Done};
+ghost use Rattle.flow_design.specs.StaticRules.{FitsEngine};
+ghost use Rattle.lockstep_defs.specs.Verdict.{verdict};
+ghost use Rattle.timing_bridge.specs.Designs.{design, lockstep_run, start_in};
+ghost use Rattle.depth_order.specs.Depths.{with_depths, AreDepths, AreDeeper, AsksNothing};
+ghost use Rattle.depth_order.specs.Chain.{moves_at};
+ghost use Rattle.path_check.specs.Paths.{IsAfter};
+
+/// Where no operation is a query, and with other depths a module of the plan goes on from a clock in which it moves so many clocks after
+/// the beginning, the plan with those depths ends no earlier than a clock after that. Where those depths are no greater than the plan's, a
+/// path may begin in any clock of the plan's run. Where a path leads back to where it began, the plan with those depths never ends.
+pub fn paths_end_late()
+    ensures late { (p : Plan) → FitsEngine p → AsksNothing p → (ds : Items ℕ) → AreDepths p ds → (m n f w : ℕ)
+        → IsAfter (design p) (start_in (with_depths p ds)) (lockstep_run p) m zero n f w → IsTrue (moves_at p f n)
+        → (clock : ℕ) → verdict (with_depths p ds) ≡ Done clock → suc w ≤ clock }
+    ensures later { (p : Plan) → FitsEngine p → AsksNothing p → (ds : Items ℕ) → AreDepths p ds → AreDeeper p ds p.depths
+        → (m e n f w : ℕ) → IsAfter (design p) (start_in (with_depths p ds)) (lockstep_run p) m e n f w → IsTrue (moves_at p f n)
+        → (clock : ℕ) → verdict (with_depths p ds) ≡ Done clock → suc (e + w) ≤ clock }
+    ensures never { (p : Plan) → FitsEngine p → AsksNothing p → (ds : Items ℕ) → AreDepths p ds → (m e w : ℕ)
+        → IsAfter (design p) (start_in (with_depths p ds)) (lockstep_run p) m e m e (suc w) → IsTrue (moves_at p e m)
+        → (clock : ℕ) → verdict (with_depths p ds) ≢ Done clock }
+{}

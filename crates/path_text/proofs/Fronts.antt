@@ -1,0 +1,133 @@
+-- The element that a query finds was pushed before.
+use Rattle.std.proofs.Common.{◌≡◌, ℕ, suc, ◌+◌, ◌-◌, ◌<◌, ◌≤◌, List, [], ◌∷◌, length, Bool, true, false, not, ◌&&◌, cond, refl, sym, ◌∙◌}
+use Rattle.std.proofs.Common.{ap, subst, arith, get_or, inl, inr}
+use Rattle.std.specs.Prelude.{AllPairs}
+use Rattle.std.specs.List.{filter, AllByRecursion}
+use Rattle.std.proofs.lemmas.Bool.{cases_lt, and_parts, leb-true, not-true}
+use Rattle.std.proofs.lemmas.List.Elements.{All-from_recursion}
+use Rattle.flow_word.specs.declared.access.Port.{Port}
+use Rattle.flow_word.specs.declared.access.Side.{Side}
+use Rattle.flow_word.specs.declared.access.Side.TheVariants.{Pop, Push}
+use Rattle.flow_design.specs.declared.plan.Plan.{Plan}
+use Rattle.flow_design.specs.Plans.{is_fifo, kind_at, delay_at}
+use Rattle.flow_design.specs.StaticRules.{FitsEngine}
+use Rattle.lockstep_defs.specs.Channels.{contents_of, is_empty}
+use Rattle.lockstep_defs.specs.Lockstep.{state}
+use Rattle.lockstep_defs.specs.Ports.{owner}
+use Rattle.lockstep_defs.proofs.Counts.{delay_positive}
+use Rattle.fifo_fills.specs.Passed.{acts}
+use Rattle.fifo_fills.specs.Fills.{last_clock}
+use Rattle.port_clocks.specs.Leads.{before, is_ahead}
+use Rattle.port_clocks.specs.Clocks.{ArePortClocks}
+use Rattle.port_clocks.proofs.Counts.{before_below, before_most}
+use Rattle.sim_core.specs.AccessLog.{log_of}
+use Rattle.sim_core.specs.declared.access_log.LoggedAccess.{LoggedAccess}
+use Rattle.stall_text.specs.Polls.{is_missed}
+use Rattle.stall_text.specs.Stalls.{clocks_of, moved_at}
+use Rattle.stall_text.specs.Filling.{later}
+use Rattle.stall_text.proofs.Accesses.{on, list_rises, log_is}
+use Rattle.stall_text.proofs.Uses.{moved_owner, log_clocks}
+use Rattle.stall_text.proofs.Fills.{empty_is, later_before}
+use Rattle.depth_order.specs.Chain.{moves_at}
+use Rattle.path_text.specs.Polls.{is_hit, seeks, moved_clocks, front_pushed, AreAccesses}
+use Rattle.path_text.proofs.Logged.{IsTold, log_told}
+
+-- ---- a query that found an element
+
+pub record IsHit (p : Plan) (a : LoggedAccess) : Type 0 where
+  pub seeks : seeks a.event.kind ≡ true
+  pub there : is_missed a ≡ false
+  pub fifo : is_fifo (kind_at p a.event.channel) ≡ true
+
+pub hit_parts : (p : Plan) (a : LoggedAccess) → is_hit p a ≡ true → IsHit p a
+hit_parts p a e =
+    let outer = and_parts (seeks a.event.kind) (not (is_missed a) && is_fifo (kind_at p a.event.channel)) e in
+    let inner = and_parts (not (is_missed a)) (is_fifo (kind_at p a.event.channel)) outer.1 in
+    record { seeks = outer.0; there = not-true (is_missed a) inner.0; fifo = inner.1 }
+
+-- ---- clocks of a port
+
+-- they are those in which elements pass it
+told_clocks : (p : Plan) (side : Side) (f : ℕ) → ArePortClocks p (on side f) (moved_clocks (log_of p) side f)
+unfolding acts
+told_clocks p side f =
+    subst (ArePortClocks p (on side f)) (sym (ap (λ (log : List LoggedAccess). moved_clocks log side f) (log_is p))) (log_clocks p side f)
+
+pub clocks_rise : (p : Plan) (side : Side) (f : ℕ) → AllPairs (λ a b. a ≤ b) (moved_clocks (log_of p) side f)
+unfolding acts
+clocks_rise p side f =
+    subst (AllPairs (λ a b. a ≤ b)) (sym (ap (λ (log : List LoggedAccess). moved_clocks log side f) (log_is p)))
+    (list_rises p (moved_at (on side f)) (last_clock p))
+
+-- who moved an element there moved then
+movers : (p : Plan) (port : Port) (log : List LoggedAccess) → AllByRecursion (IsTold p) log
+    → AllByRecursion (λ c. moves_at p c (owner p port) ≡ true) (clocks_of (filter (moved_at port) log))
+movers p port [] h = tt
+movers p port (a ∷ log) h = by_test (moved_at port a) refl (movers p port log h.1)
+  where
+    by_test : (b : Bool) → moved_at port a ≡ b → AllByRecursion (λ c. moves_at p c (owner p port) ≡ true) (clocks_of (filter (moved_at port) log))
+        → AllByRecursion (λ c. moves_at p c (owner p port) ≡ true) (clocks_of (cond b (a ∷ filter (moved_at port) log) (filter (moved_at port) log)))
+    by_test true e rest =
+        (subst (λ (m : ℕ). moves_at p a.event.cycle m ≡ true) (moved_owner p port a (h.0).owned e) (h.0).moves, rest)
+    by_test false e rest = rest
+
+-- ---- the element at the front
+
+counted_in : (xs : List ℕ) → AllPairs (λ a b. a ≤ b) xs → (k c : ℕ) → k < before xs c → get_or xs k 0 < c
+counted_in xs h k c l = elim (cases_lt (get_or xs k 0) c) [
+  | inl w ↦ w
+  | inr w ↦
+      let inside : k < length xs = omega (arith, before_most xs c) in
+      absurd (omega (arith, before_below xs h k c inside w))
+]
+
+-- the element that a query finds in clock u at the front of channel f: its push was before, and its module moved then
+pub record IsFront (p : Plan) (log : List LoggedAccess) (f u : ℕ) : Type 0 where
+  pub there : before (moved_clocks log Pop f) u < length (moved_clocks log Push f)
+  pub earlier : front_pushed log f u < u
+  pub moves : moves_at p (front_pushed log f u) (owner p (record { side = Push; channel = f })) ≡ true
+
+not_false : (b : Bool) → not b ≡ false → b ≡ true
+not_false true e = refl
+not_false false e = absurd cc
+
+empty_here : (p : Plan) → FitsEngine p → (f : ℕ) → f < length p.design.channels → is_fifo (kind_at p f) ≡ true → (c : ℕ) → c ≤ last_clock p
+    → is_empty c (contents_of (state p c).contents f)
+    ≡ not (is_ahead 1 (later (delay_at p f - 1) (moved_clocks (log_of p) Push f)) (moved_clocks (log_of p) Pop f) c)
+empty_here p fits f l fifo c m =
+    empty_is p fits f l fifo (moved_clocks (log_of p) Pop f) (moved_clocks (log_of p) Push f) (told_clocks p Pop f) (told_clocks p Push f) c m
+
+front_here : (p : Plan) → FitsEngine p → (a : LoggedAccess) → IsTold p a → IsHit p a → IsFront p (log_of p) a.event.channel a.event.cycle
+front_here p fits a told hit =
+    let f = a.event.channel in
+    let u = a.event.cycle in
+    let pops = moved_clocks (log_of p) Pop f in
+    let pushes = moved_clocks (log_of p) Push f in
+    let d = delay_at p f in
+    let positive = delay_positive p fits f told.inside in
+    let below = told.below in
+    let full : is_empty u (contents_of (state p u).contents f) ≡ false = sym (told.missed hit.seeks) ∙ hit.there in
+    let ahead : is_ahead 1 (later (d - 1) pushes) pops u ≡ true =
+    not_false (is_ahead 1 (later (d - 1) pushes) pops u) (sym (empty_here p fits f told.inside hit.fifo u (omega arith)) ∙ full) in
+    let more : before pops u + 1 ≤ before (later (d - 1) pushes) u = leb-true (before pops u + 1) (before (later (d - 1) pushes) u) ahead in
+    let lagged = later_before pushes u d positive in
+    let many : before pops u < before pushes (suc u - d) = omega arith in
+    let early = counted_in pushes (clocks_rise p Push f) (before pops u) (suc u - d) many in
+    let inside : before pops u < length pushes = omega (arith, before_most pushes (suc u - d)) in
+    record {
+      there = inside;
+      earlier = omega arith;
+      moves = All-from_recursion (λ c. moves_at p c (owner p (on Push f)) ≡ true) pushes
+          (movers p (on Push f) (log_of p) (log_told p fits)) (before pops u) 0 inside;
+    }
+
+pub front_is : (p : Plan) → FitsEngine p → (log : List LoggedAccess) → log ≡ log_of p → (a : LoggedAccess) → IsTold p a
+    → is_hit p a ≡ true → IsFront p log a.event.channel a.event.cycle
+front_is p fits log e a told hit =
+    subst (λ (l : List LoggedAccess). IsFront p l a.event.channel a.event.cycle) (sym e) (front_here p fits a told (hit_parts p a hit))
+
+-- ---- a log that may be left out
+
+pub accesses_told : (p : Plan) → FitsEngine p → (log : List LoggedAccess) → AreAccesses p log → AllByRecursion (IsTold p) log
+accesses_told p fits log (inl e) = subst (AllByRecursion (IsTold p)) (sym e) tt
+accesses_told p fits log (inr e) = subst (AllByRecursion (IsTold p)) (sym e) (log_told p fits)

@@ -1,0 +1,70 @@
+-- The modules at the ends of channels.
+use Rattle.std.proofs.Common.{◌≡◌, ℕ, ◌+◌, ◌-◌, ◌<◌, Option, Some, List, [], ◌∷◌, length, get_or, sym, ◌∙◌, ap, arith, zero-add, map, ◌++◌}
+use Rattle.std.specs.Prelude.{slice_index}
+use Rattle.std.specs.List.{range_with_len, position_or_len}
+use Rattle.std.proofs.lemmas.List.FromFn.{length-map-range_with_len, get_or-map-range_with_len, map-range_with_len_more}
+use Rattle.flow_word.specs.declared.access.Port.{Port}
+use Rattle.flow_word.specs.declared.access.Side.{Side}
+use Rattle.flow_word.specs.declared.access.Side.TheVariants.{Pop, Push}
+use Rattle.flow_design.specs.declared.plan.Plan.{Plan}
+use Rattle.flow_design.specs.declared.design.Channel.{Channel}
+use Rattle.flow_design.specs.declared.design.Module.{Module}
+use Rattle.flow_design.specs.StaticRules.{uses}
+use Rattle.flow_design.specs.Plans.{kind_at, delay_of, no_channel}
+use Rattle.std.proofs.lemmas.List.{get_or_default}
+use Rattle.lockstep_defs.specs.Ports.{owner}
+use Rattle.depth_order.specs.declared.link.Link.{Link}
+use Rattle.path_text.specs.Owners.{owners}
+use Rattle.path_text.specs.Walks.{before_link}
+
+-- ---- the modules of all channels
+
+pub owners_count : (p : Plan) (side : Side) → length (owners p side) ≡ length p.design.channels
+owners_count p side = length-map-range_with_len (λ f. owner p (record { side = side; channel = f })) 0 (length p.design.channels)
+
+pub owner_at : (p : Plan) (side : Side) (f : ℕ) → f < length p.design.channels
+    → slice_index (owners p side) f ≡ owner p (record { side = side; channel = f })
+owner_at p side f l =
+    get_or-map-range_with_len (λ g. owner p (record { side = side; channel = g })) 0 (length p.design.channels) f f 0 l (zero-add f)
+
+-- ---- across a port
+
+pub before_pop : (p : Plan) (l : Link) (a : Port) (pushers : List ℕ) (delay : ℕ) → l.crossed ≡ Some a → a.side ≡ Pop
+    → a.channel < length p.design.channels → pushers ≡ owners p Push → delay ≡ delay_of (kind_at p a.channel)
+    → Some (record { «module» = slice_index pushers a.channel; clock = l.first - delay }) ≡ before_link p l
+before_pop p l a pushers delay e s inside known lag =
+    let there = ap (λ (xs : List ℕ). slice_index xs a.channel) known ∙ owner_at p Push a.channel inside in
+    (λ i. Some (record { «module» = there i; clock = l.first - lag i }))
+    ∙ (sym (ap (λ (o : Option Port). before_link p (record l { crossed = o }))
+    (ap (λ (t : Side). Some (record { side = t; channel = a.channel })) s))
+    ∙ sym (ap (λ (o : Option Port). before_link p (record l { crossed = o })) e))
+
+pub before_push : (p : Plan) (l : Link) (a : Port) (poppers : List ℕ) → l.crossed ≡ Some a → a.side ≡ Push
+    → a.channel < length p.design.channels → poppers ≡ owners p Pop
+    → Some (record { «module» = slice_index poppers a.channel; clock = l.first - 1 }) ≡ before_link p l
+before_push p l a poppers e s inside known =
+    let there = ap (λ (xs : List ℕ). slice_index xs a.channel) known ∙ owner_at p Pop a.channel inside in
+    (λ i. Some (record { «module» = there i; clock = l.first - 1 }))
+    ∙ (sym (ap (λ (o : Option Port). before_link p (record l { crossed = o }))
+    (ap (λ (t : Side). Some (record { side = t; channel = a.channel })) s))
+    ∙ sym (ap (λ (o : Option Port). before_link p (record l { crossed = o })) e))
+
+-- ---- the table
+
+-- one channel more
+pub owners_more : (p : Plan) (side : Side) (n : ℕ) (found new : List ℕ) (o : ℕ)
+    → found ≡ map (λ f. owner p (record { side = side; channel = f })) (range_with_len 0 n) → new ≡ found ++ o ∷ []
+    → o ≡ owner p (record { side = side; channel = n })
+    → new ≡ map (λ f. owner p (record { side = side; channel = f })) (range_with_len 0 (n + 1))
+owners_more p side n found new o so_far added is =
+    added ∙ (ap (λ (k : ℕ). found ++ k ∷ []) is ∙ (ap (λ (xs : List ℕ). xs ++ owner p (record { side = side; channel = n }) ∷ []) so_far
+    ∙ sym (map-range_with_len_more (λ f. owner p (record { side = side; channel = f })) 0 n n (omega arith))))
+
+-- the channel at a place
+pub channel_is : (all slice : List Channel) (f : ℕ) (d : Channel) → f < length all → slice ≡ all → get_or slice f d
+    ≡ get_or all f no_channel
+channel_is all slice f d l same = ap (λ (cs : List Channel). get_or cs f d) same ∙ get_or_default all f d no_channel l
+
+pub owner_is : (p : Plan) (a : Port) (modules : List Module) → modules ≡ p.design.modules → position_or_len (uses a) modules ≡ owner p a
+unfolding owner
+owner_is p a modules e = ap (position_or_len (uses a)) e

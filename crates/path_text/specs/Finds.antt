@@ -1,0 +1,99 @@
+-- What is kept of the queries in a log, for a walk along the chain.
+use Rattle.std.specs.Prelude.{◌≡◌, ℕ, ◌≤◌, ◌<◌, nat_le, nat_lt, Bool, true, false, ◌&&◌, ◌||◌, if◌then◌else◌, Option, Some, None, option_map}
+use Rattle.std.specs.Prelude.{List, [], All, AllPairs, filter, fold, length, map, slice_index_or}
+use Rattle.flow_word.specs.declared.access.Kind.{Kind}
+use Rattle.flow_word.specs.declared.access.Kind.TheVariants.{TryRead, Empty}
+use Rattle.flow_word.specs.declared.access.Side.{Side}
+use Rattle.flow_design.specs.declared.plan.Plan.{Plan}
+use Rattle.sim_core.specs.declared.access_log.LoggedAccess.{LoggedAccess}
+use Rattle.stall_text.specs.Polls.{asks, is_missed, is_of}
+use Rattle.depth_order.specs.declared.link.Link.{Link}
+use Rattle.path_text.specs.declared.link.PolledLink.{PolledLink}
+use Rattle.path_text.specs.declared.finds.Find.{Find}
+use Rattle.path_text.specs.declared.finds.LastMissed.{LastMissed}
+use Rattle.path_text.specs.Polls.{ends_poll, from_query, front_pushed, moved_clocks}
+
+-- ---- the clocks of moved elements
+
+-- in a log: of each channel those in which elements were moved at this side
+pub record AreMoved (side : Side) (channels : ℕ) (log : List LoggedAccess) (clocks : List (List ℕ)) : Type 0 where
+  pub count : length clocks ≡ channels
+  pub each : (f : ℕ) → f < channels → slice_index_or clocks f [] ≡ moved_clocks log side f
+
+-- ---- the last missed query
+
+-- none
+abbrev pub unmissed : LastMissed
+unmissed = record { tryread = None; empty = None }
+
+-- the clock of a query of this kind
+abbrev pub missed_of : LastMissed → Kind → Option ℕ
+missed_of m TryRead = m.tryread
+missed_of m Empty = m.empty
+missed_of m _ = None
+
+-- by an access of this kind that was missed, or was not
+abbrev pub missed_by : Bool → Kind → ℕ → LastMissed → LastMissed
+missed_by false kind c m = m
+missed_by true TryRead c m = record { tryread = Some c; empty = m.empty }
+missed_by true Empty c m = record { tryread = m.tryread; empty = Some c }
+missed_by true kind c m = m
+
+-- one access more
+abbrev pub missed_with : LastMissed → LoggedAccess → LastMissed
+missed_with m a = missed_by (is_missed a) a.event.kind a.event.cycle m
+
+-- in a log: the clock of the last query of this kind on channel f that was missed
+abbrev pub missed_more : Kind → ℕ → Option ℕ → LoggedAccess → Option ℕ
+missed_more kind f o a = if asks kind f a && is_missed a then Some a.event.cycle else o
+
+unfoldable pub last_missed : List LoggedAccess → Kind → ℕ → Option ℕ
+last_missed log kind f = fold (missed_more kind f) None log
+
+-- of each channel
+pub record AreMissed (channels : ℕ) (log : List LoggedAccess) (missed : List LastMissed) : Type 0 where
+  pub count : length missed ≡ channels
+  pub tryread : (f : ℕ) → f < channels → (slice_index_or missed f unmissed).tryread ≡ last_missed log TryRead f
+  pub empty : (f : ℕ) → f < channels → (slice_index_or missed f unmissed).empty ≡ last_missed log Empty f
+
+-- ---- the queries that found an element
+
+-- what is kept of a, if it hit and one like it was missed before
+abbrev pub found_by : Bool → Option ℕ → LoggedAccess → ℕ → Option Find
+found_by hit missed a pushed = if hit then option_map (λ v. record { access = a; missed = v; pushed = pushed }) missed else None
+
+abbrev pub find_clock : Find → ℕ
+find_clock f = f.access.event.cycle
+
+-- a query of the link's module in the link's clocks, and the missed one is too
+abbrev pub is_within : Link → Find → Bool
+is_within l f =
+    is_of l.«module» f.access && ((nat_le l.first (find_clock f) && nat_le (find_clock f) l.last) && nat_le l.first f.missed)
+
+-- it comes before the link, or before one that was found
+abbrev pub is_before : Find → Option Find → Bool
+is_before f None = false
+is_before f (Some g) = nat_lt (find_clock f) (find_clock g)
+
+abbrev pub is_ahead : Find → Link → Option Find → Bool
+is_ahead f l found = nat_lt (find_clock f) l.first || is_before f found
+
+-- one more, which is not later
+abbrev pub with_find : Option Find → Find → Link → Option Find
+with_find found f l = if is_within l f then Some f else found
+
+-- in order of time
+abbrev pub AreInOrder : List Find → Type 0
+AreInOrder finds = AllPairs (λ f g. f.access.event.cycle ≤ g.access.event.cycle) finds
+
+-- they are the queries of each link's module that end a poll in the link's clocks, and the pushes of what they found
+pub record AreFinds (p : Plan) (log : List LoggedAccess) (finds : List Find) : Type 0 where
+  pub in_order : AreInOrder finds
+  pub pushed : All (λ f. f.pushed ≡ front_pushed log f.access.event.channel f.access.event.cycle) finds
+  pub each : (l : Link) → map (λ f. f.access) (filter (is_within l) finds)
+      ≡ filter (ends_poll p (filter (is_of l.«module») log) l.first l.last) (filter (is_of l.«module») log)
+
+-- the link that begins with what was found, if something was
+abbrev pub by_find : Link → Option Find → PolledLink
+by_find l None = record { link = l; polled = None }
+by_find l (Some f) = from_query l f.access f.pushed

@@ -1,0 +1,53 @@
+//! The clocks in which elements were moved, side by side of each channel.
+ghost use Rattle.std.specs.Prelude.{◌≡◌, ◌<◌, ◌++◌, ◌∷◌, [], All, IfOk, OnOk, length, replicate, slice_index_or, slice_set};
+ghost use Rattle.stall_text.specs.Stalls.{moved_at};
+ghost use Rattle.path_text.specs.Finds.{AreMoved};
+
+use flow_word::{List, OutOfMemory, Side, Words};
+use sim_core::LoggedAccess;
+use std::alloc::Global;
+
+/// Of each channel the clocks in which elements were moved at one side, in order, by what each access gave.
+pub(crate) fn moved_clocks(
+    alloc: Global,
+    channels: usize,
+    side: Side,
+    log: &[LoggedAccess],
+) -> Result<List<Words>, OutOfMemory>
+    requires { All (λ a. a.event.channel < channels) log.now }
+    ensures { IfOk result (AreMoved side channels log.now) }
+{
+    let mut clocks = no_clocks(alloc, channels)?;
+    for access in log {
+        if is_moved(side, access) {
+            push_clock(&mut clocks, access.event.channel, access.event.cycle)?;
+        }
+    }
+    Ok(clocks)
+}
+
+/// Of each channel none.
+fn no_clocks(alloc: Global, channels: usize) -> Result<List<Words>, OutOfMemory>
+    ensures { IfOk result (λ clocks. clocks ≡ replicate channels []) }
+{
+    let mut clocks = List::with_room(alloc, channels as u64)?;
+    for _at in 0..channels {
+        clocks.push(List::new(alloc))?;
+    }
+    Ok(clocks)
+}
+
+/// Whether an access moved an element at this side of its channel.
+fn is_moved(side: Side, access: &LoggedAccess) -> bool
+    ensures { result ≡ moved_at (record { side = side; channel = access.now.event.channel }) access.now }
+{
+    access.value.is_some() && access.event.kind.side() == side
+}
+
+/// A clock more of a channel.
+fn push_clock(clocks: &mut List<Words>, channel: u32, clock: u64) -> Result<(), OutOfMemory>
+    requires { channel < length clocks.old }
+    ensures { OnOk result (clocks.new ≡ slice_set clocks.old channel (slice_index_or clocks.old channel [] ++ clock ∷ [])) }
+{
+    clocks.as_mut_slice()[channel as usize].push(clock)
+}

@@ -1,0 +1,96 @@
+//! Links of the chain, read off spans.
+ghost use Rattle.std.specs.Prelude.{◌≡◌, ℕ, ◌<◌, IsTrue};
+ghost use Rattle.flow_design.specs.declared.plan.Plan.{Plan};
+ghost use Rattle.stall_spans.specs.Spans.{AreSpansBelow};
+ghost use Rattle.depth_order.specs.Chain.{moves_at, span_start};
+ghost use Rattle.path_text.specs.Walks.{AreSorted, IsWith, StoodBefore, link_at, moving_end, port_of};
+
+use depth_order::Link;
+use flow_word::Port;
+use stall_spans::{Doing, Span};
+
+/// The link that ends with this clock, in which the module moves, by the module's spans below a later clock.
+pub(crate) fn link_to(spans: &[Span], owner: u32, clock: u64) -> Link
+    requires { AreSorted spans.now }
+    ensures { (p : Plan) (end : ℕ) → AreSpansBelow p owner end spans.now → clock < end → IsTrue (moves_at p clock owner)
+        → result ≡ link_at p owner clock }
+{
+    let first = start_of(spans, clock);
+    Link {
+        module: owner,
+        first,
+        last: clock,
+        crossed: stood_before(spans, first),
+    }
+}
+
+/// The first clock of the span in which a module moves that has this clock.
+fn start_of(spans: &[Span], clock: u64) -> u64
+    requires { AreSorted spans.now }
+    ensures { (p : Plan) (owner end : ℕ) → AreSpansBelow p owner end spans.now → clock < end → IsTrue (moves_at p clock owner)
+        → result ≡ span_start p owner clock }
+{
+    match span_with(spans, clock) {
+        Some(span) => span.first,
+        None => clock,
+    }
+}
+
+/// The port at which a module stands in the clock before this one, in which it moves; none where it does not stand still.
+fn stood_before(spans: &[Span], clock: u64) -> Option<Port>
+    requires { AreSorted spans.now }
+    ensures { (p : Plan) (owner end : ℕ) → AreSpansBelow p owner end spans.now → clock < end → IsTrue (moves_at p clock owner)
+        → StoodBefore p owner clock result }
+{
+    if clock == 0 {
+        return None;
+    }
+    match span_with(spans, clock - 1) {
+        Some(span) => port_of(span.doing),
+        None => None,
+    }
+}
+
+/// The port at which a module stands still.
+fn port_of(doing: Doing) -> Option<Port>
+    ensures { result ≡ port_of doing }
+{
+    match doing {
+        Doing::Still(port) => Some(port),
+        Doing::Moves => None,
+    }
+}
+
+/// The span that has a clock.
+fn span_with(spans: &[Span], clock: u64) -> Option<Span>
+    requires { AreSorted spans.now }
+    ensures { IsWith spans.now clock result }
+{
+    let mut low = 0;
+    let mut high = spans.len();
+    while low < high {
+        let middle = low + (high - low) / 2;
+        let span = spans[middle];
+        if clock < span.first {
+            high = middle;
+        } else if span.until <= clock {
+            low = middle + 1;
+        } else {
+            return Some(span);
+        }
+    }
+    None
+}
+
+/// The clock after the last one in which a module moves; none where it moves in none.
+pub(crate) fn moving_end(spans: &[Span]) -> Option<u64>
+    ensures { result ≡ moving_end spans.now }
+{
+    let mut end = None;
+    for span in spans {
+        if span.doing == Doing::Moves {
+            end = Some(span.until);
+        }
+    }
+    end
+}

@@ -1,0 +1,187 @@
+//! The walk along the chain.
+ghost use Rattle.std.specs.Prelude.{◌≡◌, ℕ, ◌<◌, ◌≤◌, ◌++◌, filter, length, IfOk, IfSome, OnOk};
+ghost use Rattle.flow_word.specs.declared.access.Side.TheVariants as side;
+ghost use Rattle.flow_design.specs.declared.plan.Plan.{Plan};
+ghost use Rattle.flow_design.specs.Plans.{delay_of};
+ghost use Rattle.flow_design.specs.StaticRules.{FitsEngine};
+ghost use Rattle.timing_bridge.specs.Designs.{lag_in};
+ghost use Rattle.lockstep_defs.specs.Verdict.{verdict};
+ghost use Rattle.flow_design.specs.Reports.{clock_of};
+ghost use Rattle.path_text.specs.Owners.{owners};
+ghost use Rattle.path_text.specs.Walks.{HasSpans, IsLastMove, before_link, with_module};
+ghost use Rattle.path_text.specs.Polls.{AreAccesses, before_polled as goes_on_at, from_query as begins_with, if_some};
+ghost use Rattle.path_text.specs.Polls.{latest as latest_of, links_in, polled_path, polls_in};
+ghost use Rattle.path_text.specs.Finds.{AreInOrder, by_find, find_clock, is_within};
+
+use crate::finds::{Find, finds};
+use crate::link::{Path, Polled, PolledLink};
+use crate::owners::owners;
+use crate::search::latest;
+use crate::spans::{link_to, moving_end};
+use depth_order::Link;
+use flow_design::{ChannelKind, Plan};
+use flow_word::{List, OutOfMemory, Side};
+use sim_core::LoggedAccess;
+use stall_spans::Span;
+use std::alloc::Global;
+
+/// A clock in which a module moves.
+#[derive(Clone, Copy, Debug, PartialEq, Eq)]
+pub struct At {
+    pub module: u32,
+    pub clock: u64,
+}
+
+/// The chain that makes the latency of a plan, by the spans of its modules below the verdict's clock; it follows polls where `log` is
+/// what each access gave, and none where `log` is empty.
+///
+/// It takes memory for the links, for two numbers of each channel, and with a log for the clocks in which each element moved and for the
+/// queries that found an element. It looks at each access once, at each such query at most once, and for each link at a few spans. An
+/// error leaves nothing.
+pub fn find_path(
+    alloc: Global,
+    plan: &Plan,
+    spans: &[List<Span>],
+    log: &[LoggedAccess],
+) -> Result<Path, OutOfMemory>
+    requires fits { FitsEngine plan.now }
+    requires spans { HasSpans plan.now (clock_of (verdict plan.now)) spans.now }
+    requires log { AreAccesses plan.now log.now }
+    ensures links { IfOk result (λ path. path.links ≡ links_in (polled_path plan.now log.now (clock_of (verdict plan.now)))) }
+    ensures polls { IfOk result (λ path. path.polls ≡ polls_in (polled_path plan.now log.now (clock_of (verdict plan.now)))) }
+{
+    let kept = finds(alloc, plan, log)?;
+    let poppers = owners(alloc, plan, Side::Pop)?;
+    let pushers = owners(alloc, plan, Side::Push)?;
+    let mut links = List::new(alloc);
+    let mut polls = List::new(alloc);
+    let mut next = last_move(spans);
+    while let Some(at) = next {
+        let link = link_to(spans[at.module as usize].as_slice(), at.module, at.clock);
+        let step = polled_link(kept.as_slice(), link);
+        links.push(step.link)?;
+        push_poll(&mut polls, step.polled)?;
+        next = before_polled(plan, poppers.as_slice(), pushers.as_slice(), &step);
+    }
+    Ok(Path { links, polls })
+}
+
+/// The link, from the query on that ended the last poll of its module in its clocks; whole where there is none.
+fn polled_link(finds: &[Find], link: Link) -> PolledLink
+    requires { AreInOrder finds.now }
+    ensures { result ≡ by_find link (latest_of find_clock (filter (is_within link) finds.now)) }
+{
+    match latest(finds, &link) {
+        Some(find) => from_query(link, find),
+        None => PolledLink { link, polled: None },
+    }
+}
+
+/// The link that begins with a query.
+fn from_query(link: Link, find: Find) -> PolledLink
+    ensures { result ≡ begins_with link find.access find.pushed }
+{
+    let found = find.access.event.cycle;
+    PolledLink {
+        link: Link {
+            module: link.module,
+            first: found,
+            last: link.last,
+            crossed: None,
+        },
+        polled: Some(Polled {
+            channel: find.access.event.channel,
+            pushed: find.pushed,
+            found,
+        }),
+    }
+}
+
+/// Adds what was polled for, if something was.
+fn push_poll(polls: &mut List<Polled>, polled: Option<Polled>) -> Result<(), OutOfMemory>
+    ensures { OnOk result (polls.new ≡ polls.old ++ if_some polled) }
+{
+    match polled {
+        Some(poll) => polls.push(poll),
+        None => Ok(()),
+    }
+}
+
+/// The last clock in which a module moves, and the first module that moves in it.
+fn last_move(spans: &[List<Span>]) -> Option<At>
+    requires { length spans.now < u32.MAX }
+    ensures { (p : Plan) (end : ℕ) → HasSpans p end spans.now → IsLastMove p end (length spans.now) result }
+{
+    let mut last = None;
+    for owner in 0..spans.len() as u32 {
+        last = with_module(last, owner, moving_end(spans[owner as usize].as_slice()));
+    }
+    last
+}
+
+/// The same with one module more, which moves in the clock before this one and in none after, if it moves at all.
+fn with_module(last: Option<At>, owner: u32, end: Option<u64>) -> Option<At>
+    ensures { result ≡ with_module last owner end }
+{
+    let Some(end) = end else {
+        return last;
+    };
+    let clock = end.saturating_sub(1);
+    match last {
+        Some(at) if clock <= at.clock => last,
+        Some(_) | None => Some(At {
+            module: owner,
+            clock,
+        }),
+    }
+}
+
+/// The place at which the chain goes on before a link: at the push of what was polled for, or where it goes on without polls.
+fn before_polled(plan: &Plan, poppers: &[u32], pushers: &[u32], step: &PolledLink) -> Option<At>
+    requires poppers { poppers.now ≡ owners plan.now side.Pop }
+    requires pushers { pushers.now ≡ owners plan.now side.Push }
+    requires polled { IfSome step.now.polled (λ q. q.channel < length plan.now.design.channels) }
+    requires crossed { IfSome step.now.link.crossed (λ a. a.channel < length plan.now.design.channels) }
+    requires later { IfSome step.now.link.crossed (λ a. lag_in plan.now a.side a.channel ≤ step.now.link.first) }
+    ensures { result ≡ goes_on_at plan.now step.now }
+{
+    match step.polled {
+        Some(polled) => Some(At {
+            module: pushers[polled.channel as usize],
+            clock: polled.pushed,
+        }),
+        None => before_link(plan, poppers, pushers, &step.link),
+    }
+}
+
+/// The place at which the chain goes on before a link.
+fn before_link(plan: &Plan, poppers: &[u32], pushers: &[u32], link: &Link) -> Option<At>
+    requires poppers { poppers.now ≡ owners plan.now side.Pop }
+    requires pushers { pushers.now ≡ owners plan.now side.Push }
+    requires crossed { IfSome link.now.crossed (λ a. a.channel < length plan.now.design.channels) }
+    requires later { IfSome link.now.crossed (λ a. lag_in plan.now a.side a.channel ≤ link.now.first) }
+    ensures { result ≡ before_link plan.now link.now }
+{
+    let port = link.crossed?;
+    let channel = port.channel as usize;
+    Some(match port.side {
+        Side::Pop => At {
+            module: pushers[channel],
+            clock: link.first - delay_of(plan.design.channels.as_slice()[channel].kind),
+        },
+        Side::Push => At {
+            module: poppers[channel],
+            clock: link.first - 1,
+        },
+    })
+}
+
+/// After how many clocks an element that is pushed can be popped.
+fn delay_of(kind: ChannelKind) -> u64
+    ensures { result ≡ delay_of kind }
+{
+    match kind {
+        ChannelKind::Fifo { delay, .. } => delay,
+        ChannelKind::Source | ChannelKind::Sink => 1,
+    }
+}

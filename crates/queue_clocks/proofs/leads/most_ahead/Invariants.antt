@@ -1,5 +1,0 @@
-use Rattle.queue_clocks.proofs.Most.{IsMostOf}
-use Rattle.queue_clocks.proofs.leads.most_ahead.Given as goal
-
-abbrev pub invariant-loop-at : goal.invariant-loop-at
-invariant-loop-at l = IsMostOf l.first l.second l.at l.most

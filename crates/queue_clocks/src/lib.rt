@@ -1,6 +1,0 @@
-//! In how many clocks a queue holds at least so many elements, by the clocks of its pushes and pops.
-#![tactic(auto)]
-
-mod leads;
-
-pub use leads::{ahead_clocks, most_ahead};

@@ -1,3 +1,0 @@
-pub mod HeldSteps
-pub mod RightLooks
-pub mod OtherHeld

@@ -1,5 +1,0 @@
-use Rattle.step_looks.proofs.RightLooks.{look_is}
-use Rattle.step_looks.proofs.laws.looks_are_right.Goals as goal
-
-pub returns : goal.returns
-returns g c = λ d i h y m k l. look_is d i h y m k l

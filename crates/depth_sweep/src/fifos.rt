@@ -6,9 +6,9 @@ ghost use Rattle.flow_design.specs.StaticRules.{FitsEngine};
 ghost use Rattle.depth_sweep.specs.Grid.{with_depths};
 ghost use Rattle.fifo_fills.specs.Fills.{fifos};
 
-use outcome_guard::edits_in_order;
 use flow_design::{Edit, Plan, edit_plan};
 use flow_word::OutOfMemory;
+use outcome_guard::edits_in_order;
 use std::alloc::Global;
 use timing_bridge::edited_plans_agree;
 

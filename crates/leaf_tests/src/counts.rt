@@ -1,6 +1,6 @@
 //! Every call once.
-use outcome_guard::RunCount;
 use flow_word::{Flags, List, OutOfMemory};
+use outcome_guard::RunCount;
 use std::alloc::Global;
 use std::test::Fail;
 

@@ -15,8 +15,7 @@ ghost use Rattle.stall_text.specs.Filling.{IsFilling, later, empty_by};
 
 use flow_design::ChannelKind;
 use flow_word::{List, OutOfMemory, Port, Side, Words};
-use port_clocks::clocks_at;
-use port_clocks::{ahead_clocks, most_ahead};
+use port_clocks::{ahead_clocks, clocks_at, most_ahead};
 use report_text::{channel_name, push_token, push_value};
 use sim_core::Core;
 use std::alloc::Global;

@@ -66,7 +66,7 @@ text_only asked text r only a (read s l said h) = subst (λ x. a ≡ answer_to x
 pub rest_whole : (whole rest : Answer) (held : Option (List ℕ)) → rest ≡ whole → IsRest whole held held rest
 rest_whole whole rest held e = record {
   text = subst (λ (a : Answer). IsTold held held rest.text a.text) e (told_none held rest.text);
-  status = ap (λ (a : Answer). a.status) e;
+  ending = ap (λ (a : Answer). a.ending) e;
 }
 
 -- a whole answer that is handed out begins it

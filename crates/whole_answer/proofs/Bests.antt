@@ -8,7 +8,7 @@ use Rattle.flow_design.specs.declared.report.Verdict.{Verdict}
 use Rattle.flow_design.specs.declared.report.Verdict.TheVariants.{Done, Deadlock, Cycles, Ops}
 use Rattle.depth_sweep.specs.declared.point.Point.{Point}
 use Rattle.depth_sweep.specs.Best.{IsBest, IsDoneAt, point_at, no_point}
-use Rattle.whole_answer.specs.Job.{is_done, status_of}
+use Rattle.whole_answer.specs.Job.{is_done, ending_of}
 use Rattle.whole_answer.specs.Further.{is_done_at, beats, best_of}
 
 -- ---- lists
@@ -40,7 +40,7 @@ module _ {X : Type 0} (p : X → Bool) where
 
 -- ---- one point beside another
 
-done_or_not : (v : Verdict) → (is_done (status_of v) ≡ false) ⊎ ((l : ℕ) × (v ≡ Done l))
+done_or_not : (v : Verdict) → (is_done (ending_of v) ≡ false) ⊎ ((l : ℕ) × (v ≡ Done l))
 done_or_not (Done l) = inr (l, refl)
 done_or_not (Deadlock l) = inl refl
 done_or_not (Cycles l) = inl refl
@@ -136,7 +136,7 @@ module _ (points : List Point) where
     pub best_is : best_of points ≡ Some own
     unfolding best_of
     best_is = find_first (λ p. is_done_at p && not (list_any (λ q. beats q p) points)) points i no_point best.done.within
-        (ap₂ (λ (done beaten : Bool). done && not beaten) (ap (λ (v : Verdict). is_done (status_of v)) best.done.verdict)
+        (ap₂ (λ (done beaten : Bool). done && not beaten) (ap (λ (v : Verdict). is_done (ending_of v)) best.done.verdict)
         (none_of (λ q. beats q own) points no_point beaten_by_none))
         (λ k before. elim (done_or_not (point_at points k).verdict) [
           | inl e ↦ is_undone k (not (list_any (λ q. beats q (point_at points k)) points)) e

@@ -26,10 +26,10 @@ use Rattle.sim_io.specs.Causes.{AppendsPrefix}
 use Rattle.sim_io.proofs.Pieces.{appends_both}
 use Rattle.sim_io.proofs.Pending.{prefix_of_longer, prefix_longer, prefix_after, range_both}
 use Rattle.whole_answer.specs.declared.answer.Answer.{Answer}
-use Rattle.whole_answer.specs.declared.status.Status.{Status}
-use Rattle.whole_answer.specs.declared.status.Status.TheVariants.{Done, Words, Text, Deadlock, Cycles, Ops, ReadFault, WriteFault, Memory}
-use Rattle.whole_answer.specs.Answer.{IsAnswer, IsRest}
-use Rattle.whole_answer.specs.Job.{plan_at, report_at, first_numbers, texts_of, counts_in, status_of, is_done, first_not_done, statuses_of}
+use Rattle.whole_answer.specs.declared.ending.Ending.{Ending}
+use Rattle.whole_answer.specs.declared.ending.Ending.TheVariants.{Done, Words, Text, Deadlock, Cycles, Ops}
+use Rattle.whole_answer.specs.Answer.{IsRest}
+use Rattle.whole_answer.specs.Job.{plan_at, report_at, first_numbers, texts_of, counts_in, ending_of, is_done, first_not_done, endings_of}
 use Rattle.whole_answer.specs.Job.{job}
 use Rattle.whole_answer.specs.Going.{Told, told_of, first_told, more_told, IsGoing}
 use Rattle.flow_word.proofs.Ranges.{range_more}
@@ -41,7 +41,7 @@ counts_more : (c : RunCount) (all : List (List (List Bool))) (found : List (List
 counts_more c [] found = refl
 counts_more c (a ∷ all) found = counts_more (next_counts c a) all found
 
-done_is : (s : Status) → is_done s ≡ true → s ≡ Done
+done_is : (s : Ending) → is_done s ≡ true → s ≡ Done
 done_is Done e = refl
 done_is Words e = absurd cc
 done_is Text e = absurd cc
@@ -52,14 +52,14 @@ done_is ReadFault e = absurd cc
 done_is WriteFault e = absurd cc
 done_is Memory e = absurd cc
 
-status_more : (ss : List Status) (s : Status) → first_not_done (ss ++ s ∷ []) ≡ (if is_done (first_not_done ss) then s else first_not_done
+ending_more : (ss : List Ending) (s : Ending) → first_not_done (ss ++ s ∷ []) ≡ (if is_done (first_not_done ss) then s else first_not_done
     ss)
-status_more [] s = by_test (is_done s) refl
+ending_more [] s = by_test (is_done s) refl
   where
     by_test : (b : Bool) → is_done s ≡ b → cond b Done s ≡ s
     by_test true e = sym (done_is s e)
     by_test false e = refl
-status_more (x ∷ ss) s = by_test (is_done x) refl (status_more ss s)
+ending_more (x ∷ ss) s = by_test (is_done x) refl (ending_more ss s)
   where
     by_test : (b : Bool) → is_done x ≡ b → first_not_done (ss ++ s ∷ []) ≡ (if is_done (first_not_done ss) then s else first_not_done ss)
         → cond b (first_not_done (ss ++ s ∷ [])) x ≡ (if is_done (cond b (first_not_done ss) x) then s else cond b (first_not_done ss) x)
@@ -131,9 +131,9 @@ module _ (events : Bool) (p : Plan) (edits : List Edit) where
   -- the rest of the job is the line of the runs, once no edit is left
   pub ends : (k : ℕ) (now : Plan) (told : Told) (first held : Option (List ℕ)) (rest : Answer)
       → IsGoing events p edits k now told first held → k ≡ length edits
-      → rest.text ≡ line (runs_tokens told.count.runs) → rest.status ≡ told.status → IsRest (job events p edits) first held rest
+      → rest.text ≡ line (runs_tokens told.count.runs) → rest.ending ≡ told.ending → IsRest (job events p edits) first held rest
   unfolding job
-  ends k now told first held rest g e text status =
+  ends k now told first held rest g e text ending =
       subst (λ (n : ℕ). IsRest (job_to n) first held rest) e (record {
         text = record {
           sent = texts_of events p edits (first_numbers (k + 1));
@@ -141,13 +141,13 @@ module _ (events : Bool) (p : Plan) (edits : List Edit) where
           whole = ap (λ (t : List ℕ). texts_of events p edits (first_numbers (k + 1)) ++ t)
               (text ∙ ap (λ (c : RunCount). line (runs_tokens c.runs)) g.count);
         };
-        status = status ∙ g.status;
+        ending = ending ∙ g.ending;
       })
     where
       job_to : ℕ → Answer
       job_to n = record {
         text = texts_of events p edits (first_numbers (n + 1)) ++ line (runs_tokens (counts_in p edits n).runs);
-        status = first_not_done (statuses_of p edits (first_numbers (n + 1)));
+        ending = first_not_done (endings_of p edits (first_numbers (n + 1)));
       }
 
   -- the texts of the first reports begin the job's
@@ -199,43 +199,41 @@ module _ (events : Bool) (p : Plan) (edits : List Edit) where
     pub first_plan : p ≡ plan_at p edits 0
     first_plan = sym (none p)
 
-    pub begins : FitsEngine p → IsAnswer (status_of (report p).verdict) → (first held : Option (List ℕ))
+    pub begins : FitsEngine p → (first held : Option (List ℕ))
         → Appends first held (report_text_of p.design (report p) 0 events)
         → IsGoing events p edits 0 p (first_told p) first held
     unfolding first_told
-    begins fits answer first held written =
+    begins fits first held written =
         let is = report_is 0 p first_plan in
         record {
           plan = first_plan;
           fits = fits;
           text = subst (Appends first held) (ap (λ (r : Report). report_text_of p.design r 0 events) is ∙ sym (append-nil _)) written;
-          status = ap (λ (r : Report). status_of r.verdict) is ∙ sym (status_more [] (status_of (report_at p edits 0).verdict));
+          ending = ap (λ (r : Report). ending_of r.verdict) is ∙ sym (ending_more [] (ending_of (report_at p edits 0).verdict));
           count = ap (λ (r : Report). first_counts r.answers) is;
           runs = omega arith;
-          answer = answer;
         }
 
   pub goes_on : (k : ℕ) (plan next : Plan) (told : Told) (first held last : Option (List ℕ))
       → IsGoing events p edits k plan told first held → next ≡ plan_at p edits (k + 1)
       → FitsEngine next
-      → IsAnswer (more_told next told).status
       → Appends held last (report_text_of next.design (report next) (k + 1) events)
       → IsGoing events p edits (k + 1) next (more_told next told) first last
   unfolding more_told
-  goes_on k plan next told first held last g e fits answer written =
+  goes_on k plan next told first held last g e fits written =
       let is = report_is (k + 1) next e in
-      let status_at : ℕ → Status = λ j. status_of (report_at p edits j).verdict in
+      let ending_at : ℕ → Ending = λ j. ending_of (report_at p edits j).verdict in
       let answers_at : ℕ → List (List Bool) = λ j. (report_at p edits j).answers in
       let texts = texts_of events p edits (first_numbers (k + 1)) in
       record {
         plan = e;
         fits = fits;
         text = subst (Appends first last) (texts_more k next e) (appends_both first held last texts _ g.text written);
-        status =
-            ap₂ (λ (s : Status) (r : Report). if is_done s then status_of r.verdict else s) g.status is
-            ∙ (sym (status_more (map status_at (first_numbers (k + 1))) (status_at (k + 1)))
-            ∙ (ap first_not_done (sym (map-append status_at (first_numbers (k + 1)) ((k + 1) ∷ [])))
-            ∙ ap (λ (ks : List ℕ). first_not_done (map status_at ks)) (sym (one_number_more k))));
+        ending =
+            ap₂ (λ (s : Ending) (r : Report). if is_done s then ending_of r.verdict else s) g.ending is
+            ∙ (sym (ending_more (map ending_at (first_numbers (k + 1))) (ending_at (k + 1)))
+            ∙ (ap first_not_done (sym (map-append ending_at (first_numbers (k + 1)) ((k + 1) ∷ [])))
+            ∙ ap (λ (ks : List ℕ). first_not_done (map ending_at ks)) (sym (one_number_more k))));
         count =
             ap₂ (λ (c : RunCount) (r : Report). next_counts c r.answers) g.count is
             ∙ (sym (counts_more (first_counts (answers_at 0)) (map answers_at (range_with_len 1 k)) (answers_at (k + 1)))
@@ -243,27 +241,26 @@ module _ (events : Bool) (p : Plan) (edits : List Edit) where
             (sym (map-append answers_at (range_with_len 1 k) ((k + 1) ∷ [])))
             ∙ ap (λ (ks : List ℕ). counts_after (first_counts (answers_at 0)) (map answers_at ks)) (sym (one_edit_more k))));
         runs = let more = runs_more told.count (report next).answers in let before = g.runs in omega arith;
-        answer = answer;
       }
 
 -- ---- what a report told
 
 -- with its events or without them, the report of a plan tells its verdict
 pub same_verdict : (events : Bool) (p q : Plan) (r : Report) → ((events : Bool) (p : Plan) → (report_with events p).verdict ≡ (report p).verdict)
-    → r ≡ report_with events q → q ≡ p → status_of r.verdict ≡ status_of (report p).verdict
+    → r ≡ report_with events q → q ≡ p → ending_of r.verdict ≡ ending_of (report p).verdict
 same_verdict events p q r without is same =
-    ap (λ (x : Report). status_of x.verdict) is ∙ (ap status_of (without events q) ∙ ap (λ (x : Plan). status_of (report x).verdict) same)
+    ap (λ (x : Report). ending_of x.verdict) is ∙ (ap ending_of (without events q) ∙ ap (λ (x : Plan). ending_of (report x).verdict) same)
 
-pub first_is : (p : Plan) (status : Status) (count : RunCount) → status ≡ status_of (report p).verdict
-    → count ≡ first_counts (report p).answers → told_of status count ≡ first_told p
+pub first_is : (p : Plan) (ending : Ending) (count : RunCount) → ending ≡ ending_of (report p).verdict
+    → count ≡ first_counts (report p).answers → told_of ending count ≡ first_told p
 unfolding first_told
-first_is p status count s c = λ i. record { status = s i; count = c i }
+first_is p ending count s c = λ i. record { ending = s i; count = c i }
 
-pub more_is : (p : Plan) (status new : Status) (count now : RunCount)
-    → new ≡ (if is_done status then status_of (report p).verdict else status)
-    → now ≡ next_counts count (report p).answers → told_of new now ≡ more_told p (told_of status count)
+pub more_is : (p : Plan) (ending new : Ending) (count now : RunCount)
+    → new ≡ (if is_done ending then ending_of (report p).verdict else ending)
+    → now ≡ next_counts count (report p).answers → told_of new now ≡ more_told p (told_of ending count)
 unfolding more_told
-more_is p status new count now s c = λ i. record { status = s i; count = c i }
+more_is p ending new count now s c = λ i. record { ending = s i; count = c i }
 
 -- ---- the two jobs
 

@@ -9,19 +9,19 @@ use Rattle.sim_io.specs.Causes.{AppendsPrefix}
 use Rattle.sim_io.specs.Telling.{IsTold}
 use Rattle.cli_words.specs.declared.Options.{Options}
 use Rattle.cli_words.specs.declared.View.{View}
-use Rattle.whole_answer.specs.declared.status.Status.{Status}
+use Rattle.whole_answer.specs.declared.ending.Ending.{Ending}
 use Rattle.whole_answer.specs.Answer.{IsRest}
-use Rattle.whole_answer.specs.Job.{status_of}
+use Rattle.whole_answer.specs.Job.{ending_of}
 use Rattle.whole_answer.specs.Views.{shown, view_text}
 
--- the rest of the text, and the status
-pub shown_rest : (view : View) (o : Options) (p q : Plan) (old new : Option (List ℕ)) (text : List ℕ) (v : Verdict) (s : Status) → q ≡ p
-    → IsTold old new text (view_text view o q) → v ≡ verdict q → s ≡ status_of v
-    → IsRest (shown view o p) old new (record { text = text; status = s })
+-- the rest of the text, and the ending
+pub shown_rest : (view : View) (o : Options) (p q : Plan) (old new : Option (List ℕ)) (text : List ℕ) (v : Verdict) (s : Ending) → q ≡ p
+    → IsTold old new text (view_text view o q) → v ≡ verdict q → s ≡ ending_of v
+    → IsRest (shown view o p) old new (record { text = text; ending = s })
 unfolding shown report
-shown_rest view o p q old new text v s same told is status = record {
+shown_rest view o p q old new text v s same told is ending = record {
   text = subst (λ (x : Plan). IsTold old new text (view_text view o x)) same told;
-  status = status ∙ ap status_of (is ∙ ap verdict same);
+  ending = ending ∙ ap ending_of (is ∙ ap verdict same);
 }
 
 -- and where a fault came first

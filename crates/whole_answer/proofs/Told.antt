@@ -1,5 +1,5 @@
 -- What was told: where writing or finishing failed, and where the rest of an answer is told.
-use Rattle.std.proofs.Common.{◌≡◌, ◌∙◌, subst, arith, Bool, ℕ, List, length, take, None, Some, Ok, Err}
+use Rattle.std.proofs.Common.{◌≡◌, ◌∙◌, ap, subst, arith, Bool, ℕ, List, length, take, None, Some, Ok, Err}
 use Rattle.std.proofs.lemmas.Grind.{common_steps}
 use Rattle.std.specs.declared.option.Option.{Option}
 use Rattle.std.specs.Io.KnownBytes.{Appends, Keeps}
@@ -7,6 +7,7 @@ use Rattle.sim_io.specs.Causes.{AppendsPrefix}
 use Rattle.whole_answer.specs.declared.answer.Answer.{Answer}
 use Rattle.sim_io.proofs.Pieces.{appends_both}
 use Rattle.sim_io.proofs.Pending.{prefix_after}
+use Rattle.whole_answer.specs.Exit.{status_of}
 use Rattle.whole_answer.specs.declared.status.Status.{Status}
 use Rattle.whole_answer.specs.declared.status.Status.TheVariants.{WriteFault}
 use Rattle.whole_answer.specs.Answer.{Answers, Begins, IsAnswer, IsRest, Tells, TellsAnswer}
@@ -36,7 +37,7 @@ pub tells_whole : (whole rest : Answer) (result : Status) (a b c : Option (List 
 tells_whole whole rest result a b c finished r t = record {
   answered = λ i.
       let told = t.answered i in (
-        told.0 ∙ r.status,
+        told.0 ∙ ap status_of r.ending,
         subst (Appends a c) r.text.whole (appends_both a b c r.text.sent rest.text r.text.appended told.1),
         told.2,
       );

@@ -13,6 +13,7 @@ use Rattle.cli_words.specs.declared.Command.{Command}
 use Rattle.cli_words.specs.declared.Command.TheVariants.{Of, Gen}
 use Rattle.whole_answer.specs.declared.answer.Answer.{Answer}
 use Rattle.whole_answer.specs.Made.{refused_words, refused, made, generated}
+use Rattle.whole_answer.specs.Exit.{status_of}
 use Rattle.whole_answer.specs.declared.status.Status.{Status}
 use Rattle.whole_answer.specs.declared.status.Status.TheVariants.{ReadFault, WriteFault, Memory}
 
@@ -63,10 +64,10 @@ IsAnswer WriteFault = ⊥
 IsAnswer Memory = ⊥
 IsAnswer _ = Unit {0}
 
--- a prefix of the whole answer was written, and this is the rest of it, with its status
+-- a prefix of the whole answer was written, and this is the rest of it, with its ending
 pub record IsRest (whole : Answer) (old new : Option (List ℕ)) (rest : Answer) : Type 0 where
   pub text : IsTold old new rest.text whole.text
-  pub status : rest.status ≡ whole.status
+  pub ending : rest.ending ≡ whole.ending
 
 -- an answer of which this holds was begun: its rest is handed out, or a prefix of it was written before a fault
 pub record Begins {E : Type 0} (IsIt : Answer → Type 0) (old new : Option (List ℕ)) (result : Result Answer E) : Type 0 where
@@ -78,7 +79,7 @@ pub record Begins {E : Type 0} (IsIt : Answer → Type 0) (old new : Option (Lis
 -- what a result says of what the sink held and holds, where this is the whole answer
 pub record Tells (whole : Answer) (result : Status) (old new : Option (List ℕ)) (finished : Bool) : Type 0 where
   -- an answer is this one, written whole and finished
-  pub answered : IsAnswer result → (result ≡ whole.status) × Appends old new whole.text × (finished ≡ true)
+  pub answered : IsAnswer result → (result ≡ status_of whole.ending) × Appends old new whole.text × (finished ≡ true)
   -- after a fault of writing, or want of memory, a prefix was written
   pub write : result ≡ WriteFault → AppendsPrefix old new whole.text
   pub memory : result ≡ Memory → AppendsPrefix old new whole.text

@@ -1,7 +1,18 @@
 -- The program's exit status.
 use Rattle.std.specs.Prelude.{ℕ}
+use Rattle.whole_answer.specs.declared.ending.Ending.{Ending}
+use Rattle.whole_answer.specs.declared.ending.Ending.TheVariants as ending
 use Rattle.whole_answer.specs.declared.status.Status.{Status}
 use Rattle.whole_answer.specs.declared.status.Status.TheVariants.{Done, Words, Text, Deadlock, Cycles, Ops, ReadFault, WriteFault, Memory}
+
+-- the status of an answer that was written whole
+abbrev pub status_of : Ending → Status
+status_of ending.Done = Done
+status_of ending.Words = Words
+status_of ending.Text = Text
+status_of ending.Deadlock = Deadlock
+status_of ending.Cycles = Cycles
+status_of ending.Ops = Ops
 
 abbrev pub exit_number : Status → ℕ
 exit_number Done = 0

@@ -25,9 +25,9 @@ use Rattle.least_memory.specs.LeastText.{least_text}
 use Rattle.report_text.specs.Lines.{line, text_of_lines, Token, verdict_tokens}
 use Rattle.report_text.specs.ReportText.{module_name}
 use Rattle.whole_answer.specs.declared.answer.Answer.{Answer}
-use Rattle.whole_answer.specs.declared.status.Status.{Status}
-use Rattle.whole_answer.specs.declared.status.Status.TheVariants.{Done, Text}
-use Rattle.whole_answer.specs.Job.{is_done, status_of}
+use Rattle.whole_answer.specs.declared.ending.Ending.{Ending}
+use Rattle.whole_answer.specs.declared.ending.Ending.TheVariants.{Done, Text}
+use Rattle.whole_answer.specs.Job.{is_done, ending_of}
 
 -- ---- `advise`
 
@@ -35,7 +35,7 @@ use Rattle.whole_answer.specs.Job.{is_done, status_of}
 unfoldable pub advice : Plan → Answer
 advice p = record {
   text = text_of_lines ((codes "advise" ∷ []) ∷ verdict_tokens (report (wide p)).verdict ∷ depth_lines p.design.channels (advised p));
-  status = status_of (report (wide p)).verdict;
+  ending = ending_of (report (wide p)).verdict;
 }
 
 -- ---- `order`
@@ -61,7 +61,7 @@ order_tokens design i = codes "order" ∷ module_name design i ∷ order_words (
 unfoldable pub ordered : Design → Answer
 ordered design = record {
   text = text_of_lines (map (order_tokens design) (range_with_len 0 (length design.modules)));
-  status = Done;
+  ending = Done;
 }
 
 -- ---- `sweep`
@@ -78,7 +78,7 @@ abbrev pub point_tokens : Point → List Token
 point_tokens p = codes "point" ∷ map decimal p.depths ++ verdict_words p.verdict
 
 abbrev pub is_done_at : Point → Bool
-is_done_at p = is_done (status_of p.verdict)
+is_done_at p = is_done (ending_of p.verdict)
 
 -- it is done in an earlier clock than the other, or in the same clock with a lesser sum of depths
 abbrev pub beats : Point → Point → Bool
@@ -94,24 +94,24 @@ abbrev pub best_tokens : Option Point → List Token
 best_tokens None = codes "best" ∷ codes "none" ∷ []
 best_tokens (Some p) = codes "best" ∷ map decimal p.depths
 
-abbrev pub first_status : List Point → Status
-first_status [] = Done
-first_status (p ∷ points) = status_of p.verdict
+abbrev pub first_ending : List Point → Ending
+first_ending [] = Done
+first_ending (p ∷ points) = ending_of p.verdict
 
 -- done where some point is done, and else what the first point tells
-abbrev pub points_status : List Point → Status
-points_status points = if list_any is_done_at points then Done else first_status points
+abbrev pub points_ending : List Point → Ending
+points_ending points = if list_any is_done_at points then Done else first_ending points
 
 -- a line for each point, and the best
 unfoldable pub told_points : List Point → Answer
 told_points points = record {
   text = text_of_lines (map point_tokens points ++ best_tokens (best_of points) ∷ []);
-  status = points_status points;
+  ending = points_ending points;
 }
 
 -- `refused 0 N`: a session that this command does not take
 abbrev pub not_taken : ℕ → Answer
-not_taken code = record { text = line (codes "refused" ∷ decimal 0 ∷ decimal code ∷ []); status = Text }
+not_taken code = record { text = line (codes "refused" ∷ decimal 0 ∷ decimal code ∷ []); ending = Text }
 
 -- the points of the grid of a plan
 unfoldable pub swept : ℕ → ℕ → Plan → Answer
@@ -120,17 +120,17 @@ swept lo hi p =
 
 -- ---- `size` and `least`
 
--- the smallest FIFOs that lose no more than so many clocks, with the status of the verdict with them
+-- the smallest FIFOs that lose no more than so many clocks, with the ending of the verdict with them
 unfoldable pub sized : ℕ → Plan → Answer
-sized slack p = record { text = size_text slack p; status = status_of (sizes slack p).verdict }
+sized slack p = record { text = size_text slack p; ending = ending_of (sizes slack p).verdict }
 
 -- some operation of the modules is a query
 unfoldable pub has_query : Design → Bool
 has_query design = list_any (λ m. list_any (λ b. list_any (λ t. is_query t.op) b.ops) m.blocks) design.modules
 
--- the depths of the fewest bits that lose no more than so many clocks, with the status of the verdict with them
+-- the depths of the fewest bits that lose no more than so many clocks, with the ending of the verdict with them
 unfoldable pub fewest_bits : ℕ → Plan → Answer
-fewest_bits slack p = record { text = least_text slack p; status = status_of (leasts slack p).verdict }
+fewest_bits slack p = record { text = least_text slack p; ending = ending_of (leasts slack p).verdict }
 
 -- `refused 0 22` where some operation is a query
 unfoldable pub least_told : ℕ → Plan → Answer

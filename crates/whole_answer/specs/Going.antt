@@ -7,26 +7,25 @@ use Rattle.flow_design.specs.StaticRules.{FitsEngine}
 use Rattle.lockstep_defs.specs.Report.{report}
 use Rattle.outcome_guard.specs.Runs.{first_counts, next_counts}
 use Rattle.outcome_guard.specs.declared.count.RunCount.{RunCount}
-use Rattle.whole_answer.specs.declared.status.Status.{Status}
-use Rattle.whole_answer.specs.Answer.{IsAnswer}
-use Rattle.whole_answer.specs.Job.{plan_at, first_numbers, texts_of, counts_in, status_of, is_done, first_not_done, statuses_of}
+use Rattle.whole_answer.specs.declared.ending.Ending.{Ending}
+use Rattle.whole_answer.specs.Job.{plan_at, first_numbers, texts_of, counts_in, ending_of, is_done, first_not_done, endings_of}
 
--- what the reports so far tell beside their texts: the status of the first that is not done, and the runs that they count
+-- what the reports so far tell beside their texts: the ending of the first that is not done, and the runs that they count
 pub record Told : Type 0 where
-  pub status : Status
+  pub ending : Ending
   pub count : RunCount
 
-abbrev pub told_of : Status → RunCount → Told
-told_of status count = record { status = status; count = count }
+abbrev pub told_of : Ending → RunCount → Told
+told_of ending count = record { ending = ending; count = count }
 
 -- what the report of the plan itself tells
 unfoldable pub first_told : Plan → Told
-first_told p = record { status = status_of (report p).verdict; count = first_counts (report p).answers }
+first_told p = record { ending = ending_of (report p).verdict; count = first_counts (report p).answers }
 
 -- with what the report of an edited plan tells
 unfoldable pub more_told : Plan → Told → Told
 more_told p told = record {
-  status = if is_done told.status then status_of (report p).verdict else told.status;
+  ending = if is_done told.ending then ending_of (report p).verdict else told.ending;
   count = next_counts told.count (report p).answers;
 }
 
@@ -37,7 +36,6 @@ pub record IsGoing (events : Bool) (p : Plan) (edits : List Edit) (k : ℕ) (now
     pub fits : FitsEngine now
     -- the sink got the texts of the reports so far
     pub text : Appends first held (texts_of events p edits (first_numbers (k + 1)))
-    pub status : told.status ≡ first_not_done (statuses_of p edits (first_numbers (k + 1)))
+    pub ending : told.ending ≡ first_not_done (endings_of p edits (first_numbers (k + 1)))
     pub count : told.count ≡ counts_in p edits k
     pub runs : told.count.runs ≤ k + 1
-    pub answer : IsAnswer told.status

@@ -1,4 +1,4 @@
--- The job of a plan and its edits: the reports, one more after each edit, their text, the number of runs, and the status.
+-- The job of a plan and its edits: the reports, one more after each edit, their text, the number of runs, and the ending.
 use Rattle.std.specs.Prelude.{ℕ, ◌+◌, Bool, true, false, if◌then◌else◌, List, [], ◌∷◌, ◌++◌, length, map, take, flat_map}
 use Rattle.std.specs.List.{range_with_len}
 use Rattle.flow_design.specs.declared.plan.Plan.{Plan}
@@ -13,8 +13,8 @@ use Rattle.outcome_guard.specs.Runs.{first_counts, counts_after}
 use Rattle.report_text.specs.Lines.{line, runs_tokens}
 use Rattle.report_text.specs.ReportText.{report_text_of}
 use Rattle.whole_answer.specs.declared.answer.Answer.{Answer}
-use Rattle.whole_answer.specs.declared.status.Status.{Status}
-use Rattle.whole_answer.specs.declared.status.Status.TheVariants.{Done, Words, Text, Deadlock, Cycles, Ops, ReadFault, WriteFault, Memory}
+use Rattle.whole_answer.specs.declared.ending.Ending.{Ending}
+use Rattle.whole_answer.specs.declared.ending.Ending.TheVariants.{Done, Words, Text, Deadlock, Cycles, Ops}
 
 -- ---- the reports
 
@@ -42,15 +42,15 @@ abbrev pub counts_in : Plan → List Edit → ℕ → RunCount
 counts_in p edits n = counts_after (first_counts (report_at p edits 0).answers)
     (map (λ k. (report_at p edits k).answers) (range_with_len 1 n))
 
--- ---- the status
+-- ---- the ending
 
-abbrev pub status_of : Verdict → Status
-status_of (verdict.Done c) = Done
-status_of (verdict.Deadlock c) = Deadlock
-status_of (verdict.Cycles c) = Cycles
-status_of (verdict.Ops c) = Ops
+abbrev pub ending_of : Verdict → Ending
+ending_of (verdict.Done c) = Done
+ending_of (verdict.Deadlock c) = Deadlock
+ending_of (verdict.Cycles c) = Cycles
+ending_of (verdict.Ops c) = Ops
 
-abbrev pub is_done : Status → Bool
+abbrev pub is_done : Ending → Bool
 is_done Done = true
 is_done Words = false
 is_done Text = false
@@ -62,18 +62,18 @@ is_done WriteFault = false
 is_done Memory = false
 
 -- the first that is not done
-abbrev pub first_not_done : List Status → Status
+abbrev pub first_not_done : List Ending → Ending
 first_not_done [] = Done
 first_not_done (s ∷ ss) = if is_done s then first_not_done ss else s
 
-abbrev pub statuses_of : Plan → List Edit → List ℕ → List Status
-statuses_of p edits numbers = map (λ k. status_of (report_at p edits k).verdict) numbers
+abbrev pub endings_of : Plan → List Edit → List ℕ → List Ending
+endings_of p edits numbers = map (λ k. ending_of (report_at p edits k).verdict) numbers
 
 -- ---- the job
 
--- the texts of all reports and the line of the runs, with the status of the first report that is not done
+-- the texts of all reports and the line of the runs, with the ending of the first report that is not done
 unfoldable pub job : Bool → Plan → List Edit → Answer
 job events p edits = record {
   text = texts_of events p edits (first_numbers (length edits + 1)) ++ line (runs_tokens (counts_in p edits (length edits)).runs);
-  status = first_not_done (statuses_of p edits (first_numbers (length edits + 1)));
+  ending = first_not_done (endings_of p edits (first_numbers (length edits + 1)));
 }

@@ -17,15 +17,15 @@ use Rattle.cli_words.specs.declared.Options.{Options}
 use Rattle.cli_words.specs.declared.Task.{Task}
 use Rattle.cli_words.specs.declared.Task.TheVariants.{Simulate, Check, Advise, Show, Order, Sweep, Size, Least}
 use Rattle.whole_answer.specs.declared.answer.Answer.{Answer}
-use Rattle.whole_answer.specs.declared.status.Status.TheVariants.{Done, Words, Text}
+use Rattle.whole_answer.specs.declared.ending.Ending.TheVariants.{Done, Words, Text}
 use Rattle.whole_answer.specs.Further.{advice, ordered, swept, sized, least_told}
 use Rattle.whole_answer.specs.Views.{shown}
-use Rattle.whole_answer.specs.Job.{status_of, job}
+use Rattle.whole_answer.specs.Job.{ending_of, job}
 
 -- ---- refusals
 
 abbrev pub refused_words : Answer
-refused_words = record { text = line (codes "refused" ∷ codes "words" ∷ []); status = Words }
+refused_words = record { text = line (codes "refused" ∷ codes "words" ∷ []); ending = Words }
 
 -- the number of a code in the language
 abbrev pub number_of : Code → ℕ
@@ -48,7 +48,7 @@ number_of code.WrongSide = 14
 abbrev pub refused : TextFault → Answer
 refused fault = record {
   text = line (codes "refused" ∷ decimal fault.line ∷ decimal (number_of fault.code) ∷ []);
-  status = Text;
+  ending = Text;
 }
 
 -- ---- simulations
@@ -64,7 +64,7 @@ simulated scale o statements = job o.events (with_limits o (plan_of scale statem
 -- ---- the canonical form
 
 abbrev pub canonical : List Statement → Answer
-canonical statements = record { text = canonical_text statements; status = Done }
+canonical statements = record { text = canonical_text statements; ending = Done }
 
 -- ---- the summary of a generated session
 
@@ -87,7 +87,7 @@ summary_lines seed modules r = gen_tokens seed modules ∷ verdict_tokens r.verd
 unfoldable pub summary : ℕ → ℕ → Plan → Answer
 summary seed modules p = record {
   text = text_of_lines (summary_lines seed modules (report p));
-  status = status_of (report p).verdict;
+  ending = ending_of (report p).verdict;
 }
 
 -- ---- what a task makes of the statements of a session, which is read at a scale

@@ -12,7 +12,7 @@ use Rattle.trace_text.specs.TraceText.{trace_text}
 use Rattle.vcd_wave.specs.Wave.{wave_of}
 use Rattle.vcd_wave.specs.WaveText.{wave_text}
 use Rattle.whole_answer.specs.declared.answer.Answer.{Answer}
-use Rattle.whole_answer.specs.Job.{status_of}
+use Rattle.whole_answer.specs.Job.{ending_of}
 
 -- the text of a view, with what the options ask for: `stalls` with polls, `path` with its links
 abbrev pub view_text : View → Options → Plan → List ℕ
@@ -22,6 +22,6 @@ view_text Stalls o p = stalls_text o.polls p
 view_text Path o p = path_text o.events o.polls p
 view_text Trace o p = trace_text p
 
--- with the status of the verdict
+-- with the ending of the verdict
 unfoldable pub shown : View → Options → Plan → Answer
-shown view o p = record { text = view_text view o p; status = status_of (report p).verdict }
+shown view o p = record { text = view_text view o p; ending = ending_of (report p).verdict }

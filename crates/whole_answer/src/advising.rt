@@ -1,11 +1,10 @@
 //! What `advise` answers.
 ghost use Rattle.std.specs.Prelude.{◌≡◌, IfOk};
 ghost use Rattle.flow_design.specs.StaticRules.{FitsEngine};
-ghost use Rattle.whole_answer.specs.Answer.{IsAnswer};
 ghost use Rattle.whole_answer.specs.Further.{advice};
 
 use crate::answer::Answer;
-use crate::status::Status;
+use crate::ending::Ending;
 use depth_advice::{advised_depths, print_depths};
 use depth_session::ThreadRunner;
 use flow_design::{Plan, copy_plan};
@@ -25,8 +24,7 @@ pub(crate) fn advise_depths<R: Threads + Wait + Sync, G: Gate + Sync>(
     gate: &G,
 ) -> Result<Answer, OutOfMemory>
     requires { FitsEngine plan }
-    ensures advice { IfOk result (λ whole. whole ≡ advice plan) }
-    ensures status { IfOk result (λ whole. IsAnswer whole.status) }
+    ensures { IfOk result (λ whole. whole ≡ advice plan) }
 {
     let own = copy_plan(alloc, &plan)?;
     let found = advised_depths(rt, alloc, own, &mut ThreadRunner::new(gate))?;
@@ -39,6 +37,6 @@ pub(crate) fn advise_depths<R: Threads + Wait + Sync, G: Gate + Sync>(
     )?;
     Ok(Answer {
         text,
-        status: Status::of(found.verdict),
+        ending: Ending::of(found.verdict),
     })
 }

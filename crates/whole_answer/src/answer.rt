@@ -3,12 +3,12 @@ ghost use Rattle.std.specs.Prelude.{◌≡◌, ◌≢◌, ◌≤◌, ◌↔◌, 
 ghost use Rattle.sim_io.specs.Causes.{Rose};
 ghost use Rattle.cli_words.specs.CommandWords.{accepted, IsInRange, IsSound};
 ghost use Rattle.whole_answer.specs.Made.{refused_words, refused, generated, number_of};
-ghost use Rattle.whole_answer.specs.Answer.{Answers, AnswersCommand, AnswersText, Begins, takes_input, IsAnswer};
+ghost use Rattle.whole_answer.specs.Answer.{Answers, AnswersCommand, AnswersText, Begins, takes_input};
 
+use crate::ending::Ending;
 use crate::host::Host;
 use crate::laws::{one_answer, one_text_answer};
 use crate::making::{make, summarize};
-use crate::status::Status;
 use cli_words::{Asked, Command, WordFault, read_words};
 use flow_check::check;
 use flow_design::limits::Scale;
@@ -24,11 +24,11 @@ use std::alloc::Global;
 use std::sync::Wait;
 use std::thread::Threads;
 
-/// A text for the sink, and the status of the program. What is left to write of an answer is one as well.
+/// A text for the sink, and how the answer ends. What is left to write of an answer is an answer, too.
 #[derive(Debug, Drop)]
 pub(crate) struct Answer {
     pub text: List<u8>,
-    pub status: Status,
+    pub ending: Ending,
 }
 
 /// Why there is no answer.
@@ -84,7 +84,6 @@ pub(crate) fn answer_words<R: Threads + Wait + Sync, S: Source, G: Gate + Sync, 
 ) -> Result<Answer, Unanswered>
     ensures answers { IfSome (S.left source.old) (λ bytes.
         Begins (Answers (map string_bytes words.now) bytes) (K.held sink.old) (K.held sink.new) result) }
-    ensures status { IfOk result (λ rest. IsAnswer rest.status) }
     ensures read_fault { result ≡ Err Unanswered.ReadFault → Rose (S.faults source.old) (S.faults source.new) }
     ensures unwritten { result ≡ Err Unanswered.ReadFault → sink.new ≡ sink.old }
     ensures source_faults { S.faults source.old ≤ S.faults source.new }
@@ -116,7 +115,6 @@ fn obey<R: Threads + Wait + Sync, S: Source, G: Gate + Sync, K: Sink>(
     requires { IsInRange command }
     ensures answers { IfSome (S.left source.old) (λ bytes.
         Begins (AnswersCommand (Some command) bytes) (K.held sink.old) (K.held sink.new) result) }
-    ensures status { IfOk result (λ rest. IsAnswer rest.status) }
     ensures read_fault { result ≡ Err Unanswered.ReadFault → Rose (S.faults source.old) (S.faults source.new) }
     ensures unwritten { result ≡ Err Unanswered.ReadFault → sink.new ≡ sink.old }
     ensures source_faults { S.faults source.old ≤ S.faults source.new }
@@ -146,7 +144,6 @@ fn answer_source<R: Threads + Wait + Sync, S: Source, G: Gate + Sync, K: Sink>(
     requires { IsSound asked.now.scale asked.now.task }
     ensures answers { IfSome (S.left source.old) (λ bytes.
         Begins (AnswersText asked.now bytes) (K.held sink.old) (K.held sink.new) result) }
-    ensures status { IfOk result (λ rest. IsAnswer rest.status) }
     ensures read_fault { result ≡ Err Unanswered.ReadFault → Rose (S.faults source.old) (S.faults source.new) }
     ensures unwritten { result ≡ Err Unanswered.ReadFault → sink.new ≡ sink.old }
     ensures source_faults { S.faults source.old ≤ S.faults source.new }
@@ -171,8 +168,7 @@ fn answer_generated<R: Threads + Wait + Sync, G: Gate + Sync>(
     gate: &G,
 ) -> Result<Answer, OutOfMemory>
     requires { IsInRange (Command.Gen seed modules) }
-    ensures generated { IfOk result (λ whole. whole ≡ generated seed modules) }
-    ensures status { IfOk result (λ whole. IsAnswer whole.status) }
+    ensures { IfOk result (λ whole. whole ≡ generated seed modules) }
 {
     generated_sessions_are_checked();
     let session = generate_session(alloc, seed, modules)?;
@@ -192,7 +188,6 @@ fn answer_text<R: Threads + Wait + Sync, G: Gate + Sync, K: Sink>(
 ) -> Result<Answer, TellFault>
     requires { IsSound asked.now.scale asked.now.task }
     ensures answers { Begins (AnswersText asked.now text.now) (K.held sink.old) (K.held sink.new) result }
-    ensures status { IfOk result (λ rest. IsAnswer rest.status) }
     ensures write_fault { IsErrOf result TellFault.WriteFault → Rose (K.faults sink.old) (K.faults sink.new) }
     ensures faults { K.faults sink.old ≤ K.faults sink.new }
 {
@@ -212,25 +207,23 @@ fn answer_text<R: Threads + Wait + Sync, G: Gate + Sync, K: Sink>(
 
 /// `refused words`
 fn refuse_words(alloc: Global) -> Result<Answer, OutOfMemory>
-    ensures refused { IfOk result (λ whole. whole ≡ refused_words) }
-    ensures status { IfOk result (λ whole. IsAnswer whole.status) }
+    ensures { IfOk result (λ whole. whole ≡ refused_words) }
 {
     Ok(Answer {
         text: List::from_slice(alloc, b"refused words\n")?,
-        status: Status::Words,
+        ending: Ending::Words,
     })
 }
 
 /// `refused LINE CODE`
 fn refuse(alloc: Global, fault: TextFault) -> Result<Answer, OutOfMemory>
-    ensures refused { IfOk result (λ whole. whole ≡ refused fault) }
-    ensures status { IfOk result (λ whole. IsAnswer whole.status) }
+    ensures { IfOk result (λ whole. whole ≡ refused fault) }
 {
     let mut text = List::new(alloc);
     print_numbers(&mut text, b"refused", &[fault.line, number_of(fault.code)])?;
     Ok(Answer {
         text,
-        status: Status::Text,
+        ending: Ending::Text,
     })
 }
 

@@ -9,13 +9,13 @@ ghost use Rattle.engine_report.specs.Finished.{report_with};
 ghost use Rattle.report_text.specs.Lines.{line, runs_tokens};
 ghost use Rattle.report_text.specs.ReportText.{report_text_of};
 ghost use Rattle.whole_answer.specs.Job.{job};
-ghost use Rattle.whole_answer.specs.Answer.{IsAnswer, IsRest};
+ghost use Rattle.whole_answer.specs.Answer.{IsRest};
 
 use crate::answer::Answer;
+use crate::ending::Ending;
 use crate::host::Host;
 use crate::laws::reports_without_events;
 use crate::simulator::clock_report;
-use crate::status::Status;
 use cli_words::Simulator;
 use clock_machine::codes_of_all;
 use depth_session::{AloneRunner, DepthSession, Runner, ThreadRunner};
@@ -42,7 +42,6 @@ pub(crate) fn job<R: Threads + Wait + Sync, G: Gate + Sync, K: Sink>(
     requires fits { FitsEngine checked.plan }
     requires edits_fit { All (EditFits checked.plan) checked.edits }
     ensures rest { IfOk result (λ rest. IsRest (job events checked.plan checked.edits) (K.held sink.old) (K.held sink.new) rest) }
-    ensures status { IfOk result (λ rest. IsAnswer rest.status) }
     ensures prefix { OnErr result (AppendsPrefix (K.held sink.old) (K.held sink.new) (job events checked.plan checked.edits).text) }
     ensures write_fault { IsErrOf result TellFault.WriteFault → Rose (K.faults sink.old) (K.faults sink.new) }
     ensures faults { K.faults sink.old ≤ K.faults sink.new }
@@ -72,7 +71,6 @@ fn engine_job<R: Threads + Wait + Sync, G: Gate + Sync, U: Runner, K: Sink>(
     requires fits { FitsEngine plan }
     requires edits_fit { All (EditFits plan) edits.now }
     ensures rest { IfOk result (λ rest. IsRest (job events plan edits.now) (K.held sink.old) (K.held sink.new) rest) }
-    ensures status { IfOk result (λ rest. IsAnswer rest.status) }
     ensures prefix { OnErr result (AppendsPrefix (K.held sink.old) (K.held sink.new) (job events plan edits.now).text) }
     ensures write_fault { IsErrOf result TellFault.WriteFault → Rose (K.faults sink.old) (K.faults sink.new) }
     ensures faults { K.faults sink.old ≤ K.faults sink.new }
@@ -84,16 +82,16 @@ fn engine_job<R: Threads + Wait + Sync, G: Gate + Sync, U: Runner, K: Sink>(
     let mut session = DepthSession::new(rt, alloc, plan, runner)?;
     let outcome = session.report(alloc, events)?;
     write_report(alloc, session.plan(), &outcome, 0, events, sink)?;
-    let mut status = Status::of(outcome.verdict);
+    let mut ending = Ending::of(outcome.verdict);
     let mut number = 0;
     for edit in edits {
         session.edit(rt, alloc, edit, runner)?;
         number += 1;
         let outcome = session.report(alloc, events)?;
         write_report(alloc, session.plan(), &outcome, number, events, sink)?;
-        status = status.unless_done(Status::of(outcome.verdict));
+        ending = ending.unless_done(Ending::of(outcome.verdict));
     }
-    Ok(last_line(alloc, session.runs(), status)?)
+    Ok(last_line(alloc, session.runs(), ending)?)
 }
 
 /// The same by the lockstep machine, which goes through all clocks again after each edit. Each block is compiled once.
@@ -107,7 +105,6 @@ fn clock_job<K: Sink>(
     requires fits { FitsEngine plan }
     requires edits_fit { All (EditFits plan) edits.now }
     ensures rest { IfOk result (λ rest. IsRest (job events plan edits.now) (K.held sink.old) (K.held sink.new) rest) }
-    ensures status { IfOk result (λ rest. IsAnswer rest.status) }
     ensures prefix { OnErr result (AppendsPrefix (K.held sink.old) (K.held sink.new) (job events plan edits.now).text) }
     ensures write_fault { IsErrOf result TellFault.WriteFault → Rose (K.faults sink.old) (K.faults sink.new) }
     ensures faults { K.faults sink.old ≤ K.faults sink.new }
@@ -119,7 +116,7 @@ fn clock_job<K: Sink>(
     let codes = codes.as_slice();
     let outcome = clock_report(alloc, &plan, codes, events)?;
     write_report(alloc, &plan, &outcome, 0, events, sink)?;
-    let mut status = Status::of(outcome.verdict);
+    let mut ending = Ending::of(outcome.verdict);
     let mut count = RunCount::new(outcome.answers);
     let mut number = 0;
     for edit in edits {
@@ -127,10 +124,10 @@ fn clock_job<K: Sink>(
         number += 1;
         let outcome = clock_report(alloc, &plan, codes, events)?;
         write_report(alloc, &plan, &outcome, number, events, sink)?;
-        status = status.unless_done(Status::of(outcome.verdict));
+        ending = ending.unless_done(Ending::of(outcome.verdict));
         count.add(outcome.answers);
     }
-    Ok(last_line(alloc, count.runs, status)?)
+    Ok(last_line(alloc, count.runs, ending)?)
 }
 
 /// Writes the report of a plan, whole and at once.
@@ -158,12 +155,12 @@ fn write_report<K: Sink>(
     Ok(())
 }
 
-/// The line of the runs, which is left to write, and the status.
-fn last_line(alloc: Global, runs: u64, status: Status) -> Result<Answer, OutOfMemory>
+/// The line of the runs, which is left to write, and the job's ending.
+fn last_line(alloc: Global, runs: u64, ending: Ending) -> Result<Answer, OutOfMemory>
     ensures text { IfOk result (λ rest. rest.text ≡ line (runs_tokens runs)) }
-    ensures status { IfOk result (λ rest. rest.status ≡ status) }
+    ensures ending { IfOk result (λ rest. rest.ending ≡ ending) }
 {
     let mut text = List::new(alloc);
     print_runs(&mut text, runs)?;
-    Ok(Answer { text, status })
+    Ok(Answer { text, ending })
 }

@@ -3,6 +3,7 @@
 
 mod advising;
 mod answer;
+mod ending;
 mod host;
 mod job;
 mod laws;

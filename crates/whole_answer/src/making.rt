@@ -9,16 +9,16 @@ ghost use Rattle.cli_words.specs.CommandWords.{IsSound};
 ghost use Rattle.flow_check.specs.Scales.{KeepsScale};
 ghost use Rattle.whole_answer.specs.Job.{job};
 ghost use Rattle.whole_answer.specs.Made.{made, with_limits, canonical, summary, summary_lines, sum_tokens, values_in};
-ghost use Rattle.whole_answer.specs.Answer.{IsAnswer, IsRest};
+ghost use Rattle.whole_answer.specs.Answer.{IsRest};
 
 use crate::advising::advise_depths;
 use crate::answer::Answer;
+use crate::ending::Ending;
 use crate::host::Host;
 use crate::job::job;
 use crate::ordering::order_modules;
 use crate::showing::show;
 use crate::sizing::{least_fifos, size_fifos};
-use crate::status::Status;
 use crate::sweeping::sweep_depths;
 use cli_words::{Asked, Options, Simulator, Task};
 use depth_session::{DepthSession, ThreadRunner};
@@ -50,7 +50,6 @@ pub(crate) fn make<R: Threads + Wait + Sync, G: Gate + Sync, K: Sink>(
     requires edits_fit { All (EditFits checked.plan) checked.edits }
     ensures rest { IfOk result (λ rest. IsRest (made asked.now.scale asked.now.task session.now.statements)
         (K.held sink.old) (K.held sink.new) rest) }
-    ensures status { IfOk result (λ rest. IsAnswer rest.status) }
     ensures prefix { OnErr result (AppendsPrefix (K.held sink.old) (K.held sink.new)
         (made asked.now.scale asked.now.task session.now.statements).text) }
     ensures write_fault { IsErrOf result TellFault.WriteFault → Rose (K.faults sink.old) (K.faults sink.new) }
@@ -86,7 +85,6 @@ pub(crate) fn make<R: Threads + Wait + Sync, G: Gate + Sync, K: Sink>(
 fn unwritten(made: Result<Answer, OutOfMemory>) -> Result<Answer, TellFault>
     ensures rest { (whole : Answer) (held : Option (Items ℕ)) → IfOk made (λ answer. answer ≡ whole)
         → IfOk result (λ rest. IsRest whole held held rest) }
-    ensures status { IfOk made (λ answer. IsAnswer answer.status) → IfOk result (λ rest. IsAnswer rest.status) }
     ensures prefix { (text : Items ℕ) (held : Option (Items ℕ)) → OnErr result (AppendsPrefix held held text) }
     ensures no_fault { IsErrOf result TellFault.WriteFault → ⊥ }
 {
@@ -95,12 +93,11 @@ fn unwritten(made: Result<Answer, OutOfMemory>) -> Result<Answer, TellFault>
 
 /// The canonical form.
 fn print(alloc: Global, session: &Session) -> Result<Answer, OutOfMemory>
-    ensures canonical { IfOk result (λ whole. whole ≡ canonical session.now.statements) }
-    ensures status { IfOk result (λ whole. IsAnswer whole.status) }
+    ensures { IfOk result (λ whole. whole ≡ canonical session.now.statements) }
 {
     Ok(Answer {
         text: print_session(alloc, session)?,
-        status: Status::Done,
+        ending: Ending::Done,
     })
 }
 
@@ -116,7 +113,6 @@ fn simulate<R: Threads + Wait + Sync, G: Gate + Sync, K: Sink>(
     requires edits_fit { All (EditFits checked.plan) checked.edits }
     ensures rest { IfOk result (λ rest. IsRest (job options.now.events (with_limits options.now checked.plan) checked.edits)
         (K.held sink.old) (K.held sink.new) rest) }
-    ensures status { IfOk result (λ rest. IsAnswer rest.status) }
     ensures prefix { OnErr result (AppendsPrefix (K.held sink.old) (K.held sink.new)
         (job options.now.events (with_limits options.now checked.plan) checked.edits).text) }
     ensures write_fault { IsErrOf result TellFault.WriteFault → Rose (K.faults sink.old) (K.faults sink.new) }
@@ -157,8 +153,7 @@ pub(crate) fn summarize<R: Threads + Wait + Sync, G: Gate + Sync>(
     gate: &G,
 ) -> Result<Answer, OutOfMemory>
     requires fits { FitsEngine plan }
-    ensures summary { IfOk result (λ whole. whole ≡ summary seed modules plan) }
-    ensures status { IfOk result (λ whole. IsAnswer whole.status) }
+    ensures { IfOk result (λ whole. whole ≡ summary seed modules plan) }
 {
     let session = DepthSession::new(rt, alloc, plan, &mut ThreadRunner::new(gate))?;
     let outcome = session.report(alloc, false)?;
@@ -166,7 +161,7 @@ pub(crate) fn summarize<R: Threads + Wait + Sync, G: Gate + Sync>(
     print_summary(&mut text, seed, modules, &outcome)?;
     Ok(Answer {
         text,
-        status: Status::of(outcome.verdict),
+        ending: Ending::of(outcome.verdict),
     })
 }
 

@@ -3,11 +3,10 @@ ghost use Rattle.std.specs.Prelude.{◌≡◌, ◌<◌, ◌∷◌, ◌++◌, [],
 ghost use Rattle.flow_design.specs.StaticRules.{FitsEngine};
 ghost use Rattle.report_text.specs.Lines.{line};
 ghost use Rattle.serial_order.specs.Orders.{HasModule};
-ghost use Rattle.whole_answer.specs.Answer.{IsAnswer};
 ghost use Rattle.whole_answer.specs.Further.{order_tokens, order_words, ordered, used_words};
 
 use crate::answer::Answer;
-use crate::status::Status;
+use crate::ending::Ending;
 use flow_design::{Design, Plan};
 use flow_word::{List, OutOfMemory};
 use report_text::{module_name, push_token, push_value};
@@ -17,8 +16,7 @@ use std::alloc::Global;
 /// A line for each module of a plan. Nothing is simulated.
 pub(crate) fn order_modules(alloc: Global, plan: &Plan) -> Result<Answer, OutOfMemory>
     requires { FitsEngine plan.now }
-    ensures orders { IfOk result (λ whole. whole ≡ ordered plan.now.design) }
-    ensures status { IfOk result (λ whole. IsAnswer whole.status) }
+    ensures { IfOk result (λ whole. whole ≡ ordered plan.now.design) }
 {
     let mut text = List::new(alloc);
     for module in 0..plan.design.modules.as_slice().len() {
@@ -26,7 +24,7 @@ pub(crate) fn order_modules(alloc: Global, plan: &Plan) -> Result<Answer, OutOfM
     }
     Ok(Answer {
         text,
-        status: Status::Done,
+        ending: Ending::Done,
     })
 }
 

@@ -2,7 +2,7 @@
 ghost use Rattle.std.specs.Prelude.{◌≡◌, ◌≢◌, ◌≤◌, [], false, map, string_bytes, IfSome};
 ghost use Rattle.sim_io.specs.Causes.{Rose};
 ghost use Rattle.cli_words.specs.CommandWords.{accepted};
-ghost use Rattle.whole_answer.specs.Answer.{takes_input, IsAnswer, Tells, TellsAnswer, TellsFaults};
+ghost use Rattle.whole_answer.specs.Answer.{takes_input, Tells, TellsAnswer, TellsFaults};
 
 use crate::answer::{Answer, Unanswered, answer_words};
 use crate::status::Status;
@@ -47,7 +47,6 @@ pub fn omnisim<R: Threads + Wait + Sync, S: Source, K: Sink, G: Gate + Sync>(
 
 /// Writes a whole answer, and finishes.
 fn tell<K: Sink>(sink: &mut K, whole: &Answer) -> Status
-    requires { IsAnswer whole.now.status }
     ensures told { Tells whole.now result (K.held sink.old) (K.held sink.new) (K.is_finished sink.new) }
     ensures write_fault { result ≡ Status.WriteFault → Rose (K.faults sink.old) (K.faults sink.new) }
     ensures sink_faults { K.faults sink.old ≤ K.faults sink.new }
@@ -58,7 +57,7 @@ fn tell<K: Sink>(sink: &mut K, whole: &Answer) -> Status
         Err(PutFault::WriteFault) => return Status::WriteFault,
     }
     match sink.finish() {
-        Ok(()) => whole.status,
+        Ok(()) => Status::of(whole.ending),
         Err(_) => Status::WriteFault,
     }
 }

@@ -1,10 +1,9 @@
 //! Refusals of sessions that a command does not take.
 ghost use Rattle.std.specs.Prelude.{◌≡◌, IfOk};
-ghost use Rattle.whole_answer.specs.Answer.{IsAnswer};
 ghost use Rattle.whole_answer.specs.Further.{not_taken};
 
 use crate::answer::Answer;
-use crate::status::Status;
+use crate::ending::Ending;
 use flow_word::{List, OutOfMemory};
 use report_text::print_numbers;
 use std::alloc::Global;
@@ -17,13 +16,12 @@ pub(crate) const HAS_QUERY: u64 = 22;
 
 /// `refused 0 CODE`
 pub(crate) fn refuse(alloc: Global, code: u64) -> Result<Answer, OutOfMemory>
-    ensures refused { IfOk result (λ whole. whole ≡ not_taken code) }
-    ensures status { IfOk result (λ whole. IsAnswer whole.status) }
+    ensures { IfOk result (λ whole. whole ≡ not_taken code) }
 {
     let mut text = List::new(alloc);
     print_numbers(&mut text, b"refused", &[0, code])?;
     Ok(Answer {
         text,
-        status: Status::Text,
+        ending: Ending::Text,
     })
 }

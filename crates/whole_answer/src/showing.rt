@@ -6,12 +6,12 @@ ghost use Rattle.flow_design.specs.StaticRules.{FitsEngine};
 ghost use Rattle.event_timing.specs.Actions.{IsFinal};
 ghost use Rattle.timing_bridge.specs.Designs.{design};
 ghost use Rattle.sim_core.specs.Views.{theory_of};
-ghost use Rattle.whole_answer.specs.Answer.{IsAnswer, IsRest};
+ghost use Rattle.whole_answer.specs.Answer.{IsRest};
 ghost use Rattle.whole_answer.specs.Views.{shown, view_text};
 
 use crate::answer::Answer;
+use crate::ending::Ending;
 use crate::host::Host;
-use crate::status::Status;
 use cli_words::{Options, View};
 use depth_session::{Runner, ThreadRunner};
 use flow_design::Plan;
@@ -28,7 +28,7 @@ use std::thread::Threads;
 use trace_text::trace_text;
 use vcd_wave::wave_text;
 
-/// A view of a plan's simulation, which has a thread for each module, and the status of its verdict.
+/// A view of a plan's simulation, which has a thread for each module, with the ending of its verdict.
 #[tactic(auto, using(sim_io::proofs::Pending::prefix_none))]
 pub(crate) fn show<R: Threads + Wait + Sync, G: Gate + Sync, K: Sink>(
     host: &Host<'_, R, G>,
@@ -39,15 +39,14 @@ pub(crate) fn show<R: Threads + Wait + Sync, G: Gate + Sync, K: Sink>(
 ) -> Result<Answer, TellFault>
     requires { FitsEngine plan }
     ensures rest { IfOk result (λ rest. IsRest (shown view options.now plan) (K.held sink.old) (K.held sink.new) rest) }
-    ensures status { IfOk result (λ rest. IsAnswer rest.status) }
     ensures prefix { OnErr result (AppendsPrefix (K.held sink.old) (K.held sink.new) (shown view options.now plan).text) }
     ensures write_fault { IsErrOf result TellFault.WriteFault → Rose (K.faults sink.old) (K.faults sink.new) }
     ensures faults { K.faults sink.old ≤ K.faults sink.new }
 {
     let core = ThreadRunner::new(host.gate).run_plan(host.rt, host.alloc, plan)?;
-    let status = Status::of(core.verdict());
+    let ending = Ending::of(core.verdict());
     let text = view_text(host.alloc, view, options, &core, sink)?;
-    Ok(Answer { text, status })
+    Ok(Answer { text, ending })
 }
 
 /// The text of a view of a final core's plan, with what the options ask for: `stalls` with polls, `path` with its links. Those that may

@@ -3,12 +3,11 @@ ghost use Rattle.std.specs.Prelude.{◌≡◌, ◌≤◌, IfOk};
 ghost use Rattle.flow_design.specs.StaticRules.{FitsEngine};
 ghost use Rattle.depth_order.specs.Depths.{AsksNothing};
 ghost use Rattle.least_depths.specs.Least.{most_slack};
-ghost use Rattle.whole_answer.specs.Answer.{IsAnswer};
 ghost use Rattle.whole_answer.specs.Further.{sized, fewest_bits, least_told};
 
 use crate::answer::Answer;
+use crate::ending::Ending;
 use crate::refusing::{HAS_QUERY, refuse};
-use crate::status::Status;
 use depth_bounds::asks_nothing;
 use depth_session::ThreadRunner;
 use flow_design::Plan;
@@ -31,14 +30,13 @@ pub(crate) fn size_fifos<R: Threads + Wait + Sync, G: Gate + Sync>(
 ) -> Result<Answer, OutOfMemory>
     requires fits { FitsEngine plan.now }
     requires slack { slack ≤ most_slack }
-    ensures sized { IfOk result (λ whole. whole ≡ sized slack plan.now) }
-    ensures status { IfOk result (λ whole. IsAnswer whole.status) }
+    ensures { IfOk result (λ whole. whole ≡ sized slack plan.now) }
 {
     let told = tell_sizes(rt, alloc, plan, slack, &mut ThreadRunner::new(gate))?;
-    let status = Status::of(told.verdict);
+    let ending = Ending::of(told.verdict);
     Ok(Answer {
         text: told.into_text(),
-        status,
+        ending,
     })
 }
 
@@ -52,8 +50,7 @@ pub(crate) fn least_fifos<R: Threads + Wait + Sync, G: Gate + Sync>(
 ) -> Result<Answer, OutOfMemory>
     requires fits { FitsEngine plan.now }
     requires slack { slack ≤ most_slack }
-    ensures told { IfOk result (λ whole. whole ≡ least_told slack plan.now) }
-    ensures status { IfOk result (λ whole. IsAnswer whole.status) }
+    ensures { IfOk result (λ whole. whole ≡ least_told slack plan.now) }
 {
     if asks_nothing(plan) {
         fewest_bits(rt, alloc, plan, slack, gate)
@@ -74,13 +71,12 @@ fn fewest_bits<R: Threads + Wait + Sync, G: Gate + Sync>(
     requires fits { FitsEngine plan.now }
     requires slack { slack ≤ most_slack }
     requires quiet { AsksNothing plan.now }
-    ensures told { IfOk result (λ whole. whole ≡ fewest_bits slack plan.now) }
-    ensures status { IfOk result (λ whole. IsAnswer whole.status) }
+    ensures { IfOk result (λ whole. whole ≡ fewest_bits slack plan.now) }
 {
     let told = tell_least(rt, alloc, plan, slack, &mut ThreadRunner::new(gate))?;
-    let status = Status::of(told.verdict);
+    let ending = Ending::of(told.verdict);
     Ok(Answer {
         text: told.into_text(),
-        status,
+        ending,
     })
 }

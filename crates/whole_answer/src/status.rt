@@ -1,10 +1,9 @@
 //! How the program ends.
-ghost use Rattle.std.specs.Prelude.{◌≡◌, if◌then◌else◌};
-ghost use Rattle.whole_answer.specs.Job.{status_of, is_done};
+ghost use Rattle.std.specs.Prelude.{◌≡◌};
 ghost use Rattle.whole_answer.specs.Answer.{IsAnswer};
-ghost use Rattle.whole_answer.specs.Exit.{exit_number};
+ghost use Rattle.whole_answer.specs.Exit.{exit_number, status_of};
 
-use flow_design::Verdict;
+use crate::ending::Ending;
 
 /// How the program ends.
 #[derive(Clone, Copy, Debug, PartialEq, Eq)]
@@ -30,27 +29,18 @@ pub enum Status {
 }
 
 impl Status {
-    /// The status of a verdict.
-    pub fn of(verdict: Verdict) -> Status
-        ensures status { result ≡ status_of verdict }
+    /// The status of an answer that was written whole.
+    pub(crate) fn of(ending: Ending) -> Status
+        ensures status { result ≡ status_of ending }
         ensures answer { IsAnswer result }
     {
-        match verdict {
-            Verdict::Done(_) => Status::Done,
-            Verdict::Deadlock(_) => Status::Deadlock,
-            Verdict::Cycles(_) => Status::Cycles,
-            Verdict::Ops(_) => Status::Ops,
-        }
-    }
-
-    /// This status where it is not done, and else the next one.
-    pub fn unless_done(self, next: Status) -> Status
-        ensures status { result ≡ (if is_done self then next else self) }
-        ensures answer { IsAnswer self → IsAnswer next → IsAnswer result }
-    {
-        match self {
-            Status::Done => next,
-            _ => self,
+        match ending {
+            Ending::Done => Status::Done,
+            Ending::Words => Status::Words,
+            Ending::Text => Status::Text,
+            Ending::Deadlock => Status::Deadlock,
+            Ending::Cycles => Status::Cycles,
+            Ending::Ops => Status::Ops,
         }
     }
 

@@ -3,13 +3,12 @@ ghost use Rattle.std.specs.Prelude.{◌≡◌, ◌≤◌, ◌∷◌, ◌++◌, [
 ghost use Rattle.std.specs.List.{list_any};
 ghost use Rattle.flow_design.specs.StaticRules.{FitsEngine};
 ghost use Rattle.report_text.specs.Lines.{line, text_of_lines};
-ghost use Rattle.whole_answer.specs.Answer.{IsAnswer};
-ghost use Rattle.whole_answer.specs.Further.{best_of, best_tokens, first_status, is_done_at, not_taken, point_tokens, points_status};
+ghost use Rattle.whole_answer.specs.Further.{best_of, best_tokens, first_ending, is_done_at, not_taken, point_tokens, points_ending};
 ghost use Rattle.whole_answer.specs.Further.{swept, told_points, verdict_words};
 
 use crate::answer::Answer;
+use crate::ending::Ending;
 use crate::refusing::{TOO_MANY_POINTS, refuse};
-use crate::status::Status;
 use depth_sweep::{Point, SweepFault, best, sweep};
 use flow_design::{Plan, Verdict};
 use flow_word::{List, OutOfMemory};
@@ -29,8 +28,7 @@ pub(crate) fn sweep_depths<R: Threads + Sync>(
     requires ordered { lo ≤ hi }
     requires most { hi ≤ 64 }
     requires fits { FitsEngine plan }
-    ensures swept { IfOk result (λ whole. whole ≡ swept lo hi plan) }
-    ensures status { IfOk result (λ whole. IsAnswer whole.status) }
+    ensures { IfOk result (λ whole. whole ≡ swept lo hi plan) }
 {
     match sweep(rt, alloc, &plan, lo, hi) {
         Ok(points) => tell_points(alloc, points.as_slice()),
@@ -41,15 +39,14 @@ pub(crate) fn sweep_depths<R: Threads + Sync>(
 
 /// A line for each point, and the best.
 fn tell_points(alloc: Global, points: &[Point]) -> Result<Answer, OutOfMemory>
-    ensures told { IfOk result (λ whole. whole ≡ told_points points.now) }
-    ensures status { IfOk result (λ whole. IsAnswer whole.status) }
+    ensures { IfOk result (λ whole. whole ≡ told_points points.now) }
 {
     let mut text = List::new(alloc);
     print_points(&mut text, points)?;
     print_best(&mut text, points)?;
     Ok(Answer {
         text,
-        status: points_status(points),
+        ending: points_ending(points),
     })
 }
 
@@ -100,14 +97,13 @@ fn print_best(text: &mut List<u8>, points: &[Point]) -> Result<(), OutOfMemory>
 }
 
 /// Done where some point is done, and else what the first point tells.
-fn points_status(points: &[Point]) -> Status
-    ensures status { result ≡ points_status points.now }
-    ensures answer { IsAnswer result }
+fn points_ending(points: &[Point]) -> Ending
+    ensures { result ≡ points_ending points.now }
 {
     if some_is_done(points) {
-        Status::Done
+        Ending::Done
     } else {
-        first_status(points)
+        first_ending(points)
     }
 }
 
@@ -119,13 +115,12 @@ fn some_is_done(points: &[Point]) -> bool
 }
 
 /// What the first point tells.
-fn first_status(points: &[Point]) -> Status
-    ensures status { result ≡ first_status points.now }
-    ensures answer { IsAnswer result }
+fn first_ending(points: &[Point]) -> Ending
+    ensures { result ≡ first_ending points.now }
 {
     match points {
-        [] => Status::Done,
-        [first, ..] => Status::of(first.verdict),
+        [] => Ending::Done,
+        [first, ..] => Ending::of(first.verdict),
     }
 }
 

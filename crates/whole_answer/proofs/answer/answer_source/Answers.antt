@@ -45,4 +45,4 @@ returns-in_ok-refuse-in-Err-TooLong-clause-answers g c =
     (λ bytes long.
     let over : most < length bytes = omega (arith, long) in
     begins_whole (AnswersText c.args.asked.now bytes) (refused too_long) _ (Ok c.in_ok-refuse-in-Err-TooLong.field-0)
-    (misread too_long (inl (over, refl)) refl) c.in_ok-refuse-in-Err-TooLong.ensures.refused)
+    (misread too_long (inl (over, refl)) refl) c.in_ok-refuse-in-Err-TooLong.ensures)

@@ -12,7 +12,7 @@ returns-in-Err-Text-clause-answers g c =
     let fault = subst (λ f. IsAnswer c.args.asked.now.scale c.args.text.now (Err f)) c.in-Err-Text.field-0-is
     c.in-Err-Text.ensures.answer in
     begins_whole (AnswersText c.args.asked.now c.args.text.now) (refused c.in-Err-Text.fault) _ (Ok c.in_ok-refuse-in-Err-Text.field-0)
-    (misread c.in-Err-Text.fault fault refl) c.in_ok-refuse-in-Err-Text.ensures.refused
+    (misread c.in-Err-Text.fault fault refl) c.in_ok-refuse-in-Err-Text.ensures
 
 pub returns-in_err-refuse-in-Err-Text-clause-answers : goal.returns-in_err-refuse-in-Err-Text-clause-answers
 returns-in_err-refuse-in-Err-Text-clause-answers g c =
@@ -39,7 +39,7 @@ returns-in-Err-Text-check-clause-answers g c =
     begins_whole (AnswersText c.args.asked.now c.args.text.now) (refused c.in-Err-Text-check.fault) _
     (Ok c.in_ok-refuse-in-Err-Text-check.field-0)
     (refused_session c.args.asked.now c.args.text.now read.0.statements read.1 c.in-Err-Text-check.fault c.in-Ok.ensures.answer fault)
-    c.in_ok-refuse-in-Err-Text-check.ensures.refused
+    c.in_ok-refuse-in-Err-Text-check.ensures
 
 pub returns-in_err-refuse-in-Err-Text-check-clause-answers : goal.returns-in_err-refuse-in-Err-Text-check-clause-answers
 returns-in_err-refuse-in-Err-Text-check-clause-answers g c =

@@ -13,13 +13,13 @@ pub returns-in_ok-answer_generated-in-Gen-clause-answers : goal.returns-in_ok-an
 returns-in_ok-answer_generated-in-Gen-clause-answers g c =
     rw c.in-Gen.is (of_each _ (g.S.Source.left c.args.source.now) (λ bytes.
     begins_whole (AnswersCommand (Some (Gen c.in-Gen.seed c.in-Gen.modules)) bytes) (generated c.in-Gen.seed c.in-Gen.modules) _
-    (Ok c.in_ok-answer_generated-in-Gen.field-0) refl c.in_ok-answer_generated-in-Gen.ensures.generated))
+    (Ok c.in_ok-answer_generated-in-Gen.field-0) refl c.in_ok-answer_generated-in-Gen.ensures))
 
 pub returns-in_ok-answer_generated-in-Gen-clause-without_input : goal.returns-in_ok-answer_generated-in-Gen-clause-without_input
 returns-in_ok-answer_generated-in-Gen-clause-without_input g c = λ none.
     rw c.in-Gen.is (begins_whole (AnswersCommand (Some (Gen c.in-Gen.seed c.in-Gen.modules)) [])
     (generated c.in-Gen.seed c.in-Gen.modules) _
-    (Ok c.in_ok-answer_generated-in-Gen.field-0) refl c.in_ok-answer_generated-in-Gen.ensures.generated)
+    (Ok c.in_ok-answer_generated-in-Gen.field-0) refl c.in_ok-answer_generated-in-Gen.ensures)
 
 pub returns-in_err-answer_generated-in-Gen-clause-answers : goal.returns-in_err-answer_generated-in-Gen-clause-answers
 returns-in_err-answer_generated-in-Gen-clause-answers g c =

@@ -12,10 +12,9 @@ use Rattle.sim_io.proofs.Pending.{prefix_none}
 use Rattle.block_code.specs.declared.code.BlockCode.{BlockCode}
 use Rattle.clock_machine.specs.Parts.{AreCodes}
 use Rattle.outcome_guard.specs.Runs.{first_counts, next_counts}
-use Rattle.whole_answer.specs.Answer.{IsAnswer}
 use Rattle.whole_answer.specs.Going.{Told, IsGoing, told_of}
-use Rattle.whole_answer.specs.Job.{status_of, is_done}
-use Rattle.whole_answer.specs.declared.status.Status.{Status}
+use Rattle.whole_answer.specs.Job.{ending_of, is_done}
+use Rattle.whole_answer.specs.declared.ending.Ending.{Ending}
 use Rattle.whole_answer.proofs.Reports.{begins, goes_on, still_fits, next_plan, ends, edit_at, fits_there, first_is, more_is, first_plan}
 use Rattle.whole_answer.proofs.Reports.{stops, stops_first, stops_inside, same_verdict}
 use Rattle.flow_design.proofs.Failing.{on_err}
@@ -31,15 +30,15 @@ loop-edit-init g c =
     let p = c.args.plan in
     let outcome = c.in_ok-outcome.ensures in
     let answers = ap (λ (r : Report). r.answers) outcome ∙ c.reports_without_events.ensures.answers events p in
-    let status : c.of-status.result ≡ status_of (report p).verdict = c.of-status.ensures.status
+    let ending : c.of-ending.result ≡ ending_of (report p).verdict = c.of-ending.ensures
     ∙ same_verdict events p p c.in_ok-outcome.outcome c.reports_without_events.ensures.verdict outcome refl in
-    let told = first_is p c.of-status.result c.new-count.result status (c.new-count.ensures ∙ ap first_counts answers) in
+    let told = first_is p c.of-ending.result c.new-count.result ending (c.new-count.ensures ∙ ap first_counts answers) in
     let first = g.K.Sink.held c.args.sink.now in
     let held = g.K.Sink.held c.write_report.new.sink in
     record {
       going = subst (λ (t : Told). IsGoing events p c.args.edits.now 0 p t first held) (sym told)
           (begins events p c.args.edits.now c.edits_in_order.ensures.none c.requires.fits
-          (subst IsAnswer status c.of-status.ensures.answer) first held c.in_ok-write_report.ensures.ok);
+          first held c.in_ok-write_report.ensures.ok);
       number = refl;
       codes = subst (AreCodes p) (sym c.as_slice-codes.ensures) c.in_ok-codes.ensures;
       faults = c.in_ok-write_report.ensures.faults;
@@ -95,19 +94,18 @@ loop-edit-preserved g c =
     let written = subst (λ (k : ℕ). Appends held last (report_text_of next.design (report next) k events)) number
     c.in_ok-write_report-2.ensures.ok in
     let answers = ap (λ (r : Report). r.answers) outcome ∙ c.reports_without_events.ensures.answers events next in
-    let verdict : status_of c.in_ok-outcome-2.outcome.verdict ≡ status_of (report next).verdict
+    let verdict : ending_of c.in_ok-outcome-2.outcome.verdict ≡ ending_of (report next).verdict
     = same_verdict events next next c.in_ok-outcome-2.outcome c.reports_without_events.ensures.verdict outcome refl in
-    let status = c.unless_done-status.ensures.status
-    ∙ ap (λ (v : Status). if is_done c.loop-edit.status then v else c.loop-edit.status) (c.of.ensures.status ∙ verdict) in
-    let told = more_is next c.loop-edit.status c.unless_done-status.result c.loop-edit.count c.add.new.self status
+    let ending = c.unless_done-ending.ensures
+    ∙ ap (λ (v : Ending). if is_done c.loop-edit.ending then v else c.loop-edit.ending) (c.of.ensures ∙ verdict) in
+    let told = more_is next c.loop-edit.ending c.unless_done-ending.result c.loop-edit.count c.add.new.self ending
     (c.add.ensures ∙ ap (next_counts c.loop-edit.count) answers) in
     let before = still_fits events p edits i plan (edit_at edits i) going.plan fit in
     let fits = subst FitsEngine (sym c.edit_plan.ensures) (c.edited_plans_agree.ensures.fits plan going.fits (edit_at edits i) before) in
-    let answer = c.unless_done-status.ensures.answer going.answer c.of.ensures.answer in
     record {
       going = subst (λ (t : Told). IsGoing events p edits (i + 1) next t first last) (sym told)
-          (goes_on events p edits i plan next (told_of c.loop-edit.status c.loop-edit.count) first held last going is fits
-          (subst (λ (t : Told). IsAnswer t.status) told answer) written);
+          (goes_on events p edits i plan next (told_of c.loop-edit.ending c.loop-edit.count) first held last going is fits
+          written);
       number = number;
       codes = subst (λ (q : Plan). AreCodes q c.as_slice-codes.result.now) (sym c.edit_plan.ensures)
           (codes_stay plan c.as_slice-codes.result.now _ _ c.loop-edit.invariant.codes);
@@ -154,6 +152,6 @@ returns-in_err-last_line-clause-prefix g c =
 pub returns-clause-rest : goal.returns-clause-rest
 returns-clause-rest g c =
     ends c.args.events c.args.plan c.args.edits.now c.loop-edit.edit-index c.loop-edit.plan
-    (told_of c.loop-edit.status c.loop-edit.count) _ _ c.in_ok-last_line.field-0 c.loop-edit.invariant.going
+    (told_of c.loop-edit.ending c.loop-edit.count) _ _ c.in_ok-last_line.field-0 c.loop-edit.invariant.going
     (omega (arith, c.loop-edit.auto.edit-index-end))
-    c.in_ok-last_line.ensures.text c.in_ok-last_line.ensures.status
+    c.in_ok-last_line.ensures.text c.in_ok-last_line.ensures.ending

@@ -12,10 +12,9 @@ use Rattle.report_text.specs.Lines.{line, runs_tokens}
 use Rattle.report_text.specs.ReportText.{report_text_of}
 use Rattle.sim_io.specs.Causes.{AppendsPrefix}
 use Rattle.sim_io.proofs.Pending.{prefix_none}
-use Rattle.whole_answer.specs.Answer.{IsAnswer}
 use Rattle.whole_answer.specs.Going.{Told, IsGoing, told_of}
-use Rattle.whole_answer.specs.Job.{status_of, is_done}
-use Rattle.whole_answer.specs.declared.status.Status.{Status}
+use Rattle.whole_answer.specs.Job.{ending_of, is_done}
+use Rattle.whole_answer.specs.declared.ending.Ending.{Ending}
 use Rattle.whole_answer.proofs.Reports.{begins, goes_on, still_fits, next_plan, ends, edit_at, fits_there, first_is, more_is, first_plan}
 use Rattle.whole_answer.proofs.Reports.{stops, stops_first, stops_inside, same_verdict}
 use Rattle.flow_design.proofs.Failing.{on_err}
@@ -37,14 +36,14 @@ loop-edit-init g c =
     let plan : s.plan ≡ p = ap (λ (v : Session). v.plan) begun in
     let first = g.K.Sink.held c.args.sink.now in
     let held = g.K.Sink.held c.write_report.new.sink in
-    let status : c.of-status.result ≡ status_of (report p).verdict = c.of-status.ensures.status
+    let ending : c.of-ending.result ≡ ending_of (report p).verdict = c.of-ending.ensures
     ∙ same_verdict events p s.plan c.in_ok-outcome.outcome c.reports_without_events.ensures.verdict c.in_ok-outcome.ensures plan in
-    let told = first_is p c.of-status.result s.count status (ap (λ (v : Session). v.count) begun) in
+    let told = first_is p c.of-ending.result s.count ending (ap (λ (v : Session). v.count) begun) in
     let written = subst (report_in first held 0 events) (c.plan.ensures ∙ plan) c.in_ok-write_report.ensures.ok in
     let going = begins events p c.args.edits.now c.edits_in_order.ensures.none c.requires.fits
-    (subst IsAnswer status c.of-status.ensures.answer) first held written in
+    first held written in
     record {
-      going = subst (λ (q : Plan). IsGoing events p c.args.edits.now 0 q (told_of c.of-status.result s.count) first held) (sym plan)
+      going = subst (λ (q : Plan). IsGoing events p c.args.edits.now 0 q (told_of c.of-ending.result s.count) first held) (sym plan)
           (subst (λ (t : Told). IsGoing events p c.args.edits.now 0 p t first held) (sym told) going);
       live = ap (λ (v : Session). v.live) begun;
       number = refl;
@@ -89,19 +88,18 @@ loop-edit-preserved g c =
     let last = g.K.Sink.held c.write_report-in-loop-edit.new.sink in
     let written = subst (λ (k : ℕ). report_in held last k events t.plan) number
     (subst (report_in held last (c.loop-edit.number + 1) events) c.plan-in-loop-edit.ensures c.in_ok-write_report-2.ensures.ok) in
-    let verdict : status_of c.in_ok-outcome-2.outcome.verdict ≡ status_of (report t.plan).verdict
+    let verdict : ending_of c.in_ok-outcome-2.outcome.verdict ≡ ending_of (report t.plan).verdict
     = same_verdict events t.plan t.plan c.in_ok-outcome-2.outcome c.reports_without_events.ensures.verdict c.in_ok-outcome-2.ensures refl in
-    let status = c.unless_done-status.ensures.status
-    ∙ ap (λ (v : Status). if is_done c.loop-edit.status then v else c.loop-edit.status) (c.of.ensures.status ∙ verdict) in
+    let ending = c.unless_done-ending.ensures
+    ∙ ap (λ (v : Ending). if is_done c.loop-edit.ending then v else c.loop-edit.ending) (c.of.ensures ∙ verdict) in
     let count = ap (λ (v : Session). v.count) edited ∙ ap (λ (q : Plan). next_counts s.count (report q).answers) (sym plan) in
-    let told = more_is t.plan c.loop-edit.status c.unless_done-status.result s.count t.count status count in
+    let told = more_is t.plan c.loop-edit.ending c.unless_done-ending.result s.count t.count ending count in
     let before = still_fits events p edits i s.plan (edit_at edits i) going.plan fit in
     let fits = subst FitsEngine (sym plan) (c.edited_plans_agree.ensures.fits s.plan going.fits (edit_at edits i) before) in
-    let answer = c.unless_done-status.ensures.answer going.answer c.of.ensures.answer in
     record {
       going = subst (λ (v : Told). IsGoing events p edits (i + 1) t.plan v first last) (sym told)
-          (goes_on events p edits i s.plan t.plan (told_of c.loop-edit.status s.count) first held last going is fits
-          (subst (λ (v : Told). IsAnswer v.status) told answer) written);
+          (goes_on events p edits i s.plan t.plan (told_of c.loop-edit.ending s.count) first held last going is fits
+          written);
       live = ap (λ (v : Session). v.live) edited;
       number = number;
       faults = omega (arith, c.loop-edit.invariant.faults, c.in_ok-write_report-2.ensures.faults);
@@ -157,6 +155,6 @@ returns-in_err-last_line-clause-prefix g c =
 pub returns-clause-rest : goal.returns-clause-rest
 returns-clause-rest g c =
     ends c.args.events c.args.plan c.args.edits.now c.loop-edit.edit-index c.loop-edit.session.plan
-    (told_of c.loop-edit.status c.loop-edit.session.count) _ _ c.in_ok-last_line.field-0 c.loop-edit.invariant.going
+    (told_of c.loop-edit.ending c.loop-edit.session.count) _ _ c.in_ok-last_line.field-0 c.loop-edit.invariant.going
     (omega (arith, c.loop-edit.auto.edit-index-end))
-    (c.in_ok-last_line.ensures.text ∙ ap (λ (n : ℕ). line (runs_tokens n)) c.runs.ensures) c.in_ok-last_line.ensures.status
+    (c.in_ok-last_line.ensures.text ∙ ap (λ (n : ℕ). line (runs_tokens n)) c.runs.ensures) c.in_ok-last_line.ensures.ending

@@ -1,7 +1,7 @@
 use Rattle.std.proofs.Common.{◌≡◌, ◌∙◌, ap, arith, ℕ, List, length, map}
 use Rattle.std.specs.List.{range_with_len}
 use Rattle.report_text.specs.Lines.{text_of_lines}
-use Rattle.whole_answer.specs.declared.status.Status.TheVariants.{Done}
+use Rattle.whole_answer.specs.declared.ending.Ending.TheVariants.{Done}
 use Rattle.whole_answer.specs.Further.{order_tokens, ordered}
 use Rattle.whole_answer.proofs.FurtherLines.{lines_more}
 use Rattle.whole_answer.proofs.ordering.order_modules.Goals as goal
@@ -11,11 +11,11 @@ loop-module-preserved c =
     lines_more (order_tokens c.args.plan.now.design) c.loop-module.«module» c.loop-module.text c.print_order.new.text
     c.loop-module.invariant c.in_ok-print_order.ensures
 
-pub returns-clause-orders : goal.returns-clause-orders
+pub returns : goal.returns
 unfolding ordered
-returns-clause-orders c =
+returns c =
     let design = c.args.plan.now.design in
     let all : c.loop-module.«module» ≡ length design.modules =
     omega (arith, c.loop-module.auto.module-end, ap length c.as_slice-module-end.ensures) in
-    ap (λ (text : List ℕ). record { text = text; status = Done }) (c.loop-module.invariant
+    ap (λ (text : List ℕ). record { text = text; ending = Done }) (c.loop-module.invariant
     ∙ ap (λ (n : ℕ). text_of_lines (map (order_tokens design) (range_with_len 0 n))) all)

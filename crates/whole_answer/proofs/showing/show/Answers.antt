@@ -9,4 +9,4 @@ returns-in_err-text-clause-prefix g c =
 pub returns-clause-rest : goal.returns-clause-rest
 returns-clause-rest g c =
     shown_rest c.args.view c.args.options.now c.args.plan _ _ _ _ c.verdict.result _ c.in_ok-core.ensures.plan c.in_ok-text.ensures.rest
-    c.verdict.ensures c.of-status.ensures.status
+    c.verdict.ensures c.of-ending.ensures

@@ -4,13 +4,13 @@ use Rattle.whole_answer.specs.declared.answer.Answer.{Answer}
 use Rattle.whole_answer.proofs.Queries.{answered, refused}
 use Rattle.whole_answer.proofs.sizing.least_fifos.Goals as goal
 
-pub returns-then-asks_nothing-clause-told : goal.returns-then-asks_nothing-clause-told
-returns-then-asks_nothing-clause-told g c =
+pub returns-then-asks_nothing : goal.returns-then-asks_nothing
+returns-then-asks_nothing g c =
     let quiet : AsksNothing c.args.plan.now = c.asks_nothing.ensures.quiet c.if-asks_nothing.true in
     subst (λ (a : Answer). IfOk c.fewest_bits.result (λ whole. whole ≡ a)) (answered c.args.slack c.args.plan.now quiet)
-    c.fewest_bits.ensures.told
+    c.fewest_bits.ensures
 
-pub returns-else-asks_nothing-clause-told : goal.returns-else-asks_nothing-clause-told
-returns-else-asks_nothing-clause-told g c =
+pub returns-else-asks_nothing : goal.returns-else-asks_nothing
+returns-else-asks_nothing g c =
     subst (λ (a : Answer). IfOk c.refuse.result (λ whole. whole ≡ a))
-    (refused c.args.slack c.args.plan.now (c.asks_nothing.ensures.asks c.if-asks_nothing.false)) c.refuse.ensures.refused
+    (refused c.args.slack c.args.plan.now (c.asks_nothing.ensures.asks c.if-asks_nothing.false)) c.refuse.ensures

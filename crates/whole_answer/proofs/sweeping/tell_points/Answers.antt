@@ -1,17 +1,17 @@
 use Rattle.std.proofs.Common.{◌∙◌, ap, ap₂, ℕ, List, ◌++◌, map}
 use Rattle.report_text.specs.Lines.{line, text_of_lines}
-use Rattle.whole_answer.specs.declared.status.Status.{Status}
+use Rattle.whole_answer.specs.declared.ending.Ending.{Ending}
 use Rattle.whole_answer.specs.Further.{told_points, best_of, best_tokens, point_tokens}
 use Rattle.whole_answer.proofs.PointLines.{last_line}
 use Rattle.whole_answer.proofs.sweeping.tell_points.Goals as goal
 
-pub returns-clause-told : goal.returns-clause-told
+pub returns : goal.returns
 unfolding told_points
-returns-clause-told c =
+returns c =
     let points = c.args.points.now in
     let best = best_tokens (best_of points) in
-    ap₂ (λ (text : List ℕ) (status : Status). record { text = text; status = status })
+    ap₂ (λ (text : List ℕ) (ending : Ending). record { text = text; ending = ending })
     (c.in_ok-print_best.ensures ∙ (ap (λ (text : List ℕ). text ++ line best) (c.in_ok-print_points.ensures
     ∙ ap (λ (text : List ℕ). text ++ text_of_lines (map point_tokens points)) c.new-text.ensures)
     ∙ last_line (map point_tokens points) best))
-    c.points_status.ensures.status
+    c.points_ending.ensures

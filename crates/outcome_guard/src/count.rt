@@ -2,8 +2,8 @@
 ghost use Rattle.std.specs.Prelude.{◌≡◌, ◌<◌, ◌^◌};
 ghost use Rattle.outcome_guard.specs.Runs.{goes_on, all_go_on, longer, all_longer, first_counts, next_counts};
 
+use crate::prefix::one_is_prefix;
 use flow_word::{Flags, List};
-use outcome_guard::one_is_prefix;
 use std::mem;
 
 /// The answers that are kept of the reports so far, and how many runs these reports count.

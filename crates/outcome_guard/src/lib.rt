@@ -1,4 +1,4 @@
-//! Recorded outcomes beside found ones: whether a query differs, and whether one record goes on where the other ends.
+//! Recorded outcomes compared with found ones: whether a query differs, and whether one list of outcomes is a prefix of another.
 #![tactic(auto)]
 
 mod guard;

@@ -1,4 +1,4 @@
-//! Paths of waits: what makes a plan end late, or never, whatever its modules do meanwhile, where no operation is a query. The function
+//! Paths of waits: what makes a plan without query operations end late, or never, whatever its modules do meanwhile. The function
 //! here has no body; each clause is a theorem on the definitions.
 #![tactic(auto)]
 

@@ -1,4 +1,5 @@
-//! Whether a plan ends late, or never, with other depths of its FIFOs: by a path of steps, each of which waits for the one before it.
+//! Whether a plan with other depths of its FIFOs ends late, or never. A path of steps shows it, each of which waits for the one
+//! before it.
 #![tactic(auto)]
 
 mod paths;

@@ -14,14 +14,13 @@ abbrev pub waits_at : Side → ℕ → List Access → Bool
 waits_at side ch [] = false
 waits_at side ch (a ∷ xs) = blocks_at side ch a || waits_at side ch xs
 
--- IsAfter d start h m e n f w: in any run of the design with these numbers of elements and places to begin with, module n goes on
--- from
--- -- where it stands in clock f of the run h at least w clocks after module m goes on from where it stands in clock e of h. There are four ways:
--- --   Same: it is the same module and clock, and w is 0;
--- --   Later: it holds already for an earlier clock than f;
--- --   Own: it holds, with one clock less, for the clock before f, in which n moves in h;
--- --   Waits: in clock f, n waits at a side of a channel. It has taken all that is there until the module at the other side goes on from
--- --   where it stands in clock a; and that module is, in clock a, after m by at least w clocks less the lag of the channel.
+-- IsAfter d start h m e n f w: in any run of the design with these numbers of elements and places to begin with, module n goes on from
+-- where it stands in clock f of the run h at least w clocks after module m goes on from where it stands in clock e of h:
+--   Same: it is the same module and clock, and w is 0;
+--   Later: it holds for an earlier clock than f already;
+--   Own: it holds, with one clock less, for the clock before f, in which n moves in h;
+--   Waits: n waits in clock f at a side of a channel. It has taken all that is there as long as the module at the other side, which stands
+--   there in clock a, does not go on; and that module, in clock a, comes after m by at least w clocks less the lag of the channel.
 pub data IsAfter {S : Type 0} (d : Design S) (start : Side → ℕ → ℕ) (h : Trace S) (m e : ℕ) : ℕ → ℕ → ℕ → Type 0 where
   Same : IsAfter d start h m e m e zero
   Later : (n f g w : ℕ) → f ≤ g → IsAfter d start h m e n f w → IsAfter d start h m e n g w

@@ -1,4 +1,5 @@
-//! What makes the latency of a plan: the chain of clocks that goes back from its end, and where modules poll to what they poll for.
+//! What decides the latency of a plan: the chain of clocks that goes back from its end. Where modules poll, it can go back to what
+//! they poll for.
 #![tactic(auto)]
 
 mod finds;

@@ -1,5 +1,5 @@
-//! The text of what makes a plan's latency: the modules in which the chain back from its end spends clocks, and the channels that it
-//! crosses; where that is asked for, also the polls that it follows.
+//! The text on what decides a plan's latency: the modules in which the chain back from its end spends clocks, the channels that it
+//! crosses, and, if asked for, the polls that it follows.
 #![tactic(auto)]
 
 mod counts;

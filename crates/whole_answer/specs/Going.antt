@@ -1,4 +1,4 @@
--- A job, report after report.
+-- How far a job of reports has come.
 use Rattle.std.specs.Prelude.{◌≡◌, ℕ, ◌+◌, ◌≤◌, Bool, List, Option, if◌then◌else◌}
 use Rattle.std.specs.Io.KnownBytes.{Appends}
 use Rattle.flow_design.specs.declared.plan.Plan.{Plan}
@@ -11,7 +11,7 @@ use Rattle.whole_answer.specs.declared.status.Status.{Status}
 use Rattle.whole_answer.specs.Answer.{IsAnswer}
 use Rattle.whole_answer.specs.Job.{plan_at, first_numbers, texts_of, counts_in, status_of, is_done, first_not_done, statuses_of}
 
--- what the reports so far tell beside their texts: the status of the first that is not done, and the runs that they count
+-- what is kept of the reports so far: the status of the first whose plan is not done, and the count of runs
 pub record Told : Type 0 where
   pub status : Status
   pub count : RunCount
@@ -19,23 +19,23 @@ pub record Told : Type 0 where
 abbrev pub told_of : Status → RunCount → Told
 told_of status count = record { status = status; count = count }
 
--- what the report of the plan itself tells
+-- what is kept after the report of the plan itself
 unfoldable pub first_told : Plan → Told
 first_told p = record { status = status_of (report p).verdict; count = first_counts (report p).answers }
 
--- with what the report of an edited plan tells
+-- what is kept after one more report, of an edited plan
 unfoldable pub more_told : Plan → Told → Told
 more_told p told = record {
   status = if is_done told.status then status_of (report p).verdict else told.status;
   count = next_counts told.count (report p).answers;
 }
 
--- after report number k, of the plan after its first k edits
+-- the job has come to the end of report number k, of the plan after its first k edits
 pub record IsGoing (events : Bool) (p : Plan) (edits : List Edit) (k : ℕ) (now : Plan) (told : Told) (first held : Option (List ℕ)) : Type 0
   where
     pub plan : now ≡ plan_at p edits k
     pub fits : FitsEngine now
-    -- the sink got the texts of the reports so far
+    -- the sink has got the texts of the reports so far
     pub text : Appends first held (texts_of events p edits (first_numbers (k + 1)))
     pub status : told.status ≡ first_not_done (statuses_of p edits (first_numbers (k + 1)))
     pub count : told.count ≡ counts_in p edits k

@@ -9,7 +9,7 @@ use flow_design::Verdict;
 /// How the program ends.
 #[derive(Clone, Copy, Debug, PartialEq, Eq)]
 pub enum Status {
-    /// The design is done, or what was asked for is printed.
+    /// All modules came to their ends, or what was asked for is printed.
     Done,
     /// The words were refused, and nothing was read.
     Words,
@@ -25,7 +25,7 @@ pub enum Status {
     ReadFault,
     /// The sink has failed.
     WriteFault,
-    /// There was no memory.
+    /// Memory ran out.
     Memory,
 }
 
@@ -43,7 +43,7 @@ impl Status {
         }
     }
 
-    /// This status where it is not done, and else the next one.
+    /// This status where it is not `Done`, and `next` otherwise.
     pub fn unless_done(self, next: Status) -> Status
         ensures status { result ≡ (if is_done self then next else self) }
         ensures answer { IsAnswer self → IsAnswer next → IsAnswer result }
@@ -54,7 +54,7 @@ impl Status {
         }
     }
 
-    /// The program's exit status.
+    /// The number with which the program exits.
     pub fn number(self) -> u8
         ensures { result ≡ exit_number self }
     {

@@ -1,4 +1,4 @@
-//! The program is asked, with sources and sinks in memory.
+//! Asks the program, with sources and sinks in memory.
 use sim_io::{MemSink, MemSource};
 use std::process::Abort;
 use std::sync::Wait;
@@ -23,7 +23,8 @@ pub fn words_of<R: AllocGlobal>(
     Ok(words)
 }
 
-/// What the program answers to these words and a text, through a source and a sink that fail in these calls.
+/// What the program answers to these words and a text. The source fails in the calls `takes`, and the sink in the calls `puts`,
+/// counted from 0.
 pub fn answer<R: Threads + Wait + Sync + AllocGlobal>(
     rt: &R,
     words: &[String],
@@ -38,7 +39,7 @@ pub fn answer<R: Threads + Wait + Sync + AllocGlobal>(
     Ok((status, sink))
 }
 
-/// The program answers this text and status to a command with some options.
+/// Asserts that the program answers a command with some options by this text and status.
 pub fn answers<R: Threads + Wait + Sync + AllocGlobal + Abort>(
     rt: &R,
     command: &str,

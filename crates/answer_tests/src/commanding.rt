@@ -1,4 +1,4 @@
-//! What `check` prints and `gen` sums up, and words that are refused.
+//! What `check` prints and `gen` sums up, and which words are refused.
 use crate::asking::{answer, answers};
 use std::process::Abort;
 use std::sync::Wait;
@@ -33,12 +33,12 @@ fn generated_sessions(rt: HostRuntime) -> Result<(), Fail> {
     let many = b"gen 1 64\nverdict done 3183\nsum 1000 9828517\nruns 1\n";
     answers(&rt, "gen", &["0", "1"], b"", one, Status::Done)?;
     answers(&rt, "gen", &["0", "2"], b"", two, Status::Done)?;
-    // the same at each run, whatever the threads do
+    // it is the same at each run, whatever the threads do
     answers(&rt, "gen", &["1", "64"], b"", many, Status::Done)?;
     answers(&rt, "gen", &["1", "64"], b"", many, Status::Done)
 }
 
-/// The program refuses these words.
+/// Asserts that the program refuses these words.
 fn refuses_words<R: Threads + Wait + Sync + AllocGlobal + Abort>(
     rt: &R,
     command: &str,

@@ -8,7 +8,8 @@ use std::thread::Threads;
 use whole_answer::{FreeGate, Status, omnisim};
 use worked_sessions::{PLAIN_ANSWER, PLAIN_CASE};
 
-/// What it answers to the plain case, through ends of one byte a call that fail in these calls, and a sink with this room.
+/// What a command answers to the plain case. The source and the sink move one byte a call and fail in these calls, and the sink has
+/// this room.
 fn answer_bytewise<R: Threads + Wait + Sync + AllocGlobal>(
     rt: &R,
     words: &[String],
@@ -23,7 +24,8 @@ fn answer_bytewise<R: Threads + Wait + Sync + AllocGlobal>(
     Ok((status, sink))
 }
 
-/// Through such ends the program answers the plain case so under `run`, `alone` and `clock`.
+/// Asserts that `run`, `alone` and `clock` answer the plain case so. The source and the sink move one byte a call and fail in these
+/// calls.
 fn answers_bytewise<R: Threads + Wait + Sync + AllocGlobal + Abort>(
     rt: &R,
     takes: &[u64],
@@ -43,7 +45,7 @@ fn answers_bytewise<R: Threads + Wait + Sync + AllocGlobal + Abort>(
 
 #[test]
 fn a_source_that_fails(rt: HostRuntime) -> Result<(), Fail> {
-    // the call behind the last byte tells the end
+    // the call after the last byte tells the end
     for call in 0..107 {
         answers_bytewise(&rt, &[call], &[], 64, b"", Status::ReadFault)?;
     }
@@ -83,7 +85,8 @@ depth b 3
 end
 ";
 
-/// What is written of it after so many calls of a sink that takes all that is put, of which the next fails.
+/// The answer to `EDITED` as far as it is written after 0, 1, 2 and 3 calls, where the sink takes all bytes of a call, and its next
+/// call fails.
 const EDITED_PARTS: [&[u8]; 4] = [
     b"",
     b"report 0\nverdict done 2\n",
@@ -114,7 +117,7 @@ fn each_report_is_one_write(rt: HostRuntime) -> Result<(), Fail> {
     Ok(())
 }
 
-/// A module that writes 7,000 values. A line of its log has some 150 bytes, since the names are as long as they may be.
+/// A module that writes 7,000 values. A line of its log has about 150 bytes, since the names are as long as they may be.
 const LONG_LOG: &[u8] = b"\
 flow 1
 sink values_yyyyyyyyyyyyyyyyyyyyyyyyyyyyyyyyyyyyyyyyyyyyyyyyyyyyyyyyy 8
@@ -144,7 +147,7 @@ fn a_log_is_written_in_pieces(rt: HostRuntime) -> Result<(), Fail> {
         &FreeGate,
     );
     assert_eq!(rt; status, Status::Done);
-    // the second write fails, and one piece was written: the last line makes it as long as it is
+    // the second write fails after one piece was written, which exceeds `PIECE` by less than its last line
     let mut source = MemSource::new(alloc, LONG_LOG, 1024, &[])?;
     let mut sink = MemSink::new(alloc, 2 << 20, 2 << 20, &[1])?;
     let status = omnisim(

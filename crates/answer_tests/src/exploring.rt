@@ -1,10 +1,10 @@
-//! Worked sessions under the commands that look further than a simulation.
+//! Worked sessions under the commands that do more than simulate.
 use crate::asking::answers;
 use std::test::Fail;
 use whole_answer::Status;
 use worked_sessions::{LATE_CHANNEL, LATER_STALL, REALISTIC_LINE, TWO_MODULES};
 
-/// What is asked about a session, and the answer. It was worked out by hand from the machine's rules.
+/// A question about a session, and the answer, which was worked out by hand from the machine's rules.
 struct Asked {
     command: &'static str,
     options: &'static [&'static str],
@@ -13,7 +13,7 @@ struct Asked {
     status: Status,
 }
 
-/// Three values go through a FIFO of two places, one in each clock.
+/// Three values go through a FIFO of depth two, one in each clock.
 const THREE_VALUES: &[u8] = b"\
 flow 1
 fifo b 8
@@ -37,7 +37,7 @@ stop
 end
 ";
 
-/// Two modules, each of which first waits for the other.
+/// Two modules, each of which begins with a wait for the other.
 const DEADLOCK_AT_ONCE: &[u8] = b"\
 flow 1
 fifo ab 8
@@ -57,7 +57,7 @@ stop
 end
 ";
 
-/// A block of 10^12 clocks: whoever goes through all clocks doesn't come to its end.
+/// A block of 10^12 clocks: a simulator that goes through all clocks does not come to its end.
 const LONG_BLOCK: &[u8] = b"\
 flow 1
 sink y 8
@@ -69,7 +69,7 @@ limits 1000000000000000 100000
 end
 ";
 
-/// A register is read in the iteration that writes it, but later than the next one starts.
+/// A loop that reads a register in the iteration that writes it, but after the next iteration has started.
 const WIDE_REGISTER: &[u8] = b"\
 flow 1
 source a 8
@@ -84,7 +84,7 @@ stop
 end
 ";
 
-/// Such a register, in a loop that also learns too late whether there is another iteration.
+/// A loop that reads such a register, and that also learns too late whether there is another iteration.
 const LATE_DECISION: &[u8] = b"\
 flow 1
 source a 8
@@ -377,7 +377,7 @@ best
     },
 ];
 
-/// A push in clock 4, which the poll in that clock is too early for and the next one, in clock 6, finds.
+/// A push in clock 4. The poll in that clock is too early for it, and the next one, in clock 6, finds it.
 const POLLED_TWICE: &[u8] = b"\
 flow 1
 fifo q 8

@@ -5,7 +5,7 @@ use wave_reader::wave_fill;
 use whole_answer::Status;
 use worked_sessions::{LATE_CHANNEL, REALISTIC_LINE, TWO_MODULES};
 
-/// A session, and what these commands tell of it.
+/// A session, and what `advise`, `wave`, `order` and `sweep` answer to it.
 struct Explored {
     text: &'static [u8],
     advised: &'static [u8],
@@ -14,7 +14,7 @@ struct Explored {
     /// The status of the wave.
     waved: Status,
     order: &'static [u8],
-    /// For each choice of depths from 1 to 2.
+    /// The answer to `sweep`, with a point for each choice of depths from 1 to 2.
     swept: &'static [u8],
     sweep: Status,
 }
@@ -282,7 +282,7 @@ best none
 ",
         sweep: Status::Ops,
     },
-    // Of each form a module whose loop does not equal a plain loop, and one whose loop does.
+    // For each rule of serial modules, a module whose loop breaks it, and one whose loop keeps it.
     Explored {
         text: b"\
 flow 1

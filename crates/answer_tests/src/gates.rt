@@ -1,4 +1,4 @@
-//! Gates that are short or wait.
+//! Gates that run out of memory, or that wait.
 use crate::asking::words_of;
 use flow_word::List;
 use run_threads::{Burst, Gate, Task, work};
@@ -12,7 +12,7 @@ use std::thread::{Threads, yield_now};
 use whole_answer::{Status, omnisim};
 use worked_sessions::{REALISTIC_LINE, TWO_MODULES, TWO_MODULES_ANSWER};
 
-/// How often a burst yields that waits for another one, before it gives up.
+/// How often a burst that waits for another one yields before it gives up.
 const PATIENCE: u64 = 10_000_000;
 
 /// What a command with some options answers to a session, with this gate.
@@ -58,7 +58,7 @@ fn a_burst_that_is_short(rt: HostRuntime) -> Result<(), Fail> {
     Ok(())
 }
 
-/// A gate where the first bursts of two modules wait for each other: whether each has begun.
+/// A gate where the first bursts of two modules wait for each other. It holds whether each has begun.
 #[derive(Drop)]
 struct Meeting {
     first: AtomicBool,
@@ -68,7 +68,7 @@ struct Meeting {
 }
 
 impl Meeting {
-    /// This burst has begun; waits until the other has.
+    /// Notes that this burst has begun, and waits until the other has.
     fn meet(&self, own: &AtomicBool, other: &AtomicBool) {
         own.store(true, Ordering::SeqCst);
         for _ in 0..PATIENCE {
@@ -92,7 +92,7 @@ impl Gate for Meeting {
     }
 }
 
-/// The first bursts meet under a command with some options. What is written.
+/// Asserts that the first bursts meet under a command with some options. Returns what the sink holds then.
 fn meets<R: Threads + Wait + Sync + AllocGlobal + Abort>(
     rt: &R,
     command: &str,
@@ -118,12 +118,12 @@ fn first_bursts_that_meet(rt: HostRuntime) -> Result<(), Fail> {
     for command in ["advise", "log", "path", "size", "stalls", "trace", "wave"] {
         let _answer = meets(&rt, command, &[])?;
     }
-    // it makes a session of two modules
+    // `gen 0 2` makes a session of two modules
     let _summary = meets(&rt, "gen", &["0", "2"])?;
     Ok(())
 }
 
-/// Counts the bursts of the first module that begin its run: in all others it waits for replies.
+/// Counts those bursts of the first module that begin its run: all its other bursts follow a wait for replies.
 #[derive(Drop)]
 struct Beginnings {
     count: AtomicU64,

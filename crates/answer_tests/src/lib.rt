@@ -1,4 +1,4 @@
-//! Tests of the whole answer. They stand in a crate of their own, since a crate is proved once more with its tests.
+//! Tests of the whole answer. They have a crate of their own, since a crate is proved once more with its tests.
 #![tactic(auto)]
 
 #[cfg(test)]

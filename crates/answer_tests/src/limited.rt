@@ -4,7 +4,7 @@ use crate::further::POLLING;
 use std::test::Fail;
 use whole_answer::Status;
 
-/// A command with its options, what is told of the module that polls, and the status.
+/// A command with its options, its answer for the module that polls, and the status.
 type Limited = (&'static str, &'static [&'static str], &'static [u8], Status);
 
 const LIMITED: &[Limited] = &[

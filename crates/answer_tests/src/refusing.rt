@@ -7,7 +7,7 @@ use std::thread::Threads;
 use whole_answer::Status;
 use worked_sessions::{PLAIN_ANSWER, PLAIN_CASE};
 
-/// The program refuses each text so under `check`, `run`, `alone` and `clock`.
+/// Asserts that the program refuses each of these texts so under `check`, `run`, `alone` and `clock`.
 fn refuses<R: Threads + Wait + Sync + AllocGlobal + Abort>(
     rt: &R,
     rows: &[(&[u8], &[u8])],

@@ -6,7 +6,7 @@ use std::test::Fail;
 use std::thread::Threads;
 use whole_answer::Status;
 
-/// A text, its answer without `--large`, and with it; each under all commands that simulate.
+/// A text, its answer without `--large`, and its answer with it; both are the same under all commands that simulate.
 type Row<'a> = (&'a [u8], (&'a [u8], Status), (&'a [u8], Status));
 
 fn both<R: Threads + Wait + Sync + AllocGlobal + Abort>(rt: &R, row: &Row<'_>) -> Result<(), Fail> {

@@ -7,12 +7,12 @@ use worked_sessions::{
     BOTH_ENDS_IN_ONE_MODULE, LATE_CHANNEL, LATER_STALL, POLLING_LOOP, TWO_MODULES,
 };
 
-/// A session, what each view shows of it, and its smallest depths.
+/// A session, what each view shows of it, and the answer to `size`.
 struct Viewed {
     text: &'static [u8],
     log: &'static [u8],
     stalls: &'static [u8],
-    /// With its links.
+    /// The answer to `path` with its links.
     path: &'static [u8],
     trace: &'static [u8],
     /// The status of the views.
@@ -104,7 +104,7 @@ depth b 1
 ",
         sized: Status::Done,
     },
-    // A FIFO of two places, whose elements are under way for five clocks.
+    // A FIFO of depth two, whose elements are in flight for five clocks.
     Viewed {
         text: b"\
 flow 2
@@ -187,7 +187,7 @@ depth b 3
 ",
         sized: Status::Done,
     },
-    // Three values fill a FIFO of two places before the value that is waited for.
+    // Three values for a FIFO of depth two, all pushed before the value in another FIFO that their reader waits for.
     Viewed {
         text: LATE_CHANNEL,
         log: b"\
@@ -442,7 +442,7 @@ depth c 1
 ",
         sized: Status::Done,
     },
-    // A wait whose cause changes: first no element in one FIFO, then no place in another.
+    // A stall whose cause changes: first there is no element in one FIFO, then no place in another.
     Viewed {
         text: b"\
 flow 1

@@ -6,7 +6,7 @@ use std::test::Fail;
 use std::thread::Threads;
 use worked_sessions::{DEADLOCKS, DELAYS, DESIGNS, EDITS, LIMITS, QUERIES, Worked};
 
-/// The program answers so under `run`, `alone` and `clock`.
+/// Asserts that the program answers each of these sessions under this command as it was worked out.
 fn are_answered<R: Threads + Wait + Sync + AllocGlobal + Abort>(
     rt: &R,
     command: &str,

@@ -1,4 +1,4 @@
--- What an action gives before the replies, what it writes on its reply, and that it does what an operation does.
+-- What an action takes from the state before the replies, what it writes on its reply, and that it does what its operation does.
 use Rattle.std.specs.Prelude.{ℕ, ◌≡◌, ◌<◌, Bool, true, false, List, fold, max, length, Option, Some, None, slice_index, if◌then◌else◌}
 use Rattle.std.specs.Int.{from_bool}
 use Rattle.std.specs.Int.Bits.{bit_and}
@@ -27,7 +27,7 @@ use Rattle.block_code.specs.Targets.{put, put_word}
 abbrev pub held : ModuleState → ℕ → Operand → ℕ
 held s i o = operand_value s.registers (temps_of s i) o
 
--- the value that it writes, where no reply decides it
+-- the value that an action writes, where no reply decides it
 abbrev pub action_value : ModuleState → ℕ → Action → ℕ
 action_value s i (Set t o) = held s i o
 action_value s i (Load t n o) = slice_index (memory_of s n) (address_in s n (held s i o))
@@ -50,7 +50,7 @@ action_address s i (TryWrite f mask ok o) = 0
 action_address s i (Empty f t) = 0
 action_address s i (Full f t) = 0
 
--- what it asks of a channel
+-- the request of an action; none where it takes no reply
 abbrev pub action_request : ModuleState → ℕ → Action → Option Request
 action_request s i (Set t o) = None
 action_request s i (Load t n o) = None
@@ -75,7 +75,7 @@ takes_reply (Full f t) = true
 
 -- ---- on the reply
 
--- the state once it has written what was noted of it, and what its reply tells
+-- the state after an action has written what its note and its reply give
 abbrev pub carried_out : ModuleState → Noted → Reply → Action → ModuleState
 carried_out s n r (Set t o) = put s n.iteration t n.value
 carried_out s n r (Load t m o) = put s n.iteration t n.value
@@ -88,9 +88,9 @@ carried_out s n r (TryWrite f mask ok o) = put s n.iteration ok (from_bool (is_y
 carried_out s n r (Empty f t) = put s n.iteration t (from_bool (is_yes r))
 carried_out s n r (Full f t) = put s n.iteration t (from_bool (is_yes r))
 
--- ---- what it needs
+-- ---- what an action needs
 
--- what it looks up is there
+-- all that an action looks up is there
 abbrev pub IsActionReady : ModuleState → ℕ → Action → Type 0
 IsActionReady s i (Set t o) = IsOperandSound (places_in s i) o
 IsActionReady s i (Load t n o) = IsOperandSound (places_in s i) o × (0 < length (memory_of s n))
@@ -103,7 +103,7 @@ IsActionReady s i (TryWrite f mask ok o) = IsOperandSound (places_in s i) o
 IsActionReady s i (Empty f t) = Unit {0}
 IsActionReady s i (Full f t) = Unit {0}
 
--- how many results it needs room for
+-- how many results of instructions an action needs room for
 abbrev pub action_room : Action → ℕ
 action_room (Set t o) = room_of o
 action_room (Load t n o) = room_of o

@@ -9,7 +9,7 @@ use Rattle.block_code.specs.declared.code.BlockCode.{BlockCode}
 use Rattle.block_code.specs.declared.code.Guarded.{Guarded}
 use Rattle.block_code.specs.Actions.{IsActionOf, action_room}
 
--- the action of each operation beside its guard, which finds room for its results
+-- these are the actions of a block's operations, each with its guard; none needs room for more results than `room`
 pub record AreActionsOf (channels : List Channel) (m : Module) (b : Block) (room : ℕ) (actions : List Guarded) : Type 0 where
   pub count : length actions ≡ length b.ops
   pub guards : (n : ℕ) (d : Guarded) → n < length b.ops → (slice_index_or actions n d).guard ≡ (operation_at b n).guard
@@ -17,12 +17,12 @@ pub record AreActionsOf (channels : List Channel) (m : Module) (b : Block) (room
       → IsActionOf channels m b (slice_index_or actions n d).action (operation_at b n).op
   pub rooms : (n : ℕ) (d : Guarded) → n < length b.ops → action_room (slice_index_or actions n d).action ≤ room
 
--- the block's schedule, and its operations as actions
+-- this is the code of a block: its schedule, and its operations as actions
 pub record IsBlockCodeOf (channels : List Channel) (m : Module) (b : Block) (c : BlockCode) : Type 0 where
   pub schedule : IsScheduleOf b c.schedule
   pub actions : AreActionsOf channels m b c.room c.actions
 
--- the code of each block of a module
+-- this is the code of each block of a module
 pub record AreCodesOf (channels : List Channel) (m : Module) (codes : List BlockCode) : Type 0 where
   pub count : length codes ≡ length m.blocks
   pub each : (n : ℕ) (d : BlockCode) → n < length m.blocks → IsBlockCodeOf channels m (block_at m n) (slice_index_or codes n d)

@@ -1,4 +1,4 @@
--- Flat code: what each instruction gives, and the results of a list of them.
+-- Flat code: the result of each instruction, and the results of a list of instructions.
 use Rattle.std.specs.Prelude.{ℕ, ◌≡◌, ◌≤◌, ◌+◌, ◌%◌, ◌^◌, ◌<◌, ◌==◌, List, [], ◌∷◌, ◌++◌, length, slice_index, if◌then◌else◌}
 use Rattle.flow_design.specs.declared.expr.Expr.{Expr}
 use Rattle.flow_design.specs.Words.{unary, binary, extended, variable, value, reach}
@@ -7,7 +7,7 @@ use Rattle.block_code.specs.declared.flat.Argument.TheVariants.{Number, Var, Var
 use Rattle.block_code.specs.declared.flat.Instruction.{Instruction}
 use Rattle.block_code.specs.declared.flat.Instruction.TheVariants.{Unary, Binary, Sext, Pick}
 
--- what stands in the place of an argument, where these results are there
+-- the value of an argument, where these are the results of the earlier instructions
 abbrev pub argument_value : List ℕ → List ℕ → List ℕ → Argument → ℕ
 argument_value registers temps results (Number n) = n
 argument_value registers temps results (Var at) = variable registers temps at
@@ -25,7 +25,7 @@ result_of registers temps results (Pick a b c) =
     then argument_value registers temps results c
     else argument_value registers temps results b
 
--- these results, and then those of the code
+-- these results, followed by those of the code
 unfoldable pub ran : List ℕ → List ℕ → List ℕ → List Instruction → List ℕ
 ran registers temps results [] = results
 ran registers temps results (i ∷ is) = ran registers temps (results ++ result_of registers temps results i ∷ []) is
@@ -46,14 +46,14 @@ IsInstructionSound places results (Sext k a) = IsArgumentSound places results a
 IsInstructionSound places results (Pick a b c) =
     IsArgumentSound places results a × (IsArgumentSound places results b × IsArgumentSound places results c)
 
--- what each of them looks up, where so many results are there before the first
+-- what each instruction looks up is there, where there are so many results before the first instruction
 unfoldable pub AreSound : ℕ → ℕ → List Instruction → Type 0
 AreSound places results [] = Unit {0}
 AreSound places results (i ∷ is) = IsInstructionSound places results i × AreSound places (results + 1) is
 
 -- ---- the code of an expression
 
--- the code went on, and after it the argument stands for the expression's value, whatever the registers and the temps are
+-- code was added, and after it the argument stands for the expression's value, whatever the registers and the temps are
 pub record IsCodeOf (before after : List Instruction) (arg : Argument) (e : Expr ℕ) : Type 0 where
   pub more : List Instruction
   pub grown : after ≡ before ++ more

@@ -14,7 +14,7 @@ operand_value registers temps (VarVar op at other) = binary op (variable registe
 operand_value registers temps (Single i) = result_of registers temps [] i
 operand_value registers temps (Long code arg) = argument_value registers temps (ran registers temps [] code) arg
 
--- all that it looks up is there
+-- all that an operand looks up is there
 abbrev pub IsOperandSound : ℕ → Operand → Type 0
 IsOperandSound places (Number n) = Unit {0}
 IsOperandSound places (Var at) = at < places
@@ -23,7 +23,7 @@ IsOperandSound places (VarVar op at other) = (at < places) × (other < places)
 IsOperandSound places (Single i) = IsInstructionSound places 0 i
 IsOperandSound places (Long code arg) = AreSound places 0 code × IsArgumentSound places (length code) arg
 
--- how many results it needs room for
+-- how many results of instructions an operand needs room for
 abbrev pub room_of : Operand → ℕ
 room_of (Number n) = 0
 room_of (Var at) = 0

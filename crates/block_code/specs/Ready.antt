@@ -7,11 +7,11 @@ use Rattle.flow_design.specs.Words.{reach}
 use Rattle.flow_design.specs.Module.{temps_of}
 use Rattle.lockstep_defs.specs.Machine.{memory_of}
 
--- the registers of a module and the temps of a live iteration
+-- how many registers a module and temps a live iteration has, together
 abbrev pub places_in : ModuleState → ℕ → ℕ
 places_in s iteration = length s.registers + length (temps_of s iteration)
 
--- the variables of its expressions, and a word of its memory
+-- all that an operation looks up is there: the variables of its expressions, and a word of its memory
 abbrev pub IsReady : ModuleState → ℕ → Op ℕ → Type 0
 IsReady s i (Set x e) = reach e ≤ places_in s i
 IsReady s i (Load x n e) = (reach e ≤ places_in s i) × (0 < length (memory_of s n))

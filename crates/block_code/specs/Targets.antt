@@ -10,15 +10,15 @@ use Rattle.lockstep_defs.specs.Machine.{memory_of, stored}
 use Rattle.block_code.specs.declared.target.Target.{Target}
 use Rattle.block_code.specs.declared.target.Target.TheVariants.{Register, Temp}
 
--- a value, cut by the target's mask, goes into the register, or into the temp of a live iteration
+-- the state after a value, cut by the target's mask, went into its register, or into its temp of a live iteration
 abbrev pub put : ModuleState → ℕ → Target → ℕ → ModuleState
 put s i (Register x mask) v = record s { registers = slice_set s.registers x (bit_and v mask) }
 put s i (Temp t mask) v = record s { temps = slice_set s.temps i (slice_set (temps_of s i) t (bit_and v mask)) }
 
--- a word goes to an address of a memory
+-- the state after a word went to an address of a memory
 abbrev pub put_word : ModuleState → ℕ → ℕ → ℕ → ModuleState
 put_word s n address word = record s { memories = slice_set s.memories n (slice_set (memory_of s n) address word) }
 
--- the target takes what the variable takes
+-- putting a value into the target has the effect of writing the variable
 abbrev pub IsTargetOf : Module → Block → Target → ℕ → Type 0
 IsTargetOf m b target x = (s : ModuleState) (i v : ℕ) → put s i target v ≡ stored m b s (Variable i x v)

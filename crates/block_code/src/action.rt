@@ -1,4 +1,4 @@
-//! Operations as actions: their expressions are operands, their places have masks.
+//! Operations as actions: their expressions are operands, and the places that they write have masks.
 ghost use Rattle.std.specs.Prelude.{◌≡◌, IfOk, slice_index, map};
 ghost use Rattle.lockstep_defs.specs.Machine.{width_of};
 ghost use Rattle.block_code.specs.Masks.{IsMaskOf};
@@ -10,19 +10,19 @@ use flow_design::{Block, Channel, Memory, Module, Op};
 use flow_word::OutOfMemory;
 use std::alloc::Global;
 
-/// What an operation does. A memory and a written channel stand beside the mask of their width.
+/// What an operation does. A memory that is stored to and a channel that is pushed come with the mask of their width.
 #[derive(Debug)]
 pub enum Action {
     Set(Target, Operand),
-    /// Where the word goes, the memory, and the address.
+    /// The target of the word, the memory's number, and the address.
     Load(Target, u32, Operand),
-    /// The memory, its mask, the address, and the value.
+    /// The memory's number, its mask, the address, and the value.
     Store(u32, u64, Operand, Operand),
     Read(u32, Target),
     Write(u32, u64, Operand),
-    /// The channel, where the value goes, and where the outcome goes.
+    /// The channel, the target of the value, and the target of the outcome.
     TryRead(u32, Target, Target),
-    /// The channel, its mask, where the outcome goes, and the value.
+    /// The channel, its mask, the target of the outcome, and the value.
     TryWrite(u32, u64, Target, Operand),
     Empty(u32, Target),
     Full(u32, Target),
@@ -44,7 +44,7 @@ impl Drop for Action {
     }
 }
 
-/// The action of an operation of a block.
+/// Compiles an operation of a block into an action.
 #[tactic(auto, using(crate::proofs::Acting::the_actions))]
 pub(crate) fn action_of(
     alloc: Global,
@@ -115,7 +115,7 @@ fn channel_mask(channels: &[Channel], number: u32) -> u64
     }
 }
 
-/// The mask of a memory's width, or 0 where there is none.
+/// The mask of a memory's width, or 0 where there is no such memory.
 fn memory_mask(memories: &[Memory], number: u32) -> u64
     ensures { IsMaskOf (slice_index (map (λ memory. memory.width) memories.now) number) result }
 {
@@ -126,7 +126,7 @@ fn memory_mask(memories: &[Memory], number: u32) -> u64
 }
 
 impl Action {
-    /// How many results it needs room for.
+    /// How many words of `scratch` the action needs for the results of its instructions.
     pub(crate) fn room(&self) -> u64
         ensures { result ≡ action_room self.now }
     {

@@ -9,7 +9,7 @@ use flow_design::{Block, Channel, Module};
 use flow_word::{List, OutOfMemory};
 use std::alloc::Global;
 
-/// An operation as a machine runs it: what it does, where it has no guard or one that is not 0.
+/// An operation as a machine runs it: an action, which is done where there is no guard or the guard is not 0.
 #[derive(Debug)]
 pub struct Guarded {
     pub guard: Option<u32>,
@@ -31,7 +31,7 @@ pub struct BlockCode {
     pub schedule: Schedule,
     /// The operations, in text order.
     pub actions: List<Guarded>,
-    /// How many instructions its longest expression has: its results need so much room.
+    /// How many instructions the longest expression of the block has. Their results need so many words of `scratch`.
     pub room: u64,
 }
 
@@ -45,7 +45,7 @@ impl Drop for BlockCode {
     }
 }
 
-/// The code of each block of a module over these channels. Each block keeps the limits that a schedule needs.
+/// The code of each block of a module over these channels. Each block must keep the limits that a schedule needs.
 pub fn codes_of(
     alloc: Global,
     channels: &[Channel],

@@ -12,29 +12,29 @@ use flow_expr::{binary, sign_extended, variable};
 use flow_word::{List, OutOfMemory, Width};
 
 /// What an instruction works on: a number, a register or temp, an operator on two of these, or the result of an earlier
-/// instruction, by its number.
+/// instruction, which is named by its number.
 #[derive(Clone, Copy, Debug, PartialEq)]
 pub enum Argument {
     Number(u64),
     Var(u32),
-    /// An operator on a register or temp, and a number.
+    /// An operator on a register or temp and a number.
     VarNumber(BinOp, u32, u64),
     /// An operator on two registers or temps.
     VarVar(BinOp, u32, u32),
     Result(u64),
 }
 
-/// One operator.
+/// An instruction: one operator on its arguments.
 #[derive(Clone, Copy, Debug, PartialEq)]
 pub enum Instruction {
     Unary(UnOp, Argument),
     Binary(BinOp, Argument, Argument),
     Sext(Width, Argument),
-    /// The second where the first is not 0, else the third.
+    /// The second argument where the first is not 0, else the third.
     Pick(Argument, Argument, Argument),
 }
 
-/// The value of an argument, where these results are there.
+/// The value of an argument, from the registers, the temps and the results of the earlier instructions.
 #[inline(always)]
 pub(crate) fn argument_value(
     arg: Argument,
@@ -58,7 +58,7 @@ pub(crate) fn argument_value(
     }
 }
 
-/// The result of an instruction, where these results are there.
+/// The result of an instruction, from the registers, the temps and the results of the earlier instructions.
 #[inline(always)]
 pub(crate) fn result_of(
     instruction: &Instruction,
@@ -90,7 +90,7 @@ pub(crate) fn result_of(
     }
 }
 
-/// The results of code, which go to the front of `scratch`, in order. It takes no memory.
+/// Runs code: its results are written from the beginning of `scratch` on, in order. It takes no memory.
 #[inline(never)]
 pub(crate) fn run(code: &[Instruction], registers: &[u64], temps: &[u64], scratch: &mut [u64])
     requires sound { AreSound (length registers.now + length temps.now) 0 code.now }
@@ -104,7 +104,7 @@ pub(crate) fn run(code: &[Instruction], registers: &[u64], temps: &[u64], scratc
     }
 }
 
-/// Adds an instruction. The argument stands for its result.
+/// Adds an instruction to the code, and answers the argument that stands for its result.
 fn add(instruction: Instruction, code: &mut List<Instruction>) -> Result<Argument, OutOfMemory>
     ensures grown { OnOk result (code.new ≡ code.old ++ instruction ∷ []) }
     ensures arg { IfOk result (λ arg. arg ≡ ResultAt (length code.old)) }
@@ -114,7 +114,7 @@ fn add(instruction: Instruction, code: &mut List<Instruction>) -> Result<Argumen
     Ok(Argument::Result(at))
 }
 
-/// Whether an operator is a sum, a product or one on bits, which give the same for two words in either order.
+/// Whether an operator is known to give the same for two words in either order: a sum, a product, or one on bits.
 #[tactic(auto, using(crate::proofs::Trees::the_commuting))]
 fn commutes(op: BinOp) -> bool
     ensures { result ≡ true → (a b : ℕ) → binary op a b ≡ binary op b a }
@@ -126,7 +126,8 @@ fn commutes(op: BinOp) -> bool
     }
 }
 
-/// An operator on two leaves, one of them a register or temp, as an argument, if it is that.
+/// A binary operator as one argument. `None` unless its parts are two registers or temps, or one of them and a number in a
+/// permitted order.
 #[tactic(auto, using(crate::proofs::Trees::the_pairs))]
 fn pair(op: BinOp, a: &Expr<u32>, b: &Expr<u32>) -> Option<Argument>
     ensures { IfSome result (λ arg. (code : Items InstructionOf) → IsCodeOf code code arg (BinaryOf op a.now b.now)) }
@@ -145,7 +146,7 @@ fn pair(op: BinOp, a: &Expr<u32>, b: &Expr<u32>) -> Option<Argument>
     }
 }
 
-/// Adds the code of an expression. The argument stands for its value.
+/// Adds the code of an expression, and answers the argument that stands for its value.
 #[tactic(auto, using(crate::proofs::Trees::the_code))]
 pub(crate) fn flatten(
     expr: &Expr<u32>,

@@ -7,7 +7,7 @@ ghost use Rattle.flow_design.specs.declared.state.Reply.{Reply as ReplyOf};
 ghost use Rattle.lockstep_defs.specs.Machine.{effects};
 ghost use Rattle.block_code.specs.Notes.{noted_for, effects_by};
 
-/// A due operation, with what the state from before the clock gives it.
+/// A due operation, with what it takes from the state before the clock.
 #[derive(Clone, Copy, Debug, PartialEq)]
 pub struct Noted {
     /// The number of the operation in its block.
@@ -20,7 +20,8 @@ pub struct Noted {
     pub address: u64,
 }
 
-/// What was noted of the due operations and the replies give all that they write: the state from before is needed no more.
+/// The notes of the due operations and the replies determine all that the operations write. The state from before the clock is no
+/// longer needed.
 #[tactic(auto, using(crate::proofs::Notes::all_noted))]
 pub fn notes_are_enough()
     ensures { (b : BlockOf) (s : StateOf) (pending : Items DueOf) (replies : Items ReplyOf)

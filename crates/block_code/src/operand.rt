@@ -16,11 +16,11 @@ use std::alloc::Global;
 pub enum Operand {
     Number(u64),
     Var(u32),
-    /// An operator on a register or temp, and a number.
+    /// An operator on a register or temp and a number.
     VarNumber(BinOp, u32, u64),
     /// An operator on two registers or temps.
     VarVar(BinOp, u32, u32),
-    /// An instruction that needs no result.
+    /// One instruction, which needs no result of another.
     Single(Instruction),
     /// Code, and the argument that stands for the value.
     Long(List<Instruction>, Argument),
@@ -40,7 +40,7 @@ impl Drop for Operand {
 }
 
 impl Operand {
-    /// How many results it needs room for.
+    /// How many words of `scratch` the operand needs for the results of its instructions.
     pub(crate) fn room(&self) -> u64
         ensures { result ≡ room_of self.now }
     {
@@ -52,7 +52,7 @@ impl Operand {
     }
 }
 
-/// The value of an operand. It takes no memory: results of code go to `scratch`.
+/// The value of an operand. It takes no memory: the results of its instructions go to `scratch`.
 #[inline(always)]
 pub(crate) fn evaluate(
     operand: &Operand,
@@ -94,7 +94,7 @@ fn single_result(instruction: &Instruction, registers: &[u64], temps: &[u64]) ->
     result_of(instruction, registers, temps, &[])
 }
 
-/// Code as an operand.
+/// Code and the argument for its value as an operand, in the shortest form.
 #[tactic(auto, using(crate::proofs::Forms::the_forms))]
 fn operand_by(code: List<Instruction>, arg: Argument) -> Operand
     ensures { (e : ExprOf ℕ) → IsCodeOf [] code arg e → IsOperandOf result e }
@@ -109,7 +109,7 @@ fn operand_by(code: List<Instruction>, arg: Argument) -> Operand
     }
 }
 
-/// An expression as an operand.
+/// Compiles an expression into an operand.
 pub(crate) fn operand_of(alloc: Global, expr: &Expr<u32>) -> Result<Operand, OutOfMemory>
     ensures { IfOk result (λ operand. IsOperandOf operand expr.now) }
 {

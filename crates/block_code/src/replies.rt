@@ -4,7 +4,7 @@ ghost use Rattle.lockstep_defs.specs.Machine.{is_yes, value_in};
 
 use flow_design::Reply;
 
-/// Whether the operation was done, or the test held.
+/// Whether a reply says that the operation was done, or that the test held.
 #[inline(always)]
 pub fn is_yes(reply: Reply) -> bool
     ensures { result ≡ is_yes reply }
@@ -16,7 +16,7 @@ pub fn is_yes(reply: Reply) -> bool
     }
 }
 
-/// The value that was popped, or 0.
+/// The value in a reply to an operation that popped one, else 0.
 #[inline(always)]
 pub(crate) fn value_in(reply: Reply) -> u64
     ensures { result ≡ value_in reply }

@@ -1,4 +1,4 @@
-//! Running an action: first what the state from before the clock gives, then its writes on the reply.
+//! Running an action: first what it takes from the state before the clock, then its writes on the reply.
 ghost use Rattle.std.specs.Prelude.{◌≡◌, ◌<◌, ◌≤◌, ℕ, length, slice_index};
 ghost use Rattle.flow_design.specs.Module.{temps_of};
 ghost use Rattle.lockstep_defs.specs.Machine.{memory_of, address_in};
@@ -17,17 +17,17 @@ use crate::target::{put, put_word};
 use flow_design::{ModuleState, Reply, Request};
 use flow_word::Kind;
 
-/// What the state from before the clock gives an action.
+/// What an action takes from the state before the clock.
 #[derive(Clone, Copy, Debug)]
 pub enum Prepared {
-    /// The value that it writes, and the address of a `store`: no reply decides them.
+    /// The value that the action writes, and the address of a `store`, for an action whose writes depend on no reply.
     Writes(u64, u64),
-    /// What it asks of a channel.
+    /// The request of an action that takes a reply.
     Asks(Request),
 }
 
-/// What the state from before the clock gives an action of a live iteration, which has these temps. It takes no memory: results
-/// of long expressions go to `scratch`.
+/// What an action of a live iteration with these temps takes from the state before the clock. It takes no memory: results of long
+/// expressions go to `scratch`.
 #[inline(always)]
 pub fn prepare(
     action: &Action,
@@ -70,7 +70,7 @@ pub fn prepare(
     }
 }
 
-/// An action that asks this, and writes by its reply alone.
+/// The preparation of an action that makes this request and writes by its reply alone.
 #[inline(always)]
 fn asks(kind: Kind, channel: u32, value: u64) -> Prepared
     ensures { result ≡ Asks (record { kind = kind; channel = channel; value = value }) }
@@ -82,7 +82,7 @@ fn asks(kind: Kind, channel: u32, value: u64) -> Prepared
     })
 }
 
-/// The value of an operand in a live iteration, which has these temps.
+/// The value of an operand in a live iteration with these temps.
 #[inline(always)]
 fn held(
     operand: &Operand,
@@ -100,7 +100,7 @@ fn held(
     evaluate(operand, state.registers.as_slice(), temps, scratch)
 }
 
-/// The temps of a live iteration, or none.
+/// The temps of a live iteration. The slice is empty where there is no such iteration.
 #[inline(always)]
 pub fn temps_of(state: &ModuleState, iteration: u32) -> &[u64]
     ensures { result.now ≡ temps_of state.now iteration }
@@ -137,7 +137,7 @@ fn word_at(state: &ModuleState, number: u32, address: u64) -> u64
     memory_of(state, number)[address_in(state, number, address) as usize]
 }
 
-/// Writes what an action writes, by what was noted of it and its reply. It takes no memory.
+/// Writes what an action writes, from its note and its reply. It takes no memory.
 #[inline(always)]
 pub fn carry_out(action: &Action, noted: &Noted, reply: Reply, state: &mut ModuleState)
     ensures { state.new ≡ carried_out state.old noted.now reply action.now }

@@ -15,7 +15,7 @@ pub enum Target {
     Temp(u32, u64),
 }
 
-/// The target that a variable of a block is: a register of the module, or a temp.
+/// The target of a variable of a block: a register of the module, or a temp.
 #[tactic(auto, using(crate::proofs::Masking::register_target, crate::proofs::Masking::temp_target))]
 pub(crate) fn target_of(of: &Module, block: &Block, variable: u32) -> Target
     ensures { IsTargetOf of.now block.now result variable }
@@ -30,7 +30,7 @@ pub(crate) fn target_of(of: &Module, block: &Block, variable: u32) -> Target
     }
 }
 
-/// The mask of the width at a place, or 0 where there is none.
+/// The mask of the width at a place of the list, or 0 where there is no such place.
 fn mask_at(widths: &[Width], at: u32) -> u64
     ensures { IsMaskOf (slice_index widths.now at) result }
 {
@@ -40,7 +40,7 @@ fn mask_at(widths: &[Width], at: u32) -> u64
     }
 }
 
-/// The mask of a width: so many ones.
+/// The mask of a width: a word with a one for each of its bits.
 pub(crate) fn mask_of(width: Width) -> u64
     ensures { IsMaskOf width result }
 {
@@ -52,7 +52,7 @@ pub(crate) fn mask_of(width: Width) -> u64
     }
 }
 
-/// Puts a value into a target.
+/// Puts a value into a target, cut by the target's mask.
 #[inline(always)]
 pub(crate) fn put(state: &mut ModuleState, iteration: u32, target: Target, value: u64)
     ensures { state.new ≡ put state.old iteration target value }
@@ -71,7 +71,7 @@ pub(crate) fn put(state: &mut ModuleState, iteration: u32, target: Target, value
     }
 }
 
-/// Puts a word at an address of a memory.
+/// Puts a word at an address of a memory. Nothing changes where there is no such memory or word.
 #[inline(always)]
 pub(crate) fn put_word(state: &mut ModuleState, memory: u32, address: u64, word: u64)
     ensures { state.new ≡ put_word state.old memory address word }

@@ -26,11 +26,11 @@ use Rattle.flow_design.specs.declared.design.Block.{Block}
 use Rattle.flow_design.specs.Module.{interval, due_at}
 use Rattle.block_schedule.specs.declared.schedule.Schedule.{Schedule}
 
--- the numbers that stand beside an offset
+-- the numbers that stand at the same places as an offset
 abbrev pub beside : ℕ → List ℕ → List ℕ → List ℕ
 beside offset offsets numbers = map (λ e. e.1) (filter (λ e. e.0 == offset) (zip offsets numbers))
 
--- from the first of the offsets that is not below one of them up to the first that is above it
+-- the places `from` up to `to`, without `to` itself, are those of an offset in a sorted list
 pub record IsSpan (offsets : List ℕ) (offset from to : ℕ) : Type 0 where
   pub from_inside : from ≤ length offsets
   pub to_inside : to ≤ length offsets
@@ -39,7 +39,7 @@ pub record IsSpan (offsets : List ℕ) (offset from to : ℕ) : Type 0 where
   pub not_above : (k : ℕ) → k < to → slice_index offsets k ≤ offset
   pub above : (k : ℕ) → to ≤ k → k < length offsets → offset < slice_index offsets k
 
--- so many spans, each of its own number among these offsets
+-- the k-th of the spans is that of offset k
 abbrev pub AreSpans : List ℕ → List (ℕ × ℕ) → Type 0
 AreSpans offsets spans = (k : ℕ) (d : ℕ × ℕ) → k < length spans → IsSpan offsets k (slice_index_or spans k d).0 (slice_index_or spans k d).1
 
@@ -52,7 +52,7 @@ pub record KeepsLimits (b : Block) : Type 0 where
   pub in_block : All (λ t. t.offset < b.len) b.ops
   pub count : length b.ops ≤ OPERATIONS
 
--- the schedule of a block that keeps the limits: its offsets in order, and beside each offset the operations there, in text order
+-- a block that keeps the limits has this schedule: its offsets in order, and at each offset the operations there, in text order
 pub record IsScheduleOf (b : Block) (s : Schedule) : Type 0 where
   pub same_interval : s.interval ≡ interval b
   pub same_len : s.len ≡ b.len
@@ -63,7 +63,8 @@ pub record IsScheduleOf (b : Block) (s : Schedule) : Type 0 where
   pub operations : (offset : ℕ) → beside offset s.offsets.items s.numbers.items ≡ due_at b offset
   pub spans : AreSpans s.offsets.items s.spans.items
 
--- the lesser of a local clock and that at which an iteration, which has this age now, has the next of these offsets as its age
+-- the clock is the first in which an iteration's age is one of these offsets, or `next` where that comes first; `age` is its age in
+-- clock `now`
 pub record IsSooner (offsets : List ℕ) (now age next clock : ℕ) : Type 0 where
   pub from : now ≤ clock
   pub most : clock ≤ next

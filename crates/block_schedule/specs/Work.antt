@@ -4,7 +4,7 @@ use Rattle.flow_design.specs.declared.design.Block.{Block}
 use Rattle.flow_design.specs.declared.state.Control.{Control}
 use Rattle.flow_design.specs.Module.{is_loop, interval, ages}
 
--- the control at another local clock, when no further iteration has started
+-- the control at another local clock, with the same newest iteration
 abbrev pub at_clock : Control → ℕ → Control
 at_clock k clock = record k { clock = clock }
 
@@ -12,18 +12,18 @@ at_clock k clock = record k { clock = clock }
 abbrev pub HasOperationAt : Block → ℕ → Type 0
 HasOperationAt b offset = Contains (map (λ t. t.offset) b.ops) offset
 
--- a live iteration has an operation at its age
+-- a live iteration has an operation whose offset is its age
 pub record HasOperation (b : Block) (k : Control) : Type 0 where
   pub age : ℕ
   pub is_live : Contains (ages b k) age
   pub operation : HasOperationAt b age
 
--- an iteration is decided: the loop goes on, and its newest iteration has been live for II local clocks
+-- the loop decides: it goes on, and its newest iteration has been live for II local clocks
 pub record IsDecided (b : Block) (k : Control) : Type 0 where
   pub goes_on : IsTrue k.looping
   pub is_old : k.clock ≡ k.newest + interval b
 
--- the block is over: no further iteration starts, and the newest one started LEN local clocks ago
+-- the block is over: no further iteration starts, and the newest one started LEN local clocks ago or earlier
 pub record IsOver (b : Block) (k : Control) : Type 0 where
   pub is_last : IsFalse k.looping
   pub is_old : k.newest + b.len ≤ k.clock
@@ -31,13 +31,13 @@ pub record IsOver (b : Block) (k : Control) : Type 0 where
 abbrev pub HasWork : Block → Control → Type 0
 HasWork b k = HasOperation b k ⊎ (IsDecided b k ⊎ IsOver b k)
 
--- the least local clock with work, from the control's own on
+-- the clock is the first local clock with work, from the control's own on
 pub record IsNextDue (b : Block) (k : Control) (clock : ℕ) : Type 0 where
   pub from : k.clock ≤ clock
   pub work : HasWork b (at_clock k clock)
   pub idle_before : (c : ℕ) → k.clock ≤ c → c < clock → ¬ HasWork b (at_clock k c)
 
--- the control stands in the block: an iteration has started, the block is not over, and no decision was passed
+-- the control is one of this block: its newest iteration has started, the block is not over, and no decision was passed over
 pub record StandsIn (b : Block) (k : Control) : Type 0 where
   pub small : k.clock < 10 ^ 18
   pub has_started : k.newest ≤ k.clock

@@ -13,16 +13,16 @@ use flow_design::{Block, Control};
 use flow_word::OutOfMemory;
 use std::alloc::Global;
 
-/// A block's operations, in order of their offsets. Its size is that of the operations, however long the block is.
+/// A block's operations, in order of their offsets. It takes memory for the operations, and none for clocks without any.
 #[derive(Debug)]
 pub struct Schedule {
     interval: u64,
     len: u64,
-    /// The offsets of all operations, which don't fall.
+    /// The offsets of all operations, in non-decreasing order.
     offsets: Vec<u64>,
-    /// The number of the operation that has the offset at the same place.
+    /// For each of the offsets, the number of the operation that has it.
     numbers: Vec<u32>,
-    /// For each offset of a short block, from which place on and up to which place its operations stand. Empty for a long block.
+    /// For each offset of a short block, the places in `offsets` at which its operations begin and end. Empty for a long block.
     spans: Vec<(u32, u32)>,
 }
 
@@ -39,7 +39,7 @@ impl Drop for Schedule {
 }
 
 impl Schedule {
-    /// The schedule of a block that keeps the limits of II and LEN, of offsets, and of the number of operations.
+    /// The schedule of a block. The block keeps the limits of II, LEN and its offsets, and that of its number of operations.
     pub fn new(alloc: Global, block: &Block) -> Result<Schedule, OutOfMemory>
         requires { KeepsLimits block.now }
         ensures { IfOk result (λ schedule. IsScheduleOf block.now schedule) }
@@ -75,7 +75,7 @@ impl Schedule {
         &self.numbers[from..to]
     }
 
-    /// From which place on and up to which place the operations at an offset stand.
+    /// The places at which the operations of an offset begin and end: the first one, and the one after the last.
     #[inline(always)]
     fn span(&self, offset: u64) -> (usize, usize)
         requires in_order { IsNonDecreasing self.now.offsets.items }
@@ -88,10 +88,10 @@ impl Schedule {
         }
     }
 
-    /// The least local clock, from the control's own on, at which a live iteration has an operation at its age, an
-    /// iteration is decided, or the block ends.
+    /// The next local clock with work, from the control's own on: a live iteration has an operation at its age, the loop decides
+    /// whether another iteration starts, or the block ends.
     ///
-    /// It searches the table once for each live iteration, of which there are at most 64.
+    /// It searches the table once for each live iteration.
     pub fn next_due(&self, control: &Control) -> u64
         requires { (block : BlockOf) × (IsScheduleOf block self.now × StandsIn block control.now) }
         ensures { (block : BlockOf) → IsScheduleOf block self.now → StandsIn block control.now → IsNextDue block control.now result }
@@ -104,7 +104,7 @@ impl Schedule {
         next
     }
 
-    /// The local clock at which the next iteration is decided, or else the block ends.
+    /// The local clock at which the loop decides next, or at which the block ends where no further iteration starts.
     fn turn(&self, control: &Control) -> u64
         requires { control.now.newest + self.now.interval + self.now.len < 2 ^ 62 }
         ensures { result ≡ control.now.newest + (if control.now.looping then self.now.interval else self.now.len) }
@@ -136,7 +136,8 @@ impl Schedule {
         }
     }
 
-    /// The lesser of a local clock and that at which an iteration that has this age now has its next operation.
+    /// The local clock in which an iteration has its next operation, or `next` where that comes first. `age` is its age in local
+    /// clock `now`.
     fn sooner(&self, now: u64, age: u64, next: u64) -> u64
         requires in_order { IsNonDecreasing self.now.offsets.items }
         requires spans { AreSpans self.now.offsets.items self.now.spans.items }
@@ -155,7 +156,7 @@ impl Schedule {
         }
     }
 
-    /// The place of the first operation that is not before an offset.
+    /// The place of the first operation whose offset is not below this one.
     fn place(&self, offset: u64) -> usize
         requires in_order { IsNonDecreasing self.now.offsets.items }
         requires spans { AreSpans self.now.offsets.items self.now.spans.items }

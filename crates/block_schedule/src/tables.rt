@@ -1,4 +1,4 @@
-//! What a schedule is made of.
+//! The tables that a schedule is made of.
 ghost use Rattle.std.specs.Prelude.{ℕ, ◌≡◌, ◌<◌, ◌≤◌, length, map, slice_index, IfOk, OnOk, IsPermutation};
 ghost use Rattle.std.specs.List.Sorted.{IsNonDecreasing, IsNonDecreasingBy, IsStableByKey};
 ghost use Rattle.std.specs.List.{enumerate_from};
@@ -58,7 +58,7 @@ pub(crate) fn numbers_of(alloc: Global, entries: &[(u64, u32)]) -> Result<Vec<u3
     Ok(entries.iter().map(|entry| entry.1).collect(alloc)?)
 }
 
-/// The place of the first of the offsets that is not below this one.
+/// The place of the first offset in the list that is not below the given one.
 pub(crate) fn first_from(offsets: &[u64], offset: u64) -> usize
     requires { IsNonDecreasing offsets.now }
     ensures bound { result ≤ length offsets.now }
@@ -68,7 +68,7 @@ pub(crate) fn first_from(offsets: &[u64], offset: u64) -> usize
     offsets.partition_point(|other| *other < offset)
 }
 
-/// The place of the first of the offsets that is above this one.
+/// The place of the first offset in the list that is above the given one.
 pub(crate) fn first_above(offsets: &[u64], offset: u64) -> usize
     requires { IsNonDecreasing offsets.now }
     ensures bound { result ≤ length offsets.now }
@@ -78,7 +78,7 @@ pub(crate) fn first_above(offsets: &[u64], offset: u64) -> usize
     offsets.partition_point(|other| *other <= offset)
 }
 
-/// From which of the offsets on and up to which they are this one.
+/// The places at which the offsets equal to the given one begin and end: the first one, and the one after the last.
 #[inline(never)]
 pub(crate) fn span_of(offsets: &[u64], offset: u64) -> (usize, usize)
     requires { IsNonDecreasing offsets.now }
@@ -87,7 +87,7 @@ pub(crate) fn span_of(offsets: &[u64], offset: u64) -> (usize, usize)
     (first_from(offsets, offset), first_above(offsets, offset))
 }
 
-/// The span of each offset of a block that has at most eight offsets for each operation, and none for a longer one.
+/// The span of each offset of a block with at most eight offsets for each operation. Empty for a longer block.
 pub(crate) fn spans_of(
     alloc: Global,
     offsets: &[u64],

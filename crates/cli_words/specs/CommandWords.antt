@@ -1,4 +1,4 @@
--- Which lists of words are accepted, and the command that each one is.
+-- Which lists of words are accepted, and the command that each of them is.
 use Rattle.std.specs.Prelude.{◌≤◌, ◌==◌, ◌&&◌, ◌||◌, ◌^◌, ◌++◌, ◌∷◌, ℕ, Bool, true, false, not, List, []}
 use Rattle.std.specs.Prelude.{Option, Some, None, Result, Ok, Err, codes, if◌then◌else◌}
 use Rattle.std.specs.Prelude.{IfSome, is_some, nat_le, option_and_then, option_map}
@@ -26,7 +26,7 @@ Text = List ℕ
 
 -- ---- one word
 
--- the options that stand alone
+-- the options that take no value
 pub data Flag : Type 0 where
   Events : Flag
   Polls : Flag
@@ -38,7 +38,7 @@ pub data Key : Type 0 where
   Ops : Key
   Slack : Key
 
--- what a word is that stands before `--` and is no option's value
+-- what a word means that comes before `--` and is not an option's value
 pub data Word : Type 0 where
   -- `--`
   End : Word
@@ -49,34 +49,34 @@ pub data Word : Type 0 where
   -- `--cycles=V`, `--ops=V` or `--slack=V`
   Has : Key → Text → Word
   Positional : Word
-  -- it begins with `-`, and is none of these
+  -- the word begins with `-`, and is no option
   Unknown : Word
 
--- the first byte is `-`
+-- the first byte of a word is `-`
 abbrev pub begins_with_hyphen : Text → Bool
 begins_with_hyphen [] = false
 begins_with_hyphen (c ∷ cs) = c == 45
 
--- the byte `=`
+-- the byte is `=`
 abbrev pub is_equals : ℕ → Bool
 is_equals c = c == 61
 
--- what stands after the first `=`, if there is one
+-- what comes after the first `=` of a word, if it has one
 abbrev pub value_in : Text → Option Text
 value_in word =
     if list_any is_equals word then Some (after_first is_equals word) else None
 
--- an option that stands alone takes no value
+-- the word of an option that takes no value
 abbrev pub without_value : Flag → Option Text → Word
 without_value flag None = Lone flag
 without_value flag (Some value) = Unknown
 
--- an option's value stands after its `=`, or is the next word
+-- the word of an option that takes a value: after its `=`, or as the next word
 abbrev pub with_value : Key → Option Text → Word
 with_value key None = Takes key
 with_value key (Some value) = Has key value
 
--- an option, by its name and what stands after its `=`
+-- the word of an option, by its name and what comes after its `=`
 abbrev pub option_named : Text → Option Text → Word
 option_named name value =
     if bytes_eq (codes "--events") name then without_value Events value
@@ -87,7 +87,7 @@ option_named name value =
     else if bytes_eq (codes "--slack") name then with_value Slack value
     else Unknown
 
--- what a word is; the single hyphen is a positional
+-- what a word means; a single hyphen is a positional
 abbrev pub word_of : Text → Word
 word_of word =
     if not (begins_with_hyphen word) || bytes_eq (codes "-") word then Positional
@@ -96,7 +96,7 @@ word_of word =
 
 -- ---- options and positionals
 
--- what the words said so far
+-- what words have said: options and positionals
 pub record Said : Type 0 where
   pub events : Bool
   pub polls : Bool
@@ -106,17 +106,17 @@ pub record Said : Type 0 where
   pub slack : Option Text
   pub positionals : List Text
 
--- before the first word
+-- what no words have said
 abbrev pub nothing : Said
 nothing = record { events = false; polls = false; large = false; cycles = None; ops = None; slack = None; positionals = [] }
 
--- `--events`, `--polls` and `--large` occur at most once
+-- what is said with one more option without a value; none where it was said before
 abbrev pub with_flag : Flag → Said → Option Said
 with_flag Events said = if said.events then None else Some (record said { events = true })
 with_flag Polls said = if said.polls then None else Some (record said { polls = true })
 with_flag Large said = if said.large then None else Some (record said { large = true })
 
--- so do `--cycles`, `--ops` and `--slack`
+-- what is said with one more option and its value; none where it was said before
 abbrev pub with_option : Key → Text → Said → Option Said
 with_option Cycles value said =
     if is_some said.cycles then None else Some (record said { cycles = Some value })
@@ -125,12 +125,12 @@ with_option Ops value said =
 with_option Slack value said =
     if is_some said.slack then None else Some (record said { slack = Some value })
 
--- positionals come in the order of the words
+-- what is said with further positionals, in the order of the words
 abbrev pub with_positionals : List Text → Said → Said
 with_positionals words said = record said { positionals = said.positionals ++ words }
 
--- What comes of a word: `next` reads the words behind it, and is told the option that waits for its
--- value and what was said so far. Behind `--` all words are positionals.
+-- what a word and those after it say: `next` reads the words after it, given the option that waits for its value and what was said
+-- so far; after `--` all words are positionals
 abbrev pub after_word : Word → Text → List Text → Said → (Option Key → Said → Option Said)
     → Option Said
 after_word End word rest said next = Some (with_positionals rest said)
@@ -141,8 +141,7 @@ after_word (Has key value) word rest said next =
 after_word Positional word rest said next = next None (with_positionals (word ∷ []) said)
 after_word Unknown word rest said next = None
 
--- What the words say, read from the first on, where an option may wait for its value. A value that is
--- a word of its own must not begin with `-`.
+-- what words say, read from the first on; an option may wait for its value, which, as a word of its own, must not begin with `-`
 abbrev pub said_from : Option Key → Said → List Text → Option Said
 said_from None said [] = Some said
 said_from (Some key) said [] = None
@@ -154,24 +153,24 @@ said_from (Some key) said (value ∷ rest) =
 
 -- ---- numbers
 
--- a number that lies in the bounds, both included
+-- the number, if there is one and it is within the bounds, both of which are included
 abbrev pub in_bounds : ℕ → ℕ → Result ℕ NumberFault → Option ℕ
 in_bounds low high (Ok number) =
     if nat_le low number && nat_le number high then Some number else None
 in_bounds low high (Err fault) = None
 
--- one or more digits and nothing else, whose number lies in the bounds
+-- the number that a text of digits writes, if it is within the bounds
 abbrev pub number_in : ℕ → ℕ → Text → Option ℕ
 number_in low high text = in_bounds low high (number_of text)
 
--- an option's value, where it is given
+-- the value of a limit, which need not be given; none where it is given and is no number from 1 to `high`
 abbrev pub limit_in : ℕ → Option Text → Option (Option ℕ)
 limit_in high None = Some None
 limit_in high (Some text) = option_map (λ n. Some n) (number_in 1 high text)
 
 -- ---- commands
 
--- the commands by their names
+-- the command with this name, if there is one
 abbrev pub name_of : Text → Option CommandName
 name_of word =
     if bytes_eq (codes "run") word then Some (name.Simulate Threads)
@@ -191,12 +190,12 @@ name_of word =
     else if bytes_eq (codes "least") word then Some name.Least
     else None
 
--- no further positional
+-- what was found, if there is no further positional
 abbrev pub no_more : {T : Type 0} → List Text → Option T → Option T
 no_more [] found = found
 no_more (word ∷ words) found = None
 
--- `--large` chooses the limits that the session keeps
+-- the scale that the words choose: large where they have `--large`
 abbrev pub scale_of : Said → Scale
 scale_of said = if said.large then scales.Large else scales.Standard
 
@@ -204,20 +203,20 @@ scale_of said = if said.large then scales.Large else scales.Standard
 abbrev pub asked : Said → Task → Command
 asked said task = Of (record { scale = scale_of said; task = task })
 
--- another option is given
+-- an option other than `--large` is given
 abbrev pub has_options : Said → Bool
 has_options said = said.events || (said.polls || (is_some said.cycles || (is_some said.ops || is_some said.slack)))
 
--- no option but `--large`
+-- what was found, if no option but `--large` is given
 abbrev pub without_option : {T : Type 0} → Said → Option T → Option T
 without_option said found = if has_options said then None else found
 
--- f of two values, where there are both
+-- f of two values, if both are there
 abbrev pub both : {A B C : Type 0} → (A → B → C) → Option A → Option B → Option C
 both f None b = None
 both f (Some x) b = option_map (f x) b
 
--- the options, with a cycle limit of 1 to 10^15 and an operation limit of 1 to that of the scale
+-- the options that were said, if the cycle limit is 1 to 10^15 and the operation limit 1 to that of the scale
 abbrev pub options_of : Said → Option Options
 options_of said = both (λ cycles ops. record {
   events = said.events;
@@ -226,55 +225,55 @@ options_of said = both (λ cycles ops. record {
   ops = ops;
 }) (limit_in (10 ^ 15) said.cycles) (limit_in (limits_at (scale_of said)).counted_operations said.ops)
 
--- nothing where an option is given that the command does not take
+-- what was found, unless an option is given that the command does not take
 abbrev pub if_taken : {T : Type 0} → Bool → Bool → Option T → Option T
 if_taken takes given found = if given && not takes then None else found
 
--- the options of a command that has no further positional and no `--slack`, by whether it takes `--events` and `--polls`
+-- the options of a command that has no further positional and no `--slack`, and perhaps takes `--events` and `--polls`
 abbrev pub options_alone : Bool → Bool → Said → List Text → Option Options
 options_alone events polls said rest =
     if_taken events said.events (if_taken polls said.polls (if_taken false (is_some said.slack) (no_more rest (options_of said))))
 
--- `path` takes `--events`, for its links; no other view does
+-- the view takes `--events`: only `path` does, for its links
 abbrev pub tells_events : View → Bool
 tells_events Path = true
 tells_events _ = false
 
--- `stalls` and `path` take `--polls`, for what modules poll; no other view does
+-- the view takes `--polls`: `stalls` and `path` do, for what modules poll
 abbrev pub tells_polls : View → Bool
 tells_polls Stalls = true
 tells_polls Path = true
 tells_polls _ = false
 
--- `gen` has two further positionals: a seed of 0 to 65,535 and 1 to 64 modules
+-- the command `gen` with its two positionals: a seed of 0 to 65,535, and 1 to 64 modules
 abbrev pub gen_of : List Text → Option Command
 gen_of (seed ∷ modules ∷ []) =
     both (λ s m. Gen s m) (number_in 0 65_535 seed) (number_in 1 64 modules)
 gen_of _ = None
 
--- a number of 1 to 64, and one that is at least it and at most 64
+-- two numbers of 1 to 64, of which the second is at least the first
 abbrev pub range_in : Text → Text → Option (ℕ × ℕ)
 range_in lo hi = option_and_then (λ l. option_map (λ h. (l, h)) (number_in l 64 hi)) (number_in 1 64 lo)
 
--- `sweep` has two further positionals, the least depth and the greatest
+-- the command `sweep` with its two positionals, the least depth and the greatest
 abbrev pub sweep_of : Said → List Text → Option Command
 sweep_of said (lo ∷ hi ∷ []) =
     if_taken false said.events (if_taken false said.polls (if_taken false (is_some said.slack)
     (both (λ range o. asked said (Sweep range.0 range.1 o)) (range_in lo hi) (options_of said))))
 sweep_of said _ = None
 
--- the value of `--slack`, of 0 to 10^15, and 0 where it is not given
+-- the value of `--slack`, of 0 to 10^15; 0 where it is not given
 abbrev pub slack_in : Option Text → Option ℕ
 slack_in None = Some 0
 slack_in (Some text) = number_in 0 (10 ^ 15) text
 
--- `size` and `least` take `--slack`, and have no further positional
+-- the command `size` or `least`, which takes `--slack` and has no further positional
 abbrev pub with_slack : (ℕ → Options → Task) → Said → List Text → Option Command
 with_slack task said rest =
     if_taken false said.events (if_taken false said.polls
     (no_more rest (both (λ slack o. asked said (task slack o)) (slack_in said.slack) (options_of said))))
 
--- the rule of each command, on what was said and on the positionals behind the name
+-- the command with this name that options and further positionals give, if its rule accepts them
 abbrev pub command_named : Said → List Text → CommandName → Option Command
 command_named said rest (name.Simulate by) = option_map (λ o. asked said (Simulate by o)) (options_alone true false said rest)
 command_named said rest name.Check = without_option said (no_more rest (Some (asked said Check)))
@@ -287,12 +286,12 @@ command_named said rest name.Sweep = sweep_of said rest
 command_named said rest name.Size = with_slack Size said rest
 command_named said rest name.Least = with_slack Least said rest
 
--- the first positional is the command's name
+-- the command that options and positionals give, of which the first is its name
 abbrev pub command_by : Said → List Text → Option Command
 command_by said [] = None
 command_by said (word ∷ rest) = option_and_then (command_named said rest) (name_of word)
 
--- the command that options and positionals give
+-- the command that words with these options and positionals are, if a rule accepts them
 abbrev pub command_of : Said → Option Command
 command_of said = command_by said said.positionals
 
@@ -304,15 +303,15 @@ accepted words = option_and_then command_of (said_from None nothing words)
 
 -- ---- ranges
 
--- a limit that is given is 1 to this
+-- a limit, if it is given, is from 1 to `high`
 abbrev pub IsLimit : ℕ → Option ℕ → Type 0
 IsLimit high limit = IfSome limit (λ n. (1 ≤ n) × (n ≤ high))
 
--- the limits that the options give
+-- the limits in these options are within their bounds at this scale
 abbrev pub AreLimits : Scale → Options → Type 0
 AreLimits scale options = IsLimit (10 ^ 15) options.cycles × IsLimit (limits_at scale).counted_operations options.ops
 
--- the numbers of a task are within their bounds
+-- the numbers of a task are within their bounds at this scale
 abbrev pub IsSound : Scale → Task → Type 0
 IsSound scale (Simulate by options) = AreLimits scale options
 IsSound scale Check = Unit {0}

@@ -1,4 +1,4 @@
--- What the parser gives, as what the words said.
+-- What the parser gives, in terms of what the words say.
 use Rattle.std.specs.Prelude.{◌≡◌, ◌∷◌, List, [], Option, Some, None, Result, Ok, Err, option_map, ⊤}
 use Rattle.std.specs.Borrow.{Bor}
 use Rattle.cli_words.specs.declared.parser.Given.{Given}
@@ -6,16 +6,16 @@ use Rattle.cli_words.specs.declared.WordFault.{WordFault}
 use Rattle.cli_words.specs.declared.WordFault.TheVariants as fault
 use Rattle.cli_words.specs.CommandWords.{Said, Text, accepted, command_of}
 
--- the bytes of a text, where it is given
+-- the bytes of a text, if there is one
 abbrev pub text_of : Option (Bor Text) → Option Text
 text_of = option_map (λ s. s.now)
 
--- the third positional
+-- the last positional, if there is one
 abbrev pub last_of : Option Text → List Text
 last_of None = []
 last_of (Some word) = word ∷ []
 
--- the second and the third
+-- the second and the third positional, as far as they are there
 abbrev pub further_of : Option Text → Option Text → List Text
 further_of None third = []
 further_of (Some word) third = word ∷ last_of third
@@ -25,7 +25,7 @@ abbrev pub positionals_of : Option Text → Option Text → Option Text → List
 positionals_of None second third = []
 positionals_of (Some word) second third = word ∷ further_of second third
 
--- what is given, as what the words said
+-- what the words said, by what the parser gives
 abbrev pub said_of : Given → Said
 said_of g = record {
   events = g.events;
@@ -37,11 +37,11 @@ said_of g = record {
   positionals = positionals_of (text_of g.command) (text_of g.second) (text_of g.third);
 }
 
--- the positionals after the command
+-- the positionals after the command's name
 abbrev pub rest_of : Given → List Text
 rest_of g = further_of (text_of g.second) (text_of g.third)
 
--- what is given is the command that the words are, and only words that are none are refused
+-- the parser's answer is right: it gives the command that the words are, and refuses only words that are not accepted
 abbrev pub IsGivenBy : List Text → Result Given WordFault → Type 0
 IsGivenBy words (Ok g) = accepted words ≡ command_of (said_of g)
 IsGivenBy words (Err fault.Refused) = accepted words ≡ None

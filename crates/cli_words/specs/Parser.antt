@@ -1,17 +1,17 @@
--- The command by which the words are parsed, as the parser's contracts see it.
+-- The `clap` command that parses the words, as its contracts see it.
 use Rattle.std.specs.Prelude.{codes, true, [], Some}
 use Rattle.clap.specs.Words.{App, Rule, Text, new_app, new_rule, with_rule}
 use Rattle.clap.specs.declared.builder.ArgAction.TheVariants.{SetTrue}
 
--- an option `--NAME` that stands alone
+-- the rule of an option `--NAME` that takes no value
 abbrev pub flag_rule : Text → Rule
 flag_rule name = record (new_rule name) { long = Some name; action = Some SetTrue }
 
--- an option `--NAME` that takes a value
+-- the rule of an option `--NAME` that takes a value
 abbrev pub option_rule : Text → Rule
 option_rule name = record (new_rule name) { long = Some name }
 
--- the six options
+-- the rules of the six options
 abbrev pub events_rule : Rule
 events_rule = flag_rule (codes "events")
 
@@ -30,7 +30,7 @@ ops_rule = option_rule (codes "ops")
 abbrev pub slack_rule : Rule
 slack_rule = option_rule (codes "slack")
 
--- no program's name before the words, no help and no version
+-- a parser without options and positionals: it takes no program's name, and has no help and no version
 abbrev pub bare_parser : App
 bare_parser = let a = new_app (codes "omnisim") in record {
   top = record a.top {
@@ -41,7 +41,7 @@ bare_parser = let a = new_app (codes "omnisim") in record {
   subs = [];
 }
 
--- six options and three positionals
+-- the parser of the program: six options and three positionals
 abbrev pub parser : App
 parser =
     with_rule (with_rule (with_rule (with_rule (with_rule (with_rule (with_rule (with_rule (with_rule bare_parser events_rule) polls_rule)

@@ -1,4 +1,4 @@
-//! The words of the command line: which lists of words are a command, and which command.
+//! The words of the command line: which lists of words are a command, and which command they are.
 #![tactic(auto)]
 
 ghost use Rattle.std.specs.Prelude.{◌≡◌, IfOk, map, None, Some, Err, string_bytes};
@@ -11,20 +11,20 @@ use flow_design::limits::Scale;
 use std::alloc::Global;
 use thiserror::Error;
 
-/// What a simulating command is asked for.
+/// The options of a simulating command.
 #[derive(Clone, Copy, Debug, PartialEq, Eq)]
 pub struct Options {
-    /// Whether the report tells every FIFO operation.
+    /// Whether the report tells every FIFO operation, as an event.
     pub events: bool,
-    /// Whether it is told how the modules poll.
+    /// Whether the text tells how the modules poll.
     pub polls: bool,
-    /// The cycle limit, in clocks, in place of the session's.
+    /// The cycle limit, in clocks, that replaces the session's. `None` keeps the session's.
     pub cycles: Option<u64>,
-    /// The operation limit, in place of the session's. It is within the limits of the scale.
+    /// The operation limit that replaces the session's. `None` keeps the session's. It is within the limits of the scale.
     pub ops: Option<u64>,
 }
 
-/// What simulates a session. All give one answer.
+/// How a session is simulated. Each way gives the same answer.
 #[derive(Clone, Copy, Debug, PartialEq, Eq)]
 pub enum Simulator {
     /// `run`: the event engine, which skips the clocks in which nothing happens, with a thread for each module.
@@ -35,7 +35,7 @@ pub enum Simulator {
     Clock,
 }
 
-/// What is shown of the simulation of a session's design as it stands. Its edits are checked and not applied.
+/// What is shown of the simulation of a session's design, before any edit. The edits are checked and not applied.
 #[derive(Clone, Copy, Debug, PartialEq, Eq)]
 pub enum View {
     /// `wave`: how many elements each FIFO holds, clock by clock.
@@ -50,58 +50,58 @@ pub enum View {
     Trace,
 }
 
-/// What is to be made of the session that is read.
+/// What is done with the session that is read.
 #[derive(Clone, Copy, Debug, PartialEq, Eq)]
 pub enum Task {
-    /// Simulate it, and each edit of it.
+    /// Simulate the session's plan, and the plan after each of its edits.
     Simulate(Simulator, Options),
-    /// Write it in its canonical form.
+    /// Write the session in its canonical form.
     Check,
-    /// Advise a depth for each FIFO with which none is ever full.
+    /// Advise a depth for each FIFO, with which no FIFO is ever full.
     Advise(Options),
     /// Show this of its simulation.
     Show(View, Options),
-    /// Tell which modules' pipelines equal plain loops.
+    /// Tell which modules are serial: their pipelined loops equal plain loops.
     Order,
-    /// Simulate it with all depths from the one to the other for its FIFOs.
+    /// Simulate the plan with each choice of depths from `lo` to `hi` for its FIFOs.
     Sweep { lo: u64, hi: u64, options: Options },
-    /// Find the smallest FIFOs that lose no more than this many clocks.
+    /// Find the least depths with which the end is no more than `slack` clocks later.
     Size { slack: u64, options: Options },
-    /// Find the depths of the fewest bits of FIFO memory that lose no more than this many clocks.
+    /// Find the depths with the fewest bits of FIFO memory with which the end is no more than `slack` clocks later.
     Least { slack: u64, options: Options },
 }
 
-/// What is asked of a session.
+/// A task on a session.
 #[derive(Clone, Copy, Debug, PartialEq, Eq)]
 pub struct Asked {
-    /// Which limits the session keeps.
+    /// The scale: which limits the session keeps.
     pub scale: Scale,
-    /// What is to be made of it.
+    /// What is done with the session.
     pub task: Task,
 }
 
-/// What the words ask for.
+/// A command of the program.
 #[derive(Clone, Copy, Debug, PartialEq, Eq)]
 pub enum Command {
-    /// This of the session that is read.
+    /// Read a session, and do this with it.
     Of(Asked),
-    /// Simulate the session made from this seed, with so many modules.
+    /// Simulate the session that this seed gives with so many modules.
     Gen { seed: u64, modules: u64 },
 }
 
-/// Why there is no command.
+/// Why words give no command.
 #[derive(Clone, Copy, Debug, PartialEq, Eq, Error)]
 pub enum WordFault {
-    /// The words are none of the accepted lists.
+    /// The words are not an accepted list.
     #[error("the words are refused")]
     Refused,
-    /// There was no memory to read them.
+    /// A request for memory was refused.
     #[error("out of memory")]
     OutOfMemory,
 }
 
-/// Reads the words after the program's name: the command that they are, or `Refused` where they are
-/// none of the accepted lists. Its numbers are within their bounds.
+/// Reads the words after the program's name, and answers the command that they are. The error is `Refused` where they are not an
+/// accepted list, or `OutOfMemory`. The numbers of a command are within their bounds.
 pub fn read_words(alloc: Global, words: &[String]) -> Result<Command, WordFault>
     ensures command { IfOk result
         (λ command. accepted (map string_bytes words.now) ≡ Some command) }

@@ -1,4 +1,4 @@
-//! The options and positionals of a list of words, by one simple `clap` command.
+//! Parsing words into options and positionals, with one simple `clap` command.
 ghost use Rattle.std.specs.Prelude.{false, ◌≡◌, IfOk, map, string_bytes};
 ghost use Rattle.clap.specs.Words.{FailsBy, app_of, fault_of, found_of, kind_of, matches_of, new_rule, rows_of, rule_of};
 ghost use Rattle.cli_words.specs.Parser.{bare_parser, flag_rule, option_rule, parser};
@@ -9,7 +9,7 @@ use clap::error::ErrorKind;
 use clap::{Arg, ArgAction, ArgMatches, Command};
 use std::alloc::Global;
 
-/// The options and the positionals, before any rule on commands and numbers is tried.
+/// The options and the positionals that words give. No rule about commands and numbers is tested yet.
 #[derive(Clone, Copy)]
 pub struct Given<'a> {
     pub events: bool,
@@ -23,7 +23,7 @@ pub struct Given<'a> {
     pub third: Option<&'a str>,
 }
 
-/// What the words give, and `Refused` only where no command can come of them.
+/// The options and positionals of these words. The error is `Refused` only where the words cannot be a command.
 pub fn parse<'a>(alloc: Global, words: &'a [String]) -> Result<Given<'a>, WordFault>
     ensures { IsGivenBy (map string_bytes words.entry.now) result }
 {
@@ -43,7 +43,7 @@ pub fn parse<'a>(alloc: Global, words: &'a [String]) -> Result<Given<'a>, WordFa
     }
 }
 
-/// The words, read as six options and at most three positionals.
+/// The words, parsed as six options and at most three positionals.
 fn matches<'a>(alloc: Global, words: &'a [String]) -> Result<ArgMatches<'a>, clap::Error>
     ensures fails { FailsBy (fault_of parser (map string_bytes words.entry.now)) result }
     ensures rows { IfOk result (λ m. rows_of (found_of m)
@@ -62,7 +62,7 @@ fn matches<'a>(alloc: Global, words: &'a [String]) -> Result<ArgMatches<'a>, cla
     parser.try_get_matches_from(words)
 }
 
-/// A parser that takes no word yet: no program's name, no help and no version.
+/// A parser without options and positionals. It takes no program's name, and has no help and no version.
 fn bare_parser<'a>(alloc: Global) -> Command<'a>
     ensures { app_of result ≡ bare_parser }
 {
@@ -72,7 +72,7 @@ fn bare_parser<'a>(alloc: Global) -> Command<'a>
         .disable_version_flag(true)
 }
 
-/// An option that stands alone.
+/// An option that takes no value.
 fn flag<'a>(alloc: Global, name: &'a str) -> Arg<'a>
     ensures rule { rule_of result ≡ flag_rule name.entry.now }
     ensures local { result.global ≡ false }
@@ -95,7 +95,7 @@ fn positional<'a>(alloc: Global, name: &'a str) -> Arg<'a>
     Arg::new(alloc, name)
 }
 
-/// What the parser's error means for the words.
+/// The fault of the words that an error of the parser means.
 fn word_fault(error: &clap::Error) -> WordFault
     ensures { kind_of error.now ≡ ErrorKind.OutOfMemory → result ≡ WordFault.OutOfMemory }
 {

@@ -1,4 +1,4 @@
-//! The rules on commands: which options and positionals each one takes.
+//! The rules of commands: which options and positionals each one takes.
 ghost use Rattle.std.specs.Prelude.{◌≡◌, ◌≤◌, ◌^◌, ℕ, IfSome, Some, option_map};
 ghost use Rattle.cli_words.specs.CommandWords.{AreLimits, asked, IsInRange, IsLimit};
 ghost use Rattle.cli_words.specs.CommandWords.{command_of, gen_of, has_options, limit_in, name_of, no_more};
@@ -21,7 +21,7 @@ const MOST_MODULES: u64 = 64;
 
 const MOST_SWEPT: u64 = 64;
 
-/// The first positional.
+/// The name of a command, which is the first positional.
 #[derive(Clone, Copy)]
 enum CommandName {
     Simulate(Simulator),
@@ -35,7 +35,7 @@ enum CommandName {
     Least,
 }
 
-/// The command, if the rules accept what is given.
+/// The command that the options and positionals are. `None` where a rule refuses them.
 pub fn command_of(given: &Given<'_>) -> Option<Command>
     ensures command { result ≡ command_of (said_of given.now) }
     ensures range { IfSome result IsInRange }
@@ -92,7 +92,7 @@ fn name_of(word: &str) -> Option<CommandName>
     }
 }
 
-/// Which limits the session keeps.
+/// The scale: `Large` where `--large` is given.
 fn scale_of(given: &Given<'_>) -> Scale
     ensures { result ≡ scale_of (said_of given.now) }
 {
@@ -113,7 +113,7 @@ fn asked(given: &Given<'_>, task: Task) -> Command
     })
 }
 
-/// Whether an option is given that some commands take.
+/// Whether an option other than `--large` is given.
 fn has_options(given: &Given<'_>) -> bool
     ensures { result ≡ has_options (said_of given.now) }
 {
@@ -124,7 +124,7 @@ fn has_options(given: &Given<'_>) -> bool
         || given.slack.is_some()
 }
 
-/// A task of a command that takes `--large` alone, and no further positional.
+/// The command that asks for a task which takes no option but `--large`, and no further positional. `None` where more is given.
 fn bare(given: &Given<'_>, task: Task) -> Option<Command>
     ensures command { result ≡ without_option (said_of given.now) (no_more (rest_of given.now)
         (Some (asked (said_of given.now) task))) }
@@ -136,7 +136,8 @@ fn bare(given: &Given<'_>, task: Task) -> Option<Command>
     Some(asked(given, task))
 }
 
-/// The options of a command without further positionals, by whether it takes `--events` and `--polls`.
+/// The options of a command that takes no further positional and no `--slack`, and perhaps `--events` and `--polls`. `None` where
+/// more is given, or a limit is out of its bounds.
 fn options_alone(given: &Given<'_>, takes_events: bool, takes_polls: bool) -> Option<Options>
     ensures options { result ≡ options_alone takes_events takes_polls (said_of given.now) (rest_of given.now) }
     ensures range { IfSome result (AreLimits (scale_of (said_of given.now))) }
@@ -148,21 +149,21 @@ fn options_alone(given: &Given<'_>, takes_events: bool, takes_polls: bool) -> Op
     options_of(given)
 }
 
-/// Whether `--events` adds to what is shown.
+/// Whether a view takes `--events`.
 fn tells_events(view: View) -> bool
     ensures { result ≡ tells_events view }
 {
     matches!(view, View::Path)
 }
 
-/// Whether `--polls` adds to what is shown.
+/// Whether a view takes `--polls`.
 fn tells_polls(view: View) -> bool
     ensures { result ≡ tells_polls view }
 {
     matches!(view, View::Stalls | View::Path)
 }
 
-/// The options, each in its bounds: those of the operation limit are the scale's.
+/// The options that are given. `None` where a limit is out of its bounds; those of the operation limit depend on the scale.
 fn options_of(given: &Given<'_>) -> Option<Options>
     ensures options { result ≡ options_of (said_of given.now) }
     ensures range { IfSome result (AreLimits (scale_of (said_of given.now))) }
@@ -175,7 +176,7 @@ fn options_of(given: &Given<'_>) -> Option<Options>
     })
 }
 
-/// An option's value, which need not be given.
+/// The value of a limit, which need not be given. `None` where it is given and is no number from 1 to `most`.
 fn limit(most: u64, text: Option<&str>) -> Option<Option<u64>>
     ensures limit { result ≡ limit_in most (text_of text.entry) }
     ensures range { IfSome result (IsLimit most) }
@@ -186,7 +187,7 @@ fn limit(most: u64, text: Option<&str>) -> Option<Option<u64>>
     }
 }
 
-/// The seed and the number of modules, both given.
+/// The command `gen`, with its seed and its number of modules. `None` where one is missing or out of its bounds.
 fn gen_of(given: &Given<'_>) -> Option<Command>
     ensures command { result ≡ gen_of (rest_of given.now) }
     ensures range { IfSome result IsInRange }
@@ -196,7 +197,7 @@ fn gen_of(given: &Given<'_>) -> Option<Command>
     Some(Command::Gen { seed, modules })
 }
 
-/// The least and the greatest depth, both given, and the limits.
+/// The command `sweep`, with its least and its greatest depth, and its limits. `None` where one is missing or out of its bounds.
 fn sweep_of(given: &Given<'_>) -> Option<Command>
     ensures command { result ≡ sweep_of (said_of given.now) (rest_of given.now) }
     ensures range { IfSome result IsInRange }
@@ -210,7 +211,8 @@ fn sweep_of(given: &Given<'_>) -> Option<Command>
     Some(asked(given, Task::Sweep { lo, hi, options }))
 }
 
-/// How much later the end may be, and the limits.
+/// The slack of a command that takes `--slack`, and its options. `None` where something else is given, or a number is out of its
+/// bounds.
 fn with_slack(given: &Given<'_>) -> Option<(u64, Options)>
     ensures command { (task : ℕ → Options → Task) → with_slack task (said_of given.now) (rest_of given.now)
         ≡ option_map (λ found. asked (said_of given.now) (task found.0 found.1)) result }
@@ -226,7 +228,7 @@ fn with_slack(given: &Given<'_>) -> Option<(u64, Options)>
     Some((slack, options_of(given)?))
 }
 
-/// The number that the digits write, if it lies in the bounds.
+/// The number that digits write, if it is from `least` to `most`; else `None`.
 fn number(least: u64, most: u64, text: &str) -> Option<u64>
     ensures number { result ≡ number_in least most text.now }
     ensures range { IfSome result (λ number. (least ≤ number) × (number ≤ most)) }

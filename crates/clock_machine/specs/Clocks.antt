@@ -1,4 +1,4 @@
--- How a plan stands in a clock, and what its modules do in it, as the program holds it.
+-- What the program holds of a plan in a clock, and what the plan's modules do in it.
 use Rattle.std.specs.Prelude.{◌≡◌, ℕ, ◌≤◌, Bool, List, ◌++◌}
 use Rattle.flow_design.specs.declared.plan.Plan.{Plan}
 use Rattle.flow_design.specs.declared.state.Element.{Element}
@@ -12,33 +12,33 @@ use Rattle.clock_machine.specs.declared.seat.Round.{Round}
 use Rattle.clock_machine.specs.declared.seat.Traffic.{Traffic}
 use Rattle.clock_machine.specs.Parts.{exchanges_in, popped, pushed, kept, AreFitInTime, AreCodes}
 
--- a plan that the engine takes, with its code, has come to these states
+-- the engine takes the plan, this is the plan's code, and its modules can come to these states
 pub record Stands (p : Plan) (codes : List (List BlockCode)) (states : List ModuleState) : Type 0 where
   pub fits : FitsEngine p
   pub made : AreCodes p codes
   pub fit : AreFitInTime p states
 
--- a plan that the engine takes, with its code, has come to this clock, in which the channels hold this
+-- the engine takes the plan, this is the plan's code, and the channels hold these contents in this clock
 pub record Runs (p : Plan) (codes : List (List BlockCode)) (clock : ℕ) (contents : List (List Element)) : Type 0 where
   pub fits : FitsEngine p
   pub made : AreCodes p codes
   pub early : clock ≤ p.cycles
   pub holding : contents ≡ (state p clock).contents
 
--- whether module i moves in a clock
+-- module i moves in a clock
 abbrev pub does_move : Plan → ℕ → ℕ → Bool
 does_move p clock i = moves p clock (state p clock).contents (i, state_at p clock i)
 
--- what module i does in a clock
+-- the step of module i in a clock; none where it does no FIFO operation
 abbrev pub step_at : Plan → ℕ → ℕ → List HistoryStep
 step_at p clock i = step_of p clock (state p clock).contents (i, state_at p clock i)
 
--- the traffic grew by what these steps pop and push
+-- what these steps pop and push was added to the traffic
 pub record HasMoved (old new : Traffic) (steps : List HistoryStep) : Type 0 where
   pub pops : new.pops ≡ old.pops ++ popped (exchanges_in steps)
   pub pushes : new.pushes ≡ old.pushes ++ pushed (exchanges_in steps)
 
--- and the events by theirs, where events are kept
+-- what these steps pop and push was added to the traffic, and their events were added where events are kept
 pub record HasDone (keep : Bool) (old new : Round) (steps : List HistoryStep) : Type 0 where
   pub traffic : HasMoved old.traffic new.traffic steps
   pub events : new.events ≡ old.events ++ kept keep (events_of steps)

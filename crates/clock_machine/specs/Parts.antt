@@ -23,7 +23,7 @@ use Rattle.clock_machine.specs.declared.seat.Pushed.{Pushed}
 
 -- ---- what a clock adds
 
--- the operations of these steps
+-- the operations of these steps, in order
 abbrev pub exchanges_in : List HistoryStep → List Exchange
 exchanges_in steps = flat_map (λ s. s.exchanges) steps
 
@@ -31,29 +31,29 @@ exchanges_in steps = flat_map (λ s. s.exchanges) steps
 abbrev pub outcomes_in : List Exchange → List Bool
 outcomes_in xs = map (λ x. is_yes x.reply) (queries xs)
 
--- the event of an operation that a module does in a clock
+-- the event of an operation that module i does in a clock
 abbrev pub event_by : ℕ → ℕ → Request → EventLine
 event_by clock i r = record { «module» = i; kind = r.kind; channel = r.channel; cycle = clock }
 
--- these events where events are kept, and none else
+-- these events where events are kept, else none
 abbrev pub kept : Bool → List EventLine → List EventLine
 kept keep events = if keep then events else []
 
 -- ---- what the operations leave in the channels
 
--- the channels off which these operations pop, each as often as it is popped
+-- the channels that these operations pop, each once for each pop
 abbrev pub popped : List Exchange → List ℕ
 popped xs = flat_map (λ x. map (λ v. x.request.channel) (moved_value Pop x)) xs
 
--- what these operations push
+-- the values that these operations push, with their channels
 abbrev pub pushed : List Exchange → List Pushed
 pushed xs = flat_map (λ x. map (λ v. record { channel = x.request.channel; value = v }) (moved_value Push x)) xs
 
--- a channel's contents when these channels were popped
+-- a channel's contents after these channels were popped
 abbrev pub after_pops : List ℕ → ℕ × List Element → List Element
 after_pops channels f = drop (length (filter (λ channel. channel == f.0) channels)) f.1
 
--- a channel's contents when this was pushed in a clock
+-- a channel's contents after these values were pushed in a clock
 abbrev pub after_pushes : Plan → ℕ → List Pushed → ℕ × List Element → List Element
 after_pushes p clock pushes f =
     f.1 ++ map (λ q. element_from (clock + delay_at p f.0) q.value) (filter (λ q. q.channel == f.0) pushes)
@@ -65,18 +65,18 @@ pub record IsFit (p : Plan) (clock : ℕ) (m : ℕ × ModuleState) : Type 0 wher
   pub runnable : IsRunnable (module_at p m.0) m.1
   pub young : m.1.control.clock ≤ clock
 
--- one such state per module
+-- the states of all modules in a clock: each can run, and its local clock is not ahead of the clock
 pub record AreFit (p : Plan) (clock : ℕ) (states : List ModuleState) : Type 0 where
   pub count : length states ≡ length p.design.modules
   pub each : (i : ℕ) → i < length states → IsFit p clock (i, slice_index_or states i nobody)
 
--- in some clock up to the cycle limit
+-- the states of all modules are those of some clock up to the cycle limit, as far as they must be to run
 pub record AreFitInTime (p : Plan) (states : List ModuleState) : Type 0 where
   pub clock : ℕ
   pub early : clock ≤ p.cycles
   pub fit : AreFit p clock states
 
--- the code of all blocks, module by module
+-- this is the code of all blocks, module by module
 pub record AreCodes (p : Plan) (codes : List (List BlockCode)) : Type 0 where
   pub count : length codes ≡ length p.design.modules
   pub each : (i : ℕ) (d : List BlockCode) → i < length p.design.modules
@@ -84,7 +84,7 @@ pub record AreCodes (p : Plan) (codes : List (List BlockCode)) : Type 0 where
 
 -- ---- the report
 
--- what a run reports at a verdict: what its state shows, and what it was told
+-- the report with a verdict, from the last state, and the events and answers that were collected
 abbrev pub report_from : Plan → Verdict → ClockState → List EventLine → List (List Bool) → Report
 report_from p v st events answers =
     record { verdict = v; outputs = outputs_in p st; held = held p v st; events = events; answers = answers }

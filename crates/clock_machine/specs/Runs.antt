@@ -7,7 +7,8 @@ use Rattle.clock_machine.specs.declared.run.Run.{Run}
 use Rattle.clock_machine.specs.Parts.{kept}
 use Rattle.clock_machine.specs.Seats.{AreSeated}
 
--- a run stands at a clock: all modules are in their seats, the channels hold what they hold then, and all that was done is told
+-- a run is at a clock: its modules are kept as of that clock, the channels hold what they hold then, and all that was done before
+-- is collected
 pub record HasCome (p : Plan) (keep : Bool) (clock : ℕ) (run : Run) : Type 0 where
   pub seated : AreSeated p clock run.state.modules run.seats
   pub holding : run.state.contents ≡ (state p clock).contents

@@ -9,40 +9,40 @@ use Rattle.module_move.specs.Moves.{notes_of}
 use Rattle.clock_machine.specs.declared.seat.Seat.{Seat}
 use Rattle.clock_machine.specs.Clocks.{does_move, step_at}
 
--- nothing is known
+-- a seat in which nothing is known
 abbrev pub no_seat : Seat
 no_seat = record { wakes = 0; known = false; place = 0; noted = []; requests = [] }
 
--- what is known of a module is what is noted of what is due in it, and its requests
+-- what a seat says to be known of a module is right: the notes and the requests of what is due
 pub record IsKnown (p : Plan) (m : ℕ × ModuleState) (seat : Seat) : Type 0 where
   pub noted : seat.known ≡ true → seat.noted ≡ notes_of (module_at p m.0) m.1
   pub requests : seat.known ≡ true → seat.requests ≡ requests_of p m
 
--- the clocks that a module sleeps from this one on
+-- how many clocks a module still sleeps from this one on
 abbrev pub asleep : ℕ → Seat → ℕ
 asleep clock seat = seat.wakes - clock
 
--- a module as the machine keeps it in a clock: with the state to which it comes in its sleep, in which it asks for nothing
+-- a module is kept as of a clock: with the state in which it wakes, and it asks for nothing in the clocks that it sleeps
 pub record IsSeated (p : Plan) (clock i : ℕ) (state : ModuleState) (seat : Seat) : Type 0 where
   pub standing : state ≡ skip p i (asleep clock seat) (state_at p clock i)
   pub quiet : (n : ℕ) → n < asleep clock seat → rests p i (skip p i n (state_at p clock i)) ≡ false
   pub young : state.control.clock ≤ clock + asleep clock seat
   pub known : IsKnown p (i, state) seat
 
--- the same for each module
+-- each module is kept as of a clock
 pub record AreSeated (p : Plan) (clock : ℕ) (states : List ModuleState) (seats : List Seat) : Type 0 where
   pub state_count : length states ≡ length p.design.modules
   pub seat_count : length seats ≡ length p.design.modules
   pub each : (i : ℕ) → i < length p.design.modules
       → IsSeated p clock i (slice_index_or states i nobody) (slice_index_or seats i no_seat)
 
--- a module that asks for nothing moves, and does nothing
+-- module i moves in a clock without asking for anything
 pub record IsQuiet (p : Plan) (clock i : ℕ) : Type 0 where
   pub moving : does_move p clock i ≡ true
   pub state : state_at p (clock + 1) i ≡ move (module_at p i) (state_at p clock i) []
   pub step : step_at p clock i ≡ []
 
--- a module that sleeps from the next clock on
+-- module i moves in a clock without asking for anything, and is kept as of the next one
 pub record FallsAsleep (p : Plan) (clock i : ℕ) (state : ModuleState) (seat : Seat) : Type 0 where
   pub seated : IsSeated p (clock + 1) i state seat
   pub quiet : IsQuiet p clock i

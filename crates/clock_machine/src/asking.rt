@@ -20,7 +20,7 @@ use flow_design::{ClockState, Module, ModuleState, Plan, Request};
 use flow_word::{List, OutOfMemory, Words};
 use module_move::{is_over, note};
 
-/// Module number i of a plan.
+/// Module i of a plan.
 #[inline(always)]
 pub fn module_at(plan: &Plan, i: usize) -> &Module
     requires { i < length plan.now.design.modules }
@@ -29,7 +29,7 @@ pub fn module_at(plan: &Plan, i: usize) -> &Module
     &plan.design.modules.as_slice()[i]
 }
 
-/// The state of module number i.
+/// The state of module i.
 #[inline(always)]
 pub fn state_at(state: &ClockState, i: usize) -> &ModuleState
     requires { i < length state.now.modules }
@@ -38,7 +38,7 @@ pub fn state_at(state: &ClockState, i: usize) -> &ModuleState
     &state.modules.as_slice()[i]
 }
 
-/// The code of the block in which module number i stands.
+/// The code of the block in which module i stands.
 #[inline(always)]
 pub fn code_at<'a>(of: &Compiled<'a>, i: usize, state: &ModuleState) -> &'a BlockCode
     requires codes { AreCodes of.now.plan.now of.now.codes.now }
@@ -51,8 +51,7 @@ pub fn code_at<'a>(of: &Compiled<'a>, i: usize, state: &ModuleState) -> &'a Bloc
     &own.as_slice()[state.control.block as usize]
 }
 
-/// Fills in what is noted of the due operations of module number i, in this state, and the requests of the FIFO operations
-/// among them.
+/// Fills in the notes of the due operations of module i, in this state, and the requests of the FIFO operations among them.
 #[inline(always)]
 pub fn note_one(
     of: &Compiled<'_>,
@@ -81,7 +80,7 @@ pub fn note_one(
     Ok(())
 }
 
-/// Takes down what is due in module number i, unless that is known.
+/// Fills the seat of module i with the notes and requests of what is due, unless it has them already.
 #[inline(always)]
 pub fn note_seat(
     of: &Compiled<'_>,
@@ -107,7 +106,7 @@ pub fn note_seat(
     Ok(())
 }
 
-/// Whether module number i would move in a clock if every element could be popped.
+/// Whether module i would move in a clock if every element could be popped.
 pub fn would_move(
     at: &Standing<'_>,
     i: usize,

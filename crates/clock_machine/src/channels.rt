@@ -1,4 +1,4 @@
-//! What can be done on the channels as they stand.
+//! What is possible on the contents of the channels, and the replies.
 ghost use Rattle.std.specs.Prelude.{◌≡◌, ◌++◌, ◌∷◌, true, false, length, slice_index, slice_index_or, []};
 ghost use Rattle.std.specs.Prelude.{if◌then◌else◌, Some, None, is_some, IfOk, OnOk};
 ghost use Rattle.std.specs.List.{list_any};
@@ -42,7 +42,7 @@ fn is_empty(clock: u64, contents: &[Queue<Element>], channel: u32) -> bool
     }
 }
 
-/// The value at a channel's front, where it can be popped in this clock.
+/// The value at a channel's front. `None` where nothing can be popped in this clock.
 #[inline(always)]
 fn ready(clock: u64, contents: &[Queue<Element>], channel: u32) -> Option<u64>
     ensures { result ≡ (if is_empty clock (contents_of contents.now channel)
@@ -59,7 +59,7 @@ fn ready(clock: u64, contents: &[Queue<Element>], channel: u32) -> Option<u64>
     }
 }
 
-/// The delay of a channel: 1 where it is no FIFO, or a number names none.
+/// The delay of a channel, in clocks: 1 where it is no FIFO, or there is no such channel.
 #[inline(always)]
 pub fn delay(plan: &Plan, channel: u32) -> u64
     ensures { result ≡ delay_at plan.now channel }
@@ -86,7 +86,7 @@ fn is_fifo(plan: &Plan, channel: u32) -> bool
     channel < channels.len() && channels[channel].kind.is_fifo()
 }
 
-/// The depth of a channel, or 0 where a number names none.
+/// The depth of a channel, or 0 where there is no such channel.
 #[inline(always)]
 fn depth(plan: &Plan, channel: u32) -> u64
     ensures { result ≡ slice_index plan.now.depths channel }
@@ -100,7 +100,7 @@ fn depth(plan: &Plan, channel: u32) -> u64
     }
 }
 
-/// Whether a channel is a FIFO that holds as many elements as its depth.
+/// Whether a channel is a FIFO that holds at least as many elements as its depth.
 #[inline(always)]
 fn is_full(plan: &Plan, contents: &[Queue<Element>], channel: u32) -> bool
     ensures { result ≡ is_full plan.now channel (contents_of contents.now channel) }
@@ -108,7 +108,7 @@ fn is_full(plan: &Plan, contents: &[Queue<Element>], channel: u32) -> bool
     depth(plan, channel) <= held(contents, channel) && is_fifo(plan, channel)
 }
 
-/// Whether a channel has an element to pop in this clock, or else a place to push.
+/// Whether a channel has, in this clock, an element to pop, or a place for a push, by the given side.
 #[inline(always)]
 fn is_possible(at: &Standing<'_>, side: Side, channel: u32) -> bool
     ensures { result ≡ is_possible at.now.of.now.plan.now at.now.clock at.now.contents.now side channel }
@@ -128,8 +128,8 @@ pub fn stalls(at: &Standing<'_>, request: &Request) -> bool
     kind.is_blocking() && !is_possible(at, kind.side(), request.channel)
 }
 
-/// Whether a channel would have an element to pop, or else a place to push, if every element could be popped. The clock does not
-/// matter.
+/// Whether a channel would have an element to pop, or a place for a push, if every element could be popped. No clock matters for
+/// this.
 fn is_possible_ever(plan: &Plan, contents: &[Queue<Element>], side: Side, channel: u32) -> bool
     ensures { result ≡ is_possible plan.now 0 (all_ready contents.now) side channel }
 {
@@ -156,7 +156,7 @@ pub fn any_stalls_ever(plan: &Plan, contents: &[Queue<Element>], requests: &[Req
         .any(|request| stalls_ever(plan, contents, request))
 }
 
-/// The reply with an outcome, which is added.
+/// The reply to a query with this outcome, which is added to the outcomes.
 #[inline(always)]
 fn flag(outcomes: &mut Flags, outcome: bool) -> Result<Option<Reply>, OutOfMemory>
     ensures reply { IfOk result (λ reply. reply ≡ Some (Flag outcome)) }
@@ -166,8 +166,8 @@ fn flag(outcomes: &mut Flags, outcome: bool) -> Result<Option<Reply>, OutOfMemor
     Ok(Some(Reply::Flag(outcome)))
 }
 
-/// The reply to an operation, or none where it blocks and cannot be done. Adds its outcome if it is a query, and what it
-/// pops and pushes.
+/// The reply to an operation. `None` where it blocks and cannot be done. The outcome of a query is added to `outcomes`, and what
+/// the operation pops or pushes to `traffic`.
 #[tactic(auto, unfolding(lockstep_defs::specs::Channels::reply))]
 #[inline(always)]
 pub fn answer_one(

@@ -1,4 +1,4 @@
-//! What a clock leaves in the channels.
+//! The contents of the channels after a clock.
 ghost use Rattle.std.specs.Prelude.{◌≡◌, ◌==◌, if◌then◌else◌, [], ◌∷◌, ◌++◌, map, drop, length, OnOk};
 ghost use Rattle.std.specs.List.{enumerate_from};
 ghost use Rattle.std.specs.Prelude.{◌≤◌};
@@ -10,7 +10,7 @@ use crate::seat::Pushed;
 use flow_design::{Element, Plan};
 use flow_word::{OutOfMemory, Queue};
 
-/// Takes the front off a channel.
+/// Takes the element at a channel's front off.
 #[inline(always)]
 fn pop_front(contents: &mut [Queue<Element>], channel: u32)
     ensures { contents.new ≡ map (λ f. if channel == f.0 then drop 1 f.1 else f.1) (enumerate_from 0 contents.old) }
@@ -21,7 +21,7 @@ fn pop_front(contents: &mut [Queue<Element>], channel: u32)
     }
 }
 
-/// Puts an element in at a channel's back.
+/// Puts an element at a channel's back.
 #[inline(always)]
 fn push_back(
     contents: &mut [Queue<Element>],
@@ -37,7 +37,7 @@ fn push_back(
     Ok(())
 }
 
-/// Takes off what is popped in a clock.
+/// Takes off the channels what is popped in a clock.
 pub fn pop_all(contents: &mut [Queue<Element>], pops: &[u32])
     ensures { contents.new ≡ map (after_pops pops.now) (enumerate_from 0 contents.old) }
 {
@@ -46,7 +46,7 @@ pub fn pop_all(contents: &mut [Queue<Element>], pops: &[u32])
     }
 }
 
-/// Puts in what is pushed in a clock.
+/// Puts into the channels what is pushed in a clock.
 pub fn push_all(
     plan: &Plan,
     clock: u64,

@@ -24,28 +24,28 @@ use flow_word::{Flags, List, OutOfMemory, Queue, Side, Words};
 use module_move::{is_over, is_spent};
 use std::alloc::Global;
 
-/// What a run told on its way.
+/// What a run collected on its way, for the report.
 #[derive(Drop)]
 pub struct Told {
-    /// The events, where they are kept.
+    /// The events of all clocks, or none where events are not kept.
     pub events: List<EventLine>,
     /// The outcomes of each module's queries.
     pub answers: List<Flags>,
 }
 
-/// Room for what is noted of one module.
+/// Memory for the notes of one module, used for one after another.
 #[derive(Drop)]
 struct Room {
-    /// The due operations, in commit order.
+    /// The notes of the due operations, in commit order.
     noted: List<Noted>,
-    /// The FIFO operations among them.
+    /// The requests of the due FIFO operations, in commit order.
     requests: List<Request>,
-    /// For the results of expressions.
+    /// Memory for the results of expressions.
     words: Words,
 }
 
 impl Room {
-    /// Nothing is noted, which takes no memory.
+    /// Empty lists, which take no memory.
     fn new(alloc: Global) -> Room {
         Room {
             noted: List::new(alloc),
@@ -92,7 +92,7 @@ fn first_stall(plan: &Plan, contents: &[Queue<Element>], requests: &[Request]) -
         .find(|request| stalls_ever(plan, contents, request))
 }
 
-/// How a module is held by a request.
+/// Module i as held by a request.
 fn hold_by(i: u32, request: Request) -> Held
     ensures { result ≡ held_at i request }
 {
@@ -107,7 +107,7 @@ fn hold_by(i: u32, request: Request) -> Held
     }
 }
 
-/// Adds how module number i is held, if it is neither ended nor spent.
+/// Adds module i to the held modules, if it is held.
 fn hold_one(
     of: &Compiled<'_>,
     state: &ClockState,
@@ -142,7 +142,7 @@ fn hold_one(
     Ok(())
 }
 
-/// How the modules are held, in order, in whatever clock that is.
+/// The modules that are held in this state, in order, each with what holds it.
 fn hold_all(alloc: Global, of: &Compiled<'_>, state: &ClockState) -> Result<List<Held>, OutOfMemory>
     requires fits { FitsEngine of.now.plan.now }
     requires codes { AreCodes of.now.plan.now of.now.codes.now }
@@ -158,7 +158,7 @@ fn hold_all(alloc: Global, of: &Compiled<'_>, state: &ClockState) -> Result<List
     Ok(held)
 }
 
-/// How the modules are held at the verdict of a settled clock: not at all where all are ended.
+/// The held modules of a report with this verdict. There are none where all modules are ended, or at the cycle limit.
 fn held_with(
     alloc: Global,
     of: &Compiled<'_>,
@@ -188,7 +188,7 @@ fn drain(alloc: Global, queue: &mut Queue<Element>) -> Result<Words, OutOfMemory
     Ok(words)
 }
 
-/// The values that channel number i holds, moved into a list. The other channels keep theirs.
+/// The values that channel i holds, moved into a list. The other channels keep their values.
 fn drain_channel(
     alloc: Global,
     contents: &mut [Queue<Element>],
@@ -204,7 +204,7 @@ fn drain_channel(
     }
 }
 
-/// Adds the values of channel number i, if it is a sink. The other channels keep theirs.
+/// Adds the values of channel i to the outputs, if it is a sink. The other channels keep their values.
 fn output_one(
     alloc: Global,
     plan: &Plan,
@@ -224,7 +224,7 @@ fn output_one(
     Ok(())
 }
 
-/// The kind of channel number i.
+/// The kind of channel i.
 fn kind_of(plan: &Plan, i: usize) -> ChannelKind
     requires { i < length plan.now.design.channels }
     ensures { result ≡ kind_at plan.now i }
@@ -248,7 +248,7 @@ fn outputs(
     Ok(outputs)
 }
 
-/// The report of these.
+/// The report of a run, from its verdict, its outputs, its held modules, and what it collected.
 fn report_of(
     alloc: Global,
     plan: &Plan,
@@ -295,7 +295,7 @@ pub fn settled_report(
     Ok(report)
 }
 
-/// The report of a run that reaches the cycle limit, in no settled clock. No module is held then.
+/// The report of a run that comes to the cycle limit without a settled clock. No module counts as held then.
 pub fn limit_report(
     alloc: Global,
     plan: &Plan,

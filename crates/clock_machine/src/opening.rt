@@ -1,4 +1,4 @@
-//! How everything stands at clock 0.
+//! The state at clock 0.
 ghost use Rattle.std.specs.Prelude.{◌≡◌, ◌<◌, ◌++◌, ℕ, [], map, length, replicate, IfOk};
 ghost use Rattle.std.specs.List.{range_with_len};
 ghost use Rattle.flow_design.specs.StaticRules.{FitsEngine};
@@ -15,7 +15,7 @@ use flow_word::{Flags, List, OutOfMemory, Queue, Width, cut};
 use module_move::open;
 use std::alloc::Global;
 
-/// The first state of module number i.
+/// The first state of module i.
 fn open_one(alloc: Global, plan: &Plan, i: usize) -> Result<ModuleState, OutOfMemory>
     requires fits { FitsEngine plan.now }
     requires within { i < length plan.now.design.modules }
@@ -40,7 +40,7 @@ fn open_modules(alloc: Global, plan: &Plan) -> Result<List<ModuleState>, OutOfMe
     Ok(states)
 }
 
-/// Values in a queue, each cut to a width, as elements that can be popped from clock 0 on.
+/// A queue of values, each cut to a width, as elements that can be popped from clock 0 on.
 fn queue_of(alloc: Global, width: Width, values: &[u64]) -> Result<Queue<Element>, OutOfMemory>
     ensures { IfOk result (λ queue. queue ≡ map (λ v. element_from 0 (cut_to width v)) values.now) }
 {
@@ -54,7 +54,7 @@ fn queue_of(alloc: Global, width: Width, values: &[u64]) -> Result<Queue<Element
     Ok(queue)
 }
 
-/// What channel number i holds at first: the inputs of a source, and nothing else.
+/// What channel i holds at clock 0: a source its inputs, and any other channel nothing.
 fn fill_one(alloc: Global, plan: &Plan, i: usize) -> Result<Queue<Element>, OutOfMemory>
     requires fits { FitsEngine plan.now }
     requires within { i < length plan.now.design.channels }
@@ -65,7 +65,7 @@ fn fill_one(alloc: Global, plan: &Plan, i: usize) -> Result<Queue<Element>, OutO
     queue_of(alloc, width, values)
 }
 
-/// What the channels hold at first.
+/// What the channels hold at clock 0.
 fn fill_channels(alloc: Global, plan: &Plan) -> Result<List<Queue<Element>>, OutOfMemory>
     requires fits { FitsEngine plan.now }
     ensures { IfOk result (λ contents. contents ≡ map (inputs_of plan.now) (range_with_len 0 (length plan.now.design.channels))) }
@@ -78,7 +78,7 @@ fn fill_channels(alloc: Global, plan: &Plan) -> Result<List<Queue<Element>>, Out
     Ok(contents)
 }
 
-/// The code of all blocks, module by module. An edit of a depth leaves it as it is.
+/// The code of all blocks, module by module. It is the same after an edit of a depth.
 pub fn codes_of_all(alloc: Global, plan: &Plan) -> Result<List<List<BlockCode>>, OutOfMemory>
     requires fits { FitsEngine plan.now }
     ensures { IfOk result (AreCodes plan.now) }
@@ -103,7 +103,7 @@ pub fn open_all(alloc: Global, plan: &Plan) -> Result<ClockState, OutOfMemory>
     Ok(ClockState { modules, contents })
 }
 
-/// No answers yet, for so many modules.
+/// An empty list of answers for each of so many modules.
 pub fn no_answers(alloc: Global, modules: u64) -> Result<List<Flags>, OutOfMemory>
     ensures { IfOk result (λ answers. answers ≡ replicate modules []) }
 {

@@ -24,13 +24,13 @@ use std::alloc::Global;
 /// How far a run has come.
 #[derive(Drop)]
 pub struct Run {
-    /// What the channels hold, and the state of each module: of one that sleeps, that in which it wakes.
+    /// What the channels hold, and the state of each module. Of a module that sleeps it is the state in which it wakes.
     pub state: ClockState,
-    /// What is kept of each module.
+    /// What is kept of each module from clock to clock.
     pub seats: List<Seat>,
     /// The outcomes of each module's queries.
     pub answers: List<Flags>,
-    /// What the modules share, with the events.
+    /// The lists that the modules share, and the events.
     pub round: Round,
 }
 
@@ -48,8 +48,8 @@ fn open_run(alloc: Global, plan: &Plan) -> Result<Run, OutOfMemory>
     })
 }
 
-/// One clock: each module has its turn, then all that they pop is taken off the channels, and then all that they push is put in.
-/// Says whether a module moves.
+/// Runs one clock: each module has its turn, then all that they pop is taken off the channels, and then all that they push is put
+/// in. Whether a module moves.
 fn step(
     alloc: Global,
     of: &Compiled<'_>,
@@ -121,7 +121,8 @@ fn settles(
     Ok(settled)
 }
 
-/// One clock. Says whether it is settled: where no module moves all stays as it is, so the next clock tells.
+/// Runs one clock, and answers whether it is settled. Where no module moves the state stays as it is, so the test is made in the
+/// next clock.
 fn go_on(
     alloc: Global,
     of: &Compiled<'_>,
@@ -163,7 +164,7 @@ fn settle(alloc: Global, of: &Compiled<'_>, clock: u64, run: Run) -> Result<Repo
     Ok(report)
 }
 
-/// The report of a run that has come to the cycle limit, in no settled clock.
+/// The report of a run that has come to the cycle limit without a settled clock.
 fn give_up(alloc: Global, plan: &Plan, run: Run) -> Result<Report, OutOfMemory>
     ensures { IfOk result (λ r. (st : StateOf) → st.contents ≡ run.state.contents
         → r ≡ report_from plan.now (Cycles plan.now.cycles) st run.round.events run.answers) }
@@ -182,8 +183,8 @@ fn give_up(alloc: Global, plan: &Plan, run: Run) -> Result<Report, OutOfMemory>
     Ok(report)
 }
 
-/// As `clock_run`, by the code of all blocks, which is made once for a plan and its edits: with its events, or with none, which take
-/// the most memory.
+/// The report of a plan, by going through its clocks one at a time, on the code of its blocks. A plan and its edits share that
+/// code. With `keep` the report has its events. Else it has none: the events take most of the memory.
 pub fn clock_run_by(
     alloc: Global,
     plan: &Plan,
@@ -212,7 +213,7 @@ pub fn clock_run_by(
 
 /// The report of a plan, by going through its clocks one at a time.
 ///
-/// A run takes as many clocks as its verdict says, and each clock time for the modules and for what is done in it.
+/// It goes through as many clocks as its verdict says. A clock takes time for each module and for what is done in it.
 pub fn clock_run(alloc: Global, plan: &Plan) -> Result<Report, OutOfMemory>
     requires fits { FitsEngine plan.now }
     ensures { IfOk result (λ r. r ≡ report plan.now) }

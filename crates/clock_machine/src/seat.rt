@@ -7,51 +7,51 @@ use flow_design::{EventLine, Reply, Request};
 use flow_word::{List, OutOfMemory, Words};
 use std::alloc::Global;
 
-/// A value that is pushed on a channel in a clock.
+/// A value that is pushed on a channel in one clock.
 #[derive(Clone, Copy, Debug, PartialEq, Eq)]
 pub struct Pushed {
     pub channel: u32,
     pub value: u64,
 }
 
-/// What is kept of a module beside its state.
+/// What is kept of a module from clock to clock, beside its state.
 #[derive(Drop)]
 pub struct Seat {
-    /// The clock before which it has nothing to do. Its state is then that of this clock.
+    /// The clock up to which the module has nothing to do. Its state is already that of this clock.
     pub wakes: u64,
-    /// Whether the lists below hold what is due in its state. A module that stalls keeps them until it moves.
+    /// Whether the notes and requests here are those of its state. A module that stalls keeps them until it moves.
     pub known: bool,
-    /// The place of the request on which it stalled. It is looked at first; any other place would do.
+    /// The place, among the requests, of the one on which the module stalled. It is tried first; the answer does not depend on it.
     pub place: u64,
-    /// What is noted of the due operations, in commit order.
+    /// The notes of the due operations, in commit order.
     pub noted: List<Noted>,
-    /// The FIFO operations among them.
+    /// The requests of the due FIFO operations, in commit order.
     pub requests: List<Request>,
 }
 
-/// What the modules do on the channels in a clock.
+/// What the modules pop and push in one clock.
 #[derive(Drop)]
 pub struct Traffic {
-    /// The channels that they pop, each as often as it is popped.
+    /// The channels that are popped, each once for each pop.
     pub pops: List<u32>,
-    /// What they push.
+    /// The values that are pushed, with their channels.
     pub pushes: List<Pushed>,
 }
 
-/// What the modules of a clock share, one after another.
+/// Lists that the modules of a clock use one after another.
 #[derive(Drop)]
 pub struct Round {
-    /// Room for the results of expressions.
+    /// Memory for the results of expressions.
     pub words: Words,
     /// The replies to the requests of one module.
     pub replies: List<Reply>,
     pub traffic: Traffic,
-    /// The events of all clocks so far, where they are kept.
+    /// The events of all clocks so far, or none where events are not kept.
     pub events: List<EventLine>,
 }
 
 impl Seat {
-    /// Nothing known, which takes no memory.
+    /// A seat in which nothing is known. It takes no memory.
     pub fn new(alloc: Global) -> Seat
         ensures { result ≡ no_seat }
     {
@@ -66,7 +66,7 @@ impl Seat {
 }
 
 impl Traffic {
-    /// Nothing is done, which takes no memory.
+    /// A clock in which nothing is popped or pushed. It takes no memory.
     pub fn new(alloc: Global) -> Traffic
         ensures { result ≡ record { pops = []; pushes = [] } }
     {
@@ -76,7 +76,7 @@ impl Traffic {
         }
     }
 
-    /// Takes all out. The lists keep their room.
+    /// Empties the two lists, which keep their memory.
     pub fn clear(&mut self)
         ensures { self.new ≡ record { pops = []; pushes = [] } }
     {
@@ -86,7 +86,7 @@ impl Traffic {
 }
 
 impl Round {
-    /// Nothing is done, which takes no memory.
+    /// Empty lists, which take no memory.
     pub fn new(alloc: Global) -> Round
         ensures traffic { result.traffic ≡ record { pops = []; pushes = [] } }
         ensures events { result.events ≡ [] }
@@ -100,7 +100,7 @@ impl Round {
     }
 }
 
-/// Seats for so many modules, of which nothing is known.
+/// A seat for each of so many modules, in which nothing is known.
 pub fn seats_for(alloc: Global, modules: u64) -> Result<List<Seat>, OutOfMemory>
     ensures { IfOk result (λ seats. seats ≡ replicate modules no_seat) }
 {

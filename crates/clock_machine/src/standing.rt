@@ -1,4 +1,4 @@
-//! What all modules of a clock are given.
+//! What all modules are given in a clock.
 use block_code::BlockCode;
 use flow_design::{Element, Plan};
 use flow_word::{List, Queue};

@@ -1,4 +1,4 @@
-//! What a clock adds to the events.
+//! The events that a clock adds.
 ghost use Rattle.std.specs.Prelude.{◌≡◌, ◌<◌, ◌^◌, ◌++◌, map, OnOk};
 ghost use Rattle.clock_machine.specs.Parts.{event_by, kept};
 
@@ -26,7 +26,7 @@ fn tell_events(
     Ok(())
 }
 
-/// The same where events are kept.
+/// Adds the events of module i's operations in a clock, where events are kept.
 #[inline(always)]
 pub fn tell_kept_events(
     at: &Standing<'_>,

@@ -1,4 +1,4 @@
-//! One module's turn in a clock: what it asks, the replies, and its move, all by the contents from before the clock.
+//! One module's turn in a clock: its requests, their replies, and its move, all on the contents from before the clock.
 ghost use Rattle.std.specs.Prelude.{◌≡◌, ◌+◌, ◌<◌, ◌≤◌, IfOk, OnOk, not, true, false, [], ◌++◌, if◌then◌else◌, length, map};
 ghost use Rattle.std.specs.List.{list_any};
 ghost use Rattle.lockstep_defs.specs.Machine.{is_over};
@@ -18,7 +18,7 @@ use flow_design::{ModuleState, Reply, Request};
 use flow_word::{Flags, List, OutOfMemory};
 use module_move::{go_on, is_over, make_move, tick_to};
 
-/// Whether the request on which a module stalled still can't be done.
+/// Whether the module is known to stall on the same request as before.
 #[inline(always)]
 fn still_stalls(at: &Standing<'_>, seat: &Seat) -> bool
     ensures known { result ≡ true → seat.now.known ≡ true }
@@ -30,8 +30,8 @@ fn still_stalls(at: &Standing<'_>, seat: &Seat) -> bool
     seat.known && place < requests.len() && stalls(at, &requests[place])
 }
 
-/// Says whether none of these operations blocks and cannot be done. Then the replies to them are filled in, and the outcomes of the
-/// queries among them are added, and what they pop and push. Else so many replies stand there as could be given.
+/// Whether none of these operations blocks and cannot be done. Then their replies are filled in, the outcomes of the queries are
+/// added, and what they pop and push is added. Else `replies` holds those that could be given.
 #[inline(always)]
 fn answer(
     at: &Standing<'_>,
@@ -69,7 +69,8 @@ fn answer(
     Ok(true)
 }
 
-/// The turn of a module that is awake, of which it is known what is due: where it does not stall, it moves.
+/// The turn of a module that is awake, with the notes and requests of what is due: it moves where it does not stall. Whether it
+/// moves.
 #[inline(always)]
 fn act(
     at: &Standing<'_>,
@@ -117,7 +118,7 @@ fn act(
     Ok(true)
 }
 
-/// Whether a module that is awake does not move, where that shows at first sight: it is ended or spent, or stalls as it did.
+/// Whether a module that is awake is seen at once not to move: it is over, or stalls on the same request as before.
 #[inline(always)]
 fn surely_stays(at: &Standing<'_>, i: usize, state: &ModuleState, seat: &Seat) -> bool
     requires runs { Runs at.now.of.now.plan.now at.now.of.now.codes.now at.now.clock at.now.contents.now }
@@ -132,7 +133,7 @@ fn surely_stays(at: &Standing<'_>, i: usize, state: &ModuleState, seat: &Seat) -
     still_stalls(at, seat)
 }
 
-/// Whether a module that is awake has nothing to do in this clock. Then it goes on to the clock in which it has.
+/// Whether a module that is awake has nothing to do in this clock. Its state is then that of the next clock in which it has.
 #[inline(always)]
 fn fall_asleep(
     at: &Standing<'_>,
@@ -166,8 +167,8 @@ fn fall_asleep(
     Ok(true)
 }
 
-/// A module's turn in a clock. Says whether it moves: it does not where it is ended, spent or stalls. Adds what it pops, pushes and
-/// tells.
+/// A module's turn in a clock. Whether it moves: it does not where it is over or stalls. What it pops and pushes, its events and
+/// its outcomes are added.
 pub fn take_turn(
     at: &Standing<'_>,
     i: usize,

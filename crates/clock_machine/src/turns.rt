@@ -13,7 +13,7 @@ use crate::turn::take_turn;
 use flow_design::ModuleState;
 use flow_word::{Flags, OutOfMemory, Words};
 
-/// The turns of all modules, in order. Says whether one moves.
+/// The turns of all modules in a clock, in order. Whether one of them moves.
 pub fn take_turns(
     at: &Standing<'_>,
     states: &mut [ModuleState],

@@ -21,7 +21,7 @@ use Rattle.core_actions.specs.declared.actions.Cause.TheVariants as cause
 
 -- ---- actions
 
--- an action as the theory has it
+-- an action as one of the theory
 abbrev pub as_theory : Action → theory.Action
 as_theory (Run m) = theory.Action.Run m
 as_theory (Assign m) = theory.Action.Assign m
@@ -34,24 +34,24 @@ module_of (Assign m) = m
 module_of (Answer m) = m
 module_of (Earliest m) = m
 
--- the theory permits it
+-- the theory permits the action
 abbrev pub IsPermitted : {S : Type 0} → Design S → ℕ → Core S → Action → Type 0
 IsPermitted {S} d limit x (Run m) = MayRun d x m
 IsPermitted {S} d limit x (Assign m) = (c : ℕ) × MayAssign d limit x m c
 IsPermitted {S} d limit x (Answer m) = (c : ℕ) × MayAnswer d limit x m c
 IsPermitted {S} d limit x (Earliest m) = (c : ℕ) × MayEarliest d limit x m c
 
--- ---- the conditions: each is the cause where it fails
+-- ---- the conditions: each gives its cause where it fails
 
 abbrev pub cause_if : Bool → Cause → Option Cause
 cause_if true c = Some c
 cause_if false c = None
 
--- the first step without a cycle
+-- the place of module m's first step without a cycle
 abbrev pub first_place : {S : Type 0} → Core S → ℕ → Place
 first_place {S} x m = place_of m (x.timed m)
 
--- a query without an outcome, or a pop whose value is not there
+-- the access lacks its reply: it is a query without an outcome, or a pop whose value is not there
 abbrev pub lacks_reply : {S : Type 0} → Design S → Core S → ℕ → ℕ → Access → Bool → Bool
 lacks_reply {S} d x m k a done =
     (not a.blocks && not (x.answered m k))
@@ -61,7 +61,7 @@ lacks_reply {S} d x m k a done =
 abbrev pub first_lacking : {S : Type 0} → Design S → Core S → ℕ → ℕ → Option ℕ
 first_lacking {S} d x m k = position (λ p. lacks_reply d x m k p.0 p.1) (zip (core_accesses d x m k) (x.flags m k))
 
--- of so many emitted steps the newest lacks a reply
+-- the cause that the last of module m's first so many steps lacks a reply
 abbrev pub waiting : {S : Type 0} → Design S → Core S → ℕ → ℕ → Option Cause
 waiting {S} d x m zero = None
 waiting {S} d x m (suc k) = option_map (cause.Waiting (place_of m k)) (first_lacking d x m k)
@@ -72,7 +72,7 @@ over {S} x m = cause_if (x.over m) (cause.Over m)
 abbrev pub no_step : {S : Type 0} → Core S → ℕ → Option Cause
 no_step {S} x m = cause_if (not (ltb (x.timed m) (x.emitted m))) (cause.NoStep m)
 
--- an access that blocks, and of which no clock is known from which it is possible
+-- it is known from which clock on an access is possible; and then, an access blocks, and this is not known
 abbrev pub has_clock : Known → Bool
 has_clock (From u) = true
 has_clock Never = false
@@ -85,7 +85,7 @@ abbrev pub undetermined : {S : Type 0} → Design S → Core S → ℕ → Optio
 undetermined {S} d x m =
     option_map (cause.Undetermined (first_place x m)) (position (is_held (known_of d (view d x) m)) (first_accesses (view d x) m))
 
--- there is such a clock, and it is the limit or later
+-- there is a clock, and it is the limit or later
 abbrev pub is_late : ℕ → Option ℕ → Bool
 is_late limit None = false
 is_late limit (Some c) = leb limit c
@@ -93,7 +93,7 @@ is_late limit (Some c) = leb limit c
 abbrev pub at_limit : {S : Type 0} → Design S → ℕ → Core S → ℕ → Option Cause
 at_limit {S} d limit x m = cause_if (is_late limit (candidate d (view d x) m)) (cause.AtLimit (first_place x m))
 
--- the outcomes of a step are verified all at once
+-- the access is a query without a verified outcome: the outcomes of a step are verified all at once
 abbrev pub is_unverified : {S : Type 0} → Core S → ℕ → Access → Bool
 is_unverified {S} x m a = not a.blocks && not (x.verified m (x.timed m))
 
@@ -113,7 +113,7 @@ no_query {S} x m = cause_if (x.verified m (x.timed m)) (cause.NoQuery (first_pla
 abbrev pub decided : {S : Type 0} → Design S → Core S → ℕ → Option Cause
 decided {S} d x m = cause_if (decides d x m) (cause.Decided (first_place x m))
 
--- the first module that passes
+-- the first module that passes the test
 abbrev pub first_module : {S : Type 0} → Design S → (ℕ → Bool) → Option ℕ
 first_module {S} d test = position test (range_with_len 0 d.modules)
 
@@ -123,7 +123,7 @@ is_busy {S} d limit x n = may_run d x n || (may_assign d limit x n || may_answer
 abbrev pub busy : {S : Type 0} → Design S → ℕ → Core S → Option Cause
 busy {S} d limit x = option_map cause.Busy (first_module d (is_busy d limit x))
 
--- its open step comes before that of module m
+-- module n has an open step with a lesser cycle than that of module m
 abbrev pub is_earlier : {S : Type 0} → Design S → ℕ → Core S → ℕ → ℕ → Bool
 is_earlier {S} d limit x m n = is_open_before d limit x (candidate d (view d x) m) n
 
@@ -133,18 +133,18 @@ later_than {S} d x n = cause.Later n (unwrap_or (candidate d (view d x) n) 0)
 abbrev pub later : {S : Type 0} → Design S → ℕ → Core S → ℕ → Option Cause
 later {S} d limit x m = option_map (later_than d x) (first_module d (is_earlier d limit x m))
 
--- ---- the first that fails
+-- ---- the first condition that fails
 
 abbrev pub first_some : {A : Type 0} → List (Option A) → Option A
 first_some {A} [] = None
 first_some {A} (None ∷ rest) = first_some rest
 first_some {A} (Some a ∷ rest) = Some a
 
--- the cycle of the first step without one is determined, below the limit
+-- the conditions of a determined step: module m's first step without a cycle has a determined cycle, below the limit
 abbrev pub cycle_causes : {S : Type 0} → Design S → ℕ → Core S → ℕ → List (Option Cause)
 cycle_causes {S} d limit x m = no_step x m ∷ undetermined d x m ∷ at_limit d limit x m ∷ []
 
--- and its queries are open
+-- the conditions of an open step: it is determined, and has queries without a verified outcome of which some are undecided
 abbrev pub open_causes : {S : Type 0} → Design S → ℕ → Core S → ℕ → List (Option Cause)
 open_causes {S} d limit x m = cycle_causes d limit x m ++ no_query x m ∷ decided d x m ∷ []
 
@@ -155,6 +155,6 @@ causes {S} d limit x (Assign m) = cycle_causes d limit x m ++ unverified d x m �
 causes {S} d limit x (Answer m) = cycle_causes d limit x m ++ undecided d x m ∷ no_query x m ∷ []
 causes {S} d limit x (Earliest m) = open_causes d limit x m ++ busy d limit x ∷ later d limit x m ∷ []
 
--- the first cause, where there is one
+-- the first condition of an action that fails, if one does
 abbrev pub cause_of : {S : Type 0} → Design S → ℕ → Core S → Action → Option Cause
 cause_of {S} d limit x action = first_some (causes d limit x action)

@@ -1,4 +1,4 @@
--- What the code looks for in a step: a query, and one that is undecided.
+-- What the code looks for in a step: a query, and an undecided one.
 use Rattle.std.specs.Prelude.{◌&&◌, Bool, not, List}
 use Rattle.event_graph.specs.Lanes.{Lane}
 use Rattle.time_engine.specs.Possible.{when_possible}
@@ -11,6 +11,6 @@ use Rattle.fifo_table.specs.Channels.{Channel}
 abbrev pub asks : Access → Bool
 asks a = not (is_blocking a.kind)
 
--- by the graph and the table its outcome is undecided
+-- the access is a query that is undecided, by the graph and the table
 abbrev pub is_open_query : List Lane → List Channel → Access → Bool
 is_open_query lanes channels a = asks a && not (is_decided (as_known (when_possible lanes channels a)))

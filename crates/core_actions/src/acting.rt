@@ -1,4 +1,4 @@
-//! Single actions, as they are asked for.
+//! Single actions, done by name.
 ghost use Rattle.std.specs.Prelude.{◌≡◌, ◌↔◌, ◌+◌, ◌<◌, length, IfOk, IsErrOf, OnErr, OnOk, Some};
 ghost use Rattle.timing_bridge.specs.Designs.{design};
 ghost use Rattle.sim_core.specs.Views.{theory_of};
@@ -14,9 +14,10 @@ use outcome_guard::Guard;
 use sim_core::Core;
 use std::sync::ledger::Ledger;
 
-/// Does an action at a module of the plan, where it is permitted. Where the outcome of a query is not as it was assumed, that query
-/// is told, and nothing changed.
+/// Does an action at a module of the plan, if it is permitted. Where the outcome that is found for a query is not the assumed one,
+/// the query is told, and nothing has changed.
 ///
+/// For a Run the module's run must not be lent. Only a Run takes memory. A fault leaves the core as it was.
 /// A Run takes the module's run, which is not lent, and takes memory; no other action takes any. A fault leaves the core as it was.
 pub fn act<L: Ledger>(
     core: &mut Core,
@@ -39,7 +40,7 @@ pub fn act<L: Ledger>(
     Ok(guard)
 }
 
-/// Does an action that is permitted.
+/// Does an action, which must be permitted.
 fn act_now<L: Ledger>(
     core: &mut Core,
     action: Action,
@@ -69,7 +70,7 @@ fn act_now<L: Ledger>(
     }
 }
 
-/// What a turn tells of the outcomes.
+/// What a turn tells about the outcomes.
 fn guard_of(timing: Timing) -> Guard
     ensures { result ≡ guard_by timing }
 {

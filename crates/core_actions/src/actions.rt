@@ -1,46 +1,47 @@
-//! The single actions of a core, and why one is not permitted.
+//! The single actions of a core, and why an action is not permitted.
 use event_graph::Place;
 use flow_word::OutOfMemory;
 use thiserror::Error;
 
-/// One action of a core, at the module of this number.
+/// An action of a core, at the module with this number.
 #[derive(Clone, Copy, Debug, PartialEq, Eq)]
 pub enum Action {
     /// Commits the replies to the module's newest step, and emits its next mark.
     Run(u32),
-    /// Gives the module's first step without a cycle its cycle.
+    /// Gives the module's first step without a cycle a cycle.
     Assign(u32),
-    /// Answers the queries of that step, each of which is decided.
+    /// Answers the queries of the module's first step without a cycle. Each of them is decided.
     Answer(u32),
-    /// Answers them where some are undecided, which count as not possible.
+    /// Answers the queries of the module's first step without a cycle, where some are undecided: these count as not possible.
     Earliest(u32),
 }
 
 /// The first condition of an action that fails.
 ///
-/// A `Place` is a module's step: of a Run its newest one, and else its first one without a cycle. The number beside it
+/// A `Place` is a step of the action's module: the newest one for a Run, else the first one without a cycle. The number beside it
+/// is that of an access of the step, counted from 0.
 /// is that of an access of the step.
 #[derive(Clone, Copy, Debug, PartialEq, Eq)]
 pub enum Cause {
     /// The reply to this access is not there.
     Waiting(Place, u32),
-    /// The module's run has ended or is spent.
+    /// The module is ended or spent.
     Over(u32),
-    /// Every emitted step of the module has its cycle.
+    /// Every emitted step of the module has a cycle.
     NoStep(u32),
-    /// The step's cycle is not determined: this access blocks it.
+    /// The step's cycle is not determined: it is not known from which clock on this access is possible.
     Undetermined(Place, u32),
     /// The step's cycle is at the limit or later.
     AtLimit(Place),
-    /// For Assign: this query has no verified outcome. For Answer: it is undecided.
+    /// For Assign: this query has no verified outcome. For Answer: this query is undecided.
     Unsettled(Place, u32),
     /// The step has no query without a verified outcome.
     NoQuery(Place),
     /// For Earliest: each query of the step is decided.
     Decided(Place),
-    /// For Earliest: a Run, an Assign or an Answer of this module is permitted.
+    /// For Earliest: a Run, an Assign or an Answer of this module is permitted, so that no Earliest is.
     Busy(u32),
-    /// For Earliest: the open step of this module has this cycle, in clocks, which is less.
+    /// For Earliest: this other module has an open step with a lesser cycle, which is told in clocks.
     Later(u32, u64),
 }
 
@@ -50,7 +51,7 @@ pub enum ActFault {
     /// The action is not permitted: this is the first of its conditions that fails.
     #[error("the action is not permitted")]
     NotPermitted(Cause),
-    /// There was no memory.
+    /// A request for memory was refused.
     #[error("out of memory")]
     OutOfMemory,
 }

@@ -1,4 +1,4 @@
-//! The actions of a core by name: which is permitted, or else the first of its conditions that fails, and each done by itself.
+//! The actions of a core by name: which are permitted, or else the first condition that fails; and each one done by itself.
 #![tactic(auto)]
 
 mod acting;

@@ -23,10 +23,10 @@ use run_ahead::first_missing;
 use sim_core::Core;
 use time_engine::candidate;
 
-/// Whether an action at a module of the plan is permitted, or else the first of its conditions that fails. A Run stays
+/// Whether an action at a module of the plan is permitted. The error is the first of its conditions that fails. A Run stays
 /// permitted while the module's run is lent.
 ///
-/// It takes no memory. An Earliest looks at all modules, and each other action at one step alone.
+/// It takes no memory. An Earliest looks at all modules, and any other action at one step alone.
 pub fn permits(core: &Core, action: Action) -> Result<(), Cause>
     requires { module_of action < length core.now.plan.design.modules }
     ensures permitted { OnOk result (IsPermitted (design core.now.plan) core.now.plan.cycles (theory_of core.now) action) }
@@ -35,12 +35,12 @@ pub fn permits(core: &Core, action: Action) -> Result<(), Cause>
     ensures cause { IfErr result (λ cause.
         cause_of (design core.now.plan) core.now.plan.cycles (theory_of core.now) action ≡ Some cause) }
 {
-    // The core agrees with its plan.
+    // This brings in what a core always keeps: it agrees with its plan.
     let _count = core.modules();
     try_conditions(core, action)
 }
 
-/// Tries the conditions of an action in order.
+/// Tests the conditions of an action in order. The error is the first one that fails.
 fn try_conditions(core: &Core, action: Action) -> Result<(), Cause>
     requires { module_of action < length core.now.plan.design.modules }
     ensures { result_err result ≡ cause_of (design core.now.plan) core.now.plan.cycles (theory_of core.now) action }
@@ -53,7 +53,7 @@ fn try_conditions(core: &Core, action: Action) -> Result<(), Cause>
     }
 }
 
-/// Whether a Run is permitted.
+/// Whether a Run of a module is permitted. The error is the first condition that fails.
 fn permits_run(core: &Core, owner: u32) -> Result<(), Cause>
     requires { owner < length core.now.plan.design.modules }
     ensures { result_err result ≡ cause_of (design core.now.plan) core.now.plan.cycles (theory_of core.now) (Action.Run owner) }
@@ -67,7 +67,7 @@ fn permits_run(core: &Core, owner: u32) -> Result<(), Cause>
     Ok(())
 }
 
-/// Whether an Assign is permitted.
+/// Whether an Assign of a module is permitted. The error is the first condition that fails.
 fn permits_assign(core: &Core, owner: u32) -> Result<(), Cause>
     requires { owner < length core.now.plan.design.modules }
     ensures { result_err result ≡ cause_of (design core.now.plan) core.now.plan.cycles (theory_of core.now) (Action.Assign owner) }
@@ -79,7 +79,7 @@ fn permits_assign(core: &Core, owner: u32) -> Result<(), Cause>
     }
 }
 
-/// Whether an Answer is permitted.
+/// Whether an Answer of a module is permitted. The error is the first condition that fails.
 fn permits_answer(core: &Core, owner: u32) -> Result<(), Cause>
     requires { owner < length core.now.plan.design.modules }
     ensures { result_err result ≡ cause_of (design core.now.plan) core.now.plan.cycles (theory_of core.now) (Action.Answer owner) }
@@ -94,7 +94,7 @@ fn permits_answer(core: &Core, owner: u32) -> Result<(), Cause>
     }
 }
 
-/// Whether an Earliest is permitted.
+/// Whether an Earliest of a module is permitted. The error is the first condition that fails.
 fn permits_earliest(core: &Core, owner: u32) -> Result<(), Cause>
     requires { owner < length core.now.plan.design.modules }
     ensures { result_err result ≡ cause_of (design core.now.plan) core.now.plan.cycles (theory_of core.now) (Action.Earliest owner) }
@@ -109,8 +109,8 @@ fn permits_earliest(core: &Core, owner: u32) -> Result<(), Cause>
     }
 }
 
-/// The cycle of a module's open step: the first one without a cycle, where its cycle is determined, below the limit, and it
-/// has queries without a verified outcome, some of them undecided.
+/// The cycle of a module's open step: its first step without a cycle, if that is determined, below the limit, and some of its
+/// queries have no verified outcome and some are undecided. The error is the first of these conditions that fails.
 fn open_cycle(core: &Core, owner: u32) -> Result<u64, Cause>
     requires { owner < length core.now.plan.design.modules }
     ensures at { IfOk result (λ cycle. candidate_of (design core.now.plan) (view (design core.now.plan) (theory_of core.now)) owner
@@ -127,7 +127,8 @@ fn open_cycle(core: &Core, owner: u32) -> Result<u64, Cause>
     Ok(cycle)
 }
 
-/// The cycle of a module's first step without one, where it is determined and below the limit.
+/// The cycle of a module's first step without one, if it is determined and below the limit. The error is the first condition that
+/// fails.
 pub(crate) fn next_cycle(core: &Core, owner: u32) -> Result<u64, Cause>
     requires { owner < length core.now.plan.design.modules }
     ensures determined { IfOk result (λ cycle.
@@ -154,7 +155,7 @@ fn first_place(core: &Core, owner: u32) -> Place
     }
 }
 
-/// The cause that a reply to a module's newest step is not there, where one is not.
+/// The cause that a reply to a module's newest step is not there. `None` where all are there.
 fn waiting(core: &Core, owner: u32) -> Option<Cause>
     requires { owner < length core.now.plan.design.modules }
     ensures { result ≡ waiting (design core.now.plan) (theory_of core.now) owner (emitted_of core.now.held owner) }
@@ -179,7 +180,7 @@ fn waiting(core: &Core, owner: u32) -> Option<Cause>
     }
 }
 
-/// The first query of a module's first step without a cycle, where the step's outcomes are not verified.
+/// The number of the first query in a module's first step without a cycle. `None` where the step's outcomes are verified.
 fn first_unverified(core: &Core, owner: u32) -> Option<u32>
     requires owner { owner < length core.now.plan.design.modules }
     requires there { first_of core.now.held owner < emitted_of core.now.held owner }
@@ -195,7 +196,7 @@ fn first_unverified(core: &Core, owner: u32) -> Option<u32>
     query_in(step.accesses.as_slice())
 }
 
-/// The first undecided query of a module's first step without a cycle.
+/// The number of the first undecided query in a module's first step without a cycle. `None` where each is decided.
 fn first_undecided(core: &Core, owner: u32) -> Option<u32>
     requires owner { owner < length core.now.plan.design.modules }
     requires there { first_of core.now.held owner < emitted_of core.now.held owner }
@@ -208,7 +209,7 @@ fn first_undecided(core: &Core, owner: u32) -> Option<u32>
     undecided_in(&engine.graph, &engine.fifos, step.accesses.as_slice())
 }
 
-/// The first module of which a Run, an Assign or an Answer is permitted.
+/// The first module for which a Run, an Assign or an Answer is permitted. `None` where there is none.
 fn first_busy(core: &Core) -> Option<u32>
     ensures { result ≡ first_module (design core.now.plan) (busy_by (design core.now.plan) core.now.plan.cycles (theory_of core.now)) }
 {
@@ -225,7 +226,7 @@ fn is_busy(core: &Core, owner: u32) -> bool
     requires { owner < length core.now.plan.design.modules }
     ensures { result ≡ busy_by (design core.now.plan) core.now.plan.cycles (theory_of core.now) owner }
 {
-    // The core agrees with its plan.
+    // This brings in what a core always keeps: it agrees with its plan.
     let _count = core.modules();
     let runs = permits_run(core, owner).is_ok();
     let assigns = permits_assign(core, owner).is_ok();
@@ -233,7 +234,7 @@ fn is_busy(core: &Core, owner: u32) -> bool
     runs | assigns | answers
 }
 
-/// The cause that another module has an open step before this cycle, which is that of a module's own, where one has.
+/// The cause that another module has an open step with a lesser cycle than this one, the module's own. `None` where no module has.
 fn later(core: &Core, owner: u32, cycle: u64) -> Option<Cause>
     requires { candidate_of (design core.now.plan) (view (design core.now.plan) (theory_of core.now)) owner ≡ Some cycle }
     ensures { result ≡ later_cause (design core.now.plan) core.now.plan.cycles (theory_of core.now) owner }
@@ -246,7 +247,7 @@ fn later(core: &Core, owner: u32, cycle: u64) -> Option<Cause>
     None
 }
 
-/// The cycle of a module's open step, where it comes before this one.
+/// The cycle of a module's open step, if it is less than this one.
 fn open_before(core: &Core, owner: u32, cycle: u64) -> Option<u64>
     requires { owner < length core.now.plan.design.modules }
     ensures at { IfSome result (λ earlier. candidate_of (design core.now.plan) (view (design core.now.plan) (theory_of core.now)) owner

@@ -1,4 +1,4 @@
-//! The first access of a step that is not as an action wants it.
+//! The first access of a step that keeps an action from being permitted.
 ghost use Rattle.std.specs.Prelude.{◌≡◌, ◌<◌, ◌^◌, All, length, position, IfSome};
 ghost use Rattle.time_engine.specs.Conditions.{HasPlaces, IsAccess};
 ghost use Rattle.core_actions.specs.Missing.{asks, is_open_query};
@@ -7,7 +7,7 @@ use event_graph::{Access, Graph};
 use fifo_table::FifoTable;
 use query_resolve::{Decision, decide};
 
-/// The first query among the accesses.
+/// The number of the first query among these accesses.
 pub(crate) fn query_in(accesses: &[Access]) -> Option<u32>
     requires { length accesses.now < 2 ^ 32 }
     ensures { result ≡ position asks accesses.now }
@@ -28,7 +28,7 @@ fn is_query(access: &Access) -> bool
     !access.kind.is_blocking()
 }
 
-/// The first undecided query among the accesses.
+/// The number of the first undecided query among these accesses.
 pub(crate) fn undecided_in(graph: &Graph, fifos: &FifoTable, accesses: &[Access]) -> Option<u32>
     requires inside { All (IsAccess fifos.now.channels) accesses.now }
     requires places { HasPlaces graph.now.lanes fifos.now.channels }
@@ -48,7 +48,7 @@ fn undecided_at(graph: &Graph, fifos: &FifoTable, accesses: &[Access]) -> Option
         .position(|access| is_undecided(graph, fifos, access))
 }
 
-/// Whether the access is a query that is undecided, in whatever clock.
+/// Whether an access is an undecided query: it is not known from when on it is possible, nor that it never is.
 fn is_undecided(graph: &Graph, fifos: &FifoTable, access: &Access) -> bool
     requires access { IsAccess fifos.now.channels access.now }
     requires places { HasPlaces graph.now.lanes fifos.now.channels }
@@ -57,7 +57,7 @@ fn is_undecided(graph: &Graph, fifos: &FifoTable, access: &Access) -> bool
     is_query(access) && matches!(decide(graph, fifos, access, 0), Decision::Undecided)
 }
 
-/// The number of the access that was found.
+/// The place that was found, as the number of an access.
 pub(crate) fn number_of(index: Option<usize>) -> Option<u32>
     requires { IfSome index (λ i. i < 2 ^ 32) }
     ensures { result ≡ index }

@@ -13,32 +13,32 @@ use Rattle.engine_view.specs.Held.{Held, step_of}
 use Rattle.engine_view.specs.Turns.{first_of}
 use Rattle.cycle_changes.specs.Looks.{IsLooked, cycle_held}
 
--- the access stands at this side of the channel
+-- the access is at this side of the channel
 abbrev pub StandsAt : Side → ℕ → Access → Type 0
 StandsAt side channel a = (side_of a.kind ≡ side) × (a.channel ≡ channel)
 
--- an access of the step does
+-- the step has an access at this side of the channel
 abbrev pub StandsSomewhere : Side → ℕ → Step → Type 0
 StandsSomewhere side channel step = Any (StandsAt side channel) step.accesses
 
--- and has this ordinal
+-- the step has an access at this side of the channel with this ordinal
 abbrev pub StandsAs : Side → ℕ → ℕ → Step → Type 0
 StandsAs side channel ordinal step = Any (λ a. StandsAt side channel a × (a.ordinal ≡ ordinal)) step.accesses
 
--- and waits for the step at the place
+-- the step has an access at this side of the channel that waits for the step at the place
 abbrev pub WaitsAt : List Channel → Side → ℕ → Place → Step → Type 0
 WaitsAt channels side channel at step = Any (λ a. StandsAt side channel a × (enabler_at channels a ≡ Event at)) step.accesses
 
--- an access of the step, at whatever channel, waits for the step at the place
+-- the step has an access, at any channel, that waits for the step at the place
 abbrev pub WaitsFor : List Channel → Step → Place → Type 0
 WaitsFor channels step at = Any (λ a. enabler_at channels a ≡ Event at) step.accesses
 
--- a look finds each step with a cycle right of which this holds
+-- a look finds each step with a cycle right for which P holds
 abbrev pub AreLooked : Held → (Step → Type 0) → Type 0
 AreLooked h P = (m k : ℕ) → k < first_of h m → P (step_of h m k) → IsLooked h m k
 
--- the step at the place is below the limit; a look finds it right, and so it does the next one of its module, and each step that waits
--- for it
+-- the step's cycle is below the limit, and a look finds right the step itself, the next step of its module, and each step that
+-- waits for it
 pub record IsLookedAround (h : Held) (limit : ℕ) (at : Place) : Type 0 where
   pub below : cycle_held h at.module at.step < limit
   pub own : IsLooked h at.module at.step

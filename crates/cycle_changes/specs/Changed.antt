@@ -22,14 +22,14 @@ use Rattle.cycle_changes.specs.OtherCycles.{HasOtherCycles}
 use Rattle.cycle_changes.specs.Around.{IsLookedAround, AreLate}
 use Rattle.cycle_changes.specs.Seeds.{AreSeeds}
 
--- of each design of which the one is a right record, the other is a right record of the design with the new depth
+-- for each design of which s is a right record, t is a right record of the design with the new depth
 abbrev pub StaysRight : Edit → ℕ → Engine → Engine → Type 0
 StaysRight edit limit s t =
     OfEach s (λ d over. IsRightRecord d limit (core_of d (held_in s over))
     → IsRightRecord (edited d edit.channel edit.depth) limit (core_of (edited d edit.channel edit.depth) (held_in t over))
     × IsKept (edited d edit.channel edit.depth) (held_in t over))
 
--- so it is, and but for the depth and for cycles all is as it was, with the room that the credits promise
+-- t stays right after s, differs from s only in the depth and in cycles, and has the room that the credits promise
 pub record HasChanged (edit : Edit) (limit : ℕ) (s t : Engine) : Type 0 where
   pub right : StaysRight edit limit s t
   pub core : IsSomeCore t
@@ -39,8 +39,8 @@ pub record HasChanged (edit : Edit) (limit : ℕ) (s t : Engine) : Type 0 where
   pub kinds : kinds_in t.fifos.channels ≡ kinds_in (with_depth s.fifos.channels edit.channel edit.depth)
   pub log : t.log ≡ s.log
 
--- what a check of other cycles finds. The steps in which the new depth is felt, by the cycles that stood, are among the seeds, and each of
--- these is right now; each step with another cycle is among the puts, and what it can reach is right; nothing else is determined
+-- what a check of new cycles finds: each step in which the new depth is felt, by the old cycles, is a seed, and each seed is right
+-- now; each step with another cycle is a put, and what it can reach is right; no further step is determined below the limit
 pub record AreRightChanges (s t : Engine) (edit : Edit) (limit : ℕ) (seeds puts : List Place) : Type 0 where
   pub other : HasOtherCycles (held_in s []) (held_in t []) edit
   pub felt : AreSeeds (held s.graph.lanes (with_depth s.fifos.channels edit.channel edit.depth) s.log.logs []) edit.channel seeds
@@ -49,7 +49,7 @@ pub record AreRightChanges (s t : Engine) (edit : Edit) (limit : ℕ) (seeds put
   pub around : All (IsLookedAround (held_in t []) limit) puts
   pub late : AreLate (held_in t []) limit
 
--- the other has all the room of the one, and its credits
+-- engine t has the credits of engine s, and no less room
 pub record LosesNoRoom (s t : Engine) : Type 0 where
   pub lanes : (k : ℕ) → slice_index s.graph.rooms k ≤ slice_index t.graph.rooms k
   pub fifos : (side : Side) (c : ℕ) → room_of s.fifos side c ≤ room_of t.fifos side c

@@ -1,4 +1,4 @@
--- What is found right of cycles that were put.
+-- What is found to be right after cycles were put.
 use Rattle.std.specs.Prelude.{ℕ, List, [], map, All}
 use Rattle.flow_word.specs.declared.access.Place.{Place}
 use Rattle.engine_view.specs.declared.engine.Engine.{Engine}
@@ -12,13 +12,14 @@ use Rattle.cycle_changes.specs.Seeds.{AreSeeds}
 abbrev pub places_in : List Put → List Place
 places_in puts = map (λ p. p.place) puts
 
--- the seeds are right, and so is what the puts can reach; nothing else is determined
+-- the seeds are right, and so is what the puts can reach; no further step is determined below the limit
 pub record AreFoundRight (t : Engine) (limit : ℕ) (seeds puts : List Place) : Type 0 where
   pub looked : All (λ p. IsLooked (held_in t []) p.module p.step) seeds
   pub around : All (IsLookedAround (held_in t []) limit) puts
   pub late : AreLate (held_in t []) limit
 
--- and the steps that feel the depth that stands, by the cycles of before, are among the seeds
+-- the seeds have each step in which the present depth is felt, by the cycles before the puts; and the check finds seeds and puts
+-- right
 pub record IsFoundRight (s t : Engine) (channel limit : ℕ) (seeds puts : List Place) : Type 0 where
   pub felt : AreSeeds (held_in s []) channel seeds
   pub now : AreFoundRight t limit seeds puts

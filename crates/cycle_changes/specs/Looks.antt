@@ -1,27 +1,27 @@
--- A look at a step that has a cycle: what its neighbours tell of it.
+-- A look at a step that has a cycle: what its neighbours determine.
 use Rattle.std.specs.Prelude.{◌≡◌, ℕ, zero, suc, ◌+◌, ◌∷◌, position, slice_index_or, Option, Some}
 use Rattle.event_graph.specs.Lanes.{Lane, lane_at}
 use Rattle.time_engine.specs.Cycles.{is_waiting, clocks_of, latest, cycle_unless}
 use Rattle.engine_view.specs.Held.{Held, step_of, flags_of}
 use Rattle.engine_view.specs.Known.{found_flags}
 
--- the cycle of the step before, and 0 before the first
+-- the cycle of the step before step k of a lane, or 0 for the first step
 abbrev pub cycle_before : Lane → ℕ → ℕ
 cycle_before lane zero = 0
 cycle_before lane (suc k) = slice_index_or lane.cycles k 0
 
--- the cycle that the step is to have, by those of its neighbours: none where a blocking access waits for a step without a cycle, and else
--- the latest of the clock in which the module comes to it and of those from which its blocking accesses are possible
+-- the cycle that module m's step k must have, by those of its neighbours: the latest of the clock in which the module comes to it
+-- and of those from which on its blocking accesses are possible; none where one of these waits for a step without a cycle
 abbrev pub looked : Held → ℕ → ℕ → Option ℕ
 looked h m k =
     cycle_unless (position (is_waiting h.lanes h.channels) (step_of h m k).accesses)
     (latest ((cycle_before (lane_at h.lanes m) k + (step_of h m k).gap) ∷ clocks_of h.lanes h.channels (step_of h m k).accesses))
 
--- the cycle that is held
+-- the cycle that module m's step k has
 abbrev pub cycle_held : Held → ℕ → ℕ → ℕ
 cycle_held h m k = slice_index_or (lane_at h.lanes m).cycles k 0
 
--- the one is the other, and in it the outcomes are found that are recorded
+-- a look finds module m's step k right: its cycle is the one that it must have, and in it the recorded outcomes are found
 pub record IsLooked (h : Held) (m k : ℕ) : Type 0 where
   pub cycle : looked h m k ≡ Some (cycle_held h m k)
   pub outcomes : found_flags h.lanes h.channels (cycle_held h m k) (step_of h m k).accesses ≡ flags_of h m k

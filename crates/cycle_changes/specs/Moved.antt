@@ -1,15 +1,15 @@
--- How many steps have another cycle.
+-- How many steps have got another cycle.
 use Rattle.std.specs.Prelude.{ℕ, suc, ◌+◌, List, [], ◌∷◌, length, nat_eq, if◌then◌else◌}
 use Rattle.event_graph.specs.Lanes.{Lane}
 use Rattle.retime.specs.Rounds.{cycles_in}
 
--- of how many numbers the cycles of one lane differ from those of another; a step with a cycle in one of them alone counts too
+-- for how many steps two lanes have different cycles; a step with a cycle in only one of them counts too
 abbrev pub others_in : List ℕ → List ℕ → ℕ
 others_in [] new = length new
 others_in (c ∷ old) [] = suc (length old)
 others_in (c ∷ old) (e ∷ new) = (if nat_eq c e then 0 else 1) + others_in old new
 
--- how many steps have another cycle in the one lanes than in the others
+-- for how many steps two lists of lanes have different cycles
 abbrev pub moved_in : List Lane → List Lane → ℕ
 moved_in [] new = cycles_in new
 moved_in (l ∷ old) [] = cycles_in (l ∷ old)

@@ -1,11 +1,11 @@
--- What is held with another depth of a FIFO and other cycles.
+-- What is held with another depth of a FIFO and with other cycles.
 use Rattle.std.specs.Prelude.{◌≡◌, ℕ, length, All}
 use Rattle.flow_design.specs.declared.plan.Edit.{Edit}
 use Rattle.event_graph.specs.Lanes.{IsSoundLane, lane_at}
 use Rattle.fifo_table.specs.Channels.{with_depth}
 use Rattle.engine_view.specs.Held.{Held}
 
--- the depth of the FIFO is another, and so may be the cycles of the steps that have one; all else is as it was
+-- g is h with another depth of the FIFO, and perhaps with other cycles of the steps that have one; all else is as it was
 pub record HasOtherCycles (h g : Held) (e : Edit) : Type 0 where
   pub lanes : length g.lanes ≡ length h.lanes
   pub steps : (m : ℕ) → (lane_at g.lanes m).steps ≡ (lane_at h.lanes m).steps

@@ -8,7 +8,7 @@ use Rattle.engine_view.specs.Turns.{first_of}
 use Rattle.cycle_changes.specs.Looks.{IsLooked}
 use Rattle.cycle_changes.specs.Around.{StandsSomewhere}
 
--- of the steps that stand at the FIFO's pushing side, those in which a look finds the depth felt are among these places
+-- these places have each step at the FIFO's pushing side in which a look finds the depth felt
 abbrev pub AreSeeds : Held → ℕ → List Place → Type 0
 AreSeeds h fifo seeds =
     (m k : ℕ) → k < first_of h m → StandsSomewhere Push fifo (step_of h m k) → IsLooked h m k ⊎ Contains seeds (place_of m k)

@@ -22,18 +22,19 @@ use flow_word::Steps;
 use std::marker::Brand;
 use std::sync::ledger::{Blank, Ledger};
 
-/// A search visits one in so many steps from the first touched clock on, at most: a visit costs several times what a retiming
-/// takes to give a step its cycle.
+/// The part of the steps that a search may visit: of those from the first touched clock on, one in so many. A visit takes several
+/// times as long as giving a step its cycle in a retiming.
 const SEARCHED_PART: u64 = 16;
 
-/// How many steps a search may visit in any case.
+/// How many steps a search may visit beside that part.
 const SEARCHED_ALWAYS: u64 = 64;
 
-/// Sets a FIFO's depth and gives those steps new cycles whose cycles change, where these are found, and are found right.
+/// Sets a FIFO's depth, and gives new cycles to those steps alone whose cycles change. It ticks once for each step that gets
+/// another cycle.
 ///
-/// It ticks once for each step whose cycle is another then. False where they are not: where a query would have another
-/// outcome, a step would have no cycle below the limit, the search would visit more than a small part of the steps from this
-/// clock on, or memory is wanting. Then all is as it was.
+/// False, with all as it was, where no new cycles are found, or they are not found right: a query would have another outcome, a
+/// step would have no cycle below the limit, the search would visit more than a small part of the steps from clock `from` on, or
+/// memory runs out.
 pub fn retime_changes<L: Ledger>(
     engine: &mut Engine,
     changes: &mut Changes,
@@ -61,8 +62,8 @@ pub fn retime_changes<L: Ledger>(
     }
 }
 
-/// The same with a counter of its own, so that what is undone doesn't count: how many ticks there were where the new cycles
-/// stay, and None where all is as it was.
+/// Does the work of `retime_changes` with a counter of its own, so that puts that are undone do not count. It answers how many
+/// ticks there were, or `None` where all is as it was.
 fn try_changes<L: Ledger>(
     engine: &mut Engine,
     changes: &mut Changes,
@@ -93,7 +94,7 @@ fn try_changes<L: Ledger>(
     None
 }
 
-/// How many steps a counter counted, one for each of the puts.
+/// How many steps a counter has counted: one for each of the puts.
 fn count_of<L: Ledger>(tried: &Steps<L>, puts: &[Put]) -> u64
     requires { tried.now ≡ length puts.now }
     ensures { result ≡ tried.now }
@@ -101,8 +102,8 @@ fn count_of<L: Ledger>(tried: &Steps<L>, puts: &[Put]) -> u64
     puts.len() as u64
 }
 
-/// Searches for the cycles that change with the depth that stands, puts them, with a tick for each, and checks them. The puts
-/// stand in the list, also where it is false.
+/// Searches for the cycles that change with the FIFO's present depth, puts them, with a tick for each, and checks them. Where it
+/// answers false, the list of puts still has all of them.
 fn change<L: Ledger>(
     engine: &mut Engine,
     changes: &mut Changes,
@@ -143,7 +144,8 @@ fn change<L: Ledger>(
     )
 }
 
-/// Searches for the cycles that change, and puts them, with a tick for each. False where that does not come to its end.
+/// Searches for the cycles that change, and puts them, with a tick for each. False where the search or the puts do not come to
+/// their end.
 fn put_found<L: Ledger>(
     engine: &mut Engine,
     changes: &mut Changes,
@@ -172,7 +174,7 @@ fn put_found<L: Ledger>(
     put_moved(&mut engine.graph, &search.draft, moved, puts, steps)
 }
 
-/// Whether the seeds are right and all that the puts can reach, and nothing else is determined.
+/// Whether the seeds are right, and all that the puts can reach, and no further step is determined below the limit.
 fn are_found_right(engine: &Engine, seeds: &[Place], puts: &[Put], limit: u64) -> bool
     requires limit { limit ≤ cycle_bound }
     requires core { IsSomeCore engine.now }
@@ -189,7 +191,7 @@ fn are_found_right(engine: &Engine, seeds: &[Place], puts: &[Put], limit: u64) -
     are_late(engine, limit)
 }
 
-/// Ticks so many times.
+/// Ticks `count` times.
 fn tick_each<L: Ledger>(count: u64, steps: &mut Steps<L>)
     ensures { steps.new ≡ steps.old + count }
 {
@@ -198,7 +200,7 @@ fn tick_each<L: Ledger>(count: u64, steps: &mut Steps<L>)
     }
 }
 
-/// How many of the steps have no cycle below this one: so many cycles may be given anew.
+/// How many steps have no cycle below the given one: a retiming from there gives at most so many cycles.
 fn count_left(graph: &Graph, from: u64) -> u64
     ensures { result + cycles_in (map (timed_below from) graph.now.lanes) ≤ steps_in graph.now.lanes }
 {
@@ -209,7 +211,7 @@ fn count_left(graph: &Graph, from: u64) -> u64
     left
 }
 
-/// How many of a module's steps have no cycle below this one.
+/// How many of a module's steps have no cycle below the given one.
 fn left_of(graph: &Graph, owner: u32, from: u64) -> u64
     requires { owner < length graph.now.lanes }
     ensures { result + length (timed_below from (lane_at graph.now.lanes owner)).cycles ≡ length (lane_at graph.now.lanes owner).steps }

@@ -1,4 +1,4 @@
-//! What an edit works with where few cycles change.
+//! The lists that an edit works with where few cycles change.
 
 use crate::search::Search;
 use event_graph::Place;
@@ -11,13 +11,13 @@ pub struct Put {
     pub old: u64,
 }
 
-/// The lists that an edit fills where few cycles change. They are kept from one edit to the next, so that an edit seldom
-/// takes memory.
+/// The lists that an edit fills where few cycles change. They are kept from one edit to the next, so that an edit seldom asks for
+/// memory.
 pub struct Changes {
     pub(crate) search: Search,
-    /// The steps that feel the new depth.
+    /// The steps in which the new depth is felt.
     pub(crate) seeds: Vec<Place>,
-    /// The cycles that were put into the graph, in order.
+    /// The cycles that were put into the graph, in the order of the puts.
     pub(crate) puts: Vec<Put>,
 }
 
@@ -32,7 +32,7 @@ impl Drop for Changes {
 }
 
 impl Changes {
-    /// Nothing yet, which takes no memory.
+    /// Empty lists. They take no memory.
     pub fn new(alloc: Global) -> Changes {
         Changes {
             search: Search::new(alloc),

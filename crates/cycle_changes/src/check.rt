@@ -13,10 +13,11 @@ use engine_view::Engine;
 use event_graph::{Candidate, Graph, Place};
 use time_engine::candidate;
 
-/// Whether all that a change of a step's cycle can reach is right: the step, below the limit, the next one of its module,
-/// and each step that waits for it.
+/// Whether all that a change of a step's cycle can reach is right: the step itself, which must be below the limit, the next step of
+/// its module, and each step that waits for it.
 ///
-/// False too where there is no such step with a cycle, or where nobody ever took at the other side of a FIFO at which the
+/// It is also false where there is no such step with a cycle, or where the step takes at a FIFO at whose other side no step takes.
+/// It takes no memory.
 /// step takes. It takes no memory.
 pub fn is_right_around(engine: &Engine, at: Place, limit: u64) -> bool
     requires core { IsSomeCore engine.now }
@@ -37,7 +38,7 @@ pub fn is_right_around(engine: &Engine, at: Place, limit: u64) -> bool
     are_waiting_right(engine, at)
 }
 
-/// Whether each of these is a step with a cycle that is right.
+/// Whether each of these places has a step with a cycle, and that step is right.
 pub fn are_right(engine: &Engine, places: &[Place]) -> bool
     requires core { IsSomeCore engine.now }
     ensures { result ≡ true → All (λ p. IsLooked (held_in engine.now []) p.module p.step) places.now }
@@ -50,7 +51,7 @@ pub fn are_right(engine: &Engine, places: &[Place]) -> bool
     true
 }
 
-/// Whether there is a step with a cycle at the place, which is right.
+/// Whether the place has a step with a cycle, and that step is right.
 fn is_right(engine: &Engine, at: Place) -> bool
     requires core { IsSomeCore engine.now }
     ensures { result ≡ true → IsLooked (held_in engine.now []) at.module at.step }
@@ -75,7 +76,7 @@ pub fn are_late(engine: &Engine, limit: u64) -> bool
     true
 }
 
-/// Whether the step's cycle is below the limit.
+/// Whether a step's cycle is below the limit.
 fn is_below(graph: &Graph, at: Place, limit: u64) -> bool
     requires there { HasStep graph.now.lanes at }
     requires timed { at.step < length (lane_at graph.now.lanes at.module).cycles }
@@ -87,7 +88,7 @@ fn is_below(graph: &Graph, at: Place, limit: u64) -> bool
     }
 }
 
-/// Whether the step after this one in its module is right, where it has a cycle.
+/// Whether the next step of the module after this one is right, if it has a cycle.
 fn is_next_right(engine: &Engine, at: Place) -> bool
     requires there { HasStep engine.now.graph.lanes at }
     requires timed { at.step < length (lane_at engine.now.graph.lanes at.module).cycles }

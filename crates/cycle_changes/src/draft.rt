@@ -6,7 +6,7 @@ use event_graph::{Graph, Place};
 use flow_word::OutOfMemory;
 use std::alloc::Global;
 
-/// A list of cycles for each module. While it is not fresh it says nothing of a graph.
+/// A list of cycles for each module. Unless it is fresh, it says nothing about a graph.
 #[derive(Drop)]
 pub struct Draft {
     alloc: Global,
@@ -15,7 +15,7 @@ pub struct Draft {
 }
 
 impl Draft {
-    /// No lane yet.
+    /// A draft without a lane.
     pub fn new(alloc: Global) -> Draft {
         Draft {
             alloc,
@@ -24,7 +24,7 @@ impl Draft {
         }
     }
 
-    /// The cycle of the step at a place, where the draft has one.
+    /// The draft's cycle of the step at a place. `None` where it has none.
     pub fn cycle(&self, place: Place) -> Option<u64>
         ensures { result ≡ drafted self.now place }
     {
@@ -32,7 +32,7 @@ impl Draft {
         lane.get(place.step as usize).copied()
     }
 
-    /// The cycle of the step before the one at a place, and 0 before a module's first.
+    /// The draft's cycle of the step before the one at a place, or 0 for a module's first step. `None` where the draft has none.
     pub fn cycle_before(&self, place: Place) -> Option<u64> {
         match place.step.checked_sub(1) {
             Some(step) => self.cycle(Place {
@@ -43,7 +43,7 @@ impl Draft {
         }
     }
 
-    /// Gives the step at a place another cycle, where it has one.
+    /// Gives the step at a place another cycle, if the draft has one for it.
     pub fn set(&mut self, place: Place, cycle: u64) {
         if let Some(lane) = self.lanes.get_mut(place.module as usize)
             && let Some(there) = lane.get_mut(place.step as usize)
@@ -52,7 +52,7 @@ impl Draft {
         }
     }
 
-    /// Takes the graph's cycles, unless it has them.
+    /// Copies the graph's cycles, unless the draft is fresh and has as many.
     pub fn refresh(&mut self, graph: &Graph) -> Result<(), OutOfMemory> {
         if self.fresh && self.fits(graph) {
             return Ok(());
@@ -67,12 +67,12 @@ impl Draft {
         Ok(())
     }
 
-    /// Says that the graph has got other cycles.
+    /// Tells the draft that the graph got other cycles: it is no longer fresh.
     pub fn leave(&mut self) {
         self.fresh = false;
     }
 
-    /// Whether the draft has as many cycles of each module as the graph.
+    /// Whether the draft has as many cycles for each module as the graph.
     fn fits(&self, graph: &Graph) -> bool {
         if self.lanes.len() != graph.modules() as usize {
             return false;

@@ -1,4 +1,4 @@
-//! The cycle that a step is to have, by a draft.
+//! The cycle that a step must have, by a draft.
 ghost use Rattle.std.specs.Prelude.{All};
 ghost use Rattle.time_engine.specs.Conditions.{IsAccess, HasAccesses};
 
@@ -7,8 +7,8 @@ use crate::timed::has_cycle;
 use event_graph::{Access, Graph, LaneAccesses, Place};
 use fifo_table::{Enabler, FifoTable};
 
-/// The latest of the clock in which the module comes to the step and of those from which its blocking accesses are
-/// possible, by the draft's cycles. None where there is no such step with a cycle, or an access waits.
+/// The cycle that a step must have, by the draft's cycles: the latest of the clock in which the module comes to it and of those
+/// from which on its blocking accesses are possible. `None` where there is no such step with a cycle, or an access waits.
 pub fn due_cycle(draft: &Draft, graph: &Graph, fifos: &FifoTable, at: Place) -> Option<u64>
     requires { HasAccesses graph.now.lanes fifos.now.channels }
 {
@@ -20,7 +20,8 @@ pub fn due_cycle(draft: &Draft, graph: &Graph, fifos: &FifoTable, at: Place) -> 
     latest(draft, fifos, &step.accesses, arrival)
 }
 
-/// The latest of a clock and of those from which the blocking ones of the accesses are possible. None where one waits.
+/// The latest of a clock and of those from which on the blocking ones among these accesses are possible. `None` where one of them
+/// waits.
 fn latest(draft: &Draft, fifos: &FifoTable, accesses: &LaneAccesses<'_>, clock: u64) -> Option<u64>
     requires { All (IsAccess fifos.now.channels) accesses.now }
 {
@@ -34,7 +35,7 @@ fn latest(draft: &Draft, fifos: &FifoTable, accesses: &LaneAccesses<'_>, clock: 
     Some(cycle)
 }
 
-/// The clock from which an access is possible. None where it waits.
+/// The clock from which on an access is possible. `None` where it waits.
 fn possible_from(draft: &Draft, fifos: &FifoTable, access: &Access) -> Option<u64>
     requires { IsAccess fifos.now.channels access.now }
 {

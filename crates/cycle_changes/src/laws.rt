@@ -10,7 +10,7 @@ ghost use Rattle.retime.specs.Cuts.{KeepsRoomEdited};
 ghost use Rattle.cycle_changes.specs.OtherCycles.{HasOtherCycles};
 ghost use Rattle.cycle_changes.specs.Changed.{AreRightChanges, StaysRight, LosesNoRoom};
 
-/// With a new depth and new cycles an engine is some core still, of the edited design, and the room that a credit promises is left.
+/// An engine with a new depth and new cycles is a core of the edited design, and has the room that the credits promise.
 pub fn changes_are_cores()
     ensures core { (s t : Engine) (e : Edit) → e.channel < length s.fifos.channels
         → IsFifo (channel_at s.fifos.channels e.channel).kind → HasOtherCycles (held_in s []) (held_in t []) e → LosesNoRoom s t
@@ -20,7 +20,7 @@ pub fn changes_are_cores()
         → KeepsRoomEdited e s t }
 {}
 
-/// New cycles that the check finds right make a right record of the edited design out of a right record.
+/// From a right record, new cycles that the check finds right make a right record of the edited design.
 pub fn changes_are_right()
     ensures { (s t : Engine) (e : Edit) (limit : ℕ) (seeds puts : List place) → e.channel < length s.fifos.channels
         → IsFifo (channel_at s.fifos.channels e.channel).kind → AreRightChanges s t e limit seeds puts → StaysRight e limit s t }

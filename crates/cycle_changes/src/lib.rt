@@ -1,7 +1,7 @@
 //! New cycles after a change of a FIFO's depth, where few of them change.
 //!
-//! They are searched for freely, on a draft. Then they are put into the graph, and it is checked that each step is right
-//! that is not as it was, or that feels the new depth. What the check refuses is undone.
+//! The search for them works on a draft, and nothing is proved of it. Its cycles are then put into the graph. A check finds each
+//! step right that is not as it was, or in which the new depth is felt. Where the check fails, the puts are undone.
 #![tactic(auto)]
 
 mod changed;

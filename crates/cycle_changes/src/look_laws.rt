@@ -15,13 +15,13 @@ ghost use Rattle.engine_view.specs.Shown.{IsSound};
 ghost use Rattle.cycle_changes.specs.Looks.{IsLooked, cycle_held};
 ghost use Rattle.cycle_changes.specs.OtherCycles.{HasOtherCycles};
 
-/// A step with a cycle is right exactly where a look at it, by the graph and the table, finds its cycle and its outcomes again.
+/// A step with a cycle is right exactly where a look at it, by the graph and the table, finds its cycle and its outcomes.
 pub fn looks_are_right<S>()
     ensures { (d : Design S) → IsDesign d → (h : Held) → IsSound d h → (m k : ℕ) → k < length (lane_at h.lanes m).cycles
         → IsLooked h m k ↔ IsRight d (core_of d h) m k }
 {}
 
-/// What is held with another depth of a FIFO and other cycles is the core with those cycles, kept for the edited design, and no room is
+/// What is held with another depth of a FIFO and other cycles is the core with these cycles, kept for the edited design. No room is
 /// lost.
 pub fn other_cycles_are_held<S>()
     ensures now { (d : Design S) (h : Held) → IsKept d h → (e : Edit) → e.channel < length h.channels

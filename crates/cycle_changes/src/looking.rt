@@ -15,8 +15,8 @@ use fifo_table::FifoTable;
 use outcome_guard::Guard;
 use time_engine::latest;
 
-/// Whether a step with a cycle is right: its cycle is the one that its neighbours tell, and in it each query has its
-/// recorded outcome. It takes no memory.
+/// Whether a step with a cycle is right: its cycle is the one that its neighbours determine, and in it each query has its recorded
+/// outcome. It takes no memory.
 pub fn look(engine: &Engine, at: Place) -> bool
     requires there { HasStep engine.now.graph.lanes at }
     requires timed { at.step < length (lane_at engine.now.graph.lanes at.module).cycles }
@@ -32,7 +32,7 @@ pub fn look(engine: &Engine, at: Place) -> bool
     has_outcomes(engine, at, cycle)
 }
 
-/// Whether a step with a cycle has this one.
+/// Whether a step has the given cycle.
 fn has_cycle(graph: &Graph, at: Place, cycle: u64) -> bool
     requires there { HasStep graph.now.lanes at }
     requires timed { at.step < length (lane_at graph.now.lanes at.module).cycles }
@@ -64,8 +64,8 @@ fn has_outcomes(engine: &Engine, at: Place, cycle: u64) -> bool
     matches!(found, Guard::Same)
 }
 
-/// The cycle that a step is to have, by the cycle of the step before it and those of the steps that enable its accesses.
-/// None where a blocking access waits for a step without a cycle. It takes no memory.
+/// The cycle that a step must have, by the cycle of the step before it and those of the steps that enable its accesses. `None`
+/// where a blocking access waits for a step without a cycle. It takes no memory.
 fn due_cycle(graph: &Graph, fifos: &FifoTable, at: Place) -> Option<u64>
     requires there { HasStep graph.now.lanes at }
     requires accesses { HasAccesses graph.now.lanes fifos.now.channels }
@@ -80,7 +80,7 @@ fn due_cycle(graph: &Graph, fifos: &FifoTable, at: Place) -> Option<u64>
     }
 }
 
-/// The cycle of the step before, and 0 before a module's first.
+/// The cycle of the step before this one in its module, or 0 for the module's first step.
 fn cycle_before(graph: &Graph, at: Place) -> u64
     requires there { HasStep graph.now.lanes at }
     ensures cycle { result ≡ before (lane_at graph.now.lanes at.module) at.step }

@@ -1,4 +1,4 @@
-//! Cycles that are put into the graph, and taken back.
+//! Puts: cycles that are put into the graph, and taken back.
 ghost use Rattle.std.specs.Prelude.{◌≡◌, ◌+◌, ◌<◌, List, length, true};
 ghost use Rattle.event_graph.specs.Lanes.{Lane};
 ghost use Rattle.cycle_changes.specs.Puts.{ArePut, AreDrafted, IsFitting};
@@ -10,13 +10,13 @@ use event_graph::{Graph, Place};
 use flow_word::Steps;
 use std::sync::ledger::Ledger;
 
-/// Each cycle is below this.
+/// A bound that each cycle is below, in clocks.
 const CYCLE_BOUND: u64 = 1_000_000_000_000_000;
 
-/// Puts the draft's cycles of these steps into the graph, in an order in which the cycles of a lane always rise. It ticks once
-/// for each put, and puts no cycle twice.
+/// Puts the draft's cycles of these steps into the graph, in an order in which the cycles of a lane always rise. It ticks once for
+/// each put, and puts no cycle that is there already.
 ///
-/// False where one is too large or would not rise, or memory is wanting.
+/// False where a cycle is too large or would not rise, or where memory runs out.
 pub fn put_moved<L: Ledger>(
     graph: &mut Graph,
     draft: &Draft,
@@ -34,7 +34,8 @@ pub fn put_moved<L: Ledger>(
         && put_all(graph, draft, moved, puts, false, steps)
 }
 
-/// Puts the cycles that get later, from the last step to the first, or those that get earlier, from the first to the last.
+/// With `later` puts those cycles that get later, from the last step to the first; else those that get earlier, from the first step
+/// to the last.
 fn put_all<L: Ledger>(
     graph: &mut Graph,
     draft: &Draft,
@@ -62,8 +63,8 @@ fn put_all<L: Ledger>(
     true
 }
 
-/// Puts the draft's cycle of a step, where it is later than the graph's, or where it is earlier. False where it is too large
-/// or would not rise, or memory is wanting.
+/// Puts the draft's cycle of a step: with `later` if it is later than the graph's, else if it is earlier. False where it is too
+/// large or would not rise, or where memory runs out.
 fn put_drafted<L: Ledger>(
     graph: &mut Graph,
     draft: &Draft,
@@ -100,7 +101,7 @@ fn put_drafted<L: Ledger>(
     }
 }
 
-/// Whether a cycle is later than that of the step before, and earlier than that of the step after.
+/// Whether a cycle lies between those of the step before and the step after.
 fn is_fitting(cycles: &[u64], step: usize, cycle: u64) -> bool
     requires { step < length cycles.now }
     ensures { result ≡ true → IsFitting cycles.now step cycle }
@@ -109,7 +110,7 @@ fn is_fitting(cycles: &[u64], step: usize, cycle: u64) -> bool
         && (step + 1 == cycles.len() || cycle < cycles[step + 1])
 }
 
-/// Takes all puts back, from the last to the first, with a tick for each.
+/// Takes all puts back, from the last one to the first, with a tick for each.
 pub fn undo<L: Ledger>(graph: &mut Graph, puts: &mut Vec<Put>, steps: &mut Steps<L>)
     requires { (first : List Lane) × ArePut first puts.old.items graph.old.lanes }
     ensures undone { (first : List Lane) → ArePut first puts.old.items graph.old.lanes → graph.new.lanes ≡ first }

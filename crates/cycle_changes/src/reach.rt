@@ -1,4 +1,4 @@
-//! The steps that wait for one.
+//! The steps that wait for a step.
 ghost use Rattle.std.specs.Prelude.{◌≡◌, ℕ, ◌<◌, ◌≤◌, [], true, false, length, All, Contains, Some};
 ghost use Rattle.flow_word.specs.Kinds.{side_of, other_side};
 ghost use Rattle.event_graph.specs.Lanes.{HasStep};
@@ -13,7 +13,7 @@ use engine_view::Engine;
 use event_graph::{Access, Place};
 use flow_word::Port;
 
-/// Whether each step with a cycle that waits for this one is right.
+/// Whether each step with a cycle that waits for the step at this place is right.
 pub fn are_waiting_right(engine: &Engine, at: Place) -> bool
     requires there { HasStep engine.now.graph.lanes at }
     requires core { IsSomeCore engine.now }
@@ -29,7 +29,7 @@ pub fn are_waiting_right(engine: &Engine, at: Place) -> bool
     true
 }
 
-/// Whether each step with a cycle is right that waits for this one at the other side of the channel of one of its accesses.
+/// Whether each step with a cycle is right that waits for the given access of this step, at the other side of its channel.
 fn are_enabled_right(engine: &Engine, at: Place, access: &Access) -> bool
     requires there { HasStep engine.now.graph.lanes at }
     requires access { Contains (step_of (held_in engine.now []) at.module at.step).accesses access.now }
@@ -58,7 +58,7 @@ fn are_enabled_right(engine: &Engine, at: Place, access: &Access) -> bool
     }
 }
 
-/// Whether there is a place, of the same step of its module as this one.
+/// Whether there is a place, and it is this one.
 fn is_step(place: Option<Place>, at: Place) -> bool
     ensures { place ≡ Some at → result ≡ true }
 {
@@ -68,8 +68,8 @@ fn is_step(place: Option<Place>, at: Place) -> bool
     }
 }
 
-/// Whether each step with a cycle is right that has an access of this ordinal at the port. They stand after the step that
-/// takes there with the ordinal before, and not after the one that takes with this one.
+/// Whether each step with a cycle is right that has an access with this ordinal at the port. Such steps come after the one that
+/// takes there with the ordinal before, and not after the one that takes with this ordinal.
 fn are_right_at(engine: &Engine, port: Port, ordinal: u64) -> bool
     requires channel { port.channel < length engine.now.fifos.channels }
     requires from_one { 1 ≤ ordinal }
@@ -97,7 +97,7 @@ fn are_right_at(engine: &Engine, port: Port, ordinal: u64) -> bool
     }
 }
 
-/// Whether each of a module's steps with a cycle is right, from one step to another, that has an access at the port.
+/// Whether each of a module's steps with a cycle that has an access at the port is right, from step `first` to step `last`.
 fn are_right_in(engine: &Engine, port: Port, owner: u32, first: u64, last: u64) -> bool
     requires owner { owner < length engine.now.graph.lanes }
     requires core { IsSomeCore engine.now }
@@ -136,7 +136,7 @@ pub fn is_right_or_elsewhere(engine: &Engine, port: Port, at: Place) -> bool
     look(engine, at)
 }
 
-/// Whether one of the accesses stands at the port.
+/// Whether one of these accesses is at the port.
 fn stands_at(accesses: &[Access], port: Port) -> bool
     ensures { result ≡ false → All (λ a. StandsAt port.side port.channel a → ⊥) accesses.now }
 {

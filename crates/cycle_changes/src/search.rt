@@ -1,4 +1,4 @@
-//! The search for the cycles that change. Nothing is said of what it finds: that is checked later.
+//! The search for the cycles that change. Nothing is proved of what it finds: a check follows.
 ghost use Rattle.std.specs.Prelude.{◌<◌};
 ghost use Rattle.time_engine.specs.Conditions.{IsAccess, HasAccesses};
 
@@ -12,18 +12,18 @@ use std::alloc::Global;
 use std::cmp::Reverse;
 use std::collections::BinaryHeap;
 
-/// Cycles as they are to be, and the steps that may still change.
+/// A search: the steps whose cycles it still has to visit, and those that it has changed in the draft.
 #[derive(Drop)]
 pub struct Search {
     pub draft: Draft,
-    /// The steps that may change, by the clock from which they do.
+    /// The steps to visit, each with the clock from which on its cycle may change.
     due: BinaryHeap<Reverse<(u64, u32, u64)>>,
-    /// The steps whose cycle was changed in the draft, as module and number; a step may stand there twice.
+    /// The steps whose cycle was changed in the draft, each as its module and its number. A step may be here twice.
     pub moved: Vec<(u32, u64)>,
 }
 
 impl Search {
-    /// Nothing yet, which takes no memory.
+    /// A search that has found nothing. It takes no memory.
     pub fn new(alloc: Global) -> Search {
         Search {
             draft: Draft::new(alloc),
@@ -32,9 +32,9 @@ impl Search {
         }
     }
 
-    /// Changes cycles in the draft, from these steps on, until each step that was looked at has the cycle that it is to have.
+    /// Changes cycles in the draft, from these steps on, until each step that was touched has the cycle that it must have.
     ///
-    /// It visits so many steps at most. False where that is not enough, a cycle is not below the limit, or a step waits.
+    /// It visits at most `most` steps. False where that is not enough, a cycle is not below the limit, or a step waits.
     pub fn run(
         &mut self,
         graph: &Graph,
@@ -75,7 +75,7 @@ impl Search {
         Ok(self.due.is_empty())
     }
 
-    /// Gives a step the cycle that it is to have in the draft, and touches the steps that depend on it.
+    /// Gives a step the cycle that it must have in the draft, and touches the steps that depend on it.
     fn visit(
         &mut self,
         graph: &Graph,
@@ -100,7 +100,7 @@ impl Search {
         Ok(true)
     }
 
-    /// Touches the next step of the module.
+    /// Touches the next step of the same module.
     fn touch_next(
         &mut self,
         graph: &Graph,
@@ -143,7 +143,7 @@ impl Search {
         Ok(())
     }
 
-    /// Puts a step down to be visited, where it is to have another cycle in the draft, or waits.
+    /// Notes a step for a visit, if it must have another cycle in the draft, or waits.
     fn touch(&mut self, graph: &Graph, fifos: &FifoTable, place: Place) -> Result<(), OutOfMemory>
         requires { HasAccesses graph.now.lanes fifos.now.channels }
     {
@@ -159,7 +159,7 @@ impl Search {
     }
 }
 
-/// The step at the other side of the channel that waits for what the access takes, where there is one.
+/// The step at the other side of the channel that waits for what the access takes. `None` where there is none.
 fn enabled_by(fifos: &FifoTable, access: &Access) -> Option<Place>
     requires { IsAccess fifos.now.channels access.now }
 {

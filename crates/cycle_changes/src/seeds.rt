@@ -14,10 +14,10 @@ use engine_view::Engine;
 use event_graph::Place;
 use flow_word::{Port, Side};
 
-/// Adds the steps at a FIFO's pushing side in which its depth, which was just set, is felt: by the cycles that stand they are
-/// no longer right. It looks at each step of the module that pushes the FIFO.
+/// Adds the steps at a FIFO's pushing side in which its new depth is felt: with the old cycles they are no longer right. It looks
+/// at each step of the module that pushes the FIFO.
 ///
-/// False after want of memory, or where nobody ever pushed the FIFO.
+/// False where memory runs out, or where no step pushes the FIFO.
 pub fn find_seeds(engine: &Engine, channel: u32, seeds: &mut Vec<Place>) -> bool
     requires channel { channel < length engine.now.fifos.channels }
     requires core { IsSomeCore engine.now }
@@ -42,7 +42,7 @@ pub fn find_seeds(engine: &Engine, channel: u32, seeds: &mut Vec<Place>) -> bool
     true
 }
 
-/// Adds a step with an access at the port that is not right. False after want of memory.
+/// Adds a step if it has an access at the port and is not right. False where memory runs out.
 fn keep_felt(engine: &Engine, port: Port, at: Place, seeds: &mut Vec<Place>) -> bool
     requires there { HasStep engine.now.graph.lanes at }
     requires timed { at.step < first_of (held_in engine.now []) at.module }

@@ -4,7 +4,7 @@ ghost use Rattle.event_graph.specs.Lanes.{HasStep, IsSoundLane, lane_at};
 
 use event_graph::{Graph, Place};
 
-/// Whether a step with a cycle is at this place.
+/// Whether there is a step with a cycle at this place.
 pub fn has_cycle(graph: &Graph, at: Place) -> bool
     ensures there { result ≡ true → HasStep graph.now.lanes at }
     ensures timed { result ≡ true → at.step < length (lane_at graph.now.lanes at.module).cycles }

@@ -1,4 +1,4 @@
--- Depths that never block: for each FIFO, how many elements it comes to hold where there is room for all, and one more.
+-- Depths that never block: for each FIFO, the most elements that it holds where there is always room, plus one.
 use Rattle.std.specs.Prelude.{◌≡◌, ◌≢◌, ℕ, zero, suc, ◌+◌, ◌<◌, ◌≤◌, max, true, if◌then◌else◌, List, map, length, slice_index}
 use Rattle.std.specs.List.{range_with_len}
 use Rattle.flow_design.specs.declared.limits.TheConstants.{FIFO_DEPTH}
@@ -11,7 +11,7 @@ use Rattle.fifo_fills.specs.Fills.{fill, last_clock}
 
 -- ---- depths
 
--- one entry per channel: of a FIFO its depth, and 0 of the other channels
+-- one entry per channel: the depth of a FIFO, or 0 for a channel of another kind
 abbrev pub depths_by : Plan → (ℕ → ℕ) → List ℕ
 depths_by p depth = map (λ f. if is_fifo (kind_at p f) then depth f else 0) (range_with_len 0 (length p.design.channels))
 
@@ -21,7 +21,7 @@ depths_by p depth = map (λ f. if is_fifo (kind_at p f) then depth f else 0) (ra
 abbrev pub wide : Plan → Plan
 wide p = with_depths p (depths_by p (λ f. FIFO_DEPTH))
 
--- the greatest of these numbers, from place 0 to place n
+-- the greatest of the numbers g 0 to g n
 abbrev pub greatest : (ℕ → ℕ) → ℕ → ℕ
 greatest g zero = g 0
 greatest g (suc n) = max (greatest g n) (g (suc n))
@@ -30,20 +30,20 @@ greatest g (suc n) = max (greatest g n) (g (suc n))
 unfoldable pub peak : Plan → ℕ → ℕ
 peak p f = greatest (fill p f) (last_clock p)
 
--- one place more than each FIFO comes to need where it never blocks
+-- the advised depths: for each FIFO, one more than the most elements that it holds where it never blocks
 abbrev pub advised : Plan → List ℕ
 advised p = depths_by p (λ f. peak (wide p) f + 1)
 
--- up to the verdict's clock each FIFO holds fewer elements than this
+-- up to the verdict's clock each FIFO holds fewer elements than its entry
 abbrev pub HoldsLess : Plan → List ℕ → Type 0
 HoldsLess p depths = (f clock : ℕ) → is_fifo (kind_at p f) ≡ true → clock ≤ last_clock p → fill p f clock < slice_index depths f
 
 -- ---- no depths are faster
 
--- whenever some depths lead to an end, these do so as early
+-- if any depths lead to an end, these lead to an end no later
 abbrev pub AreFastest : Plan → List ℕ → Type 0
 AreFastest p depths = (others : List ℕ) → AreDepths p others → IsNoSlower p others depths
 
--- with no depths all modules come to their ends
+-- with no depths does the plan end
 abbrev pub IsNeverDone : Plan → Type 0
 IsNeverDone p = (depths : List ℕ) → AreDepths p depths → (clock : ℕ) → verdict (with_depths p depths) ≢ Done clock

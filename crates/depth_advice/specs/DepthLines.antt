@@ -5,7 +5,7 @@ use Rattle.flow_design.specs.declared.design.Channel.{Channel}
 use Rattle.flow_design.specs.Plans.{is_fifo}
 use Rattle.report_text.specs.Lines.{Token}
 
--- `depth NAME D` for each FIFO, in order of declaration, by the names of the channels and a depth for each
+-- the tokens of `depth NAME D`, for a channel and a depth; and then, the lines of all FIFOs in order of declaration
 abbrev pub depth_tokens : Channel × ℕ → List Token
 depth_tokens entry = codes "depth" ∷ entry.0.name ∷ decimal entry.1 ∷ []
 

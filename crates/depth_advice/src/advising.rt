@@ -17,11 +17,11 @@ use std::alloc::Global;
 use std::sync::Wait;
 use std::thread::Threads;
 
-/// What a plan does where no FIFO blocks, and depths with which none does.
+/// The report of a plan in which no FIFO ever blocks, and depths with which none does.
 pub struct Advice {
     /// The report of the plan with each FIFO as deep as the language allows.
     pub report: Report,
-    /// One entry per channel: the advised depth of a FIFO, in elements, and 0 of the other channels.
+    /// One entry per channel: the advised depth of a FIFO, in elements, or 0 for a channel of another kind.
     pub depths: Words,
 }
 
@@ -35,7 +35,7 @@ impl Drop for Advice {
 }
 
 impl Advice {
-    /// The depths alone.
+    /// The advised depths, without the report.
     pub fn into_depths(self) -> Words
         ensures { result ≡ self.depths }
     {
@@ -47,14 +47,15 @@ impl Advice {
     }
 }
 
-/// Depths with which no FIFO of the plan ever blocks: of each FIFO one more than the most elements that it holds in any clock up to
-/// the verdict's where it is as deep as the language allows. It is not said that they are the least such depths.
+/// Advises depths with which no FIFO of the plan ever blocks. With each FIFO as deep as the language allows, it is the most
+/// elements that the FIFO holds in any clock up to the verdict's, plus one. No clause says that these are the least such depths.
 ///
-/// The plan with these depths has the report of the plan with the greatest ones. Where no operation is a query and any depths lead to
-/// an end, these lead to one that is as early.
+/// The plan with these depths has the report of the plan with the greatest ones. Where no operation is a query and some depths lead
+/// to an end, these lead to an end no later.
 ///
-/// It is one run of the runner, whether there is memory or not. It takes memory for that run, for its report with the events, for the
-/// clocks of one FIFO's pushes and pops at a time, and for a number of each channel. An error leaves nothing, and the plan is gone.
+/// It calls the runner once, whether or not there is memory enough. It takes memory for that run, for its report with the events,
+/// for the clocks of one FIFO's pushes and pops at a time, and for a number of each channel. `OutOfMemory` where memory ran out.
+/// The plan is used up either way.
 pub fn advise<R: Threads + Wait + Sync, U: Runner>(
     rt: &R,
     alloc: Global,
@@ -75,19 +76,19 @@ pub fn advise<R: Threads + Wait + Sync, U: Runner>(
     read_advice(alloc, &core)
 }
 
-/// The verdict of a plan where no FIFO blocks, and depths with which none does.
+/// The verdict of a plan in which no FIFO ever blocks, and depths with which none does.
 #[derive(Drop)]
 pub struct DepthAdvice {
     /// The verdict of the plan with each FIFO as deep as the language allows.
     pub verdict: Verdict,
-    /// One entry per channel: the advised depth of a FIFO, in elements, and 0 of the other channels.
+    /// One entry per channel: the advised depth of a FIFO, in elements, or 0 for a channel of another kind.
     pub depths: Words,
 }
 
-/// The depths of `advise`, and the verdict alone in place of the report.
+/// The depths that `advise` advises, with the verdict alone instead of the report.
 ///
-/// It is one run of the runner, whether there is memory or not. It takes memory for that run, for the clocks of one FIFO's pushes and pops
-/// at a time, and for a number of each channel. An error leaves nothing, and the plan is gone.
+/// It calls the runner once, whether or not there is memory enough. It takes memory for that run, for the clocks of one FIFO's
+/// pushes and pops at a time, and for a number of each channel. `OutOfMemory` where memory ran out. The plan is used up either way.
 pub fn advised_depths<R: Threads + Wait + Sync, U: Runner>(
     rt: &R,
     alloc: Global,
@@ -105,7 +106,7 @@ pub fn advised_depths<R: Threads + Wait + Sync, U: Runner>(
     read_depths(alloc, &core)
 }
 
-/// The verdict of a final core, and depths above the peaks of its plan's FIFOs.
+/// The verdict of a final core, and for each FIFO of its plan a depth one above its peak. `OutOfMemory` where memory ran out.
 pub fn read_depths(alloc: Global, core: &Core) -> Result<DepthAdvice, OutOfMemory>
     requires { IsFinal (design core.now.plan) core.now.plan.cycles (theory_of core.now) }
     ensures verdict { IfOk result (λ advice. advice.verdict ≡ (lockstep.report core.now.plan).verdict) }
@@ -117,7 +118,7 @@ pub fn read_depths(alloc: Global, core: &Core) -> Result<DepthAdvice, OutOfMemor
     })
 }
 
-/// The report of a final core, and depths above the peaks of its plan's FIFOs.
+/// The report of a final core, and for each FIFO of its plan a depth one above its peak. `OutOfMemory` where memory ran out.
 fn read_advice(alloc: Global, core: &Core) -> Result<Advice, OutOfMemory>
     requires { IsFinal (design core.now.plan) core.now.plan.cycles (theory_of core.now) }
     ensures report { IfOk result (λ advice. advice.report ≡ lockstep.report core.now.plan) }

@@ -1,4 +1,4 @@
-//! Lines that tell depths.
+//! The lines that tell depths.
 ghost use Rattle.std.specs.Prelude.{◌≡◌, ◌++◌, length, OnOk};
 ghost use Rattle.report_text.specs.Lines.{line, text_of_lines};
 ghost use Rattle.depth_advice.specs.DepthLines.{depth_lines, depth_tokens};
@@ -7,7 +7,8 @@ use flow_design::Channel;
 use flow_word::{List, OutOfMemory};
 use report_text::{push_token, push_value};
 
-/// Adds the line `depth NAME D` for each FIFO, by the channels and a depth for each. Nothing is said of the text after want of memory.
+/// Adds the line `depth NAME D` for each FIFO, from the channels and a depth for each. After `OutOfMemory` the text may have some
+/// of the lines.
 pub fn print_depths(
     text: &mut List<u8>,
     channels: &[Channel],
@@ -24,7 +25,7 @@ pub fn print_depths(
     Ok(())
 }
 
-/// Adds the line of a FIFO.
+/// Adds the line `depth NAME D` of a FIFO. After `OutOfMemory` the text may have part of it.
 #[tactic(auto, using(crate::proofs::DepthLines::line_of_three))]
 fn print_depth(text: &mut List<u8>, channel: &Channel, depth: u64) -> Result<(), OutOfMemory>
     ensures { OnOk result (text.new ≡ text.old ++ line (depth_tokens (channel.now, depth))) }

@@ -8,9 +8,9 @@ ghost use Rattle.lockstep_defs.specs.Verdict.{verdict};
 ghost use Rattle.depth_order.specs.Depths.{with_depths, AreDepths, AreDeeper, AsksNothing};
 ghost use Rattle.depth_advice.specs.Advice.{wide, advised, HoldsLess, AreFastest, IsNeverDone};
 
-/// The advised depths are within the language's limits, and a plan with such depths is one that the engine takes. The plan with the
-/// advised depths, or with any greater ones, has the report of the plan whose FIFOs are as deep as the language allows, and up to its
-/// verdict's clock each FIFO holds fewer elements than its advised depth: none is ever full.
+/// The advised depths are within the language's limits, and the engine takes the plan with them. With the advised depths, or with
+/// any greater ones, the plan has the report of the plan whose FIFOs are as deep as the language allows, and up to its verdict's
+/// clock each FIFO holds fewer elements than its advised depth. So none is ever full.
 pub fn advised_depths_never_block()
     ensures depths { (p : Plan) → FitsEngine p → AreDepths p (advised p) }
     ensures fits { (p : Plan) → FitsEngine p → (depths : Items ℕ) → AreDepths p depths → FitsEngine (with_depths p depths) }
@@ -20,8 +20,8 @@ pub fn advised_depths_never_block()
         → HoldsLess (with_depths p depths) (advised p) }
 {}
 
-/// Where no operation is a query and some depths lead to an end, the advised depths lead to one that is as early. So a plan that does
-/// not come to its end with the advised depths does so with none.
+/// Where no operation is a query and some depths lead to an end, the advised depths lead to an end no later. So a plan that does
+/// not end with the advised depths ends with no depths.
 pub fn no_depths_are_faster()
     ensures fastest { (p : Plan) → FitsEngine p → AsksNothing p → AreFastest p (advised p) }
     ensures never_done { (p : Plan) → FitsEngine p → AsksNothing p → ((clock : ℕ) → verdict (with_depths p (advised p)) ≢ Done clock)

@@ -6,6 +6,6 @@ use Rattle.flow_design.specs.Plans.{with_depth}
 use Rattle.lockstep_defs.specs.Verdict.{verdict}
 use Rattle.depth_order.specs.Depths.{IsDoneBy}
 
--- with a depth below this one for FIFO f alone, one that the language allows, the plan is not done by the clock
+-- with any depth of FIFO f that the language allows and that is below this one, the plan is not done by the clock
 abbrev pub IsLateBelow : Plan → ℕ → ℕ → ℕ → Type 0
 IsLateBelow p clock f depth = (d : ℕ) → 1 ≤ d → d ≤ FIFO_DEPTH → d < depth → IsDoneBy clock (verdict (with_depth p f d)) → ⊥

@@ -1,4 +1,4 @@
-//! Depths that are too small.
+//! Depths of FIFOs with which a plan ends late.
 ghost use Rattle.std.specs.Prelude.{◌≡◌, ◌<◌, ◌≤◌, true, length, map, is_some, IfOk};
 ghost use Rattle.flow_design.specs.declared.plan.Plan.{Plan};
 ghost use Rattle.flow_design.specs.Plans.{is_fifo, kind_at};
@@ -17,18 +17,19 @@ use flow_word::{OutOfMemory, Place, Side};
 use path_check::ends_after;
 use std::alloc::Global;
 
-/// A FIFO, whose depth is to be lowered, and a clock by which the plan is to end.
+/// A FIFO whose depth is to be lowered, and the clock by which the plan is to end.
 #[derive(Clone, Copy)]
 pub struct Target {
     pub channel: u32,
     pub clock: u64,
 }
 
-/// A depth of a FIFO below which the plan ends after a clock, where the others have their own depths. 1 where none is found, and of a
-/// channel that is none.
+/// A depth such that with any smaller depth of this FIFO, the others keeping theirs, the plan ends after the target's clock. 1
+/// where no such depth is found, and where the channel is no FIFO.
 ///
-/// The engine holds the end of the plan's run, the depths are the plan's, and no operation is a query. The latest clocks may be those of
-/// the plan with deeper FIFOs: a depth above 1 is shown by a path of steps, which is checked. It looks at each access to the FIFO and each
+/// The engine holds the end of the plan's run, `depths` are the plan's, and no operation is a query. The latest clocks may be those
+/// of the plan with deeper FIFOs: a result above 1 is shown by a path of steps, which is checked. It looks at each access to the
+/// FIFO and each step of the path a few times, and takes memory for the path. `OutOfMemory` where memory ran out.
 /// step of the path a few times, and takes memory for the path. An error leaves nothing.
 pub fn late_depth(
     alloc: Global,
@@ -64,18 +65,18 @@ pub fn late_depth(
     Ok(1)
 }
 
-/// A depth of a FIFO with which one of its pushes comes too late.
+/// A depth of a FIFO with which one of its pushes comes too late, with that push and the pop that it waits for.
 #[derive(Clone, Copy)]
 pub(crate) struct TooFew {
     pub(crate) depth: u64,
-    /// The push.
+    /// The push that comes too late.
     pub(crate) push: Place,
-    /// The pop that it waits for.
+    /// The pop that this push waits for.
     pub(crate) pop: Place,
 }
 
-/// The greatest depth of a FIFO with which a push waits for a pop that comes no sooner than the push's latest clock. None where each
-/// depth is enough.
+/// The greatest depth of a FIFO with which a push waits for a pop that comes no sooner than the push's latest clock. `None` where
+/// each depth is enough.
 fn too_few(engine: &Engine, latest: &Latest, channel: u32) -> Option<TooFew>
     requires { channel < length engine.now.fifos.channels }
 {
@@ -95,7 +96,7 @@ fn too_few(engine: &Engine, latest: &Latest, channel: u32) -> Option<TooFew>
     found
 }
 
-/// How many of a FIFO's first pops, but no more than `most`, come before a clock, where this many do already.
+/// How many of a FIFO's first `most` pops come before a clock. The first `popped` are known to.
 fn popped_before(engine: &Engine, channel: u32, popped: u64, most: u64, clock: u64) -> u64
     requires channel { channel < length engine.now.fifos.channels }
     requires most { popped ≤ most }
@@ -109,7 +110,7 @@ fn popped_before(engine: &Engine, channel: u32, popped: u64, most: u64, clock: u
     most
 }
 
-/// Whether the pop of a FIFO with so many before it is done before a clock.
+/// Whether the pop with this number, counted from 0, of a FIFO is done before a clock.
 fn is_before(engine: &Engine, channel: u32, before: u64, clock: u64) -> bool
     requires { channel < length engine.now.fifos.channels }
 {

@@ -1,4 +1,4 @@
-//! What waits for a step.
+//! The step that waits for an access.
 ghost use Rattle.std.specs.Prelude.{◌≡◌, true};
 ghost use Rattle.event_graph.specs.Lanes.{HasStep};
 ghost use Rattle.time_engine.specs.Conditions.{IsAccess};
@@ -6,14 +6,15 @@ ghost use Rattle.time_engine.specs.Conditions.{IsAccess};
 use engine_view::Engine;
 use flow_word::{Access, Place};
 
-/// A step that waits for another, and how many clocks it comes after it.
+/// A step that waits for another, and how many clocks it comes after that one.
 #[derive(Clone, Copy)]
 pub(crate) struct Waiting {
     pub(crate) place: Place,
     pub(crate) clocks: u64,
 }
 
-/// The step that waits for an access: of a push the one that pops its element, and of a pop the one that pushes into its place.
+/// The step that waits for an access: for a push, the step that pops its element; for a pop, the one that pushes into the place it
+/// frees. `None` where no step waits for it.
 pub(crate) fn waiting_for(engine: &Engine, access: &Access) -> Option<Waiting>
     requires { IsAccess engine.now.fifos.channels access.now }
 {
@@ -30,7 +31,7 @@ pub(crate) fn waiting_for(engine: &Engine, access: &Access) -> Option<Waiting>
     })
 }
 
-/// Whether a place is that of a step with a cycle.
+/// Whether a place names a step that has a cycle.
 pub(crate) fn is_timed(engine: &Engine, place: Place) -> bool
     ensures { result ≡ true → HasStep engine.now.graph.lanes place }
 {

@@ -1,4 +1,4 @@
-//! The latest clock of each step with which a plan ends by a clock.
+//! The latest clock in which each step may be done so that a plan ends by a clock.
 ghost use Rattle.std.specs.Prelude.{◌≡◌, true, All};
 ghost use Rattle.event_graph.specs.Lanes.{HasStep};
 ghost use Rattle.time_engine.specs.Conditions.{IsAccess, HasAccesses};
@@ -9,11 +9,11 @@ use flow_design::Advance;
 use flow_word::{Access, List, OutOfMemory, Place, Words};
 use std::alloc::Global;
 
-/// The clock of a step that is not found yet.
+/// Stands for the clock of a step that is not found yet.
 const UNKNOWN: u64 = u64::MAX;
 
-/// Of each module the latest clocks of its steps with a cycle, and how many of them are not found yet: the first ones. Nothing is said of
-/// these clocks: they guide a search, and what it finds is checked.
+/// For each module, the latest clocks of its steps with a cycle, and how many of these steps, the first ones, have no clock yet. No
+/// clause says what these clocks are: they guide a search, and what the search finds is checked.
 pub struct Latest {
     lanes: List<Words>,
     left: Words,
@@ -28,17 +28,17 @@ impl Drop for Latest {
     }
 }
 
-/// What comes so many clocks after a step, or later.
+/// A step or the end of the plan that comes at least so many clocks after a step, and the latest clock that follows for that step.
 #[derive(Clone, Copy)]
 pub(crate) struct Successor {
-    /// The step; none for the end of the plan.
+    /// The step that comes after; `None` for the end of the plan.
     pub(crate) place: Option<Place>,
-    /// The latest clock of the step before it.
+    /// The latest clock of the step that comes before.
     pub(crate) latest: u64,
 }
 
 impl Latest {
-    /// No clock is found yet.
+    /// The latest clocks before the search: no step has one yet. `OutOfMemory` where memory ran out.
     fn new(alloc: Global, engine: &Engine) -> Result<Latest, OutOfMemory> {
         let mut lanes = List::new(alloc);
         let mut left = List::new(alloc);
@@ -50,12 +50,12 @@ impl Latest {
         Ok(Latest { lanes, left })
     }
 
-    /// How many steps of a module are not found yet.
+    /// How many steps of a module have no clock yet.
     fn left(&self, owner: u32) -> u64 {
         item(self.left.as_slice(), owner as u64)
     }
 
-    /// The clock of a step; `UNKNOWN` where it is not found.
+    /// The latest clock of a step; `UNKNOWN` where it is not found.
     pub(crate) fn at(&self, place: Place) -> u64 {
         match self.lanes.as_slice().get(place.module as usize) {
             Some(lane) if self.left(place.module) <= place.step => item(
@@ -66,7 +66,7 @@ impl Latest {
         }
     }
 
-    /// Sets the clock of a module's last step that is not found.
+    /// Sets the latest clock of a step, which is the last of its module without one.
     fn set(&mut self, place: Place, clock: u64) {
         let lanes = self.lanes.as_mut_slice();
         if (place.module as usize) < lanes.len() {
@@ -80,22 +80,23 @@ impl Latest {
     }
 }
 
-/// The item of a number, and `UNKNOWN` where there is none.
+/// The item with this number; `UNKNOWN` where there is none.
 fn item(items: &[u64], number: u64) -> u64 {
     items.get(number as usize).copied().unwrap_or(UNKNOWN)
 }
 
-/// Sets the item of a number, where there is one.
+/// Sets the item with this number, where there is one.
 fn put(items: &mut [u64], number: u64, item: u64) {
     if number < items.len() as u64 {
         items[number as usize] = item;
     }
 }
 
-/// The latest clock of each step with which all modules are ended by a clock. Where it finds no more, some are not found.
+/// The latest clock in which each step may be done so that all modules have ended by a clock. Steps whose clock is not found have
+/// `UNKNOWN`.
 ///
-/// It goes back over the modules in turn, each as far as its successors are found, and takes memory for a number of each step. An error
-/// leaves nothing.
+/// The search goes backwards over the modules in turn, over each as far as what comes after its steps is found, and takes memory
+/// for one number per step. `OutOfMemory` where memory ran out.
 pub fn find_latest(
     alloc: Global,
     engine: &Engine,
@@ -113,7 +114,7 @@ pub fn find_latest(
     Ok(latest)
 }
 
-/// One round over the modules, from the last to the first. Whether it found a clock.
+/// One round over the modules, from the last to the first. Returns whether it found a clock.
 fn go_back(engine: &Engine, ends: &[Option<Advance>], clock: u64, latest: &mut Latest) -> bool
     requires { HasAccesses engine.now.graph.lanes engine.now.fifos.channels }
 {
@@ -128,7 +129,8 @@ fn go_back(engine: &Engine, ends: &[Option<Advance>], clock: u64, latest: &mut L
     found
 }
 
-/// The last steps of a module that are not found, as far as their successors are. Whether it found one.
+/// Finds the latest clocks of a module's last steps without one, as far as what comes after them is found. Returns whether it found
+/// one.
 fn find_lane(
     engine: &Engine,
     ends: &[Option<Advance>],
@@ -152,8 +154,8 @@ fn find_lane(
     0 < all
 }
 
-/// What makes the latest clock of a step: the least of the latest clocks of what comes after it, each without the clocks between. None
-/// where one of them is not found yet.
+/// What decides the latest clock of a step: of all that comes after the step, what allows it the least clock. `None` where the
+/// clock of one of these is not found yet.
 pub(crate) fn latest_of(
     engine: &Engine,
     ends: &[Option<Advance>],
@@ -175,14 +177,15 @@ pub(crate) fn latest_of(
     Some(next)
 }
 
-/// Whether a place is that of a step.
+/// Whether a place names a step.
 fn has_step(engine: &Engine, place: Place) -> bool
     ensures { result ≡ true → HasStep engine.now.graph.lanes place }
 {
     place.module < engine.graph.modules() && place.step < engine.graph.len(place.module)
 }
 
-/// What follows a step in its module: the next step, or the end.
+/// What comes after a step in its own module, the next step or the end, and the latest clock that follows. `None` where the clock
+/// of the next step is not found yet.
 fn after_step(
     engine: &Engine,
     ends: &[Option<Advance>],
@@ -210,7 +213,8 @@ fn after_step(
     })
 }
 
-/// The latest clock so many clocks before a step's latest one, where that is found.
+/// A step as a successor: the step before it must be done this many clocks before its latest clock. `None` where that clock is not
+/// found.
 fn found_at(latest: &Latest, place: Place, clocks: u64) -> Option<Successor> {
     let found = latest.at(place);
     if found == UNKNOWN {
@@ -222,7 +226,8 @@ fn found_at(latest: &Latest, place: Place, clocks: u64) -> Option<Successor> {
     })
 }
 
-/// Of the steps that wait for these accesses what makes the least clock. None where one of them is not found yet.
+/// Of the steps that wait for these accesses, the one that allows the least clock. `None` where the clock of one of them is not
+/// found yet.
 fn first_waiting(engine: &Engine, latest: &Latest, accesses: &[Access]) -> Option<Successor>
     requires { All (IsAccess engine.now.fifos.channels) accesses.now }
 {

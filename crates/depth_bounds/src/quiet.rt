@@ -1,4 +1,4 @@
-//! Whether a plan asks nothing.
+//! Whether a plan has no query operation.
 ghost use Rattle.std.specs.Prelude.{◌≡◌, true, false, All};
 ghost use Rattle.lockstep_defs.specs.Laws.{is_query};
 ghost use Rattle.depth_order.specs.Depths.{AsksNothing};

@@ -1,4 +1,4 @@
-//! The path from a pop that comes too late to the end.
+//! The path from a pop that comes too late to the end of the plan.
 ghost use Rattle.std.specs.Prelude.{◌≡◌};
 ghost use Rattle.time_engine.specs.Conditions.{HasAccesses};
 
@@ -9,9 +9,9 @@ use flow_design::Advance;
 use flow_word::{List, OutOfMemory, Place};
 use std::alloc::Global;
 
-/// A path of steps: a pop, the push that waits for it, and from each step on what makes its latest clock.
+/// A path of steps: a pop, the push that waits for it, and after each step the one that decides its latest clock.
 ///
-/// It has no more steps than the plan's run. It takes memory for the path. An error leaves nothing.
+/// It has no more steps than the plan's run. It takes memory for the path. `OutOfMemory` where memory ran out.
 pub(crate) fn find_trail(
     alloc: Global,
     engine: &Engine,

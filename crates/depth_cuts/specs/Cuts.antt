@@ -5,57 +5,57 @@ use Rattle.depth_cuts.specs.declared.cuts.Need.{Need}
 use Rattle.depth_cuts.specs.declared.cuts.Demands.{Demands}
 use Rattle.depth_cuts.specs.Met.{IsMet}
 
--- ---- which depths are asked for
+-- ---- which depths meet the demands
 
--- an entry for each floor, which is no less
+-- there is a depth for each floor, and it is no less than the floor
 pub record AreAbove (floors depths : List ℕ) : Type 0 where
   pub count : length depths ≡ length floors
   pub least : (f : ℕ) → slice_index floors f ≤ slice_index depths f
 
--- and all cuts are met
+-- the depths are at least the floors, and meet all cuts
 pub record Covers (demands : Demands) (depths : List ℕ) : Type 0 where
   pub above : AreAbove demands.floors depths
   pub met : All (λ cut. IsMet cut depths) demands.cuts
 
--- ---- which come first
+-- ---- which depths come first
 
--- the bits of FIFOs with these widths and depths
+-- the bits that FIFOs with these widths and depths take
 unfoldable pub bits_of : List ℕ → List ℕ → ℕ
 bits_of [] depths = 0
 bits_of (w ∷ widths) [] = 0
 bits_of (w ∷ widths) (d ∷ depths) = w * d + bits_of widths depths
 
--- at the first place where they differ, the first list has less
+-- the first list has the lesser item at the first place where they differ
 pub record IsEarlier (ds es : List ℕ) : Type 0 where
   pub place : ℕ
   pub same : (f : ℕ) → f < place → slice_index ds f ≡ slice_index es f
   pub less : slice_index ds place < slice_index es place
 
--- fewer bits, or as many and earlier
+-- the first depths take fewer bits than the second; or as many, and are lexicographically earlier
 abbrev pub ComesBefore : List ℕ → List ℕ → List ℕ → Type 0
 ComesBefore widths ds es = (bits_of widths ds < bits_of widths es) ⊎ ((bits_of widths ds ≡ bits_of widths es) × IsEarlier ds es)
 
 abbrev pub IsNoWorse : List ℕ → List ℕ → List ℕ → Type 0
 IsNoWorse widths ds es = (ds ≡ es) ⊎ ComesBefore widths ds es
 
--- of all depths that are asked for these come first
+-- the depths meet the demands, and come first of all that do
 pub record IsCheapest (demands : Demands) (depths : List ℕ) : Type 0 where
   pub covers : Covers demands depths
   pub first : (es : List ℕ) → Covers demands es → IsNoWorse demands.widths depths es
 
--- the cheapest depths; or no depths are those asked for
+-- `Some` has the cheapest depths; with `None`, no depths meet the demands
 abbrev pub AreCheapest : Demands → Option (List ℕ) → Type 0
 AreCheapest demands None = (es : List ℕ) → Covers demands es → ⊥
 AreCheapest demands (Some depths) = IsCheapest demands depths
 
--- ---- what is asked of the numbers
+-- ---- limits of the demands
 
--- a need of one of so many channels, to a depth within the limit
+-- the need is of one of so many channels, and its depth is within the limit
 pub record IsNeed (channels : ℕ) (need : Need) : Type 0 where
   pub channel : need.channel < channels
   pub most : need.depth ≤ FIFO_DEPTH
 
--- widths of at most 64 bits, floors within the limits of the language, and such needs
+-- the widths are at most 64 bits, the floors within the limits of the language, and the cuts' needs within their limits
 pub record AreDemands (demands : Demands) : Type 0 where
   pub count : length demands.widths ≡ length demands.floors
   pub few : length demands.floors ≤ CHANNELS

@@ -1,16 +1,16 @@
--- How many bits more than some depths those take that meet the cuts.
+-- A lower bound on the bits that it takes to meet the cuts.
 use Rattle.std.specs.Prelude.{◌≡◌, ℕ, ◌+◌, ◌≤◌, List, length, slice_index, All}
 use Rattle.depth_cuts.specs.declared.cuts.Demands.{Demands}
 use Rattle.depth_cuts.specs.Met.{IsMet}
 use Rattle.depth_cuts.specs.Cuts.{AreAbove, bits_of}
 
--- all depths from these on that meet the cuts take so many bits more, or still more
+-- all depths that are no less than these and meet the cuts take at least so many bits more
 abbrev pub AddsBits : Demands → List ℕ → ℕ → Type 0
 AddsBits demands depths rises =
     (es : List ℕ) → AreAbove depths es → All (λ cut. IsMet cut es) demands.cuts
     → bits_of demands.widths depths + rises ≤ bits_of demands.widths es
 
--- depths that differ in used channels alone, are no greater than others, and take so many bits more
+-- there are depths that differ from `depths` in used channels alone, are no greater than `es`, and take at least so many bits more
 pub record IsBetween (widths used depths es : List ℕ) (rises : ℕ) : Type 0 where
   pub between : List ℕ
   pub count : length between ≡ length depths
@@ -18,7 +18,7 @@ pub record IsBetween (widths used depths es : List ℕ) (rises : ℕ) : Type 0 w
   pub below : (f : ℕ) → slice_index between f ≤ slice_index es f
   pub bits : bits_of widths depths + rises ≤ bits_of widths between
 
--- there are such depths below all depths from these on that meet the cuts
+-- for all depths that are no less than these and meet the cuts, such depths lie between the two
 abbrev pub ReachesBits : Demands → List ℕ → List ℕ → ℕ → Type 0
 ReachesBits demands used depths rises =
     (es : List ℕ) → AreAbove depths es → All (λ cut. IsMet cut es) demands.cuts → IsBetween demands.widths used depths es rises

@@ -1,19 +1,19 @@
-//! Cuts, and what is asked of depths.
+//! Cuts: lists of needs, and the demands on the depths of channels.
 ghost use Rattle.std.specs.Prelude.{◌≡◌, ◌<◌, ◌≤◌, true, false, length, slice_index, All};
 ghost use Rattle.depth_cuts.specs.Met.{IsMet, IsUnmet, MeetsBetween, cut_at};
 
 use flow_word::{List, Words};
 
-/// A channel that is at least so deep.
+/// The need that a channel is at least so deep.
 #[derive(Clone, Copy, Debug, PartialEq, Eq)]
 pub struct Need {
     /// The number of the channel.
     pub channel: u32,
-    /// In elements.
+    /// The least depth that meets the need, in elements.
     pub depth: u64,
 }
 
-/// Needs of which one at least is to be met.
+/// Needs, at least one of which must be met.
 pub struct Cut {
     pub needs: List<Need>,
 }
@@ -24,7 +24,7 @@ impl Drop for Cut {
     }
 }
 
-/// What is asked of the depths of some channels, and what they cost.
+/// What the depths of some channels must meet, and what each element of depth costs.
 pub struct Demands {
     /// One entry per channel: the bits of an element.
     pub widths: Words,
@@ -43,7 +43,7 @@ impl Drop for Demands {
     }
 }
 
-/// Whether some channel is as deep as a cut needs it.
+/// Whether the depths meet a cut: some channel is as deep as one of the cut's needs asks.
 pub(crate) fn is_met(cut: &Cut, depths: &[u64]) -> bool
     requires { All (λ n. n.channel < length depths.now) cut.now.needs }
     ensures met { result ≡ true → IsMet cut.now depths.now }
@@ -58,7 +58,7 @@ pub(crate) fn is_met(cut: &Cut, depths: &[u64]) -> bool
     false
 }
 
-/// The place of the first of some cuts, from one on, that is not met; their number where all are met.
+/// The place of the first cut, from `from` on, that the depths do not meet; the number of cuts where they meet all of these.
 pub(crate) fn first_unmet(cuts: &[Cut], from: usize, depths: &[u64]) -> usize
     requires from { from ≤ length cuts.now }
     requires needs { All (λ cut. All (λ n. n.channel < length depths.now) cut.needs) cuts.now }

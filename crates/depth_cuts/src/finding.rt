@@ -9,11 +9,11 @@ use crate::search::search;
 use flow_word::{List, OutOfMemory, Words};
 use std::alloc::Global;
 
-/// The depths that are at least the floors, meet all cuts, and take the fewest bits: of several the first in lexicographic order. None
-/// where no depths meet the cuts.
+/// The depths that are at least the floors, meet all cuts, and take the fewest bits; of several such, the first in lexicographic
+/// order. `None` where no depths meet the cuts.
 ///
-/// It tries the needs of one cut after the other, as long as fewer bits may be found: in the worst case as often as there are ways to
-/// choose a need of each cut. It takes memory for a few numbers of each channel. An error leaves nothing.
+/// It tries the needs of one cut after the other, as long as fewer bits may be found: in the worst case as often as there are ways
+/// to choose a need of each cut. It takes memory for a few numbers of each channel. `OutOfMemory` where memory ran out.
 pub fn cheapest(alloc: Global, demands: &Demands) -> Result<Option<Words>, OutOfMemory>
     requires { AreDemands demands.now }
     ensures { IfOk result (λ found. AreCheapest demands.now found) }

@@ -1,4 +1,4 @@
-//! The depths of FIFOs with the fewest bits that meet cuts: lists of needs, of which one at least is to be met.
+//! The depths of FIFOs that meet all cuts with the fewest bits. A cut is a list of needs, at least one of which must be met.
 #![tactic(auto)]
 
 mod cuts;

@@ -1,4 +1,4 @@
-//! Which depths come first.
+//! Which of two lists of depths is the better.
 ghost use Rattle.std.specs.Prelude.{◌≡◌, ℕ, ◌*◌, ◌≤◌, ◌⊎◌, true, false, length, slice_index, All, List as Items, IfOk};
 ghost use Rattle.flow_design.specs.declared.limits.TheConstants.{CHANNELS, FIFO_DEPTH};
 ghost use Rattle.depth_cuts.specs.Cuts.{bits_of, ComesBefore, IsEarlier, IsNoWorse};
@@ -6,7 +6,7 @@ ghost use Rattle.depth_cuts.specs.Cuts.{bits_of, ComesBefore, IsEarlier, IsNoWor
 use flow_word::{List, OutOfMemory, Words};
 use std::alloc::Global;
 
-/// Depths, and how many bits they take.
+/// Depths, and how many bits FIFOs of these depths take.
 pub(crate) struct Choice {
     /// One entry per channel, in elements.
     pub(crate) depths: Words,
@@ -23,7 +23,7 @@ impl Drop for Choice {
 }
 
 impl Choice {
-    /// The depths alone.
+    /// The depths of the choice, without their bits.
     pub(crate) fn into_depths(self) -> Words
         ensures { result ≡ self.depths }
     {
@@ -34,7 +34,7 @@ impl Choice {
         depths
     }
 
-    /// The same choice once more. An error leaves nothing.
+    /// A copy of the choice. `OutOfMemory` where memory ran out.
     pub(crate) fn copied(&self, alloc: Global) -> Result<Choice, OutOfMemory>
         ensures { IfOk result (λ copy. copy ≡ self.now) }
     {
@@ -45,7 +45,7 @@ impl Choice {
     }
 }
 
-/// How many bits FIFOs with these widths and depths take.
+/// How many bits FIFOs of these widths, in bits, and these depths, in elements, take in all.
 pub fn bits_of(widths: &[u64], depths: &[u64]) -> u64
     requires count { length widths.now ≡ length depths.now }
     requires few { length depths.now ≤ CHANNELS }
@@ -60,7 +60,7 @@ pub fn bits_of(widths: &[u64], depths: &[u64]) -> u64
     bits
 }
 
-/// Whether the first depths take fewer bits than the others, or as many and are the same or earlier.
+/// Whether the first choice takes fewer bits than the other, or as many and its depths are the same or lexicographically earlier.
 pub(crate) fn is_no_worse(first: &Choice, other: &Choice) -> bool
     requires { length first.now.depths ≡ length other.now.depths }
     ensures yes { (widths : Items ℕ) → first.now.bits ≡ bits_of widths first.now.depths
@@ -76,7 +76,7 @@ pub(crate) fn is_no_worse(first: &Choice, other: &Choice) -> bool
     first.bits < other.bits
 }
 
-/// Whether two lists are the same, or the first has less at the first place where they differ.
+/// Whether two lists are the same, or the first has the lesser item at the first place where they differ.
 fn is_no_later(first: &[u64], other: &[u64]) -> bool
     requires { length first.now ≡ length other.now }
     ensures yes { result ≡ true → (first.now ≡ other.now) ⊎ IsEarlier first.now other.now }

@@ -1,4 +1,4 @@
-//! How many bits more are needed at least to meet the cuts that are not met.
+//! A lower bound on the bits that it takes to meet the cuts that are not met yet.
 ghost use Rattle.std.specs.Prelude.{◌≡◌, ℕ, ◌<◌, ◌≤◌, ◌*◌, ◌-◌, true, length, slice_index, slice_set, All, IfOk};
 ghost use Rattle.depth_cuts.specs.Cuts.{AreDemands, bits_of as bits_in};
 ghost use Rattle.depth_cuts.specs.Rises.{AddsBits, ReachesBits};
@@ -8,10 +8,10 @@ use crate::order::Choice;
 use flow_word::{List, OutOfMemory, Words};
 use std::alloc::Global;
 
-/// How many bits more than the depths at hand all depths from them on take that meet the cuts from a place on: at least so many.
+/// A number of bits that all greater or equal depths which meet the cuts from a place on take at least beyond the depths at hand.
 ///
-/// Cuts that share no channel add up. It goes through these cuts, and leaves out those that share a channel with one before. It takes
-/// memory for a number of each channel. An error leaves nothing.
+/// The bits of cuts that share no channel add up: it goes through these cuts, and leaves out each that shares a channel with one
+/// counted before. It takes memory for a number of each channel. `OutOfMemory` where memory ran out.
 pub(crate) fn least_rises(
     alloc: Global,
     demands: &Demands,
@@ -30,8 +30,8 @@ pub(crate) fn least_rises(
     Ok(rises)
 }
 
-/// How many bits more it takes at least with one cut more, and the channels that are used then. A cut that is met or that has a used
-/// channel adds nothing.
+/// The lower bound with one cut more, whose channels are then marked as used. A cut that is met, or that has a used channel, adds
+/// nothing.
 fn with_cut(demands: &Demands, place: usize, at: &Choice, used: &mut Words, rises: u64) -> u64
     requires demands { AreDemands demands.now }
     requires count { length at.now.depths ≡ length demands.now.floors }
@@ -50,15 +50,15 @@ fn with_cut(demands: &Demands, place: usize, at: &Choice, used: &mut Words, rise
     rises.saturating_add(least_rise(demands, needs, at).bits)
 }
 
-/// A need, and how many bits more it takes.
+/// A need of a cut, and how many more bits it takes to meet it.
 #[derive(Clone, Copy)]
 pub(crate) struct Rise {
-    /// The place of the need; 0 where there is none.
+    /// The place of the need in the cut; 0 where the cut has no needs.
     pub(crate) place: usize,
     pub(crate) bits: u64,
 }
 
-/// The need that takes the fewest bits more.
+/// The need that takes the fewest more bits to meet.
 pub(crate) fn least_rise(demands: &Demands, needs: &[Need], at: &Choice) -> Rise
     ensures place { 0 < length needs.now → result.place < length needs.now }
     ensures least { All (λ n. result.bits
@@ -77,7 +77,7 @@ pub(crate) fn least_rise(demands: &Demands, needs: &[Need], at: &Choice) -> Rise
     least
 }
 
-/// How many bits more a need takes.
+/// How many more bits it takes to meet a need.
 fn rise_of(demands: &Demands, need: &Need, at: &Choice) -> u64
     ensures { result ≤ (need.now.depth - slice_index at.now.depths need.now.channel) * slice_index demands.now.widths need.now.channel }
 {
@@ -85,14 +85,14 @@ fn rise_of(demands: &Demands, need: &Need, at: &Choice) -> u64
     more.saturating_mul(item(&demands.widths, need.channel))
 }
 
-/// The item of a channel; 0 where there is none.
+/// The item of a channel; 0 where the list has none.
 fn item(items: &Words, channel: u32) -> u64
     ensures { result ≡ slice_index items.now channel }
 {
     items.as_slice().get(channel as usize).copied().unwrap_or(0)
 }
 
-/// Whether no channel of these needs is marked.
+/// Whether no channel of these needs is marked as used.
 fn are_unused(needs: &[Need], used: &[u64]) -> bool
     requires { All (λ n. n.channel < length used.now) needs.now }
     ensures { result ≡ true → All (λ n. slice_index used.now n.channel ≡ 0) needs.now }
@@ -105,7 +105,7 @@ fn are_unused(needs: &[Need], used: &[u64]) -> bool
     true
 }
 
-/// Marks the channels of these needs.
+/// Marks the channels of these needs as used.
 fn mark_used(needs: &[Need], used: &mut Words)
     requires { All (λ n. n.channel < length used.old) needs.now }
     ensures count { length used.new ≡ length used.old }
@@ -117,7 +117,7 @@ fn mark_used(needs: &[Need], used: &mut Words)
     }
 }
 
-/// Marks a channel.
+/// Marks a channel as used.
 fn mark(channel: u32, used: &mut Words)
     requires { channel < length used.old }
     ensures { used.new ≡ slice_set used.old channel 1 }

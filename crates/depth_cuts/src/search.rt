@@ -1,4 +1,4 @@
-//! The search among the depths that meet cuts: it raises one channel for each cut that is not met.
+//! The search among the depths that meet cuts: for each cut that is not met, it raises one channel.
 ghost use Rattle.std.specs.Prelude.{◌≡◌, ℕ, ◌<◌, ◌≤◌, true, false, length, slice_index, slice_set, Some, IfOk, OnOk};
 ghost use Rattle.flow_design.specs.declared.limits.TheConstants.{FIFO_DEPTH};
 ghost use Rattle.depth_cuts.specs.Cuts.{AreDemands, IsNeed, bits_of as bits_in};
@@ -11,10 +11,11 @@ use crate::rises::{least_rise, least_rises};
 use flow_word::OutOfMemory;
 use std::alloc::Global;
 
-/// Goes through the depths from those at hand on that meet all cuts, where the cuts before a place are met already, and keeps the best.
-/// Depths that cannot be better than what is found are left out.
+/// Goes through all depths that meet the cuts and are no less than those at hand, and keeps the best. The depths at hand meet the
+/// cuts before a place already. It leaves out depths that cannot be better than the best found so far.
 ///
-/// It calls itself no deeper than there are cuts. It takes memory for depths that are kept. An error leaves some depths at hand.
+/// It calls itself no deeper than there are cuts. It takes memory for the depths that it keeps. After `OutOfMemory` the depths at
+/// hand may have been raised.
 pub(crate) fn search(
     alloc: Global,
     demands: &Demands,
@@ -51,8 +52,8 @@ pub(crate) fn search(
     Ok(())
 }
 
-/// Whether what is found is no worse than any depths from those at hand on that meet the cuts, of which those before a place are met
-/// already. An error leaves nothing.
+/// Whether the best found so far is no worse than any depths that meet the cuts and are no less than those at hand, which meet the
+/// cuts before a place already. `OutOfMemory` where memory ran out.
 fn cannot_improve(
     alloc: Global,
     demands: &Demands,
@@ -79,7 +80,7 @@ fn cannot_improve(
     }
 }
 
-/// 0 and another number in one another's place.
+/// The number after 0 and `first` have changed places.
 fn swapped(first: usize, number: usize) -> usize
     ensures { result ≡ swapped_of first number }
 {
@@ -92,14 +93,14 @@ fn swapped(first: usize, number: usize) -> usize
     }
 }
 
-/// A depth, and the bits with it.
+/// The depth of a channel before it was raised, and the bits of the choice then.
 #[derive(Clone, Copy)]
 struct Before {
     depth: u64,
     bits: u64,
 }
 
-/// Raises the channel of a need as far as it is needed. What was before.
+/// Raises the channel of a need to the depth that meets it. Returns the depth and the bits from before.
 fn raise(demands: &Demands, need: &Need, at: &mut Choice) -> Before
     requires demands { AreDemands demands.now }
     requires need { IsNeed (length at.old.depths) need.now }
@@ -118,7 +119,7 @@ fn raise(demands: &Demands, need: &Need, at: &mut Choice) -> Before
     before
 }
 
-/// Puts the depth of a channel back, and the bits.
+/// Gives a channel its depth from before, and the choice its bits.
 fn put_back(channel: u32, before: Before, at: &mut Choice)
     requires { channel < length at.old.depths }
     ensures depths { at.new.depths ≡ slice_set at.old.depths channel before.depth }

@@ -22,7 +22,7 @@ use Rattle.depth_order.specs.declared.link.Link.{Link}
 abbrev pub moves_at : Plan → ℕ → ℕ → Bool
 moves_at p c m = moves p c (state p c).contents (m, state_at p c m)
 
--- the first clock of the moves of module m that end with clock t
+-- the first clock of the moves in a row of module m that end with clock t
 unfoldable pub span_start : Plan → ℕ → ℕ → ℕ
 span_start p m zero = zero
 span_start p m (suc c) = if moves_at p c m then span_start p m c else suc c
@@ -30,26 +30,26 @@ span_start p m (suc c) = if moves_at p c m then span_start p m c else suc c
 abbrev pub port_of : Request → Port
 port_of r = record { side = side_of r.kind; channel = r.channel }
 
--- where a module that stands still in clock c stands: at the port of its first due blocking operation, in commit order, that cannot be
--- done; so a Pop is of an empty channel, and a Push of a full one
+-- the port that stalls module m in clock c: that of its first due blocking operation, in commit order, that cannot be done; a Pop
+-- is of an empty channel, and a Push of a full one
 abbrev pub stands_at : Plan → ℕ → ℕ → Option Port
 stands_at p c m = option_map port_of (find (stalls p c (state p c).contents) (requests_of p (m, state_at p c m)))
 
--- and in the clock before this one
+-- the port that stalls module m in the clock before this one; none before clock 0
 abbrev pub stood_at : Plan → ℕ → ℕ → Option Port
 stood_at p zero m = None
 stood_at p (suc c) m = stands_at p c m
 
 -- ---- the chain
 
--- across a port, as far back as that side sees the other: an element that came was pushed the channel's delay before, and a place that
--- came free was freed one clock before
+-- the rest of the chain across a port: it goes on in the module at the other side, so many clocks earlier as the port sees that
+-- side; an element was pushed the channel's delay before, and a place was freed one clock before
 abbrev pub goes_on : Plan → (ℕ → ℕ → List Link) → ℕ → Option Port → List Link
 goes_on p rest x None = []
 goes_on p rest x (Some a) =
     rest (owner p (record { side = other_side a.side; channel = a.channel })) (x - lag_in p a.side a.channel)
 
--- the chain back from module m in clock t, in which it moves, of at most so many links; the latest is the first
+-- the chain back from clock t, in which module m moves, of at most n links; the latest link stands first
 unfoldable pub chain : Plan → ℕ → ℕ → ℕ → List Link
 chain p zero m t = []
 chain p (suc n) m t =
@@ -64,7 +64,7 @@ abbrev pub chain_from : Plan → ℕ → Option ℕ → List Link → List Link
 chain_from p c None rest = rest
 chain_from p c (Some m) rest = chain p (suc c) m c
 
--- the chain back from the last clock below c in which a module moves
+-- the chain back from the last clock before c in which a module moves
 unfoldable pub path : Plan → ℕ → List Link
 path p zero = []
 path p (suc c) = chain_from p c (first_mover p c) (path p c)
@@ -75,7 +75,7 @@ abbrev pub is_push : Option Port → Bool
 is_push None = false
 is_push (Some a) = same_side a.side Push
 
--- the chain crosses a full FIFO
+-- the chain crosses a full FIFO: one of its links begins after a stall at a pushing side
 abbrev pub crosses_full : List Link → Bool
 crosses_full links = list_any (λ l. is_push l.crossed) links
 

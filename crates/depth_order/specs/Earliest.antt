@@ -1,5 +1,5 @@
--- What no depths of the FIFOs make earlier: a module has made so many local clocks, each at once after the one before it, or as soon as
--- an element could come that was pushed as early as may be.
+-- Clocks that no depths make earlier: each local clock of a module comes at once after the one before it, or as soon as an element
+-- can come that is pushed as early as possible.
 use Rattle.std.specs.Prelude.{◌≡◌, ℕ, zero, suc, ◌+◌, ◌≤◌, Bool, true, false, cond, ◌&&◌, ◌||◌, eqb, List, [], ◌∷◌}
 use Rattle.flow_word.specs.declared.access.Side.TheVariants.{Pop, Push}
 use Rattle.flow_word.specs.Kinds.{same_side}
@@ -11,7 +11,7 @@ unfoldable pub made : {S : Type 0} → Design S → Trace S → ℕ → ℕ → 
 made {S} d h m zero = 0
 made {S} d h m (suc c) = cond (moves d h c m) (suc (made d h m c)) (made d h m c)
 
--- one of these accesses waits for an element of the channel
+-- the access blocks and pops the channel
 abbrev pub pops_of : ℕ → Access → Bool
 pops_of ch a = a.blocks && (same_side a.side Pop && eqb a.channel ch)
 
@@ -19,10 +19,11 @@ abbrev pub waits_for : ℕ → List Access → Bool
 waits_for ch [] = false
 waits_for ch (a ∷ xs) = pops_of ch a || waits_for ch xs
 
--- no depths let module m get further before clock c:
---   it is clock 0; or
---   no depths let it get further before the clock before, in which it moves; or
---   the module waits for an element of a channel, of which no more came than it has popped as long as the pushing module has come no
+-- no depths let module m make more local clocks before clock c than it does:
+--   c is clock 0; or
+--   this holds of the clock before, in which the module moves; or
+--   the module waits for an element of a channel, all that were pushed before clock b are popped, c is at most the channel's delay after b,
+--   and no depths let the pushing module make more local clocks before b
 --   further than in clock b; no depths let that one get further before b; and the channel's delay lies between b and c
 pub data IsEarliest {S : Type 0} (d : Design S) (h : Trace S) : ℕ → ℕ → Type 0 where
   Start : (m : ℕ) → IsEarliest d h m zero

@@ -1,9 +1,9 @@
--- The record of a module's answers beside those of a report.
+-- The record of a module's answers, compared with the answers of a report.
 use Rattle.std.specs.Prelude.{◌≡◌, ℕ, ◌<◌, ◌⊎◌, Bool, List, [], length, slice_index_or}
 use Rattle.outcome_guard.specs.Prefixes.{IsPrefix}
 use Rattle.outcome_guard.specs.declared.count.RunCount.{RunCount}
 
--- the answers of a module
+-- the answers of module m
 abbrev pub answers_of : List (List Bool) → ℕ → List Bool
 answers_of all m = slice_index_or all m []
 
@@ -11,11 +11,11 @@ answers_of all m = slice_index_or all m []
 abbrev pub counted : List (List Bool) → ℕ → RunCount
 counted kept runs = record { kept = kept; runs = runs }
 
--- of each module the answers that are found are the first of those that are kept
+-- for each module the answers that are found are a prefix of those that are kept
 abbrev pub RepeatsAnswers : List (List Bool) → List (List Bool) → Type 0
 RepeatsAnswers kept found = (m : ℕ) → m < length kept → IsPrefix (answers_of found m) (answers_of kept m)
 
--- a module's record only grew, begins with what is found, and is as it was or all of what is found
+-- a module's record goes on: it begins with what was kept and with what is found, and is one of these two
 pub record GoesOn (kept found now : List Bool) : Type 0 where
   pub grew : IsPrefix kept now
   pub begins : IsPrefix found now

@@ -1,4 +1,4 @@
--- The core of a session, before and behind an edit.
+-- The core of a session, before and after an edit.
 use Rattle.std.specs.Prelude.{ℕ, Bool}
 use Rattle.flow_design.specs.declared.plan.Edit.{Edit}
 use Rattle.outcome_guard.specs.declared.guard.Guard.{Guard}
@@ -14,19 +14,19 @@ use Rattle.sim_core.specs.Records.{IsEditedOn, recorded_in}
 use Rattle.depth_session.specs.Records.{counted}
 use Rattle.depth_session.specs.Sessions.{Session}
 
--- a final core of which no run is lent
+-- the core is settled: it is final, and no run is lent
 pub record IsSettled (v : CoreView) : Type 0 where
   pub final : IsFinal (design v.plan) v.plan.cycles (theory_of v)
   pub own : AreOwn v
 
--- what is kept of the reports so far are the outcomes that the core holds
+-- the count of a session with this core: the answers that are kept are the outcomes that the core holds
 abbrev pub count_of : CoreView → ℕ → RunCount
 count_of v runs = counted (recorded_in v.held.logs) runs
 
 abbrev pub session_of : CoreView → ℕ → Bool → Session
 session_of v runs live = record { plan = v.plan; count = count_of v runs; live = live }
 
--- the count with the report of the plan that now stands
+-- the count after the report of the new core's plan
 abbrev pub count_with : CoreView → ℕ → CoreView → RunCount
 count_with v runs w = next_counts (count_of v runs) (report w.plan).answers
 
@@ -34,7 +34,7 @@ count_with v runs w = next_counts (count_of v runs) (report w.plan).answers
 abbrev pub HasRun : CoreView → Type 0
 HasRun w = (m : ℕ) × MayRun (design w.plan) (theory_of w) m
 
--- the edited core is final again; or a query is found to be another
+-- the edited core is settled again, or a query is found with another outcome
 abbrev pub HasGoneOn : Guard → CoreView → Edit → CoreView → Type 0
 HasGoneOn Same v e w = IsEditedOn v e w × IsSettled w
 HasGoneOn (Differs q) v e w = IsEditedOn v e w × IsDiffering w q

@@ -1,4 +1,4 @@
-//! A core behind an edit: where outcomes are as they were recorded it goes on, and else it is simulated again.
+//! A core after an edit: it goes on where outcomes are the recorded ones, and is else simulated again.
 ghost use Rattle.std.specs.Prelude.{◌≡◌, ◌+◌, ◌<◌, ◌≤◌, IsOk, IfOk, OnOk, OnErr};
 ghost use Rattle.flow_design.specs.Plans.{EditFits, with_depth};
 ghost use Rattle.flow_design.specs.StaticRules.{FitsEngine};
@@ -23,10 +23,11 @@ use std::sync::Wait;
 use std::sync::ledger::{Blank, Ledger};
 use std::thread::Threads;
 
-/// Edits a core that is settled, and settles it again. How many runs are counted then.
+/// Edits a settled core, and settles it again. Answers how many runs are then counted.
 ///
-/// The runner is called exactly where one more is counted, and never where no operation of the plan is a query. There is no error
-/// where of each module the report's answers are the first of those that the core has recorded. An error leaves the plan edited.
+/// The runner simulates exactly where one more run is counted, and never where no operation of the plan is a query. There is no
+/// error where, for each module, the report's answers are a prefix of those that the core has recorded. After `OutOfMemory` the
+/// plan is edited all the same.
 pub(crate) fn follow<R: Threads + Wait + Sync, U: Runner>(
     rt: &R,
     alloc: Global,
@@ -59,7 +60,7 @@ pub(crate) fn follow<R: Threads + Wait + Sync, U: Runner>(
     }
 }
 
-/// Edits a core, and does what is left to do, until a query is found to be another than it was recorded.
+/// Edits a core, and does all actions that are left, until a query is found with another outcome than the recorded one.
 fn go_on<L: Ledger>(core: &mut Core, edit: &Edit, blank: Blank) -> Result<Guard, OutOfMemory>
     requires name { blank.name ≡ L.name }
     requires parts { blank.parts ≡ L.parts }
@@ -82,7 +83,8 @@ fn go_on<L: Ledger>(core: &mut Core, edit: &Edit, blank: Blank) -> Result<Guard,
     }
 }
 
-/// Does what is left to do in a core of which no run is lent.
+/// Does all actions that are left in a core of which no run is lent, until a query is found with another outcome than the assumed
+/// one.
 fn drive_on<L: Ledger>(core: &mut Core, steps: &mut Steps<L>) -> Result<Guard, OutOfMemory>
     requires own { AreOwn core.old }
     ensures goes { Goes core.old steps.old core.new steps.new }
@@ -95,8 +97,8 @@ fn drive_on<L: Ledger>(core: &mut Core, steps: &mut Steps<L>) -> Result<Guard, O
     guard
 }
 
-/// Puts a core in place of this one that is simulated from the beginning. The runs of the modules go over to it, so that no block is
-/// compiled again.
+/// Replaces a core by one that is simulated from the beginning. The runs of the modules are used again, so that no block is
+/// compiled a second time.
 fn run_again<R: Threads + Wait + Sync, U: Runner>(
     rt: &R,
     alloc: Global,
@@ -116,7 +118,7 @@ fn run_again<R: Threads + Wait + Sync, U: Runner>(
     Ok(())
 }
 
-/// A core of a plan that was simulated before, simulated once more. It has the answers of the plan's report.
+/// Simulates a plan once more, on the runs of the core that it had. The answer has the answers of the plan's report.
 fn second_core<R: Threads + Wait + Sync, U: Runner>(
     rt: &R,
     alloc: Global,
@@ -138,7 +140,7 @@ fn second_core<R: Threads + Wait + Sync, U: Runner>(
     Ok(core)
 }
 
-/// The core of a plan that is not edited yet. It has the answers of the plan's report.
+/// Simulates a plan for the first time. The answer has the answers of the plan's report.
 pub(crate) fn first_core<R: Threads + Wait + Sync, U: Runner>(
     rt: &R,
     alloc: Global,

@@ -1,4 +1,4 @@
-//! A plan whose FIFO depths are edited one after the other: after each edit the report, and how many runs all reports count.
+//! A plan whose FIFO depths are edited one after the other: after each edit its report, and how many runs all reports count.
 #![tactic(auto)]
 
 mod following;

@@ -17,7 +17,7 @@ use std::sync::Wait;
 use std::thread::Threads;
 use turn_history::histories_are_legal;
 
-/// The leave to count a run. `run_plan` and `run_again` alone make one, so that nobody else counts.
+/// The leave to count a run. Only `run_plan` and `run_again` make one, so that nobody else counts.
 pub struct Asked {
     of: (),
 }
@@ -28,37 +28,38 @@ impl Drop for Asked {
     }
 }
 
-/// Something that simulates plans from the beginning, and counts how often: on the calling thread, or with a thread for each module.
+/// Something that simulates plans from the beginning, and counts how often: on the calling thread, or with a thread for each
+/// module.
 pub trait Runner {
-    /// How many runs it was asked for. The count stands still at the greatest u64.
+    /// How many runs the runner was asked for. The count stands still at the greatest u64.
     ghost made: { Self → ℕ };
 
-    /// What makes the bursts of its threads.
+    /// The type of its gate, which makes the bursts of its threads.
     type Gate: Gate + Sync;
 
     /// The gate of its threads; none where it simulates on the calling thread.
     ghost gate_of: { Self → Option Self.Gate };
 
-    /// Counts one run more, which it was asked for.
+    /// Counts one more run.
     fn count_run(&mut self, asked: Asked)
         ensures counted { made self.old < u64.MAX → made self.new ≡ made self.old + 1 }
         ensures stays { u64.MAX ≤ made self.old → made self.new ≡ made self.old }
         ensures gate { gate_of self.new ≡ gate_of self.old };
 
-    /// The gate of its threads; none where it simulates on the calling thread.
+    /// The gate of its threads. `None` where it simulates on the calling thread.
     fn gate(&self) -> Option<&Self::Gate>
         ensures { option_copied result ≡ gate_of self.now };
 
-    /// The modules that have no thread in a run again, since the run before it found their bursts light.
+    /// The modules whose bursts the last run found to be light: they have no thread when a plan is simulated again.
     fn light(&self) -> Light;
 
-    /// Keeps what a run found.
+    /// Keeps the modules whose bursts a run found to be light.
     fn set_light(&mut self, light: Light)
         ensures made { made self.new ≡ made self.old }
         ensures gate { gate_of self.new ≡ gate_of self.old };
 
-    /// Simulates a plan: a final core of it, of which no run is lent and no outcome is assumed. The run is counted, also
-    /// where there is no memory for it.
+    /// Simulates a plan. The answer is a final core of it, of which no run is lent and no outcome is assumed. The run is counted,
+    /// after `OutOfMemory` too.
     final fn run_plan<R: Threads + Wait + Sync>(
         &mut self,
         rt: &R,
@@ -81,8 +82,8 @@ pub trait Runner {
         Ok(core)
     }
 
-    /// Simulates a plan once more, from a core of it in which nothing is emitted yet. The modules whose bursts were light in the run
-    /// before have no thread. The run is counted, also where there is no memory for it.
+    /// Simulates a plan once more, from a core of it in which nothing is emitted yet. The modules whose bursts the last run found
+    /// to be light have no thread. The run is counted, after `OutOfMemory` too.
     final fn run_again<R: Threads + Wait + Sync>(
         &mut self,
         rt: &R,
@@ -108,7 +109,7 @@ pub trait Runner {
 }
 
 /// Simulates from a core in which nothing is emitted yet: with a thread for each module that is not known to be light, or on the
-/// calling thread where there is no gate. What is known then of the modules comes with the core.
+/// calling thread where there is no gate. The second answer has the modules that are then known to be light.
 fn simulate<R: Threads + Wait + Sync, G: Gate + Sync>(
     rt: &R,
     alloc: Global,
@@ -130,7 +131,7 @@ fn simulate<R: Threads + Wait + Sync, G: Gate + Sync>(
     }
 }
 
-/// Finishes a core with threads, which meet at this gate.
+/// Simulates from a core in which nothing is emitted yet, with threads that use this gate.
 fn run_by_threads<R: Threads + Wait + Sync, G: Gate + Sync>(
     rt: &R,
     alloc: Global,
@@ -146,17 +147,17 @@ fn run_by_threads<R: Threads + Wait + Sync, G: Gate + Sync>(
     ensures own { IfOk result (λ r. AreOwn r.0) }
 {
     histories_are_legal();
-    // The engine takes the core's plan.
+    // This brings in what a core always keeps: the engine takes its plan.
     let _modules = core.modules();
     let mut light = light;
     let threaded = run_core(rt, alloc, core, gate, &mut light)?;
     Ok((threaded.core, light))
 }
 
-/// Simulates on one thread.
+/// A runner that simulates on the calling thread.
 #[derive(Clone, Copy, Debug, PartialEq, Eq)]
 pub struct AloneRunner {
-    /// How many runs it was asked for.
+    /// How many runs the runner was asked for.
     runs: u64,
 }
 
@@ -172,7 +173,7 @@ impl AloneRunner {
 impl Runner for AloneRunner {
     ghost made = { λ runner. runner.runs };
 
-    /// No thread asks for it.
+    /// It has no threads, so its gate is never used.
     type Gate = FreeGate;
 
     ghost gate_of = { λ runner. None };
@@ -192,14 +193,14 @@ impl Runner for AloneRunner {
     fn set_light(&mut self, _light: Light) {}
 }
 
-/// Simulates with a thread for each module.
+/// A runner that simulates with a thread for each module.
 #[derive(Clone, Copy, Debug)]
 pub struct ThreadRunner<'g, G> {
-    /// Makes the bursts of all modules.
+    /// The gate, which makes the bursts of all modules.
     gate: &'g G,
-    /// How many runs it was asked for.
+    /// How many runs the runner was asked for.
     runs: u64,
-    /// The modules whose bursts were light in the last run.
+    /// The modules whose bursts the last run found to be light.
     light: Light,
 }
 

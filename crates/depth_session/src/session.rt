@@ -1,4 +1,4 @@
-//! The session.
+//! Sessions of depth edits.
 ghost use Rattle.std.specs.Prelude.{◌≡◌, ◌+◌, ◌<◌, ◌≤◌, true, IsOk, IfOk, OnOk, OnErr};
 ghost use Rattle.flow_design.specs.Plans.{EditFits};
 ghost use Rattle.flow_design.specs.StaticRules.{FitsEngine};
@@ -22,11 +22,11 @@ use std::marker::Model;
 use std::sync::Wait;
 use std::thread::Threads;
 
-/// A plan whose FIFO depths are edited one after the other. After each edit it has the report, and how many runs all reports
-/// so far count.
+/// A plan whose FIFO depths are edited one after the other. After each edit it has the report, and how many runs all reports so far
+/// count.
 ///
-/// Contracts see the plan that stands, the answers that are kept, the count of runs, and whether there was memory for each
-/// edit so far: then the session is live.
+/// Contracts see the present plan, the answers that are kept, the count of runs, and whether the session is live: no edit so far
+/// ran out of memory.
 pub struct DepthSession {
     core: Core,
     runs: u64,
@@ -60,9 +60,9 @@ impl Model for DepthSession {
 }
 
 impl DepthSession {
-    /// The session of a plan that is not edited yet: its report is one run of the runner, whether there is memory or not.
+    /// A session of a plan before any edit. The runner counts one run for its report, after `OutOfMemory` too.
     ///
-    /// An error leaves nothing, and the plan is gone.
+    /// After `OutOfMemory` the plan is lost.
     pub fn new<R: Threads + Wait + Sync, U: Runner>(
         rt: &R,
         alloc: Global,
@@ -82,14 +82,15 @@ impl DepthSession {
         })
     }
 
-    /// Edits the depth of a FIFO. The record goes on where outcomes are as they were recorded. The runner is called exactly
-    /// where the report counts one run more: once at most, and never where no operation of the plan is a query. Where of each
-    /// module the report's answers are the first of those that are kept, there is no error: it needs no memory.
+    /// Edits the depth of a FIFO. The session goes on with its record where each outcome that is found is the recorded one. Else
+    /// the runner simulates the plan again: it does so exactly where the report counts one more run, at most once, and never where
+    /// no operation of the plan is a query. There is no error where, for each module, the report's answers are a prefix of those
+    /// that are kept: then it takes no memory.
     ///
-    /// Where the record goes on, the edit sets no more cycles than there are steps at or after the first clock that it touches, steps
-    /// that had no cycle, and new steps (`sim_core::edits_set_few`).
+    /// Where the record goes on, the edit sets at most as many cycles as there are steps of three kinds: those with a cycle at or
+    /// after the first touched clock, those that had no cycle, and new ones (`sim_core::edits_set_few`).
     ///
-    /// An error leaves a session that is not live, with the plan edited.
+    /// After `OutOfMemory` the session is not live, and the plan is edited all the same.
     pub fn edit<R: Threads + Wait + Sync, U: Runner>(
         &mut self,
         rt: &R,
@@ -117,9 +118,9 @@ impl DepthSession {
         Ok(())
     }
 
-    /// The report of the plan that stands, with its events where they are asked for and else with none.
+    /// The report of the present plan, with its events if they are asked for, else with none.
     ///
-    /// An error leaves nothing.
+    /// It takes memory for the report. After `OutOfMemory` the session is as it was.
     pub fn report(&self, alloc: Global, with_events: bool) -> Result<Report, OutOfMemory>
         requires { self.now.live ≡ true }
         ensures { IfOk result (λ report. report ≡ report_with with_events self.now.plan) }
@@ -127,7 +128,7 @@ impl DepthSession {
         self.core.report(alloc, with_events)
     }
 
-    /// The verdict of the plan that stands: the lockstep machine's. It takes no memory, and counts no run.
+    /// The verdict of the present plan: it is the lockstep machine's. It takes no memory, and counts no run.
     pub fn verdict(&self) -> Verdict
         requires { self.now.live ≡ true }
         ensures { result ≡ lockstep.verdict self.now.plan }
@@ -135,7 +136,7 @@ impl DepthSession {
         self.core.verdict()
     }
 
-    /// The core of the plan that stands: a final one.
+    /// The final core of the present plan.
     pub fn core(&self) -> &Core
         requires { self.now.live ≡ true }
         ensures plan { result.now.plan ≡ self.now.plan }
@@ -144,21 +145,21 @@ impl DepthSession {
         &self.core
     }
 
-    /// The plan that stands.
+    /// The present plan: with the depths of all edits so far.
     pub fn plan(&self) -> &Plan
         ensures { result.now ≡ self.now.plan }
     {
         self.core.plan()
     }
 
-    /// How many runs the reports so far count.
+    /// How many runs the reports so far count together.
     pub fn runs(&self) -> u64
         ensures { result ≡ self.now.count.runs }
     {
         self.runs
     }
 
-    /// Whether there was memory for each edit so far.
+    /// Whether the session is live: no edit so far ran out of memory.
     pub fn is_live(&self) -> bool
         ensures { result ≡ self.now.live }
     {

@@ -3,7 +3,7 @@ use Rattle.std.specs.Prelude.{◌≡◌, ℕ, ◌<◌, ◌≤◌, List, [], leng
 use Rattle.flow_design.specs.declared.report.Verdict.TheVariants.{Done}
 use Rattle.depth_sweep.specs.declared.point.Point.{Point}
 
--- what stands where a place has no point
+-- the default where a place has no point
 abbrev pub no_point : Point
 no_point = record { depths = []; verdict = Done 0 }
 
@@ -11,7 +11,7 @@ no_point = record { depths = []; verdict = Done 0 }
 abbrev pub point_at : List Point → ℕ → Point
 point_at points place = slice_index_or points place no_point
 
--- a point stands at this place, and is done with this latency; its depths have this sum
+-- there is a point at this place, it is done with this latency, and its depths have this sum
 pub record IsDoneAt (points : List Point) (place latency total : ℕ) : Type 0 where
   pub within : place < length points
   pub verdict : (point_at points place).verdict ≡ Done latency
@@ -22,9 +22,9 @@ pub record IsBest (points : List Point) (place : ℕ) : Type 0 where
   pub latency : ℕ
   pub total : ℕ
   pub done : IsDoneAt points place latency total
-  -- none is done earlier
+  -- no point is done earlier
   pub fastest : (other l t : ℕ) → IsDoneAt points other l t → latency ≤ l
   -- of those done in the same clock, none has a lesser sum of depths
   pub smallest : (other t : ℕ) → IsDoneAt points other latency t → total ≤ t
-  -- of those with the same sum too, it is the first
+  -- of those done in the same clock with the same sum, it is the first
   pub first : (other : ℕ) → IsDoneAt points other latency total → place ≤ other

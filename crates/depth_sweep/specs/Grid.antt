@@ -14,18 +14,18 @@ use Rattle.depth_sweep.specs.declared.point.Point.{Point}
 abbrev pub width : ℕ → ℕ → ℕ
 width lo hi = suc hi - lo
 
--- these depths, in order
+-- the depths from lo to hi, in order
 abbrev pub depths_between : ℕ → ℕ → List ℕ
 depths_between lo hi = range_with_len lo (width lo hi)
 
--- all lists of so many of them in lexicographic order: by the first depth, and with one first depth by the others
+-- all lists of n depths from lo to hi, in lexicographic order
 unfoldable pub grid : ℕ → ℕ → ℕ → List (List ℕ)
 grid lo hi zero = [] ∷ []
 grid lo hi (suc n) = flat_map (λ first. map (λ others. first ∷ others) (grid lo hi n)) (depths_between lo hi)
 
 -- ---- a plan with other depths
 
--- the edits that set these depths, the first FIFO first
+-- the edits that give these channels these depths, in order
 abbrev pub depth_edits : List ℕ → List ℕ → List Edit
 depth_edits channels depths = map (λ e. record { channel = e.0; depth = e.1 }) (zip channels depths)
 
@@ -39,10 +39,10 @@ with_depths p depths = plan_after p (depth_edits (fifos p) depths)
 unfoldable pub point : Plan → List ℕ → Point
 point p depths = record { depths = depths; verdict = (report (with_depths p depths)).verdict }
 
--- the most lists that a sweep goes through
+-- the most points that a sweep simulates
 abbrev pub most_points : ℕ
 most_points = 4_096
 
--- the lists of depths of a plan
+-- the lists of depths that a sweep of the plan goes through
 abbrev pub grid_of : Plan → ℕ → ℕ → List (List ℕ)
 grid_of p lo hi = grid lo hi (length (fifos p))

@@ -1,10 +1,10 @@
--- The best of the first points.
+-- The best of the first n points.
 use Rattle.std.specs.Prelude.{ℕ, ◌<◌, ◌≤◌, List, Option, None, Some}
 use Rattle.depth_sweep.specs.Best.{IsDoneAt}
 use Rattle.depth_sweep.specs.declared.ranking.Finish.{Finish}
 use Rattle.depth_sweep.specs.declared.point.Point.{Point}
 
--- the best of the first n points
+-- what is kept is the best of the first n points
 pub record IsBestOf (points : List Point) (n : ℕ) (kept : Finish) : Type 0 where
   pub within : kept.place < n
   pub done : IsDoneAt points kept.place kept.latency kept.total
@@ -12,7 +12,7 @@ pub record IsBestOf (points : List Point) (n : ℕ) (kept : Finish) : Type 0 whe
   pub smallest : (other t : ℕ) → other < n → IsDoneAt points other kept.latency t → kept.total ≤ t
   pub first : (other : ℕ) → other < n → IsDoneAt points other kept.latency kept.total → kept.place ≤ other
 
--- what is kept of the first n points: the best of them, and nothing where none is done
+-- `Some` is the best of the first n points; with `None`, none of them is done
 abbrev pub IsKept : List Point → ℕ → Option Finish → Type 0
 IsKept points n None = (other l t : ℕ) → other < n → ¬ IsDoneAt points other l t
 IsKept points n (Some kept) = IsBestOf points n kept

@@ -3,7 +3,7 @@ use Rattle.std.specs.Prelude.{◌≡◌, ◌≤◌, length}
 use Rattle.depth_sweep.specs.declared.shape.Shape.{Shape}
 use Rattle.depth_sweep.specs.Grid.{grid}
 
--- the depths go from the least to the greatest, and the grid has so many lists
+-- the depths go from at least 1 to the greatest, and the shape says how many lists the grid has
 pub record IsShape (shape : Shape) : Type 0 where
   pub least : 1 ≤ shape.lo
   pub ordered : shape.lo ≤ shape.hi

@@ -1,4 +1,4 @@
-//! The FIFOs of a plan, and other depths for them.
+//! The FIFOs of a plan, and how to give them other depths.
 ghost use Rattle.std.specs.Prelude.{◌≡◌, ◌<◌, ◌≤◌, length, All, IfOk};
 ghost use Rattle.flow_design.specs.Plans.{is_fifo, kind_at};
 ghost use Rattle.flow_design.specs.declared.limits.TheConstants.{FIFO_DEPTH};
@@ -33,7 +33,7 @@ pub(crate) fn fifo_count(plan: &Plan) -> u64
     count
 }
 
-/// The numbers of the FIFOs, in order.
+/// The numbers of a plan's FIFOs, in order of declaration. `OutOfMemory` where memory ran out.
 pub(crate) fn fifos(alloc: Global, plan: &Plan) -> Result<Vec<u32>, OutOfMemory>
     requires { FitsEngine plan.now }
     ensures { IfOk result (λ channels. channels.items ≡ fifos plan.now) }
@@ -47,7 +47,7 @@ pub(crate) fn fifos(alloc: Global, plan: &Plan) -> Result<Vec<u32>, OutOfMemory>
     Ok(channels)
 }
 
-/// Sets the depths of the FIFOs, which are these channels.
+/// Sets the depths of the FIFOs, whose channel numbers are `channels`.
 pub(crate) fn set_depths(plan: &mut Plan, channels: &[u32], depths: &[u64])
     requires fits { FitsEngine plan.old }
     requires channels { channels.now ≡ fifos plan.old }

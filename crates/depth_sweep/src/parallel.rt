@@ -1,4 +1,4 @@
-//! The sweep.
+//! The sweep over a grid of depths, on several threads.
 ghost use Rattle.std.specs.Prelude.{◌≡◌, ◌≤◌, ◌<◌, ◌↔◌, [], Err, length, map, slice_index_or, IfOk};
 ghost use Rattle.flow_design.specs.StaticRules.{FitsEngine};
 ghost use Rattle.depth_sweep.specs.Grid.{grid, grid_of, most_points, point};
@@ -15,13 +15,13 @@ use std::alloc::{AllocError, Global};
 use std::thread::Threads;
 use thiserror::Error;
 
-/// Why there are no points.
+/// Why a sweep gives no points.
 #[derive(Clone, Copy, Debug, PartialEq, Eq, Error)]
 pub enum SweepFault {
     /// The grid has more than 4,096 lists.
     #[error("the grid has more than 4096 lists")]
     TooWide,
-    /// There was no memory.
+    /// Memory ran out.
     #[error("out of memory")]
     OutOfMemory,
 }
@@ -40,7 +40,7 @@ impl From<OutOfMemory> for SweepFault {
 /// of the plan with these depths. Each point is simulated by itself, on several threads where these can be started, and the points
 /// are the same for any number of threads.
 ///
-/// `TooWide` is the answer where the grid has more than 4,096 lists; then nothing was simulated. An error leaves nothing.
+/// `TooWide` where the grid has more than 4,096 lists; then nothing is simulated. `OutOfMemory` where memory ran out.
 pub fn sweep<R: Threads + Sync>(
     rt: &R,
     alloc: Global,
@@ -61,7 +61,7 @@ pub fn sweep<R: Threads + Sync>(
     }
 }
 
-/// The points of a grid of this shape.
+/// The points of a grid of this shape, in order. `OutOfMemory` where memory ran out.
 fn simulate_all<R: Threads + Sync>(
     rt: &R,
     alloc: Global,
@@ -78,7 +78,7 @@ fn simulate_all<R: Threads + Sync>(
     listed(alloc, points)
 }
 
-/// The points by their numbers, as a parallel map.
+/// The points of a grid of this shape, in order, found by a parallel map over their numbers. `OutOfMemory` where memory ran out.
 fn map_numbers<R: Threads + Sync>(
     rt: &R,
     alloc: Global,
@@ -106,7 +106,7 @@ fn map_numbers<R: Threads + Sync>(
         .collect(rt, alloc)
 }
 
-/// The point with this number.
+/// The point of a grid with this number, counted from 0. `OutOfMemory` where memory ran out.
 fn point_numbered(
     alloc: Global,
     plan: &Plan,
@@ -126,7 +126,7 @@ fn point_numbered(
     simulate(alloc, plan, channels, depths)
 }
 
-/// These points as a list.
+/// The points as a list. `OutOfMemory` where memory ran out.
 fn listed(alloc: Global, points: Vec<Point>) -> Result<List<Point>, OutOfMemory>
     ensures { IfOk result (λ list. list ≡ points.items) }
 {

@@ -1,4 +1,4 @@
-//! One point.
+//! One point of a grid of depths.
 ghost use Rattle.std.specs.Prelude.{◌≡◌, ◌≤◌, ◌<◌, length, All, IfOk};
 ghost use Rattle.flow_design.specs.declared.limits.TheConstants.{FIFO_DEPTH};
 ghost use Rattle.flow_design.specs.StaticRules.{FitsEngine};
@@ -27,7 +27,8 @@ impl Drop for Point {
     }
 }
 
-/// The point of these depths of a plan whose FIFOs are these channels, simulated on a copy of the plan.
+/// Simulates a copy of a plan with these depths for its FIFOs, whose channel numbers are `channels`. `OutOfMemory` where memory ran
+/// out.
 #[tactic(auto, unfolding(crate::specs::Grid::point, lockstep_defs::specs::Report::report))]
 pub(crate) fn simulate(
     alloc: Global,

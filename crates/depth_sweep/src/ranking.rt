@@ -7,19 +7,19 @@ ghost use Rattle.depth_sweep.specs.Kept.{IsKept};
 use crate::point::Point;
 use flow_design::Verdict;
 
-/// A point that is done.
+/// A point whose plan is done.
 #[derive(Clone, Copy, Debug)]
 pub(crate) struct Finish {
-    /// The point's place among the points.
+    /// The point's place in the list of points.
     place: u64,
-    /// When it is done, in clocks.
+    /// The clock in which the plan is done.
     latency: u64,
-    /// The sum of its depths. It fits for any list that memory holds.
+    /// The sum of the point's depths. It fits for any list that memory holds.
     total: u128,
 }
 
-/// The place of the best point: it is done, none is done in an earlier clock, of those done in the same clock none has a lesser
-/// sum of depths, and of those it is the first. None where no point is done. It takes no memory.
+/// The place of the best point. Its plan is done; no other is done in an earlier clock; of those done in that clock none has a
+/// lesser sum of depths; and of those it is the first. `None` where no point is done. It takes no memory.
 pub fn best(points: &[Point]) -> Option<u64>
     ensures best { IfSome result (λ place. IsBest points.now place) }
     ensures none { IfNone result ((place latency total : ℕ) → ¬ IsDoneAt points.now place latency total) }
@@ -32,7 +32,7 @@ pub fn best(points: &[Point]) -> Option<u64>
     Some(best.place)
 }
 
-/// The best of the points up to this place, from the best of those before it.
+/// The best of the points up to this place, given the best of those before it.
 fn with_next(kept: Option<Finish>, points: &[Point], place: usize) -> Option<Finish>
     requires place { place < length points.now }
     requires kept { IsKept points.now place kept }
@@ -47,7 +47,7 @@ fn with_next(kept: Option<Finish>, points: &[Point], place: usize) -> Option<Fin
     }
 }
 
-/// The point as one that is done, if it is.
+/// The point with its latency and its sum of depths. `None` where its plan is not done.
 fn finish_of(place: u64, point: &Point) -> Option<Finish>
     ensures place { IfSome result (λ finish. finish.place ≡ place) }
     ensures done { IfSome result (λ finish. point.now.verdict ≡ Done finish.latency) }
@@ -64,7 +64,7 @@ fn finish_of(place: u64, point: &Point) -> Option<Finish>
     }
 }
 
-/// Whether the one is done earlier than the other, or in the same clock with a lesser sum of depths.
+/// Whether `next` is done earlier than `kept`, or in the same clock with a lesser sum of depths.
 fn is_better(next: &Finish, kept: &Finish) -> bool
     ensures { IsTrue result ↔ ((next.now.latency < kept.now.latency)
         ⊎ ((next.now.latency ≡ kept.now.latency) × (next.now.total < kept.now.total))) }

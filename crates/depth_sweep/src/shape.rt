@@ -1,4 +1,4 @@
-//! How wide a grid is, and its lists by their numbers.
+//! How many lists a grid has, and which list has which number.
 ghost use Rattle.std.specs.Prelude.{◌≡◌, ◌<◌, ◌≤◌, ◌^◌, [], length, slice_index_or, IfOk, SomeIff};
 ghost use Rattle.depth_sweep.specs.Grid.{grid};
 ghost use Rattle.depth_sweep.specs.Shapes.{IsShape};
@@ -9,7 +9,7 @@ use std::alloc::Global;
 /// The most lists that a grid may have.
 const MOST_POINTS: u64 = 4096;
 
-/// The grid of all lists of so many depths, each at least `lo` and at most `hi`, and how many lists that is.
+/// The grid of all lists of `fifos` depths, each at least `lo` and at most `hi`, and how many lists that is.
 #[derive(Clone, Copy, Debug)]
 pub(crate) struct Shape {
     pub lo: u64,
@@ -18,7 +18,7 @@ pub(crate) struct Shape {
     pub lists: u64,
 }
 
-/// The shape of a grid, and none where it has too many lists.
+/// The shape of a grid. `None` where it has more lists than a grid may have.
 pub(crate) fn shape_of(lo: u64, hi: u64, fifos: u64) -> Option<Shape>
     requires least { 1 ≤ lo }
     requires ordered { lo ≤ hi }
@@ -35,7 +35,7 @@ pub(crate) fn shape_of(lo: u64, hi: u64, fifos: u64) -> Option<Shape>
     })
 }
 
-/// A power, if it is not too great. It is never multiplied further than that.
+/// A power. `None` where it is greater than `MOST_POINTS`; it stops to multiply as soon as the product is.
 fn power(base: u64, exponent: u64) -> Option<u64>
     requires least { 1 ≤ base }
     requires most { base ≤ 64 }
@@ -51,8 +51,8 @@ fn power(base: u64, exponent: u64) -> Option<u64>
     Some(product)
 }
 
-/// The list of a grid with this number: the digits of the number, the most significant first, tell how far each depth lies above
-/// the least.
+/// The list of a grid with this number. The digits of the number, the most significant first, tell how far each depth lies above
+/// the least. `OutOfMemory` where memory ran out.
 pub(crate) fn depths_at(alloc: Global, shape: &Shape, number: u64) -> Result<Words, OutOfMemory>
     requires shape { IsShape shape.now }
     requires number { number < shape.now.lists }

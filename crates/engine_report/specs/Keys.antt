@@ -1,4 +1,4 @@
--- Steps with their cycles, as they are sorted.
+-- Steps with their cycles, in the form in which they are sorted.
 use Rattle.std.specs.Prelude.{◌≡◌, ℕ, ◌<◌, List, map, length, All, IsPermutation, IsSortedBy}
 use Rattle.std.specs.List.{range_with_len}
 use Rattle.flow_word.specs.declared.access.Place.{Place}
@@ -9,7 +9,7 @@ use Rattle.engine_report.specs.Read.{cycle_at, timed_places, is_before}
 abbrev pub key_of : List Lane → ℕ → ℕ → TimedStep
 key_of lanes i k = record { cycle = cycle_at lanes (i, k); «module» = i; step = k }
 
--- those of a module's steps with a cycle
+-- module i's steps with a cycle, as keys
 abbrev pub keys_of : List Lane → ℕ → List TimedStep
 keys_of lanes i = map (key_of lanes i) (range_with_len 0 (length (lane_at lanes i).cycles))
 
@@ -19,17 +19,17 @@ place_of key = (key.module, key.step)
 abbrev pub place_at : ℕ → ℕ → Place
 place_at i k = record { «module» = i; step = k }
 
--- it is a step with this cycle
+-- the key is that of a step, and has its cycle
 pub record HasKey (lanes : List Lane) (key : TimedStep) : Type 0 where
   pub there : HasStep lanes (place_at key.module key.step)
   pub cycle : key.cycle ≡ cycle_at lanes (place_of key)
 
--- and it has the cycle
+-- the key is that of a step that has a cycle
 pub record IsTimedKey (lanes : List Lane) (key : TimedStep) : Type 0 where
   pub is_key : HasKey lanes key
   pub timed : key.step < length (lane_at lanes key.module).cycles
 
--- they are all steps with a cycle, in order
+-- these are the keys of all steps with a cycle, in order
 pub record AreSortedKeys (lanes : List Lane) (keys : List TimedStep) : Type 0 where
   pub each : All (HasKey lanes) keys
   pub all : IsPermutation (timed_places lanes) (map place_of keys)

@@ -25,7 +25,7 @@ owners lanes = range_with_len 0 (length lanes)
 
 -- ---- outputs
 
--- the values of the first pushes, as far as their steps have a cycle
+-- the values of these pushes up to the first one whose step has no cycle
 abbrev pub timed_values : List Lane → List Pushed → List ℕ
 timed_values lanes pushes = map (λ e. e.value) (take_while (λ e. is_some (cycle_of lanes e.at)) pushes)
 
@@ -34,16 +34,16 @@ outputs_of plan lanes channels = map (λ f. timed_values lanes (channel_at chann
 
 -- ---- held modules
 
--- a module that is held by an access
+-- module i as it is held by an access
 abbrev pub held_at : ℕ → Access → Held
 held_at i access = record { «module» = i; full = same_side Push (side_of access.kind); channel = access.channel }
 
--- a module is held by the first access of its first step without a cycle that blocks it, and of which no clock is known
+-- module i as it is held by the first access that waits, in its first step without a cycle; none where there is no such access
 abbrev pub held_by : List Lane → List Channel → ℕ → Option Held
 held_by lanes channels i =
     option_and_then (λ step. option_map (held_at i) (find (is_waiting lanes channels) step.accesses)) (open_step (lane_at lanes i))
 
--- with this verdict: none where all modules are ended or the cycle limit was reached
+-- the held modules of a report with this verdict; none where all modules are ended or the cycle limit was reached
 abbrev pub all_held : List Lane → List Channel → Verdict → List Held
 all_held lanes channels (Done clock) = []
 all_held lanes channels (Deadlock clock) = filter_map (held_by lanes channels) (owners lanes)
@@ -52,29 +52,29 @@ all_held lanes channels (Ops clock) = filter_map (held_by lanes channels) (owner
 
 -- ---- answers
 
--- the outcomes before a step, and all where there is none
+-- the outcomes of the queries before a step, or all where there is no such step
 abbrev pub outcomes_before : List Bool → Option Step → List Bool
 outcomes_before outcomes None = outcomes
 outcomes_before outcomes (Some step) = take step.first_query outcomes
 
--- the outcomes of a module's queries in steps with a cycle
+-- the outcomes of module i's queries in steps with a cycle
 abbrev pub timed_outcomes : List Lane → List Log → ℕ → List Bool
 timed_outcomes lanes logs i = outcomes_before (log_at logs i).outcomes (open_step (lane_at lanes i))
 
 -- ---- events
 
--- a module's steps with a cycle, each by its module and its number
+-- module i's steps with a cycle, each as the module's number and the step's
 abbrev pub places_of : List Lane → ℕ → List (ℕ × ℕ)
 places_of lanes i = map (λ k. (i, k)) (range_with_len 0 (length (lane_at lanes i).cycles))
 
--- and those of all, module by module
+-- all modules' steps with a cycle, module by module
 abbrev pub timed_places : List Lane → List (ℕ × ℕ)
 timed_places lanes = flat_map (places_of lanes) (owners lanes)
 
 abbrev pub cycle_at : List Lane → ℕ × ℕ → ℕ
 cycle_at lanes place = slice_index_or (lane_at lanes place.0).cycles place.1 0
 
--- by their cycles, and in one cycle by their modules
+-- a step comes before another: its cycle is less, or the cycles are equal and its module's number is less
 abbrev pub is_before : List Lane → ℕ × ℕ → ℕ × ℕ → Bool
 is_before lanes a b = nat_lt (cycle_at lanes a) (cycle_at lanes b) || (cycle_at lanes a == cycle_at lanes b && nat_lt a.0 b.0)
 

@@ -1,4 +1,4 @@
--- What a module does that stands at a step, as it is read off the graph and the table.
+-- What a module does at a step, as it is read off the graph and the table.
 use Rattle.std.specs.Prelude.{ℕ, zero, suc, ◌≡◌, ◌<◌, ◌≤◌, Bool, not, ◌&&◌, Option, Some, None, List, find, min, max, take, true, false}
 use Rattle.std.specs.Prelude.{slice_index_or}
 use Rattle.flow_word.specs.declared.access.Access.{Access}
@@ -21,11 +21,11 @@ use Rattle.stall_spans.specs.declared.span.Span.{Span}
 use Rattle.stall_spans.specs.Doings.{doing}
 use Rattle.stall_spans.specs.Coming.{reached, Comes}
 
--- an access that blocks and is not known to be possible in a clock
+-- the access blocks, and is not known to be possible in a clock
 abbrev pub waits : List Lane → List Channel → ℕ → Access → Bool
 waits lanes channels clock a = is_blocking a.kind && not (answer (as_known (when_possible lanes channels a)) clock)
 
--- by the first of them
+-- what a module does at a step, by the first access that waits: it moves where none does
 abbrev pub doing_of : Option Access → Doing
 doing_of None = Moves
 doing_of (Some a) = Still (record { side = side_of a.kind; channel = a.channel })
@@ -33,27 +33,27 @@ doing_of (Some a) = Still (record { side = side_of a.kind; channel = a.channel }
 abbrev pub doing_in : List Lane → List Channel → List Access → ℕ → Doing
 doing_in lanes channels accesses clock = doing_of (find (waits lanes channels clock) accesses)
 
--- module i stands at a step with these accesses from one clock to another
+-- module i is at a step with these accesses from clock `first` on, up to clock `until`
 abbrev pub Stands : Plan → ℕ → List Lane → List Channel → List Access → ℕ → ℕ → Type 0
 Stands p i lanes channels accesses first until = (c : ℕ) → first ≤ c → c < until → doing p c i ≡ Some (doing_in lanes channels accesses c)
 
--- the clock from which it is possible, and at most this one
+-- the clock from which on an access is possible, or `until` where that is earlier
 abbrev pub known_until : Known → ℕ → ℕ
 known_until (From clock) until = min clock until
 known_until Never until = until
 known_until Unknown until = until
 
--- the spans of a module that stands at a step with these accesses, before its clocks up to `until` are added, and after those in
--- which one of the first n accesses is the cause
+-- the new spans are the old ones and those clocks, up to `until`, in which one of the first n accesses of a module's step is the
+-- cause of its stall
 pub record HasWaited (lanes : List Lane) (channels : List Channel) (accesses : List Access) (until n : ℕ)
     (old new : List Span) : Type 0 where
   pub comes : (p : Plan) (i : ℕ) → Comes p i old → Stands p i lanes channels accesses (reached old) until → Comes p i new
   pub later : reached old ≤ reached new
   pub within : reached new ≤ max (reached old) until
-  -- after them none of these accesses is the cause
+  -- after the new spans none of these accesses is the cause
   pub clear : (c : ℕ) → reached new ≤ c → c < until → find (waits lanes channels c) (take n accesses) ≡ None
 
--- the same for one access, which is the cause in each clock in which it waits
+-- the new spans are the old ones and those clocks, up to `until`, in which the given access waits and so is the cause
 pub record HasPassed (lanes : List Lane) (channels : List Channel) (a : Access) (until : ℕ) (old new : List Span) : Type 0 where
   pub comes : (p : Plan) (i : ℕ) → Comes p i old
       → ((c : ℕ) → reached old ≤ c → c < until → waits lanes channels c a ≡ true → doing p c i ≡ Some (doing_of (Some a))) → Comes p i new
@@ -65,16 +65,16 @@ pub record HasPassed (lanes : List Lane) (channels : List Channel) (a : Access) 
 abbrev pub step_at : List Lane → Place → Step
 step_at lanes place = slice_index_or (lane_at lanes place.module).steps place.step no_step
 
--- the cycle of the step before step k, and clock 0 before the first
+-- the cycle of the step before step k, or clock 0 before the first step
 abbrev pub cycle_before : List ℕ → ℕ → ℕ
 cycle_before cycles zero = 0
 cycle_before cycles (suc k) = slice_index_or cycles k 0
 
--- the first clock after it, and clock 0 before the first
+-- the clock after the first k steps, or clock 0 before the first step
 abbrev pub clock_after : List ℕ → ℕ → ℕ
 clock_after cycles k = from (λ j. slice_index_or cycles j 0) k
 
--- these are the spans of module i below the clock after its first k steps, and below this clock
+-- these are the spans of module i up to the clock after its first k steps, or up to `clock` where that is earlier
 pub record HasPassedSteps (p : Plan) (i clock : ℕ) (cycles : List ℕ) (k : ℕ) (spans : List Span) : Type 0 where
   pub comes : Comes p i spans
   pub reached : reached spans ≡ min (clock_after cycles k) clock

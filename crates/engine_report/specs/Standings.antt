@@ -1,4 +1,4 @@
--- How modules stand at the end of a run, and the verdict.
+-- How far the modules came in a simulation, and the verdict.
 use Rattle.std.specs.Prelude.{ℕ, ◌+◌, max, nat_lt, is_some, unwrap_or, Bool, true, false, ◌||◌, ◌&&◌, if◌then◌else◌, List, fold, slice_index_or}
 use Rattle.std.specs.Prelude.{Option, Some, None}
 use Rattle.std.specs.List.{list_any, list_all}
@@ -14,7 +14,7 @@ use Rattle.engine_report.specs.declared.verdict.Standing.{Standing}
 
 -- ---- end marks
 
--- the local clocks from the last step to the end
+-- the gap of an end mark: the local clocks from the last step to the end; 0 where there is no end mark
 abbrev pub gap_of : Option Advance → ℕ
 gap_of None = 0
 gap_of (Some (Step step)) = 0
@@ -33,17 +33,17 @@ is_spent (Some (Step step)) = false
 is_spent (Some (Ended gap)) = false
 is_spent (Some (Spent gap)) = true
 
--- the end mark of a module, where there is one
+-- the end mark of module i, if there is one
 abbrev pub end_at : List (Option Advance) → ℕ → Option Advance
 end_at ends i = slice_index_or ends i None
 
 -- ---- modules
 
--- a module whose steps all have a cycle, the last of them this one, stands at its end mark
+-- the standing of a module whose steps all have a cycle, the last of them the given one: it came to its end mark
 abbrev pub standing_behind : ℕ → Option Advance → Standing
 standing_behind last end = record { stop = last + gap_of end; ended = is_ended end; spent = is_spent end; determined = false }
 
--- a module with a first step without a cycle stands before it, and is neither ended nor spent, whatever its own run has come to
+-- the standing of module i: with a first step without a cycle it came to this step, and counts as neither ended nor spent
 abbrev pub standing_by : List Lane → List Channel → Option Advance → ℕ → Option StepOf → Standing
 standing_by lanes channels end i None = standing_behind (unwrap_or (last_cycle (lane_at lanes i)) 0) end
 standing_by lanes channels end i (Some step) = record {
@@ -58,11 +58,11 @@ standing_at lanes channels ends i = standing_by lanes channels (end_at ends i) i
 
 -- ---- the verdict
 
--- the last clock in which one stops
+-- the latest clock in which one of these modules stops
 abbrev pub last_stop : List Standing → ℕ
 last_stop standings = fold (λ clock s. max clock s.stop) 0 standings
 
--- how all of these stand together: at the last stop, ended where each is, spent or determined where one is
+-- the standing of these modules together: at the last stop, ended where each is ended, spent or determined where one is
 abbrev pub together : List Standing → Standing
 together standings = record {
   stop = last_stop standings;
@@ -71,7 +71,7 @@ together standings = record {
   determined = list_any (λ s. s.determined) standings;
 }
 
--- how modules that stand together so stand with one more
+-- the standing of some modules together with one more
 abbrev pub joined : Standing → Standing → Standing
 joined all one = record {
   stop = max all.stop one.stop;
@@ -80,13 +80,13 @@ joined all one = record {
   determined = all.determined || one.determined;
 }
 
--- the cycle limit where a step is determined, so at the limit or later, or one stops above it; else by how they ended
+-- the verdict: the cycle limit where a step is determined or a stop is above the limit, and else by how the modules ended
 abbrev pub verdict_for : ℕ → Standing → Verdict
 verdict_for limit all =
     if all.determined || nat_lt limit all.stop then Cycles limit
     else (if all.ended then Done all.stop
     else (if all.spent then Ops all.stop else Deadlock all.stop))
 
--- the verdict where the modules stand so
+-- the verdict, where the modules have these standings
 abbrev pub verdict_by : ℕ → List Standing → Verdict
 verdict_by limit standings = verdict_for limit (together standings)

@@ -21,7 +21,8 @@ pub fn answers(alloc: Global, engine: &Engine) -> Result<List<Flags>, OutOfMemor
     Ok(answers)
 }
 
-/// The outcomes of a module's queries in steps with a cycle: those before its first step without one, and else all.
+/// The outcomes of a module's queries in steps with a cycle: those before its first step without a cycle, or all where there is
+/// none.
 fn timed_outcomes(alloc: Global, engine: &Engine, owner: u32) -> Result<Flags, OutOfMemory>
     requires owner { owner < length engine.now.graph.lanes }
     requires logs { length engine.now.log.logs ≡ length engine.now.graph.lanes }

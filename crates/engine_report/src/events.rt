@@ -9,17 +9,17 @@ use flow_design::EventLine;
 use flow_word::{List, OutOfMemory};
 use std::alloc::Global;
 
-/// A step with a cycle. They are in order by their cycles, and in one cycle by their modules.
+/// A step with its cycle. Such steps are in order of cycles, and within one cycle in order of modules.
 #[derive(Clone, Copy, Debug, PartialEq, Eq, PartialOrd, Ord)]
 pub struct TimedStep {
-    /// The clock in which it is done.
+    /// The clock in which the step is done.
     pub cycle: u64,
     pub module: u32,
-    /// The step's number among those of its module, from 0 on.
+    /// The number of the step among those of its module, counted from 0.
     pub step: u64,
 }
 
-/// The accesses of all steps with a cycle, in order of cycles, and in one cycle of modules.
+/// The events of all steps with a cycle, in order of cycles, and within one cycle in order of modules.
 pub fn events(alloc: Global, graph: &Graph) -> Result<List<EventLine>, OutOfMemory>
     ensures { IfOk result (AreEvents graph.now.lanes) }
 {
@@ -31,7 +31,7 @@ pub fn events(alloc: Global, graph: &Graph) -> Result<List<EventLine>, OutOfMemo
     Ok(events)
 }
 
-/// How many accesses these steps have, as far as that can be counted: the room for their events.
+/// How many accesses these steps have, or the greatest number of 64 bits if they are more: the room for their events.
 fn count_accesses(graph: &Graph, keys: &[TimedStep]) -> u64
     requires { All (HasKey graph.now.lanes) keys.now }
     ensures { result ≡ fold (λ count key. min (count + length (step_at graph.now.lanes (place_of key)).accesses) (2 ^ 64 - 1)) 0 keys.now }
@@ -47,9 +47,9 @@ fn count_accesses(graph: &Graph, keys: &[TimedStep]) -> u64
     count
 }
 
-/// All steps with a cycle, in order.
+/// All steps with a cycle, in order of cycles, and within one cycle in order of modules.
 ///
-/// It takes memory for the answer. An error leaves nothing.
+/// It takes memory for the answer only.
 #[tactic(auto, using(crate::proofs::Loops::given_more))]
 pub fn sorted_steps(alloc: Global, graph: &Graph) -> Result<Vec<TimedStep>, OutOfMemory>
     ensures { IfOk result (λ keys. AreSortedKeys graph.now.lanes keys.items) }
@@ -76,7 +76,7 @@ fn add_steps(graph: &Graph, owner: u32, keys: &mut Vec<TimedStep>) -> Result<(),
     Ok(())
 }
 
-/// A module's step of this number.
+/// A module's step with this number, and its cycle.
 fn timed_step(graph: &Graph, owner: u32, step: u64) -> TimedStep
     requires { HasStep graph.now.lanes (place_at owner step) }
     ensures { result ≡ key_of graph.now.lanes owner step }
@@ -92,7 +92,7 @@ fn timed_step(graph: &Graph, owner: u32, step: u64) -> TimedStep
     }
 }
 
-/// Adds the events of a step.
+/// Adds the events of a step, one for each access.
 fn add_events(
     graph: &Graph,
     key: &TimedStep,

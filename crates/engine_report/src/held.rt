@@ -11,7 +11,8 @@ use flow_word::{List, OutOfMemory, Side};
 use std::alloc::Global;
 use time_engine::{Known, known_of};
 
-/// The modules that are held at a verdict, in order: none where all are ended or the cycle limit was reached.
+/// The held modules of a report with this verdict, in order. There are none where all modules are ended or the cycle limit was
+/// reached.
 pub fn held_with(
     alloc: Global,
     engine: &Engine,
@@ -30,7 +31,7 @@ pub fn held_with(
     }
 }
 
-/// The modules that wait, each with the access for which it waits.
+/// The modules that are held, each with the access that waits.
 fn hold_all(alloc: Global, engine: &Engine) -> Result<List<Held>, OutOfMemory>
     requires accesses { HasAccesses engine.now.graph.lanes engine.now.fifos.channels }
     requires places { HasPlaces engine.now.graph.lanes engine.now.fifos.channels }
@@ -46,7 +47,7 @@ fn hold_all(alloc: Global, engine: &Engine) -> Result<List<Held>, OutOfMemory>
     Ok(all)
 }
 
-/// How a module is held, if it waits.
+/// A module as it is held. `None` where it is not held.
 fn held_by(engine: &Engine, owner: u32) -> Option<Held>
     requires owner { owner < length engine.now.graph.lanes }
     requires accesses { HasAccesses engine.now.graph.lanes engine.now.fifos.channels }
@@ -64,7 +65,7 @@ fn held_by(engine: &Engine, owner: u32) -> Option<Held>
     first_waiting(engine, owner, step.accesses.as_slice())
 }
 
-/// How a module is held by the first of its accesses that waits.
+/// A module as it is held by the first of these accesses that waits. `None` where none waits.
 fn first_waiting(engine: &Engine, owner: u32, accesses: &[Access]) -> Option<Held>
     requires inside { All (IsAccess engine.now.fifos.channels) accesses.now }
     requires places { HasPlaces engine.now.graph.lanes engine.now.fifos.channels }
@@ -78,7 +79,7 @@ fn first_waiting(engine: &Engine, owner: u32, accesses: &[Access]) -> Option<Hel
     None
 }
 
-/// Whether an access blocks its module, and no clock is known from which it is possible.
+/// Whether an access waits: it blocks, and it is not known from which clock on it is possible.
 fn is_waiting(engine: &Engine, access: &Access) -> bool
     requires access { IsAccess engine.now.fifos.channels access.now }
     requires places { HasPlaces engine.now.graph.lanes engine.now.fifos.channels }
@@ -93,7 +94,7 @@ fn is_waiting(engine: &Engine, access: &Access) -> bool
     }
 }
 
-/// How a module is held by an access.
+/// A module as it is held by an access.
 fn held_at(owner: u32, access: &Access) -> Held
     ensures { result ≡ held_at owner access.now }
 {

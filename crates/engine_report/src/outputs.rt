@@ -1,4 +1,4 @@
-//! What the sinks hold at the end.
+//! The values that the sinks hold at the end.
 ghost use Rattle.std.specs.Prelude.{◌≡◌, ◌<◌, ◌∷◌, ◌++◌, [], length, map, filter, IfOk, OnOk};
 ghost use Rattle.flow_design.specs.Plans.{is_sink, kind_at};
 ghost use Rattle.fifo_table.specs.Channels.{channel_at};
@@ -10,7 +10,7 @@ use flow_design::{ChannelKind, Plan};
 use flow_word::{List, OutOfMemory, Words};
 use std::alloc::Global;
 
-/// The values of each sink's pushes whose steps have a cycle, in order of the sinks.
+/// The values that were pushed on each sink in steps with a cycle, in order of the sinks.
 #[tactic(auto, using(crate::proofs::Loops::passed_more))]
 pub fn outputs(alloc: Global, plan: &Plan, engine: &Engine) -> Result<List<Words>, OutOfMemory>
     requires channels { length engine.now.fifos.channels ≡ length plan.now.design.channels }
@@ -24,7 +24,7 @@ pub fn outputs(alloc: Global, plan: &Plan, engine: &Engine) -> Result<List<Words
     Ok(outputs)
 }
 
-/// Adds what a channel holds, if it is a sink.
+/// Adds the values that a channel holds, if it is a sink.
 fn add_output(
     alloc: Global,
     plan: &Plan,
@@ -48,7 +48,7 @@ fn add_output(
     Ok(())
 }
 
-/// The values of a channel's first pushes, as far as their steps have a cycle.
+/// The values of a channel's pushes up to the first one whose step has no cycle.
 fn timed_values(alloc: Global, engine: &Engine, channel: u32) -> Result<Words, OutOfMemory>
     requires channel { channel < length engine.now.fifos.channels }
     requires places { HasPlaces engine.now.graph.lanes engine.now.fifos.channels }

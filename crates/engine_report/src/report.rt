@@ -17,12 +17,11 @@ use flow_word::{List, OutOfMemory};
 use std::alloc::Global;
 use timing_bridge::{every_report, steps_in_order};
 
-/// The report of a plan, read off what an engine holds when nothing is left to do: the steps of all modules with their cycles, the
-/// pushes and pops, the outcomes of queries, and the end mark of each module whose own run came to one. It is the lockstep
-/// machine's, with its events where they are asked for and else with none.
+/// The report of a plan, read off what an engine holds at the end of its simulation: the steps of all modules with their cycles,
+/// the pushes and pops, the outcomes of queries, and the end mark of each module whose own run has come to its end. It is the
+/// report of the lockstep machine, with its events if they are asked for, else with none.
 ///
-/// It takes memory for the report, and for one key of each step where the events are asked for, which are then sorted. An error
-/// leaves nothing.
+/// It takes memory for the report and, where events are asked for, for one key for each step: the keys are sorted.
 pub fn report_of(
     alloc: Global,
     plan: &Plan,
@@ -45,7 +44,8 @@ pub fn report_of(
     })
 }
 
-/// The verdict of a plan, read off what an engine holds when nothing is left to do: the lockstep machine's. It takes no memory.
+/// The verdict of a plan, read off what an engine holds at the end of its simulation. It is the lockstep machine's. It takes no
+/// memory.
 pub fn verdict_of(plan: &Plan, engine: &Engine, ends: &[Option<Advance>]) -> Verdict
     requires { IsFinished plan.now (held_in engine.now (map is_some ends.now)) ends.now }
     ensures { result ≡ lockstep.verdict plan.now }
@@ -55,7 +55,7 @@ pub fn verdict_of(plan: &Plan, engine: &Engine, ends: &[Option<Advance>]) -> Ver
     verdict(engine, ends, plan.cycles)
 }
 
-/// The events where they are asked for, and else none.
+/// The events if they are asked for, else none.
 fn events_if(alloc: Global, graph: &Graph, asked: bool) -> Result<List<EventLine>, OutOfMemory>
     ensures asked { asked ≡ true → IfOk result (AreEvents graph.now.lanes) }
     ensures none { asked ≡ false → IfOk result (λ events. events ≡ []) }

@@ -22,11 +22,11 @@ use stall_spans::{Doing, Span, go_on};
 use std::alloc::Global;
 use time_engine::{Known, known_of};
 
-/// The spans of a module, read off what an engine holds when nothing is left to do: the steps of all modules with their cycles, the
-/// pushes and pops, and the end mark of each module whose own run came to one. The spans are those of the lockstep machine below the
-/// clock of its verdict.
+/// The spans of a module, read off what an engine holds at the end of a plan's simulation: the steps of all modules with their
+/// cycles, the pushes and pops, and the end mark of each module whose own run has come to its end. With the clock of the plan's
+/// verdict, they are the spans of the lockstep machine below that clock.
 ///
-/// It looks at each step of the module once and at each of its accesses once. It takes memory for the spans. An error leaves nothing.
+/// It looks once at each step of the module, and once at each of its accesses. It takes memory for the spans.
 pub fn spans_of(
     alloc: Global,
     engine: &Engine,
@@ -69,7 +69,8 @@ pub fn spans_of(
     Ok(spans)
 }
 
-/// A module comes to a step, the last one before which was in this cycle, and stands at it up to a clock.
+/// Adds what a module does up to clock `until`: it moves on from its step before, in clock `last`, until it comes to this step, and
+/// then stalls for the causes at this step.
 fn stand(
     spans: &mut List<Span>,
     engine: &Engine,
@@ -93,7 +94,8 @@ fn stand(
     stand_from(spans, engine, step.accesses.as_slice(), arrival, until)
 }
 
-/// A module comes to a step in a clock, and stands at it up to another.
+/// Adds what a module does up to clock `until`: it moves until it comes to a step in clock `arrival`, and then stalls for the
+/// causes at that step.
 fn stand_from(
     spans: &mut List<Span>,
     engine: &Engine,
@@ -114,7 +116,7 @@ fn stand_from(
     go_on(spans, until, Doing::Moves)
 }
 
-/// The causes for which it stands still there, one after the other.
+/// Adds the clocks in which a module stalls at a step, by one access after the other as the cause, up to clock `until`.
 fn wait(
     spans: &mut List<Span>,
     engine: &Engine,
@@ -132,7 +134,7 @@ fn wait(
     Ok(())
 }
 
-/// The clocks in which this access is the cause, where none before it is.
+/// Adds the clocks in which this access is the cause of a stall, up to clock `until`. No access before it is a cause any more.
 fn wait_for(
     spans: &mut List<Span>,
     engine: &Engine,
@@ -154,7 +156,7 @@ fn wait_for(
     go_on(spans, from, Doing::Still(port))
 }
 
-/// The clock from which an access is possible, at most this one.
+/// The clock from which on an access is possible, or `until` where that is earlier.
 fn possible_from(engine: &Engine, access: &Access, until: u64) -> u64
     requires access { IsAccess engine.now.fifos.channels access.now }
     requires places { HasPlaces engine.now.graph.lanes engine.now.fifos.channels }
@@ -166,7 +168,7 @@ fn possible_from(engine: &Engine, access: &Access, until: u64) -> u64
     }
 }
 
-/// The local clocks from a module's last step to its end.
+/// The local clocks from a module's last step to its end, or 0 where it has no end mark.
 fn gap_of(end: &Option<Advance>) -> u64
     ensures { result ≡ gap_of end.now }
 {

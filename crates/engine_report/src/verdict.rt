@@ -1,4 +1,4 @@
-//! How the modules stand at the end, and the verdict.
+//! How far each module came, and the verdict.
 ghost use Rattle.std.specs.Prelude.{◌≡◌, ℕ, ◌<◌, ◌≤◌, [], length, map, is_some};
 ghost use Rattle.event_graph.specs.Lanes.{cycle_bound, gap_bound};
 ghost use Rattle.time_engine.specs.Conditions.{HasAccesses, HasPlaces};
@@ -12,21 +12,21 @@ use event_graph::Place;
 use flow_design::{Advance, Verdict};
 use time_engine::{Candidate, candidate, last_cycle};
 
-/// How a module stands at the end of a run.
+/// How far a module, or several modules together, came in a simulation.
 #[derive(Clone, Copy, Debug, PartialEq, Eq)]
 pub struct Standing {
-    /// The clock in which it comes to its first step without a cycle, if nothing blocks that, or to its end.
+    /// The clock in which the module comes to its first step without a cycle, if nothing blocks it, or to its end.
     pub stop: u64,
-    /// The module has no such step, and is ended.
+    /// Whether each step of the module has a cycle, and the module is ended.
     pub ended: bool,
-    /// The module has no such step, and is spent.
+    /// Whether each step of the module has a cycle, and the module is spent.
     pub spent: bool,
-    /// The cycle of such a step is determined.
+    /// Whether the module has a step without a cycle, and the cycle of the first one is determined.
     pub determined: bool,
 }
 
 impl Standing {
-    /// How no modules stand together.
+    /// The standing of no modules.
     fn of_none() -> Standing
         ensures { result ≡ together [] }
     {
@@ -38,7 +38,7 @@ impl Standing {
         }
     }
 
-    /// How modules that stand together so stand with one more.
+    /// The standing of some modules together with one more.
     fn with(self, one: Standing) -> Standing
         ensures { result ≡ joined self one }
     {
@@ -51,8 +51,8 @@ impl Standing {
     }
 }
 
-/// The verdict: the cycle limit where a step is determined or a module stops above that limit, and else the last stop, by how the
-/// modules ended. It takes no memory.
+/// The verdict: the cycle limit where a step is determined or a module's stop is above the limit. Else the clock is the last stop,
+/// and the kind depends on how the modules ended. It takes no memory.
 #[tactic(auto, using(crate::proofs::Together::together_more))]
 pub fn verdict(engine: &Engine, ends: &[Option<Advance>], limit: u64) -> Verdict
     requires ends { length ends.now ≡ length engine.now.graph.lanes }
@@ -70,7 +70,7 @@ pub fn verdict(engine: &Engine, ends: &[Option<Advance>], limit: u64) -> Verdict
     verdict_for(limit, all)
 }
 
-/// How a module stands.
+/// The standing of a module.
 fn stand(engine: &Engine, ends: &[Option<Advance>], owner: u32, limit: u64) -> Standing
     requires owner { owner < length engine.now.graph.lanes }
     requires ends { length ends.now ≡ length engine.now.graph.lanes }
@@ -97,7 +97,7 @@ fn stand(engine: &Engine, ends: &[Option<Advance>], owner: u32, limit: u64) -> S
     }
 }
 
-/// How a module stands whose steps all have a cycle, the last of them this one.
+/// The standing of a module whose steps all have a cycle. The last of these cycles is given.
 fn stand_at_end(last: u64, end: &Option<Advance>) -> Standing
     requires last { last < cycle_bound }
     requires gap { gap_of end.now < gap_bound }
@@ -115,7 +115,7 @@ fn stand_at_end(last: u64, end: &Option<Advance>) -> Standing
     }
 }
 
-/// Whether a module has a first step without a cycle, and its cycle is determined.
+/// Whether a module has a first step without a cycle whose cycle is determined.
 #[tactic(auto, unfolding(time_engine::specs::Cycles::determined))]
 fn is_determined(engine: &Engine, owner: u32, limit: u64) -> bool
     requires owner { owner < length engine.now.graph.lanes }
@@ -132,7 +132,7 @@ fn is_determined(engine: &Engine, owner: u32, limit: u64) -> bool
     }
 }
 
-/// The verdict, by how all modules stand together.
+/// The verdict, from the standing of all modules together.
 fn verdict_for(limit: u64, all: Standing) -> Verdict
     ensures { result ≡ verdict_for limit all }
 {

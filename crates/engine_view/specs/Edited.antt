@@ -1,4 +1,4 @@
--- What is held behind an edit, from which a retiming begins.
+-- What is held after an edit, from which a retiming begins.
 use Rattle.std.specs.Prelude.{◌≡◌, ℕ, min, map, length, All}
 use Rattle.event_graph.specs.Lanes.{IsSoundLane, timed_below}
 use Rattle.fifo_table.specs.Channels.{with_depth}
@@ -8,7 +8,8 @@ use Rattle.event_timing.specs.Edits.{kept}
 use Rattle.engine_view.specs.Held.{Held, core_of}
 use Rattle.engine_view.specs.Shown.{queries_before}
 
--- cycles from clock t on are forgotten, the depth of the FIFO is set, and outcomes of steps without a cycle are assumed
+-- g is what is held of h after the cut: cycles from clock t on are forgotten, the FIFO has the new depth, and the outcomes of all
+-- steps without a cycle are assumed
 pub record IsCut {S : Type 0} (d : Design S) (h g : Held) (fifo depth t : ℕ) : Type 0 where
   pub lanes : g.lanes ≡ map (timed_below t) h.lanes
   pub sound : All IsSoundLane g.lanes

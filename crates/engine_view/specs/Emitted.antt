@@ -13,25 +13,25 @@ use Rattle.engine_view.specs.Held.{Held, emitted_of, seen, waited, core_of}
 use Rattle.engine_view.specs.Shown.{queries_before}
 use Rattle.engine_view.specs.Taking.{taken_all}
 
--- the accesses that are done as soon as they are emitted: those that block
+-- which of these accesses are done as soon as their step is emitted: those that block
 abbrev pub done_at_once : List Access → List Bool
 done_at_once accesses = map (λ a. is_blocking a.kind) accesses
 
 abbrev pub place_of : ℕ → ℕ → Place
 place_of m k = record { «module» = m; step = k }
 
--- with the step in its module's lane, and its pushes and pops in the table
+-- what is held after a Run: the step is in its module's lane, and the pushes and pops of its blocking accesses are in the table
 abbrev pub with_emitted : Held → ℕ → Step → Held
 with_emitted h m step = record h {
   lanes = with_step h.lanes m step;
   channels = taken_all (place_of m (emitted_of h m)) h.channels step.accesses (done_at_once step.accesses);
 }
 
--- with the mark of a module that is over
+-- what is held after a Run that found module m over
 abbrev pub with_over : Held → ℕ → Held
 with_over h m = record h { over = slice_set h.over m true }
 
--- the step is the next of the module's own run, with the ordinals and the number of queries of the steps before it
+-- the step is the next one of module m's own run, with the ordinals and the number of queries that its earlier steps give
 pub record IsNextStep {S : Type 0} (d : Design S) (h : Held) (m : ℕ) (step : Step) : Type 0 where
   pub sound : IsSoundStep step
   pub inside : All (IsAccess h.channels) step.accesses

@@ -16,7 +16,7 @@ use Rattle.event_timing.specs.Core.{Core, pops_now}
 
 -- ---- what is held
 
--- the lanes, the channels with their pushes and pops, the logs, and whether each module's end (or spent) mark was emitted
+-- the lanes, the channels with their pushes and pops, the logs, and for each module whether its end (ended or spent) was emitted
 pub record Held : Type 0 where
   pub lanes : List Lane
   pub channels : List Channel
@@ -29,7 +29,7 @@ held lanes channels logs over = record { lanes = lanes; channels = channels; log
 abbrev pub no_step : Step
 no_step = record { gap = 0; accesses = []; first_query = 0 }
 
--- a module's step of this number
+-- step k of module m
 abbrev pub step_of : Held → ℕ → ℕ → Step
 step_of h m k = slice_index_or (lane_at h.lanes m).steps k no_step
 
@@ -38,7 +38,7 @@ emitted_of h m = length (lane_at h.lanes m).steps
 
 -- ---- accesses
 
--- an access as the theory sees it
+-- an access as one of the theory
 abbrev pub seen : Access → theory.Access
 seen a = record {
   side = side_of a.kind;
@@ -50,20 +50,20 @@ seen a = record {
 
 -- ---- outcomes
 
--- how many of the accesses are queries
+-- how many of these accesses are queries
 abbrev pub queries_in : List Access → ℕ
 queries_in accesses = length (filter (λ a. not (is_blocking a.kind)) accesses)
 
--- a query was possible where its outcome is not the one of a query that is not; it counts as not possible as long as it has none
+-- a query was possible, by its outcome; without an outcome it counts as not possible
 abbrev pub possible_by : Kind → Option Bool → Bool
 possible_by kind None = false
 possible_by kind (Some outcome) = cond (late_outcome kind) (not outcome) outcome
 
--- whether an access is done or possible, where its query has this outcome
+-- the flag of an access: true where it blocks, else whether its query was possible by this outcome
 abbrev pub flag_now : Kind → Option Bool → Bool
 flag_now kind outcome = cond (is_blocking kind) true (possible_by kind outcome)
 
--- whether each access is done or possible, where these are the outcomes from its step's first query on
+-- the flags of a step's accesses, where the outcomes begin with that of the step's first query
 abbrev pub flags_by : List Access → List Bool → List Bool
 flags_by [] outcomes = []
 flags_by (a ∷ as') outcomes =
@@ -73,21 +73,21 @@ flags_by (a ∷ as') outcomes =
 abbrev pub flags_of : Held → ℕ → ℕ → List Bool
 flags_of h m k = flags_by (step_of h m k).accesses (drop (step_of h m k).first_query (log_at h.logs m).outcomes)
 
--- the queries of the step are among its module's first so many
+-- all queries of the step are among its module's first n
 abbrev pub are_among : Step → ℕ → Bool
 are_among step n = eqb (queries_in step.accesses) 0 || leb (step.first_query + queries_in step.accesses) n
 
--- there is the step, and so many of the module's queries are recorded, or verified, that its own are among them
+-- module m has step k, and all queries of the step are among the module's first n
 abbrev pub has_all : Held → ℕ → ℕ → ℕ → Bool
 has_all h m k n = ltb k (emitted_of h m) && are_among (step_of h m k) n
 
 -- ---- replies
 
--- the values that the pops of a channel find, in order
+-- the values that the pops of a channel give, in order
 abbrev pub values_at : List Channel → ℕ → List ℕ
 values_at channels c = values_of (channel_at channels c).kind (channel_at channels c).pushes
 
--- the replies to accesses of which these are done or possible: the n-th pop takes the n-th value
+-- the replies to accesses with these flags: the n-th pop takes the n-th value
 abbrev pub replies_by : List Channel → List Access → List Bool → List theory.Reply
 replies_by channels [] flags = []
 replies_by channels (a ∷ as') [] = []
@@ -100,12 +100,12 @@ replies_at h m k = replies_by h.channels (step_of h m k).accesses (flags_of h m 
 
 -- ---- the core
 
--- the quiet clocks before a step of this gap
+-- the quiet clocks before step k, by its gap, of which the local clock of the step before is one
 abbrev pub waited : ℕ → ℕ → ℕ
 waited zero gap = gap
 waited (suc k) gap = gap - 1
 
--- the theory's core that is held: a module's states are those of its own run on the replies
+-- the theory's core that is read off: a module's states are those of its own run on the replies
 abbrev pub core_of : {S : Type 0} → Design S → Held → Core S
 core_of {S} d h = record {
   emitted = λ m. emitted_of h m;

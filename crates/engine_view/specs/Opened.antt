@@ -1,4 +1,4 @@
--- What is held at first.
+-- What is held at the beginning.
 use Rattle.std.specs.Prelude.{◌≡◌, ℕ, ◌<◌, false, List, [], length, map, get_or, replicate}
 use Rattle.flow_word.specs.declared.access.Side.{Side}
 use Rattle.event_graph.specs.Lanes.{no_lane}
@@ -10,7 +10,7 @@ use Rattle.event_timing.specs.Machines.{Design}
 use Rattle.engine_view.specs.Held.{Held}
 use Rattle.engine_view.specs.Shown.{IsKind}
 
--- of so many modules nothing is emitted yet
+-- what is held of n modules before anything is emitted
 abbrev pub opening_held : ℕ → List TableChannel → Held
 opening_held n kinds = record {
   lanes = replicate n no_lane;
@@ -20,7 +20,7 @@ opening_held n kinds = record {
       replicate n false;
 }
 
--- the channels are the design's
+-- these kinds are those of the design's channels
 pub record AreKinds {S : Type 0} (d : Design S) (kinds : List TableChannel) : Type 0 where
   pub each : (c : ℕ) → c < length kinds → IsKind d c (get_or kinds c Sink)
   pub values : (c : ℕ) → c < length kinds → values_of (get_or kinds c Sink) [] ≡ d.inputs c

@@ -1,5 +1,5 @@
--- When what is held is a core of a design: the lanes have the accesses of its states with their ordinals, the table has the pushes and
--- pops of its steps, and the log has their outcomes.
+-- What is held is a core of a design: the lanes have the accesses of the states with their ordinals, the table has the pushes and
+-- pops of the steps, and the log has their outcomes.
 use Rattle.std.specs.Prelude.{◌≡◌, ℕ, zero, suc, ◌+◌, ◌<◌, ◌≤◌, true, false, List, map, length, get_or, All}
 use Rattle.flow_word.specs.Kinds.{side_of}
 use Rattle.flow_word.specs.declared.access.Side.{Side}
@@ -18,7 +18,7 @@ use Rattle.engine_view.specs.Held.{Held, step_of, emitted_of, seen, queries_in, 
 
 -- ---- channels
 
--- a channel of this kind is the design's
+-- a channel of this kind is the design's channel c
 abbrev pub IsKind : {S : Type 0} → Design S → ℕ → TableChannel → Type 0
 IsKind {S} d c (Source inputs) = (d.start Pop c ≡ length inputs) × (d.closed Pop c ≡ true)
 IsKind {S} d c Sink = d.unlimited Push c ≡ true
@@ -27,14 +27,14 @@ IsKind {S} d c (Fifo depth delay) = (d.unlimited Push c ≡ false) × (d.start P
 
 -- ---- pushes and pops
 
--- this place is the step of the pop (push) with i before it
+-- the place is that of the step that pops (or pushes) channel c after i earlier pops (or pushes)
 pub record IsTakenAt {S : Type 0} (d : Design S) (x : Core S) (side : Side) (c i : ℕ) (place : Place) : Type 0 where
   pub owner : place.module ≡ d.owner side c
   pub emitted : place.step < x.emitted (d.owner side c)
   pub from : core_tally d x (d.owner side c) side c place.step ≤ i
   pub to : i < core_tally d x (d.owner side c) side c (suc place.step)
 
--- these are the places of all of them, in order
+-- these are the places of all pops (or pushes) of channel c, in order
 pub record AreTaken {S : Type 0} (d : Design S) (x : Core S) (side : Side) (c : ℕ) (places : List Place) : Type 0 where
   pub count : length places ≡ core_tally d x (d.owner side c) side c (x.emitted (d.owner side c))
   pub each : (i : ℕ) (e : Place) → i < length places → IsTakenAt d x side c i (get_or places i e)
@@ -46,7 +46,7 @@ unfoldable pub queries_before : Held → ℕ → ℕ → ℕ
 queries_before h m zero = 0
 queries_before h m (suc k) = queries_before h m k + queries_in (step_of h m k).accesses
 
--- these are the queries of whole steps
+-- module m's first n queries are those of whole steps
 pub record AreWhole (h : Held) (m n : ℕ) : Type 0 where
   pub steps : ℕ
   pub within : steps ≤ emitted_of h m
@@ -62,17 +62,17 @@ pub record Shows {S : Type 0} (d : Design S) (h : Held) (x : Core S) : Type 0 wh
   pub sound_logs : All IsSoundLog h.logs
   pub inside : HasAccesses h.lanes h.channels
   pub places : HasPlaces h.lanes h.channels
-  -- of each step its accesses, each with its ordinal, and the number of its first query
+  -- each step has its accesses, each with its ordinal, and the number of its first query
   pub accesses : (m k : ℕ) → k < x.emitted m → core_accesses d x m k ≡ map seen (step_of h m k).accesses
   pub ordinals : (m k : ℕ) → k < x.emitted m
       → All (λ (a : Access). a.ordinal ≡ suc (core_tally d x m (side_of a.kind) a.channel k)) (step_of h m k).accesses
   pub first_query : (m k : ℕ) → k < x.emitted m → (step_of h m k).first_query ≡ queries_before h m k
-  -- of each channel its kind, its lags, its pushes and pops, and its values
+  -- each channel has its kind, its lags, its pushes and pops, and its values
   pub kinds : (c : ℕ) → c < length h.channels → IsKind d c (channel_at h.channels c).kind
   pub lags : (side : Side) (c : ℕ) → c < length h.channels → d.lag side c ≡ lag_of (channel_at h.channels c).kind side
   pub taken : (side : Side) (c : ℕ) → c < length h.channels → AreTaken d x side c (places_of side (channel_at h.channels c))
   pub values : (c : ℕ) → c < length h.channels → values_at h.channels c ≡ core_values d x c
-  -- outcomes are recorded and verified for whole steps
+  -- outcomes are recorded, and verified, for whole steps
   pub recorded : (m : ℕ) → m < length h.logs → AreWhole h m (length (log_at h.logs m).outcomes)
   pub verified : (m : ℕ) → m < length h.logs → AreWhole h m (log_at h.logs m).verified
 

@@ -8,16 +8,16 @@ use Rattle.flow_word.specs.declared.access.Place.{Place}
 use Rattle.fifo_table.specs.declared.channel.TableChannel.{TableChannel}
 use Rattle.fifo_table.specs.Channels.{Channel, with_push, with_pop}
 
--- of each channel what it is
+-- the kind of each channel
 abbrev pub kinds_in : List Channel → List TableChannel
 kinds_in channels = map (λ c. c.kind) channels
 
--- an access at its side of its channel
+-- the channels after an access of the step at this place was done
 abbrev pub taken_by : Side → Place → List Channel → Access → List Channel
 taken_by Pop at channels a = with_pop channels a.channel at
 taken_by Push at channels a = with_push channels a.channel at a.value
 
--- the accesses of the step at a place, in order, as far as they are done
+-- the channels after those of a step's accesses that are done, in order
 abbrev pub taken_all : Place → List Channel → List Access → List Bool → List Channel
 taken_all at channels [] done = channels
 taken_all at channels (a ∷ as') [] = channels

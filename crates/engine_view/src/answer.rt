@@ -13,9 +13,9 @@ use event_graph::Place;
 use outcome_guard::Guard;
 
 impl Engine {
-    /// Answers the queries of a module's first step without a cycle in this clock, where an undecided one counts as not
-    /// possible: adds their outcomes, or verifies them where they are recorded. Where one is recorded and is another in this
-    /// clock, nothing changes. It takes no memory.
+    /// Answers the queries of a module's first step without a cycle, in the clock `cycle`. An undecided query counts as not
+    /// possible. The outcomes are added, or, where they are recorded, verified. Where a recorded outcome differs, nothing changes
+    /// and the query is told. It takes no memory.
     pub fn answer_first(&mut self, owner: u32, cycle: u64) -> Guard
         requires core { IsSomeCore self.old }
         requires unsure { HasUnsure (held_in self.old []) owner }
@@ -38,7 +38,8 @@ impl Engine {
         }
     }
 
-    /// The same, where no outcome of the step is recorded: adds the outcomes, and the pushes and pops that they decide.
+    /// Answers the queries of a module's first step without a cycle, whose outcomes are not recorded: adds the outcomes, and the
+    /// pushes and pops that they decide.
     fn record_outcomes(&mut self, owner: u32, cycle: u64)
         requires core { IsSomeCore self.old }
         requires unsure { HasUnsure (held_in self.old []) owner }
@@ -72,7 +73,8 @@ impl Engine {
         );
     }
 
-    /// The same, where the outcomes of the step are recorded: verifies them, unless one is another in this clock.
+    /// Answers the queries of a module's first step without a cycle, whose outcomes are recorded: verifies them, or tells the query
+    /// whose outcome differs, and then nothing changes.
     fn confirm_outcomes(&mut self, owner: u32, cycle: u64) -> Guard
         requires core { IsSomeCore self.old }
         requires unsure { HasUnsure (held_in self.old []) owner }

@@ -5,10 +5,11 @@ ghost use Rattle.engine_view.specs.Cursors.{IsNext, IsPassed, GoesRound, turns_l
 use crate::hints::Hints;
 use std::marker::Model;
 
-/// Goes round the modules until it has passed them all and nothing was done meanwhile.
+/// Goes round the modules until it has passed them all without anything being done.
 ///
-/// Contracts see where it stands, and which modules count as idle: those that it passed since something was last done. Before others it
-/// may go to hinted modules. Each time it takes a hint away, so that between two actions it does so at most once for each module.
+/// Contracts see the module at which it stands, and which modules count as idle: those that it has passed since something was last
+/// done. It may go to a hinted module first, and then takes the hint away. Between two actions it does so at most once for each
+/// module.
 #[derive(Drop)]
 pub struct Cursor {
     count: u32,
@@ -29,7 +30,7 @@ impl Model for Cursor {
 }
 
 impl Cursor {
-    /// At the first of so many modules. None counts as idle.
+    /// A cursor at the first of `count` modules. No module counts as idle.
     #[inline(always)]
     pub fn new(count: u32) -> Cursor
         ensures count { result.count ≡ count }
@@ -44,7 +45,7 @@ impl Cursor {
         }
     }
 
-    /// The module that is next. None where all count as idle.
+    /// The module at which the cursor stands. `None` where all modules count as idle.
     #[inline(always)]
     pub fn at(&self) -> Option<u32>
         ensures next { IfSome result (λ m. IsNext self.now m) }
@@ -57,7 +58,7 @@ impl Cursor {
         }
     }
 
-    /// Something was done: none counts as idle any more. It stays where it stands.
+    /// Tells the cursor that something was done: no module counts as idle any more. It stays at its module.
     #[inline(always)]
     pub fn acted(&mut self)
         ensures count { self.new.count ≡ self.old.count }
@@ -69,7 +70,7 @@ impl Cursor {
         self.jumps = self.count;
     }
 
-    /// Nothing was to be done where it stands: it goes to the next module.
+    /// Tells the cursor that nothing can be done at its module. It goes to the next module.
     #[inline(always)]
     pub fn passed(&mut self)
         requires { self.old.idle < self.old.count }
@@ -86,7 +87,8 @@ impl Cursor {
         };
     }
 
-    /// Nothing was to be done where it stands: it goes to the next hinted module, and else to the next one.
+    /// Tells the cursor that nothing can be done at its module. It goes to the next hinted module, or, where there is none, to the
+    /// next module.
     #[inline(always)]
     pub fn passed_by(&mut self, hints: &mut Hints)
         requires { self.old.idle < self.old.count }
@@ -100,7 +102,7 @@ impl Cursor {
         }
     }
 
-    /// Goes to the next hinted module, where there is one, and tells whether it did. By this none is passed.
+    /// Goes to the next hinted module. Whether there was one. No module counts as idle by this.
     #[inline(always)]
     pub fn jump(&mut self, hints: &mut Hints) -> bool
         requires { 0 < self.old.count }

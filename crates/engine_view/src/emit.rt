@@ -1,4 +1,4 @@
-//! A step more, with its pushes and pops.
+//! Adding a step, with its pushes and pops.
 ghost use Rattle.event_graph.specs.Packed.{whole, IsFewStep};
 ghost use Rattle.engine_view.specs.Rooms.{CanEmit, HasEmitted};
 
@@ -7,7 +7,7 @@ use crate::take::take_all;
 use event_graph::{Place, Step, StepView};
 
 impl Engine {
-    /// Adds a step of a module, and the pushes and pops of those of its accesses that block. There is room for them.
+    /// Adds a step of a module, and the pushes and pops of its blocking accesses. There must be room for them.
     pub fn emit_step(&mut self, owner: u32, step: Step)
         requires step { CanEmit self.old owner step }
         ensures emitted { HasEmitted self.old owner step self.new }
@@ -25,11 +25,12 @@ impl Engine {
             false,
         );
         self.credits[owner as usize] -= 2;
-        // There is room for it.
+        // The lane has room for the step.
         let _ = self.graph.push_step(owner, step);
     }
 
-    /// Emits a copy of a step of one access or two, whose numbers fit 32 bits.
+    /// Adds a copy of a step of a module, and the pushes and pops of its blocking accesses. The step has one access or two, and its
+    /// numbers fit 32 bits. There must be room for it.
     #[inline(always)]
     pub fn emit_few(&mut self, owner: u32, step: &StepView<'_>)
         requires few { IsFewStep (whole step.now) }
@@ -49,7 +50,7 @@ impl Engine {
             false,
         );
         self.credits[owner as usize] -= 2;
-        // There is room for it.
+        // The lane has room for the step.
         let _ = self.graph.push_few(owner, step);
     }
 }

@@ -3,9 +3,9 @@ use event_graph::Graph;
 use fifo_table::FifoTable;
 use query_log::QueryLog;
 
-/// What an engine holds of a plan, and the room that it has for steps to come.
+/// What an engine holds of a plan, with room for further steps.
 ///
-/// Its calls change all of it alike, so that it stays a core of the plan. Contracts see its parts.
+/// Each of its calls changes all parts that it must, so that the parts stay a core of the plan. Contracts see the parts.
 pub struct Engine {
     /// The steps of each module, with the cycles of the first of them.
     pub graph: Graph,
@@ -13,7 +13,8 @@ pub struct Engine {
     pub fifos: FifoTable,
     /// The outcomes of each module's queries.
     pub log: QueryLog,
-    /// How many more places each module's steps may take at each of its ports without memory, two for a step.
+    /// Each module's credit: how many more places its steps may take at each of its ports without asking for memory, two for a
+    /// step.
     pub credits: Vec<u64>,
 }
 

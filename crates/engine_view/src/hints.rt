@@ -1,13 +1,13 @@
-//! Hints: modules of which something may have changed.
+//! Hints: the modules at which something may have changed.
 ghost use Rattle.std.specs.Prelude.{◌≡◌, ◌<◌, [], length, slice_index_or};
 
 use flow_word::List;
 use module_sets::{Mask, ModuleSet};
 use std::marker::Model;
 
-/// The modules beside each, and the hinted ones: those of which something may have changed.
+/// For each module those beside it, and the hinted modules: those at which something may have changed.
 ///
-/// Contracts see the masks of the modules beside each. Which are hinted says only where to look first.
+/// Contracts see the masks of the modules beside each. Hints only say where to look first.
 pub struct Hints {
     beside: List<List<Mask>>,
     hinted: ModuleSet,
@@ -32,14 +32,14 @@ impl Model for Hints {
 }
 
 impl Hints {
-    /// Of each module the masks of those beside it, and those that are hinted at first.
+    /// Hints with the masks of the modules beside each module, and the modules that are hinted at the beginning.
     pub fn new(beside: List<List<Mask>>, hinted: ModuleSet) -> Hints
         ensures { result ≡ beside }
     {
         Hints { beside, hinted }
     }
 
-    /// The masks of the modules beside one.
+    /// The masks of the modules beside the given one.
     #[inline(always)]
     pub fn beside(&self, owner: u32) -> &[Mask]
         requires { owner < length self.now }
@@ -48,7 +48,7 @@ impl Hints {
         self.beside.as_slice()[owner as usize].as_slice()
     }
 
-    /// None is hinted any more.
+    /// Takes all hints away.
     pub fn clear(&mut self)
         ensures { self.new ≡ self.old }
     {
@@ -63,7 +63,7 @@ impl Hints {
         self.hinted.add(owner);
     }
 
-    /// Hints the modules beside one.
+    /// Hints the modules beside the given one.
     #[inline(always)]
     pub fn hint_beside(&mut self, owner: u32)
         ensures { self.new ≡ self.old }
@@ -73,7 +73,8 @@ impl Hints {
         }
     }
 
-    /// The first hinted module from this one on, going round. It is not hinted any more. None where none is.
+    /// Takes the hint of the first hinted module from this number on, or else from 0 on, and answers the module. `None` where no
+    /// module is hinted.
     #[inline(always)]
     pub(crate) fn take_from(&mut self, from: u32) -> Option<u32>
         ensures { self.new ≡ self.old }

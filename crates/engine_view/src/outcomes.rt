@@ -18,8 +18,8 @@ use query_log::{Query, QueryLog};
 use query_resolve::{Decision, decide, late};
 use time_engine::query_count;
 
-/// Adds the outcomes of a step's queries in this clock, where an undecided one counts as not possible. There is room for
-/// them.
+/// Adds the outcomes that a step's queries have in this clock. An undecided query counts as not possible. There must be room for
+/// the outcomes.
 pub fn write_outcomes(
     graph: &Graph,
     fifos: &FifoTable,
@@ -46,7 +46,7 @@ pub fn write_outcomes(
     }
 }
 
-/// Compares the recorded outcomes of a step's queries with those of this clock.
+/// Compares the recorded outcomes of a step's queries with those that they have in this clock.
 pub fn compare_outcomes(
     graph: &Graph,
     fifos: &FifoTable,
@@ -83,7 +83,7 @@ pub fn compare_outcomes(
     Guard::Same
 }
 
-/// Whether an access blocks, or its query, which has this recorded outcome, was possible exactly where it is in this clock.
+/// Whether an access blocks, or is a query whose recorded outcome is the one that it has in this clock.
 fn is_alike(
     graph: &Graph,
     fifos: &FifoTable,
@@ -102,7 +102,7 @@ fn is_alike(
     was_possible(access.kind, outcome) == is_possible(graph, fifos, access, cycle)
 }
 
-/// The outcome of a query in this clock, which counts as not possible where it is not decided.
+/// The outcome that a query has in this clock. An undecided query counts as not possible.
 fn outcome_in(graph: &Graph, fifos: &FifoTable, access: &Access, cycle: u64) -> bool
     requires access { IsAccess fifos.now.channels access.now }
     requires places { HasPlaces graph.now.lanes fifos.now.channels }
@@ -111,7 +111,7 @@ fn outcome_in(graph: &Graph, fifos: &FifoTable, access: &Access, cycle: u64) -> 
     is_possible(graph, fifos, access, cycle) != late(access.kind)
 }
 
-/// Whether the query is known to be possible.
+/// Whether it is known that the query is possible in this clock.
 fn is_possible(graph: &Graph, fifos: &FifoTable, access: &Access, cycle: u64) -> bool
     requires access { IsAccess fifos.now.channels access.now }
     requires places { HasPlaces graph.now.lanes fifos.now.channels }

@@ -1,4 +1,4 @@
-//! Room for the steps to come.
+//! Room for further steps.
 ghost use Rattle.std.specs.Prelude.{◌≡◌, ℕ, ◌+◌, ◌^◌, ◌<◌, ◌≤◌, Bool, List, length, slice_index, All, OnOk};
 ghost use Rattle.flow_word.specs.declared.access.Side.{Side as side_type};
 ghost use Rattle.flow_design.specs.declared.state.ModuleState.{ModuleState};
@@ -9,14 +9,14 @@ use crate::engine::Engine;
 use fifo_table::FifoTable;
 use flow_word::{OutOfMemory, Port, Side};
 
-/// The places at each end that a module is given at once: those of 256 Runs, of which each takes two at most.
+/// How many places a module is given at once at each of its ports: enough for 256 Runs, of which each takes at most two.
 const CREDIT: u64 = 512;
 
 impl Engine {
-    /// Makes room for a module's next step, and for others beside it, so that this seldom takes time.
+    /// Makes room for a module's next step. Where it asks for memory, it does so for many steps at once, so that it seldom asks.
     ///
-    /// `ports` are those at which the module stands, and `queries` is how many queries a step of it may have. All else
-    /// stays, also after want of memory.
+    /// `ports` are the module's ports, and `queries` is the most queries that one of its steps may have. All else stays, after
+    /// `OutOfMemory` too.
     #[inline(always)]
     pub fn make_room(&mut self, owner: u32, ports: &[Port], queries: u64) -> Result<(), OutOfMemory>
         requires owner { HasModule self.old owner }
@@ -35,10 +35,10 @@ impl Engine {
         self.make_room_for(owner, ports, queries, places)
     }
 
-    /// Makes room for so many places that a module's next steps may take at each of its ports: two for each step.
+    /// Makes room for `places` places that a module's next steps may take at each of its ports: two for each step.
     ///
-    /// `ports` are those at which the module stands, and `queries` is how many queries the last of the steps may have. All else
-    /// stays, also after want of memory.
+    /// `ports` are the module's ports, and `queries` is the most queries that the last of these steps may have. All else stays,
+    /// after `OutOfMemory` too.
     #[inline(always)]
     pub fn make_room_for(
         &mut self,
@@ -67,7 +67,7 @@ impl Engine {
     }
 }
 
-/// Makes room at each of the ports.
+/// Makes room at each of the ports: for `places` places, and for the one that the module's newest step may still take.
 fn reserve_ports(fifos: &mut FifoTable, ports: &[Port], places: u64) -> Result<(), OutOfMemory>
     requires ports { All (λ port. port.channel < length fifos.old.channels) ports.now }
     requires places { places + 1 < 2 ^ 64 }
@@ -81,7 +81,7 @@ fn reserve_ports(fifos: &mut FifoTable, ports: &[Port], places: u64) -> Result<(
     Ok(())
 }
 
-/// Makes room at a port: for so many places, and one that the newest step may still take.
+/// Makes room at a port: for `places` places, and for the one that the module's newest step may still take.
 fn reserve_port(fifos: &mut FifoTable, port: Port, places: u64) -> Result<(), OutOfMemory>
     requires channel { port.channel < length fifos.old.channels }
     requires places { places + 1 < 2 ^ 64 }

@@ -16,8 +16,8 @@ use query_log::QueryLog;
 use query_resolve::late;
 use time_engine::query_count;
 
-/// Adds the pushes and pops of a step: where it is only emitted those of the accesses that block, and later those of the
-/// queries that were possible by their recorded outcomes. There is room for them.
+/// Adds the pushes and pops of a step. When it is emitted these are those of its blocking accesses; later those of its queries that
+/// were possible by their recorded outcomes. There must be room for them.
 #[inline(always)]
 pub fn take_all(
     fifos: &mut FifoTable,
@@ -46,7 +46,7 @@ pub fn take_all(
     }
 }
 
-/// Whether the access is done now.
+/// Whether an access is done at this point: with `later` as a query that was possible, else as a blocking access.
 #[inline(always)]
 fn is_done(log: &QueryLog, owner: u32, number: u64, kind: Kind, later: bool) -> bool
     requires { owner < length log.now.logs }
@@ -59,7 +59,7 @@ fn is_done(log: &QueryLog, owner: u32, number: u64, kind: Kind, later: bool) -> 
     }
 }
 
-/// Whether a query of this kind was possible by its recorded outcome. Without one it counts as not possible.
+/// Whether a query of this kind was possible, by its recorded outcome. Without an outcome it counts as not possible.
 pub fn was_possible(kind: Kind, outcome: Option<bool>) -> bool
     ensures { result ≡ possible_by kind outcome }
 {
@@ -69,7 +69,7 @@ pub fn was_possible(kind: Kind, outcome: Option<bool>) -> bool
     }
 }
 
-/// Adds the push or the pop of an access that takes, where it is done.
+/// Adds the push or the pop of an access, if it takes one and is done.
 #[inline(always)]
 fn take_if(fifos: &mut FifoTable, at: Place, access: &Access, done: bool)
     requires access { IsAccess fifos.old.channels access.now }
@@ -86,7 +86,7 @@ fn take_if(fifos: &mut FifoTable, at: Place, access: &Access, done: bool)
     }
 }
 
-/// Adds the push or the pop of an access. There is room for it.
+/// Adds the push or the pop of an access. There must be room for it.
 #[inline(always)]
 fn add(fifos: &mut FifoTable, at: Place, access: &Access)
     requires access { IsAccess fifos.old.channels access.now }

@@ -1,4 +1,4 @@
-//! One turn at a module.
+//! A turn at one module.
 ghost use Rattle.std.specs.Prelude.{◌≡◌, ℕ, ◌+◌, ◌<◌, ◌≤◌, true, length, All};
 ghost use Rattle.event_graph.specs.Lanes.{cycle_bound, with_cycle};
 ghost use Rattle.event_graph.specs.Packed.{whole};
@@ -20,21 +20,22 @@ use query_resolve::{Decision, decide};
 use std::sync::ledger::Ledger;
 use time_engine::{assign, candidate_and_queries};
 
-/// What was done of a module's first step without a cycle.
+/// What a turn did with a module's first step without a cycle.
 #[derive(Clone, Copy, Debug, PartialEq, Eq)]
 pub enum Timing {
     /// The step has this cycle.
     Assigned(u64),
-    /// Its queries were answered in this clock, as far as they had no verified outcome.
+    /// Those of its queries that had no verified outcome were answered in this clock.
     Answered(u64),
-    /// The outcome of this query is not as it was assumed. Nothing changed.
+    /// The outcome that is found for this query is not the assumed one. Nothing changed.
     Differs(Query),
-    /// Neither is permitted. Nothing changed.
+    /// Neither an Assign nor an Answer is permitted. Nothing changed.
     Nothing,
 }
 
 impl Engine {
-    /// Gives a module's first step without a cycle its cycle, or answers its queries, where that is permitted.
+    /// Does a module's Assign or Answer, where one is permitted: gives its first step without a cycle a cycle, or answers the
+    /// step's queries.
     ///
     /// It takes no memory.
     #[inline(always)]
@@ -60,7 +61,8 @@ impl Engine {
         self.time_asking(owner, cycle, queries, steps)
     }
 
-    /// Times a step whose cycle is determined, and so many of whose accesses are queries.
+    /// Does a module's Assign or Answer, where one is permitted. The cycle of its first step without one is determined, and
+    /// `queries` of the step's accesses are queries.
     #[inline(never)]
     fn time_asking<L: Ledger>(
         &mut self,
@@ -95,7 +97,7 @@ impl Engine {
         }
     }
 
-    /// Gives a module's first step without a cycle this one, which it may be given.
+    /// Does a module's Assign, which must be permitted: gives its first step without a cycle this one.
     #[inline(always)]
     pub fn assign_first<L: Ledger>(&mut self, owner: u32, cycle: u64, steps: &mut Steps<L>)
         requires owner { owner < length self.old.graph.lanes }
@@ -111,7 +113,7 @@ impl Engine {
     }
 }
 
-/// Whether all queries of a step, which are so many, are among its module's first so many.
+/// Whether all queries of a step, `queries` of them, are among its module's first `verified` queries.
 fn are_first(step: &StepView, queries: u64, verified: u64) -> bool
     requires { queries ≡ queries_in step.now.accesses }
     ensures { result ≡ are_among (whole step.now) verified }
@@ -135,7 +137,7 @@ pub fn count_queries(accesses: &[Access]) -> u64
         .count() as u64
 }
 
-/// Whether each query among the accesses is decided.
+/// Whether each query among these accesses is decided.
 fn all_decided(graph: &Graph, fifos: &FifoTable, accesses: &[Access]) -> bool
     requires inside { All (IsAccess fifos.now.channels) accesses.now }
     requires places { HasPlaces graph.now.lanes fifos.now.channels }
@@ -149,7 +151,7 @@ fn all_decided(graph: &Graph, fifos: &FifoTable, accesses: &[Access]) -> bool
     true
 }
 
-/// Whether it is known if the access is possible, in whatever clock.
+/// Whether a query is decided: it is known from which clock on it is possible, or that it never is.
 fn is_decided(graph: &Graph, fifos: &FifoTable, access: &Access) -> bool
     requires access { IsAccess fifos.now.channels access.now }
     requires places { HasPlaces graph.now.lanes fifos.now.channels }

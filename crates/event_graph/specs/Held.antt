@@ -17,7 +17,7 @@ abbrev pub listed_in : Listed → List Access
 listed_in (Words words) = accesses_in words.now
 listed_in (listed.Slice items) = items.now
 
--- the words are those of the accesses
+-- the words hold the accesses of a step
 abbrev pub IsListed : Listed → Type 0
 IsListed (Words words) = HasAccess words.now × (goes_on (slice_index words.now 0) ≡ true → HasAccess (behind words.now))
 IsListed (listed.Slice items) = Unit {0}

@@ -10,11 +10,11 @@ pub record Lane : Type 0 where
   pub steps : List Step
   pub cycles : List ℕ
 
--- every cycle is below this
+-- a bound that every cycle is below
 abbrev pub cycle_bound : ℕ
 cycle_bound = 10 ^ 15
 
--- every gap is below this
+-- a bound that every gap is below
 abbrev pub gap_bound : ℕ
 gap_bound = 10 ^ 18
 
@@ -26,7 +26,7 @@ no_lane = record { steps = []; cycles = [] }
 abbrev pub lane_at : List Lane → ℕ → Lane
 lane_at lanes owner = slice_index_or lanes owner no_lane
 
--- the place is that of a step
+-- there is a step at this place
 pub record HasStep (lanes : List Lane) (place : Place) : Type 0 where
   pub owner : place.module < length lanes
   pub step : place.step < length (lane_at lanes place.module).steps
@@ -39,12 +39,13 @@ cycle_of lanes place = slice_get (lane_at lanes place.module).cycles place.step
 abbrev pub last_cycle : Lane → Option ℕ
 last_cycle lane = slice_get lane.cycles (length lane.cycles - 1)
 
--- a step's numbers are small enough to reckon with
+-- a step's gap and its number of accesses are in range
 pub record IsSoundStep (step : Step) : Type 0 where
   pub gap : step.gap < gap_bound
   pub accesses : length step.accesses < 2 ^ 32
 
--- every step but the first is at least one clock behind the step before it; the steps with a cycle are a prefix, and their cycles rise
+-- each step but the first comes at least one clock after the step before it; the steps with a cycle are a prefix, and their cycles
+-- rise
 pub record IsSoundLane (lane : Lane) : Type 0 where
   pub steps : All IsSoundStep lane.steps
   pub apart : All (λ step. 1 ≤ step.gap) (drop 1 lane.steps)
@@ -52,27 +53,27 @@ pub record IsSoundLane (lane : Lane) : Type 0 where
   pub rising : IsStrictlyIncreasing lane.cycles
   pub below : All (λ cycle. cycle < cycle_bound) lane.cycles
 
--- the lane with a step more
+-- the lane with one more step
 abbrev pub longer : Lane → Step → Lane
 longer lane step = record { steps = lane.steps ++ step ∷ []; cycles = lane.cycles }
 
--- the lane with the cycle of its first step that had none
+-- the lane with a cycle for its first step that had none
 abbrev pub timed : Lane → ℕ → Lane
 timed lane cycle = record { steps = lane.steps; cycles = lane.cycles ++ cycle ∷ [] }
 
--- the lane with those cycles alone that are below this one
+-- the lane with only those cycles that are below the given one
 abbrev pub timed_below : ℕ → Lane → Lane
 timed_below cycle lane = record { steps = lane.steps; cycles = filter (λ c. nat_lt c cycle) lane.cycles }
 
--- the lane with another cycle of its step of this number
+-- the lane with another cycle of one of its steps
 abbrev pub put_in : Lane → ℕ → ℕ → Lane
 put_in lane step cycle = record { steps = lane.steps; cycles = slice_set lane.cycles step cycle }
 
--- the lanes with a step more in one of them
+-- the lanes with one more step of a module
 abbrev pub with_step : List Lane → ℕ → Step → List Lane
 with_step lanes owner step = slice_set lanes owner (longer (lane_at lanes owner) step)
 
--- the lanes with a cycle more in one of them
+-- the lanes with a cycle for a module's first step that had none
 abbrev pub with_cycle : List Lane → ℕ → ℕ → List Lane
 with_cycle lanes owner cycle = slice_set lanes owner (timed (lane_at lanes owner) cycle)
 
@@ -80,7 +81,7 @@ with_cycle lanes owner cycle = slice_set lanes owner (timed (lane_at lanes owner
 abbrev pub with_put : List Lane → Place → ℕ → List Lane
 with_put lanes place cycle = slice_set lanes place.module (put_in (lane_at lanes place.module) place.step cycle)
 
--- a cycle that is below this one
+-- a cycle where it is below the given one, else none
 abbrev pub if_below : ℕ → Option ℕ → Option ℕ
 if_below cycle None = None
 if_below cycle (Some c) = if nat_lt c cycle then Some c else None

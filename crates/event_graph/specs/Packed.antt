@@ -1,4 +1,4 @@
--- Steps as they are kept, and what they mean.
+-- Steps in the form in which a lane keeps them, and the steps that they stand for.
 use Rattle.std.specs.Prelude.{◌≡◌, ◌⊎◌, ℕ, ◌+◌, ◌*◌, ◌<◌, ◌≤◌, ◌^◌, true, false, if◌then◌else◌, List, [], ◌∷◌, ◌++◌, length, drop}
 use Rattle.std.specs.Prelude.{slice_index, slice_index_or, All}
 use Rattle.flow_word.specs.Room.{Roomed}
@@ -9,19 +9,19 @@ use Rattle.event_graph.specs.declared.view.StepView.{StepView}
 use Rattle.event_graph.specs.declared.view.LaneStep.{LaneStep}
 use Rattle.event_graph.specs.Words.{Fits, is_kept, goes_on, upper, accesses_in, behind, HasAccess, words_of}
 
--- the step that is read
+-- the step that a view shows
 abbrev pub whole : StepView → Step
 whole view = record { gap = view.gap; accesses = view.accesses; first_query = view.first_query }
 
--- and the step that is read where it stands
+-- the step that a view shows which unpacks its accesses one by one
 abbrev pub in_lane : LaneStep → Step
 in_lane view = record { gap = view.gap; accesses = view.accesses; first_query = view.first_query }
 
--- no step
+-- the default where no step is kept
 abbrev pub nothing : Step
 nothing = record { gap = 0; accesses = []; first_query = 0 }
 
--- the step with this head, whose words these are, with others behind them
+-- the step with this head, where the words begin with its own, and these are the steps that are kept whole
 abbrev pub opened_at : List ℕ → List Step → Head → Step
 opened_at words others head =
     let word = slice_index words 0 in
@@ -29,24 +29,24 @@ opened_at words others head =
     then slice_index_or others (upper word) nothing
     else record { gap = head.gap; accesses = accesses_in words; first_query = head.first_query }
 
--- the step with this head, where these are the words of all steps, and the steps that are kept as they are
+-- the step with this head, among the words of all steps and the steps that are kept whole
 abbrev pub opened : List ℕ → List Step → Head → Step
 opened words others head = opened_at (drop head.at words) others head
 
--- the step has one access or two, its numbers fit 32 bits, and its accesses fit a word
+-- the step has one access or two, its numbers fit 32 bits, and its accesses fit a word each
 pub record IsFewStep (step : Step) : Type 0 where
   pub some : (length step.accesses ≡ 1) ⊎ (length step.accesses ≡ 2)
   pub gap : step.gap < 2 ^ 32
   pub first_query : step.first_query < 2 ^ 32
   pub fits : All Fits step.accesses
 
--- the first of these words are those of a step
+-- the words begin with those of a step
 pub record BeginsStep (words : List ℕ) (others : List Step) : Type 0 where
   pub some : HasAccess words
   pub two : goes_on (slice_index words 0) ≡ true → HasAccess (behind words)
   pub kept : is_kept (slice_index words 0) ≡ true → upper (slice_index words 0) < length others
 
--- the words of a step with this head are there
+-- all words of the step with this head are there
 abbrev pub IsInside : List ℕ → List Step → Head → Type 0
 IsInside words others head = BeginsStep (drop head.at words) others
 
@@ -56,19 +56,19 @@ packed [] = []
 packed (a ∷ []) = words_of a false
 packed (a ∷ b ∷ rest) = words_of a true ++ packed (b ∷ rest)
 
--- what stood in the lists stands there still
+-- each step that the lists had is still there, under the same head
 abbrev pub KeepsInside : List ℕ → List Step → List ℕ → List Step → Type 0
 KeepsInside words others words' others' = (head : Head) → IsInside words others head
     → IsInside words' others' head × (opened words' others' head ≡ opened words others head)
 
--- the step stands in the lists with this head, beside what stood there
+-- the new lists have the step under this head, and each step that they had before
 pub record IsKept (words : List ℕ) (others : List Step) (words' : List ℕ) (others' : List Step) (step : Step) (head : Head)
     : Type 0 where
   pub is : opened words' others' head ≡ step
   pub inside : IsInside words' others' head
   pub before : KeepsInside words others words' others'
 
--- each step stands in the lists, and there is room for so many more
+-- all words of each step are there, and there is room for so many further steps
 pub record IsPacked (heads : Roomed Head) (words : Roomed ℕ) (others : Roomed Step) (room : ℕ) : Type 0 where
   pub inside : All (IsInside words.items others.items) heads.items
   pub words_few : length words.items ≤ 4 * length heads.items

@@ -1,8 +1,8 @@
--- Lanes with the room that was reserved for more steps, as contracts see them.
+-- Lanes with the room that was reserved for further steps, as contracts see them.
 use Rattle.std.specs.Prelude.{◌≢◌, ℕ, ◌+◌, ◌≤◌, List, map, slice_index}
 use Rattle.event_graph.specs.Lanes.{Lane}
 
--- a lane, and how many more steps, with their cycles, it takes without memory
+-- a lane, and how many further steps, with their cycles, it takes without asking for memory
 pub record RoomedLane : Type 0 where
   pub lane : Lane
   pub room : ℕ
@@ -12,15 +12,15 @@ pub record RoomedLanes : Type 0 where
   pub lanes : List Lane
   pub rooms : List ℕ
 
--- the lanes alone
+-- the lanes without their rooms
 abbrev pub lanes_of : List RoomedLane → List Lane
 lanes_of lanes = map (λ l. l.lane) lanes
 
--- the rooms alone
+-- the rooms without their lanes
 abbrev pub rooms_of : List RoomedLane → List ℕ
 rooms_of lanes = map (λ l. l.room) lanes
 
--- one lane uses a place of its room at most, and no other any
+-- one lane uses at most one place of its room, and no other lane uses any
 pub record UsesPlace (owner : ℕ) (rooms rooms_left : List ℕ) : Type 0 where
   pub own : slice_index rooms owner ≤ slice_index rooms_left owner + 1
   pub others : (k : ℕ) → k ≢ owner → slice_index rooms k ≤ slice_index rooms_left k

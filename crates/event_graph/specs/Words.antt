@@ -1,4 +1,4 @@
--- Accesses as words: a word says what the access does, where, and what follows it; its value follows where it is not 0.
+-- Accesses as words: a word says the kind, the channel and the ordinal, and what follows; the value follows where it is not 0.
 use Rattle.std.specs.Prelude.{ℕ, ◌+◌, ◌*◌, ◌/◌, ◌%◌, ◌^◌, ◌<◌, ◌≤◌, ◌==◌, Bool, not, if◌then◌else◌}
 use Rattle.std.specs.Prelude.{List, [], ◌∷◌, length, drop, slice_index, slice_index_or}
 use Rattle.std.specs.Int.{from_bool}
@@ -13,27 +13,27 @@ pub record Fits (access : Access) : Type 0 where
 
 -- ---- the parts of a word
 
--- the kinds in the order of their codes
+-- the kind with this code
 abbrev pub kind_of : ℕ → Kind
 kind_of code = slice_index_or (Read ∷ Write ∷ TryRead ∷ TryWrite ∷ Empty ∷ []) code Full
 
--- the word is that of a step which is kept as it is
+-- the word is that of a step that is kept whole
 abbrev pub is_kept : ℕ → Bool
 is_kept word = word % 8 == 6
 
--- the value follows
+-- the value of the access follows its word
 abbrev pub has_value : ℕ → Bool
 has_value word = word / 8 % 2 == 1
 
--- another access of the step follows
+-- another access of the step follows the access with this word
 abbrev pub goes_on : ℕ → Bool
 goes_on word = word / 16 % 2 == 1
 
--- what stands in the upper half: an ordinal, or where the step is kept
+-- the upper half of a word: an ordinal, or the number of a step that is kept whole
 abbrev pub upper : ℕ → ℕ
 upper word = word / 2 ^ 32
 
--- how many words the access takes
+-- how many words the access takes of which this is the first
 abbrev pub size_of : ℕ → ℕ
 size_of word = if has_value word then 2 else 1
 
@@ -49,15 +49,15 @@ access_in words =
       value = if has_value word then slice_index words 1 else 0;
     }
 
--- the words behind the first access
+-- the words after the first access
 abbrev pub behind : List ℕ → List ℕ
 behind words = drop (size_of (slice_index words 0)) words
 
--- the first access, and the one that follows it
+-- the accesses with which the words begin: one or two
 abbrev pub accesses_in : List ℕ → List Access
 accesses_in words = access_in words ∷ (if goes_on (slice_index words 0) then access_in (behind words) ∷ [] else [])
 
--- the words of the first access are there
+-- all words of the first access are there
 abbrev pub HasAccess : List ℕ → Type 0
 HasAccess words = size_of (slice_index words 0) ≤ length words
 

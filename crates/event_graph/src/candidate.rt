@@ -1,14 +1,14 @@
-//! When a step can be done.
+//! The cycle of a step that has none yet, as far as it is known.
 
-/// What is known of the cycle of a module's first step without one.
+/// What is known of the cycle of a module's first step without a cycle.
 #[derive(Clone, Copy, Debug, PartialEq, Eq)]
 pub enum Candidate {
     /// The cycle is determined, and below the cycle limit.
     At(u64),
-    /// The blocking access of this number, in commit order, waits for an event without a cycle.
+    /// The blocking access with this number, counted from 0 in commit order, waits for an event that has no cycle.
     Waits(u32),
     /// The cycle is determined, and not below the cycle limit.
     Beyond,
-    /// Every step has its cycle.
+    /// There is no such step: every step has its cycle.
     Nothing,
 }

@@ -19,11 +19,11 @@ use std::alloc::Global;
 use std::marker::Model;
 use std::sync::ledger::Ledger;
 
-/// A lane for each module: the steps that it made, and the cycles of the first of them.
+/// A lane for each module: the steps that the module made, and the cycles of the first of them.
 ///
-/// A step keeps its place once it is pushed. Cycles alone come and go: they are given in order, rise along a lane, become
-/// others where they still rise, and are forgotten from a clock on. Contracts see the lanes, and beside them the room of
-/// each lane: how many further steps it takes without memory.
+/// A step keeps its place once it is pushed. Only cycles come and go. They are given in order and rise along a lane; one may be
+/// replaced as long as they still rise; and they are forgotten from a clock on. Contracts see the lanes, and the room of each lane:
+/// how many further steps it takes without asking for memory.
 pub struct Graph {
     lanes: Vec<RoomyLane>,
 }
@@ -47,7 +47,7 @@ impl Model for Graph {
 }
 
 impl Graph {
-    /// A graph of so many lanes without a step.
+    /// A graph of `modules` lanes without a step.
     pub fn new(alloc: Global, modules: u32) -> Result<Graph, OutOfMemory>
         ensures { IfOk result (λ graph. graph.lanes ≡ replicate modules no_lane) }
     {
@@ -58,9 +58,9 @@ impl Graph {
         Ok(Graph { lanes })
     }
 
-    /// Makes room for so many further steps of a module and their cycles.
+    /// Reserves room for `steps` further steps of a module and their cycles.
     ///
-    /// No lane's room falls, and the lanes are as they were, also after want of memory.
+    /// The lanes stay as they are and no room falls, after `OutOfMemory` either.
     pub fn reserve(&mut self, owner: u32, steps: u64) -> Result<(), OutOfMemory>
         requires { owner < length self.old.lanes }
         ensures lanes { self.new.lanes ≡ self.old.lanes }
@@ -72,8 +72,8 @@ impl Graph {
 
     /// Adds a step at the end of a module's lane, and takes the room for its cycle.
     ///
-    /// It succeeds where the lane has room, of which it uses one place. After want of memory the lanes are as they
-    /// were, and the step is dropped.
+    /// It succeeds where the lane has room, and then uses one place of it. After `OutOfMemory` the lanes are as they were, and the
+    /// step is dropped.
     pub fn push_step(&mut self, owner: u32, step: Step) -> Result<(), OutOfMemory>
         requires owner { owner < length self.old.lanes }
         requires sound { IsSoundStep step }
@@ -87,7 +87,8 @@ impl Graph {
         self.lanes[owner as usize].push_step(step)
     }
 
-    /// Appends a copy of a step of one access or two, whose numbers fit 32 bits.
+    /// Adds a copy of a step at the end of a module's lane. The step has one access or two, and its numbers fit 32 bits. It
+    /// succeeds where the lane has room.
     #[inline(always)]
     pub fn push_few(&mut self, owner: u32, step: &StepView<'_>) -> Result<(), OutOfMemory>
         requires owner { owner < length self.old.lanes }
@@ -121,7 +122,7 @@ impl Graph {
         self.lanes[owner as usize].len()
     }
 
-    /// How many of a module's steps have their cycle.
+    /// How many of a module's steps have a cycle.
     pub fn frontier(&self, owner: u32) -> u64
         requires { owner < length self.now.lanes }
         ensures count { result ≡ length (lane_at self.now.lanes owner).cycles }
@@ -142,7 +143,7 @@ impl Graph {
         self.lanes[place.module as usize].step(place.step)
     }
 
-    /// The step at a place, of which each access is read where it is asked for.
+    /// The step at a place. Each of its accesses is unpacked only when it is asked for.
     #[inline(always)]
     pub fn look(&self, place: Place) -> LaneStep<'_>
         requires { HasStep self.now.lanes place }
@@ -153,7 +154,7 @@ impl Graph {
         self.lanes[place.module as usize].look(place.step)
     }
 
-    /// The cycle of the step at a place, where it has one.
+    /// The cycle of the step at a place. `None` where it has none.
     pub fn cycle_of(&self, place: Place) -> Option<u64>
         requires { HasStep self.now.lanes place }
         ensures cycle { result ≡ cycle_at self.now.lanes place }
@@ -163,7 +164,7 @@ impl Graph {
         lane.cycles().get(place.step as usize).copied()
     }
 
-    /// Gives a module's first step without a cycle this one. No other call gives a step its first cycle.
+    /// Gives a cycle to a module's first step without one. No other call gives a step its first cycle.
     pub fn set_cycle<L: Ledger>(&mut self, owner: u32, cycle: u64, steps: &mut Steps<L>)
         requires owner { owner < length self.old.lanes }
         requires waiting { length (lane_at self.old.lanes owner).cycles < length (lane_at self.old.lanes owner).steps }
@@ -177,7 +178,7 @@ impl Graph {
         self.lanes[owner as usize].set_cycle(cycle, steps);
     }
 
-    /// Gives a step that has a cycle another one, with which the cycles of its lane still rise. All else stays.
+    /// Replaces the cycle of a step that has one. The cycles of its lane must still rise. All else stays.
     pub fn put<L: Ledger>(&mut self, place: Place, cycle: u64, steps: &mut Steps<L>)
         requires owner { place.module < length self.old.lanes }
         requires there { place.step < length (lane_at self.old.lanes place.module).cycles }
@@ -191,7 +192,7 @@ impl Graph {
         self.lanes[place.module as usize].put(place.step, cycle, steps);
     }
 
-    /// The cycles of a module's first steps.
+    /// The cycles of a module's steps, in order. Its later steps have none.
     pub fn cycles(&self, owner: u32) -> &[u64]
         requires { owner < length self.now.lanes }
         ensures { result.now ≡ (lane_at self.now.lanes owner).cycles }
@@ -199,7 +200,7 @@ impl Graph {
         self.lanes[owner as usize].cycles()
     }
 
-    /// How many of a module's cycles are below this one.
+    /// How many of a module's cycles are below the given one.
     pub fn count_below(&self, owner: u32, cycle: u64) -> u64
         requires { owner < length self.now.lanes }
         ensures count { result ≡ length (timed_below cycle (lane_at self.now.lanes owner)).cycles }
@@ -208,7 +209,7 @@ impl Graph {
         self.lanes[owner as usize].count_below(cycle)
     }
 
-    /// Forgets every cycle that is at least this one. All else stays.
+    /// Forgets every cycle that is at least the given one. All else stays.
     pub fn forget_from(&mut self, cycle: u64)
         ensures lanes { self.new.lanes ≡ map (timed_below cycle) self.old.lanes }
         ensures each { (place : Place) → cycle_at self.new.lanes place ≡ if_below cycle (cycle_at self.old.lanes place) }

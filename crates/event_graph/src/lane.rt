@@ -13,7 +13,7 @@ use std::alloc::Global;
 use std::marker::Model;
 use std::sync::ledger::Ledger;
 
-/// A module's steps, and the cycles of the first of them. Each step has room for its cycle.
+/// A module's steps, and the cycles of the first of them. Room for a step's cycle is taken with the step.
 #[derive(Drop)]
 pub struct RoomyLane {
     steps: StepList,
@@ -38,7 +38,7 @@ impl Model for RoomyLane {
 }
 
 impl RoomyLane {
-    /// No step yet, which takes no memory.
+    /// A lane without a step. It takes no memory.
     pub fn new(alloc: Global) -> RoomyLane
         ensures lane { result.lane ≡ no_lane }
         ensures sound { IsSoundLane result.lane }
@@ -57,7 +57,7 @@ impl RoomyLane {
         self.steps.len()
     }
 
-    /// The step of this number.
+    /// The step with this number, counted from 0.
     #[inline(always)]
     pub fn step(&self, at: u64) -> StepView<'_>
         requires { at < length self.now.lane.steps }
@@ -66,7 +66,7 @@ impl RoomyLane {
         self.steps.get(at)
     }
 
-    /// The step at this place, each access of which is read where it is asked for.
+    /// The step with this number, counted from 0. Each of its accesses is unpacked only when it is asked for.
     #[inline(always)]
     pub fn look(&self, at: u64) -> LaneStep<'_>
         requires { at < length self.now.lane.steps }
@@ -75,7 +75,7 @@ impl RoomyLane {
         self.steps.look(at)
     }
 
-    /// How many steps have their cycle.
+    /// How many steps have a cycle.
     pub fn frontier(&self) -> u64
         ensures count { result ≡ length self.now.lane.cycles }
         ensures few { result < 2 ^ 32 }
@@ -83,14 +83,14 @@ impl RoomyLane {
         self.cycles.len() as u64
     }
 
-    /// The cycles of the first steps.
+    /// The cycles of the first steps, in order. The later steps have none.
     pub fn cycles(&self) -> &[u64]
         ensures { result.now ≡ self.now.lane.cycles }
     {
         self.cycles.as_slice()
     }
 
-    /// Makes room for so many more steps and their cycles. The room never falls.
+    /// Reserves room for `more` further steps and their cycles. The room never falls.
     pub fn reserve(&mut self, more: u64) -> Result<(), OutOfMemory>
         ensures lane { self.new.lane ≡ self.old.lane }
         ensures room { OnOk result (more ≤ self.new.room) }
@@ -104,7 +104,7 @@ impl RoomyLane {
         Ok(())
     }
 
-    /// Adds a step, and takes the room for its cycle.
+    /// Adds a step at the end, and takes the room for its cycle.
     pub fn push_step(&mut self, step: Step) -> Result<(), OutOfMemory>
         requires sound { IsSoundStep step }
         requires apart { 0 < length self.old.lane.steps → 1 ≤ step.gap }
@@ -120,7 +120,7 @@ impl RoomyLane {
         Ok(())
     }
 
-    /// Appends a copy of a step of one access or two, whose numbers fit 32 bits.
+    /// Adds a copy of a step at the end. The step has one access or two, and its numbers fit 32 bits.
     #[inline(always)]
     pub fn push_few(&mut self, step: &StepView<'_>) -> Result<(), OutOfMemory>
         requires few { IsFewStep (whole step.now) }
@@ -138,7 +138,7 @@ impl RoomyLane {
         Ok(())
     }
 
-    /// Gives the first step without a cycle this one.
+    /// Gives a cycle to the first step without one.
     pub fn set_cycle<L: Ledger>(&mut self, cycle: u64, steps: &mut Steps<L>)
         requires waiting { length self.old.lane.cycles < length self.old.lane.steps }
         requires below { cycle < cycle_bound }
@@ -148,12 +148,12 @@ impl RoomyLane {
         ensures sound { IsSoundLane self.new.lane }
         ensures ticks { steps.new ≡ steps.old + 1 }
     {
-        // Its room was taken with the step.
+        // The room for the cycle was taken with the step.
         let _ = self.cycles.push(cycle);
         steps.tick();
     }
 
-    /// Gives a step that has a cycle another one, with which the cycles still rise.
+    /// Replaces the cycle of a step that has one. The cycles must still rise.
     pub fn put<L: Ledger>(&mut self, step: u64, cycle: u64, steps: &mut Steps<L>)
         requires there { step < length self.old.lane.cycles }
         requires below { cycle < cycle_bound }
@@ -167,14 +167,14 @@ impl RoomyLane {
         steps.tick();
     }
 
-    /// How many cycles are below this one.
+    /// How many cycles are below the given one.
     pub fn count_below(&self, cycle: u64) -> u64
         ensures { result ≡ length (timed_below cycle self.now.lane).cycles }
     {
         count_below(self.cycles.as_slice(), cycle) as u64
     }
 
-    /// Forgets the cycles from this one on.
+    /// Forgets every cycle that is at least the given one.
     pub fn forget_from(&mut self, cycle: u64)
         ensures lane { self.new.lane ≡ timed_below cycle self.old.lane }
         ensures kept { self.old.room ≤ self.new.room }
@@ -185,7 +185,7 @@ impl RoomyLane {
     }
 }
 
-/// How many of the rising cycles are below this one. They stand at the front.
+/// How many of these rising cycles are below the given one. They are a prefix of the list.
 fn count_below(cycles: &[u64], cycle: u64) -> usize
     requires { IsStrictlyIncreasing cycles.now }
     ensures front { take result cycles.now ≡ filter (λ c. nat_lt c cycle) cycles.now }

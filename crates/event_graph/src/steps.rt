@@ -10,23 +10,23 @@ use flow_word::{Access, OutOfMemory, RoomyList, Step};
 use std::alloc::Global;
 use std::marker::Model;
 
-/// A lane has no more steps.
+/// The most steps that a lane takes.
 const MOST_STEPS: u64 = 0x3fff_ffff;
 
-/// The largest number that a head has.
+/// The greatest gap and the greatest number of queries that a head can have.
 const MOST: u64 = 0xffff_ffff;
 
-/// What is kept of a step: 12 bytes, and its words. The gap and the number of queries before it are 0 where it is kept as it is.
+/// The head of a step: what is kept of it beside its words. The gap and the number of queries are 0 where the step is kept whole.
 #[derive(Clone, Copy)]
 pub struct Head {
     pub gap: u32,
     pub first_query: u32,
-    /// Where the step's words begin.
+    /// The place of the step's first word.
     pub at: u32,
 }
 
-/// Steps in order. Where a step has one access or two, its numbers fit 32 bits and its accesses a word, these stand as words
-/// in a list with those of the others. Any other step is kept as it is, and one word says where.
+/// A list of steps. A step with one access or two, whose numbers fit 32 bits and whose accesses fit a word each, is kept as a head
+/// and words. Any other step is kept whole in a list of its own, and its word has its number there.
 #[derive(Drop)]
 pub struct StepList {
     heads: RoomyList<Head>,
@@ -49,7 +49,7 @@ impl Model for StepList {
 }
 
 impl StepList {
-    /// No step yet, which takes no memory.
+    /// A list without a step. It takes no memory.
     pub fn new(alloc: Global) -> StepList
         ensures { result.items ≡ [] }
     {
@@ -69,7 +69,7 @@ impl StepList {
         self.heads.len()
     }
 
-    /// The step of this number.
+    /// The step with this number, counted from 0.
     #[inline(always)]
     pub fn get(&self, at: u64) -> StepView<'_>
         requires { at < length self.now.items }
@@ -87,7 +87,7 @@ impl StepList {
         }
     }
 
-    /// The step at this place, each access of which is read where it is asked for.
+    /// The step with this number, counted from 0. Each of its accesses is unpacked only when it is asked for.
     #[inline(always)]
     pub fn look(&self, at: u64) -> LaneStep<'_>
         requires { at < length self.now.items }
@@ -105,7 +105,7 @@ impl StepList {
         }
     }
 
-    /// Makes room for so many more steps. The room never falls.
+    /// Reserves room for `more` further steps. The room never falls.
     #[inline(always)]
     pub fn reserve(&mut self, more: u64) -> Result<(), OutOfMemory>
         ensures items { self.new.items ≡ self.old.items }
@@ -126,7 +126,7 @@ impl StepList {
         Ok(())
     }
 
-    /// Adds a step at the end. It succeeds where there is room, of which it uses one place.
+    /// Adds a step at the end. It succeeds where there is room, and then uses one place of it.
     pub fn push(&mut self, step: Step) -> Result<(), OutOfMemory>
         ensures ok { OnOk result (self.new.items ≡ self.old.items ++ step ∷ []) }
         ensures err { OnErr result (self.new.items ≡ self.old.items) }
@@ -140,7 +140,8 @@ impl StepList {
         Ok(())
     }
 
-    /// The same with a copy of a step of one access or two, whose numbers fit 32 bits and whose accesses fit a word.
+    /// Adds a copy of a step at the end. The step has one access or two, its numbers fit 32 bits, and its accesses fit a word each.
+    /// It succeeds where there is room, and then uses one place of it.
     #[inline(always)]
     pub fn push_few(&mut self, step: &StepView<'_>) -> Result<(), OutOfMemory>
         requires few { IsFewStep (whole step.now) }
@@ -161,7 +162,7 @@ impl StepList {
     }
 }
 
-/// A step that is kept as it is.
+/// A view of a step that is kept whole.
 #[inline(always)]
 fn view_kept(step: &Step) -> StepView<'_>
     ensures { whole result ≡ step.now }
@@ -173,7 +174,7 @@ fn view_kept(step: &Step) -> StepView<'_>
     }
 }
 
-/// The step that is kept whole, each access of which is read where it is asked for.
+/// A view of a step that is kept whole. Each of its accesses is read only when it is asked for.
 fn look_kept(step: &Step) -> LaneStep<'_>
     ensures { in_lane result ≡ step.now }
 {
@@ -184,7 +185,7 @@ fn look_kept(step: &Step) -> LaneStep<'_>
     }
 }
 
-/// The accesses of a step, which begin these words.
+/// The accesses of the step with which these words begin.
 #[inline(always)]
 fn read_accesses<'a>(words: &[u64]) -> AccessesView<'a>
     requires some { HasAccess words.now }
@@ -199,7 +200,7 @@ fn read_accesses<'a>(words: &[u64]) -> AccessesView<'a>
     AccessesView::two(first, second)
 }
 
-/// Keeps a step beside those of before, which stay. There is room for it.
+/// Keeps a step beside the earlier ones, and answers its head. There must be room for it.
 fn keep(words: &mut RoomyList<u64>, others: &mut RoomyList<Step>, step: Step) -> Head
     requires words_room { 4 ≤ words.old.room }
     requires others_room { 1 ≤ others.old.room }
@@ -229,7 +230,7 @@ fn keep(words: &mut RoomyList<u64>, others: &mut RoomyList<Step>, step: Step) ->
     }
 }
 
-/// Whether a step has one access or two, its numbers fit 32 bits, and its accesses fit a word.
+/// Whether a step has one access or two, its numbers fit 32 bits, and its accesses fit a word each.
 fn is_few(step: &Step) -> bool
     ensures { result ≡ true → IsFewStep step.now }
 {
@@ -240,7 +241,7 @@ fn is_few(step: &Step) -> bool
         && all_fit(accesses)
 }
 
-/// Adds one access or two, and says where they begin. There is room for them.
+/// Adds the words of one access or two, and answers the place of the first word. There must be room for them.
 #[inline(always)]
 fn push_accesses(words: &mut RoomyList<u64>, items: &[Access]) -> u32
     requires few { (length items.now ≡ 1) ⊎ (length items.now ≡ 2) }

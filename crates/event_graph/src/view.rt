@@ -1,4 +1,4 @@
-//! A step as it is read in its lane.
+//! Views of a step in its lane.
 ghost use Rattle.std.specs.Prelude.{◌≡◌, ◌<◌, true, [], ◌∷◌, length, slice_get, slice_index, Some};
 ghost use Rattle.event_graph.specs.Words.{HasAccess, behind, accesses_in, goes_on as goes_on_by};
 
@@ -6,7 +6,7 @@ use crate::words::{goes_on, read_access, size_of};
 use flow_word::Access;
 use std::marker::Model;
 
-/// Where the accesses are.
+/// The accesses of a view: copies of one or two, or a slice.
 #[derive(Drop)]
 enum Held<'a> {
     One([Access; 1]),
@@ -14,7 +14,7 @@ enum Held<'a> {
     Slice(&'a [Access]),
 }
 
-/// The accesses of a step, in commit order. A view of a step with one or two has a copy of them.
+/// A view of the accesses of a step, in commit order. It has a copy of one or two accesses.
 #[derive(Drop)]
 pub struct AccessesView<'a> {
     held: Held<'a>,
@@ -41,7 +41,7 @@ impl<'a> AccessesView<'a> {
         }
     }
 
-    /// One access.
+    /// A view that has a copy of one access.
     #[inline(always)]
     pub(crate) fn one(access: Access) -> AccessesView<'a>
         ensures { result ≡ access ∷ [] }
@@ -51,7 +51,7 @@ impl<'a> AccessesView<'a> {
         }
     }
 
-    /// Two accesses.
+    /// A view that has copies of two accesses.
     #[inline(always)]
     pub(crate) fn two(first: Access, second: Access) -> AccessesView<'a>
         ensures { result ≡ first ∷ second ∷ [] }
@@ -82,10 +82,10 @@ impl<'a> AccessesView<'a> {
     }
 }
 
-/// A step, as it stands in its lane.
+/// A view of a step in its lane.
 #[derive(Drop)]
 pub struct StepView<'a> {
-    /// The local clocks since the module's step before, or since its local clock 0.
+    /// How many local clocks the step comes after the module's previous step, or after its local clock 0 where it is the first.
     pub gap: u64,
     /// The accesses, in commit order.
     pub accesses: AccessesView<'a>,
@@ -93,14 +93,14 @@ pub struct StepView<'a> {
     pub first_query: u64,
 }
 
-/// Where the accesses are that are read one by one.
+/// The accesses that are unpacked one by one: words of a lane, or a slice.
 #[derive(Drop)]
 enum Listed<'a> {
     Words(&'a [u64]),
     Slice(&'a [Access]),
 }
 
-/// The accesses of a step, in commit order, where they stand in its lane. Each is read where it is asked for.
+/// A view of the accesses of a step, in commit order, which has no copy. Each access is unpacked only when it is asked for.
 #[derive(Drop)]
 pub struct LaneAccesses<'a> {
     listed: Listed<'a>,
@@ -119,7 +119,7 @@ impl<'a> Model for LaneAccesses<'a> {
 }
 
 impl<'a> LaneAccesses<'a> {
-    /// The accesses that begin these words.
+    /// A view of the accesses with which these words begin.
     #[inline(always)]
     pub(crate) fn of_words(words: &'a [u64]) -> LaneAccesses<'a>
         requires some { HasAccess words.now }
@@ -152,7 +152,7 @@ impl<'a> LaneAccesses<'a> {
         }
     }
 
-    /// The access of this number, counted from 0.
+    /// The access with this number, counted from 0.
     #[inline(always)]
     pub fn at(&self, number: usize) -> Access
         requires { number < length self.now }
@@ -166,7 +166,7 @@ impl<'a> LaneAccesses<'a> {
     }
 }
 
-/// The access of this number among these.
+/// The access with this number, counted from 0, in a slice.
 #[inline(always)]
 fn item_at(items: &[Access], number: usize) -> Access
     requires { number < length items.now }
@@ -175,10 +175,10 @@ fn item_at(items: &[Access], number: usize) -> Access
     items[number]
 }
 
-/// A step where it stands in its lane, of which each access is read where it is asked for.
+/// A view of a step in its lane. Each of its accesses is unpacked only when it is asked for.
 #[derive(Drop)]
 pub struct LaneStep<'a> {
-    /// The local clocks since the module's step before, or since its local clock 0.
+    /// How many local clocks the step comes after the module's previous step, or after its local clock 0 where it is the first.
     pub gap: u64,
     /// The accesses, in commit order.
     pub accesses: LaneAccesses<'a>,

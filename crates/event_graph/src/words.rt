@@ -1,8 +1,8 @@
 //! Accesses as words.
 //!
-//! A word has the code of what the access does in its lowest three bits, then whether its value follows, whether another
-//! access of the step follows, the channel, and in its upper half the ordinal. Its value follows it where that is not 0. The
-//! code 6 stands for a step that is kept as it is, with its number in the upper half.
+//! The lowest three bits of a word are the code of the access's kind. The next bit tells whether its value follows as a word, and
+//! the bit after it whether another access of the step follows. Then comes the channel, and in the upper half the ordinal. A value
+//! of 0 is left out. The code 6 stands for a step that is kept whole: its number is in the upper half.
 ghost use Rattle.std.specs.Prelude.{◌≡◌, ◌+◌, ◌<◌, ◌≤◌, ◌++◌, true, false, All};
 ghost use Rattle.event_graph.specs.Words.{Fits, is_kept as is_kept_by, has_value as has_value_by, goes_on as goes_on_by, upper as upper_by};
 ghost use Rattle.event_graph.specs.Words.{kind_of as kind_by, code_of as code_by, word_of as word_by, words_of};
@@ -10,16 +10,16 @@ ghost use Rattle.event_graph.specs.Words.{access_in, size_of as size_by, HasAcce
 
 use flow_word::{Access, Kind, RoomyList};
 
-/// The code of a step that is kept as it is.
+/// The code of a step that is kept whole.
 const KEPT: u64 = 6;
 
-/// One in the upper half.
+/// The number 1 in the upper half of a word.
 const UPPER: u64 = 0x1_0000_0000;
 
-/// A channel that fits is below this.
+/// One more than the greatest channel number that fits a word.
 const CHANNELS: u64 = 0x800_0000;
 
-/// Whether the word is that of a step which is kept as it is.
+/// Whether the word is that of a step that is kept whole.
 #[inline(always)]
 pub(crate) fn is_kept(word: u64) -> bool
     ensures { result ≡ is_kept_by word }
@@ -27,7 +27,7 @@ pub(crate) fn is_kept(word: u64) -> bool
     word % 8 == KEPT
 }
 
-/// The word of a step that is kept as it is, under this number.
+/// The word of a step that is kept whole, with its number there.
 pub(crate) fn kept_at(number: u32) -> u64
     ensures kept { is_kept_by result ≡ true }
     ensures number { upper_by result ≡ number }
@@ -37,7 +37,7 @@ pub(crate) fn kept_at(number: u32) -> u64
     number as u64 * UPPER + KEPT
 }
 
-/// What stands in the upper half of a word.
+/// The upper half of a word, as a number.
 #[inline(always)]
 pub(crate) fn upper(word: u64) -> u64
     ensures { result ≡ upper_by word }
@@ -53,7 +53,7 @@ fn has_value(word: u64) -> bool
     word / 8 % 2 == 1
 }
 
-/// Whether another access of the step follows.
+/// Whether another access of the step follows the access with this word.
 #[inline(always)]
 pub(crate) fn goes_on(word: u64) -> bool
     ensures { result ≡ goes_on_by word }
@@ -92,7 +92,7 @@ fn code_of(kind: Kind) -> u64
     }
 }
 
-/// How many words the access with this word takes.
+/// How many words the access takes of which this is the first.
 #[inline(always)]
 pub(crate) fn size_of(word: u64) -> usize
     ensures { result ≡ size_by word }
@@ -100,7 +100,7 @@ pub(crate) fn size_of(word: u64) -> usize
     1 + has_value(word) as usize
 }
 
-/// The access that begins these words.
+/// The access with which these words begin.
 #[inline(always)]
 pub(crate) fn read_access(words: &[u64]) -> Access
     requires { HasAccess words.now }
@@ -115,7 +115,7 @@ pub(crate) fn read_access(words: &[u64]) -> Access
     }
 }
 
-/// The word of an access.
+/// The first word of an access. `more` tells whether another access of its step follows.
 #[inline(always)]
 fn word_of(access: Access, more: bool) -> u64
     requires { Fits access }
@@ -128,7 +128,7 @@ fn word_of(access: Access, more: bool) -> u64
         + UPPER * access.ordinal
 }
 
-/// Adds an access, and whether another of its step follows. There is room for it.
+/// Adds the words of an access. `more` tells whether another access of its step follows. There must be room for the words.
 #[inline(always)]
 pub(crate) fn push_access(words: &mut RoomyList<u64>, access: Access, more: bool)
     requires fits { Fits access }

@@ -11,21 +11,22 @@ use Rattle.event_timing.specs.Core.{Core, core_accesses, core_tally, has_query}
 abbrev pub edited : {S : Type 0} → Design S → ℕ → ℕ → Design S
 edited {S} d fifo depth = record d { start = λ side ch. cond (same_side side Push && eqb ch fifo) depth (d.start side ch) }
 
--- in no clock before t does the FIFO hold as many elements as the lesser of the two depths
+-- in no clock before t of the history does the FIFO hold as many elements as the lesser of its depth and the new one
 pub record IsUntouched {S : Type 0} (d : Design S) (h : Trace S) (fifo depth t : ℕ) : Type 0 where
   pub old_room : (c : ℕ) → c < t → h.taken c Push fifo < d.start Push fifo + h.taken c Pop fifo
   pub new_room : (c : ℕ) → c < t → h.taken c Push fifo < depth + h.taken c Pop fifo
 
--- how many of the first n cycles stay, where those from t on are forgotten
+-- how many of the first n cycles are kept, where those from t on are forgotten
 unfoldable pub kept : (ℕ → ℕ) → ℕ → ℕ → ℕ
 kept cycle t zero = 0
 kept cycle t (suc n) = cond (ltb (cycle n) t) (suc n) (kept cycle t n)
 
--- the cycles that stay, and 0 behind them
+-- the k-th cycle where it is kept, else 0
 abbrev pub kept_cycle : (ℕ → ℕ) → ℕ → ℕ → ℕ → ℕ
 kept_cycle cycle t n k = cond (ltb k (kept cycle t n)) (cycle k) 0
 
--- the core from which a retiming begins: cycles from t on are forgotten, and outcomes behind them are assumed
+-- the core from which a retiming begins: cycles from t on are forgotten, and the outcomes of their steps and all later ones are
+-- assumed
 abbrev pub after_edit : {S : Type 0} → Design S → Core S → ℕ → Core S
 after_edit {S} d x t =
     record x {
@@ -34,15 +35,15 @@ after_edit {S} d x t =
       verified = λ m k. x.verified m k && (ltb k (kept (x.cycle m) t (x.timed m)) || not (has_query (core_accesses d x m k)));
     }
 
--- how many pops or pushes of the channel have a cycle below c
+-- how many pops (or pushes) of a channel the core's cycles have before clock c
 abbrev pub by_cycles : {S : Type 0} → Design S → Core S → Side → ℕ → ℕ → ℕ
 by_cycles {S} d x side ch c = core_tally d x (d.owner side ch) side ch (kept (x.cycle (d.owner side ch)) c (x.timed (d.owner side ch)))
 
--- by the cycles that are given, how many elements the FIFO holds in clock c
+-- how many elements the FIFO holds in clock c, by the core's cycles
 abbrev pub held_by_cycles : {S : Type 0} → Design S → Core S → ℕ → ℕ → ℕ
 held_by_cycles {S} d x fifo c = by_cycles d x Push fifo c - by_cycles d x Pop fifo c
 
--- by the cycles that are given, the FIFO holds fewer elements in each clock before t than either depth
+-- by the core's cycles, the FIFO holds fewer elements than its depth and than the new one, in each clock before t
 pub record IsUntouchedByCycles {S : Type 0} (d : Design S) (x : Core S) (fifo depth t : ℕ) : Type 0 where
   pub old_room : (c : ℕ) → c < t → by_cycles d x Push fifo c < d.start Push fifo + by_cycles d x Pop fifo c
   pub new_room : (c : ℕ) → c < t → by_cycles d x Push fifo c < depth + by_cycles d x Pop fifo c

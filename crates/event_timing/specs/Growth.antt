@@ -5,7 +5,7 @@ use Rattle.event_timing.specs.Machines.{Design}
 use Rattle.event_timing.specs.Views.{own, Begins}
 use Rattle.event_timing.specs.Core.{Core, core_values, core_reply, core_tally, values_there}
 
--- z has all that x has: its steps, their recorded outcomes, and the values on each channel
+-- core z has all that core x has: its steps, their recorded outcomes, and the values on each channel
 pub record Grows {S : Type 0} (d : Design S) (x z : Core S) : Type 0 where
   pub emitted_up : (n : ℕ) → x.emitted n ≤ z.emitted n
   pub state_same : (n k : ℕ) → k < x.emitted n → z.state n k ≡ x.state n k
@@ -14,19 +14,19 @@ pub record Grows {S : Type 0} (d : Design S) (x z : Core S) : Type 0 where
   pub answered_up : (n k : ℕ) → k < x.emitted n → x.answered n k ≡ true → z.answered n k ≡ true
   pub values_up : (ch : ℕ) → Begins (core_values d z ch) (core_values d x ch)
 
--- and of this module no mark more
+-- core z has all that core x has, and no further mark of module m
 pub record GrowsBeside {S : Type 0} (d : Design S) (x z : Core S) (m : ℕ) : Type 0 where
   pub grows : Grows d x z
   pub emitted : z.emitted m ≡ x.emitted m
   pub over : z.over m ≡ x.over m
 
--- every reply to the first n steps is there
+-- every reply to module m's first n steps is there
 pub record IsSettled {S : Type 0} (d : Design S) (x : Core S) (m n : ℕ) : Type 0 where
   pub emitted : (k : ℕ) → k < n → k < x.emitted m
   pub answered : (k : ℕ) → k < n → x.answered m k ≡ true
   pub there : (k : ℕ) → k < n → values_there d x m k ≡ true
 
--- the module's first n steps have the same replies in both, and bring it as far
+-- module m's first n steps have the same replies in both cores, and lead to the same state
 pub record RepliesAlike {S : Type 0} (d : Design S) (x z : Core S) (m n : ℕ) : Type 0 where
   pub counts : (side : Side) (ch : ℕ) → core_tally d z m side ch n ≡ core_tally d x m side ch n
   pub replies : (k : ℕ) → k < n → core_reply d z m k ≡ core_reply d x m k

@@ -5,22 +5,22 @@ use Rattle.flow_word.specs.declared.access.Side.TheVariants.{Pop, Push}
 use Rattle.flow_word.specs.Kinds.{other_side, same_side}
 use Rattle.event_timing.specs.Machines.{Access, Reply, Design, takes_in, values_in}
 
--- what holds at a clock, before that clock's own moves
+-- what holds at each clock, before that clock's moves
 pub record Trace (S : Type 0) : Type 0 where
-  -- each module's state
+  -- the state of each module
   pub state : ℕ → ℕ → S
-  -- pops or pushes of a channel in clocks before
+  -- how many pops or pushes of each channel there were in earlier clocks
   pub taken : ℕ → Side → ℕ → ℕ
-  -- a channel's inputs, then all values pushed on it in clocks before
+  -- the inputs of each channel, and then all values pushed on it in earlier clocks
   pub pushed : ℕ → ℕ → List ℕ
 
--- whether a pop (or a push) of the channel is possible in clock c: fewer were done than the start and the other side's together,
--- as far as those are seen
+-- a pop (or a push) of the channel is possible in clock c: fewer were done than the start and the other side's together, as far as
+-- those are seen in clock c
 abbrev pub is_possible : {S : Type 0} → Design S → Trace S → ℕ → Side → ℕ → Bool
 is_possible {S} d h c side ch =
     d.unlimited side ch || ltb (h.taken c side ch) (d.start side ch + h.taken (suc c - d.lag side ch) (other_side side) ch)
 
--- the n-th pop gives the n-th value that went in, where the access pops
+-- the value that an access pops in clock c: the n-th pop gives the n-th value that went in
 abbrev pub front_for : {S : Type 0} → Design S → Trace S → ℕ → Access → ℕ
 front_for {S} d h c a =
     cond (a.takes && (same_side a.side Pop && is_possible d h c a.side a.channel))
@@ -43,14 +43,14 @@ moves {S} d h c m = not (d.is_over m (h.state c m)) && can_all d h c (d.accesses
 unfoldable pub replies : {S : Type 0} → Design S → Trace S → ℕ → ℕ → List Reply
 replies {S} d h c m = map (reply_to d h c) (d.accesses m (h.state c m))
 
--- what module m takes at a side of the channel if it moves in clock c, and what it pushes
+-- how many elements, or places, module m takes at a side of the channel in clock c, if it moves
 abbrev pub taken_by : {S : Type 0} → Design S → Trace S → ℕ → ℕ → Side → ℕ → ℕ
 taken_by {S} d h c m side ch = takes_in side ch (d.accesses m (h.state c m)) (replies d h c m)
 
 abbrev pub pushed_by : {S : Type 0} → Design S → Trace S → ℕ → ℕ → ℕ → List ℕ
 pushed_by {S} d h c m ch = values_in ch (d.accesses m (h.state c m)) (replies d h c m)
 
--- the laws: how all starts, and what one clock changes for a module that moves, and for one that stays
+-- the laws of counting: how a history starts, and what a clock changes for a module that moves, and for one that stays
 pub record IsHistory {S : Type 0} (d : Design S) (h : Trace S) : Type 0 where
   pub state_0 : (m : ℕ) → h.state 0 m ≡ d.opening m
   pub taken_0 : (side : Side) (ch : ℕ) → h.taken 0 side ch ≡ 0

@@ -6,7 +6,8 @@ use Rattle.flow_word.specs.Kinds.{other_side, same_side}
 
 -- ---- what a module asks, and what it is told
 
--- one access of a channel: its side, whether it waits, whether it takes an element or a place where it is possible, and what it pushes
+-- an access of a channel: its side, whether it blocks, whether it takes an element or a place when it is possible, and what it
+-- pushes
 pub record Access : Type 0 where
   pub side : Side
   pub blocks : Bool
@@ -14,41 +15,41 @@ pub record Access : Type 0 where
   pub channel : ℕ
   pub value : ℕ
 
--- what the module is told of an access: whether it was possible, and the front of the channel where it popped
+-- the reply to an access: whether it was possible, and the channel's front value where it popped
 pub record Reply : Type 0 where
   pub possible : Bool
   pub front : ℕ
 
 -- ---- designs
 
--- modules whose states are of any type, and the channels between them
+-- modules with states of any type, and the channels between them
 pub record Design (S : Type 0) : Type 0 where
   pub modules : ℕ
-  -- of each module: its first state, the accesses due in a state, its move on the replies, and whether it moves no more
+  -- of each module its first state, the accesses due in a state, its move on the replies, and whether it is over
   pub opening : ℕ → S
   pub accesses : ℕ → S → List Access
   pub move : ℕ → S → List Reply → S
   pub is_over : ℕ → S → Bool
-  -- how many local clocks without an access come before the next access or the end
+  -- how many local clocks without an access come from a state on, before the next access or the end
   pub quiet : ℕ → S → ℕ
   -- the module that pops a channel, and the one that pushes it
   pub owner : Side → ℕ → ℕ
   -- how many pops (pushes) are possible before any push (pop): the inputs of a source, the depth of a FIFO
   pub start : Side → ℕ → ℕ
-  -- the pushes of a sink
+  -- a side that is always possible: the pushes of a sink
   pub unlimited : Side → ℕ → Bool
-  -- the pops of a source: no push will ever come
+  -- a side whose other side never comes: the pops of a source, which nobody pushes
   pub closed : Side → ℕ → Bool
   pub inputs : ℕ → List ℕ
-  -- after how many clocks a push is seen by a pop, and a pop by a push
+  -- the lag of a side: after how many clocks a pop sees a push, and a push a pop
   pub lag : Side → ℕ → ℕ
 
--- the state so many local clocks later, in which nothing is asked
+-- the state after n local clocks without an access
 abbrev pub skip : {S : Type 0} → Design S → ℕ → ℕ → S → S
 skip {S} d m zero s = s
 skip {S} d m (suc n) s = d.move m (skip d m n s) []
 
--- the state behind the quiet clocks
+-- the state of module m after its quiet clocks: it has an access, or is over
 abbrev pub ready : {S : Type 0} → Design S → ℕ → S → S
 ready {S} d m s = skip d m (d.quiet m s) s
 
@@ -60,11 +61,11 @@ abbrev pub Each : (Access → Type 0) → List Access → Type 0
 Each P [] = ⊤
 Each P (a ∷ xs) = P a × Each P xs
 
--- the access takes at this side of the channel, where it is possible
+-- the access takes an element, or a place, at this side of the channel when it is possible
 abbrev pub takes_at : Side → ℕ → Access → Bool
 takes_at side ch a = a.takes && (same_side a.side side && eqb a.channel ch)
 
--- how many of the accesses do
+-- how many of these accesses take at this side of the channel when they are possible
 abbrev pub takers : Side → ℕ → List Access → ℕ
 takers side ch [] = 0
 takers side ch (a ∷ xs) = cond (takes_at side ch a) 1 0 + takers side ch xs
@@ -74,18 +75,18 @@ pub record IsDesign {S : Type 0} (d : Design S) : Type 0 where
   -- in its quiet clocks a module is not over and asks nothing
   pub quiet_lives : (m : ℕ) (s : S) (i : ℕ) → i < d.quiet m s → d.is_over m (skip d m i s) ≡ false
   pub quiet_idle : (m : ℕ) (s : S) (i : ℕ) → i < d.quiet m s → d.accesses m (skip d m i s) ≡ []
-  -- the states that the module can come to, whatever it is replied
+  -- each state that a module can come to fits, whatever the replies are
   pub fits : ℕ → S → Bool
   pub fits_opening : (m : ℕ) → fits m (d.opening m) ≡ true
   pub fits_move : (m : ℕ) (s : S) (rs : List Reply) → fits m s ≡ true → fits m (d.move m s rs) ≡ true
-  -- the quiet clocks end: then the module is over, or has an access
+  -- the quiet clocks end: after them the module is over, or has an access
   pub quiet_ends : (m : ℕ) (s : S) → fits m s ≡ true → d.is_over m (ready d m s) ≡ false
       → is_some_access (d.accesses m (ready d m s)) ≡ true
-  -- each side of a channel has one module
+  -- each side of a channel belongs to one module
   pub owned : (m : ℕ) (s : S) → Each (λ a. d.owner a.side a.channel ≡ m) (d.accesses m s)
-  -- nobody pushes a source
+  -- no module pushes a source
   pub open_sides : (m : ℕ) (s : S) → Each (λ a. d.closed (other_side a.side) a.channel ≡ false) (d.accesses m s)
-  -- nothing is seen in its own clock
+  -- no clock's pop or push is seen in the clock itself
   pub lag_positive : (side : Side) (ch : ℕ) → 0 < d.lag side ch
   pub pops_limited : (ch : ℕ) → d.unlimited Pop ch ≡ false
   pub start_inputs : (ch : ℕ) → d.start Pop ch ≡ length (d.inputs ch)
@@ -96,17 +97,17 @@ pub record IsDesign {S : Type 0} (d : Design S) : Type 0 where
 
 -- ---- what is taken
 
--- an access takes at this side of the channel
+-- an access took an element, or a place, at this side of the channel
 abbrev pub took : Side → ℕ → Access → Reply → Bool
 took side ch a r = a.takes && (r.possible && (same_side a.side side && eqb a.channel ch))
 
--- how many elements (popping) or places (pushing) of the channel these accesses take
+-- how many elements, or places, of the channel these accesses took, by their replies
 abbrev pub takes_in : Side → ℕ → List Access → List Reply → ℕ
 takes_in side ch [] rs = 0
 takes_in side ch (a ∷ xs) [] = 0
 takes_in side ch (a ∷ xs) (r ∷ rs) = cond (took side ch a r) 1 0 + takes_in side ch xs rs
 
--- the values that they push on the channel
+-- the values that these accesses pushed on the channel
 abbrev pub values_in : ℕ → List Access → List Reply → List ℕ
 values_in ch [] rs = []
 values_in ch (a ∷ xs) [] = []

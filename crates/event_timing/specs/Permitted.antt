@@ -1,15 +1,15 @@
--- Which actions are permitted, computed.
+-- Tests that compute which actions are permitted.
 use Rattle.std.specs.Prelude.{Bool, None, Option, Some, false, ltb, not, suc, true, zero, ℕ, ◌&&◌, ◌≡◌, ◌≤◌}
 use Rattle.event_timing.specs.Machines.{Design}
 use Rattle.event_timing.specs.Views.{first_accesses}
 use Rattle.event_timing.specs.Enablers.{known_of, candidate, all_decided}
 use Rattle.event_timing.specs.Core.{Core, values_there, view}
 
--- no step is emitted for a number that names no module
+-- the core has emitted steps of the design's modules alone
 abbrev pub IsInside : {S : Type 0} → Design S → Core S → Type 0
 IsInside {S} d x = (m : ℕ) → d.modules ≤ m → x.emitted m ≡ 0
 
--- of so many steps the newest has every reply
+-- the last of module m's first so many steps has every reply; true where there is none
 abbrev pub has_replies : {S : Type 0} → Design S → Core S → ℕ → ℕ → Bool
 has_replies {S} d x m zero = true
 has_replies {S} d x m (suc k) = x.answered m k && values_there d x m k
@@ -17,7 +17,7 @@ has_replies {S} d x m (suc k) = x.answered m k && values_there d x m k
 unfoldable pub may_run : {S : Type 0} → Design S → Core S → ℕ → Bool
 may_run {S} d x m = ltb m d.modules && (not (x.over m) && has_replies d x m (x.emitted m))
 
--- there is such a clock, and it comes before the limit
+-- there is a clock, and it is before the limit
 abbrev pub is_before : ℕ → Option ℕ → Bool
 is_before limit None = false
 is_before limit (Some c) = ltb c limit
@@ -28,7 +28,7 @@ is_determined {S} d limit x m = is_before limit (candidate d (view d x) m)
 unfoldable pub may_assign : {S : Type 0} → Design S → ℕ → Core S → ℕ → Bool
 may_assign {S} d limit x m = is_determined d limit x m && x.verified m (x.timed m)
 
--- each query of the first step without a cycle is decided
+-- each query of module m's first step without a cycle is decided
 unfoldable pub decides : {S : Type 0} → Design S → Core S → ℕ → Bool
 decides {S} d x m = all_decided (known_of d (view d x) m) (first_accesses (view d x) m)
 
@@ -38,7 +38,7 @@ may_answer {S} d limit x m = is_determined d limit x m && (not (x.verified m (x.
 unfoldable pub is_open : {S : Type 0} → Design S → ℕ → Core S → ℕ → Bool
 is_open {S} d limit x m = is_determined d limit x m && (not (x.verified m (x.timed m)) && not (decides d x m))
 
--- none of the first so many modules passes the test
+-- none of the first n modules passes the test
 unfoldable pub no_module : (ℕ → Bool) → ℕ → Bool
 no_module test zero = true
 no_module test (suc n) = not (test n) && no_module test n
@@ -47,7 +47,7 @@ unfoldable pub is_quiet : {S : Type 0} → Design S → ℕ → Core S → Bool
 is_quiet {S} d limit x =
     no_module (may_run d x) d.modules && (no_module (may_assign d limit x) d.modules && no_module (may_answer d limit x) d.modules)
 
--- its open step comes before that clock
+-- module n has an open step with a cycle less than the given clock
 unfoldable pub is_open_before : {S : Type 0} → Design S → ℕ → Core S → Option ℕ → ℕ → Bool
 is_open_before {S} d limit x None n = false
 is_open_before {S} d limit x (Some c) n = is_open d limit x n && is_before c (candidate d (view d x) n)
@@ -56,6 +56,6 @@ unfoldable pub may_earliest : {S : Type 0} → Design S → ℕ → Core S → �
 may_earliest {S} d limit x m =
     is_open d limit x m && (is_quiet d limit x && no_module (is_open_before d limit x (candidate d (view d x) m)) d.modules)
 
--- an open step would permit an Earliest: of those with the least clock
+-- no action is permitted: with an open step there would be one with the least cycle, and its Earliest would be permitted
 unfoldable pub is_final : {S : Type 0} → Design S → ℕ → Core S → Bool
 is_final {S} d limit x = is_quiet d limit x && no_module (is_open d limit x) d.modules

@@ -1,4 +1,4 @@
-//! The laws, for any design `d` over states of any type `S`, and any history `h` of it.
+//! The laws of the theory, for any design `d` over states of any type `S`, and any history `h` of it.
 ghost use Rattle.std.specs.Prelude.{◌≡◌, ◌↔◌, ℕ, suc, ◌+◌, ◌-◌, ◌*◌, ◌<◌, ◌≤◌, min, ◌++◌, ◌⊎◌, true, false, Some, List, length};
 ghost use Rattle.flow_word.specs.declared.access.Side.{Side};
 ghost use Rattle.flow_word.specs.declared.access.Side.TheVariants.{Push};
@@ -18,14 +18,14 @@ ghost use Rattle.event_timing.specs.Permitted.{IsInside, may_run, may_assign, ma
 ghost use Rattle.event_timing.specs.Work.{work};
 ghost use Rattle.event_timing.specs.Edits.{edited, after_edit, kept, held_by_cycles, IsUntouchedByCycles};
 
-/// After every list of permitted actions a core agrees with the history, if it did before. The opening core does.
+/// The opening core agrees with the history, and so does each core that permitted actions make of one that agrees, in any order.
 pub fn every_order_agrees<S>()
     ensures opening { (d : Design S) (h : Trace S) → IsDesign d → IsHistory d h → (limit : ℕ) → IsAgreed d h limit (opening_core d) }
     ensures kept { (d : Design S) (h : Trace S) → IsDesign d → IsHistory d h → (limit : ℕ) (x : Core S) → IsAgreed d h limit x
         → (actions : List Action) (y : Core S) → ActsAll d limit x actions y → IsAgreed d h limit y }
 {}
 
-/// The marks of a core stay those of the modules' own runs, whatever is done.
+/// The marks of a core are those of the modules' own runs. Each permitted action keeps that.
 pub fn marks_stay<S>()
     ensures run { (d : Design S) (x : Core S) → AreOwnMarks d x → (m : ℕ) → MayRun d x m → AreOwnMarks d (after_run d x m) }
     ensures assign { (d : Design S) (x : Core S) → AreOwnMarks d x → (m c : ℕ) → AreOwnMarks d (after_assign x m c) }
@@ -38,9 +38,8 @@ pub fn marks_stay<S>()
     ensures newest { (d : Design S) (x : Core S) → AreOwnMarks d x → (m : ℕ) → newest d x m ≡ own d m (core_reply d x m) (x.emitted m) }
 {}
 
-/// A core only grows: what a module has emitted and was replied stays, whatever is done. Actions without a Run of a module let the
-/// core grow beside it, and leave the module's marks as they were. Where the replies of a module's first steps are all there, growth
-/// changes none of them.
+/// A core only grows: the marks of a module and the replies to it stay, whatever is done. Actions without a Run of a module leave
+/// its marks as they were. Where the replies of a module's first steps are all there, growth changes none of these replies.
 pub fn cores_grow<S>()
     ensures run { (d : Design S) (x : Core S) (m : ℕ) → Grows d x (after_run d x m) }
     ensures assign { (d : Design S) (x : Core S) (m c : ℕ) → Grows d x (after_assign x m c) }
@@ -55,9 +54,9 @@ pub fn cores_grow<S>()
     ensures replies { (d : Design S) (x y : Core S) → Grows d x y → (m n : ℕ) → IsSettled d x m n → RepliesAlike d x y m n }
 {}
 
-/// What is found by counts alone is the history's: the clock of a determined step, and the outcomes that an Answer or an
-/// Earliest finds. So a query is found to differ only where the history's outcome is not the assumed one.
-/// An enabler is the one step at which the count of pops, or of pushes, goes past the ordinal.
+/// What a core finds by counts alone is right by the history: the clock of a determined step, and the outcomes that an Answer or an
+/// Earliest finds. So a query is found to differ only where the history's outcome is not the assumed one. The enabler of an access
+/// is the one step at which the count of pops, or of pushes, goes beyond the access's ordinal.
 pub fn found_by_counts<S>()
     ensures cycle { (d : Design S) (h : Trace S) → IsDesign d → IsHistory d h → (limit : ℕ) (x : Core S) → IsAgreed d h limit x
         → (m c : ℕ) → candidate d (view d x) m ≡ Some c → IsStepAt d h m (x.timed m) c }
@@ -69,8 +68,8 @@ pub fn found_by_counts<S>()
         → (m c : ℕ) → MayEarliest d limit x m c → new_flags d x m c ≡ possible_all d h c (core_accesses d x m (x.timed m)) }
 {}
 
-/// Where each recorded outcome is verified, none that is found is another, whatever is done; so it is from the opening on, and an
-/// edit alone makes outcomes assumed. A verified outcome is that of a step which the history does before the limit.
+/// Where each recorded outcome is verified, no later action finds another outcome. This holds from the opening core on: only an
+/// edit makes outcomes assumed. A verified outcome is that of a step which the history does before the limit.
 pub fn verified_outcomes<S>()
     ensures opening { (d : Design S) → AllVerified (opening_core d) }
     ensures kept { (d : Design S) (h : Trace S) → IsDesign d → IsHistory d h → (limit : ℕ) (x : Core S) → IsAgreed d h limit x
@@ -84,8 +83,9 @@ pub fn verified_outcomes<S>()
         → x.flags m (x.timed m) ≡ possible_all d h c (core_accesses d x m (x.timed m)) }
 {}
 
-/// A final core has each step of the history below the limit. Where none of its steps is determined, nobody moves from the
-/// last stop on, and the module of a stop moves in the clock before it. A determined step moves, at the limit or later.
+/// A final core has each step of the history below the limit. Where none of its steps is determined, no module moves from the last
+/// stop on, and the module with that stop moves in the clock before it. A determined step of a final core moves at the limit or
+/// later.
 pub fn final_cores<S>()
     ensures complete { (d : Design S) (h : Trace S) → IsDesign d → IsHistory d h → (limit : ℕ) (x : Core S) → IsAgreed d h limit x
         → IsFinal d limit x → (m c : ℕ) → c ≤ limit → done d h m c ≤ x.timed m }
@@ -97,9 +97,9 @@ pub fn final_cores<S>()
         → IsFinal d limit x → (m c : ℕ) → candidate d (view d x) m ≡ Some c → (limit ≤ c) × (moves d h c m ≡ true) }
 {}
 
-/// What a report tells besides is read off a core: the events, which are the steps with a cycle, each before its module's stop;
-/// what went into a channel before a clock up to which its pusher has each of its steps; and of a final core, how many steps each
-/// module did below the limit, and, where no step is determined, which accesses hold a module.
+/// The rest of a report is read off a core as well. Its events are the steps with a cycle, each before its module's stop. What went
+/// into a channel before a clock is known, where the pushing module has a cycle for each of its steps before that clock. A final
+/// core tells how many steps each module did below the limit, and, where no step is determined, which accesses hold a module.
 pub fn final_reports<S>()
     ensures counts { (d : Design S) (h : Trace S) → IsDesign d → IsHistory d h → (limit : ℕ) (x : Core S) → IsAgreed d h limit x
         → IsFinal d limit x → (m : ℕ) → done d h m limit ≡ x.timed m }
@@ -116,8 +116,9 @@ pub fn final_reports<S>()
         × Each (λ a. is_possible d h c a.side a.channel ≡ answer (known_of d (view d x) m a) c) (core_accesses d x m (x.timed m)) }
 {}
 
-/// The first touched clock is the least in which the FIFO holds as many elements as the lesser of both depths, by a final core's
-/// cycles. Up to it, and up to the limit where there is none, it holds fewer; and at the limit no cycle is forgotten.
+/// The first touched clock is the first in which, by a final core's cycles, the FIFO holds as many elements as the lesser of both
+/// depths. Before it the FIFO holds fewer, and before the limit where there is no such clock. A core that is cut back to the cycles
+/// below the limit stays as it is.
 pub fn first_touched<S>()
     ensures below { (d : Design S) (h : Trace S) → IsDesign d → IsHistory d h → (limit : ℕ) (x : Core S) → IsAgreed d h limit x
         → IsFinal d limit x → (fifo depth t : ℕ) → t ≤ limit → 0 < d.start Push fifo → 0 < depth
@@ -126,8 +127,8 @@ pub fn first_touched<S>()
         → kept (x.cycle m) limit (x.timed m) ≡ x.timed m }
 {}
 
-/// A final core that is cut back to the cycles below the first touched clock agrees with the edited design. `g` is a history of that one.
-/// An edited design keeps the rules of a design, and an edit to the depth that stands changes nothing.
+/// A final core that is cut back to the cycles below the first touched clock agrees with the edited design, whose history is `g`.
+/// An edited design keeps the rules of a design. An edit to the depth that a FIFO has already changes nothing.
 pub fn edited_cores<S>()
     ensures same_depth { (d : Design S) (fifo : ℕ) → edited d fifo (d.start Push fifo) ≡ d }
     ensures design { (d : Design S) → IsDesign d → (fifo depth : ℕ) → IsDesign (edited d fifo depth) }
@@ -136,8 +137,9 @@ pub fn edited_cores<S>()
         → (g : Trace S) → IsHistory (edited d fifo depth) g → IsAgreed (edited d fifo depth) g limit (after_edit d x t) }
 {}
 
-/// Each Assign of a module gives one of its steps a cycle, and nothing else does. After an edit these are no more than the steps
-/// that had no cycle before it, those whose cycle was at `t` or later, and those that are emitted meanwhile.
+/// Each Assign of a module gives one of its steps a cycle, and nothing else does. After an edit a module has at most as many
+/// Assigns as it has steps of three kinds: those without a cycle before the edit, those with a cycle at `t` or later, and those
+/// that are emitted after it.
 pub fn cycles_given<S>()
     ensures given { (d : Design S) (limit : ℕ) (x : Core S) (actions : List Action) (y : Core S) → ActsAll d limit x actions y
         → (m : ℕ) → assigns m actions + x.timed m ≡ y.timed m }
@@ -149,8 +151,9 @@ pub fn cycles_given<S>()
         → assigns m actions ≤ (x.emitted m - x.timed m) + (x.timed m - kept (x.cycle m) t (x.timed m)) + (y.emitted m - x.emitted m) }
 {}
 
-/// From the opening core no list of permitted actions is longer than this, where no own run has more than `most` steps. From any core
-/// that agrees, each permitted action raises what the core has done, unless it differs and changes nothing; and that has a bound.
+/// Where no own run has more than `most` steps, a list of permitted actions from the opening core has at most `3 * most + 1`
+/// actions for each module. From any core that agrees, each permitted action raises the measure of what the core has done, or
+/// changes nothing. That measure has the same bound.
 pub fn action_bound<S>()
     ensures opening { (d : Design S) (h : Trace S) → IsDesign d → IsHistory d h → (limit most : ℕ) → IsBounded d most
         → (actions : List Action) (x : Core S) → ActsAll d limit (opening_core d) actions x → length actions ≤ d.modules * (3 * most + 1) }
@@ -160,7 +163,8 @@ pub fn action_bound<S>()
         → work d x ≤ d.modules * (3 * most + 1) }
 {}
 
-/// A Run of a module that is permitted stays so while others act, and emits the same. So do several, one after the other.
+/// A Run of a module that is permitted stays permitted while others act, and emits the same mark. So do several Runs of it in a
+/// row.
 pub fn running_ahead<S>()
     ensures several { (d : Design S) (h : Trace S) → IsDesign d → IsHistory d h → (limit : ℕ) (x : Core S) → IsAgreed d h limit x
         → (m n : ℕ) (y : Core S) → ActsAll d limit x (runs n m) y → (actions : List Action) → IsNoRunOf m actions → (z : Core S)
@@ -170,7 +174,8 @@ pub fn running_ahead<S>()
         → MayRun d y m × (newest d y m ≡ newest d x m) }
 {}
 
-/// An edit permits no Run, and neither do actions that meet only queries whose outcomes are recorded and found again.
+/// An edit permits no further Run. Neither do actions that answer only queries with recorded outcomes, where they find these
+/// outcomes again.
 pub fn recorded_outcomes<S>()
     ensures edited { (d : Design S) (x : Core S) (fifo depth t m : ℕ) → MayRun (edited d fifo depth) (after_edit d x t) m → MayRun d x m }
     ensures kept { (d : Design S) (h : Trace S) → IsDesign d → IsHistory d h → (limit : ℕ) (x : Core S) → IsAgreed d h limit x
@@ -178,8 +183,8 @@ pub fn recorded_outcomes<S>()
         → MayRun d y m → ⊥ }
 {}
 
-/// The tests decide: each is true exactly where its action is permitted. Those that ask all modules want a core that has emitted
-/// steps of the design's modules alone.
+/// The computed tests decide: each is true exactly where its action is permitted. A test that goes over all modules needs a core
+/// that has emitted steps of the design's modules alone.
 pub fn tests_decide<S>()
     ensures run { (d : Design S) (x : Core S) (m : ℕ) → (may_run d x m ≡ true) ↔ MayRun d x m }
     ensures assign { (d : Design S) (limit : ℕ) (x : Core S) (m : ℕ)

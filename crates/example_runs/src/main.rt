@@ -1,6 +1,6 @@
-//! Answers about session files as the program does, and writes what was asked, the answer and the status.
+//! Answers questions about session files as the program does, and writes for each the question, the answer and the status.
 //!
-//! Each argument that ends in `.flow` names a session. The words since the session before it are what is asked about it.
+//! Each argument that ends in `.flow` names a session. The words between it and the session before it are the question.
 #![tactic(auto)]
 
 use sim_io::{StdSink, StdSource};
@@ -37,7 +37,7 @@ fn answer_all<R: Threads + Wait + Sync + Files + Env + Print + AllocGlobal>(
     Ok(())
 }
 
-/// Answers what these words ask about a session.
+/// Answers the question that these words are about a session. Writes the question, the answer and the status.
 fn answer_one<R: Threads + Wait + Sync + Files + Print + AllocGlobal>(
     rt: &R,
     words: &[String],

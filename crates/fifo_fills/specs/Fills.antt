@@ -13,11 +13,11 @@ use Rattle.flow_design.specs.Reports.{clock_of}
 abbrev pub fifos : Plan → List ℕ
 fifos p = filter (λ f. is_fifo (kind_at p f)) (range_with_len 0 (length p.design.channels))
 
--- how many elements channel f holds in a clock, those under way included
+-- the fill of channel f: how many elements it holds in a clock, those in flight included
 unfoldable pub fill : Plan → ℕ → ℕ → ℕ
 fill p f clock = length (contents_of (state p clock).contents f)
 
--- what each FIFO holds in a clock
+-- the fill of each FIFO in a clock, in order of declaration
 abbrev pub fills : Plan → ℕ → List ℕ
 fills p clock = map (λ f. fill p f clock) (fifos p)
 
@@ -25,7 +25,7 @@ fills p clock = map (λ f. fill p f clock) (fifos p)
 abbrev pub last_clock : Plan → ℕ
 last_clock p = clock_of (verdict p)
 
--- in this clock, at most the verdict's, the FIFO at place i in order of declaration holds so many elements
+-- the i-th FIFO in order of declaration holds so many elements in this clock, which is at most the verdict's
 pub record HasFill (p : Plan) (i clock elements : ℕ) : Type 0 where
   pub inside : i < length (fifos p)
   pub within : clock ≤ last_clock p

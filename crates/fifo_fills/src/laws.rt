@@ -6,8 +6,8 @@ ghost use Rattle.flow_design.specs.Plans.{is_fifo, kind_at};
 ghost use Rattle.flow_design.specs.StaticRules.{FitsEngine};
 ghost use Rattle.fifo_fills.specs.Fills.{fill, moved_before, last_clock};
 
-/// In each clock a FIFO holds what was pushed on it before, less what was popped off it, and that is at most its depth. The clock of
-/// the verdict is at most the cycle limit.
+/// In each clock a FIFO holds what was pushed on it before, less what was popped off it, and that is at most its depth. The clock
+/// of the verdict is at most the cycle limit.
 pub fn fills_are_counted()
     ensures counted { (p : Plan) → FitsEngine p → (f c : ℕ) → f < length p.design.channels → IsTrue (is_fifo (kind_at p f))
         → fill p f c + moved_before p Pop f c ≡ moved_before p Push f c }

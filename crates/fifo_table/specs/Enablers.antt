@@ -1,4 +1,4 @@
--- Which event enables an access.
+-- The event that enables an access.
 use Rattle.std.specs.Prelude.{ℕ, ◌-◌, length, nat_le, if◌then◌else◌, Option, None, Some}
 use Rattle.flow_word.specs.declared.access.Place.{Place}
 use Rattle.flow_word.specs.declared.access.Side.{Side}
@@ -9,13 +9,13 @@ use Rattle.fifo_table.specs.declared.channel.TableChannel.TheVariants.{Source, S
 use Rattle.fifo_table.specs.declared.channel.TableChannel.{TableChannel}
 use Rattle.fifo_table.specs.Channels.{Channel, nth, places_of}
 
--- an event at its place, or one that was not emitted yet
+-- the event at this place, or that it is missing
 abbrev pub event_at : Option Place → Enabler
 event_at None = Missing
 event_at (Some place) = Event place
 
--- in a FIFO the n-th pop waits for the n-th push, and the n-th push for the pop that frees its place: there are as many places as the
--- depth. A source has its inputs from the start, and never more; a sink has places without end
+-- the enabler of an access: in a FIFO the n-th pop waits for the n-th push, and a push for the pop that frees its place, as many
+-- pops earlier as the depth. A source has its inputs from the start, and no more; a sink always has places
 abbrev pub enabler_by : TableChannel → Side → Channel → ℕ → Enabler
 enabler_by (Source inputs) Pop channel n = if nat_le n (length inputs) then Free else Never
 enabler_by (Source inputs) Push channel n = Missing
@@ -24,6 +24,6 @@ enabler_by Sink Push channel n = Free
 enabler_by (Fifo depth delay) Pop channel n = event_at (nth (places_of Push channel) n)
 enabler_by (Fifo depth delay) Push channel n = if nat_le n depth then Free else event_at (nth (places_of Pop channel) (n - depth))
 
--- what the n-th pop of a channel, or its n-th push, waits for
+-- the enabler of a channel's n-th pop, or of its n-th push
 abbrev pub enabler_of : Channel → Side → ℕ → Enabler
 enabler_of channel side n = enabler_by channel.kind side channel n

@@ -1,14 +1,14 @@
--- How the table keeps the places and the pushes of one side of a channel: the module once.
+-- The places and the pushes of one side of a channel as the table keeps them: with their module only once.
 use Rattle.std.specs.Prelude.{ℕ, List, map}
 use Rattle.std.specs.List.{zip}
 use Rattle.flow_word.specs.declared.access.Place.{Place}
 use Rattle.fifo_table.specs.declared.channel.Pushed.{Pushed}
 use Rattle.fifo_table.specs.Channels.{push_of}
 
--- the places of a module's steps of these numbers
+-- the places of module m's steps with these numbers
 abbrev pub places_in : ℕ → List ℕ → List Place
 places_in m steps = map (λ k. record { «module» = m; step = k }) steps
 
--- a push of each place, with the value beside it
+-- the pushes at these places, with these values
 abbrev pub pushes_in : List Place → List ℕ → List Pushed
 pushes_in places values = map (λ (p : Place × ℕ). push_of p.0 p.1) (zip places values)

@@ -3,13 +3,13 @@ use Rattle.std.specs.Prelude.{ℕ, List, map}
 use Rattle.fifo_table.specs.declared.channel.RoomyChannel.{RoomyChannel}
 use Rattle.fifo_table.specs.Channels.{Channel}
 
--- the channels, and how many further pushes and pops each takes without memory
+-- the channels, and how many further pushes and pops each takes without asking for memory
 pub record RoomedChannels : Type 0 where
   pub channels : List Channel
   pub push_rooms : List ℕ
   pub pop_rooms : List ℕ
 
--- a channel without its room
+-- a channel without its rooms
 abbrev pub channel_of : RoomyChannel → Channel
 channel_of roomy = record {
   kind = roomy.kind;
@@ -17,14 +17,14 @@ channel_of roomy = record {
   pops = roomy.pops.items;
 }
 
--- the channels alone
+-- the channels without their rooms
 abbrev pub channels_of : List RoomyChannel → List Channel
 channels_of channels = map channel_of channels
 
--- the rooms for pushes alone
+-- the rooms for further pushes
 abbrev pub push_rooms_of : List RoomyChannel → List ℕ
 push_rooms_of channels = map (λ c. c.pushes.room) channels
 
--- the rooms for pops alone
+-- the rooms for further pops
 abbrev pub pop_rooms_of : List RoomyChannel → List ℕ
 pop_rooms_of channels = map (λ c. c.pops.room) channels

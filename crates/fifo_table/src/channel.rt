@@ -8,26 +8,26 @@ use crate::pushes::Pushes;
 use flow_word::{List, OutOfMemory, Place, Side, Words};
 use std::alloc::Global;
 
-/// What a channel is.
+/// The kind of a channel, with all that the table needs of it.
 #[derive(Debug, Drop)]
 pub enum TableChannel {
     /// A preloaded input stream: its values, each cut to the channel's width.
     Source(Words),
     /// An output stream, which is never full.
     Sink,
-    /// A queue of this depth, from 1 to 1,000,000, and this delay, from 1 to 1,000: an element can be popped so many
-    /// clocks after its push.
+    /// A queue of this depth, in elements, and this delay, in clocks, both within the limits of the language. An element can be
+    /// popped so many clocks after its push.
     Fifo { depth: u64, delay: u64 },
 }
 
-/// One push: the step that made it, and its value.
+/// A push: the step that made it, and its value.
 #[derive(Clone, Copy, Debug, PartialEq, Eq)]
 pub struct Pushed {
     pub at: Place,
     pub value: u64,
 }
 
-/// A channel with its pushes and pops, and room for more of them.
+/// A channel with its pushes and pops, and with room for further ones.
 #[derive(Drop)]
 pub struct RoomyChannel {
     pub kind: TableChannel,
@@ -36,7 +36,7 @@ pub struct RoomyChannel {
 }
 
 impl RoomyChannel {
-    /// A channel of this kind without a push and a pop.
+    /// A channel of this kind without any push or pop.
     pub fn new(alloc: Global, kind: &TableChannel) -> Result<RoomyChannel, OutOfMemory>
         ensures { IfOk result (λ channel. channel_of channel ≡ unused kind.now) }
     {
@@ -47,7 +47,7 @@ impl RoomyChannel {
         })
     }
 
-    /// Makes room for so many further pushes and pops. Neither room falls.
+    /// Reserves room for so many further pushes and pops. Neither room falls.
     pub fn reserve(&mut self, pushes: u64, pops: u64) -> Result<(), OutOfMemory>
         ensures channel { channel_of self.new ≡ channel_of self.old }
         ensures push_room { OnOk result (pushes ≤ self.new.pushes.room) }
@@ -59,7 +59,7 @@ impl RoomyChannel {
         self.pops.reserve(pops)
     }
 
-    /// How many clocks after the event that it waits for a pop, or a push, is possible.
+    /// The lag of a side, in clocks: a pop, or a push, is possible so many clocks after the event that it waits for.
     pub fn lag(&self, side: Side) -> u64
         ensures { result ≡ lag_of self.now.kind side }
     {
@@ -70,7 +70,7 @@ impl RoomyChannel {
         }
     }
 
-    /// How many pops, or pushes, wait for nobody: a source's inputs, and a FIFO's places.
+    /// How many pops, or pushes, wait for no event: the pops of a source's inputs, and the pushes on a FIFO's first places.
     pub fn free(&self, side: Side) -> u64
         ensures { result ≡ free_of self.now.kind side }
     {
@@ -83,7 +83,7 @@ impl RoomyChannel {
         }
     }
 
-    /// The step of the pop, or of the push, with so many before it.
+    /// The step of the pop, or of the push, that comes after `before` others. `None` where there is none.
     pub fn place(&self, side: Side, before: u64) -> Option<Place>
         ensures { result ≡ slice_get (places_of side (channel_of self.now)) before }
     {
@@ -93,21 +93,21 @@ impl RoomyChannel {
         }
     }
 
-    /// The step of the pop with so many before it.
+    /// The step of the pop that comes after `before` other pops. `None` where there is none.
     pub fn pop(&self, before: u64) -> Option<Place>
         ensures { result ≡ slice_get (channel_of self.now).pops before }
     {
         self.pops.get(before)
     }
 
-    /// The push with so many before it.
+    /// The push that comes after `before` other pushes. `None` where there is none.
     pub fn push(&self, before: u64) -> Option<Pushed>
         ensures { result ≡ slice_get (channel_of self.now).pushes before }
     {
         self.pushes.get(before)
     }
 
-    /// Sets the depth of a FIFO. Another channel stays as it is.
+    /// Sets the depth of a FIFO, in elements. Any other channel stays as it is.
     pub fn set_depth(&mut self, depth: u64)
         ensures { self.new ≡ record self.old { kind = deepened self.old.kind depth } }
     {

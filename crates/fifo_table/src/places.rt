@@ -6,9 +6,9 @@ use flow_word::{OutOfMemory, Place, RoomyList};
 use std::alloc::Global;
 use std::marker::Model;
 
-/// The places of steps of one module, in order. A step's number is below 2^32.
+/// The places of steps of one module, in order. A step's number must be below 2^32.
 ///
-/// Contracts see the places, and how many more are taken without memory.
+/// Contracts see the places, and how many further ones are taken without asking for memory.
 #[derive(Drop)]
 pub struct Places {
     module: u32,
@@ -26,7 +26,7 @@ impl Model for Places {
 }
 
 impl Places {
-    /// No place. It takes no memory.
+    /// A list without a place. It takes no memory.
     pub fn new(alloc: Global) -> Places
         ensures { result.items ≡ [] }
     {
@@ -36,7 +36,7 @@ impl Places {
         }
     }
 
-    /// Makes room for so many more places. The places stay, and the room never falls.
+    /// Reserves room for `more` further places. The places stay, and the room never falls.
     pub fn reserve(&mut self, more: u64) -> Result<(), OutOfMemory>
         ensures items { self.new.items ≡ self.old.items }
         ensures room { OnOk result (more ≤ self.new.room) }
@@ -45,7 +45,7 @@ impl Places {
         self.steps.reserve(more)
     }
 
-    /// Adds a place of the same module at the end. It succeeds where there is room, of which it uses one place.
+    /// Adds a place of the same module at the end. It succeeds where there is room, and then uses one place of it.
     #[inline(always)]
     pub fn push(&mut self, at: Place) -> Result<(), OutOfMemory>
         requires own { AreAllOf at.module self.old.items }
@@ -66,7 +66,7 @@ impl Places {
         self.steps.len()
     }
 
-    /// The place with so many before it.
+    /// The place that comes after `before` others. `None` where there is none.
     pub fn get(&self, before: u64) -> Option<Place>
         ensures { result ≡ slice_get self.now.items before }
     {
@@ -78,7 +78,7 @@ impl Places {
         })
     }
 
-    /// The module of the places. None where there is no place.
+    /// The module of the places. `None` where there is no place.
     pub fn module(&self) -> Option<u32>
         ensures { result ≡ first_module self.now.items }
     {

@@ -10,7 +10,7 @@ use std::marker::Model;
 
 /// The pushes of one module, in order.
 ///
-/// Contracts see the pushes, and how many more are taken without memory.
+/// Contracts see the pushes, and how many further ones are taken without asking for memory.
 #[derive(Drop)]
 pub struct Pushes {
     places: Places,
@@ -31,7 +31,7 @@ impl Model for Pushes {
 }
 
 impl Pushes {
-    /// No push. It takes no memory.
+    /// A list without a push. It takes no memory.
     pub fn new(alloc: Global) -> Pushes
         ensures { result.items ≡ [] }
     {
@@ -41,7 +41,7 @@ impl Pushes {
         }
     }
 
-    /// Makes room for so many more pushes. The pushes stay, and the room never falls.
+    /// Reserves room for `more` further pushes. The pushes stay, and the room never falls.
     pub fn reserve(&mut self, more: u64) -> Result<(), OutOfMemory>
         ensures items { self.new.items ≡ self.old.items }
         ensures room { OnOk result (more ≤ self.new.room) }
@@ -51,7 +51,7 @@ impl Pushes {
         self.values.reserve(more)
     }
 
-    /// Adds a push of the same module at the end. It succeeds where there is room, of which it uses one place.
+    /// Adds a push of the same module at the end. It succeeds where there is room, and then uses one place of it.
     #[inline(always)]
     pub fn push(&mut self, at: Place, value: u64) -> Result<(), OutOfMemory>
         requires own { AreAllOf at.module (map (λ p. p.at) self.old.items) }
@@ -77,7 +77,7 @@ impl Pushes {
         self.values.len()
     }
 
-    /// The push with so many before it.
+    /// The push that comes after `before` others. `None` where there is none.
     pub fn get(&self, before: u64) -> Option<Pushed>
         ensures { result ≡ slice_get self.now.items before }
     {
@@ -87,21 +87,21 @@ impl Pushes {
         }
     }
 
-    /// The step of the push with so many before it.
+    /// The step of the push that comes after `before` others. `None` where there is none.
     pub fn place(&self, before: u64) -> Option<Place>
         ensures { result ≡ slice_get (map (λ p. p.at) self.now.items) before }
     {
         self.places.get(before)
     }
 
-    /// The value of the push with so many before it.
+    /// The value of the push that comes after `before` others. `None` where there is none.
     pub fn value(&self, before: u64) -> Option<u64>
         ensures { result ≡ slice_get (map (λ p. p.value) self.now.items) before }
     {
         nth(self.values.as_slice(), before)
     }
 
-    /// The module of the pushes. None where there is no push.
+    /// The module of the pushes. `None` where there is no push.
     pub fn module(&self) -> Option<u32>
         ensures { result ≡ first_module (map (λ p. p.at) self.now.items) }
     {

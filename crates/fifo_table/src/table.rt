@@ -13,10 +13,10 @@ use flow_word::{OutOfMemory, Place, Side};
 use std::alloc::Global;
 use std::marker::Model;
 
-/// The pushes and pops of each channel, in order, of the steps that were emitted so far.
+/// The pushes and pops of each channel, in order, in the steps that were emitted so far.
 ///
-/// Ordinals count from 1. Contracts see the channels, and beside them two rooms of each: how many further pushes and
-/// how many further pops it takes without memory.
+/// Ordinals count from 1. Contracts see the channels, and two rooms of each: how many further pushes, and how many further pops, it
+/// takes without asking for memory.
 pub struct FifoTable {
     channels: Vec<RoomyChannel>,
 }
@@ -47,7 +47,7 @@ impl Model for FifoTable {
 }
 
 impl FifoTable {
-    /// A table of these channels without a push and a pop.
+    /// A table of these channels without any push or pop.
     pub fn new(alloc: Global, channels: &[TableChannel]) -> Result<FifoTable, OutOfMemory>
         requires count { length channels.now < 2 ^ 32 }
         requires kinds { All IsSoundKind channels.now }
@@ -60,9 +60,9 @@ impl FifoTable {
         Ok(FifoTable { channels: made })
     }
 
-    /// Makes room for so many further pushes and pops of a channel.
+    /// Reserves room for so many further pushes and pops of a channel.
     ///
-    /// No channel's room falls, and the channels are as they were, also after want of memory.
+    /// The channels stay as they are and no room falls, after `OutOfMemory` either.
     pub fn reserve(&mut self, channel: u32, pushes: u64, pops: u64) -> Result<(), OutOfMemory>
         requires { channel < length self.old.channels }
         ensures channels { self.new.channels ≡ self.old.channels }
@@ -74,10 +74,10 @@ impl FifoTable {
         self.channels[channel as usize].reserve(pushes, pops)
     }
 
-    /// Adds the next push of a channel, of the module whose steps made those before it.
+    /// Adds the next push of a channel. All pushes of a channel are of one module.
     ///
-    /// It succeeds where the channel has room for a push, of which it uses one place. After want of memory the channels
-    /// are as they were.
+    /// It succeeds where the channel has room for a push, and then uses one place of it. After `OutOfMemory` the channels are as
+    /// they were.
     pub fn add_push(&mut self, channel: u32, at: Place, value: u64) -> Result<(), OutOfMemory>
         requires channel { channel < length self.old.channels }
         requires no_source { ¬ IsSource (channel_at self.old.channels channel).kind }
@@ -93,10 +93,10 @@ impl FifoTable {
         self.channels[channel as usize].pushes.push(at, value)
     }
 
-    /// Adds the next pop of a channel, of the module whose steps made those before it.
+    /// Adds the next pop of a channel. All pops of a channel are of one module.
     ///
-    /// It succeeds where the channel has room for a pop, of which it uses one place. After want of memory the channels
-    /// are as they were.
+    /// It succeeds where the channel has room for a pop, and then uses one place of it. After `OutOfMemory` the channels are as
+    /// they were.
     pub fn add_pop(&mut self, channel: u32, at: Place) -> Result<(), OutOfMemory>
         requires channel { channel < length self.old.channels }
         requires no_sink { ¬ IsSink (channel_at self.old.channels channel).kind }
@@ -112,7 +112,7 @@ impl FifoTable {
         self.channels[channel as usize].pops.push(at)
     }
 
-    /// Whether a channel is a FIFO. The others are sources and sinks.
+    /// Whether a channel is a FIFO, and no source or sink.
     pub fn is_fifo(&self, channel: u32) -> bool
         requires { channel < length self.now.channels }
         ensures { (result ≡ true) ↔ IsFifo (channel_at self.now.channels channel).kind }
@@ -123,7 +123,7 @@ impl FifoTable {
         }
     }
 
-    /// The step of a channel's pop, or of its push, with so many before it. None where there is none.
+    /// The step of a channel's pop, or push, that comes after `before` others. `None` where there is none.
     pub fn place(&self, channel: u32, side: Side, before: u64) -> Option<Place>
         requires { channel < length self.now.channels }
         ensures { result ≡ slice_get (places_of side (channel_at self.now.channels channel)) before }
@@ -131,8 +131,8 @@ impl FifoTable {
         self.channels[channel as usize].place(side, before)
     }
 
-    /// How many pops, or pushes, of a channel wait for nobody: a source's inputs, and a FIFO's places. The later ones wait for
-    /// the other side's with so many less before them.
+    /// How many pops, or pushes, of a channel wait for no event: the pops of a source's inputs, and the pushes on a FIFO's first
+    /// places. Each later one waits for an event of the other side: the one that comes after so many fewer.
     pub fn free(&self, channel: u32, side: Side) -> u64
         requires { channel < length self.now.channels }
         ensures { result ≡ free_of (channel_at self.now.channels channel).kind side }
@@ -140,7 +140,7 @@ impl FifoTable {
         self.channels[channel as usize].free(side)
     }
 
-    /// The value of a channel's n-th input or push, where there is one.
+    /// The value of a channel's n-th input or push. `None` where there is none.
     pub fn value(&self, channel: u32, n: u64) -> Option<u64>
         requires channel { channel < length self.now.channels }
         requires from_one { 1 ≤ n }
@@ -176,7 +176,7 @@ impl FifoTable {
         self.channels[channel as usize].pushes.len()
     }
 
-    /// The push of a channel with so many before it. None where there is none.
+    /// The push of a channel that comes after `before` others. `None` where there is none.
     pub fn pushed(&self, channel: u32, before: u64) -> Option<Pushed>
         requires { channel < length self.now.channels }
         ensures { result ≡ slice_get (channel_at self.now.channels channel).pushes before }
@@ -184,7 +184,7 @@ impl FifoTable {
         self.channels[channel as usize].push(before)
     }
 
-    /// The module of a channel's first pop. None where there is no pop yet.
+    /// The module that pops a channel. `None` where there is no pop yet.
     pub fn popper(&self, channel: u32) -> Option<u32>
         requires { channel < length self.now.channels }
         ensures { result ≡ first_module (places_of Side.Pop (channel_at self.now.channels channel)) }
@@ -192,7 +192,7 @@ impl FifoTable {
         self.channels[channel as usize].pops.module()
     }
 
-    /// The module of a channel's first push. None where there is no push yet.
+    /// The module that pushes a channel. `None` where there is no push yet.
     pub fn pusher(&self, channel: u32) -> Option<u32>
         requires { channel < length self.now.channels }
         ensures { result ≡ first_module (places_of Side.Push (channel_at self.now.channels channel)) }
@@ -200,7 +200,7 @@ impl FifoTable {
         self.channels[channel as usize].pushes.module()
     }
 
-    /// What the n-th pop of a channel, or its n-th push, waits for. `Never` comes only from a source.
+    /// The enabler of a channel's n-th pop, or n-th push. `Never` comes only from a source.
     pub fn enabler(&self, channel: u32, side: Side, n: u64) -> Enabler
         requires channel { channel < length self.now.channels }
         requires from_one { 1 ≤ n }
@@ -214,7 +214,7 @@ impl FifoTable {
         }
     }
 
-    /// What the n-th pop of a channel waits for. `Never` comes only from a source.
+    /// The enabler of a channel's n-th pop. `Never` comes only from a source.
     pub fn enabler_of_read(&self, channel: u32, n: u64) -> Enabler
         requires channel { channel < length self.now.channels }
         requires from_one { 1 ≤ n }
@@ -231,7 +231,7 @@ impl FifoTable {
         }
     }
 
-    /// What the n-th push of a channel waits for.
+    /// The enabler of a channel's n-th push.
     pub fn enabler_of_write(&self, channel: u32, n: u64) -> Enabler
         requires channel { channel < length self.now.channels }
         requires from_one { 1 ≤ n }
@@ -248,7 +248,7 @@ impl FifoTable {
         }
     }
 
-    /// The depth of a FIFO.
+    /// The depth of a FIFO, in elements.
     pub fn depth(&self, channel: u32) -> u64
         requires channel { channel < length self.now.channels }
         requires fifo { IsFifo (channel_at self.now.channels channel).kind }
@@ -262,8 +262,8 @@ impl FifoTable {
         }
     }
 
-    /// How many clocks after the event that it waits for a pop, or a push, of a channel is possible: the delay for a pop
-    /// of a FIFO, and 1 otherwise. It takes no memory.
+    /// The lag of a side of a channel, in clocks: a pop, or a push, is possible so many clocks after the event that it waits for.
+    /// It is the delay for a pop of a FIFO, and else 1. It takes no memory.
     pub fn lag(&self, channel: u32, side: Side) -> u64
         requires { channel < length self.now.channels }
         ensures lag { result ≡ lag_of (channel_at self.now.channels channel).kind side }
@@ -273,7 +273,7 @@ impl FifoTable {
         self.channels[channel as usize].lag(side)
     }
 
-    /// Sets the depth of a FIFO. All else stays, its delay too.
+    /// Sets the depth of a FIFO, in elements. All else stays, its delay too.
     pub fn set_depth(&mut self, channel: u32, depth: u64)
         requires channel { channel < length self.old.channels }
         requires fifo { IsFifo (channel_at self.old.channels channel).kind }
@@ -287,7 +287,7 @@ impl FifoTable {
     }
 }
 
-/// The event of a step, where it was emitted.
+/// The event of the step at this place, or `Missing` where there is none.
 fn emitted(at: Option<Place>) -> Enabler
     ensures enabler { result ≡ event_at at }
     ensures never { result ≢ Enabler.Never }

@@ -1,4 +1,4 @@
--- Which statement of a session breaks which rule of checking, and which of them a refusal tells.
+-- Which statement of a session breaks which rule of checking, and which one a refusal tells.
 use Rattle.std.specs.Prelude.{◌≡◌, ℕ, ◌<◌, Bool, true, false, List, ◌∷◌, ◌++◌, length, take, slice_get, slice_index, All, Option, None}
 use Rattle.std.specs.Prelude.{Some}
 use Rattle.flow_design.specs.declared.limits.Scale.{Scale}
@@ -18,12 +18,12 @@ use Rattle.flow_check.specs.declared.item.Item.TheVariants as item
 use Rattle.flow_check.specs.Places.{items_of}
 use Rattle.flow_check.specs.Rules.{leads_out, breaks_limits, lacks_users, clashes, is_bad_loop, is_too_late, is_on_wrong_side, rules}
 
--- there is one, and it passes the test
+-- there is a value, and it passes the test
 abbrev pub passes : {A : Type 0} → (A → Bool) → Option A → Bool
 passes test None = false
 passes test (Some x) = test x
 
--- something of a block breaks a rule
+-- a spot of a block breaks a rule
 abbrev pub spot_breaks : Scale → Code → Module → Block → Spot → Bool
 spot_breaks scale code.UnknownName m b Terminator = leads_out (length m.blocks) b.next
 spot_breaks scale code.PortClash m b (Operation k) = passes (clashes b.kind (take k b.ops)) (slice_get b.ops k)
@@ -49,7 +49,7 @@ breaks scale plan rule (item.Channel f) = passes (channel_breaks rule plan f) (s
 breaks scale plan rule (item.InModule m (b, spot)) =
     passes (λ own. passes (λ block. spot_breaks scale rule own block spot) (slice_get own.blocks b)) (slice_get plan.design.modules m)
 
--- the statement at a place breaks a rule
+-- the item of the statement at a place breaks a rule
 abbrev pub statement_breaks : Scale → List Statement → Code → ℕ → Bool
 statement_breaks scale statements rule place =
     passes (passes (breaks scale (plan_of scale statements) rule)) (slice_get (items_of statements) place)
@@ -62,7 +62,7 @@ pub record TellsFirst (scale : Scale) (statements : List Statement) (lines : Lis
   pub broken : statement_breaks scale statements fault.code place ≡ true
   -- no statement before it breaks that rule
   pub first : (i : ℕ) → i < place → statement_breaks scale statements fault.code i ≡ false
-  -- and nothing of the plan breaks a rule that comes before that rule
+  -- no item of the plan breaks a rule that comes before that rule
   pub earlier : List Code
   pub later : List Code
   pub order : rules ≡ earlier ++ fault.code ∷ later

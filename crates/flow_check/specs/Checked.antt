@@ -14,11 +14,11 @@ use Rattle.flow_check.specs.Rules.{checking_fault}
 abbrev pub at_line : List Statement → List ℕ → Code × Item → TextFault
 at_line statements lines (code, item) = record { line = line_of statements lines item; code = code }
 
--- the checking fault of these statements at a scale, which stand at these lines, if they have one
+-- the checking fault of these statements at a scale, if they have one; these are the numbers of their lines
 abbrev pub fault_of : Scale → List Statement → List ℕ → Option TextFault
 fault_of scale statements lines = option_map (at_line statements lines) (checking_fault scale (plan_of scale statements))
 
--- want of memory is a free answer, and any other refusal is the checking fault
+-- a refusal is right: it tells the checking fault, or that memory ran out
 abbrev pub IsRefusal : Scale → List Statement → List ℕ → ReadFail → Type 0
 IsRefusal scale statements lines (Text fault) = fault_of scale statements lines ≡ Some fault
 IsRefusal scale statements lines OutOfMemory = Unit {0}

@@ -1,4 +1,4 @@
--- Which item of a plan each statement of a session stands for, and where an item stands.
+-- The item of a plan that comes from each statement of a session, and the statement that an item comes from.
 use Rattle.std.specs.Prelude.{ℕ, zero, suc, ◌+◌, ◌==◌, ◌&&◌, Bool, true, false, List, [], ◌∷◌, length, slice_index, Option, None, Some}
 use Rattle.std.specs.Prelude.{option_map, option_and_then, unwrap_or}
 use Rattle.flow_design.specs.declared.session.Statement.{Statement}
@@ -13,8 +13,8 @@ use Rattle.flow_check.specs.First.{place_where}
 
 -- ---- the item of a statement
 
--- how many channels and modules stand before a statement, and how many blocks of its module and operations of its body, where these
--- stand before it, the latest first
+-- how many channels and modules come before a statement, how many blocks of its module, and how many operations of its body; the
+-- statements before it are given the latest first
 abbrev pub counts : List Statement → Counts
 counts earlier = record {
   channels = length (channels earlier);
@@ -23,7 +23,7 @@ counts earlier = record {
   operations = operations earlier;
 }
 
--- the counts behind one statement more, by its form
+-- the counts after one more statement
 abbrev pub counts_more : Counts → Statement → Counts
 counts_more before (s.Source n w) = record before { channels = before.channels + 1 }
 counts_more before (s.Sink n w) = record before { channels = before.channels + 1 }
@@ -34,20 +34,20 @@ counts_more before (s.Loop n ii l r) = record before { blocks = before.blocks + 
 counts_more before (s.At off guard o) = record before { operations = before.operations + 1 }
 counts_more before other = before
 
--- the number of the last of so many
+-- the number of the last of n things, if there is one
 abbrev pub last_of : ℕ → Option ℕ
 last_of zero = None
 last_of (suc n) = Some n
 
--- something of a block of this number, in the last module
+-- a spot of this block of the last module, if there is a module
 abbrev pub in_last_module : Counts → ℕ → Spot → Option Item
 in_last_module before block spot = option_map (λ m. InModule m (block, spot)) (last_of before.modules)
 
--- something of the last block
+-- a spot of the last block, if there is one
 abbrev pub in_last_block : Counts → Spot → Option Item
 in_last_block before spot = option_and_then (λ b. in_last_module before b spot) (last_of before.blocks)
 
--- the item for which a statement stands: its number is how many of its sort stand before it
+-- the item that comes from a statement, if one does: its number is how many of its sort come before it
 abbrev pub item_behind : Counts → Statement → Option Item
 item_behind before (s.Limits c o) = Some Limits
 item_behind before (s.Source n w) = Some (Channel before.channels)
@@ -61,12 +61,12 @@ item_behind before (s.Branch r b c) = in_last_block before Terminator
 item_behind before s.Stop = in_last_block before Terminator
 item_behind before other = None
 
--- the items of statements that stand behind these, the latest first
+-- the items that come from statements after the statements `earlier`, the latest first
 abbrev pub items_behind : List Statement → List Statement → List (Option Item)
 items_behind earlier [] = []
 items_behind earlier (st ∷ rest) = item_behind (counts earlier) st ∷ items_behind (st ∷ earlier) rest
 
--- for each statement of a session the item for which it stands
+-- for each statement of a session the item that comes from it
 abbrev pub items_of : List Statement → List (Option Item)
 items_of statements = items_behind [] statements
 
@@ -84,15 +84,15 @@ same_item (Channel f) (Channel g) = f == g
 same_item (InModule m (b, a)) (InModule n (c, d)) = (m == n) && ((b == c) && same_spot a d)
 same_item i j = false
 
--- a statement stands for this item
+-- a statement's item, if it has one, is the given one
 abbrev pub is_item : Item → Option Item → Bool
 is_item i None = false
 is_item i (Some j) = same_item i j
 
--- the place of the first statement that stands for an item, or how many statements there are
+-- the place of the first statement that an item comes from, or the number of statements where there is none
 abbrev pub place_of : List Statement → Item → ℕ
 place_of statements item = unwrap_or (place_where (is_item item) (items_of statements)) (length statements)
 
--- the line of an item
+-- the line of the statement that an item comes from
 abbrev pub line_of : List Statement → List ℕ → Item → ℕ
 line_of statements lines item = slice_index lines (place_of statements item)

@@ -1,4 +1,4 @@
--- What the rules of reading give of a plan at a scale: all that the engine wants of it, but for what is checked.
+-- What the rules of reading give of a plan at a scale: all that the engine needs, except what the rules of checking test.
 use Rattle.std.proofs.Common.{◌≡◌, ℕ, ◌+◌, ◌<◌, ◌≤◌, length, sum_by, IsTrue, IfSome}
 use Rattle.std.specs.List.{All}
 use Rattle.std.specs.Prelude.{slice_index, slice_index_or, []}

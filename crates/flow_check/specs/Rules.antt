@@ -1,4 +1,5 @@
--- The rules that a session is checked by at a scale, on its plan: for each rule the first item that breaks it, in the order of the text.
+-- The rules of checking at a scale, tested on a session's plan: for each rule the first item that breaks it, in the order of the
+-- text.
 use Rattle.std.specs.Prelude.{ℕ, ◌*◌, ◌%◌, ◌==◌, ◌&&◌, not, nat_lt, nat_le, Bool, false, List, [], ◌∷◌, length, count_by, Option, None}
 use Rattle.std.specs.Prelude.{Some, option_map, if◌then◌else◌}
 use Rattle.std.specs.List.{list_any, enumerate_from}
@@ -28,7 +29,7 @@ use Rattle.flow_check.specs.declared.item.Item.{Item}
 use Rattle.flow_check.specs.declared.item.Item.TheVariants as item
 use Rattle.flow_check.specs.First.{first_in, place_where, first_behind, first_for}
 
--- ---- a `goto` or `branch` names a block that its module has: a name that stands for none has the count of the blocks as its number
+-- ---- a `goto` or `branch` names a block that its module has: the number of an unknown name is the number of blocks
 
 abbrev pub leads_out : ℕ → Next → Bool
 leads_out blocks (Goto b) = not (nat_lt b blocks)
@@ -41,7 +42,7 @@ abbrev pub breaks_limits : Scale → ℕ → ℕ → Bool
 breaks_limits scale cycles ops =
     not ((nat_le 1 cycles && nat_le cycles CYCLES) && (nat_le 1 ops && nat_le ops (limits_at scale).counted_operations))
 
--- ---- each channel has the readers and writers that its kind wants
+-- ---- each channel has the readers and writers that its kind must have
 
 abbrev pub has_users : List Module → ℕ → ChannelKind → Side → Bool
 has_users modules f kind side = count_by (uses (record { side = side; channel = f })) modules == users_wanted kind side
@@ -52,14 +53,15 @@ is_served modules f kind = has_users modules f kind Pop && has_users modules f k
 abbrev pub lacks_users : List Module → ℕ × Channel → Bool
 lacks_users modules (f, c) = not (is_served modules f c.kind)
 
--- ---- no two operations of a body pop, or push, one channel at offsets that are equal, in a loop modulo its II
+-- ---- no two operations of a body pop the same channel, or push it, at equal offsets; in a loop at offsets that are equal modulo
+-- II
 
--- the offset, in a loop modulo its II
+-- the offset of an operation; in a loop the offset modulo II
 abbrev pub phase : BlockKind → ℕ → ℕ
 phase Plain offset = offset
 phase (Loop ii again) offset = offset % ii
 
--- the port that an operation uses, and when
+-- the port that an operation uses, and its offset; in a loop the offset modulo II
 abbrev pub Slot : Type 0
 Slot = Port × ℕ
 
@@ -73,7 +75,7 @@ abbrev pub is_slot : Slot → Option Slot → Bool
 is_slot s None = false
 is_slot s (Some other) = same_slot s other
 
--- an operation before it takes the same slot
+-- one of these earlier operations takes the slot, if there is one
 abbrev pub takes_again : BlockKind → List Timed → Option Slot → Bool
 takes_again kind before None = false
 takes_again kind before (Some s) = list_any (λ t. is_slot s (slot kind t)) before
@@ -81,7 +83,7 @@ takes_again kind before (Some s) = list_any (λ t. is_slot s (slot kind t)) befo
 abbrev pub clashes : BlockKind → List Timed → Timed → Bool
 clashes kind before t = takes_again kind before (slot kind t)
 
--- ---- a loop's LEN is at least II, and not more than so many times II as iterations may be live at once
+-- ---- a loop's LEN is at least II, and at most so many times II as iterations may be live at once
 
 abbrev pub is_bad_loop : Scale → ℕ → BlockKind → Bool
 is_bad_loop scale len Plain = false
@@ -92,7 +94,8 @@ is_bad_loop scale len (Loop ii again) = not (nat_le ii len && nat_le len ((limit
 abbrev pub is_too_late : ℕ → Timed → Bool
 is_too_late len t = not (nat_lt t.offset len)
 
--- ---- an operation stands at a port that its module uses: an `empty` in the channel's reader, and a `full` in its writer
+-- ---- an operation is at a port that its module uses: `empty` in the module that pops the channel, and `full` in the one that
+-- pushes it
 
 abbrev pub lacks_port : Module → Option Port → Bool
 lacks_port m None = false
@@ -103,7 +106,7 @@ is_on_wrong_side m t = lacks_port m (port_of t.op)
 
 -- ---- the rules in blocks
 
--- the first of a block that breaks a rule
+-- the first spot of a block that breaks a rule, if one does
 abbrev pub spot : Scale → Code → Module → Block → Option Spot
 spot scale code.UnknownName m b = if leads_out (length m.blocks) b.next then Some Terminator else None
 spot scale code.PortClash m b = option_map Operation (first_behind (clashes b.kind) [] b.ops)
@@ -120,17 +123,17 @@ in_module (m, place) = item.InModule m place
 
 -- ---- all rules
 
--- the first of a plan that breaks a rule
+-- the first item of a plan that breaks a rule, if one does
 abbrev pub broken_by : Scale → Plan → Code → Option Item
 broken_by scale plan code.BadLimit = if breaks_limits scale plan.cycles plan.ops then Some item.Limits else None
 broken_by scale plan code.Ends =
     option_map item.Channel (place_where (lacks_users plan.design.modules) (enumerate_from 0 plan.design.channels))
 broken_by scale plan rule = option_map in_module (first_in (spot_in scale rule) plan.design.modules)
 
--- the rules in their order: each is tried on the whole plan, before the next
+-- the rules in their order: each is tested on the whole plan before the next one
 abbrev pub rules : List Code
 rules = code.UnknownName ∷ code.BadLimit ∷ code.Ends ∷ code.PortClash ∷ code.BadLoop ∷ code.BadOffset ∷ code.WrongSide ∷ []
 
--- the first rule that a plan breaks, and the first that breaks it
+-- the first rule that a plan breaks, with the first item that breaks it; none where it breaks no rule
 unfoldable pub checking_fault : Scale → Plan → Option (Code × Item)
 checking_fault scale plan = first_for (broken_by scale plan) rules

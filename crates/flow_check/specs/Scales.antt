@@ -1,4 +1,4 @@
--- Which plans keep the limits of a scale that checking tests, and those on which the limits of a run hang.
+-- Plans that keep the limits of a scale which checking tests, and those on which the limits of a run depend.
 use Rattle.std.specs.Prelude.{ℕ, ◌*◌, ◌≤◌, All}
 use Rattle.flow_design.specs.declared.limits.Scale.{Scale}
 use Rattle.flow_design.specs.declared.design.BlockKind.{BlockKind}
@@ -7,7 +7,7 @@ use Rattle.flow_design.specs.declared.design.Block.{Block}
 use Rattle.flow_design.specs.declared.plan.Plan.{Plan}
 use Rattle.flow_design.specs.Limits.{limits_at}
 
--- no more iterations of a loop are live at once than the scale has
+-- at most as many iterations of a loop are live at once as the scale allows
 abbrev pub IsLive : Scale → ℕ → BlockKind → Type 0
 IsLive scale len Plain = Unit {0}
 IsLive scale len (Loop ii again) = len ≤ (limits_at scale).live_iterations * ii
@@ -16,7 +16,7 @@ pub record IsBlockWithin (scale : Scale) (b : Block) : Type 0 where
   pub clocks : b.len ≤ (limits_at scale).block_clocks
   pub live : IsLive scale b.len b.kind
 
--- the operations and the blocks of the plan are within the limits of the scale
+-- the operation limit and the blocks of the plan are within the limits of the scale
 pub record KeepsScale (scale : Scale) (plan : Plan) : Type 0 where
   pub operations : plan.ops ≤ (limits_at scale).counted_operations
   pub blocks : All (λ m. All (IsBlockWithin scale) m.blocks) plan.design.modules

@@ -1,23 +1,23 @@
-//! What breaks a rule.
+//! The parts of a plan that may break a rule.
 
-/// What of a block breaks a rule.
+/// A part of a block that may break a rule.
 #[derive(Clone, Copy, Debug, PartialEq, Eq)]
 pub enum Spot {
-    /// The statement that begins it.
+    /// The statement that begins the block.
     Head,
-    /// The body's operation of this number.
+    /// The operation of its body with this number.
     Operation(u64),
-    /// The body's terminator.
+    /// The terminator of its body.
     Terminator,
 }
 
-/// What of a plan breaks a rule.
+/// A part of a plan that may break a rule.
 #[derive(Clone, Copy, Debug, PartialEq, Eq)]
 pub enum Item {
     /// The limits.
     Limits,
-    /// The channel of this number.
+    /// The channel with this number.
     Channel(u64),
-    /// This place in the module and the block of these numbers.
+    /// A spot of a block: the module's number, the block's number, and the spot.
     InModule(u64, (u64, Spot)),
 }

@@ -1,4 +1,4 @@
-//! Laws of checked sessions.
+//! The laws of checked sessions.
 ghost use Rattle.std.specs.Prelude.{◌≡◌, ◌≤◌, ℕ, List, None, Some, All};
 ghost use Rattle.flow_design.specs.declared.limits.Scale.{Scale};
 ghost use Rattle.flow_design.specs.declared.session.Statement.{Statement};
@@ -15,14 +15,15 @@ ghost use Rattle.flow_check.specs.Read.{IsPlanRead};
 ghost use Rattle.flow_check.specs.Rules.{checking_fault};
 ghost use Rattle.flow_check.specs.Scales.{KeepsScale};
 
-/// The rules of reading at a scale give all that the engine wants of the plan of a session, but for the rules of checking, and
-/// keep the limits of the scale.
+/// A session that keeps the rules of reading at a scale has a plan with all that the engine needs, except what the rules of
+/// checking test. It keeps the limits of the scale.
 pub fn read_sessions_have_plans()
     ensures { (scale : Scale) (statements : List Statement) → KeepsReadingRules scale statements
         → IsPlanRead scale (plan_of scale statements) }
 {}
 
-/// The plan of a session that was read at a scale and has no checking fault is one that the engine takes, and keeps the scale.
+/// A session that keeps the rules of reading at a scale, and has no checking fault, has a plan that the engine takes, and that
+/// keeps the scale.
 pub fn checked_plans_fit()
     ensures engine { (scale : Scale) (statements : List Statement) → KeepsReadingRules scale statements
         → checking_fault scale (plan_of scale statements) ≡ None → FitsEngine (plan_of scale statements) }
@@ -30,21 +31,21 @@ pub fn checked_plans_fit()
         → checking_fault scale (plan_of scale statements) ≡ None → KeepsScale scale (plan_of scale statements) }
 {}
 
-/// The converse: a plan that the engine takes, and that keeps a scale, breaks no rule of checking at it. So `check` refuses no
-/// session whose plan fits.
+/// A plan that the engine takes, and that keeps a scale, breaks no rule of checking at that scale. So `check` refuses no session
+/// whose plan fits.
 pub fn fitting_plans_are_checked()
     ensures plans { (scale : Scale) (plan : Plan) → FitsEngine plan → KeepsScale scale plan → checking_fault scale plan ≡ None }
     ensures sessions { (scale : Scale) (statements : List Statement) (lines : List ℕ) → FitsEngine (plan_of scale statements)
         → KeepsScale scale (plan_of scale statements) → fault_of scale statements lines ≡ None }
 {}
 
-/// A refusal tells the line of the first statement that breaks the rule told, and no rule before that one is broken.
+/// A refusal tells the line of the first statement that breaks its rule. No rule that comes before that one is broken.
 pub fn refusals_tell_the_first()
     ensures { (scale : Scale) (statements : List Statement) (lines : List ℕ) (fault : TextFault)
         → fault_of scale statements lines ≡ Some fault → TellsFirst scale statements lines fault }
 {}
 
-/// Each edit of a session that was read at a scale is one that its plan takes, to a depth within the limit of the scale.
+/// Each edit of a session that was read at a scale fits the session's plan, and its depth is within the limit of the scale.
 pub fn read_edits_fit()
     ensures fit { (scale : Scale) (statements : List Statement) → KeepsReadingRules scale statements
         → All (EditFits (plan_of scale statements)) (edits_of statements) }

@@ -1,4 +1,4 @@
-//! Checking a session that was read: the rules that need the whole of it, and the plan that it opens.
+//! Checking a session that was read: the rules that need the whole of it, and its plan.
 #![tactic(auto)]
 
 mod item;

@@ -1,4 +1,4 @@
-//! Where an item of a plan stands among the statements.
+//! The statement of a session that a part of its plan comes from.
 ghost use Rattle.std.specs.Prelude.{◌≡◌, ◌<◌, ◌^◌, []};
 ghost use Rattle.flow_check.specs.Places.{counts, counts_more, in_last_module, in_last_block, item_behind, same_spot, same_item, is_item};
 ghost use Rattle.flow_check.specs.Places.{place_of, line_of};
@@ -6,8 +6,8 @@ ghost use Rattle.flow_check.specs.Places.{place_of, line_of};
 use crate::item::{Item, Spot};
 use flow_design::Statement;
 
-/// What stands before a statement: how many channels and modules of the session, how many blocks of its module and how many
-/// operations of its body.
+/// How many channels and modules of the session come before a statement, how many blocks of its module, and how many operations of
+/// its body.
 #[derive(Clone, Copy)]
 pub struct Counts {
     pub channels: u64,
@@ -16,7 +16,7 @@ pub struct Counts {
     pub operations: u64,
 }
 
-/// Nothing stands before the first statement.
+/// The counts before the first statement: all are 0.
 fn nothing() -> Counts
     ensures { result ≡ counts [] }
 {
@@ -28,7 +28,7 @@ fn nothing() -> Counts
     }
 }
 
-/// What stands before the next statement.
+/// The counts before the next statement.
 fn behind(before: Counts, statement: &Statement) -> Counts
     requires channels { before.channels < 2 ^ 63 }
     requires modules { before.modules < 2 ^ 63 }
@@ -55,7 +55,7 @@ fn behind(before: Counts, statement: &Statement) -> Counts
     after
 }
 
-/// Something of a block of the last module.
+/// A spot of a block of the last module. `None` where there is no module.
 fn in_last_module(before: Counts, block: u64, spot: Spot) -> Option<Item>
     ensures { result ≡ in_last_module before block spot }
 {
@@ -65,7 +65,7 @@ fn in_last_module(before: Counts, block: u64, spot: Spot) -> Option<Item>
     Some(Item::InModule(before.modules - 1, (block, spot)))
 }
 
-/// Something of the last block.
+/// A spot of the last block. `None` where there is none.
 fn in_last_block(before: Counts, spot: Spot) -> Option<Item>
     ensures { result ≡ in_last_block before spot }
 {
@@ -75,7 +75,7 @@ fn in_last_block(before: Counts, spot: Spot) -> Option<Item>
     in_last_module(before, before.blocks - 1, spot)
 }
 
-/// The item for which a statement stands.
+/// The item that comes from a statement. `None` where none does.
 fn item_behind(before: Counts, statement: &Statement) -> Option<Item>
     ensures { result ≡ item_behind before statement.now }
 {
@@ -95,7 +95,7 @@ fn item_behind(before: Counts, statement: &Statement) -> Option<Item>
     }
 }
 
-/// Whether two spots are one.
+/// Whether two spots are the same.
 fn same_spot(a: Spot, b: Spot) -> bool
     ensures { result ≡ same_spot a b }
 {
@@ -106,7 +106,7 @@ fn same_spot(a: Spot, b: Spot) -> bool
     }
 }
 
-/// Whether two items are one.
+/// Whether two items are the same.
 fn same_item(a: &Item, b: &Item) -> bool
     ensures { result ≡ same_item a.now b.now }
 {
@@ -120,7 +120,7 @@ fn same_item(a: &Item, b: &Item) -> bool
     }
 }
 
-/// Whether a statement stands for an item.
+/// Whether a statement's item, if it has one, is the given one.
 fn is_item(item: &Item, stands: &Option<Item>) -> bool
     ensures { result ≡ is_item item.now stands.now }
 {
@@ -130,7 +130,7 @@ fn is_item(item: &Item, stands: &Option<Item>) -> bool
     }
 }
 
-/// The place of the first statement that stands for an item, or how many statements there are.
+/// The place of the first statement that an item comes from, or the number of statements where there is none.
 fn place_of(statements: &[Statement], item: &Item) -> usize
     ensures { result ≡ place_of statements.now item.now }
 {
@@ -145,7 +145,7 @@ fn place_of(statements: &[Statement], item: &Item) -> usize
     statements.len()
 }
 
-/// The line of an item.
+/// The line of the statement that an item comes from.
 pub(crate) fn line_of(statements: &[Statement], lines: &[u64], item: &Item) -> u64
     ensures { result ≡ line_of statements.now lines.now item.now }
 {

@@ -1,4 +1,4 @@
-//! Which ports a module uses, and when.
+//! The ports that a module uses, and when.
 ghost use Rattle.std.specs.Prelude.{◌≡◌, ◌||◌, [], map, option_map, if◌then◌else◌, IfOk, OnOk};
 ghost use Rattle.std.specs.List.{list_any};
 ghost use Rattle.flow_word.specs.declared.access.Port.{Port as PortOf};
@@ -13,10 +13,10 @@ use flow_word::{List, OutOfMemory, Port};
 use indexmap::IndexSet;
 use std::alloc::Global;
 
-/// A port that an operation uses, with the operation's offset, in a loop modulo its interval.
+/// A port that an operation uses, with the operation's offset; in a loop the offset modulo II.
 type Slot = (Port, u64);
 
-/// Adds the port that an operation uses.
+/// Adds the port that an operation uses, if it uses one.
 fn add_port(op: &Op<u32>, ports: &mut IndexSet<Port>) -> Result<(), OutOfMemory>
     ensures { OnOk result ((a : PortOf) → has ports.new a ≡ (has ports.old a || is_port a (used_port op.now))) }
 {
@@ -61,7 +61,7 @@ pub(crate) fn ports_of_each(
     Ok(all)
 }
 
-/// The offset, in a loop modulo its interval.
+/// The offset of an operation; in a loop the offset modulo II.
 fn phase(kind: BlockKind, offset: u64) -> u64
     ensures { result ≡ phase kind offset }
 {
@@ -71,7 +71,7 @@ fn phase(kind: BlockKind, offset: u64) -> u64
     }
 }
 
-/// The slot that an operation takes.
+/// The slot that an operation takes. `None` where it uses no port.
 fn slot(kind: BlockKind, timed: &Timed) -> Option<Slot>
     ensures { result ≡ slot kind timed.now }
 {
@@ -81,7 +81,7 @@ fn slot(kind: BlockKind, timed: &Timed) -> Option<Slot>
     }
 }
 
-/// Takes the slot of an operation. Whether it is taken already.
+/// Takes the slot of an operation. Whether an earlier operation has taken it.
 fn take_slot(
     kind: BlockKind,
     timed: &Timed,
@@ -99,7 +99,7 @@ fn take_slot(
     }
 }
 
-/// The number of the first operation of a body that takes the slot of one before it.
+/// The number of the first operation of a body that takes the slot of an earlier one. `None` where there is none.
 pub(crate) fn first_clash(
     alloc: Global,
     kind: BlockKind,

@@ -1,4 +1,4 @@
-//! The rules, each on a whole plan.
+//! The rules of checking, each tested on a whole plan.
 ghost use Rattle.std.specs.Prelude.{◌≡◌, ◌<◌, ◌≤◌, ◌^◌, List as Items, length, if◌then◌else◌, option_map, IfOk};
 ghost use Rattle.std.specs.List.{enumerate_from};
 ghost use Rattle.flow_design.specs.declared.design.Module.{Module as ModuleOf};
@@ -20,7 +20,7 @@ use flow_word::{OutOfMemory, Port, Side};
 use indexmap::IndexSet;
 use std::alloc::Global;
 
-/// Whether a terminator names a block that is not there.
+/// Whether a terminator names a block that its module does not have.
 fn leads_out(blocks: u64, next: Next) -> bool
     ensures { result ≡ leads_out blocks next }
 {
@@ -31,14 +31,14 @@ fn leads_out(blocks: u64, next: Next) -> bool
     }
 }
 
-/// Whether the limits of a plan are out of their ranges.
+/// Whether a limit of a plan is out of its range.
 fn breaks_limits(scale: Scale, cycles: u64, ops: u64) -> bool
     ensures { result ≡ breaks_limits scale cycles ops }
 {
     cycles < 1 || cycles > limits::CYCLES || ops < 1 || ops > scale.limits().counted_operations
 }
 
-/// Whether a loop's length is less than its interval, or more iterations than may be live at once.
+/// Whether a loop's LEN is less than its II, or so much more that too many iterations are live at once.
 fn is_bad_loop(scale: Scale, len: u64, kind: BlockKind) -> bool
     ensures { result ≡ is_bad_loop scale len kind }
 {
@@ -50,7 +50,7 @@ fn is_bad_loop(scale: Scale, len: u64, kind: BlockKind) -> bool
     }
 }
 
-/// Whether an operation stands at a port that its module does not use.
+/// Whether an operation is at a port that its module does not use.
 fn is_on_wrong_side(of: &Module, ports: &IndexSet<Port>, timed: &Timed) -> bool
     requires { HasPorts ports.now of.now }
     ensures { result ≡ is_on_wrong_side of.now timed.now }
@@ -61,7 +61,7 @@ fn is_on_wrong_side(of: &Module, ports: &IndexSet<Port>, timed: &Timed) -> bool
     }
 }
 
-/// The number of the first operation that stands at a port that its module does not use.
+/// The number of the first operation at a port that its module does not use. `None` where there is none.
 fn first_on_wrong_side(of: &Module, ports: &IndexSet<Port>, ops: &[Timed]) -> Option<u64>
     requires { HasPorts ports.now of.now }
     ensures { result ≡ place_where (is_on_wrong_side of.now) ops.now }
@@ -74,7 +74,7 @@ fn first_on_wrong_side(of: &Module, ports: &IndexSet<Port>, ops: &[Timed]) -> Op
     None
 }
 
-/// The number of the first operation whose offset is not below the block's length.
+/// The number of the first operation whose offset is not below the block's LEN. `None` where there is none.
 fn first_too_late(len: u64, ops: &[Timed]) -> Option<u64>
     ensures { result ≡ place_where (is_too_late len) ops.now }
 {
@@ -86,7 +86,7 @@ fn first_too_late(len: u64, ops: &[Timed]) -> Option<u64>
     None
 }
 
-/// What of a block breaks a rule: the first.
+/// The first spot of a block that breaks this rule. `None` where none does.
 fn spot(
     alloc: Global,
     scale: Scale,
@@ -115,14 +115,14 @@ fn spot(
     })
 }
 
-/// This, where it is the case.
+/// The spot if the condition holds, else `None`.
 fn when(holds: bool, spot: Spot) -> Option<Spot>
     ensures { result ≡ (if holds then Some spot else None) }
 {
     if holds { Some(spot) } else { None }
 }
 
-/// What of a module breaks a rule: the first, with its block's number.
+/// The first spot of a module that breaks this rule, with its block's number. `None` where none does.
 fn spot_in(
     alloc: Global,
     scale: Scale,
@@ -141,7 +141,7 @@ fn spot_in(
     Ok(None)
 }
 
-/// What of the modules breaks a rule: the first.
+/// The first spot of the modules that breaks this rule, as an item. `None` where none does.
 #[tactic(auto, using(crate::proofs::Slots::long, crate::proofs::Slots::at_place))]
 fn item_in(
     alloc: Global,
@@ -161,14 +161,14 @@ fn item_in(
     Ok(None)
 }
 
-/// Whether a port is among these.
+/// Whether a set of ports has this port.
 fn has(ports: &IndexSet<Port>, port: Port) -> bool
     ensures { result ≡ has ports.now port }
 {
     ports.contains(&port)
 }
 
-/// How many modules pop or push a channel of this kind.
+/// How many modules must pop, or push, a channel of this kind.
 fn users_wanted(kind: ChannelKind, side: Side) -> u64
     ensures { result ≡ users_wanted kind side }
 {
@@ -178,7 +178,7 @@ fn users_wanted(kind: ChannelKind, side: Side) -> u64
     }
 }
 
-/// Whether a channel has as many users at a side as its kind wants, where it is told how many modules use each channel.
+/// Whether a channel has as many users at a side as its kind must have. `users` has the number of users of each channel.
 fn has_users(users: &[u8], channel: u32, kind: ChannelKind, side: Side) -> bool
     requires { channel < length users.now }
     ensures { (modules : Items ModuleOf) → AreUsers modules side users.now → result ≡ has_users modules channel kind side }
@@ -186,7 +186,7 @@ fn has_users(users: &[u8], channel: u32, kind: ChannelKind, side: Side) -> bool
     users[channel as usize] as u64 == users_wanted(kind, side)
 }
 
-/// Whether a channel has the readers and writers that its kind wants.
+/// Whether a channel has the readers and writers that its kind must have.
 fn is_served(readers: &[u8], writers: &[u8], channel: u32, kind: ChannelKind) -> bool
     requires popped { channel < length readers.now }
     requires pushed { channel < length writers.now }
@@ -198,7 +198,7 @@ fn is_served(readers: &[u8], writers: &[u8], channel: u32, kind: ChannelKind) ->
     popped && pushed
 }
 
-/// The number of the first channel that lacks them.
+/// The number of the first channel that does not have the readers and writers that it must have. `None` where there is none.
 fn first_unserved(readers: &[u8], writers: &[u8], channels: &[Channel]) -> Option<u64>
     requires few { length channels.now ≤ 2 ^ 30 }
     requires popped { length readers.now ≡ length channels.now }
@@ -214,7 +214,8 @@ fn first_unserved(readers: &[u8], writers: &[u8], channels: &[Channel]) -> Optio
     None
 }
 
-/// The number of the first channel that lacks readers or writers, where each module uses these ports.
+/// The number of the first channel that does not have the readers and writers that it must have, given the ports that each module
+/// uses. `None` where there is none.
 fn first_lacking(
     alloc: Global,
     all: &[IndexSet<Port>],
@@ -229,7 +230,7 @@ fn first_lacking(
     Ok(first_unserved(readers.as_slice(), writers.as_slice(), channels))
 }
 
-/// The first of a plan that breaks a rule.
+/// The first item of a plan that breaks this rule. `None` where none does.
 fn broken_by(
     alloc: Global,
     scale: Scale,
@@ -257,7 +258,7 @@ fn broken_by(
     }
 }
 
-/// The first of these rules that a plan breaks, and the first that breaks it.
+/// The first of these rules that a plan breaks, and the first item that breaks it. `None` where it breaks none.
 fn first_broken(
     alloc: Global,
     scale: Scale,
@@ -277,7 +278,7 @@ fn first_broken(
     Ok(None)
 }
 
-/// The first rule that a plan breaks, and the first that breaks it.
+/// The first rule of checking that a plan breaks, and the first item that breaks it. `None` where it breaks none.
 #[tactic(auto, unfolding(crate::specs::Rules::checking_fault))]
 pub(crate) fn checking_fault(
     alloc: Global,

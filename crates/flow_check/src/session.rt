@@ -16,23 +16,23 @@ use flow_word::{OutOfMemory, Words};
 use session_plan::{Checked, elaborate};
 use std::alloc::Global;
 
-/// Checks a session at a scale, of which each statement stands at the line of its number among `lines`, and gives its
-/// plan and its edits.
+/// Checks a session at a scale, and answers its plan and its edits. `lines` has the number of each statement's line. The error is
+/// the session's checking fault, or `OutOfMemory`.
 pub fn check(
     alloc: Global,
     scale: Scale,
     session: &Session,
     lines: &Words,
 ) -> Result<Checked, ReadFail>
-    // A session that is checked has no fault, and this is its plan, and these are its edits.
+    // A session that passes has no checking fault; the answer is its plan and its edits.
     ensures faultless { IfOk result (λ _. fault_of scale session.now.statements lines.now ≡ None) }
     ensures plan { IfOk result (λ checked. checked.plan ≡ plan_of scale session.now.statements) }
     ensures edits { IfOk result (λ checked. checked.edits ≡ edits_of session.now.statements) }
-    // Where the session was read, the engine takes the plan, which keeps the scale, and the plan takes each edit.
+    // If the session was read, the engine takes the plan, the plan keeps the scale, and it takes each edit.
     ensures engine { KeepsReadingRules scale session.now.statements → IfOk result (λ checked. FitsEngine checked.plan) }
     ensures keeps { KeepsReadingRules scale session.now.statements → IfOk result (λ checked. KeepsScale scale checked.plan) }
     ensures editable { KeepsReadingRules scale session.now.statements → IfOk result (λ checked. All (EditFits checked.plan) checked.edits) }
-    // A session that is refused has this fault.
+    // A session that is refused has this checking fault.
     ensures fault { IfErr result (IsRefusal scale session.now.statements lines.now) }
 {
     let statements = session.statements.as_slice();
@@ -43,7 +43,7 @@ pub fn check(
     }
 }
 
-/// The checking fault of a session, from its plan.
+/// The checking fault of a session, from its plan. `None` where it has none.
 fn fault_of(
     alloc: Global,
     scale: Scale,

@@ -1,4 +1,4 @@
-//! How many modules use each channel at a side.
+//! How many modules use each channel at one side.
 ghost use Rattle.std.specs.Prelude.{◌≡◌, List as Items, cond, nat_eq, length, IfOk};
 ghost use Rattle.flow_design.specs.declared.design.Module.{Module as ModuleOf};
 ghost use Rattle.flow_design.specs.StaticRules.{same_port};
@@ -9,7 +9,7 @@ use flow_word::{OutOfMemory, Port, Side};
 use indexmap::IndexSet;
 use std::alloc::Global;
 
-/// Counts a user more at a channel, up to two.
+/// Counts one more user of a channel, up to two.
 fn count_user(channel: u32, users: &mut [u8])
     ensures { AreCounted (λ c. cond (nat_eq c channel) 1 0) users.old users.new }
 {
@@ -19,7 +19,7 @@ fn count_user(channel: u32, users: &mut [u8])
     }
 }
 
-/// Counts a user more at the channel of a port, where it is of this side.
+/// Counts one more user of a port's channel, if the port is of this side.
 fn count_port(port: Port, side: Side, users: &mut [u8])
     ensures { AreCounted (λ c. cond (same_port (port_at side c) port) 1 0) users.old users.new }
 {
@@ -28,7 +28,7 @@ fn count_port(port: Port, side: Side, users: &mut [u8])
     }
 }
 
-/// Counts a module, which uses these ports, at each channel that it uses at a side.
+/// Counts a module, given the ports that it uses, at each channel that it uses at this side.
 fn count_module(ports: &IndexSet<Port>, side: Side, users: &mut [u8])
     ensures { AreCounted (λ c. cond (has ports.now (port_at side c)) 1 0) users.old users.new }
 {
@@ -37,7 +37,7 @@ fn count_module(ports: &IndexSet<Port>, side: Side, users: &mut [u8])
     }
 }
 
-/// How many modules, of which each uses these ports, use each channel at a side, where 2 stands for two or more.
+/// How many modules use each channel at a side, given the ports that each module uses. 2 stands for two or more.
 pub(crate) fn count_users(
     alloc: Global,
     all: &[IndexSet<Port>],

@@ -16,11 +16,11 @@ use Rattle.flow_design.specs.Words.{variable}
 
 -- ---- blocks
 
--- what stands where a number names no block: one that is over at once
+-- the default where a number names no block: a block that is over at once
 abbrev pub no_block : Block
 no_block = record { kind = Plain; len = 0; temps = []; ops = []; next = Stop }
 
--- what stands where a number names no operation
+-- the default where a number names no operation
 abbrev pub no_operation : Timed
 no_operation = record { offset = 0; guard = None; op = Full 0 0 }
 
@@ -55,7 +55,7 @@ live_count b k =
     let age = k.clock - k.newest in
     if nat_lt age b.len then 1 + min (k.newest / interval b) ((b.len - 1 - age) / interval b) else 0
 
--- so many ages, II apart, down to the age of the newest
+-- n ages, II apart, of which the least is the given one; the greatest stands first
 abbrev pub ages_down : ℕ → ℕ → ℕ → List ℕ
 ages_down ii age zero = []
 ages_down ii age (suc n) = (age + n * ii) ∷ ages_down ii age n
@@ -64,13 +64,13 @@ ages_down ii age (suc n) = (age + n * ii) ∷ ages_down ii age n
 unfoldable pub ages : Block → Control → List ℕ
 ages b k = ages_down (interval b) (k.clock - k.newest) (live_count b k)
 
--- the temps of a live iteration, which is named by its place among them
+-- the temps of a live iteration, which is named by its place among the live ones
 abbrev pub temps_of : ModuleState → ℕ → List ℕ
 temps_of s iteration = slice_index_or s.temps iteration []
 
 -- ---- due operations
 
--- no guard, or one that is not 0
+-- a guard lets its operation be done: there is none, or it is not 0
 abbrev pub passes : List ℕ → List ℕ → Option ℕ → Bool
 passes registers temps None = true
 passes registers temps (Some guard) = not (variable registers temps guard == 0)

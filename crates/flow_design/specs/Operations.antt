@@ -9,7 +9,7 @@ use Rattle.flow_design.specs.declared.expr.Expr.{Expr}
 use Rattle.flow_design.specs.declared.expr.Op.{Op}
 use Rattle.flow_design.specs.declared.expr.Op.TheVariants.{Set, Load, Store, Read, Write, TryRead, TryWrite, Empty, Full}
 
--- the registers and temps that it writes
+-- the registers and temps that an operation writes
 abbrev pub places_of : Op ℕ → List ℕ
 places_of (Set x e) = x ∷ []
 places_of (Load x n e) = x ∷ []
@@ -21,7 +21,7 @@ places_of (TryWrite f ok e) = ok ∷ []
 places_of (Empty f x) = x ∷ []
 places_of (Full f x) = x ∷ []
 
--- its expressions
+-- the expressions of an operation
 abbrev pub expressions_of : Op ℕ → List (Expr ℕ)
 expressions_of (Set x e) = e ∷ []
 expressions_of (Load x n e) = e ∷ []
@@ -33,7 +33,7 @@ expressions_of (TryWrite f ok e) = e ∷ []
 expressions_of (Empty f x) = []
 expressions_of (Full f x) = []
 
--- its memory
+-- the memory that an operation uses, if it uses one
 abbrev pub memory_of : Op ℕ → Option ℕ
 memory_of (Set x e) = None
 memory_of (Load x n e) = Some n
@@ -45,7 +45,7 @@ memory_of (TryWrite f ok e) = None
 memory_of (Empty f x) = None
 memory_of (Full f x) = None
 
--- the kind of a FIFO operation, and its channel; none of an operation that is no FIFO operation
+-- the kind and the channel of a FIFO operation; none for any other operation
 abbrev pub access_of : Op ℕ → Option (Kind × ℕ)
 access_of (Set x e) = None
 access_of (Load x n e) = None
@@ -61,7 +61,7 @@ access_of (Full f x) = Some (kind.Full, f)
 abbrev pub port : Kind → ℕ → Port
 port k f = record { side = side_of k; channel = f }
 
--- the port at which an access of this kind pops or pushes; none of one that only tests
+-- the port at which an access of this kind pops or pushes; none where the kind only tests
 abbrev pub taken_port : Kind → ℕ → Option Port
 taken_port k f = if is_taking k then Some (port k f) else None
 
@@ -70,6 +70,6 @@ taken_port k f = if is_taking k then Some (port k f) else None
 abbrev pub port_of : Op ℕ → Option Port
 port_of op = option_map (λ a. port a.0 a.1) (access_of op)
 
--- the port at which it pops or pushes, for which `read`, `tryread`, `write` and `trywrite` alone count
+-- the port at which an operation pops or pushes: only `read`, `tryread`, `write` and `trywrite` have one
 abbrev pub used_port : Op ℕ → Option Port
 used_port op = option_and_then (λ a. taken_port a.0 a.1) (access_of op)

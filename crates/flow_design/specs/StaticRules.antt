@@ -43,7 +43,7 @@ is_port a (Some b) = same_port a b
 abbrev pub uses : Port → Module → Bool
 uses a m = list_any (λ b. list_any (λ t. is_port a (used_port t.op)) b.ops) m.blocks
 
--- how many modules pop or push a channel of a kind
+-- how many modules must pop (or push) a channel of this kind
 abbrev pub users_wanted : ChannelKind → Side → ℕ
 users_wanted Source Pop = 1
 users_wanted Source Push = 0
@@ -53,22 +53,22 @@ users_wanted (Fifo depth delay) side = 1
 
 -- ---- operations
 
--- an expression over so many registers and temps
+-- an expression names only registers and temps that are there, and is within the limits of its size
 pub record IsExpressionSound (places : ℕ) (e : Expr ℕ) : Type 0 where
   pub variables : reach e ≤ places
   pub size : nodes e ≤ EXPRESSION_NODES
   pub height : depth e ≤ EXPRESSION_DEPTH
 
--- an operation of a body with these temps
+-- all that an operation names is there: in a design of so many channels, a module, and a body of so many temps
 pub record IsOperationSound (channels : ℕ) (m : Module) (temps : ℕ) (op : Op ℕ) : Type 0 where
   pub places : All (λ x. x < length m.registers + temps) (places_of op)
   pub expressions : All (IsExpressionSound (length m.registers + temps)) (expressions_of op)
   pub memory : IfSome (memory_of op) (λ n. n < length m.memories)
   pub channel : IfSome (port_of op) (λ a. a.channel < channels)
-  -- `empty` stands in the channel's reader, and `full` in its writer
+  -- `empty` may be asked only by the channel's reader, and `full` only by its writer
   pub side : IfSome (port_of op) (λ a. IsTrue (uses a m))
 
--- a scheduled operation of a body
+-- the offset and the guard of a scheduled operation are in range, and all that the operation names is there
 pub record IsTimedSound (channels : ℕ) (m : Module) (b : Block) (t : Timed) : Type 0 where
   pub offset : t.offset < b.len
   pub guard : IfSome t.guard (λ g. g < length m.registers + length b.temps)
@@ -76,7 +76,7 @@ pub record IsTimedSound (channels : ℕ) (m : Module) (b : Block) (t : Timed) : 
 
 -- ---- blocks and modules
 
--- II, LEN and the register of a loop over so many registers
+-- II, LEN and the register of a loop are in range, where the module has so many registers
 pub record IsLoopSound (registers len ii again : ℕ) : Type 0 where
   pub interval : 1 ≤ ii
   pub least : ii ≤ len
@@ -130,7 +130,7 @@ AreEntriesSound Source inputs depth = depth ≡ 0
 AreEntriesSound Sink inputs depth = (inputs ≡ []) × (depth ≡ 0)
 AreEntriesSound (Fifo declared delay) inputs depth = (inputs ≡ []) × (1 ≤ depth) × (depth ≤ FIFO_DEPTH) × (1 ≤ delay) × (delay ≤ FIFO_DELAY)
 
--- channel number f of a plan
+-- channel f of a plan keeps the static rules
 pub record IsChannelSound (plan : Plan) (f : ℕ) : Type 0 where
   pub name : IsTrue (is_name (slice_index_or plan.design.channels f no_channel).name)
   pub popping : count_by (uses (record { side = Pop; channel = f })) plan.design.modules ≡ users_wanted (kind_at plan f) Pop

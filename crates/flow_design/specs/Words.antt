@@ -32,11 +32,11 @@ binary LtS a b = from_bool (int_lt (cast_signed w64 a) (cast_signed w64 b))
 binary Div a b = if b == 0 then 2 ^ 64 - 1 else a / b
 binary Rem a b = if b == 0 then a else a % b
 
--- k low bits in two's complement of k bits, as a word of 64 bits
+-- a value of k bits, read in two's complement and widened to 64 bits
 abbrev pub extended : ℕ → ℕ → ℕ
 extended k low = if nat_lt low (2 ^ (k - 1)) then low else low + (2 ^ 64 - 2 ^ k)
 
--- the register, or the temp behind the registers
+-- the register or temp with this number: temps are numbered after the registers
 abbrev pub variable : List ℕ → List ℕ → ℕ → ℕ
 variable registers temps at = slice_index (registers ++ temps) at
 
@@ -60,7 +60,7 @@ layer_reach (Expr-F.Binary op a b) = max a b
 layer_reach (Expr-F.Sext k a) = a
 layer_reach (Expr-F.Pick a b c) = max a (max b c)
 
--- one more than the greatest number of a variable in it, or 0
+-- one more than the greatest variable number in an expression, or 0 where it has no variable
 unfoldable pub reach : Expr ℕ → ℕ
 reach = fold-Expr ℕ ℕ layer_reach
 
@@ -72,7 +72,7 @@ layer_nodes (Expr-F.Binary op a b) = 1 + (a + b)
 layer_nodes (Expr-F.Sext k a) = 1 + a
 layer_nodes (Expr-F.Pick a b c) = 1 + (a + (b + c))
 
--- how many numbers, variables and operators it has
+-- how many numbers, variables and operators an expression has
 unfoldable pub nodes : {N : Type 0} → Expr N → ℕ
 nodes {N} = fold-Expr N ℕ layer_nodes
 
@@ -84,6 +84,6 @@ layer_depth (Expr-F.Binary op a b) = 1 + max a b
 layer_depth (Expr-F.Sext k a) = 1 + a
 layer_depth (Expr-F.Pick a b c) = 1 + max a (max b c)
 
--- 1 for a number or a variable, and one more than its deepest part for an operator
+-- how deep an expression nests: 1 for a number or a variable, and one more than its deepest part for an operator
 unfoldable pub depth : {N : Type 0} → Expr N → ℕ
 depth {N} = fold-Expr N ℕ layer_depth

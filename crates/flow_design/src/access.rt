@@ -6,7 +6,7 @@ use crate::expr::Op;
 use flow_word::{Kind, Port};
 
 impl Op<u32> {
-    /// The kind of a FIFO operation, and its channel; none of another operation.
+    /// The kind and the channel of a FIFO operation. `None` for any other operation.
     pub fn access(&self) -> Option<(Kind, u32)>
         ensures { result ≡ access_of self.now }
     {
@@ -21,7 +21,7 @@ impl Op<u32> {
         }
     }
 
-    /// The port at which a FIFO operation stands.
+    /// The port at which a FIFO operation stands. `None` for any other operation.
     pub fn port(&self) -> Option<Port>
         ensures { result ≡ port_of self.now }
     {
@@ -32,7 +32,7 @@ impl Op<u32> {
         })
     }
 
-    /// The port at which an operation pops or pushes; none of one that only tests.
+    /// The port at which an operation pops or pushes. `None` where it does neither.
     pub fn used_port(&self) -> Option<Port>
         ensures { result ≡ used_port self.now }
     {

@@ -1,5 +1,6 @@
-//! The limits of the language: what is more is refused. A session keeps the limits of its scale. The constants that stand
-//! alone are limits at each scale, or the greatest ones: the engine takes what keeps those.
+//! The limits of the language: a session that exceeds one is refused. A session keeps the limits of its scale. The
+//! constants outside `Limits` are limits at both scales, or the greater one of the two: the engine takes plans within
+//! these.
 ghost use Rattle.std.specs.Prelude.{◌≡◌};
 ghost use Rattle.flow_design.specs.Limits.{limits_at};
 
@@ -12,7 +13,7 @@ pub enum Scale {
     Large,
 }
 
-/// The limits that depend on the scale.
+/// The limits that depend on the scale: the greatest numbers that are permitted.
 #[derive(Clone, Copy, Debug, PartialEq, Eq)]
 pub struct Limits {
     /// The bytes of a session text.
@@ -97,68 +98,68 @@ pub const LARGE: Limits = Limits {
     default_operations: 10_000_000,
 };
 
-/// The bytes of a session text.
+/// The most bytes of a session text.
 pub const TEXT_BYTES: u64 = 134_217_728;
 
-/// The modules of a session.
+/// The most modules of a session.
 pub const MODULES: u64 = 2_048;
 
-/// The channels of a session: FIFOs, sources and sinks together.
+/// The most channels of a session: FIFOs, sources and sinks together.
 pub const CHANNELS: u64 = 8_192;
 
-/// The registers of a module.
+/// The most registers of a module.
 pub const REGISTERS: u64 = 1_024;
 
-/// The temps of a body.
+/// The most temps of a body.
 pub const TEMPS: u64 = 256;
 
-/// The memories of a module.
+/// The most memories of a module.
 pub const MEMORIES: u64 = 64;
 
-/// The words of a memory.
+/// The most words of a memory.
 pub const MEMORY_WORDS: u64 = 1_048_576;
 
-/// The words of all memories of a session.
+/// The most words of all memories of a session.
 pub const ALL_MEMORY_WORDS: u64 = 33_554_432;
 
-/// The blocks of a module.
+/// The most blocks of a module.
 pub const BLOCKS: u64 = 2_048;
 
-/// The operations of a body.
+/// The most operations of a body.
 pub const OPERATIONS: u64 = 8_192;
 
-/// The iterations of a loop that are live at once: LEN is at most so many times II.
+/// The most iterations of a loop that are live at once: LEN is at most so many times II.
 pub const LIVE_ITERATIONS: u64 = 1_024;
 
-/// II and LEN, in clocks.
+/// The greatest II and LEN, in clocks.
 pub const BLOCK_CLOCKS: u64 = 1_000_000_000_000;
 
-/// II and LEN, in clocks, where a module may count more operations than `LONG_BLOCK_OPERATIONS`.
+/// The greatest II and LEN, in clocks, where a module may count more operations than `LONG_BLOCK_OPERATIONS`.
 pub const SHORT_BLOCK_CLOCKS: u64 = 100_000_000;
 
 /// The most operations that a module may count where II and LEN may be more than `SHORT_BLOCK_CLOCKS`.
 pub const LONG_BLOCK_OPERATIONS: u64 = 200_000;
 
-/// The nodes of an expression.
+/// The most nodes of an expression.
 pub const EXPRESSION_NODES: u64 = 256;
 
-/// How deep an expression nests.
+/// The most levels that an expression nests.
 pub const EXPRESSION_DEPTH: u64 = 32;
 
-/// The input values of a session.
+/// The most input values of a session.
 pub const INPUT_VALUES: u64 = 16_777_216;
 
-/// The edits of a session.
+/// The most edits of a session.
 pub const EDITS: u64 = 1_000;
 
-/// The depth of a FIFO, in elements.
+/// The greatest depth of a FIFO, in elements.
 pub const FIFO_DEPTH: u64 = 1_073_741_824;
 
-/// The delay of a FIFO, in clocks.
+/// The greatest delay of a FIFO, in clocks.
 pub const FIFO_DELAY: u64 = 1_000;
 
-/// The cycle limit, in clocks.
+/// The greatest cycle limit, in clocks.
 pub const CYCLES: u64 = 1_000_000_000_000_000;
 
-/// The operation limit of a module.
+/// The greatest operation limit of a module.
 pub const COUNTED_OPERATIONS: u64 = 1_000_000_000;

@@ -3,7 +3,7 @@ ghost use Rattle.std.specs.Prelude.{◌≡◌, [], slice_index_or, slice_set};
 
 use flow_word::Words;
 
-/// Puts a word at a place of one of these lists, where both are there.
+/// Sets word `at` of list `list`. Nothing changes where there is no such list or word.
 #[tactic(auto, using(crate::proofs::Beyond::set_beyond))]
 #[inline(always)]
 pub fn put_at(lists: &mut [Words], list: u64, at: u64, word: u64)
@@ -14,7 +14,7 @@ pub fn put_at(lists: &mut [Words], list: u64, at: u64, word: u64)
     }
 }
 
-/// Puts a word at a place, where it is there.
+/// Sets word `at`. Nothing changes where there is no such word.
 #[tactic(auto, using(crate::proofs::Beyond::set_beyond))]
 #[inline(always)]
 pub fn set_at(words: &mut [u64], at: u64, word: u64)

@@ -31,7 +31,7 @@ impl Verdict {
     }
 }
 
-/// A module that is held by a channel which is full, or else empty.
+/// A held module, with the channel that holds it: the channel is full, or else empty.
 #[derive(Clone, Copy, Debug, PartialEq, Eq)]
 pub struct Held {
     pub module: u32,
@@ -48,7 +48,7 @@ pub struct EventLine {
     pub cycle: u64,
 }
 
-/// What a simulation gives.
+/// The report of a simulation.
 #[derive(Debug, Drop, PartialEq)]
 pub struct Report {
     pub verdict: Verdict,
@@ -56,7 +56,7 @@ pub struct Report {
     pub outputs: List<Words>,
     /// The modules that are held in the verdict's clock, in order.
     pub held: List<Held>,
-    /// The operations done before the verdict's clock, ordered by clock, module and commit order.
+    /// The FIFO operations done before the verdict's clock, ordered by clock, module and commit order.
     pub events: List<EventLine>,
     /// The query outcomes of each module before the verdict's clock, in order.
     pub answers: List<Flags>,

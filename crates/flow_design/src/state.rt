@@ -8,7 +8,7 @@ pub struct Control {
     pub block: u32,
     /// The local clock of the block.
     pub clock: u64,
-    /// The local clock at which the newest iteration started. The others started II apart before it.
+    /// The local clock at which the newest iteration started. The older ones started at each II local clocks before it.
     pub newest: u64,
     /// Whether a further iteration may start.
     pub looping: bool,
@@ -116,13 +116,13 @@ pub enum Effect {
     },
 }
 
-/// A mark of a module's own run.
+/// A mark of a module's own run: what the run tells next.
 #[derive(Debug, Drop)]
 pub enum Advance {
     /// The next local clock with a due FIFO operation.
     Step(Step),
-    /// The module ended, so many local clocks after its last step, or after its local clock 0.
+    /// The module has ended, so many local clocks after its last step, or after its local clock 0 where it has no step.
     Ended(u64),
-    /// The module is spent, so many local clocks after its last step, or after its local clock 0.
+    /// The module is spent, so many local clocks after its last step, or after its local clock 0 where it has no step.
     Spent(u64),
 }

@@ -46,7 +46,7 @@ impl Model for LiveTemps {
 }
 
 impl LiveTemps {
-    /// No live iteration, which takes no memory.
+    /// The temps of no live iteration. They take no memory.
     pub fn new(alloc: Global) -> LiveTemps
         ensures { result ≡ [] }
     {
@@ -65,7 +65,7 @@ impl LiveTemps {
         self.count
     }
 
-    /// The temps of a live iteration, or none.
+    /// The temps of a live iteration. The slice is empty where there is no such iteration.
     #[inline(always)]
     pub fn get(&self, iteration: u32) -> &[u64]
         ensures { result.now ≡ slice_index_or self.now iteration [] }
@@ -78,7 +78,7 @@ impl LiveTemps {
         self.rows.as_slice()[place as usize].as_slice()
     }
 
-    /// Puts a word into a temp of a live iteration, where both are there.
+    /// Sets a temp of a live iteration. Nothing changes where there is no such iteration or temp.
     #[inline(always)]
     pub fn put(&mut self, iteration: u32, temp: u64, word: u64)
         ensures { self.new ≡ slice_set self.old iteration (slice_set (slice_index_or self.old iteration []) temp word) }
@@ -90,7 +90,8 @@ impl LiveTemps {
         }
     }
 
-    /// An iteration starts, with so many temps, each 0. After want of memory they are as they were.
+    /// Starts an iteration with `temps` temps, each 0. After `OutOfMemory` the temps of all iterations are as they
+    /// were.
     #[inline(always)]
     pub fn start(&mut self, alloc: Global, temps: u64) -> Result<(), OutOfMemory>
         ensures started { OnOk result (self.new ≡ self.old ++ replicate temps 0 ∷ []) }
@@ -110,7 +111,7 @@ impl LiveTemps {
         Ok(())
     }
 
-    /// Keeps the temps of the newest iterations, so many of them.
+    /// Keeps the temps of the newest `live` iterations and drops the others.
     #[inline(always)]
     pub fn keep_newest(&mut self, live: u64)
         ensures { self.new ≡ drop (length self.old - live) self.old }
@@ -122,7 +123,7 @@ impl LiveTemps {
     }
 }
 
-/// The place that comes so far after the first in a ring of so many.
+/// The place that lies `after` places after `first` in a ring of `len` places.
 #[inline(always)]
 fn slot(len: u64, first: u64, after: u64) -> u64
     requires first { first ≤ len }
@@ -137,7 +138,7 @@ fn slot(len: u64, first: u64, after: u64) -> u64
     }
 }
 
-/// Puts so many zeros in the place of what the list held.
+/// Replaces the words by `len` zeros. It takes no memory where there are `len` words already.
 #[inline(always)]
 fn zero(words: &mut Words, len: u64) -> Result<(), OutOfMemory>
     ensures { OnOk result (words.new ≡ replicate len 0) }
@@ -149,7 +150,7 @@ fn zero(words: &mut Words, len: u64) -> Result<(), OutOfMemory>
     refill(words, len)
 }
 
-/// Puts so many zeros in the place of what the list held, whatever its length.
+/// Replaces the words by `len` zeros, whatever their number was.
 #[inline(never)]
 fn refill(words: &mut Words, len: u64) -> Result<(), OutOfMemory>
     ensures { OnOk result (words.new ≡ replicate len 0) }

@@ -7,7 +7,7 @@ ghost use Rattle.flow_design.specs.Words.{variable, binary, extended};
 use flow_design::BinOp;
 use flow_word::{Width, cut};
 
-/// The value of a register, or of a temp: the temps of a body are numbered behind the module's registers. It takes no memory.
+/// The value of a register or temp: the temps of a body are numbered after the module's registers. It takes no memory.
 #[inline(always)]
 pub fn variable(at: u32, registers: &[u64], temps: &[u64]) -> u64
     requires { at < length registers.now + length temps.now }

@@ -11,16 +11,16 @@ use Rattle.flow_print.specs.Canonical.{canonical_text}
 
 -- ---- draws
 
--- a draw replaces the state by this, and gives the new state
+-- the state after a draw from this one; it is the number that is drawn
 abbrev pub next : ℕ → ℕ
 next state = (75 * state + 74) % 65_537
 
--- the state after n draws, of which the seed is the first state
+-- the state after n draws; the seed is the first state
 unfoldable pub state_after : ℕ → ℕ → ℕ
 state_after seed zero = seed
 state_after seed (suc n) = next (state_after seed n)
 
--- what three draws from a state on are, for one module
+-- the numbers for one module that three draws from this state give
 abbrev pub drawn_from : ℕ → Drawn
 drawn_from state = record {
   interval = 1 + next state % 3;
@@ -28,7 +28,7 @@ drawn_from state = record {
   depth = 1 + next (next (next state)) % 4;
 }
 
--- each module has three draws, in order
+-- the numbers for module k: each module has three draws, in order
 abbrev pub drawn : ℕ → ℕ → Drawn
 drawn seed k = drawn_from (state_after seed (3 * k))
 
@@ -43,27 +43,27 @@ fifo_name k = codes "f" ++ decimal k
 abbrev pub module_name : ℕ → Name
 module_name k = codes "m" ++ decimal k
 
--- the first module reads the source, each other one the FIFO before it
+-- the channel that module k pops: the first module pops the source, and each other one the FIFO before it
 abbrev pub input_of : ℕ → Name
 input_of k = if k == 0 then codes "a" else fifo_name k
 
--- the last module writes the sink, each other one the FIFO behind it
+-- the channel that module k pushes: the last module pushes the sink, and each other one the FIFO after it
 abbrev pub output_of : ℕ → ℕ → Name
 output_of modules k = if k + 1 == modules then codes "y" else fifo_name (k + 1)
 
 -- ---- statements
 
--- the FIFO behind module k
+-- the FIFO after module k
 abbrev pub fifo_behind : ℕ → Drawn → List Statement
 fifo_behind k drawn = Fifo (fifo_name (k + 1)) 32 drawn.depth 1 ∷ []
 
--- a module's registers, and its loop, an iteration of which is one clock longer than the interval at which they start
+-- a module's registers, and its loop: LEN is one clock more than II
 unfoldable pub head_of : Name → ℕ → List Statement
 head_of name interval =
     Module name ∷ Reg (codes "x") 32 ∷ Reg (codes "n") 32 ∷ Reg (codes "g") 1 ∷ Reg (codes "e") 1
     ∷ Loop (codes "l") interval (interval + 1) (codes "g") ∷ []
 
--- its operations in the first clock of an iteration; another iteration follows where n is below 999
+-- a module's operations in the first clock of an iteration; another iteration follows where n is below 999
 unfoldable pub first_clock : Name → Name → List Statement
 first_clock input output =
     At 0 None (Read input (codes "x"))
@@ -72,33 +72,33 @@ first_clock input output =
     ∷ At 0 None (Set (codes "g") (Binary LtU (Var (codes "n")) (Number 999)))
     ∷ []
 
--- its operation in the second clock, and the end of the loop
+-- a module's operation in the second clock of an iteration, and the end of the loop
 unfoldable pub second_clock : Name → ℕ → List Statement
 second_clock output addend =
     At 1 None (Write output (Binary Add (Var (codes "x")) (Binary Add (Number addend) (Var (codes "e"))))) ∷ Stop ∷ []
 
--- module k of so many
+-- the statements of module k, of so many modules
 abbrev pub module_of : ℕ → ℕ → Drawn → List Statement
 module_of modules k drawn =
     head_of (module_name k) drawn.interval
     ++ (first_clock (input_of k) (output_of modules k) ++ second_clock (output_of modules k) drawn.addend)
 
--- the statements for each of the first n modules, of which these are the draws
+-- the statements for each of the first n modules, with their draws
 unfoldable pub each : (ℕ → Drawn → List Statement) → (ℕ → Drawn) → ℕ → List Statement
 each statements draws zero = []
 each statements draws (suc n) = each statements draws n ++ statements n (draws n)
 
--- the values of the source
+-- the values of the source: the numbers from 0 to 999
 unfoldable pub values : List ℕ
 values = range_with_len 0 1000
 
--- the session whose modules have these draws: a FIFO behind each module but the last
+-- the session whose modules have these draws: there is a FIFO after each module but the last
 abbrev pub session_of : (ℕ → Drawn) → ℕ → List Statement
 session_of draws modules =
     (Flow 1 ∷ Source (codes "a") 32 ∷ Sink (codes "y") 32 ∷ [])
     ++ (each fifo_behind draws (modules - 1) ++ (each (module_of modules) draws modules ++ Input (codes "a") values ∷ End ∷ []))
 
--- the session of a seed, with so many modules, and its text
+-- the session that a seed gives with so many modules; and then, its text
 unfoldable pub session : ℕ → ℕ → List Statement
 session seed modules = session_of (drawn seed) modules
 

@@ -4,18 +4,18 @@ ghost use Rattle.flow_gen.specs.Generated.{drawn_from, next};
 
 const MODULUS: u64 = 65_537;
 
-/// What is drawn for one module.
+/// The numbers that are drawn for one module.
 #[derive(Clone, Copy)]
 pub struct Drawn {
-    /// The clocks from the start of one iteration to the start of the next.
+    /// The module's II: the clocks between the starts of two iterations.
     pub interval: u8,
-    /// What the module adds to each value.
+    /// The number that the module adds to each value.
     pub addend: u8,
-    /// The depth of the FIFO behind the module. Behind the last module there is none.
+    /// The depth of the FIFO after the module. There is none after the last module.
     pub depth: u8,
 }
 
-/// The next three draws, as what they are for one module.
+/// Draws the three numbers for one module.
 pub fn draw_module(state: &mut u64) -> Drawn
     requires { state.old < 65_537 }
     ensures drawn { result ≡ drawn_from state.old }
@@ -29,7 +29,7 @@ pub fn draw_module(state: &mut u64) -> Drawn
     }
 }
 
-/// One draw, which is the new state.
+/// Draws once: the answer is the new state.
 fn draw(state: &mut u64) -> u64
     requires { state.old < 65_537 }
     ensures drawn { result ≡ next state.old }

@@ -1,4 +1,4 @@
-//! Laws of generated sessions.
+//! The laws of generated sessions.
 ghost use Rattle.std.specs.Prelude.{◌≡◌, ◌≤◌, ℕ, List, None, length};
 ghost use Rattle.std.specs.List.{range_with_len};
 ghost use Rattle.flow_design.specs.StaticRules.{FitsEngine};
@@ -11,15 +11,15 @@ ghost use Rattle.session_plan.specs.Plans.{plan_of};
 
 use flow_check::checked_plans_fit;
 
-/// The text of each seed and each number of modules from 1 to 64 stands for the session of which it is the canonical text, with its
-/// statements on the lines 1, 2, 3 and so on. It keeps the limits of the language as it stands.
+/// For each seed and each number of modules from 1 to 64, the text stands for the session whose canonical text it is, with the
+/// statements on the lines 1, 2, 3 and so on. It keeps the limits of the standard scale.
 pub fn generated_texts_are_read()
     ensures { (seed modules : ℕ) → 1 ≤ modules → modules ≤ STANDARD.modules
         → StandsFor Standard (session_text seed modules) (session seed modules) (range_with_len 1 (length (session seed modules))) }
 {}
 
-/// The session of each seed and each number of modules from 1 to 64 has no fault of checking, whatever its lines, and the engine takes
-/// its plan.
+/// For each seed and each number of modules from 1 to 64, the session has no checking fault, whatever its lines are, and the engine
+/// takes its plan.
 pub fn generated_sessions_are_checked()
     ensures faultless { (seed modules : ℕ) (lines : List ℕ) → 1 ≤ modules → modules ≤ STANDARD.modules
         → fault_of Standard (session seed modules) lines ≡ None }

@@ -1,4 +1,4 @@
-//! A session of modules in a row, made from a seed: it has no fault, and its text is read as it.
+//! A session made from a seed: modules in a row. It has no fault, and its text stands for it.
 #![tactic(auto)]
 
 ghost use Rattle.std.specs.Prelude.{◌≡◌, ◌≤◌, IfOk};
@@ -15,11 +15,10 @@ pub use laws::{generated_sessions_are_checked, generated_texts_are_read};
 pub use session::generate_session;
 use std::alloc::Global;
 
-/// The text of the session with so many modules, in canonical form.
+/// The canonical text of the session that a seed gives with so many modules.
 ///
-/// Each module adds a number of its own to 1,000 values on their way from a source to a sink. The
-/// seed decides those numbers, how many clocks apart the iterations of a module start, and the depths
-/// of the FIFOs between the modules.
+/// Each module adds a number of its own to 1,000 values on their way from a source to a sink. The seed determines these numbers,
+/// the II of each module's loop, and the depths of the FIFOs between the modules.
 pub fn generate(alloc: Global, seed: u64, modules: u64) -> Result<List<u8>, OutOfMemory>
     requires seed { seed ≤ 65_535 }
     requires some { 1 ≤ modules }

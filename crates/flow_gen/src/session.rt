@@ -1,4 +1,4 @@
-//! The statements of the session.
+//! The statements of the generated session.
 ghost use Rattle.std.specs.Prelude.{◌≡◌, ◌++◌, ◌≤◌, ◌<◌, IfOk, OnOk};
 ghost use Rattle.flow_design.specs.declared.limits.TheConstants.{STANDARD};
 ghost use Rattle.flow_gen.specs.Generated.{drawn, each, fifo_behind, fifo_name, first_clock, head_of, input_of, module_name};
@@ -12,7 +12,7 @@ use std::alloc::Global;
 /// How many values the source has.
 const VALUES: u64 = 1000;
 
-/// The session of a seed, with so many modules.
+/// The session that a seed gives with so many modules.
 #[tactic(auto, unfolding(crate::specs::Generated::session))]
 pub fn generate_session(alloc: Global, seed: u64, modules: u64) -> Result<Session, OutOfMemory>
     requires seed { seed ≤ 65_535 }
@@ -33,7 +33,7 @@ pub fn generate_session(alloc: Global, seed: u64, modules: u64) -> Result<Sessio
     Ok(Session { statements })
 }
 
-/// A session in the making.
+/// A session while it is made.
 #[derive(Drop)]
 struct Maker {
     alloc: Global,
@@ -41,7 +41,7 @@ struct Maker {
 }
 
 impl Maker {
-    /// The FIFOs behind the first modules, so many.
+    /// Adds the FIFOs after the first `fifos` modules.
     #[tactic(auto, using(crate::proofs::Steps::pushing))]
     fn push_fifos(&mut self, seed: u64, fifos: u64) -> Result<(), OutOfMemory>
         requires seed { seed ≤ 65_535 }
@@ -55,7 +55,7 @@ impl Maker {
         Ok(())
     }
 
-    /// The modules, one behind the other.
+    /// Adds the modules, in order.
     #[tactic(auto, using(crate::proofs::Steps::pushing))]
     fn push_modules(&mut self, seed: u64, modules: u64) -> Result<(), OutOfMemory>
         requires seed { seed ≤ 65_535 }
@@ -94,7 +94,7 @@ impl Maker {
         self.push_second_clock(output, u64::from(drawn.addend))
     }
 
-    /// A module with its registers, and the head of its loop.
+    /// Adds a module with its registers, and the beginning of its loop.
     #[tactic(auto, unfolding(crate::specs::Generated::head_of))]
     fn push_head(&mut self, k: u64, interval: u64) -> Result<(), OutOfMemory>
         requires { interval ≤ 255 }
@@ -119,7 +119,7 @@ impl Maker {
         })
     }
 
-    /// The operations at offset 0.
+    /// Adds the operations at offset 0.
     #[tactic(auto, unfolding(crate::specs::Generated::first_clock))]
     fn push_first_clock(&mut self, input: Name, output: Name) -> Result<(), OutOfMemory>
         ensures { OnOk result (self.new.statements ≡ self.old.statements ++ first_clock input output) }
@@ -156,7 +156,7 @@ impl Maker {
         self.statements.push(Statement::At(0, None, Op::Set(Name::new(self.alloc, b"g")?, again)))
     }
 
-    /// The operation at offset 1, and the end of the loop.
+    /// Adds the operation at offset 1, and the end of the loop.
     #[tactic(auto, unfolding(crate::specs::Generated::second_clock))]
     fn push_second_clock(&mut self, output: Name, addend: u64) -> Result<(), OutOfMemory>
         ensures { OnOk result (self.new.statements ≡ self.old.statements ++ second_clock output addend) }
@@ -174,7 +174,7 @@ impl Maker {
     }
 }
 
-/// The channel that a module reads: the source, or the FIFO before it.
+/// The channel that module k pops: the source, or the FIFO before it.
 fn input_of(alloc: Global, k: u64) -> Result<Name, OutOfMemory>
     ensures { IfOk result (λ name. name ≡ input_of k) }
 {
@@ -185,7 +185,7 @@ fn input_of(alloc: Global, k: u64) -> Result<Name, OutOfMemory>
     }
 }
 
-/// The channel that a module writes: the sink, or the FIFO behind it.
+/// The channel that module k pushes: the sink, or the FIFO after it.
 fn output_of(alloc: Global, modules: u64, k: u64) -> Result<Name, OutOfMemory>
     requires { k < STANDARD.modules }
     ensures { IfOk result (λ name. name ≡ output_of modules k) }
@@ -221,7 +221,7 @@ fn binary(alloc: Global, op: BinOp, a: Expr<Name>, b: Expr<Name>) -> Result<Expr
     Ok(Expr::Binary(op, Boxed::new(alloc, a)?, Boxed::new(alloc, b)?))
 }
 
-/// The width of so many bits.
+/// The width of `bits` bits.
 fn width(bits: u64) -> Width
     requires some { 1 ≤ bits }
     requires most { bits ≤ 64 }
@@ -233,7 +233,7 @@ fn width(bits: u64) -> Width
     }
 }
 
-/// The numbers from 0 on, so many as the source has.
+/// The values of the source: the numbers from 0 to 999.
 #[tactic(auto, using(crate::proofs::Steps::range_more), unfolding(crate::specs::Generated::values))]
 fn values(alloc: Global) -> Result<Words, OutOfMemory>
     ensures { IfOk result (λ words. words ≡ values_given) }

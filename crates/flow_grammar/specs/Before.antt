@@ -1,4 +1,4 @@
--- What stands before a line, as functions of the statements before it, the latest first.
+-- What the statements before a line declare, as functions of these statements, the latest first.
 use Rattle.std.specs.Prelude.{ℕ, Bool, true, false, List, [], ◌∷◌, ◌==◌, length, count_by, sum_by, take_while, unwrap_or, Option, None}
 use Rattle.std.specs.Prelude.{Some}
 use Rattle.std.specs.List.{filter_map, list_any}
@@ -14,12 +14,12 @@ abbrev pub flow_number : Statement → Option ℕ
 flow_number (Flow v) = Some v
 flow_number s = None
 
--- the version that is declared: 1 where there is no `flow`
+-- the version that these statements declare: 1 where there is no `flow`
 abbrev pub version : List Statement → ℕ
 version [] = 1
 version (s ∷ earlier) = unwrap_or (flow_number s) (version earlier)
 
--- the version in which FIFOs have delays
+-- FIFOs have delays in this version
 abbrev pub has_delays : ℕ → Bool
 has_delays v = v == 2
 
@@ -34,7 +34,7 @@ is_no_block (Block n l) = false
 is_no_block (Loop n ii l r) = false
 is_no_block s = true
 
--- the statements of the module, and of the body, that the line would stand in
+-- the statements of the module in which a line would stand; and then, those of its body
 abbrev pub in_module : List Statement → List Statement
 in_module earlier = take_while is_no_module earlier
 
@@ -114,7 +114,7 @@ registers earlier = filter_map register_name (in_module earlier)
 abbrev pub memories : List Statement → List Name
 memories earlier = filter_map memory_name (in_module earlier)
 
--- the words of all memories of the session
+-- how many words all memories of the session have
 abbrev pub memory_words : List Statement → ℕ
 memory_words earlier = sum_by word_count earlier
 
@@ -136,6 +136,6 @@ input_values earlier = sum_by input_count earlier
 abbrev pub edits : List Statement → ℕ
 edits earlier = count_by is_edit earlier
 
--- the name is among these
+-- the name is one of these
 abbrev pub is_among : List Name → Name → Bool
 is_among names n = list_any (λ m. is_word n m) names

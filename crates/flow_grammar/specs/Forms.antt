@@ -31,7 +31,7 @@ abbrev pub name_width : (Token → ℕ → Statement) → List Token → Option 
 name_width make (n ∷ w ∷ []) = only_if (is_name n && is_number w) (make n (number_of w))
 name_width make ts = None
 
--- a FIFO, with a delay in the version that has them alone
+-- the FIFO that these tokens write after their keyword; only a version with delays has a form with one
 unfoldable pub fifo_of : ℕ → List Token → Option Statement
 fifo_of version (n ∷ w ∷ []) = only_if (is_name n && is_number w) (Fifo n (number_of w) default_depth default_delay)
 fifo_of version (n ∷ w ∷ d ∷ []) = only_if (is_name n && (is_number w && is_number d)) (Fifo n (number_of w) (number_of d) default_delay)
@@ -90,7 +90,7 @@ abbrev pub try_write_of : List Token → Option (Op Token)
 try_write_of (f ∷ ok ∷ ts) = if_then (is_name f && is_name ok) (option_map (op.TryWrite f ok) (one_tree (trees_of ts)))
 try_write_of ts = None
 
--- the form of each operation
+-- the operation that tokens write after their verb
 abbrev pub op_form_of : Verb → List Token → Option (Op Token)
 op_form_of verb.Set ts = set_of ts
 op_form_of verb.Load ts = load_of ts
@@ -106,12 +106,12 @@ abbrev pub op_form_if : Option Verb → List Token → Option (Op Token)
 op_form_if None ts = None
 op_form_if (Some v) ts = op_form_of v ts
 
--- the verb and what stands behind it
+-- the operation that tokens write, of which the first is a verb
 unfoldable pub op_of : List Token → Option (Op Token)
 op_of [] = None
 op_of (v ∷ ts) = op_form_if (verb_of v) ts
 
--- an operation with a guard in front of it, where there is one
+-- the `at` that tokens write after its offset: an operation, perhaps with a guard in front of it
 abbrev pub guarded_of : ℕ → List Token → Option Statement
 guarded_of off (i ∷ r ∷ ts) =
     if is_word i (codes "if") then if_then (is_name r) (option_map (At off (Some r)) (op_of ts))
@@ -138,7 +138,7 @@ abbrev pub bare : Statement → List Token → Option Statement
 bare statement [] = Some statement
 bare statement (t ∷ ts) = None
 
--- the form of each keyword
+-- the statement that tokens write after their keyword
 abbrev pub form_of : ℕ → Keyword → List Token → Option Statement
 form_of version keyword.Flow ts = flow_of ts
 form_of version keyword.Source ts = name_width Source ts
@@ -163,7 +163,7 @@ abbrev pub form_if : ℕ → Option Keyword → List Token → Option Statement
 form_if version None ts = None
 form_if version (Some k) ts = form_of version k ts
 
--- the keyword and what stands behind it
+-- the statement that tokens write, of which the first is a keyword
 unfoldable pub statement_of : ℕ → List Token → Option Statement
 statement_of version [] = None
 statement_of version (k ∷ ts) = form_if version (keyword_of k) ts

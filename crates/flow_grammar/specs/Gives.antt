@@ -1,4 +1,4 @@
--- What a function returned is this, unless memory ran out.
+-- A function answered this, unless memory ran out.
 use Rattle.std.specs.Prelude.{◌≡◌, ℕ, ◌+◌, List, [], ◌∷◌, ◌++◌, Bool, true, false, Option, None, Some, Result, Ok, Err}
 use Rattle.flow_design.specs.declared.limits.Scale.{Scale}
 use Rattle.flow_design.specs.declared.session.Statement.{Statement}
@@ -13,7 +13,7 @@ use Rattle.flow_grammar.specs.declared.fault.LineFail.TheVariants as line_fails
 use Rattle.flow_grammar.specs.Line.{statement_in, line_fault}
 use Rattle.flow_grammar.specs.Rules.{is_over}
 
--- one line: its fault, or its statement
+-- a value, or the fault if there is one
 abbrev pub judged : {A : Type 0} → Option Code → A → Result A Code
 judged None value = Ok value
 judged (Some code) value = Err code
@@ -54,7 +54,7 @@ abbrev pub with_number : List ℕ → ℕ → Option Statement → List ℕ
 with_number before n None = before
 with_number before n (Some statement) = before ++ n ∷ []
 
--- statements and the numbers of their lines
+-- what is read of a text: statements, and the numbers of their lines
 abbrev pub Read : Type 0
 Read = List Statement × List ℕ
 
@@ -66,19 +66,19 @@ abbrev pub ended : Bool → ℕ → Result Read TextFault
 ended true n = Ok ([], [])
 ended false n = Err (record { line = n; code = Truncated })
 
--- the lines one after the other: `before` are the statements before them, and n lines stand before them
+-- what these lines give after n lines with the statements `before`: the session's statements, or the first fault
 unfoldable pub reading : Scale → List Statement → ℕ → List (List ℕ) → Result Read TextFault
 reading scale before n [] = ended (is_over before) n
 reading scale before n (line ∷ lines) =
     at_line (n + 1) (line_reading scale before line) >>= λ statement. reading scale (with_statement before statement) (n + 1) lines
     >>= λ r. Ok (in_front (n + 1) statement r)
 
--- the one operand
+-- the operand, if exactly one was read
 abbrev pub only_operand : Option (List Operand) → Result Operand Code
 only_operand (Some (o ∷ [])) = Ok o
 only_operand found = Err Syntax
 
--- the two operands
+-- the two operands, if exactly two were read
 abbrev pub both_operands : Option (List Operand) → Result (Operand × Operand) Code
 both_operands (Some (o ∷ (p ∷ []))) = Ok (o, p)
 both_operands found = Err Syntax

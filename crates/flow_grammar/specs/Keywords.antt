@@ -1,4 +1,4 @@
--- The words that begin statements and operations: one table for reading them and for spelling them.
+-- The words that begin statements and operations: one table, for reading them and for spelling them.
 use Rattle.std.specs.Prelude.{ℕ, List, [], ◌∷◌, codes, Option}
 use Rattle.std.specs.List.{find}
 use Rattle.flow_grammar.specs.declared.keyword.Keyword.{Keyword}
@@ -7,7 +7,7 @@ use Rattle.flow_grammar.specs.declared.keyword.Verb.{Verb}
 use Rattle.flow_grammar.specs.declared.keyword.Verb.TheVariants as verb
 use Rattle.flow_grammar.specs.Tokens.{Token, is_word}
 
--- the words of statements
+-- the word of each kind of statement
 abbrev pub keyword_word : Keyword → List ℕ
 keyword_word keyword.Flow = codes "flow"
 keyword_word keyword.Source = codes "source"
@@ -35,11 +35,11 @@ keywords =
     keyword.End
     ∷ []
 
--- the keyword that a token is
+-- the keyword that a token is, if it is one
 unfoldable pub keyword_of : Token → Option Keyword
 keyword_of token = find (λ k. is_word token (keyword_word k)) keywords
 
--- the words of operations
+-- the word of each kind of operation
 abbrev pub verb_word : Verb → List ℕ
 verb_word verb.Set = codes "set"
 verb_word verb.Load = codes "load"
@@ -56,6 +56,6 @@ verbs =
     verb.Set ∷ verb.Load ∷ verb.Store ∷ verb.Read ∷ verb.Write ∷ verb.TryRead ∷ verb.TryWrite ∷ verb.Empty
     ∷ verb.Full ∷ []
 
--- the verb that a token is
+-- the verb that a token is, if it is one
 unfoldable pub verb_of : Token → Option Verb
 verb_of token = find (λ k. is_word token (verb_word k)) verbs

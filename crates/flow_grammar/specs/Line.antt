@@ -1,5 +1,5 @@
--- One line, worked out: its statement depends on that line and on the version that is declared before it, and the first test that
--- it fails on all statements before it and on the scale.
+-- What one line gives, computed. Its statement depends on the line and on the version that is declared before it. The first test
+-- that it fails depends on all statements before it too, and on the scale.
 use Rattle.std.specs.Prelude.{List, [], ◌∷◌, reverse, Option, None, Some, if◌then◌else◌}
 use Rattle.std.specs.List.{list_all}
 use Rattle.flow_design.specs.declared.limits.Scale.{Scale}
@@ -12,7 +12,7 @@ use Rattle.flow_grammar.specs.Forms.{statement_of}
 use Rattle.flow_grammar.specs.Places.{may_follow}
 use Rattle.flow_grammar.specs.Rules.{statement_fault}
 
--- the tests of a statement that is written at a place, `earlier` being those before it, the latest first
+-- the first test that a statement fails after the statements `earlier`, the latest first; `Syntax` where there is no statement
 abbrev pub form_fault : Scale → List Statement → Option Statement → Option Code
 form_fault scale earlier None = Some Syntax
 form_fault scale earlier (Some s) = if may_follow earlier s then statement_fault scale earlier s else Some Syntax
@@ -25,6 +25,6 @@ tokens_fault scale earlier (t ∷ ts) = form_fault scale earlier (statement_of (
 unfoldable pub statement_in : List Statement → Line → Option Statement
 statement_in before line = statement_of (version (reverse before)) (tokens_of line)
 
--- the first test that a line fails, where these statements stand before it
+-- the first test that a line fails after the statements `before`
 unfoldable pub line_fault : Scale → List Statement → Line → Option Code
 line_fault scale before line = if list_all is_permitted line then tokens_fault scale (reverse before) (tokens_of line) else Some NotAscii

@@ -1,4 +1,4 @@
--- A number, where it is in a range.
+-- A number, if it is in a range.
 use Rattle.std.specs.Prelude.{ℕ, ◌&&◌, nat_le, if◌then◌else◌, Option, None, Some}
 
 abbrev pub number_within : ℕ → ℕ → ℕ → Option ℕ

@@ -1,4 +1,4 @@
--- Expressions as the reader keeps them: one that fails a test is no more than the first test that it fails.
+-- Expressions as the reader keeps them: of one that fails a test it keeps only the first test that it fails.
 use Rattle.std.specs.Prelude.{◌≡◌, ℕ, ◌+◌, ◌^◌, max, Bool, true, false, List, ◌∷◌, ◌&&◌, nat_le, nat_lt, if◌then◌else◌, not, Option, None}
 use Rattle.std.specs.Prelude.{Some}
 use Rattle.flow_design.specs.declared.limits.TheConstants.{EXPRESSION_NODES, EXPRESSION_DEPTH}
@@ -21,14 +21,14 @@ use Rattle.flow_grammar.specs.Numbers.{number_within}
 use Rattle.flow_grammar.specs.Tokens.{is_number, is_name, number_of}
 use Rattle.flow_grammar.specs.Operators.{operator_of}
 
--- the earlier of two tests that an expression may fail
+-- the earlier of two tests that an expression may fail, in the order in which they are tried
 unfoldable pub earlier : Code → Code → Code
 earlier BadNumber d = BadNumber
 earlier UnknownName BadNumber = BadNumber
 earlier UnknownName d = UnknownName
 earlier c d = d
 
--- a tree with so many nodes, so deep
+-- a tree with so many nodes and levels, or the code for too many
 abbrev pub sized : Expr (List ℕ) → ℕ → ℕ → Operand
 sized tree nodes depth = if nat_le nodes EXPRESSION_NODES && nat_le depth EXPRESSION_DEPTH then Whole tree nodes depth else Faulty TooMany
 
@@ -39,7 +39,7 @@ unfoldable pub one : UnOp → Operand → Operand
 one o (Whole a n d) = sized (Unary o a) (1 + n) (1 + d)
 one o (Faulty c) = Faulty c
 
--- the earlier of a test and of that which an operand fails, if any
+-- the earlier of a test and the test that an operand fails, if it fails one
 unfoldable pub earlier_of : Code → Operand → Code
 earlier_of c (Whole a n d) = c
 earlier_of c (Faulty d) = earlier c d
@@ -69,7 +69,7 @@ choose (Whole a n d) (Whole b m e) (Faulty z) = Faulty z
 choose (Whole a n d) (Faulty y) c = Faulty (earlier_of y c)
 choose (Faulty x) b c = Faulty (earlier_of (earlier_of x b) c)
 
--- what a layer is seen as, by what its operands are
+-- the operand that a layer of an expression makes of its operands
 abbrev pub layer_seen : (List ℕ → Bool) → Expr-F (List ℕ) Operand → Operand
 layer_seen known (Expr-F.Number n) = numbered n
 layer_seen known (Expr-F.Var name) = named known name
@@ -81,7 +81,7 @@ layer_seen known (Expr-F.Pick a b c) = choose a b c
 unfoldable pub seen : (List ℕ → Bool) → Expr (List ℕ) → Operand
 seen known = fold-Expr (List ℕ) Operand (layer_seen known)
 
--- the same steps as those of trees
+-- operands on a stack, for the steps that trees take too
 abbrev pub Stacked : Type 0
 Stacked = List Operand
 
@@ -106,19 +106,19 @@ take_token known token behind stack =
     else if is_name token then Some (named known token ∷ stack)
     else apply_if (operator_of token) behind stack
 
--- what a step on the stack did: it took the token, or nothing can be made of it
+-- a step on the stack either took the token, and this is the stack then, or no expression can be made
 abbrev pub Takes : Bool → Stacked → Option Stacked → Type 0
 Takes true new found = found ≡ Some new
 Takes false new found = found ≡ None
 
--- ---- what this comes to
+-- ---- the operand of a whole expression
 
--- the name is a known one
+-- the name in this part, if there is one, is known
 abbrev pub is_known_by : (Name → Bool) → Part → Bool
 is_known_by known (Use sort name) = known name
 is_known_by known part = true
 
--- the first test that an expression fails, or the expression with its size
+-- the operand of an expression: the first test that it fails, or the expression with its size
 unfoldable pub kept : (Name → Bool) → Expr Name → Operand
 kept known e =
     if not (list_all is_in_range (expr_parts e)) then Faulty BadNumber

@@ -1,4 +1,4 @@
--- The operator tokens: one table for reading them and for spelling them.
+-- The operator tokens: one table, for reading them and for spelling them.
 use Rattle.std.specs.Prelude.{ℕ, List, [], ◌∷◌, codes, Option}
 use Rattle.std.specs.List.{find}
 use Rattle.flow_design.specs.declared.expr.UnOp.TheVariants.{Not}
@@ -35,6 +35,6 @@ operators =
     One Not ∷ Two Add ∷ Two Sub ∷ Two Mul ∷ Two And ∷ Two Or ∷ Two Xor ∷ Two Shl ∷ Two Shr ∷ Two Eq ∷ Two Ne ∷ Two LtU ∷ Two LtS ∷ Two Div
     ∷ Two Rem ∷ Extend ∷ Choose ∷ []
 
--- the operator that a token is
+-- the operator that a token is, if it is one
 unfoldable pub operator_of : Token → Option Operator
 operator_of token = find (λ o. is_word token (operator_word o)) operators

@@ -19,25 +19,25 @@ use Rattle.flow_grammar.specs.Operators.{operator_word}
 abbrev pub Name : Type 0
 Name = List ℕ
 
--- the spaces of declared names
+-- the spaces of names: in each a name is declared at most once
 pub data Space : Type 0 where
   ChannelName ModuleName RegisterName MemoryName TempName BlockName : Space
 
--- what a name is wanted to be
+-- the sorts of declared names that a statement may use
 pub data Sort : Type 0 where
   AnyChannel ASource AFifo ARegister AMemory AVariable : Sort
 
--- what one token of a line is
+-- the part of a statement that one token writes
 pub data Part : Type 0 where
-  -- this word
+  -- a fixed word
   Word : List ℕ → Part
   -- a new name in this space
   New : Space → Name → Part
-  -- a name of this sort, declared before
+  -- a name of this sort that is declared before
   Use : Sort → Name → Part
-  -- a block's name, which may be declared later
+  -- the name of a block, which may be declared later
   Label : Name → Part
-  -- a number, which is to be at least the first and at most the second
+  -- a number, which must be from the first number to the second
   Num : ℕ → ℕ → ℕ → Part
 
 -- ---- numbers by their ranges
@@ -48,7 +48,7 @@ width n = Num 1 64 n
 abbrev capacity : ℕ → Part
 capacity n = Num 1 FIFO_DEPTH n
 
--- a FIFO's delay, in clocks
+-- the delay of a FIFO, in clocks
 abbrev latency : ℕ → Part
 latency n = Num 1 FIFO_DELAY n
 
@@ -63,7 +63,7 @@ plain n = Num 0 (2 ^ 64 - 1) n
 
 -- ---- expressions, in prefix form
 
--- a layer of an expression, whose operands have these parts
+-- the parts of a layer of an expression, whose operands have these parts
 abbrev pub layer_parts : Expr-F Name (List Part) → List Part
 layer_parts (Expr-F.Number n) = plain n ∷ []
 layer_parts (Expr-F.Var name) = Use AVariable name ∷ []
@@ -94,14 +94,14 @@ guard_parts (Some r) = Word (codes "if") ∷ Use AVariable r ∷ []
 
 -- ---- FIFOs
 
--- what stands for a depth and a delay that are not written
+-- the depth, and then the delay, of a FIFO for which it is not written
 abbrev pub default_depth : ℕ
 default_depth = 2
 
 abbrev pub default_delay : ℕ
 default_delay = 1
 
--- a FIFO with neither, with its depth alone, and with both
+-- the parts of a FIFO: without depth and delay, with a depth, and with both
 abbrev pub bare_parts : Name → ℕ → List Part
 bare_parts n w = Word (keyword_word keyword.Fifo) ∷ New ChannelName n ∷ width w ∷ []
 

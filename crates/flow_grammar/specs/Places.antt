@@ -1,4 +1,4 @@
--- Which statement may stand where.
+-- Which statements may stand at which place.
 use Rattle.std.specs.Prelude.{Bool, true, false, List, [], ◌∷◌}
 use Rattle.flow_design.specs.declared.session.Statement.{Statement}
 use Rattle.flow_design.specs.declared.session.Statement.TheVariants.{Flow, Source, Sink, Fifo, Module, Reg, Mem, Block, Loop, Temp, At}
@@ -7,7 +7,7 @@ use Rattle.flow_grammar.specs.declared.place.Place.{Place}
 use Rattle.flow_grammar.specs.declared.place.Place.TheVariants.{AtStart, AmongChannels, AmongRegisters, AmongTemps, AmongOperations}
 use Rattle.flow_grammar.specs.declared.place.Place.TheVariants.{AfterBody, AmongInputs, AmongEdits, AtEnd}
 
--- where a statement leads
+-- the place after a statement
 abbrev pub place_after : Statement → Place
 place_after (Flow n) = AmongChannels
 place_after (Source n w) = AmongChannels
@@ -28,17 +28,17 @@ place_after (Limits c o) = AmongEdits
 place_after (Depth n d) = AmongEdits
 place_after End = AtEnd
 
--- the place behind these statements, the latest first
+-- the place after these statements, the latest first
 abbrev pub place : List Statement → Place
 place [] = AtStart
 place (s ∷ earlier) = place_after s
 
--- where `flow` may stand
+-- `flow` may stand at this place
 abbrev pub takes_flow : Place → Bool
 takes_flow AtStart = true
 takes_flow p = false
 
--- where a source, a sink or a FIFO may stand
+-- a source, a sink or a FIFO may stand at this place
 abbrev pub takes_channels : Place → Bool
 takes_channels AmongChannels = true
 takes_channels p = false
@@ -48,12 +48,12 @@ takes_modules AmongChannels = true
 takes_modules AfterBody = true
 takes_modules p = false
 
--- where a register or a memory may stand
+-- a register or a memory may stand at this place
 abbrev pub takes_registers : Place → Bool
 takes_registers AmongRegisters = true
 takes_registers p = false
 
--- where a block or a loop may stand
+-- a block or a loop may stand at this place
 abbrev pub takes_blocks : Place → Bool
 takes_blocks AmongRegisters = true
 takes_blocks AfterBody = true
@@ -63,20 +63,20 @@ abbrev pub takes_temps : Place → Bool
 takes_temps AmongTemps = true
 takes_temps p = false
 
--- where an operation or a terminator may stand
+-- an operation or a terminator may stand at this place
 abbrev pub takes_operations : Place → Bool
 takes_operations AmongTemps = true
 takes_operations AmongOperations = true
 takes_operations p = false
 
--- where `input` and `limits` may stand
+-- `input` or `limits` may stand at this place
 abbrev pub takes_inputs : Place → Bool
 takes_inputs AmongChannels = true
 takes_inputs AfterBody = true
 takes_inputs AmongInputs = true
 takes_inputs p = false
 
--- where `depth` and `end` may stand
+-- `depth` or `end` may stand at this place
 abbrev pub takes_edits : Place → Bool
 takes_edits AmongChannels = true
 takes_edits AfterBody = true
@@ -84,12 +84,12 @@ takes_edits AmongInputs = true
 takes_edits AmongEdits = true
 takes_edits p = false
 
--- nothing may stand behind `end`
+-- this is the place after `end`, where nothing may stand
 abbrev pub is_end : Place → Bool
 is_end AtEnd = true
 is_end p = false
 
--- which statement may stand at a place
+-- the statement may stand at this place
 abbrev pub may_stand : Statement → Place → Bool
 may_stand (Flow n) p = takes_flow p
 may_stand (Source n w) p = takes_channels p
@@ -110,6 +110,6 @@ may_stand (Limits c o) p = takes_inputs p
 may_stand (Depth n d) p = takes_edits p
 may_stand End p = takes_edits p
 
--- the statement may stand behind these
+-- the statement may stand after these, the latest first
 unfoldable pub may_follow : List Statement → Statement → Bool
 may_follow earlier s = may_stand s (place earlier)

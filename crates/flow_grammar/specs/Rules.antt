@@ -1,4 +1,5 @@
--- The rules of reading for one statement: the first that it breaks after the statements before it, which are given the latest first.
+-- The rules of reading for one statement: the first rule that it breaks after the statements before it, which are given the latest
+-- first.
 use Rattle.std.specs.Prelude.{◌≡◌, ℕ, ◌+◌, Bool, true, List, ◌++◌, ◌&&◌, ◌||◌, ◌==◌, not, nat_le, nat_lt, reverse, take, slice_get, Option}
 use Rattle.std.specs.Prelude.{None, Some, length, if◌then◌else◌}
 use Rattle.std.specs.List.{list_all}
@@ -24,7 +25,7 @@ use Rattle.flow_grammar.specs.Before.{memory_words, operations, inputs, input_va
 
 -- ---- names and numbers
 
--- a name is one by its letters
+-- a name in this part has the letters of a name
 abbrev pub is_well_named : Part → Bool
 is_well_named (New space name) = is_name name
 is_well_named (Use sort name) = is_name name
@@ -44,11 +45,11 @@ is_within limits (Loop n ii l r) = nat_le ii limits.block_clocks && nat_le l lim
 is_within limits (Depth n d) = nat_le d limits.fifo_depth
 is_within limits s = true
 
--- its sizes are within the limits of the scale
+-- the sizes of a statement are within the limits of the scale
 abbrev pub is_sized : Scale → Statement → Bool
 is_sized scale s = is_within (limits_at scale) s
 
--- the names of a space that stand already: registers, memories and the body's temps share one
+-- the names that are declared in a space; registers, memories and the body's temps share one
 abbrev pub taken : List Statement → Space → List Name
 taken earlier ChannelName = channels earlier
 taken earlier ModuleName = modules earlier
@@ -61,12 +62,12 @@ abbrev pub is_new : List Statement → Part → Bool
 is_new earlier (New space name) = not (is_among (taken earlier space) name)
 is_new earlier part = true
 
--- the source has no input yet
+-- the statement is no second `input` for its source
 abbrev pub is_first_input : List Statement → Statement → Bool
 is_first_input earlier (Input n values) = not (is_among (inputs earlier) n)
 is_first_input earlier s = true
 
--- the names of a sort that are declared before
+-- the names of a sort that are declared
 abbrev pub named : List Statement → Sort → List Name
 named earlier AnyChannel = channels earlier
 named earlier ASource = sources earlier
@@ -81,11 +82,11 @@ is_known earlier part = true
 
 -- ---- counts
 
--- an expression within the limits of size and depth
+-- an expression has no more nodes and levels than the limits allow
 abbrev pub is_small : Expr Name → Bool
 is_small e = nat_le (nodes e) EXPRESSION_NODES && nat_le (depth e) EXPRESSION_DEPTH
 
--- each expression for itself
+-- each expression of an operation has no more nodes and levels than the limits allow
 abbrev pub has_small_trees : Op Name → Bool
 has_small_trees (op.Set r e) = is_small e
 has_small_trees (op.Load r m e) = is_small e
@@ -94,7 +95,7 @@ has_small_trees (op.Write f e) = is_small e
 has_small_trees (op.TryWrite f ok e) = is_small e
 has_small_trees o = true
 
--- with this statement there are not too many of its kind
+-- with this statement the limits of the scale allow as many of its kind
 abbrev pub has_room : Scale → List Statement → Statement → Bool
 has_room scale earlier (Source n w) = nat_lt (length (channels earlier)) (limits_at scale).channels
 has_room scale earlier (Sink n w) = nat_lt (length (channels earlier)) (limits_at scale).channels
@@ -113,7 +114,7 @@ has_room scale earlier s = true
 
 -- ---- versions
 
--- a statement of this version: before FIFOs had delays, each of them had the delay 1
+-- the statement is one of this version: before FIFOs had delays, each of them had the delay 1
 abbrev pub fits_version : ℕ → Statement → Bool
 fits_version v (Fifo n w depth delay) = has_delays v || (delay == default_delay)
 fits_version v s = true
@@ -136,22 +137,22 @@ statement_fault scale earlier s =
 
 -- ---- sessions that keep the rules
 
--- a session that is over: its last statement is `end`
+-- the session is complete: its last statement is `end`
 unfoldable pub is_over : List Statement → Bool
 is_over statements = is_end (place (reverse statements))
 
--- a statement that keeps the rules behind these statements
+-- a statement keeps the rules after these statements
 pub record KeepsRules (scale : Scale) (before : List Statement) (s : Statement) : Type 0 where
-  -- its names are names
+  -- the names in it have the letters of names
   pub well_named : list_all is_well_named (parts s) ≡ true
   -- it is a statement of the version that is declared before it
   pub fits : fits_version (version (reverse before)) s ≡ true
-  -- it may stand here
+  -- it may stand after the statements before it
   pub permitted : may_follow (reverse before) s ≡ true
-  -- its numbers, its new names, the names that it uses and the counts are in order at this scale
+  -- its numbers are in range, its new names are new, the names that it uses are declared, and it is not one too many
   pub faultless : statement_fault scale (reverse before) s ≡ None
 
--- a whole session that keeps them, as each session that a text stands for does
+-- each statement of a whole session keeps the rules; so it is with each session that a text stands for
 pub record KeepsReadingRules (scale : Scale) (statements : List Statement) : Type 0 where
   pub each : (i : ℕ) (s : Statement) → slice_get statements i ≡ Some s → KeepsRules scale (take i statements) s
   pub over : is_over statements ≡ true

@@ -6,7 +6,7 @@ use Rattle.std.specs.Str.{bytes_eq}
 use Rattle.std.specs.Str.Parse.{digits_value}
 use Rattle.flow_design.specs.Names as names
 
--- the bytes of a line, and of a token
+-- the bytes of a line; and then, of a token
 abbrev pub Line : Type 0
 Line = List ℕ
 
@@ -20,14 +20,14 @@ is_line_feed b = b == 10
 abbrev pub lines_of : List ℕ → List Line
 lines_of text = slice_split is_line_feed text
 
--- a byte that may stand in a line
+-- the byte may stand in a line
 abbrev pub is_permitted : ℕ → Bool
 is_permitted b = (b == 9) || ((b == 13) || (nat_le 32 b && nat_le b 126))
 
 abbrev pub is_separator : ℕ → Bool
 is_separator b = (b == 9) || ((b == 13) || (b == 32))
 
--- a byte of a token or a comment
+-- the byte belongs to a token or a comment, and separates nothing
 abbrev pub is_filler : ℕ → Bool
 is_filler b = not (is_separator b)
 
@@ -35,24 +35,24 @@ abbrev pub is_filled : Token → Bool
 is_filled [] = false
 is_filled (b ∷ bs) = true
 
--- the token does not begin with #
+-- the token does not begin with `#`
 abbrev pub is_no_comment : Token → Bool
 is_no_comment [] = true
 is_no_comment (b ∷ bs) = not (b == 35)
 
--- the tokens of a line: its parts between separators that are not empty, up to the first that begins with #
+-- the tokens of a line: its non-empty parts between separators, up to the first that begins with `#`
 unfoldable pub tokens_of : Line → List Token
 tokens_of line = take_while is_no_comment (filter is_filled (slice_split is_separator line))
 
--- a number: digits, and at least one
+-- the token is a number: it has digits only, and at least one
 unfoldable pub is_number : Token → Bool
 is_number token = is_filled token && list_all is_ascii_digit token
 
--- what a number stands for, whatever leading zeros it has
+-- the number that a token writes, whatever leading zeros it has
 abbrev pub number_of : Token → ℕ
 number_of token = digits_value 10 token
 
--- a name: letters, digits and _, 1 to 64 of them, not beginning with a digit, and not `sext`
+-- the token is a name: 1 to 64 letters, digits and underscores, not beginning with a digit, and not `sext`
 unfoldable pub is_name : Token → Bool
 is_name token = names.is_name token
 

@@ -1,4 +1,4 @@
--- Expressions in prefix form: the tokens from the last to the first make up trees.
+-- Expressions in prefix form: the tokens, from the last to the first, make up trees.
 use Rattle.std.specs.Prelude.{List, [], ◌∷◌, if◌then◌else◌, Option, None, Some}
 use Rattle.std.specs.Option.{option_and_then}
 use Rattle.flow_design.specs.declared.expr.Expr.{Expr}
@@ -12,12 +12,12 @@ use Rattle.flow_grammar.specs.Operators.{operator_of}
 abbrev pub Trees : Type 0
 Trees = List (Expr Name)
 
--- `sext`: the token behind it is the number of bits, and no operand
+-- `sext` on the first tree: the token after it is the number of bits, and no operand
 abbrev pub extended : List Token → Trees → Option Trees
 extended (k ∷ behind) (number ∷ a ∷ trees) = if is_number k then Some (Sext (number_of k) a ∷ trees) else None
 extended behind trees = None
 
--- an operator takes its operands from the front
+-- an operator on the first trees, as many as it has operands
 abbrev pub applied : Operator → List Token → Trees → Option Trees
 applied (One o) behind (a ∷ trees) = Some (Unary o a ∷ trees)
 applied (Two o) behind (a ∷ b ∷ trees) = Some (Binary o a b ∷ trees)
@@ -29,14 +29,14 @@ abbrev pub applied_if : Option Operator → List Token → Trees → Option Tree
 applied_if None behind trees = None
 applied_if (Some o) behind trees = applied o behind trees
 
--- a token in front of these
+-- the trees with one more token in front
 unfoldable pub with_token : Token → List Token → Trees → Option Trees
 with_token token behind trees =
     if is_number token then Some (Number (number_of token) ∷ trees)
     else if is_name token then Some (Var token ∷ trees)
     else applied_if (operator_of token) behind trees
 
--- the expressions that tokens write, one after the other
+-- the expressions that tokens write one after the other; none where they write no expressions
 unfoldable pub trees_of : List Token → Option Trees
 trees_of [] = Some []
 trees_of (token ∷ behind) = option_and_then (with_token token behind) (trees_of behind)

@@ -1,4 +1,4 @@
--- Texts that differ in the version of the language alone.
+-- Texts that differ only in the version of the language.
 use Rattle.std.specs.Prelude.{◌≡◌, ℕ, List, ◌∷◌, ◌++◌}
 use Rattle.flow_design.specs.declared.session.Statement.{Statement}
 use Rattle.flow_design.specs.declared.session.Statement.TheVariants.{Flow}
@@ -17,7 +17,7 @@ pub record DifferInVersion (first second : List ℕ) : Type 0 where
   pub says_one : Spelled (tokens_of one) (parts (Flow 1))
   pub says_two : Spelled (tokens_of two) (parts (Flow 2))
 
--- the statements differ in the version alone
+-- the statements differ only in the version
 pub record SameButVersion (first second : List Statement) : Type 0 where
   pub behind : List Statement
   pub first_are : first ≡ Flow 1 ∷ behind

@@ -11,36 +11,36 @@ pub enum Code {
     TooLong = 1,
     /// A byte of the line is not 9, 13 or 32 to 126.
     NotAscii = 2,
-    /// The line's tokens are no statement that may stand at this place.
+    /// The line's tokens write no statement that may stand at this place.
     Syntax = 3,
     /// A number is out of its range.
     BadNumber = 4,
-    /// A declared name stands already in its space, or a source has its inputs already.
+    /// A new name is declared already in its space, or a source has its inputs already.
     DoubleName = 5,
-    /// A name is not declared before, or is not what is wanted here.
+    /// A name is not declared before, or is not of the sort that is needed here.
     UnknownName = 6,
     /// A limit of `limits` is out of its range.
     BadLimit = 7,
-    /// A channel has not the readers and writers that it must have.
+    /// A channel does not have the readers and writers that it must have.
     Ends = 8,
-    /// Two operations of a body pop, or push, one channel in one clock.
+    /// Two operations of a body pop the same channel, or push it, in the same clock.
     PortClash = 9,
-    /// A loop's length is less than its interval, or so many times it that too many iterations are live at once.
+    /// A loop's LEN is less than its II, or so much more that too many iterations are live at once.
     BadLoop = 10,
-    /// An operation's offset is not below its block's length.
+    /// An operation's offset is not below its block's LEN.
     BadOffset = 11,
     /// The text has no `end`.
     Truncated = 12,
-    /// The line is one too many of its kind, the memories have too many words, or an expression is too large.
+    /// The line's statement is one too many of its kind, the memories have too many words, or an expression is too large.
     TooMany = 13,
-    /// An `empty` does not stand in its channel's reader, or a `full` not in its writer.
+    /// An `empty` is not in the module that pops its channel, or a `full` not in the one that pushes it.
     WrongSide = 14,
 }
 
-/// A refusal: a test that fails, and the number of the line that fails it.
+/// A refusal: the test that fails, and the line that fails it.
 #[derive(Clone, Copy, Debug, PartialEq, Eq)]
 pub struct TextFault {
-    /// Lines are numbered from 1. It is 0 where the text is too long.
+    /// The number of the line, counted from 1; 0 where the text is too long.
     pub line: u64,
     pub code: Code,
 }
@@ -51,7 +51,7 @@ pub enum ReadFail {
     /// The text is refused.
     #[error("the text is refused")]
     Text(TextFault),
-    /// There was no memory to read it.
+    /// A request for memory was refused.
     #[error("out of memory")]
     OutOfMemory,
 }
@@ -62,7 +62,7 @@ pub enum LineFail {
     /// The line fails this test.
     #[error("the line is refused")]
     Fault(Code),
-    /// There was no memory to read it.
+    /// A request for memory was refused.
     #[error("out of memory")]
     OutOfMemory,
 }

@@ -28,7 +28,7 @@ pub enum Keyword {
 }
 
 impl Keyword {
-    /// The keyword's letters.
+    /// The letters of the keyword.
     pub fn word(self) -> &'static [u8]
         ensures { result.now ≡ keyword_word self }
     {
@@ -70,7 +70,7 @@ pub enum Verb {
 }
 
 impl Verb {
-    /// The keyword's letters.
+    /// The letters of the verb.
     pub fn word(self) -> &'static [u8]
         ensures { result.now ≡ verb_word self }
     {
@@ -88,7 +88,7 @@ impl Verb {
     }
 }
 
-/// The keyword that a token is.
+/// The keyword that a token is. `None` where it is none.
 #[tactic(auto, unfolding(crate::specs::Keywords::keyword_of))]
 pub fn keyword_in(token: &[u8]) -> Option<Keyword>
     ensures { result ≡ keyword_of token.now }
@@ -119,7 +119,7 @@ pub fn keyword_in(token: &[u8]) -> Option<Keyword>
         .find(|keyword| is_word(token, keyword.word()))
 }
 
-/// The verb that a token is.
+/// The verb that a token is. `None` where it is none.
 #[tactic(auto, unfolding(crate::specs::Keywords::verb_of))]
 pub fn verb_in(token: &[u8]) -> Option<Verb>
     ensures { result ≡ verb_of token.now }

@@ -10,7 +10,7 @@ use flow_design::{BinOp, Expr, Name, UnOp};
 use flow_word::{Boxed, OutOfMemory, Width};
 use std::alloc::Global;
 
-/// An expression, or the first test that it fails.
+/// An expression with its size, or the first test that it fails.
 #[derive(Debug, Drop)]
 pub enum Operand {
     Whole {
@@ -21,7 +21,7 @@ pub enum Operand {
     Faulty(Code),
 }
 
-/// The earlier of two tests that expressions may fail.
+/// The earlier of two tests that expressions may fail, in the order in which they are tried.
 #[tactic(auto, unfolding(crate::specs::Operands::earlier))]
 pub fn earlier_test(a: Code, b: Code) -> Code
     ensures { result ≡ earlier a b }
@@ -34,7 +34,7 @@ pub fn earlier_test(a: Code, b: Code) -> Code
     }
 }
 
-/// An expression with so many nodes, so deep, where these are within the limits.
+/// An expression with so many nodes and levels. Where one of these numbers is above its limit, it is the code for that.
 fn sized(tree: Expr<Name>, nodes: u64, depth: u64) -> Operand
     ensures { result ≡ sized tree nodes depth }
 {
@@ -45,7 +45,7 @@ fn sized(tree: Expr<Name>, nodes: u64, depth: u64) -> Operand
             depth: depth as u32,
         };
     }
-    // A call: a drop at the end of the block is proved field by field, which takes much longer.
+    // The drop is a call, since one at the end of the block is proved field by field, which takes much longer.
     drop(tree);
     Operand::Faulty(Code::TooMany)
 }
@@ -64,7 +64,7 @@ pub fn apply_one(alloc: Global, op: UnOp, a: Operand) -> Result<Operand, OutOfMe
     }
 }
 
-/// The earlier of a test and of that which an operand fails, if any.
+/// The earlier of a test and the test that an operand fails, if it fails one.
 #[tactic(auto, unfolding(crate::specs::Operands::earlier_of))]
 fn earlier_of(code: Code, operand: &Operand) -> Code
     ensures { result ≡ earlier_of code operand.now }
@@ -83,7 +83,7 @@ pub fn apply_two(alloc: Global, op: BinOp, a: Operand, b: Operand) -> Result<Ope
     match a {
         Operand::Faulty(code) => {
             let code = earlier_of(code, &b);
-            // A call: a drop at the end of the block is proved field by field, which takes much longer.
+            // The drop is a call, since one at the end of the block is proved field by field, which takes much longer.
             drop(b);
             Ok(Operand::Faulty(code))
         }
@@ -109,7 +109,7 @@ pub fn apply_two(alloc: Global, op: BinOp, a: Operand, b: Operand) -> Result<Ope
     }
 }
 
-/// The low bits of an operand, as many as the token says.
+/// `sext` on an operand, with a token for the number of bits.
 #[tactic(auto, unfolding(crate::specs::Operands::extend), using(crate::proofs::Numbers::number_read))]
 pub fn apply_extend(alloc: Global, bits: &[u8], a: Operand) -> Result<Operand, OutOfMemory>
     requires { is_number bits.now ≡ true }
@@ -121,7 +121,7 @@ pub fn apply_extend(alloc: Global, bits: &[u8], a: Operand) -> Result<Operand, O
     }
 }
 
-/// The low bits of an operand, as many as the width says.
+/// `sext` on an operand, with a width.
 fn widen(alloc: Global, width: Width, a: Operand) -> Result<Operand, OutOfMemory>
     ensures { IfOk result (λ operand. operand ≡ widened width a) }
 {
@@ -134,7 +134,7 @@ fn widen(alloc: Global, width: Width, a: Operand) -> Result<Operand, OutOfMemory
     }
 }
 
-/// A choice of three operands.
+/// `?:` on three operands.
 #[tactic(auto, unfolding(crate::specs::Operands::choose))]
 pub fn apply_choose(
     alloc: Global,
@@ -147,7 +147,7 @@ pub fn apply_choose(
     match a {
         Operand::Faulty(code) => {
             let code = earlier_of(earlier_of(code, &b), &c);
-            // Calls: a drop at the end of the block is proved field by field, which takes much longer.
+            // The drops are calls, since one at the end of the block is proved field by field, which takes much longer.
             drop(b);
             drop(c);
             Ok(Operand::Faulty(code))
@@ -160,7 +160,7 @@ pub fn apply_choose(
     }
 }
 
-/// A choice by an expression, which has so many nodes and is so deep, of two operands.
+/// `?:` on an expression, with its nodes and levels, and two operands.
 #[tactic(auto, unfolding(crate::specs::Operands::choose))]
 fn choose_of(
     alloc: Global,

@@ -5,7 +5,7 @@ ghost use Rattle.flow_grammar.specs.Operators.{operator_of, operator_word, binar
 use crate::words::is_word;
 use flow_design::{BinOp, UnOp};
 
-/// An operator token, by what it makes of the expressions behind it.
+/// An operator token, by what it does with the expressions that follow.
 #[derive(Clone, Copy, Debug, PartialEq, Eq)]
 pub enum Operator {
     /// An operator on one expression.
@@ -54,7 +54,7 @@ fn binary_word(op: BinOp) -> &'static [u8]
     }
 }
 
-/// The operator that a token is.
+/// The operator that a token is. `None` where it is none.
 #[tactic(auto, unfolding(crate::specs::Operators::operator_of))]
 pub fn operator_in(token: &[u8]) -> Option<Operator>
     ensures { result ≡ operator_of token.now }

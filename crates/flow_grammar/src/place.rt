@@ -1,27 +1,27 @@
-//! Places of a session.
+//! Places of a session, between its statements.
 ghost use Rattle.std.specs.Prelude.{◌≡◌};
 ghost use Rattle.flow_grammar.specs.Places as places;
 
-/// What stands before a line, by the sort of the last statement: which statements may follow.
+/// A place of a session, by the sort of the last statement before it. It determines which statements may follow.
 #[derive(Clone, Copy, Debug, PartialEq, Eq)]
 pub enum Place {
-    /// No statement stands before.
+    /// There is no statement before.
     AtStart,
-    /// `flow` or a channel.
+    /// The last statement is `flow` or a channel.
     AmongChannels,
-    /// A module, a register or a memory.
+    /// The last statement is a module, a register or a memory.
     AmongRegisters,
-    /// A block, a loop or a temp.
+    /// The last statement is a block, a loop or a temp.
     AmongTemps,
-    /// An operation.
+    /// The last statement is an operation.
     AmongOperations,
-    /// A terminator.
+    /// The last statement is a terminator.
     AfterBody,
-    /// An `input`.
+    /// The last statement is an `input`.
     AmongInputs,
-    /// `limits` or `depth`.
+    /// The last statement is `limits` or a `depth`.
     AmongEdits,
-    /// `end`.
+    /// The last statement is `end`.
     AtEnd,
 }
 

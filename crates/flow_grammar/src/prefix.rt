@@ -14,7 +14,7 @@ use flow_design::{BinOp, Expr, Name, UnOp};
 use flow_word::{OutOfMemory, read_number};
 use std::alloc::Global;
 
-/// Who knows which names are variables.
+/// Tells which names are known as variables.
 pub trait Known {
     ghost knows: { Self → List ℕ → Bool };
 
@@ -22,7 +22,7 @@ pub trait Known {
         ensures { result ≡ knows self.now name.now };
 }
 
-/// A number as an operand.
+/// The operand that a number is.
 #[tactic(auto, using(crate::proofs::Numbers::number_read))]
 fn number_operand(token: &[u8]) -> Operand
     requires { is_number token.now ≡ true }
@@ -38,7 +38,7 @@ fn number_operand(token: &[u8]) -> Operand
     }
 }
 
-/// A name as an operand.
+/// The operand that a name is.
 fn name_operand<K: Known>(alloc: Global, known: &K, token: &[u8]) -> Result<Operand, OutOfMemory>
     ensures { IfOk result (λ operand. operand ≡ named (K.knows known.now) token.now) }
 {
@@ -53,7 +53,7 @@ fn name_operand<K: Known>(alloc: Global, known: &K, token: &[u8]) -> Result<Oper
     }
 }
 
-/// An operator on the operand on top.
+/// Applies an operator to the operand on top of the stack. Whether there is one.
 fn take_one(
     alloc: Global,
     op: UnOp,
@@ -71,7 +71,7 @@ fn take_one(
     }
 }
 
-/// An operator on the two operands on top.
+/// Applies an operator to the two operands on top of the stack. Whether there are two.
 fn take_two(
     alloc: Global,
     op: BinOp,
@@ -92,7 +92,7 @@ fn take_two(
     }
 }
 
-/// A choice of the three operands on top.
+/// Applies `?:` to the three operands on top of the stack. Whether there are three.
 fn take_three(
     alloc: Global,
     behind: &[&[u8]],
@@ -115,7 +115,7 @@ fn take_three(
     }
 }
 
-/// `sext`: the token behind it is the number of bits.
+/// Applies `sext` to the operand on top of the stack. The token after it is the number of bits. Whether there are both.
 fn take_extend(
     alloc: Global,
     behind: &[&[u8]],
@@ -141,7 +141,7 @@ fn take_extend(
     }
 }
 
-/// A token in front of the others.
+/// Takes one more token, which stands in front of those that were taken. Whether the tokens still write expressions.
 #[tactic(auto, unfolding(crate::specs::Operands::take_token))]
 fn take<K: Known>(
     alloc: Global,
@@ -170,7 +170,8 @@ fn take<K: Known>(
     }
 }
 
-/// The expressions that tokens write, going from the last token to the first.
+/// The expressions that tokens write one after the other, the first one on top of the stack. The tokens are taken from the last to
+/// the first. `None` where they write no expressions.
 fn read_back<K: Known>(
     alloc: Global,
     known: &K,
@@ -191,8 +192,8 @@ fn read_back<K: Known>(
     Ok(Some(stack))
 }
 
-/// The expressions that tokens write, one after the other, the first on top of the stack: each is the first test that it
-/// fails, or is whole. `None` where the tokens write no expressions.
+/// The expressions that tokens write one after the other, the first one on top of the stack. Each is whole, or is the first test
+/// that it fails. `None` where the tokens write no expressions.
 #[tactic(auto, using(crate::proofs::Kept::kept_all))]
 pub fn operands<K: Known>(
     alloc: Global,
@@ -205,7 +206,7 @@ pub fn operands<K: Known>(
     Ok(found)
 }
 
-/// The one expression that tokens write.
+/// The expression that tokens write. The error is `Syntax` where they do not write exactly one.
 pub fn one_operand<K: Known>(
     alloc: Global,
     known: &K,
@@ -223,7 +224,7 @@ pub fn one_operand<K: Known>(
     }
 }
 
-/// The two expressions that tokens write.
+/// The two expressions that tokens write. The error is `Syntax` where they do not write exactly two.
 pub fn two_operands<K: Known>(
     alloc: Global,
     known: &K,

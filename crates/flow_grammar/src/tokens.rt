@@ -33,7 +33,7 @@ fn word_start(line: &[u8]) -> usize
     filler_at(line).unwrap_or(line.len())
 }
 
-/// Where the token at the front of a line ends.
+/// Where the token ends with which a line begins.
 #[tactic(auto, using(crate::proofs::TokenLemmas::first_places))]
 fn word_end(line: &[u8]) -> usize
     ensures value { result ≡ position_or_len is_separator line.now }
@@ -42,7 +42,7 @@ fn word_end(line: &[u8]) -> usize
     separator_at(line).unwrap_or(line.len())
 }
 
-/// The first token of a line, and the line behind it.
+/// The first token of a line, and the line after it. `None` where there is no token.
 fn first_token(line: &[u8]) -> Option<(&[u8], &[u8])>
     ensures token { MatchOption result (tokens_of line.now ≡ []) (λ found. tokens_of line.now ≡ found.0.now ∷ tokens_of found.1.now) }
     ensures shorter { IfSome result (λ found. length found.1.now < length line.now) }

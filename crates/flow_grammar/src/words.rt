@@ -1,4 +1,4 @@
-//! What a token is: a word, a number, a name.
+//! Tests of a token: whether it is a word, a number or a name.
 ghost use Rattle.std.specs.Prelude.{◌≡◌, true};
 ghost use Rattle.std.specs.List.{list_all};
 ghost use Rattle.std.specs.Char.{is_ascii_digit};
@@ -7,7 +7,7 @@ ghost use Rattle.flow_grammar.specs.Numbers.{number_within};
 
 use flow_word::{Width, read_number};
 
-/// Whether a token is this word.
+/// Whether a token is the given word.
 pub fn is_word(token: &[u8], word: &[u8]) -> bool
     ensures { result ≡ is_word token.now word.now }
 {
@@ -40,8 +40,8 @@ pub fn is_identifier(token: &[u8]) -> bool
     flow_design::is_name(token)
 }
 
-/// What a number stands for, where it is from the least to the greatest. Leading zeros are allowed, and it may be too large
-/// for a word.
+/// The number that a token writes, if it is from `least` to `most`; else `None`. Leading zeros are allowed, and the number may have
+/// more than 64 bits.
 #[tactic(auto, using(crate::proofs::Numbers::number_read))]
 pub fn number_in(token: &[u8], least: u64, most: u64) -> Option<u64>
     requires { is_number token.now ≡ true }
@@ -59,7 +59,7 @@ pub fn number_in(token: &[u8], least: u64, most: u64) -> Option<u64>
     }
 }
 
-/// A width, where the number is one.
+/// The width that a number is: `None` where it is none from 1 to 64.
 #[tactic(auto, using(crate::proofs::Numbers::number_read))]
 pub fn width_of(token: &[u8]) -> Option<Width>
     requires { is_number token.now ≡ true }

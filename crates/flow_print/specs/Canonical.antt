@@ -1,5 +1,5 @@
--- The canonical text of a session: one statement a line, one space between tokens, numbers without leading zeros, each FIFO's depth
--- written out, and its delay in the version that has delays.
+-- The canonical text of a session: one statement on each line, one space between tokens, numbers without leading zeros, each FIFO's
+-- depth written out, and its delay too in a version with delays.
 use Rattle.std.specs.Prelude.{ℕ, List, ◌∷◌, map, if◌then◌else◌}
 use Rattle.std.specs.Fmt.{decimal}
 use Rattle.std.specs.List.{flat_map}
@@ -9,7 +9,7 @@ use Rattle.flow_grammar.specs.Before.{has_delays}
 use Rattle.flow_grammar.specs.Parts.{Part, Word, New, Use, Label, Num, parts, depth_parts, fifo_parts}
 use Rattle.report_text.specs.Lines.{Token, text_of_lines}
 
--- the token of a part
+-- the token that writes a part
 abbrev pub token_of : Part → Token
 token_of (Word w) = w
 token_of (New space n) = n
@@ -17,24 +17,24 @@ token_of (Use sort n) = n
 token_of (Label n) = n
 token_of (Num least most n) = decimal n
 
--- the parts of a statement that are written in a version of the language
+-- the parts of a statement that are written under a version of the language
 abbrev pub written_parts : ℕ → Statement → List Part
 written_parts version (Fifo n w depth delay) = if has_delays version then fifo_parts n w depth delay else depth_parts n w depth
 written_parts version s = parts s
 
--- the tokens of a statement
+-- the tokens that write a statement under a version of the language
 abbrev pub tokens_of : ℕ → Statement → List Token
 tokens_of version s = map token_of (written_parts version s)
 
--- the version of a session, which its first statement declares
+-- the version that the first statement of a session declares; 1 where it is no `flow`
 abbrev pub version_of : List Statement → ℕ
 version_of (Flow v ∷ behind) = v
 version_of statements = 1
 
--- the text of statements
+-- the canonical text of these statements
 unfoldable pub canonical_text : List Statement → List ℕ
 canonical_text statements = text_of_lines (map (tokens_of (version_of statements)) statements)
 
--- parts that stand behind others in a line: each with a space before it
+-- parts as they follow others in a line: each with a space before it
 unfoldable pub spaced_parts : List Part → List ℕ
 spaced_parts ps = flat_map (λ p. 32 ∷ token_of p) ps

@@ -1,4 +1,4 @@
-//! Laws of canonical texts.
+//! The law of canonical texts.
 ghost use Rattle.std.specs.Prelude.{◌≤◌, List, ℕ, length};
 ghost use Rattle.std.specs.List.{range_with_len};
 ghost use Rattle.flow_design.specs.declared.limits.Scale.{Scale};
@@ -8,8 +8,8 @@ ghost use Rattle.flow_grammar.specs.Rules.{KeepsReadingRules};
 ghost use Rattle.flow_grammar.specs.Text.{StandsFor};
 ghost use Rattle.flow_print.specs.Canonical.{canonical_text};
 
-/// A canonical text that is not too long reads back: it stands for the session that it is the text of, with the statements on the
-/// lines 1, 2, 3 and so on. This holds of each session that keeps the rules of reading, and so of each that a text stands for.
+/// A canonical text reads back, unless it is too long: it stands for the session whose text it is, with the statements on the lines
+/// 1, 2, 3 and so on. This holds of each session that keeps the rules of reading, and so of each session that a text stands for.
 pub fn reads_back()
     ensures rules { (scale : Scale) (s : List Statement) → KeepsReadingRules scale s
         → length (canonical_text s) ≤ (limits_at scale).text_bytes

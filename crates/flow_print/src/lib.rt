@@ -1,4 +1,4 @@
-//! The canonical text of a session.
+//! Writing the canonical text of a session.
 #![tactic(auto)]
 
 mod expression;

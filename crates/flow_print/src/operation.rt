@@ -1,4 +1,4 @@
-//! Operations and their guards, as they stand behind the offset.
+//! Writing operations and their guards, after the offset.
 ghost use Rattle.std.specs.Prelude.{◌≡◌, ◌∷◌, ◌++◌, OnOk};
 ghost use Rattle.flow_grammar.specs.Parts.{guard_parts, op_parts};
 ghost use Rattle.flow_print.specs.Canonical.{spaced_parts};
@@ -9,7 +9,7 @@ use flow_grammar::Verb;
 use flow_word::{List, OutOfMemory};
 use report_text::push_token;
 
-/// Adds `if R`, where there is a guard.
+/// Adds `if R` for a guard, and nothing where there is none.
 #[tactic(auto, unfolding(crate::specs::Canonical::spaced_parts))]
 pub fn print_guard(text: &mut List<u8>, guard: &Option<Name>) -> Result<(), OutOfMemory>
     ensures { OnOk result (text.new ≡ text.old ++ spaced_parts (guard_parts guard.now)) }
@@ -20,7 +20,7 @@ pub fn print_guard(text: &mut List<u8>, guard: &Option<Name>) -> Result<(), OutO
     }
 }
 
-/// Adds an operation.
+/// Adds an operation, as it is written after its offset and guard.
 #[tactic(auto, using(crate::proofs::Printed::spaced_append), unfolding(crate::specs::Canonical::spaced_parts))]
 pub fn print_operation(text: &mut List<u8>, op: &Op<Name>) -> Result<(), OutOfMemory>
     ensures { OnOk result (text.new ≡ text.old ++ spaced_parts (op_parts op.now)) }

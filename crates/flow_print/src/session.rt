@@ -1,4 +1,4 @@
-//! Sessions, and their statements line by line.
+//! Writing sessions, statement by statement.
 ghost use Rattle.std.specs.Prelude.{◌≡◌, [], ◌∷◌, ◌++◌, codes, map, decimal, IfOk, OnOk};
 ghost use Rattle.report_text.specs.Lines.{line};
 ghost use Rattle.flow_grammar.specs.Keywords.{keyword_word};
@@ -12,8 +12,8 @@ use flow_word::{List, OutOfMemory};
 use report_text::{print_numbers, push_token, push_value, push_values};
 use std::alloc::Global;
 
-/// The canonical text of a session: one statement a line, one space between tokens, numbers without leading zeros, the depth of
-/// each FIFO written out, and its delay in the version that has delays.
+/// The canonical text of a session: one statement on each line, one space between tokens, numbers without leading zeros, the depth
+/// of each FIFO written out, and its delay too in a version with delays.
 #[tactic(auto, using(crate::proofs::Printed::next_line), unfolding(crate::specs::Canonical::canonical_text))]
 pub fn print_session(alloc: Global, session: &Session) -> Result<List<u8>, OutOfMemory>
     ensures { IfOk result (λ text. text ≡ canonical_text session.now.statements) }
@@ -27,7 +27,7 @@ pub fn print_session(alloc: Global, session: &Session) -> Result<List<u8>, OutOf
     Ok(text)
 }
 
-/// The version of a session, which its first statement declares.
+/// The version that the first statement of a session declares; 1 where it is no `flow`.
 fn version_of(statements: &[Statement]) -> u64
     ensures { result ≡ version_of statements.now }
 {
@@ -37,7 +37,7 @@ fn version_of(statements: &[Statement]) -> u64
     }
 }
 
-/// Adds the line of a statement, as it is written in this version of the language.
+/// Adds the line of a statement, in the form of this version of the language.
 #[tactic(auto, using(crate::proofs::Printed::input_line))]
 fn print_statement(
     text: &mut List<u8>,

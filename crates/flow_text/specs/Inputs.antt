@@ -10,11 +10,11 @@ use Rattle.flow_grammar.specs.Before.{is_among}
 use Rattle.name_tables.specs.declared.tables.Tables.{Tables}
 use Rattle.flow_grammar.specs.Places.{takes_inputs}
 
--- a number is a word
+-- the number is below 2^64, and so a word
 abbrev pub is_plain : ℕ → Bool
 is_plain n = nat_le 0 n && nat_le n (2 ^ 64 - 1)
 
--- the numbers, where each of them is a word
+-- these numbers, if each of them is a word
 abbrev pub words_within : List ℕ → Option (List ℕ)
 words_within ns = if list_all is_plain ns then Some ns else None
 
@@ -26,6 +26,6 @@ input_of_words t n (Some values) =
     else if nat_le (t.input_values + length values) t.limits.input_values then Ok (Input n values)
     else Err TooMany
 
--- what a name and its values give, where the values are words
+-- what an `input` with this name and these values gives; there are no values where one of them is no word
 abbrev pub input_reading : Tables → Name → Option (List ℕ) → Result Statement Code
 input_reading t n words = if takes_inputs t.place then input_of_words t n words else Err Syntax

@@ -1,4 +1,4 @@
--- Lines by the tables of the statements before them.
+-- What lines give, by the tables of the statements before them.
 use Rattle.std.specs.Prelude.{ℕ, ◌+◌, List, [], ◌∷◌, length, if◌then◌else◌, Option, None, Some, Result, Ok, Err}
 use Rattle.std.specs.List.{list_all}
 use Rattle.flow_design.specs.declared.session.Statement.{Statement}
@@ -10,31 +10,31 @@ use Rattle.name_tables.specs.declared.tables.Tables.{Tables}
 use Rattle.name_tables.specs.TablesOf.{accepted}
 use Rattle.name_tables.specs.TableTests.{reading_by}
 
--- a statement is what is said
+-- what a line says whose tokens give this: its statement, or the first test that it fails
 abbrev pub said_by : Result Statement Code → Result (Option Statement) Code
 said_by (Ok s) = Ok (Some s)
 said_by (Err c) = Err c
 
--- what the tokens of a line give: nothing where there is none, else the first test that they fail or their statement
+-- what the tokens of a line give: nothing where there is none, else their statement or the first test that they fail
 unfoldable pub tokens_reading_by : Tables → List Token → Result (Option Statement) Code
 tokens_reading_by t [] = Ok None
 tokens_reading_by t (x ∷ xs) = said_by (reading_by t (statement_of t.version (x ∷ xs)))
 
--- what a line gives
+-- what a line gives: what it says, or the first test that it fails
 unfoldable pub line_reading_by : Tables → Line → Result (Option Statement) Code
 line_reading_by t line = if list_all is_permitted line then tokens_reading_by t (tokens_of line) else Err NotAscii
 
--- the tables behind a line
+-- the tables after a line that says this
 abbrev pub accepted_if : Tables → Option Statement → Tables
 accepted_if t None = t
 accepted_if t (Some s) = accepted t s
 
--- the lines that are left
+-- the lines that are left to read
 abbrev pub lines_left : Option (List ℕ) → List Line
 lines_left None = []
 lines_left (Some rest) = lines_of rest
 
--- the bytes that are left, with one for the end
+-- how many bytes are left to read, counting one for the end
 abbrev pub bytes_left : Option (List ℕ) → ℕ
 bytes_left None = 0
 bytes_left (Some rest) = length rest + 1

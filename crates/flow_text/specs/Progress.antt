@@ -1,4 +1,4 @@
--- Where a reader of lines stands.
+-- How far a reader of lines is.
 use Rattle.std.specs.Prelude.{◌≡◌, ℕ, List, [], ◌++◌, reverse, Option, Result, Ok}
 use Rattle.flow_design.specs.declared.limits.Scale.{Scale}
 use Rattle.flow_design.specs.declared.session.Statement.{Statement}
@@ -8,18 +8,18 @@ use Rattle.flow_grammar.specs.Gives.{◌>>=◌, Read, reading, at_line, line_rea
 use Rattle.name_tables.specs.TablesOf.{tables_of}
 use Rattle.flow_text.specs.declared.progress.Progress.{Progress}
 
--- the tables are those of the statements so far, at the session's scale
+-- the tables are those of the statements that are read, at the session's scale
 abbrev pub IsKept : Progress → Type 0
 IsKept p = p.tables ≡ tables_of p.scale (reverse p.statements)
 
--- nothing is read so far of a session of this scale
+-- nothing is read yet of a session of this scale
 pub record IsOpening (scale : Scale) (p : Progress) : Type 0 where
   pub scale_is : p.scale ≡ scale
   pub tables : p.tables ≡ tables_of scale []
   pub statements : p.statements ≡ []
   pub numbers : p.numbers ≡ []
 
--- the line with this number is read behind what was read before
+-- the line with this number was read, after what was read before
 pub record IsAdded (old new : Progress) (number : ℕ) (line : Line) : Type 0 where
   pub said : Option Statement
   pub reads : at_line number (line_reading old.scale old.statements line) ≡ Ok said
@@ -28,11 +28,11 @@ pub record IsAdded (old new : Progress) (number : ℕ) (line : Line) : Type 0 wh
   pub same_scale : new.scale ≡ old.scale
   pub kept : IsKept new
 
--- what was read before, and what is still read
+-- what was read before, followed by what is still read
 abbrev pub with_front : List Statement → List ℕ → Result Read TextFault → Result Read TextFault
 with_front statements numbers read = read >>= λ r. Ok (statements ++ r.0, numbers ++ r.1)
 
--- all lines are read, so many, of a session of this scale
+-- all n lines of the text are read, as a session of this scale
 pub record IsThrough (scale : Scale) (text : List ℕ) (p : Progress) (n : ℕ) : Type 0 where
   pub same_scale : p.scale ≡ scale
   pub kept : IsKept p

@@ -1,4 +1,4 @@
-//! The forms of channels.
+//! Reading the statements of channels.
 ghost use Rattle.std.specs.Prelude.{◌≡◌, map, ◌&&◌, IfOk};
 ghost use Rattle.flow_design.specs.declared.session.Statement.TheVariants.{Source, Sink, Fifo};
 ghost use Rattle.flow_grammar.specs.Tokens.{is_number, is_name, number_of};
@@ -15,7 +15,7 @@ use flow_grammar::{Code, LineFail, is_identifier, is_numeral, number_in, width_o
 use name_tables::Tables;
 use std::alloc::Global;
 
-/// `source N W`, behind its keyword.
+/// `source N W`, after its keyword.
 #[tactic(auto, unfolding(name_tables::specs::TableTests::fault_by))]
 pub fn source<'a>(alloc: Global, tables: &mut Tables<'a>, tokens: &[&'a [u8]]) -> Parsed<Statement>
     requires { IsOfStatements tables.old }
@@ -36,7 +36,7 @@ pub fn source<'a>(alloc: Global, tables: &mut Tables<'a>, tokens: &[&'a [u8]]) -
     Ok(Statement::Source(Name::new(alloc, *name)?, width))
 }
 
-/// `sink N W`, behind its keyword.
+/// `sink N W`, after its keyword.
 #[tactic(auto, unfolding(name_tables::specs::TableTests::fault_by))]
 pub fn sink<'a>(alloc: Global, tables: &mut Tables<'a>, tokens: &[&'a [u8]]) -> Parsed<Statement>
     ensures given { LineGives (λ s. s) result (reading_by tables.old (name_width Sink (map (λ t. t.now) tokens.now))) }
@@ -56,7 +56,7 @@ pub fn sink<'a>(alloc: Global, tables: &mut Tables<'a>, tokens: &[&'a [u8]]) -> 
     Ok(Statement::Sink(Name::new(alloc, *name)?, width))
 }
 
-/// The FIFO of this name, width, depth and delay.
+/// A FIFO with this name, width, depth and delay.
 #[tactic(auto, unfolding(name_tables::specs::TableTests::fault_by))]
 fn new_fifo<'a>(
     alloc: Global,
@@ -94,7 +94,7 @@ fn new_fifo<'a>(
     })
 }
 
-/// The FIFO of this name, width and depth, of delay 1.
+/// A FIFO with this name, width and depth, and delay 1.
 #[tactic(auto, using(crate::proofs::FormLaws::without_delay))]
 fn new_depth_fifo<'a>(
     alloc: Global,
@@ -113,7 +113,7 @@ fn new_depth_fifo<'a>(
     new_fifo(alloc, tables, name, width, depth, b"1")
 }
 
-/// The FIFO of this name and width, of depth 2 and delay 1.
+/// A FIFO with this name and width, depth 2 and delay 1.
 #[tactic(auto, using(crate::proofs::FormLaws::without_depth))]
 fn new_bare_fifo<'a>(
     alloc: Global,
@@ -130,8 +130,8 @@ fn new_bare_fifo<'a>(
     new_fifo(alloc, tables, name, width, b"2", b"1")
 }
 
-/// `fifo N W`, `fifo N W DEPTH` or, in the version that has delays, `fifo N W DEPTH DELAY`, behind its keyword. A depth that
-/// is not written is 2, and a delay 1.
+/// `fifo N W`, `fifo N W DEPTH` or, in a version with delays, `fifo N W DEPTH DELAY`, after its keyword. A depth that is not
+/// written is 2, and a delay 1.
 #[tactic(auto, unfolding(flow_grammar::specs::Forms::fifo_of))]
 pub fn fifo<'a>(alloc: Global, tables: &mut Tables<'a>, tokens: &[&'a [u8]]) -> Parsed<Statement>
     requires { IsOfStatements tables.old }

@@ -1,4 +1,4 @@
-//! The forms of terminators, and of what stands in front of and behind the modules.
+//! Reading the terminators, and the statements before and after the modules.
 ghost use Rattle.std.specs.Prelude.{◌≡◌, map, IfOk};
 ghost use Rattle.flow_design.specs.declared.session.Statement.TheVariants.{Goto, Stop, Depth, End};
 ghost use Rattle.flow_grammar.specs.Forms.{name_width, one_name, flow_of, branch_of, limits_of, bare};
@@ -13,7 +13,7 @@ use flow_grammar::{Code, LineFail, NEWEST, Place, is_identifier, is_numeral, num
 use name_tables::Tables;
 use std::alloc::Global;
 
-/// `flow V`, behind its keyword.
+/// `flow V`, after its keyword.
 #[tactic(auto, unfolding(name_tables::specs::TableTests::fault_by, flow_grammar::specs::Forms::flow_of))]
 pub fn flow<'a>(tables: &mut Tables<'a>, tokens: &[&'a [u8]]) -> Parsed<Statement>
     ensures given { LineGives (λ s. s) result (reading_by tables.old (flow_of (map (λ t. t.now) tokens.now))) }
@@ -28,7 +28,7 @@ pub fn flow<'a>(tables: &mut Tables<'a>, tokens: &[&'a [u8]]) -> Parsed<Statemen
     Ok(Statement::Flow(version))
 }
 
-/// `goto N`, behind its keyword.
+/// `goto N`, after its keyword.
 #[tactic(auto, unfolding(name_tables::specs::TableTests::fault_by))]
 pub fn goto<'a>(alloc: Global, tables: &mut Tables<'a>, tokens: &[&'a [u8]]) -> Parsed<Statement>
     ensures given { LineGives (λ s. s) result (reading_by tables.old (one_name Goto (map (λ t. t.now) tokens.now))) }
@@ -42,7 +42,7 @@ pub fn goto<'a>(alloc: Global, tables: &mut Tables<'a>, tokens: &[&'a [u8]]) -> 
     Ok(Statement::Goto(Name::new(alloc, *block)?))
 }
 
-/// `branch R N N`, behind its keyword.
+/// `branch R N N`, after its keyword.
 #[tactic(auto, unfolding(name_tables::specs::TableTests::fault_by, flow_grammar::specs::Forms::branch_of))]
 pub fn branch<'a>(alloc: Global, tables: &mut Tables<'a>, tokens: &[&'a [u8]]) -> Parsed<Statement>
     ensures given { LineGives (λ s. s) result (reading_by tables.old (branch_of (map (λ t. t.now) tokens.now))) }
@@ -65,7 +65,7 @@ pub fn branch<'a>(alloc: Global, tables: &mut Tables<'a>, tokens: &[&'a [u8]]) -
     })
 }
 
-/// `stop`, behind its keyword.
+/// `stop`, after its keyword.
 #[tactic(auto, unfolding(name_tables::specs::TableTests::fault_by))]
 pub fn stop<'a>(tables: &mut Tables<'a>, tokens: &[&'a [u8]]) -> Parsed<Statement>
     ensures given { LineGives (λ s. s) result (reading_by tables.old (bare Stop (map (λ t. t.now) tokens.now))) }
@@ -76,7 +76,7 @@ pub fn stop<'a>(tables: &mut Tables<'a>, tokens: &[&'a [u8]]) -> Parsed<Statemen
     Ok(Statement::Stop)
 }
 
-/// `limits C OPS`, behind its keyword.
+/// `limits C OPS`, after its keyword.
 #[tactic(auto, unfolding(name_tables::specs::TableTests::fault_by, flow_grammar::specs::Forms::limits_of))]
 pub fn limits<'a>(tables: &mut Tables<'a>, tokens: &[&'a [u8]]) -> Parsed<Statement>
     ensures given { LineGives (λ s. s) result (reading_by tables.old (limits_of (map (λ t. t.now) tokens.now))) }
@@ -92,7 +92,7 @@ pub fn limits<'a>(tables: &mut Tables<'a>, tokens: &[&'a [u8]]) -> Parsed<Statem
     Ok(Statement::Limits { cycles, ops })
 }
 
-/// `depth N D`, behind its keyword.
+/// `depth N D`, after its keyword.
 #[tactic(auto, unfolding(name_tables::specs::TableTests::fault_by))]
 pub fn edit<'a>(alloc: Global, tables: &mut Tables<'a>, tokens: &[&'a [u8]]) -> Parsed<Statement>
     ensures given { LineGives (λ s. s) result (reading_by tables.old (name_width Depth (map (λ t. t.now) tokens.now))) }
@@ -110,7 +110,7 @@ pub fn edit<'a>(alloc: Global, tables: &mut Tables<'a>, tokens: &[&'a [u8]]) -> 
     Ok(Statement::Depth(Name::new(alloc, *fifo)?, depth))
 }
 
-/// `end`, behind its keyword.
+/// `end`, after its keyword.
 #[tactic(auto, unfolding(name_tables::specs::TableTests::fault_by))]
 pub fn end<'a>(tables: &mut Tables<'a>, tokens: &[&'a [u8]]) -> Parsed<Statement>
     ensures given { LineGives (λ s. s) result (reading_by tables.old (bare End (map (λ t. t.now) tokens.now))) }

@@ -1,17 +1,17 @@
-//! Tests that a line may fail.
+//! Failing tests of a line.
 ghost use Rattle.std.specs.Prelude.{◌≡◌, Ok, Err, if◌then◌else◌};
 ghost use Rattle.flow_grammar.specs.declared.fault.Code.TheVariants.{Syntax};
 ghost use Rattle.flow_grammar.specs.declared.fault.LineFail.TheVariants.{Fault};
 
 use flow_grammar::{Code, LineFail};
 
-/// What is read, or the first test that its line fails.
+/// A value that was read, or the first test that its line fails.
 pub type Parsed<T> = Result<T, LineFail>;
 
-/// What passes its own tests, or the first that it fails; what stands beside it may fail an earlier one.
+/// A value that passes its own tests, or the first test that it fails. Another part of the line may fail an earlier test.
 pub type Judged<T> = Result<T, Code>;
 
-/// Fails with this code unless the test holds.
+/// Fails with this code, unless the test holds.
 pub fn ensure(holds: bool, code: Code) -> Parsed<()>
     ensures { result ≡ (if holds then Ok tt else Err (Fault code)) }
 {
@@ -22,7 +22,7 @@ pub fn ensure(holds: bool, code: Code) -> Parsed<()>
     }
 }
 
-/// Is no statement that may stand here unless the test holds.
+/// Fails with `Syntax`, unless the test holds.
 pub fn syntax(holds: bool) -> Parsed<()>
     ensures { result ≡ (if holds then Ok tt else Err (Fault Syntax)) }
 {

@@ -1,4 +1,4 @@
-//! The form of `input`.
+//! Reading `input`.
 ghost use Rattle.std.specs.Prelude.{◌≡◌, true, map, ◌&&◌, IfOk, Some};
 ghost use Rattle.std.specs.List.{list_all};
 ghost use Rattle.flow_design.specs.declared.session.Statement.TheVariants.{Input};
@@ -30,7 +30,7 @@ fn are_numerals(tokens: &[&[u8]]) -> bool
     true
 }
 
-/// The numbers that tokens are, or `None` where one of them is too large for a word.
+/// The numbers that these tokens write. `None` where one of them is 2^64 or more.
 fn words_in(alloc: Global, tokens: &[&[u8]]) -> Result<Option<Words>, OutOfMemory>
     requires { list_all is_number (map (λ t. t.now) tokens.now) ≡ true }
     ensures { IfOk result (λ words. words ≡ words_within (map number_of (map (λ t. t.now) tokens.now))) }
@@ -47,7 +47,7 @@ fn words_in(alloc: Global, tokens: &[&[u8]]) -> Result<Option<Words>, OutOfMemor
     Ok(Some(words))
 }
 
-/// The input of this source, where its values are words.
+/// The input of a source with these values, each below 2^64, or the first test that it fails.
 fn given_input<'a>(
     alloc: Global,
     tables: &mut Tables<'a>,
@@ -70,7 +70,7 @@ fn given_input<'a>(
     Ok(Statement::Input(Name::new(alloc, name)?, words))
 }
 
-/// The input of this source, or its first failed test where its values may be no words.
+/// The input of a source with these values; or the first test that it fails, also where a value is 2^64 or more.
 fn kept_input<'a>(
     alloc: Global,
     tables: &mut Tables<'a>,
@@ -89,7 +89,7 @@ fn kept_input<'a>(
     }
 }
 
-/// The input of this source, with these values.
+/// The input of a source with these values.
 #[tactic(auto, using(crate::proofs::FormLaws::input_read))]
 fn new_input<'a>(
     alloc: Global,
@@ -109,7 +109,7 @@ fn new_input<'a>(
     kept_input(alloc, tables, name, words)
 }
 
-/// `input N V V V`, with any number of values, behind its keyword.
+/// `input N V V V`, with any number of values, after its keyword.
 #[tactic(auto, unfolding(flow_grammar::specs::Forms::input_of))]
 pub fn input<'a>(alloc: Global, tables: &mut Tables<'a>, tokens: &[&'a [u8]]) -> Parsed<Statement>
     ensures given { LineGives (λ s. s) result (reading_by tables.old (input_of (map (λ t. t.now) tokens.now))) }

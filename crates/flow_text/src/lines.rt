@@ -1,4 +1,4 @@
-//! One line.
+//! Reading one line.
 ghost use Rattle.std.specs.Prelude.{◌≡◌, ◌∷◌, map, IfOk, Ok};
 ghost use Rattle.std.specs.List.{list_all};
 ghost use Rattle.flow_grammar.specs.Tokens.{is_permitted};
@@ -19,7 +19,7 @@ use flow_grammar::{Code, Keyword, LineFail, keyword_in, tokens_in};
 use name_tables::Tables;
 use std::alloc::Global;
 
-/// The statement of a keyword, behind that keyword.
+/// The statement that tokens write after this keyword.
 fn form<'a>(
     alloc: Global,
     tables: &mut Tables<'a>,
@@ -52,7 +52,7 @@ fn form<'a>(
     }
 }
 
-/// The statement that a keyword and the tokens behind it write.
+/// The statement that a token, which must be a keyword, and the tokens after it write.
 #[tactic(auto, unfolding(flow_grammar::specs::Forms::statement_of))]
 fn statement_behind<'a>(
     alloc: Global,
@@ -100,7 +100,7 @@ fn is_permitted(byte: u8) -> bool
     byte == 9 || (byte == 13 || (32 <= byte && byte <= 126))
 }
 
-/// What a line says behind the statements of the tables, which then have its statement too.
+/// What a line says after the statements of these tables. The tables then have its statement too.
 #[tactic(auto, unfolding(crate::specs::Lines::line_reading_by))]
 pub fn line_statement<'a>(
     alloc: Global,

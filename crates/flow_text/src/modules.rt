@@ -1,4 +1,4 @@
-//! The forms of modules, registers, memories, blocks, loops and temps.
+//! Reading modules, registers, memories, blocks, loops and temps.
 ghost use Rattle.std.specs.Prelude.{◌≡◌, true, map, IfOk, Some};
 ghost use Rattle.flow_design.specs.declared.session.Statement.TheVariants.{Module, Reg, Block, Loop, Temp};
 ghost use Rattle.flow_grammar.specs.Tokens.{is_number, number_of};
@@ -14,7 +14,7 @@ use flow_grammar::{Code, LineFail, is_identifier, is_numeral, is_word, number_in
 use name_tables::Tables;
 use std::alloc::Global;
 
-/// `module N`, behind its keyword.
+/// `module N`, after its keyword.
 #[tactic(auto, unfolding(name_tables::specs::TableTests::fault_by))]
 pub fn module<'a>(alloc: Global, tables: &mut Tables<'a>, tokens: &[&'a [u8]]) -> Parsed<Statement>
     ensures given { LineGives (λ s. s) result (reading_by tables.old (one_name Module (map (λ t. t.now) tokens.now))) }
@@ -33,7 +33,7 @@ pub fn module<'a>(alloc: Global, tables: &mut Tables<'a>, tokens: &[&'a [u8]]) -
     Ok(Statement::Module(Name::new(alloc, *name)?))
 }
 
-/// `reg N W`, behind its keyword.
+/// `reg N W`, after its keyword.
 #[tactic(auto, unfolding(name_tables::specs::TableTests::fault_by))]
 pub fn register<'a>(
     alloc: Global,
@@ -57,7 +57,7 @@ pub fn register<'a>(
     Ok(Statement::Reg(Name::new(alloc, *name)?, width))
 }
 
-/// `mem N W LEN`, behind its keyword.
+/// `mem N W LEN`, after its keyword.
 #[tactic(auto, unfolding(name_tables::specs::TableTests::fault_by, flow_grammar::specs::Forms::mem_of))]
 pub fn memory<'a>(alloc: Global, tables: &mut Tables<'a>, tokens: &[&'a [u8]]) -> Parsed<Statement>
     ensures given { LineGives (λ s. s) result (reading_by tables.old (mem_of (map (λ t. t.now) tokens.now))) }
@@ -81,7 +81,7 @@ pub fn memory<'a>(alloc: Global, tables: &mut Tables<'a>, tokens: &[&'a [u8]]) -
     Ok(Statement::Mem(Name::new(alloc, *name)?, width, len))
 }
 
-/// `block N LEN`, behind its keyword.
+/// `block N LEN`, after its keyword.
 #[tactic(auto, unfolding(name_tables::specs::TableTests::fault_by))]
 pub fn block<'a>(alloc: Global, tables: &mut Tables<'a>, tokens: &[&'a [u8]]) -> Parsed<Statement>
     ensures given { LineGives (λ s. s) result (reading_by tables.old (name_width Block (map (λ t. t.now) tokens.now))) }
@@ -99,7 +99,7 @@ pub fn block<'a>(alloc: Global, tables: &mut Tables<'a>, tokens: &[&'a [u8]]) ->
     Ok(Statement::Block(Name::new(alloc, *name)?, len))
 }
 
-/// The loop of this name, II and LEN, which goes on while its register is not 0.
+/// A loop with this name, II and LEN, which goes on while its register is not 0.
 #[tactic(auto, unfolding(name_tables::specs::TableTests::fault_by))]
 fn new_loop<'a>(
     alloc: Global,
@@ -134,7 +134,7 @@ fn new_loop<'a>(
     })
 }
 
-/// `loop N II LEN while R`, behind its keyword.
+/// `loop N II LEN while R`, after its keyword.
 #[tactic(auto, unfolding(flow_grammar::specs::Forms::loop_of))]
 pub fn pipelined_loop<'a>(
     alloc: Global,
@@ -152,7 +152,7 @@ pub fn pipelined_loop<'a>(
     new_loop(alloc, tables, *name, *interval, *len, *register)
 }
 
-/// `temp N W`, behind its keyword.
+/// `temp N W`, after its keyword.
 #[tactic(auto, unfolding(name_tables::specs::TableTests::fault_by))]
 pub fn temp<'a>(alloc: Global, tables: &mut Tables<'a>, tokens: &[&'a [u8]]) -> Parsed<Statement>
     ensures given { LineGives (λ s. s) result (reading_by tables.old (name_width Temp (map (λ t. t.now) tokens.now))) }

@@ -1,4 +1,4 @@
-//! The forms of operations.
+//! Reading operations.
 ghost use Rattle.std.specs.Prelude.{◌≡◌, map, ◌&&◌};
 ghost use Rattle.flow_design.specs.declared.expr.Op.TheVariants as op;
 ghost use Rattle.flow_grammar.specs.Tokens.{is_name};
@@ -18,7 +18,7 @@ use flow_grammar::{
 use name_tables::Tables;
 use std::alloc::Global;
 
-/// The expression of an operand beside names that are known or not, or the first test that fails.
+/// The expression of an operand, or the first test that fails. `known` tells whether the names beside the expression are known.
 fn tree_of(known: bool, operand: Operand) -> Judged<Expr<Name>>
     ensures { result ≡ tree_kept known operand }
 {
@@ -41,7 +41,7 @@ fn tree_of(known: bool, operand: Operand) -> Judged<Expr<Name>>
     }
 }
 
-/// Two expressions, or the first test that they fail.
+/// Both expressions, or the first test that one of them fails.
 fn both(first: Judged<Expr<Name>>, second: Judged<Expr<Name>>) -> Judged<(Expr<Name>, Expr<Name>)>
     ensures { result ≡ trees_kept first second }
 {
@@ -57,7 +57,7 @@ fn both(first: Judged<Expr<Name>>, second: Judged<Expr<Name>>) -> Judged<(Expr<N
     }
 }
 
-/// The one expression that tokens write, beside names that are known or not, or the first test that fails.
+/// The expression that tokens write, or the first test that fails. `known` tells whether the names beside it are known.
 #[tactic(auto, using(crate::proofs::OperationLaws::tree_of_operand))]
 fn tree(
     alloc: Global,
@@ -71,7 +71,7 @@ fn tree(
     Ok(tree_of(known, operand))
 }
 
-/// The two expressions that tokens write, beside a name that is known or not, or the first test that fails.
+/// The two expressions that tokens write, or the first test that fails. `known` tells whether the name beside them is known.
 #[tactic(auto, using(crate::proofs::OperationLaws::trees_of_operands))]
 fn trees(
     alloc: Global,
@@ -85,7 +85,7 @@ fn trees(
     Ok(both(tree_of(known, first), tree_of(true, second)))
 }
 
-/// `set R E`, behind its verb.
+/// `set R E`, after its verb.
 pub fn set(alloc: Global, tables: &Tables<'_>, tokens: &[&[u8]]) -> Parsed<Judged<Op<Name>>>
     ensures { LineGives (λ o. o) result (op_reading tables.now (set_of (map (λ t. t.now) tokens.now))) }
 {
@@ -99,14 +99,14 @@ pub fn set(alloc: Global, tables: &Tables<'_>, tokens: &[&[u8]]) -> Parsed<Judge
     Ok(tree.map(|tree| Op::Set(register, tree)))
 }
 
-/// Whether these are a variable and a memory.
+/// Whether the first name is a variable, and the second a memory.
 fn knows_load(tables: &Tables<'_>, register: &[u8], memory: &[u8]) -> bool
     ensures { result ≡ (is_variable tables.now register.now && is_among tables.now.memories memory.now) }
 {
     tables.is_known(register) && tables.memories.has(memory)
 }
 
-/// `load R M E`, behind its verb.
+/// `load R M E`, after its verb.
 pub fn load(alloc: Global, tables: &Tables<'_>, tokens: &[&[u8]]) -> Parsed<Judged<Op<Name>>>
     ensures { LineGives (λ o. o) result (op_reading tables.now (load_of (map (λ t. t.now) tokens.now))) }
 {
@@ -125,7 +125,7 @@ pub fn load(alloc: Global, tables: &Tables<'_>, tokens: &[&[u8]]) -> Parsed<Judg
     }))
 }
 
-/// `store M E E`, behind its verb.
+/// `store M E E`, after its verb.
 pub fn store(alloc: Global, tables: &Tables<'_>, tokens: &[&[u8]]) -> Parsed<Judged<Op<Name>>>
     ensures { LineGives (λ o. o) result (op_reading tables.now (store_of (map (λ t. t.now) tokens.now))) }
 {
@@ -143,7 +143,7 @@ pub fn store(alloc: Global, tables: &Tables<'_>, tokens: &[&[u8]]) -> Parsed<Jud
     }))
 }
 
-/// `write F E`, behind its verb.
+/// `write F E`, after its verb.
 pub fn write(alloc: Global, tables: &Tables<'_>, tokens: &[&[u8]]) -> Parsed<Judged<Op<Name>>>
     ensures { LineGives (λ o. o) result (op_reading tables.now (write_of (map (λ t. t.now) tokens.now))) }
 {
@@ -157,14 +157,14 @@ pub fn write(alloc: Global, tables: &Tables<'_>, tokens: &[&[u8]]) -> Parsed<Jud
     Ok(tree.map(|tree| Op::Write(channel, tree)))
 }
 
-/// Whether these are a channel and a variable.
+/// Whether the first name is a channel, and the second a variable.
 fn knows_outcome(tables: &Tables<'_>, channel: &[u8], outcome: &[u8]) -> bool
     ensures { result ≡ (is_among tables.now.channels channel.now && is_variable tables.now outcome.now) }
 {
     tables.channels.has(channel) && tables.is_known(outcome)
 }
 
-/// `trywrite F OK E`, behind its verb.
+/// `trywrite F OK E`, after its verb.
 pub fn try_write(alloc: Global, tables: &Tables<'_>, tokens: &[&[u8]]) -> Parsed<Judged<Op<Name>>>
     ensures { LineGives (λ o. o) result (op_reading tables.now (try_write_of (map (λ t. t.now) tokens.now))) }
 {
@@ -183,7 +183,7 @@ pub fn try_write(alloc: Global, tables: &Tables<'_>, tokens: &[&[u8]]) -> Parsed
     }))
 }
 
-/// An operation on a channel and a variable alone.
+/// The operations that have only a channel and a variable.
 #[derive(Clone, Copy)]
 pub enum TwoNames {
     Read,
@@ -191,7 +191,7 @@ pub enum TwoNames {
     Full,
 }
 
-/// The operation on this channel and this variable.
+/// The operation of this kind on a channel and a variable.
 fn op_of_names(which: TwoNames, channel: Name, target: Name) -> Op<Name>
     ensures { result ≡ op_of_names which channel target }
 {
@@ -202,7 +202,7 @@ fn op_of_names(which: TwoNames, channel: Name, target: Name) -> Op<Name>
     }
 }
 
-/// A read of this channel to this variable, or a test of it.
+/// The operation of this kind on a channel and a variable, or the first test that it fails.
 #[tactic(auto, using(crate::proofs::OperationLaws::two_names_is))]
 fn new_two_names(
     alloc: Global,
@@ -222,7 +222,7 @@ fn new_two_names(
     Ok(Ok(op_of_names(which, channel, Name::new(alloc, register)?)))
 }
 
-/// `read F R`, `empty F R` or `full F R`, behind its verb.
+/// `read F R`, `empty F R` or `full F R`, after its verb.
 pub fn two_names(
     alloc: Global,
     tables: &Tables<'_>,
@@ -237,7 +237,7 @@ pub fn two_names(
     }
 }
 
-/// A read of this channel to this variable where it is not empty, with the outcome in another.
+/// A `tryread` of a channel, with a variable for the value and one for the outcome.
 #[tactic(auto, using(crate::proofs::OperationLaws::try_read_is))]
 fn new_try_read(
     alloc: Global,
@@ -268,7 +268,7 @@ fn new_try_read(
     }))
 }
 
-/// `tryread F R OK`, behind its verb.
+/// `tryread F R OK`, after its verb.
 pub fn try_read(alloc: Global, tables: &Tables<'_>, tokens: &[&[u8]]) -> Parsed<Judged<Op<Name>>>
     ensures { LineGives (λ o. o) result (op_reading tables.now (try_read_of (map (λ t. t.now) tokens.now))) }
 {

@@ -1,4 +1,4 @@
-//! What is read of a session so far.
+//! How far a session is read.
 ghost use Rattle.std.specs.Prelude.{◌≡◌, OnOk, IfOk, IfErr};
 ghost use Rattle.flow_grammar.specs.Gives.{TextGives, TextFails, at_line, line_reading, with_statement, with_number};
 ghost use Rattle.flow_text.specs.Lines.{line_reading_by, accepted_if};
@@ -13,7 +13,7 @@ use flow_word::{List, OutOfMemory, Words};
 use name_tables::Tables;
 use std::alloc::Global;
 
-/// The statements so far, the number of each one's line, and what they declare, in a session of a scale.
+/// The statements that are read so far, with the numbers of their lines, what they declare, and the scale of the session.
 #[derive(Drop)]
 pub struct Progress<'a> {
     pub scale: Scale,
@@ -23,7 +23,7 @@ pub struct Progress<'a> {
 }
 
 impl<'a> Progress<'a> {
-    /// Nothing of a session of this scale.
+    /// A session of this scale of which nothing is read.
     pub fn new(alloc: Global, scale: Scale) -> Progress<'a>
         ensures { IsOpening scale result }
     {
@@ -36,7 +36,7 @@ impl<'a> Progress<'a> {
     }
 }
 
-/// What a line says, with the line's number in a fault.
+/// What a line says. A fault has the line's number.
 fn numbered_statement<'a>(
     alloc: Global,
     tables: &mut Tables<'a>,
@@ -54,7 +54,7 @@ fn numbered_statement<'a>(
     }
 }
 
-/// Adds the statement of a line, if it has one.
+/// Adds the statement of a line, if the line has one.
 fn keep(
     statements: &mut List<Statement>,
     numbers: &mut Words,

@@ -1,4 +1,4 @@
-//! Reading a text, line by line.
+//! Reading a text line by line.
 ghost use Rattle.std.specs.Prelude.{◌≡◌, ◌≤◌, ◌+◌, [], ◌∷◌, length, position, IfOk, IfErr, Ok, Err, Result, ℕ, reverse, List as Items};
 ghost use Rattle.std.specs.Option.{option_copied};
 ghost use Rattle.flow_design.specs.declared.session.Statement.{Statement as StatementValue};
@@ -24,7 +24,7 @@ fn line_feed_at(text: &[u8]) -> Option<usize>
     text.iter().position(|byte| *byte == b'\n')
 }
 
-/// The first line of a text, and the text behind its line feed.
+/// The first line of a text, and the text after its line feed. `None` where the text has no line feed.
 fn first_line(text: &[u8]) -> (&[u8], Option<&[u8]>)
     ensures lines { lines_of text.now ≡ result.0.now ∷ lines_left (option_copied result.1) }
     ensures shorter { bytes_left (option_copied result.1) ≤ length text.now }
@@ -39,7 +39,7 @@ fn first_line(text: &[u8]) -> (&[u8], Option<&[u8]>)
     }
 }
 
-/// Reads all lines of a text, and tells how many they are.
+/// Reads all lines of a text, and answers how many they are.
 fn read_on<'a>(alloc: Global, progress: &mut Progress<'a>, text: &'a [u8]) -> Result<u64, ReadFail>
     requires { IsOpening progress.old.scale progress.old }
     ensures ok { IfOk result (λ n. IsThrough progress.old.scale text.now progress.new n) }
@@ -59,7 +59,7 @@ fn read_on<'a>(alloc: Global, progress: &mut Progress<'a>, text: &'a [u8]) -> Re
     Ok(number)
 }
 
-/// The session of so many lines, or that they have no end.
+/// The session, if its last statement is `end`; else the fault that it has none, after so many lines.
 #[tactic(auto, using(crate::proofs::ReadingLaws::closes, crate::proofs::ReadingLaws::is_cut))]
 fn closed(
     place: Place,
@@ -79,7 +79,7 @@ fn closed(
     Ok((Session { statements }, numbers))
 }
 
-/// The session of what was read, so many lines, or that it has no end.
+/// The session that was read in so many lines, or the fault that it has no `end`.
 #[tactic(auto, unfolding(name_tables::specs::TablesOf::tables_of, flow_grammar::specs::Gives::reading))]
 fn finished(progress: Progress<'_>, lines: u64) -> Result<(Session, Words), ReadFail>
     requires { IsKept progress }
@@ -93,12 +93,12 @@ fn finished(progress: Progress<'_>, lines: u64) -> Result<(Session, Words), Read
         ..
     } = progress;
     let place = tables.place;
-    // A call: a drop at the end of the block is proved field by field, which takes a hundred times as long.
+    // The drop is a call, since one at the end of the block is proved field by field, which takes a hundred times as long.
     drop(tables);
     closed(place, statements, numbers, lines)
 }
 
-/// The lines, one after the other.
+/// The session that the lines of a text give, or the first fault.
 fn read_lines(alloc: Global, scale: Scale, text: &[u8]) -> Result<(Session, Words), ReadFail>
     ensures { TextGives (λ read. (read.0.statements, read.1)) result (reading scale [] 0 (lines_of text.now)) }
 {
@@ -106,14 +106,14 @@ fn read_lines(alloc: Global, scale: Scale, text: &[u8]) -> Result<(Session, Word
     match read_on(alloc, &mut progress, text) {
         Ok(lines) => finished(progress, lines),
         Err(fail) => {
-            // A call, as above.
+            // The drop is a call, since one at the end of the block is proved field by field, which takes a hundred times as long.
             drop(progress);
             Err(fail)
         }
     }
 }
 
-/// The answer to a text.
+/// The session that a text stands for at a scale, or the fault that it has.
 fn answer(alloc: Global, scale: Scale, text: &[u8]) -> Result<(Session, Words), ReadFail>
     ensures { IsAnswer scale text.now (session_of result) }
 {
@@ -126,12 +126,12 @@ fn answer(alloc: Global, scale: Scale, text: &[u8]) -> Result<(Session, Words), 
     read_lines(alloc, scale, text)
 }
 
-/// The session that a text stands for at a scale, with the number of each statement's line, or the fault that the text has: the
-/// first test that its first failing line fails. `OutOfMemory` is the one free answer. At a scale each text stands for one session
-/// or has one fault (`flow_grammar::one_answer`).
+/// Reads a text at a scale. The answer is the session that the text stands for, with the number of each statement's line. The error
+/// is the fault that the text has: the first test that its first failing line fails. The only other answer is `OutOfMemory`. At a
+/// scale each text stands for one session or has one fault (`flow_grammar::one_answer`).
 #[tactic(auto, using(flow_grammar::proofs::TextLaws::only_session, flow_grammar::proofs::TextLaws::only_fault))]
 pub fn read_session(alloc: Global, scale: Scale, text: &[u8]) -> Result<(Session, Words), ReadFail>
-    // What is answered is so.
+    // The answer is right: the text stands for this session, or has this fault.
     ensures answer { IsAnswer scale text.now (session_of result) }
     // A text that stands for a session is read as that session.
     ensures session { (s : Items StatementValue) (l : Items ℕ) → StandsFor scale text.now s l → Answers (session_of result) (Ok (s, l)) }

@@ -1,4 +1,4 @@
-//! The form of `at`.
+//! Reading `at`.
 ghost use Rattle.std.specs.Prelude.{◌≡◌, ◌+◌, ◌<◌, ◌^◌, ◌∷◌, true, nat_lt, map, option_map, IfOk, Option, Some, None, Ok, Err};
 ghost use Rattle.flow_design.specs.declared.session.Statement.TheVariants.{At};
 ghost use Rattle.flow_grammar.specs.Tokens.{is_number, is_name, number_of};
@@ -20,7 +20,7 @@ use flow_grammar::{
 use name_tables::Tables;
 use std::alloc::Global;
 
-/// The operation of a verb, behind that verb.
+/// The operation that tokens write after this verb, or the first test that it fails.
 fn form(
     alloc: Global,
     tables: &Tables<'_>,
@@ -42,7 +42,7 @@ fn form(
     }
 }
 
-/// An operation, or the first test that it fails.
+/// The operation that tokens write, of which the first must be a verb, or the first test that it fails.
 #[tactic(auto, unfolding(flow_grammar::specs::Forms::op_of))]
 fn operation(alloc: Global, tables: &Tables<'_>, tokens: &[&[u8]]) -> Parsed<Judged<Op<Name>>>
     ensures { LineGives (λ o. o) result (op_reading tables.now (op_of (map (λ t. t.now) tokens.now))) }
@@ -54,7 +54,8 @@ fn operation(alloc: Global, tables: &Tables<'_>, tokens: &[&[u8]]) -> Parsed<Jud
     form(alloc, tables, verb, rest)
 }
 
-/// The first test that fails, where names beside an operation are known or not, and there is room for it or not.
+/// The first test that fails, of an operation's code and the tests of what is beside it: whether the names are known, and whether
+/// there is room.
 fn first_code(known: bool, room: bool, code: Code) -> Code
     ensures { result ≡ operations.first_code known room code }
 {
@@ -73,7 +74,7 @@ fn first_code(known: bool, room: bool, code: Code) -> Code
     }
 }
 
-/// The refusal of an operation that fails a test, or of what stands beside it.
+/// The refusal of an operation that fails a test, or beside which an earlier test fails.
 fn refused(
     tables: &mut Tables<'_>,
     offset: Option<u64>,
@@ -89,7 +90,7 @@ fn refused(
     Err(LineFail::Fault(code))
 }
 
-/// The offset, where what stands beside a whole operation passes its tests.
+/// The offset, if what is beside an operation that passes its own tests passes too; else the first test that fails.
 fn tested_offset(tables: &Tables<'_>, offset: Option<u64>, known: bool) -> Judged<u64>
     ensures value { result
         ≡ operations.offset_there (takes_operations tables.now.place) (nat_lt tables.now.operations tables.now.limits.operations)
@@ -111,7 +112,8 @@ fn tested_offset(tables: &Tables<'_>, offset: Option<u64>, known: bool) -> Judge
     Ok(offset)
 }
 
-/// The statement of an operation that passes its tests, with its offset, and its guard, which is known or not.
+/// The statement of an operation that passes its own tests, with its offset and its guard. `known` tells whether the guard is
+/// known.
 fn whole(
     tables: &mut Tables<'_>,
     offset: Option<u64>,
@@ -128,7 +130,7 @@ fn whole(
             Ok(Statement::At(offset, guard, operation))
         }
         Err(code) => {
-            // Calls: a drop at the end of the block is proved field by field, which takes twenty times as long.
+            // The drops are calls, since one at the end of the block is proved field by field, which takes twenty times as long.
             drop(guard);
             drop(operation);
             Err(LineFail::Fault(code))
@@ -136,7 +138,8 @@ fn whole(
     }
 }
 
-/// The statement of an operation with its offset, and its guard, which is known or not.
+/// The statement of an operation with its offset and its guard, or the first test that fails. `known` tells whether the guard is
+/// known.
 fn timed(
     tables: &mut Tables<'_>,
     offset: Option<u64>,
@@ -153,7 +156,7 @@ fn timed(
     }
 }
 
-/// The operation at this offset, without a guard.
+/// The statement of an operation at this offset, without a guard.
 fn unguarded(
     alloc: Global,
     tables: &mut Tables<'_>,
@@ -170,7 +173,7 @@ fn unguarded(
     timed(tables, offset, None, true, operation)
 }
 
-/// The operation at this offset, with this guard.
+/// The statement of an operation at this offset, with this guard.
 fn guarded(
     alloc: Global,
     tables: &mut Tables<'_>,
@@ -195,7 +198,7 @@ fn guarded(
     timed(tables, offset, Some(guard), known, operation)
 }
 
-/// The operation at this offset, with a guard or without.
+/// The statement of an operation at this offset, with a guard or without one.
 #[tactic(auto, using(crate::proofs::OperationLaws::guarded_one))]
 fn with_offset(
     alloc: Global,
@@ -220,7 +223,7 @@ fn with_offset(
     }
 }
 
-/// `at OFF OP` or `at OFF if R OP`, behind its keyword.
+/// `at OFF OP` or `at OFF if R OP`, after its keyword.
 #[tactic(auto, unfolding(flow_grammar::specs::Forms::at_of))]
 pub fn at<'a>(alloc: Global, tables: &mut Tables<'a>, tokens: &[&'a [u8]]) -> Parsed<Statement>
     ensures given { LineGives (λ s. s) result (reading_by tables.old (at_of (map (λ t. t.now) tokens.now))) }

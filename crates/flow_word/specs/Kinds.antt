@@ -11,7 +11,7 @@ abbrev pub other_side : Side → Side
 other_side Pop = Push
 other_side Push = Pop
 
--- the two sides are one
+-- the two sides are the same
 abbrev pub same_side : Side → Side → Bool
 same_side Pop Pop = true
 same_side Pop Push = false
@@ -29,7 +29,7 @@ side_of TryWrite = Push
 side_of Empty = Pop
 side_of Full = Push
 
--- the access keeps its module still while it cannot be done; the others are the queries
+-- the access blocks: it stalls its module while it cannot be done; an access that does not block is a query
 abbrev pub is_blocking : Kind → Bool
 is_blocking Read = true
 is_blocking Write = true
@@ -38,7 +38,7 @@ is_blocking TryWrite = false
 is_blocking Empty = false
 is_blocking Full = false
 
--- the access pops or pushes an element where it is done; the others only test
+-- the access pops or pushes an element when it is done; `empty` and `full` only test
 abbrev pub is_taking : Kind → Bool
 is_taking Read = true
 is_taking Write = true

@@ -13,7 +13,7 @@ pub enum Side {
     Push,
 }
 
-/// One side of one channel. In a plan that keeps the static rules one module at most stands at a port.
+/// One side of one channel. In a plan that keeps the static rules at most one module has accesses at a port.
 #[derive(Clone, Copy, Debug, PartialEq, Eq, Hash)]
 pub struct Port {
     pub side: Side,
@@ -59,7 +59,8 @@ impl Kind {
         }
     }
 
-    /// Whether the access keeps its module still while it cannot be done. The others are the queries.
+    /// Whether the access blocks: it stalls its module while it cannot be done. An access that does not block is a
+    /// query.
     pub fn is_blocking(self) -> bool
         ensures { result ≡ is_blocking self }
     {
@@ -69,7 +70,7 @@ impl Kind {
         }
     }
 
-    /// Whether the access pops or pushes an element where it is done. The others only test.
+    /// Whether the access pops or pushes an element when it is done. `Empty` and `Full` only test.
     pub fn takes(self) -> bool
         ensures { result ≡ is_taking self }
     {
@@ -95,7 +96,8 @@ pub struct Access {
 /// One local clock of a module with at least one access.
 #[derive(Debug)]
 pub struct Step {
-    /// The local clocks since the module's step before, or since its local clock 0.
+    /// How many local clocks the step comes after the module's previous step, or after its local clock 0 where it is
+    /// the first.
     pub gap: u64,
     /// The accesses, in commit order.
     pub accesses: Accesses,
@@ -113,7 +115,7 @@ impl Drop for Step {
     }
 }
 
-/// A step of a module: the steps of a module are numbered from 0.
+/// A step by its module and its number: the steps of a module are numbered from 0.
 #[derive(Clone, Copy, Debug, PartialEq, Eq)]
 pub struct Place {
     pub module: u32,

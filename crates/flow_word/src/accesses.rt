@@ -7,7 +7,7 @@ use smallvec::SmallVec;
 use std::alloc::Global;
 use std::marker::Model;
 
-/// The accesses of one step, in commit order. One or two of them take no memory beside the step itself.
+/// The accesses of one step, in commit order. Up to two accesses lie in the step itself and take no other memory.
 #[derive(Debug)]
 pub struct Accesses {
     items: SmallVec<Access, 2>,
@@ -29,7 +29,7 @@ impl Model for Accesses {
 }
 
 impl Accesses {
-    /// No access yet, which takes no memory.
+    /// A list without accesses. It takes no memory.
     pub fn new(alloc: Global) -> Accesses
         ensures { result ≡ [] }
     {
@@ -52,7 +52,7 @@ impl Accesses {
         self.items.as_slice()
     }
 
-    /// Adds an access at the end. After want of memory there are those of before.
+    /// Adds an access at the end. After `OutOfMemory` the accesses are as they were.
     pub fn push(&mut self, access: Access) -> Result<(), OutOfMemory>
         ensures ok { OnOk result (self.new ≡ self.old ++ access ∷ []) }
         ensures err { OnErr result (self.new ≡ self.old) }

@@ -47,7 +47,7 @@ impl<T> List<T> {
         }
     }
 
-    /// An empty list with room for so many items, so that adding them takes no memory once more.
+    /// An empty list with memory reserved for `room` items.
     pub fn with_room(alloc: Global, room: u64) -> Result<Self, OutOfMemory>
         ensures { IfOk result (λ list. list ≡ []) }
     {
@@ -89,7 +89,7 @@ impl<T: Drop> List<T> {
         Ok(())
     }
 
-    /// Drops the items from a place on.
+    /// Keeps the first `len` items and drops the others.
     pub fn truncate(&mut self, len: u64)
         ensures { self.new ≡ take len self.old }
     {
@@ -117,7 +117,7 @@ impl<T: Copy> List<T> {
 }
 
 impl List<u64> {
-    /// A list of so many zeros.
+    /// A list of `len` zeros.
     pub fn zeros(alloc: Global, len: u64) -> Result<List<u64>, OutOfMemory>
         ensures { IfOk result (λ list. list ≡ replicate len 0) }
     {

@@ -6,7 +6,7 @@ use std::alloc::Global;
 use std::collections::VecDeque;
 use std::marker::Model;
 
-/// A queue: items leave at the front and come in at the back, each in the same short time.
+/// A queue: items come in at the back and leave at the front. Neither goes through the other items.
 pub struct Queue<T> {
     items: VecDeque<T>,
 }
@@ -56,7 +56,7 @@ impl<T: Drop> Queue<T> {
         Ok(())
     }
 
-    /// Takes the front off, where there is one.
+    /// Takes the item at the front off. `None` where the queue is empty.
     pub fn pop(&mut self) -> Option<T>
         ensures front { result ≡ slice_get self.old 0 }
         ensures rest { self.new ≡ drop 1 self.old }
@@ -66,7 +66,7 @@ impl<T: Drop> Queue<T> {
 }
 
 impl<T: Copy> Queue<T> {
-    /// The front, where there is one.
+    /// The item at the front. `None` where the queue is empty.
     pub fn front(&self) -> Option<T>
         ensures { result ≡ slice_get self.now 0 }
     {

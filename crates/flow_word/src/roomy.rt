@@ -5,7 +5,7 @@ use crate::memory::OutOfMemory;
 use std::alloc::Global;
 use std::marker::Model;
 
-/// A list whose room is known: contracts see its items, and how many more it takes without memory.
+/// A list whose room is known. Contracts see its items, and how many more it takes without asking for memory.
 pub struct RoomyList<T> {
     items: Vec<T>,
 }
@@ -51,7 +51,7 @@ impl<T> RoomyList<T> {
         self.items.as_slice()
     }
 
-    /// Makes room for so many more items. The items stay, and the room never falls.
+    /// Reserves room for `more` further items. The items stay, and the room never falls, after `OutOfMemory` either.
     pub fn reserve(&mut self, more: u64) -> Result<(), OutOfMemory>
         ensures items { self.new.items ≡ self.old.items }
         ensures room { OnOk result (more ≤ self.new.room) }
@@ -63,7 +63,7 @@ impl<T> RoomyList<T> {
 }
 
 impl<T: Drop> RoomyList<T> {
-    /// Adds an item at the end. It succeeds where there is room, of which it uses one place.
+    /// Adds an item at the end. It succeeds where there is room, and then uses one place of the room.
     #[inline(always)]
     pub fn push(&mut self, item: T) -> Result<(), OutOfMemory>
         ensures ok { OnOk result (self.new.items ≡ self.old.items ++ item ∷ []) }
@@ -75,7 +75,7 @@ impl<T: Drop> RoomyList<T> {
         Ok(())
     }
 
-    /// Drops the items from a place on. The room does not fall.
+    /// Keeps the first `len` items and drops the others. The room does not fall.
     pub fn truncate(&mut self, len: u64)
         ensures items { self.new.items ≡ take len self.old.items }
         ensures room { self.old.room ≤ self.new.room }

@@ -1,4 +1,4 @@
--- Cuts that every choice of depths with which a plan ends by a clock meets.
+-- Cuts of a plan: all depths with which the plan ends by a clock meet them.
 use Rattle.std.specs.Prelude.{◌≡◌, ℕ, ◌≤◌, true, List, slice_index, All}
 use Rattle.flow_design.specs.declared.limits.TheConstants.{FIFO_DEPTH}
 use Rattle.flow_design.specs.declared.plan.Plan.{Plan}
@@ -13,13 +13,13 @@ use Rattle.depth_cuts.specs.Met.{IsMet, IsUnmet}
 abbrev pub AreDeepest : Plan → Type 0
 AreDeepest p = (f : ℕ) → is_fifo (kind_at p f) ≡ true → slice_index p.depths f ≡ FIFO_DEPTH
 
--- the need is of a FIFO of the plan, which can be so deep, and need not be
+-- the need is of a FIFO of the plan, and its depth is more than 1 and within the language's limit
 pub record IsNeedOf (p : Plan) (need : Need) : Type 0 where
   pub fifo : is_fifo (kind_at p need.channel) ≡ true
   pub least : 2 ≤ need.depth
   pub most : need.depth ≤ FIFO_DEPTH
 
--- these depths do not meet the cut, and all do with which the plan is done by the clock
+-- these depths do not meet the cut, but all depths do with which the plan is done by the clock
 pub record IsCutFor (p : Plan) (clock : ℕ) (depths : List ℕ) (cut : Cut) : Type 0 where
   pub unmet : IsUnmet cut depths
   pub needs : All (IsNeedOf p) cut.needs

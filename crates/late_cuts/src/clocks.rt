@@ -1,4 +1,4 @@
-//! The clock of each step with other depths.
+//! The clock in which each step is done with other depths.
 ghost use Rattle.std.specs.Prelude.{◌≡◌, true};
 ghost use Rattle.event_graph.specs.Lanes.{HasStep};
 ghost use Rattle.time_engine.specs.Conditions.{HasAccesses};
@@ -8,17 +8,17 @@ use engine_view::Engine;
 use flow_word::{List, OutOfMemory, Place, Words};
 use std::alloc::Global;
 
-/// The clock of a step that is not found.
+/// Stands for the clock of a step that is not found.
 pub(crate) const UNKNOWN: u64 = u64::MAX;
 
-/// Of each module the clocks of its first steps, as far as what they wait for is found. Nothing is said of these clocks: they guide a
-/// search, and what it finds is checked.
+/// For each module, the clocks of its first steps, as far as what they wait for is found. No clause says what these clocks are:
+/// they guide a search, and what the search finds is checked.
 pub(crate) struct Clocks {
-    /// Of the steps of all modules, one module after the other.
+    /// The clocks of the steps of all modules, one module after the other.
     clocks: Words,
-    /// Of each module, how many steps stand before its own ones.
+    /// One entry per module: how many steps the modules before it have.
     begins: Words,
-    /// Of each module, how many of its steps have their clock.
+    /// One entry per module: how many of its steps have their clock.
     found: Words,
 }
 
@@ -33,7 +33,7 @@ impl Drop for Clocks {
 }
 
 impl Clocks {
-    /// No clock is found yet.
+    /// The clocks before the search: no step has one yet. `OutOfMemory` where memory ran out.
     fn new(alloc: Global, engine: &Engine) -> Result<Clocks, OutOfMemory> {
         let mut begins = List::new(alloc);
         let mut found = List::new(alloc);
@@ -63,12 +63,12 @@ impl Clocks {
         item(self.clocks.as_slice(), self.number(place))
     }
 
-    /// The number of a step among all.
+    /// The number of a step among those of all modules.
     fn number(&self, place: Place) -> u64 {
         item(self.begins.as_slice(), place.module as u64).saturating_add(place.step)
     }
 
-    /// Sets the clock of a module's first step that has none.
+    /// Sets the clock of a step, which is the first of its module without one.
     fn set(&mut self, place: Place, clock: u64) {
         let number = self.number(place);
         put(self.clocks.as_mut_slice(), number, clock);
@@ -80,25 +80,25 @@ impl Clocks {
     }
 }
 
-/// The item of a number, and 0 where there is none.
+/// The item with this number; 0 where there is none.
 pub(crate) fn item(items: &[u64], number: u64) -> u64 {
     items.get(number as usize).copied().unwrap_or(0)
 }
 
-/// Sets the item of a number, where there is one.
+/// Sets the item with this number, where there is one.
 pub(crate) fn put(items: &mut [u64], number: u64, item: u64) {
     if number < items.len() as u64 {
         items[number as usize] = item;
     }
 }
 
-/// The modules that wait for a step, and those that are to be looked at. Each number of a module is one more than it is, and 0 is none.
+/// The modules that wait for a step, and the modules to look at. An entry for a module is its number plus one; 0 stands for none.
 struct Waiting {
-    /// Of each step the last module that began to wait for it.
+    /// One entry per step: the last module that began to wait for it.
     last: Words,
-    /// Of each module the one that waited for the same step before.
+    /// One entry per module: the module that began before it to wait for the same step.
     before: Words,
-    /// The modules to look at, from the last.
+    /// The modules to look at; the next one is the last of the list.
     ready: Words,
 }
 
@@ -113,7 +113,7 @@ impl Drop for Waiting {
 }
 
 impl Waiting {
-    /// All modules are to be looked at, in order.
+    /// No module waits, and all modules are to be looked at, in order. `OutOfMemory` where memory ran out.
     fn new(alloc: Global, modules: u32, steps: u64) -> Result<Waiting, OutOfMemory> {
         let mut ready = List::new(alloc);
         for behind in 0..modules {
@@ -126,7 +126,7 @@ impl Waiting {
         })
     }
 
-    /// The next module to look at, which is one no longer.
+    /// Takes the next module to look at off the list. `None` where the list is empty.
     fn take(&mut self) -> Option<u64> {
         let left = self.ready.len().checked_sub(1)?;
         let owner = item(self.ready.as_slice(), left).checked_sub(1)?;
@@ -134,14 +134,14 @@ impl Waiting {
         Some(owner)
     }
 
-    /// A module waits for a step.
+    /// Notes that a module waits for a step.
     fn wait(&mut self, step: u64, owner: u32) {
         let before = item(self.last.as_slice(), step);
         put(self.before.as_mut_slice(), owner as u64, before);
         put(self.last.as_mut_slice(), step, owner as u64 + 1);
     }
 
-    /// The modules that wait for a step are to be looked at.
+    /// Adds the modules that wait for a step to those to look at. `OutOfMemory` where memory ran out.
     fn wake(&mut self, step: u64) -> Result<(), OutOfMemory> {
         let mut owner = item(self.last.as_slice(), step);
         put(self.last.as_mut_slice(), step, 0);
@@ -156,10 +156,10 @@ impl Waiting {
     }
 }
 
-/// The clock of each step with these depths. Where modules wait for one another for good, some are not found.
+/// The clock of each step with these depths. Where modules wait for one another for good, steps without a clock have `UNKNOWN`.
 ///
-/// It looks at each step once, and once more for each wait for a step without a clock. It takes memory for two numbers of each step. An
-/// error leaves nothing.
+/// It looks at each step once, and once more for each wait for a step without a clock. It takes memory for two numbers of each
+/// step. `OutOfMemory` where memory ran out.
 pub(crate) fn find_clocks(
     alloc: Global,
     engine: &Engine,
@@ -181,7 +181,7 @@ pub(crate) fn find_clocks(
     Ok(clocks)
 }
 
-/// The clocks of a module's next steps, as far as what they wait for is found.
+/// Finds the clocks of a module's next steps, as far as what they wait for is found.
 fn find_lane(
     engine: &Engine,
     depths: &[u64],
@@ -211,7 +211,7 @@ fn find_lane(
     Ok(())
 }
 
-/// Whether a place is that of a step with a cycle.
+/// Whether a place names a step that has a cycle.
 pub(crate) fn is_timed(engine: &Engine, place: Place) -> bool
     ensures { result ≡ true → HasStep engine.now.graph.lanes place }
 {

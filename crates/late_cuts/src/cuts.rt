@@ -1,4 +1,4 @@
-//! Cuts of a plan.
+//! Finds a cut of a plan with these depths.
 ghost use Rattle.std.specs.Prelude.{map, is_some, IfOk, IfSome};
 ghost use Rattle.flow_design.specs.declared.plan.Plan.{Plan};
 ghost use Rattle.time_engine.specs.Conditions.{HasAccesses};
@@ -17,11 +17,11 @@ use flow_design::Advance;
 use flow_word::OutOfMemory;
 use std::alloc::Global;
 
-/// FIFOs of which one at least has to be deeper than it is with these depths, so that the plan ends by a clock. None where no such cut is
-/// found, as where the plan ends by that clock.
+/// FIFOs at least one of which must be deeper than it is with these depths, so that the plan ends by a clock. `None` where no such
+/// cut is found, for example because the plan does end by that clock.
 ///
-/// The engine holds the end of the plan's run with FIFOs as deep as the language allows, and no operation is a query. A cut is shown by
-/// a path of steps, which is checked.
+/// The engine holds the end of the plan's run with FIFOs as deep as the language allows, and no operation is a query. A path of
+/// steps, which is checked, shows that the cut is right. `OutOfMemory` where memory ran out.
 pub fn find_cut(
     alloc: Global,
     engine: &Engine,

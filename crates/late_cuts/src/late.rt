@@ -1,4 +1,4 @@
-//! Whether a path shows that a plan is late.
+//! Whether a path shows that a plan ends late.
 ghost use Rattle.std.specs.Prelude.{◌≡◌, true, map, is_some};
 ghost use Rattle.flow_design.specs.declared.plan.Plan.{Plan};
 ghost use Rattle.lockstep_defs.specs.Verdict.{verdict};
@@ -12,7 +12,7 @@ use engine_view::Engine;
 use flow_design::Advance;
 use path_check::{ends_after, never_ends};
 
-/// Whether a path shows that the plan ends after a clock, or never.
+/// Whether a path shows that the plan, with the depths of the path, ends after a clock or never.
 pub(crate) fn is_late(engine: &Engine, ends: &[Option<Advance>], trail: &Trail, clock: u64) -> bool
     requires { HasAccesses engine.now.graph.lanes engine.now.fifos.channels }
     ensures { result ≡ true → (p : Plan) → IsTried p (held_in engine.now (map is_some ends.now)) ends.now trail.now.depths

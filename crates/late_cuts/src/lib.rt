@@ -1,5 +1,5 @@
-//! Cuts: FIFOs of which one at least has to be deeper, so that a plan ends by a clock. Each is shown by a path of steps that wait for one
-//! another.
+//! Cuts: lists of FIFOs at least one of which must be deeper, so that a plan ends by a clock. A path of steps that wait for one
+//! another shows each cut.
 #![tactic(auto)]
 
 mod clocks;

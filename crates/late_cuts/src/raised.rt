@@ -1,4 +1,4 @@
-//! Depths that are raised.
+//! Depths that are raised from given ones.
 ghost use Rattle.std.specs.Prelude.{◌≡◌, ◌<◌, ◌^◌, true, length, IfOk};
 ghost use Rattle.late_cuts.specs.Raised.{IsRaised, AreRaised, AreNext};
 
@@ -7,7 +7,8 @@ use flow_design::limits::FIFO_DEPTH;
 use flow_word::{List, OutOfMemory};
 use std::alloc::Global;
 
-/// Whether each depth of the first list is as great in the second, or greater, within the language's limit; and 0 where it is.
+/// Whether the lists are of one length and each depth is raised: no less than the given one and within the language's limit, or 0
+/// where that is 0.
 pub(crate) fn are_raised(depths: &[u64], raised: &[u64]) -> bool
     ensures { result ≡ true → AreRaised depths.now raised.now }
 {
@@ -22,7 +23,7 @@ pub(crate) fn are_raised(depths: &[u64], raised: &[u64]) -> bool
     true
 }
 
-/// Whether a depth is as great as another, or greater, within the language's limit; and 0 where that is.
+/// Whether `raised` is no less than `depth` and within the language's limit, or 0 where `depth` is 0.
 fn is_raised(depth: u64, raised: u64) -> bool
     ensures { result ≡ true → IsRaised depth raised }
 {
@@ -32,7 +33,8 @@ fn is_raised(depth: u64, raised: u64) -> bool
     depth <= raised && raised <= FIFO_DEPTH
 }
 
-/// A depth more for each FIFO that is not as deep as the language allows.
+/// The cut that is met if one FIFO is deeper than now, of those that the language allows to be deeper. `OutOfMemory` where memory
+/// ran out.
 pub fn deeper_ones(alloc: Global, depths: &[u64]) -> Result<Cut, OutOfMemory>
     requires { length depths.now < 2 ^ 32 }
     ensures { IfOk result (λ cut. AreNext depths.now (length depths.now) cut.needs) }

@@ -1,4 +1,4 @@
-//! Depths raised as far as a plan is late with them.
+//! Raises depths as far as a plan still ends late with them.
 ghost use Rattle.std.specs.Prelude.{◌≡◌};
 ghost use Rattle.time_engine.specs.Conditions.{HasAccesses};
 
@@ -12,10 +12,11 @@ use flow_design::limits::FIFO_DEPTH;
 use flow_word::{List, OutOfMemory};
 use std::alloc::Global;
 
-/// Raises the depths of a trail, channel by channel, as far as the plan is late with them. The fewer FIFOs the path waits for places in,
-/// and the deeper they are, the more its cut says.
+/// Raises the depths of a trail, channel by channel, as far as the plan still ends late with them. The fewer FIFOs the path waits
+/// for places in, and the deeper they are, the more its cut says.
 ///
-/// For each FIFO that the path waits for it makes as many trails as the depth has binary digits, a few times. An error leaves some trail.
+/// For each FIFO that the path waits for, it makes as many trails as the depth has binary digits, a few times. After `OutOfMemory`
+/// some of the depths are raised.
 pub(crate) fn raise_all(
     alloc: Global,
     engine: &Engine,
@@ -33,7 +34,8 @@ pub(crate) fn raise_all(
     Ok(())
 }
 
-/// Raises the depth of a channel as far as the plan is late with it: at once to the greatest, else by steps that double, then halve.
+/// Raises the depth of a channel as far as the plan still ends late with it. It tries the greatest depth first, then steps that
+/// double, then steps that halve.
 fn raise_one(
     alloc: Global,
     engine: &Engine,
@@ -59,7 +61,8 @@ fn raise_one(
     Ok(())
 }
 
-/// Makes a trail with another depth of a channel. Whether the plan is late with it; else the trail stays.
+/// Makes a trail with another depth of a channel, and returns whether the plan is late with it. If it is not, the trail stays as it
+/// was.
 fn try_depth(
     alloc: Global,
     engine: &Engine,
@@ -81,19 +84,19 @@ fn try_depth(
     }
 }
 
-/// What is known of the depths of a channel.
+/// With which depths of a channel the plan is known to be late, and with which it is not.
 #[derive(Clone, Copy)]
 struct Bounds {
-    /// The plan is late with this one.
+    /// The greatest depth with which the plan is known to be late.
     late: u64,
-    /// It does not seem so with this one, which is above the greatest where none is known.
+    /// The least depth with which the plan does not seem late; one more than the language allows where none is known.
     timely: u64,
-    /// How much is tried next.
+    /// How much above `late` the next depth to try is; 0 where the search is over.
     step: u64,
 }
 
 impl Bounds {
-    /// With this depth the plan is late. The greatest is tried first, and nothing of a channel without a depth.
+    /// The plan is late with this depth. The greatest depth is tried next; none is for a channel without a depth.
     fn new(late: u64) -> Bounds {
         Bounds {
             late,
@@ -106,7 +109,7 @@ impl Bounds {
         }
     }
 
-    /// The next depth to try.
+    /// The next depth to try. `None` where the search is over.
     fn next(&self) -> Option<u64> {
         if self.step == 0 {
             return None;
@@ -114,18 +117,19 @@ impl Bounds {
         Some(self.late.saturating_add(self.step))
     }
 
-    /// Half of the depths that are not known.
+    /// Half of the depths with which it is not known whether the plan is late.
     fn half(&self) -> u64 {
         self.timely.saturating_sub(self.late) / 2
     }
 
-    /// The plan is late with this depth: twice the step is next, as far as that is not known.
+    /// Notes that the plan is late with this depth. The next step is twice as long, but at most half of the unknown depths.
     fn is_late(&mut self, depth: u64) {
         self.late = depth;
         self.step = self.step.saturating_mul(2).min(self.half());
     }
 
-    /// The plan does not seem late with this depth: half of what is left is next, and a first small step below the greatest.
+    /// Notes that the plan does not seem late with this depth. The next step is half of the unknown depths; after the greatest
+    /// depth it is 1.
     fn is_not_late(&mut self, depth: u64) {
         self.timely = depth;
         self.step = self.half();

@@ -10,7 +10,7 @@ use flow_design::limits::FIFO_DEPTH;
 use flow_word::{List, OutOfMemory, Place, Words};
 use std::alloc::Global;
 
-/// A path of steps, and depths with which each of them waits for the one before it. Nothing is said of either: both are checked.
+/// A path of steps, and depths with which each of them waits for the one before it. No clause says so: both are checked.
 pub(crate) struct Trail {
     pub(crate) path: List<Place>,
     pub(crate) depths: Words,
@@ -26,7 +26,8 @@ impl Drop for Trail {
 }
 
 impl Trail {
-    /// An empty path, with FIFOs that are as deep as the language allows. A channel without a depth has none.
+    /// An empty path, with FIFOs as deep as the language allows; a channel without a depth keeps 0. `OutOfMemory` where memory ran
+    /// out.
     fn new(alloc: Global, depths: &[u64]) -> Result<Trail, OutOfMemory> {
         let mut deepest = List::new(alloc);
         for depth in depths {
@@ -38,7 +39,7 @@ impl Trail {
         })
     }
 
-    /// The path waits for a place in a FIFO, which has its own depth of these.
+    /// Notes that the path waits for a place in a FIFO, if `full` names one: the trail then has this FIFO's depth of `depths`.
     fn cross(&mut self, depths: &[u64], full: Option<u32>) {
         if let Some(channel) = full {
             put(
@@ -50,10 +51,10 @@ impl Trail {
     }
 }
 
-/// A path that is to show that the plan ends after a clock with these depths, or never, with FIFOs as deep as may be where the path doesn't
-/// wait for a place. None where the plan seems to end in time.
+/// A path meant to show that the plan ends after a clock with these depths, or never. FIFOs in which the path does not wait for a
+/// place are as deep as the language allows. `None` where the plan seems to end in time.
 ///
-/// It takes memory for two numbers of each step, and for the path. An error leaves nothing.
+/// It takes memory for two numbers of each step, and for the path. `OutOfMemory` where memory ran out.
 pub(crate) fn find_trail(
     alloc: Global,
     engine: &Engine,
@@ -79,7 +80,7 @@ pub(crate) fn find_trail(
     }
 }
 
-/// The first module with a step that has no clock.
+/// The first module with a step that has no clock. `None` where each step has one.
 fn first_held(engine: &Engine, clocks: &Clocks) -> Option<u32> {
     for owner in 0..engine.graph.modules() {
         if clocks.found(owner) < engine.graph.frontier(owner) {
@@ -89,14 +90,15 @@ fn first_held(engine: &Engine, clocks: &Clocks) -> Option<u32> {
     None
 }
 
-/// A module's last step, and its last clock.
+/// The last step of a module, and the last clock in which the module moves.
 #[derive(Clone, Copy)]
 struct End {
     place: Place,
     clock: u64,
 }
 
-/// The latest end of a module, where each step has its clock.
+/// Of the module that moves longest, the last step and the last clock in which it moves. `None` where no module has a step. Each
+/// step has its clock.
 fn last_end(engine: &Engine, ends: &[Option<Advance>], clocks: &Clocks) -> Option<End> {
     let mut last: Option<End> = None;
     for owner in 0..engine.graph.modules() {
@@ -122,7 +124,8 @@ fn clocks_behind(ends: &[Option<Advance>], owner: u32) -> u64 {
     }
 }
 
-/// The way to a step from the last one before it that is done no later than with the depths that stand.
+/// The path to a step, from the last step before it that is done no later than in the run that the engine holds. `OutOfMemory`
+/// where memory ran out.
 fn find_way(
     alloc: Global,
     engine: &Engine,
@@ -149,12 +152,12 @@ fn find_way(
     Ok(trail)
 }
 
-/// Whether a step is done later than with the depths that stand.
+/// Whether a step is done later than in the run that the engine holds.
 fn is_later(engine: &Engine, clocks: &Clocks, place: Place) -> bool {
     is_timed(engine, place) && engine.graph.cycle_of(place).unwrap_or(0) < clocks.at(place)
 }
 
-/// What a module without its next clock waits for.
+/// The pop or push that a module's next step without a clock waits for. `None` where it waits for none.
 fn held_by(engine: &Engine, depths: &[u64], clocks: &Clocks, owner: u32) -> Option<Event>
     requires { HasAccesses engine.now.graph.lanes engine.now.fifos.channels }
 {
@@ -164,7 +167,7 @@ fn held_by(engine: &Engine, depths: &[u64], clocks: &Clocks, owner: u32) -> Opti
     }
 }
 
-/// The first step of a module without a clock.
+/// The place of a module's first step without a clock.
 fn next_place(clocks: &Clocks, owner: u32) -> Place {
     Place {
         module: owner,
@@ -172,7 +175,8 @@ fn next_place(clocks: &Clocks, owner: u32) -> Place {
     }
 }
 
-/// A module of a round of modules that wait for one another, where one waits for such a round.
+/// A module of a cycle of modules that wait for one another, found from a module that waits for such a cycle. `None` where a module
+/// on the way does not wait.
 fn held_round(engine: &Engine, depths: &[u64], clocks: &Clocks, owner: u32) -> Option<u32>
     requires { HasAccesses engine.now.graph.lanes engine.now.fifos.channels }
 {
@@ -183,7 +187,8 @@ fn held_round(engine: &Engine, depths: &[u64], clocks: &Clocks, owner: u32) -> O
     Some(at)
 }
 
-/// The round of steps that wait for one another, from the next one of a module and back to it.
+/// The steps of a cycle of waits, from the next step of a module back to it. `None` where they do not lead back; `OutOfMemory`
+/// where memory ran out.
 fn find_round(
     alloc: Global,
     engine: &Engine,

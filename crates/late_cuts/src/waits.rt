@@ -9,27 +9,27 @@ use flow_word::{Access, Place, Side};
 /// A pop or a push that an access waits for.
 #[derive(Clone, Copy)]
 pub(crate) struct Event {
-    /// Its step.
+    /// The step of the pop or push.
     pub(crate) place: Place,
     pub(crate) channel: u32,
-    /// The side of the access.
+    /// The side of the access that waits.
     pub(crate) side: Side,
-    /// So many clocks after it the access is possible.
+    /// The access becomes possible this many clocks after the step.
     pub(crate) lag: u64,
 }
 
-/// When an access is possible, or a step is done.
+/// When an access becomes possible, or when a step is done.
 #[derive(Clone, Copy)]
 pub(crate) enum Start {
-    /// From this clock on, or in it.
+    /// The access is possible from this clock on, or the step is done in it.
     At(u64),
-    /// Behind an event without a clock.
+    /// Only after this event, whose step has no clock.
     After(Event),
-    /// Never.
+    /// Never: the event that it waits for does not occur.
     Never,
 }
 
-/// The clock of a step, by the clocks of what it waits for.
+/// The clock in which a step is done, found from the clocks of what it waits for.
 pub(crate) fn start_of(engine: &Engine, depths: &[u64], clocks: &Clocks, place: Place) -> Start
     requires accesses { HasAccesses engine.now.graph.lanes engine.now.fifos.channels }
 {
@@ -45,7 +45,7 @@ pub(crate) fn start_of(engine: &Engine, depths: &[u64], clocks: &Clocks, place: 
     latest_of(engine, depths, clocks, step.accesses.as_slice(), arrival)
 }
 
-/// The step before one of the same module.
+/// The step before this one in the same module. `None` for the first step.
 fn before(place: Place) -> Option<Place> {
     let step = place.step.checked_sub(1)?;
     Some(Place {
@@ -54,7 +54,8 @@ fn before(place: Place) -> Option<Place> {
     })
 }
 
-/// The latest of a clock and of those from which these accesses are possible, or what the first of them waits for that has none.
+/// The latest of a clock and of those from which these accesses are possible; or, if there is one, the first event without a clock
+/// that they wait for.
 fn latest_of(
     engine: &Engine,
     depths: &[u64],
@@ -75,7 +76,7 @@ fn latest_of(
     Start::At(latest)
 }
 
-/// When an access is possible.
+/// The clock from which an access is possible, or the event without a clock that it waits for.
 fn possible_from(engine: &Engine, depths: &[u64], clocks: &Clocks, access: &Access) -> Start
     requires { IsAccess engine.now.fifos.channels access.now }
 {
@@ -92,7 +93,7 @@ fn possible_from(engine: &Engine, depths: &[u64], clocks: &Clocks, access: &Acce
     Start::At(clock.saturating_add(event.lag))
 }
 
-/// How many pops, or pushes, are before the one that an access waits for. None where it waits for nobody.
+/// The number, counted from 0, of the pop or push that an access waits for. `None` where it waits for none.
 fn events_before(engine: &Engine, depths: &[u64], access: &Access) -> Option<u64>
     requires { IsAccess engine.now.fifos.channels access.now }
 {
@@ -106,7 +107,8 @@ fn events_before(engine: &Engine, depths: &[u64], access: &Access) -> Option<u64
     access.ordinal.checked_sub(free)?.checked_sub(1)
 }
 
-/// The pop, or the push, with so many before it at the other side of an access's channel.
+/// The pop or push with this number, counted from 0, at the other side of an access's channel. `None` where the run has no such
+/// one.
 fn event_at(engine: &Engine, access: &Access, before: u64) -> Option<Event>
     requires { IsAccess engine.now.fifos.channels access.now }
 {
@@ -120,16 +122,17 @@ fn event_at(engine: &Engine, access: &Access, before: u64) -> Option<Event>
     })
 }
 
-/// What made the clock of a step.
+/// What decided the clock of a step.
 #[derive(Clone, Copy)]
 pub(crate) struct Cause {
-    /// The step before it on the way.
+    /// The step that it waited for, which comes before it on the path.
     pub(crate) place: Place,
-    /// The FIFO in which it waited for a place.
+    /// The FIFO in which it waited for a place. `None` where it waited for something else.
     pub(crate) full: Option<u32>,
 }
 
-/// What made the clock of a step: the step before it in its module, else an element that it waited for, else a place.
+/// What decided the clock of a step: the step before it in its module, otherwise an element that it waited for, otherwise a place
+/// in a FIFO.
 pub(crate) fn cause_of(
     engine: &Engine,
     depths: &[u64],
@@ -159,7 +162,8 @@ pub(crate) fn cause_of(
     cause_at(engine, depths, clocks, accesses, clock, Side::Push)
 }
 
-/// The first of these accesses at a side of its channel that is possible in this clock, and not before: what it waited for.
+/// What the first of these accesses at a side of its channel waited for, of those that became possible in just this clock. `None`
+/// where none did.
 fn cause_at(
     engine: &Engine,
     depths: &[u64],
@@ -186,7 +190,7 @@ fn cause_at(
 }
 
 impl Event {
-    /// The FIFO in which the access waits for a place.
+    /// The FIFO in which the access waits for a place. `None` where it waits for an element.
     pub(crate) fn full(self) -> Option<u32> {
         match self.side {
             Side::Push => Some(self.channel),

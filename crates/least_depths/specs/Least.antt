@@ -1,4 +1,4 @@
--- The smallest FIFOs that lose nothing, or no more than some clocks.
+-- The smallest FIFOs that lose no more than some clocks.
 use Rattle.std.specs.Prelude.{◌≡◌, ⊤, ℕ, ◌+◌, ◌^◌, List, length}
 use Rattle.flow_design.specs.declared.plan.Plan.{Plan}
 use Rattle.flow_design.specs.declared.report.Verdict.{Verdict}
@@ -9,11 +9,11 @@ use Rattle.depth_advice.specs.Advice.{advised}
 use Rattle.least_depths.specs.Lowering.{Lowered, untouched, lowered, AreLeast}
 use Rattle.least_depths.specs.declared.sizing.Sizes.{Sizes}
 
--- the verdict and the depths of a plan, and how many depths were tried for it
+-- the sizes that a lowered plan gives: its verdict, its depths, and how many depths were tried
 abbrev pub sizes_of : Lowered → Sizes
 sizes_of x = record { verdict = verdict x.plan; depths = x.plan.depths; tries = x.tries }
 
--- the depths of all FIFOs, lowered where the plan is done, with an end at most so many clocks later
+-- the sizes from a plan with this verdict: where it is done, each FIFO is lowered with an end at most `slack` clocks later
 abbrev pub sized_by : ℕ → Plan → Verdict → Sizes
 sized_by slack p (Done clock) = sizes_of (lowered p (clock + slack) (length p.design.channels))
 sized_by slack p (Deadlock clock) = sizes_of (untouched p)
@@ -23,31 +23,31 @@ sized_by slack p (Ops clock) = sizes_of (untouched p)
 abbrev pub sized : ℕ → Plan → Sizes
 sized slack p = sized_by slack p (verdict p)
 
--- from the advised depths on
+-- the sizes of a plan, lowered from its advised depths
 unfoldable pub sizes : ℕ → Plan → Sizes
 sizes slack p = sized slack (with_depths p (advised p))
 
--- no more clocks than this are to be lost: 10^15
+-- the greatest slack, in clocks
 abbrev pub most_slack : ℕ
 most_slack = 10 ^ 15
 
--- how many plans are simulated for these sizes from the beginning, where no operation is a query: one for the advised depths, and where
--- that one is done, one more before depths are tried
+-- how many plans the search simulates from the beginning, where no operation is a query: one for the advice, and one more where
+-- that plan is done
 abbrev pub first_runs : Verdict → ℕ
 first_runs (Done clock) = 2
 first_runs (Deadlock clock) = 1
 first_runs (Cycles clock) = 1
 first_runs (Ops clock) = 1
 
--- ---- what they are
+-- ---- what the sizes guarantee
 
--- an end at most so many clocks later, where the first is an end
+-- if the first verdict is an end, the other is an end at most `slack` clocks later
 abbrev pub IsNoLater : ℕ → Verdict → Verdict → Type 0
 IsNoLater slack (Done clock) found = IsDoneBy (clock + slack) found
 IsNoLater slack (Deadlock clock) found = ⊤
 IsNoLater slack (Cycles clock) found = ⊤
 IsNoLater slack (Ops clock) found = ⊤
 
--- where the first is an end, no lower depths are done by so many clocks after it
+-- if the first verdict is an end, no lower depths are done at most `slack` clocks after it
 abbrev pub IsLeast : Plan → ℕ → Verdict → List ℕ → Type 0
 IsLeast p slack first depths = (clock : ℕ) → first ≡ Done clock → AreLeast p (clock + slack) depths

@@ -5,7 +5,7 @@ use Rattle.report_text.specs.Lines.{text_of_lines, verdict_tokens}
 use Rattle.depth_advice.specs.DepthLines.{depth_lines}
 use Rattle.least_depths.specs.Least.{sizes}
 
--- `size`, the verdict, and `depth NAME D` for each FIFO in order of declaration
+-- the text of the sizes: `size`, the verdict, and `depth NAME D` for each FIFO in order of declaration
 unfoldable pub size_text : ℕ → Plan → List ℕ
 size_text slack p =
     text_of_lines

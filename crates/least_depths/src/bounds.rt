@@ -1,4 +1,4 @@
-//! Depths below which the plan of a session is known to be too late.
+//! Depths below which the plan of a session is known to end too late.
 ghost use Rattle.std.specs.Prelude.{◌≡◌, ◌<◌, true, IsSome};
 ghost use Rattle.flow_design.specs.Plans.{is_fifo, kind_at};
 ghost use Rattle.depth_order.specs.Depths.{AsksNothing};
@@ -8,7 +8,8 @@ use depth_bounds::{Latest, Target, asks_nothing, find_latest, late_depth};
 use depth_session::DepthSession;
 use std::alloc::Global;
 
-/// The latest clocks of the steps of a session's plan with an end by a clock. None where an operation is a query, or memory is wanting.
+/// The latest clocks in which the steps of a session's plan may be done so that it ends by a clock. `None` where an operation is a
+/// query, and where memory ran out.
 ///
 /// It takes memory for a number of each step.
 pub(crate) fn latest_clocks(alloc: Global, session: &DepthSession, clock: u64) -> Option<Latest>
@@ -22,9 +23,10 @@ pub(crate) fn latest_clocks(alloc: Global, session: &DepthSession, clock: u64) -
     find_latest(alloc, core.engine(), core.ends(), clock).ok()
 }
 
-/// A depth of a FIFO below which the session's plan is not done by the target's clock. 1 where none is found, or memory is wanting.
+/// A depth of a FIFO such that with any smaller one the session's plan is not done by the target's clock. 1 where no such depth is
+/// found, and where memory ran out.
 ///
-/// It takes memory for a path of steps, and lets it go.
+/// It takes memory for a path of steps, and frees it.
 pub(crate) fn late_below(
     alloc: Global,
     session: &DepthSession,

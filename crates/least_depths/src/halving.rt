@@ -1,4 +1,4 @@
-//! Depths lowered in a session of edits.
+//! Lowers depths in a session of edits, by halving.
 ghost use Rattle.std.specs.Prelude.{◌≡◌, ◌+◌, ◌<◌, ◌≤◌, true, false, length, IsSome, IfOk, OnOk};
 ghost use Rattle.flow_design.specs.declared.limits.TheConstants.{FIFO_DEPTH};
 ghost use Rattle.flow_design.specs.Plans.{EditFits, is_fifo, kind_at, with_depth};
@@ -17,11 +17,12 @@ use std::alloc::Global;
 use std::sync::Wait;
 use std::thread::Threads;
 
-/// Lowers the depth of each FIFO in turn, in order of declaration, to what halving finds with an end by this clock. How many depths
-/// halving tries.
+/// Lowers the depth of each FIFO in turn, in order of declaration, to the one that halving finds with an end by `clock`. Returns
+/// how many depths halving tries.
 ///
-/// The plan is edited to those depths alone of which it is not known whether they are in time. The latest clocks are those of the plan
-/// with its depths before. The runner is called once at most for each depth that halving tries and for each channel. An error leaves the
+/// It edits the plan only to depths of which it does not know already whether they are in time. The latest clocks are those of the
+/// plan with its depths from before. It calls the runner at most once for each depth that halving tries, and once more for each
+/// channel. After `OutOfMemory` some of the depths are lowered.
 /// session with some of the depths.
 pub(crate) fn lower_all<R: Threads + Wait + Sync, U: Runner>(
     rt: &R,
@@ -66,19 +67,19 @@ fn is_fifo(session: &DepthSession, channel: u64) -> bool
         .is_fifo()
 }
 
-/// What is known of the depths of a FIFO that is to be lowered with an end by a clock.
+/// Which depths of a FIFO are known to be too late, and which to be in time, for an end by a clock.
 #[derive(Clone, Copy)]
 pub(crate) struct Known {
     pub(crate) clock: u64,
-    /// With a depth below this one the plan is too late.
+    /// With any depth below this one, the plan ends too late.
     pub(crate) late_below: u64,
-    /// With a depth from this one on, but below the one that stood at first, it is in time.
+    /// With any depth from this one on, but below the FIFO's first one, the plan ends in time.
     pub(crate) timely_from: u64,
 }
 
-/// Lowers the depth of one FIFO to what halving finds. How many depths halving tries.
+/// Lowers the depth of one FIFO to the one that halving finds. Returns how many depths halving tries.
 ///
-/// The latest clocks may be those of the plan with deeper FIFOs. An error leaves the session with some depth for that FIFO.
+/// The latest clocks may be those of the plan with deeper FIFOs. After `OutOfMemory` the FIFO may have any depth that was tried.
 fn lower<R: Threads + Wait + Sync, U: Runner>(
     rt: &R,
     alloc: Global,
@@ -128,9 +129,9 @@ fn lower<R: Threads + Wait + Sync, U: Runner>(
     Ok(tries)
 }
 
-/// Tries the least depth of a FIFO that is not known to be too late, where something is known.
+/// Tries the least depth of a FIFO that is not known to be too late, if a bound is known, and returns what is known then.
 ///
-/// An error leaves the session with some depth for that FIFO.
+/// After `OutOfMemory` the FIFO may have the depth that was tried.
 fn try_bound<R: Threads + Wait + Sync, U: Runner>(
     rt: &R,
     alloc: Global,
@@ -178,9 +179,9 @@ fn try_bound<R: Threads + Wait + Sync, U: Runner>(
     })
 }
 
-/// Whether the plan is done in time with another depth: by what is known of that depth, and else by the edit.
+/// Whether the plan ends in time with another depth. It edits the plan only where what is known does not tell.
 ///
-/// An error leaves the plan edited.
+/// After `OutOfMemory` the plan has the depth of the edit.
 fn is_timely<R: Threads + Wait + Sync, U: Runner>(
     rt: &R,
     alloc: Global,
@@ -213,9 +214,9 @@ fn is_timely<R: Threads + Wait + Sync, U: Runner>(
     is_in_time(rt, alloc, session, edit, known.clock, runner)
 }
 
-/// Edits a depth. Whether the plan is done in this clock or before then.
+/// Edits a depth, and returns whether the plan is done in this clock or earlier.
 ///
-/// An error leaves the plan edited.
+/// After `OutOfMemory` the plan has the depth of the edit.
 fn is_in_time<R: Threads + Wait + Sync, U: Runner>(
     rt: &R,
     alloc: Global,
@@ -238,7 +239,7 @@ fn is_in_time<R: Threads + Wait + Sync, U: Runner>(
     Ok(is_done_by(session.verdict(), clock))
 }
 
-/// Whether all modules are ended in this clock or before.
+/// Whether the verdict says that all modules have ended in this clock or earlier.
 fn is_done_by(verdict: Verdict, clock: u64) -> bool
     ensures { result ≡ is_done_by clock verdict }
 {

@@ -8,8 +8,8 @@ ghost use Rattle.depth_advice.specs.Advice.{advised};
 ghost use Rattle.least_depths.specs.Least.{sizes, IsNoLater, IsLeast};
 ghost use Rattle.least_depths.specs.Lowering.{lowered, AreLeast, all_bits};
 
-/// The lowered depths are within the language's limits, and none is greater than before. A plan that is done by the clock stays done by
-/// then. Where no operation is a query, no lower depths are done by that clock. Of each FIFO no more depths are tried than
+/// The lowered depths are within the language's limits, and none is greater than before. A plan that is done by the clock stays
+/// done by it. Where no operation is a query, no lower depths are done by that clock. For each FIFO, no more depths are tried than
 /// its depth has binary digits.
 pub fn lowered_depths_are_least()
     ensures depths { (p : Plan) → FitsEngine p → (clock n : ℕ) → AreDepths p (lowered p clock n).plan.depths }
@@ -21,10 +21,11 @@ pub fn lowered_depths_are_least()
     ensures few { (p : Plan) → FitsEngine p → (clock : ℕ) → (lowered p clock (length p.design.channels)).tries ≤ all_bits p.depths }
 {}
 
-/// The sizes of any plan are within the language's limits and no greater than the advised depths. If the plan with the advised depths
-/// is done, it is done with the sizes at most so many clocks later. Where no operation is a query, no depths are done earlier than the
-/// advised ones; with no clock to spare the verdict with the sizes is theirs; and no lower depths are done at most so many clocks later,
-/// so that no place is left over. No more depths are tried than the advised depths have binary digits.
+/// The sizes of any plan are within the language's limits and no greater than the advised depths. If the plan with the advised
+/// depths is done, it is done with the sizes at most `slack` clocks later. Where no operation is a query, no depths are done
+/// earlier than the advised ones; with no slack, the sizes have the verdict of the advised depths; and no lower depths are done at
+/// most `slack` clocks later, so no place is superfluous. No more depths are tried than the advised depths have binary digits in
+/// all.
 pub fn sizes_lose_nothing()
     ensures within { (slack : ℕ) (p : Plan) → FitsEngine p → AreDepths p (sizes slack p).depths }
     ensures lower { (slack : ℕ) (p : Plan) → FitsEngine p → AreDeeper p (sizes slack p).depths (advised p) }

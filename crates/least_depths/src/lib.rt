@@ -1,4 +1,4 @@
-//! The smallest FIFOs that lose nothing: the advised depths lowered, FIFO after FIFO, with no later end.
+//! The smallest FIFOs that lose no clock: the advised depths, lowered FIFO after FIFO as long as the plan ends no later.
 #![tactic(auto)]
 
 mod bounds;

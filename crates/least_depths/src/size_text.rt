@@ -25,7 +25,7 @@ pub struct SizeText {
 }
 
 impl SizeText {
-    /// The text alone.
+    /// The text of the sizes, without the verdict.
     pub fn into_text(self) -> List<u8>
         ensures { result ≡ self.text }
     {
@@ -37,9 +37,10 @@ impl SizeText {
     }
 }
 
-/// The text of the smallest FIFOs that lose no more than so many clocks, which are those of `find_sizes`.
+/// The text of the smallest FIFOs that lose no more than `slack` clocks, which `find_sizes` finds.
 ///
-/// It calls the runner as often as `find_sizes`. It takes memory for what that does and for the text. An error leaves nothing.
+/// It calls the runner as often as `find_sizes`. It takes memory for what that does and for the text. `OutOfMemory` where memory
+/// ran out.
 #[tactic(auto, unfolding(crate::specs::SizeText::size_text))]
 pub fn tell_sizes<R: Threads + Wait + Sync, U: Runner>(
     rt: &R,

@@ -17,13 +17,13 @@ use std::alloc::Global;
 use std::sync::Wait;
 use std::thread::Threads;
 
-/// Depths for the FIFOs of a plan, and what the plan does with them.
+/// Depths for the FIFOs of a plan, the verdict of the plan with them, and how many depths were tried.
 pub struct Sizes {
     /// The verdict of the plan with these depths.
     pub verdict: Verdict,
-    /// One entry per channel: the depth of a FIFO, in elements, and 0 of the other channels.
+    /// One entry per channel: the depth of a FIFO, in elements, or 0 for a channel of another kind.
     pub depths: Words,
-    /// How many depths were tried, each by an edit.
+    /// How many depths halving tried.
     pub tries: u64,
 }
 
@@ -37,14 +37,14 @@ impl Drop for Sizes {
     }
 }
 
-/// The smallest FIFOs that lose no more than so many clocks. Where the plan with the advised depths is done, its FIFOs are lowered one
-/// after the other, in order of declaration, each to what halving finds between 1 and its advised depth with an end by that clock and the
-/// slack. Else the depths are the advised ones.
+/// The smallest FIFOs that lose no more than `slack` clocks. Where the plan with the advised depths is done, its FIFOs are lowered
+/// one after the other, in order of declaration, each to what halving finds between 1 and its advised depth with an end at most
+/// `slack` clocks later. Otherwise the depths are the advised ones.
 ///
-/// `sizes_lose_nothing` says what that means. It calls the runner twice at most, and once more at most for each depth that is tried and
-/// for each channel, since an edit may turn the outcome of a query. Where no operation is a query, it calls the runner once for the
-/// advice, and once more where the plan with the advised depths is done. It takes memory for the runs and the edits. An error
-/// leaves nothing.
+/// `sizes_lose_nothing` says what that means. It calls the runner at most twice, and at most once more for each depth that is tried
+/// and for each channel, since an edit may change the outcome of a query. Where no operation is a query, it calls the runner once
+/// for the advice, and once more where the plan with the advised depths is done. It takes memory for the runs and the edits.
+/// `OutOfMemory` where memory ran out.
 pub fn find_sizes<R: Threads + Wait + Sync, U: Runner>(
     rt: &R,
     alloc: Global,
@@ -71,7 +71,7 @@ pub fn find_sizes<R: Threads + Wait + Sync, U: Runner>(
     }
 }
 
-/// The depths of a plan's FIFOs, lowered from these with an end by this clock. With these the plan is done by then.
+/// Lowers the depths of a plan's FIFOs as long as the plan ends by this clock, as it does with the given depths.
 ///
 /// Each try stops at that clock, if the plan's own cycle limit does not come sooner.
 fn lower_depths<R: Threads + Wait + Sync, U: Runner>(
@@ -103,7 +103,7 @@ fn lower_depths<R: Threads + Wait + Sync, U: Runner>(
     })
 }
 
-/// Puts a clock in place of a plan's cycle limit, where that is later.
+/// Lowers a plan's cycle limit to this clock, but no lower than 1, where the limit is later.
 fn limit_cycles(plan: &mut Plan, clock: u64)
     ensures { plan.new ≡ limited clock plan.old }
 {

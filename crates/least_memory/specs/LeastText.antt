@@ -6,7 +6,7 @@ use Rattle.depth_advice.specs.DepthLines.{depth_lines}
 use Rattle.least_memory.specs.Choices.{memory_bits}
 use Rattle.least_memory.specs.Least.{leasts}
 
--- `least`, the verdict, `bits N`, and `depth NAME D` for each FIFO in order of declaration
+-- the text of the least memory: `least`, the verdict, `bits N`, and `depth NAME D` for each FIFO in order of declaration
 unfoldable pub least_text : ℕ → Plan → List ℕ
 least_text slack p =
     text_of_lines

@@ -1,4 +1,4 @@
-//! What is asked of all depths with which a plan ends by a clock.
+//! Demands that all depths with which a plan ends by a clock meet.
 ghost use Rattle.std.specs.Prelude.{◌≡◌, ◌<◌, ◌≤◌, true, length, All, IfOk};
 ghost use Rattle.flow_design.specs.Plans.{is_fifo, kind_at};
 ghost use Rattle.depth_bounds.specs.Late.{IsLateBelow};
@@ -21,10 +21,10 @@ use flow_design::limits::FIFO_DEPTH;
 use flow_word::{List, OutOfMemory, Words};
 use std::alloc::Global;
 
-/// The demands on depths with which a core's plan ends by a clock: of each FIFO the least depth that a path of steps shows to be needed
-/// where the others are as deep as in the plan, and no cut.
+/// The first demands on depths with which a core's plan ends by a clock. They have no cut yet; for each FIFO they have the least
+/// depth that a path of steps shows to be needed, where the others are as deep as in the plan.
 ///
-/// It takes memory for a number of each step of the core, and lets it go. An error leaves nothing.
+/// It takes memory for a number of each step of the core, and frees it. `OutOfMemory` where memory ran out.
 pub(crate) fn first_demands(alloc: Global, core: &Core, clock: u64) -> Result<Demands, OutOfMemory>
     requires is_final { IsFinal (design core.now.plan) core.now.plan.cycles (theory_of core.now) }
     requires fits { FitsEngine core.now.plan }
@@ -46,7 +46,7 @@ pub(crate) fn first_demands(alloc: Global, core: &Core, clock: u64) -> Result<De
     })
 }
 
-/// How many bits an element of each channel has.
+/// One entry per channel: how many bits an element of it has. `OutOfMemory` where memory ran out.
 pub(crate) fn widths_of(alloc: Global, channels: &[Channel]) -> Result<Words, OutOfMemory>
     ensures value { IfOk result (λ widths. widths ≡ widths_of channels.now) }
     ensures narrow { IfOk result (λ widths. All (λ w. w ≤ 64) widths) }
@@ -58,7 +58,7 @@ pub(crate) fn widths_of(alloc: Global, channels: &[Channel]) -> Result<Words, Ou
     Ok(widths)
 }
 
-/// The least depth of a channel that is shown to be needed: 0 of one that is no FIFO.
+/// The least depth of a FIFO that is shown to be needed; 0 for a channel of another kind. `OutOfMemory` where memory ran out.
 fn floor_of(
     alloc: Global,
     core: &Core,
@@ -91,7 +91,8 @@ fn is_fifo(core: &Core, channel: u32) -> bool
         .is_fifo()
 }
 
-/// A depth of a FIFO below which the core's plan is not done by the target's clock. It takes memory for a path of steps.
+/// A depth of a FIFO such that with any smaller one the core's plan is not done by the target's clock. It takes memory for a path
+/// of steps. `OutOfMemory` where memory ran out.
 fn late_of(alloc: Global, core: &Core, latest: &Latest, target: &Target) -> Result<u64, OutOfMemory>
     requires is_final { IsFinal (design core.now.plan) core.now.plan.cycles (theory_of core.now) }
     requires quiet { AsksNothing core.now.plan }
@@ -108,7 +109,7 @@ fn late_of(alloc: Global, core: &Core, latest: &Latest, target: &Target) -> Resu
     )
 }
 
-/// The cheapest depths that meet demands, where those of the plan are known to meet them.
+/// The cheapest depths that meet demands which the plan's own depths are known to meet. `OutOfMemory` where memory ran out.
 pub(crate) fn cheapest_of(
     alloc: Global,
     core: &Core,

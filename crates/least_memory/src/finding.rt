@@ -1,4 +1,4 @@
-//! The depths with the fewest bits.
+//! Finds the depths with the fewest bits.
 ghost use Rattle.std.specs.Prelude.{◌≡◌, ◌≤◌, Some, IfOk};
 ghost use Rattle.flow_design.specs.StaticRules.{FitsEngine};
 ghost use Rattle.lockstep_defs.specs.Verdict.{verdict};
@@ -20,11 +20,11 @@ use std::alloc::Global;
 use std::sync::Wait;
 use std::thread::Threads;
 
-/// Depths for the FIFOs of a plan, and what the plan does with them.
+/// Depths for the FIFOs of a plan, and the verdict of the plan with them.
 pub struct Leasts {
     /// The verdict of the plan with these depths.
     pub verdict: Verdict,
-    /// One entry per channel: the depth of a FIFO, in elements, and 0 of the other channels.
+    /// One entry per channel: the depth of a FIFO, in elements, or 0 for a channel of another kind.
     pub depths: Words,
 }
 
@@ -37,13 +37,14 @@ impl Drop for Leasts {
     }
 }
 
-/// The depths with the fewest bits of FIFO memory with which a plan loses no more than so many clocks. Where the plan with the advised
-/// depths is done, they are the first, in lexicographic order, of those that take the fewest bits among all choices with an end by that
-/// clock and the slack. Else they are the advised ones.
+/// The depths with the fewest bits of FIFO memory with which a plan loses no more than `slack` clocks. Where the plan with the
+/// advised depths is done, they are those with the fewest bits among all choices with an end at most `slack` clocks later; of
+/// several, the first in lexicographic order. Otherwise they are the advised depths.
 ///
-/// `least_memory_is_least` says what that means. The plan has no query. It calls the runner once for the plan with the deepest FIFOs, and
-/// once more for each choice that no path of steps shows to be too late. It takes memory for two runs at a time, and for the cuts that
-/// are found. It is not said that it is quick: in the worst case there are as many cuts as choices. An error leaves nothing.
+/// `least_memory_is_least` says what that means. The plan has no query. It calls the runner once for the plan with the deepest
+/// FIFOs, and once more for each choice that no path of steps shows to be too late. It takes memory for two runs at a time, and for
+/// the cuts that are found. No clause says that it is quick: in the worst case there are as many cuts as choices. `OutOfMemory`
+/// where memory ran out.
 pub fn find_least<R: Threads + Wait + Sync, U: Runner>(
     rt: &R,
     alloc: Global,
@@ -71,7 +72,8 @@ pub fn find_least<R: Threads + Wait + Sync, U: Runner>(
     }
 }
 
-/// The depths with the fewest bits with which the plan of a core ends by a clock, by which it ends with its own: these are the deepest.
+/// The depths with the fewest bits with which the plan of a core ends by a clock. The core's plan has the deepest FIFOs, and ends
+/// by that clock. `OutOfMemory` where memory ran out.
 fn fewest_bits<R: Threads + Wait + Sync, U: Runner>(
     rt: &R,
     alloc: Global,

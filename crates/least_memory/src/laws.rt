@@ -8,9 +8,9 @@ ghost use Rattle.depth_advice.specs.Advice.{advised};
 ghost use Rattle.least_depths.specs.Least.{IsNoLater};
 ghost use Rattle.least_memory.specs.Least.{leasts, IsLeastMemory};
 
-/// The least depths of any plan are within the language's limits. If the plan with the advised depths is done, it is done
-/// with the least ones at most so many clocks later. No depths that are done by then take fewer bits, and of those that take as many
-/// none comes before in lexicographic order.
+/// The least depths of any plan are within the language's limits. If the plan with the advised depths is done, it is done with the
+/// least ones at most `slack` clocks later. No depths that are done by then take fewer bits, and none that take as many come
+/// earlier in lexicographic order.
 pub fn least_memory_is_least()
     ensures within { (slack : ℕ) (p : Plan) → FitsEngine p → AreDepths p (leasts slack p).depths }
     ensures told { (slack : ℕ) (p : Plan) → (leasts slack p).verdict ≡ verdict (with_depths p (leasts slack p).depths) }

@@ -29,7 +29,7 @@ pub struct LeastText {
 }
 
 impl LeastText {
-    /// The text alone.
+    /// The text of the least memory, without the verdict.
     pub fn into_text(self) -> List<u8>
         ensures { result ≡ self.text }
     {
@@ -41,9 +41,10 @@ impl LeastText {
     }
 }
 
-/// The text of the depths with the fewest bits that lose no more than so many clocks, which are those of `find_least`.
+/// The text of the depths with the fewest bits that lose no more than `slack` clocks, which `find_least` finds.
 ///
-/// It calls the runner as often as `find_least`. It takes memory for what that does and for the text. An error leaves nothing.
+/// It calls the runner as often as `find_least`. It takes memory for what that does and for the text. `OutOfMemory` where memory
+/// ran out.
 #[tactic(auto, unfolding(crate::specs::LeastText::least_text))]
 pub fn tell_least<R: Threads + Wait + Sync, U: Runner>(
     rt: &R,
@@ -72,7 +73,7 @@ pub fn tell_least<R: Threads + Wait + Sync, U: Runner>(
     })
 }
 
-/// Adds the line of the bits. Nothing is said of the text after want of memory.
+/// Adds the line `bits N`. After `OutOfMemory` the text may have part of it.
 #[tactic(auto, using(crate::proofs::BitsLine::line_of_two))]
 fn print_bits(text: &mut List<u8>, bits: u64) -> Result<(), OutOfMemory>
     ensures { OnOk result (text.new ≡ text.old ++ line (codes "bits" ∷ decimal bits ∷ [])) }

@@ -1,4 +1,4 @@
-//! The depths of FIFOs with the fewest bits of memory with which a plan loses no more than some clocks.
+//! The depths of FIFOs that take the fewest bits of memory, of all with which a plan loses no more than some clocks.
 #![tactic(auto)]
 
 mod demands;

@@ -1,4 +1,4 @@
-//! Depths that are tried.
+//! Tries depths for the plan of a core.
 ghost use Rattle.std.specs.Prelude.{◌≡◌, IfOk};
 ghost use Rattle.flow_design.specs.StaticRules.{FitsEngine};
 ghost use Rattle.event_timing.specs.Actions.{IsFinal};
@@ -18,19 +18,19 @@ use std::alloc::Global;
 use std::sync::Wait;
 use std::thread::Threads;
 
-/// What comes of depths that are tried.
+/// What trying some depths shows.
 #[derive(Drop)]
 pub(crate) enum Outcome {
-    /// With these depths the plan is too late: a cut that they do not meet, and that all depths that are in time do.
+    /// With these depths the plan ends too late. They do not meet this cut, but all depths do with which the plan ends in time.
     Late(Cut),
-    /// The plan is in time with them, and has this verdict.
+    /// With these depths the plan ends in time, with this verdict.
     Ended(Verdict),
 }
 
-/// Tries depths for the plan of a core, whose own FIFOs are as deep as the language allows: whether it is done by a clock. Where a path of
-/// steps shows that it is not, the plan is not simulated.
+/// Tries whether the plan of a core, whose own FIFOs are as deep as the language allows, is done by a clock with these depths.
+/// Where a path of steps shows that it is not, the plan is not simulated.
 ///
-/// It calls the runner once at most. It takes memory for the path and for the run. An error leaves nothing.
+/// It calls the runner at most once. It takes memory for the path and for the run. `OutOfMemory` where memory ran out.
 pub(crate) fn try_depths<R: Threads + Wait + Sync, U: Runner>(
     rt: &R,
     alloc: Global,
@@ -59,7 +59,7 @@ pub(crate) fn try_depths<R: Threads + Wait + Sync, U: Runner>(
     Ok(Outcome::Late(deeper_ones(alloc, depths)?))
 }
 
-/// Whether all modules are ended in this clock or before.
+/// Whether the verdict says that all modules have ended in this clock or earlier.
 fn is_done_by(verdict: Verdict, clock: u64) -> bool
     ensures { result ≡ is_done_by clock verdict }
 {

@@ -1,4 +1,4 @@
--- What can be done on the channels as they stand, and what is done.
+-- Which operations are possible on the contents of the channels, and what is done there.
 use Rattle.std.specs.Prelude.{ℕ, Bool, true, not, ◌&&◌, ◌==◌, nat_le, nat_lt, if◌then◌else◌, List, [], ◌∷◌, length, flat_map, map}
 use Rattle.std.specs.Prelude.{slice_index, slice_index_or}
 use Rattle.flow_word.specs.declared.access.Side.{Side}
@@ -16,7 +16,7 @@ use Rattle.lockstep_defs.specs.Machine.{is_yes, value_in}
 
 -- ---- what is possible
 
--- a value as an element that can be popped from this clock on
+-- a value as an element that can be popped from clock `since` on
 abbrev pub element_from : ℕ → ℕ → Element
 element_from since v = record { value = v; since = since }
 
@@ -26,12 +26,12 @@ values held = map (λ e. e.value) held
 abbrev pub contents_of : List (List Element) → ℕ → List Element
 contents_of contents f = slice_index_or contents f []
 
--- a channel is empty in a clock where it holds no element, or its first cannot be popped yet
+-- a channel is empty in a clock where it holds no element, or its first element cannot be popped yet
 abbrev pub is_empty : ℕ → List Element → Bool
 is_empty clock [] = true
 is_empty clock (e ∷ es) = nat_lt clock e.since
 
--- the value of the first element, 0 where there is none
+-- the value of a channel's first element, or 0 where there is none
 abbrev pub front : List Element → ℕ
 front [] = 0
 front (e ∷ es) = e.value
@@ -40,16 +40,16 @@ front (e ∷ es) = e.value
 abbrev pub all_ready : List (List Element) → List (List Element)
 all_ready contents = map (λ held. map (λ e. element_from 0 e.value) held) contents
 
--- a FIFO is full where it holds as many elements as its depth, those that cannot be popped yet included; a source and a sink never are
+-- a FIFO is full where it holds as many elements as its depth, those in flight included; a source or a sink is never full
 abbrev pub is_full : Plan → ℕ → List Element → Bool
 is_full p f held = is_fifo (kind_at p f) && nat_le (slice_index p.depths f) (length held)
 
--- in this clock an element is there to pop, or a place to push
+-- in this clock the channel has an element to pop, or a place for a push
 abbrev pub is_possible : Plan → ℕ → List (List Element) → Side → ℕ → Bool
 is_possible p clock contents Pop f = not (is_empty clock (contents_of contents f))
 is_possible p clock contents Push f = not (is_full p f (contents_of contents f))
 
--- a blocking operation that cannot be done
+-- the request is a blocking operation that cannot be done in this clock
 abbrev pub stalls : Plan → ℕ → List (List Element) → Request → Bool
 stalls p clock contents r = is_blocking r.kind && not (is_possible p clock contents (side_of r.kind) r.channel)
 
@@ -91,7 +91,7 @@ popped_value TryWrite was_done v = []
 popped_value Empty was_done v = []
 popped_value Full was_done v = []
 
--- the value that it pushed
+-- the value that an operation of this kind pushed, by whether it was done
 abbrev pub pushed_value : Kind → Bool → ℕ → List ℕ
 pushed_value Read was_done v = []
 pushed_value Write was_done v = v ∷ []
@@ -100,12 +100,12 @@ pushed_value TryWrite was_done v = if was_done then v ∷ [] else []
 pushed_value Empty was_done v = []
 pushed_value Full was_done v = []
 
--- what an operation moved at a side: a popped value stands in the reply, and a pushed one in the request
+-- the value that an operation popped, which its reply has, or the value that it pushed, which its request has
 abbrev pub moved_value : Side → Exchange → List ℕ
 moved_value Pop x = popped_value x.request.kind (is_yes x.reply) (value_in x.reply)
 moved_value Push x = pushed_value x.request.kind (is_yes x.reply) x.request.value
 
--- the values popped off a channel, or pushed on it, in order
+-- the values that these operations popped off a channel, or pushed on it, in order
 unfoldable pub moved_by : Side → ℕ → List Exchange → List ℕ
 moved_by side f xs = flat_map (λ x. if x.request.channel == f then moved_value side x else []) xs
 

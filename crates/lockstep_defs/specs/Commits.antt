@@ -14,7 +14,7 @@ abbrev pub writes_register : ℕ → Effect → Bool
 writes_register x (Variable i y v) = y == x
 writes_register x (Word n a v) = false
 
--- the effect writes temp t, which stands behind so many registers, of iteration i
+-- the effect writes temp t of iteration i, where the module has so many registers
 abbrev pub writes_temp : ℕ → ℕ → ℕ → Effect → Bool
 writes_temp registers i t (Variable j y v) = (j == i) && (y == registers + t)
 writes_temp registers i t (Word n a v) = false
@@ -28,16 +28,16 @@ abbrev pub written : Effect → ℕ
 written (Variable i y v) = v
 written (Word n a v) = v
 
--- the value that an effect writes, cut to a width; where there is none, the value from before
+-- the value that an effect writes, cut to a width, or the value from before where there is no effect
 abbrev pub cut_or_kept : ℕ → ℕ → Option Effect → ℕ
 cut_or_kept width before None = before
 cut_or_kept width before (Some e) = cut_to width (written e)
 
--- what a place of this width holds after these effects: the cut value of the last that writes it, or else what it held before
+-- what a place of this width holds after these effects: the value of the last effect that writes it, or else what it held before
 abbrev pub last_value : (Effect → Bool) → ℕ → ℕ → List Effect → ℕ
 last_value writes width before es = cut_or_kept width before (find writes (reverse es))
 
--- so it is with each register, each temp of each live iteration and each word
+-- after these effects each register, each temp of each live iteration and each memory word holds the last value written to it
 pub record LastWins (m : Module) (b : Block) (es : List Effect) (s after : ModuleState) : Type 0 where
   pub registers : (x : ℕ) → x < length m.registers
       → slice_index after.registers x ≡ last_value (writes_register x) (slice_index m.registers x) (slice_index s.registers x) es

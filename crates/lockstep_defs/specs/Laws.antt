@@ -43,18 +43,18 @@ MovesOnce p c = (side : Side) (f : ℕ) → length (moved side f (steps_in p c (
 abbrev pub all_in : Plan → ℕ → ℕ → List ℕ
 all_in p c f = values (contents_of (state p 0).contents f) ++ moved Push f (history p c)
 
--- what went in is what was popped, and then what the channel holds
+-- what went into a channel is what was popped off it, and after that what it holds
 abbrev pub IsConserved : Plan → ℕ → ℕ → Type 0
 IsConserved p c f = all_in p c f ≡ moved Pop f (history p c) ++ values (contents_of (state p c).contents f)
 
--- the n-th pop gives the n-th value that went in
+-- the n-th pop of a channel gives the n-th value that went in
 abbrev pub PopsInOrder : Plan → ℕ → ℕ → Type 0
 PopsInOrder p c f = (n d : ℕ) → n < length (moved Pop f (history p c))
     → slice_index_or (moved Pop f (history p c)) n d ≡ slice_index_or (all_in p c f) n d
 
--- what is possible is a matter of counts: an element is there where fewer were popped than went in as many clocks ago as the
--- channel's delay, and a FIFO has a place where fewer were pushed than its depth and the pops together; a source or a sink
--- always has one
+-- counts tell what is possible: a pop, where fewer elements were popped than had gone in as many clocks ago as the channel's delay;
+-- a push on a FIFO, where fewer elements were pushed than its depth and the number of pops together; a push on any other channel
+-- always
 pub record IsCounted (p : Plan) (c f : ℕ) : Type 0 where
   pub pops : is_possible p c (state p c).contents Pop f
       ≡ nat_lt (length (moved Pop f (history p c))) (length (all_in p (suc c - delay_at p f) f))
@@ -67,7 +67,7 @@ pub record IsCounted (p : Plan) (c f : ℕ) : Type 0 where
 abbrev pub replies_in : List HistoryStep → List (List Reply)
 replies_in steps = map (λ s. map (λ x. x.reply) s.exchanges) steps
 
--- the steps of an own run as what was done
+-- the operations done in each step of an own run
 abbrev pub exchanges_in : List OwnStep → List (List Exchange)
 exchanges_in steps = map (λ s. paired s.requests s.replies) steps
 
@@ -80,12 +80,13 @@ clocks_made p i (suc c) = if moves p c (state p c).contents (i, state_at p c i) 
 abbrev pub own_at : Plan → ℕ → ℕ → Own
 own_at p i c = own p i (replies_in (steps_of i (history p c))) (clocks_made p i c)
 
--- it has come to the module's state at clock c, and its steps are the module's steps in the history
+-- module i's own run on the history before clock c has the module's state at clock c, and its steps are the module's steps in the
+-- history
 pub record IsOwnRun (p : Plan) (i c : ℕ) : Type 0 where
   pub state_is : (own_at p i c).state ≡ state_at p c i
   pub steps_are : exchanges_in (own_at p i c).steps ≡ map (λ s. s.exchanges) (steps_of i (history p c))
 
--- the steps of the history stand in order of clocks, and in one clock in order of modules
+-- a step comes before another in the history: in an earlier clock, or in the same clock by a module with a lower number
 abbrev pub IsBefore : HistoryStep → HistoryStep → Type 0
 IsBefore s t = (s.clock < t.clock) ⊎ ((s.clock ≡ t.clock) × (s.«module» < t.«module»))
 
@@ -94,19 +95,19 @@ pub record IsLive (b : Block) (k : Control) (j : ℕ) : Type 0 where
   pub has_started : j * interval b ≤ k.newest
   pub is_young : (k.clock - k.newest) + j * interval b < b.len
 
--- the ages of the live iterations, the oldest first: that of the newest, and so many intervals more
+-- the n-th of the live iterations, the oldest first, has the age of the newest and one interval more for each iteration after it
 pub record AreAges (b : Block) (k : Control) : Type 0 where
   pub count : length (ages b k) ≡ live_count b k
   pub each : (n d : ℕ) → n < live_count b k → slice_index_or (ages b k) n d ≡ (k.clock - k.newest) + (live_count b k - 1 - n) * interval b
 
--- a report's numbers are those of the plan's modules and channels; it has one output for each sink, and the answers of each module
+-- a report names only modules and channels of its plan; it has one output for each sink, and answers for each module
 pub record HasNumbersOf (p : Plan) (r : Report) : Type 0 where
   pub outputs : length r.outputs ≡ length (filter (λ c. is_sink c.kind) p.design.channels)
   pub answers : length r.answers ≡ length p.design.modules
   pub held : All (λ h. (h.«module» < length p.design.modules) × (h.channel < length p.design.channels)) r.held
   pub events : All (λ e. (e.«module» < length p.design.modules) × (e.channel < length p.design.channels)) r.events
 
--- an operation with such an access is a query
+-- the access that an operation has, if any, is a query
 abbrev pub asks : Option (Kind × ℕ) → Bool
 asks None = false
 asks (Some access) = not (is_blocking access.0)
@@ -119,7 +120,7 @@ abbrev pub AsksOnce : Plan → ℕ → ModuleState → Type 0
 AsksOnce p i s =
     count_by (λ r. not (is_blocking r.kind)) (requests_of p (i, s)) ≤ count_by (λ t. is_query t.op) (block_of (module_at p i) s).ops
 
--- after its quiet clocks the own run of module i rests, and not before
+-- the own run of module i rests after its quiet clocks, and not earlier
 pub record QuietClocksEnd (p : Plan) (i : ℕ) (s : ModuleState) : Type 0 where
   pub goes_before : (n : ℕ) → n < quiet p i s → IsFalse (rests p i (skip p i n s))
   pub rests_then : IsTrue (rests p i (skip p i (quiet p i s) s))

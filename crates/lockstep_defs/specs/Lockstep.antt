@@ -16,7 +16,7 @@ use Rattle.lockstep_defs.specs.Channels.{HistoryStep, Exchange, element_from, st
 
 -- ---- one module
 
--- what stands where a number names no module
+-- the default where a number names no module
 abbrev pub no_module : Module
 no_module = record { name = []; registers = []; memories = []; blocks = [] }
 
@@ -42,7 +42,7 @@ next_state p clock contents m =
 abbrev pub answered : Plan → ℕ → List (List Element) → Request → Exchange
 answered p clock contents r = record { request = r; reply = reply p clock contents r }
 
--- the step of module i in a clock, where it has done something
+-- the step of module i in a clock; none where it did no FIFO operation
 abbrev pub step_with : ℕ → ℕ → List Exchange → List HistoryStep
 step_with clock i [] = []
 step_with clock i (x ∷ xs) = record { clock = clock; «module» = i; exchanges = x ∷ xs } ∷ []
@@ -57,8 +57,8 @@ step_of p clock contents m =
 unfoldable pub steps_in : Plan → ℕ → ClockState → List HistoryStep
 steps_in p clock st = flat_map (step_of p clock st.contents) (numbered st)
 
--- a channel's contents after these steps of a clock: the popped fronts are off, and the pushed values are on, which can be
--- popped after the channel's delay
+-- a channel's contents after the steps of a clock: the popped elements are gone from its front, and the pushed values are at its
+-- back, to be popped after the channel's delay
 abbrev pub contents_after : Plan → ℕ → List HistoryStep → ℕ × List Element → List Element
 contents_after p clock steps f =
     drop (length (moved Pop f.0 steps)) f.1 ++ map (element_from (clock + delay_at p f.0)) (moved Push f.0 steps)
@@ -82,7 +82,7 @@ opening p = record {
   contents = map (inputs_of p) (range_with_len 0 (length p.design.channels));
 }
 
--- the state at a clock, and the steps before it, by clock and module
+-- the state at a clock, and the steps done before it, in order of clocks and modules
 pub record Moment : Type 0 where
   pub state : ClockState
   pub history : List HistoryStep
@@ -93,7 +93,7 @@ next_moment p clock now = record {
   history = now.history ++ steps_in p clock now.state;
 }
 
--- one recursion for both
+-- the state at a clock and the history before it, by one recursion
 unfoldable pub moment : Plan → ℕ → Moment
 moment p zero = record { state = opening p; history = [] }
 moment p (suc clock) = next_moment p clock (moment p clock)

@@ -1,5 +1,5 @@
--- A module as a machine: what it asks of the channels, one move on the replies, and when it is over. Proofs about clocks open none of
--- `requests`, `move`, `is_over` and `opened`.
+-- A module as a machine: what it asks of the channels, one move on the replies, and when it is over. Proofs about clocks unfold
+-- none of `requests`, `move`, `is_over` and `opened`.
 use Rattle.std.specs.Prelude.{ℕ, ◌+◌, ◌-◌, ◌%◌, ◌==◌, nat_lt, nat_le, Bool, true, false, not, ◌&&◌, ◌||◌, if◌then◌else◌, Option, List, []}
 use Rattle.std.specs.Prelude.{◌∷◌, ◌++◌, map, length, drop, replicate, fold, filter_map, option_map, slice_index, slice_index_or, slice_set}
 use Rattle.std.specs.Int.{from_bool}
@@ -41,7 +41,7 @@ abbrev pub word_pushed : List Channel → ModuleState → ℕ → ℕ → List (
 word_pushed channels s i f [] = 0
 word_pushed channels s i f (e ∷ es) = cut_to (width_of channels f) (value_of s i e)
 
--- the request of an operation, if it is a FIFO operation
+-- the request of an operation; none where it is no FIFO operation
 abbrev pub request_of : List Channel → ModuleState → ℕ → Op ℕ → Option Request
 request_of channels s i op =
     option_map (λ a. record { kind = a.0; channel = a.1; value = word_pushed channels s i a.1 (expressions_of op) }) (access_of op)
@@ -55,7 +55,7 @@ requests channels m s = filter_map (request_for channels m s) (due m s)
 
 -- ---- commits
 
--- whether the operation was done, or the test held
+-- a reply says yes: the operation was done, or the test held
 abbrev pub is_yes : Reply → Bool
 is_yes Done = true
 is_yes (Value v) = true
@@ -63,7 +63,7 @@ is_yes (Flag b) = b
 is_yes (Took v) = true
 is_yes Missed = false
 
--- the value that an operation popped, if it popped one
+-- the value in a reply to an operation that popped one, else 0
 abbrev pub value_in : Reply → ℕ
 value_in Done = 0
 value_in (Value v) = v
@@ -78,7 +78,7 @@ memory_of s n = slice_index_or s.memories n []
 abbrev pub address_in : ModuleState → ℕ → ℕ → ℕ
 address_in s n address = address % length (memory_of s n)
 
--- what an operation of a live iteration writes, by the values from before the clock and its reply
+-- what an operation of a live iteration writes, from the values before the clock and the operation's reply
 abbrev pub effects_of : ModuleState → ℕ → Op ℕ → Reply → List Effect
 effects_of s i (Set x e) r = Variable i x (value_of s i e) ∷ []
 effects_of s i (Load x n e) r = Variable i x (slice_index (memory_of s n) (address_in s n (value_of s i e))) ∷ []
@@ -100,7 +100,7 @@ effects b s (d ∷ ds) replies =
     let op = (operation_at b d.op).op in
     effects_of s d.iteration op (slice_index_or replies 0 Done) ++ effects b s ds (if is_fifo_operation op then drop 1 replies else replies)
 
--- the value cut to the width of the place that takes it
+-- the state after an effect: its value is cut to the width of the place that takes it
 abbrev pub stored : Module → Block → ModuleState → Effect → ModuleState
 stored m b s (Variable i x v) =
     if nat_lt x (length m.registers)
@@ -123,7 +123,7 @@ abbrev pub again_of : BlockKind → ℕ
 again_of Plain = 0
 again_of (Loop ii again) = again
 
--- the temps of an iteration that starts
+-- the temps of an iteration at its start: each is 0
 abbrev pub fresh_temps : Block → List ℕ
 fresh_temps b = replicate (length b.temps) 0
 
@@ -135,7 +135,7 @@ entered m n s = record s {
   count = s.count + 1;
 }
 
--- the local clock goes up by one, and the temps of an iteration that is no longer live go
+-- the local clock goes up by one, and the temps of an iteration that is no longer live are dropped
 unfoldable pub ticked : Block → ModuleState → ModuleState
 ticked b s =
     let k = record s.control { clock = s.control.clock + 1 } in
@@ -160,7 +160,7 @@ decided b s =
     then (if slice_index s.registers (again_of b.kind) == 0 then stopped s else started b s)
     else s
 
--- where the terminator leads
+-- the module goes where the terminator leads
 abbrev pub followed : Module → Next → ModuleState → ModuleState
 followed m (Goto n) s = entered m n s
 followed m (Branch r n other) s = entered m (if slice_index s.registers r == 0 then other else n) s
@@ -192,7 +192,7 @@ opened m = entered m 0 (record {
   ended = false;
 })
 
--- what stands where a number names no module: a module that is ended
+-- the default where a number names no module: the state of a module that is ended
 abbrev pub nobody : ModuleState
 nobody = record {
   control = record { block = 0; clock = 0; newest = 0; looping = false };
@@ -203,10 +203,10 @@ nobody = record {
   ended = true;
 }
 
--- not ended, and its count is at least the operation limit
+-- a module is spent: it is not ended, and its operation count is at least the limit
 abbrev pub is_spent : ℕ → ModuleState → Bool
 is_spent limit s = not s.ended && nat_le limit s.count
 
--- ended or spent: it moves no more
+-- a module is over: it is ended or spent, and moves no more
 unfoldable pub is_over : ℕ → ModuleState → Bool
 is_over limit s = s.ended || is_spent limit s

@@ -17,9 +17,9 @@ use Rattle.lockstep_defs.specs.Report.{queries}
 
 -- ---- the own run
 
--- a local clock with due FIFO operations
+-- a step of an own run: a local clock with due FIFO operations
 pub record OwnStep : Type 0 where
-  -- the local clocks from the step before it, or from local clock 0
+  -- the local clocks since the run's previous step, or since local clock 0
   pub gap : ℕ
   pub requests : List Request
   pub replies : List Reply
@@ -31,7 +31,7 @@ pub record Own : Type 0 where
   -- the local clocks since the last step, or since local clock 0
   pub since : ℕ
 
--- one local clock with these requests and replies
+-- an own run one local clock later, in which it had these requests and replies
 abbrev pub own_after : Module → Own → List Request → List Reply → Own
 own_after m o [] replies = record { state = move m o.state []; steps = o.steps; since = o.since + 1 }
 own_after m o (r ∷ rs) replies = record {
@@ -40,13 +40,13 @@ own_after m o (r ∷ rs) replies = record {
   since = 1;
 }
 
--- the k-th step takes the k-th list of replies; a module that is over stays
+-- an own run one local clock later: its k-th step takes the k-th list of replies, and a module that is over stays
 unfoldable pub own_next : Plan → ℕ → List (List Reply) → Own → Own
 own_next p i replies o =
     if is_over p.ops o.state then o
     else own_after (module_at p i) o (requests p.design.channels (module_at p i) o.state) (slice_index_or replies (length o.steps) [])
 
--- the own run of module i after so many local clocks
+-- the own run of module i after n local clocks
 unfoldable pub own : Plan → ℕ → List (List Reply) → ℕ → Own
 own p i replies zero = record { state = opened (module_at p i); steps = []; since = 0 }
 own p i replies (suc n) = own_next p i replies (own p i replies n)
@@ -66,19 +66,19 @@ ordinal before r = 1 + length (moved_by (side_of r.kind) r.channel before)
 abbrev pub access_of : List Exchange → Request → Access
 access_of before r = record { kind = r.kind; channel = r.channel; ordinal = ordinal before r; value = r.value }
 
--- the steps, by what the module did before them
+-- the marks of these steps, by what the module did before them
 abbrev pub step_marks : List Exchange → List OwnStep → List Advance
 step_marks before [] = []
 step_marks before (s ∷ ss) =
     Step (record { gap = s.gap; accesses = map (access_of before) s.requests; first_query = length (queries before) })
     ∷ step_marks (before ++ paired s.requests s.replies) ss
 
--- the mark of a module that is over
+-- the mark of an own run's end; none while the module is not over
 abbrev pub end_mark : ℕ → Own → List Advance
 end_mark limit o =
     if o.state.ended then Ended o.since ∷ [] else (if is_spent limit o.state then Spent o.since ∷ [] else [])
 
--- the marks of the first so many local clocks, up to the step whose replies are not in the list
+-- the marks of module i's first n local clocks; the last is that of the first step whose replies are not given
 unfoldable pub marks : Plan → ℕ → List (List Reply) → ℕ → List Advance
 marks p i replies n =
     let o = own p i replies n in

@@ -14,7 +14,7 @@ use Rattle.lockstep_defs.specs.Lockstep.{state, history}
 use Rattle.lockstep_defs.specs.Verdict.{verdict, held}
 use Rattle.flow_design.specs.Reports.{clock_of}
 
--- the steps of one module
+-- the steps of module i
 abbrev pub steps_of : ℕ → List HistoryStep → List HistoryStep
 steps_of i steps = filter (λ s. s.«module» == i) steps
 
@@ -22,7 +22,7 @@ steps_of i steps = filter (λ s. s.«module» == i) steps
 abbrev pub queries : List Exchange → List Exchange
 queries xs = filter (λ x. not (is_blocking x.request.kind)) xs
 
--- the outcomes of the queries, in order
+-- the outcomes of the queries in these steps, in order
 abbrev pub outcomes : List HistoryStep → List Bool
 outcomes steps = flat_map (λ s. map (λ x. is_yes x.reply) (queries s.exchanges)) steps
 
@@ -30,7 +30,7 @@ outcomes steps = flat_map (λ s. map (λ x. is_yes x.reply) (queries s.exchanges
 abbrev pub event_of : HistoryStep → Exchange → EventLine
 event_of s x = record { «module» = s.«module»; kind = x.request.kind; channel = x.request.channel; cycle = s.clock }
 
--- one event for each operation
+-- the events of these steps: one for each operation
 abbrev pub events_of : List HistoryStep → List EventLine
 events_of steps = flat_map (λ s. map (event_of s) s.exchanges) steps
 
@@ -38,7 +38,7 @@ events_of steps = flat_map (λ s. map (event_of s) s.exchanges) steps
 abbrev pub sinks : Plan → List ℕ
 sinks p = filter (λ f. is_sink (kind_at p f)) (range_with_len 0 (length p.design.channels))
 
--- what each sink holds
+-- the values that each sink holds
 abbrev pub outputs_in : Plan → ClockState → List (List ℕ)
 outputs_in p st = map (λ f. values (contents_of st.contents f)) (sinks p)
 
@@ -46,7 +46,7 @@ outputs_in p st = map (λ f. values (contents_of st.contents f)) (sinks p)
 abbrev pub answers_in : Plan → List HistoryStep → List (List Bool)
 answers_in p steps = map (λ i. outcomes (steps_of i steps)) (range_with_len 0 (length p.design.modules))
 
--- a verdict, with what the state in its clock shows and what was done before it
+-- the report with a verdict, from the state in its clock and the steps before it
 abbrev pub report_with : Plan → Verdict → ClockState → List HistoryStep → Report
 report_with p v st steps = record {
   verdict = v;

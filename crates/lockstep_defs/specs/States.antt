@@ -9,7 +9,7 @@ use Rattle.flow_design.specs.Module.{block_of, is_loop, interval, live_count, te
 use Rattle.lockstep_defs.specs.Machine.{memory_of}
 use Rattle.lockstep_defs.specs.Quiet.{goes_on}
 
--- the module's registers and memories, and for each of so many iterations the block's temps
+-- the state has a value for each of the module's registers and memory words, and for each temp of so many iterations of the block
 pub record HasPlaces (m : Module) (b : Block) (iterations : ℕ) (s : ModuleState) : Type 0 where
   pub registers : length s.registers ≡ length m.registers
   pub memories : length s.memories ≡ length m.memories
@@ -17,16 +17,16 @@ pub record HasPlaces (m : Module) (b : Block) (iterations : ℕ) (s : ModuleStat
   pub temps : length s.temps ≡ iterations
   pub each_temps : (i : ℕ) → i < iterations → length (temps_of s i) ≡ length b.temps
 
--- the control stands in the block
+-- the control is one that the block can come to
 pub record IsWithin (b : Block) (k : Control) : Type 0 where
   -- the newest iteration has started
   pub has_started : k.newest ≤ k.clock
-  -- only a loop goes on
+  -- only in a loop can a further iteration start
   pub is_loop_going : IsTrue k.looping → IsTrue (is_loop b.kind)
-  -- and its newest iteration is younger than II
+  -- while a further iteration can start, the newest one is younger than II
   pub goes : IsTrue (goes_on k (interval b))
 
--- a state of a module
+-- the state is one that the module can have: it names one of its blocks, and fits it
 pub record IsStateOf (m : Module) (s : ModuleState) : Type 0 where
   pub block : s.control.block < length m.blocks
   -- the temps are those of the live iterations

@@ -26,7 +26,7 @@ some_moves p clock contents st = list_any (moves p clock contents) (numbered st)
 unfoldable pub is_settled : Plan → ℕ → ClockState → Bool
 is_settled p clock st = not (some_moves p clock st.contents st) && not (some_moves p clock (all_ready st.contents) st)
 
--- the first settled clock among so many from this one on, whose state is given
+-- the first settled clock among the n clocks from this one on, whose state is given
 unfoldable pub first_settled : Plan → ℕ → ℕ → ClockState → Option ℕ
 first_settled p zero clock st = None
 first_settled p (suc n) clock st =
@@ -34,7 +34,7 @@ first_settled p (suc n) clock st =
 
 -- ---- the verdict
 
--- in a settled clock: done if all modules are ended, else ops if one is spent, else deadlock
+-- the verdict in a settled clock: done if all modules are ended, else ops if one is spent, else deadlock
 abbrev pub settled_verdict : Plan → ℕ → ClockState → Verdict
 settled_verdict p clock st =
     if list_all (λ s. s.ended) st.modules then Done clock
@@ -44,7 +44,7 @@ abbrev pub verdict_at : Plan → Option ℕ → Verdict
 verdict_at p None = Cycles p.cycles
 verdict_at p (Some clock) = settled_verdict p clock (state p clock)
 
--- by the first settled clock that is at most the cycle limit
+-- the verdict of a plan: that of its first settled clock up to the cycle limit, or the cycle limit
 unfoldable pub verdict : Plan → Verdict
 verdict p = verdict_at p (first_settled p (suc p.cycles) 0 (state p 0))
 
@@ -58,11 +58,11 @@ abbrev pub held_by : Plan → ℕ → List (List Element) → ℕ × ModuleState
 held_by p clock contents m =
     if is_over p.ops m.1 then None else option_map (held_at m.0) (find (stalls p clock contents) (requests_of p m))
 
--- which would stall even if every element could be popped
+-- the modules that would stall even if every element could be popped, each with its first request that would
 abbrev pub held_in : Plan → ℕ → ClockState → List Held
 held_in p clock st = filter_map (held_by p clock (all_ready st.contents)) (numbered st)
 
--- with a verdict in this state; there are none where all modules are ended or the cycle limit was reached
+-- the held modules of a report with this verdict; none where all modules are ended or the cycle limit was reached
 abbrev pub held : Plan → Verdict → ClockState → List Held
 held p (Done clock) st = []
 held p (Deadlock clock) st = held_in p clock st

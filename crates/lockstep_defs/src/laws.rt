@@ -24,8 +24,8 @@ ghost use Rattle.lockstep_defs.specs.Commits.{LastWins};
 ghost use Rattle.lockstep_defs.specs.Laws.{SettledStays, SomeoneMoves, NoneBefore, MovesOnce, IsConserved, PopsInOrder, IsCounted};
 ghost use Rattle.lockstep_defs.specs.Laws.{IsBefore, IsOwnRun, IsLive, AreAges, HasNumbersOf, AsksOnce, QuietClocksEnd};
 
-/// From a settled clock on nothing changes and nothing is done, and from one that is not settled some module moves in it or in
-/// a later one. The verdict is that of the first settled clock.
+/// From a settled clock on nothing changes and nothing is done. From a clock that is not settled, some module moves in it or in a
+/// later one. The verdict is that of the first settled clock up to the cycle limit, and `cycles` where there is none.
 pub fn settled_clocks()
     ensures stays { (p : Plan) (c : ℕ) → SettledStays p c }
     ensures moves { (p : Plan) (c : ℕ) → SomeoneMoves p c }
@@ -34,7 +34,7 @@ pub fn settled_clocks()
     ensures none { (p : Plan) → NoneBefore p (p.cycles + 1) → verdict p ≡ Cycles p.cycles }
 {}
 
-/// Each channel of a plan that the engine takes is a queue.
+/// Each channel of a plan that the engine takes is a queue: values are popped in the order in which they went in, and none is lost.
 pub fn channels_are_queues()
     ensures once { (p : Plan) → FitsEngine p → (c : ℕ) → MovesOnce p c }
     ensures conserved { (p : Plan) → FitsEngine p → (c f : ℕ) → f < length p.design.channels → IsConserved p c f }
@@ -42,8 +42,8 @@ pub fn channels_are_queues()
     ensures counted { (p : Plan) → FitsEngine p → (c f : ℕ) → f < length p.design.channels → IsCounted p c f }
 {}
 
-/// The history stands in order of clocks, and in one clock in order of modules, and it is the only list in that order with its
-/// modules' steps. What a module does in it is its own run on the history's replies.
+/// The history is in order of clocks, and within one clock in order of modules. No other list in that order has the same steps of
+/// each module. What a module does in the history is its own run on the history's replies.
 pub fn histories_are_own_runs()
     ensures order { (p : Plan) (c : ℕ) → AllPairs IsBefore (history p c) }
     ensures clocks { (p : Plan) (c : ℕ) → All (λ s. s.clock < c) (history p c) }
@@ -53,8 +53,9 @@ pub fn histories_are_own_runs()
     ensures own { (p : Plan) (i c : ℕ) → i < length p.design.modules → IsOwnRun p i c }
 {}
 
-/// In each clock each module stands in one of its states, and its due operations and requests are those of its design. It pops a
-/// channel at most once in a local clock, pushes it at most once, and makes no more queries there than its block has.
+/// In each clock the state of each module has the shape that its design gives it, and its due operations and requests are
+/// operations of that design. In one local clock a module pops a channel at most once, pushes it at most once, and makes no more
+/// queries than its block has.
 pub fn states_fit_modules()
     ensures opened { (channels : ℕ) (m : Module) → IsModuleSound channels m → IsStateOf m (opened m) }
     ensures moved { (channels : ℕ) (m : Module) → IsModuleSound channels m → (s : ModuleState) (replies : Items Reply)
@@ -73,19 +74,20 @@ pub fn last_write_wins()
         → LastWins m (block_of m s) (effects (block_of m s) s (due m s) replies) s (committed m s replies) }
 {}
 
-/// A report names modules and channels of its plan alone, and has one output for each sink.
+/// A report names only modules and channels of its plan, and has one output for each sink.
 pub fn reports_name_their_plans()
     ensures { (p : Plan) → FitsEngine p → HasNumbersOf p (report p) }
 {}
 
-/// The live iterations of a block whose interval is at least 1 started at the newest one's start and at each interval before it,
-/// from local clock 0 on, as far as they are younger than the block's length.
+/// Where a block's interval is at least 1, its live iterations are those that started at the newest one's start, or a number of
+/// intervals before it, from local clock 0 on, and that are younger than the block's length.
 pub fn live_iterations()
     ensures live { (b : Block) (k : Control) (j : ℕ) → 0 < interval b → (j < live_count b k) ↔ IsLive b k j }
     ensures ages { (b : Block) (k : Control) → AreAges b k }
 {}
 
-/// From each state that a module comes to its quiet clocks end, and in these nothing of its own run but the state goes on.
+/// The quiet clocks of a module end, from each state that it comes to. In these clocks only the state of its own run changes, and
+/// the time since its last step.
 pub fn quiet_clocks_end()
     ensures opened { (p : Plan) → FitsEngine p → (i : ℕ) → IsTrue (fits p i (opened (module_at p i))) }
     ensures moved { (p : Plan) → FitsEngine p → (i : ℕ) (s : ModuleState) (replies : Items Reply)

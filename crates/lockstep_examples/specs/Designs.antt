@@ -36,7 +36,7 @@ fifo width = record { name = []; width = width; kind = Fifo 2 1 }
 abbrev pub slow_fifo : ℕ → ℕ → Channel
 slow_fifo width delay = record { name = []; width = width; kind = Fifo 2 delay }
 
--- `block LEN` and `loop II LEN while R`, which stop at their end
+-- a plain block `block LEN`, and a loop `loop II LEN while R`; after either the module ends
 abbrev pub block : ℕ → List Timed → Block
 block len ops = record { kind = Plain; len = len; temps = []; ops = ops; next = Stop }
 
@@ -71,7 +71,7 @@ plain_case = adder_plan (7 ∷ [])
 abbrev pub exhausted_source : Plan
 exhausted_source = adder_plan []
 
--- the count is 3 after the last clock, and the module is then ended
+-- the operation count reaches the limit of 3 in the local clock in which the module ends
 abbrev pub exact_operation_limit : Plan
 exact_operation_limit = record plain_case { ops = 3 }
 
@@ -89,7 +89,7 @@ commit_order = plan_of (sink 8 ∷ [])
     (one_block (8 ∷ []) (block 2 (at 0 (Set 0 (Number 1)) ∷ at 0 (Set 0 (Number 2)) ∷ at 1 (Write 0 (Var 0)) ∷ [])) ∷ [])
     ([] ∷ []) (0 ∷ [])
 
--- a value is told in each clock
+-- operations that push one value after the other on channel 0, one in each clock
 abbrev pub telling : ℕ → List (Expr ℕ) → List Timed
 telling offset [] = []
 telling offset (e ∷ es) = at offset (Write 0 e) ∷ telling (suc offset) es
@@ -121,7 +121,8 @@ visibility_one_clock_later = plan_of (source 8 ∷ fifo 8 ∷ sink 8 ∷ [])
     ∷ [])
     ((5 ∷ []) ∷ [] ∷ [] ∷ []) (0 ∷ 2 ∷ 0 ∷ [])
 
--- a loop that pushes its iteration's number, and one that pops, for three iterations
+-- the operations of a loop of three iterations, around an access: register i counts them, and register g tells the loop whether to
+-- go on
 abbrev pub counting : ℕ → ℕ → Op ℕ → List Timed
 counting i g op = at 0 op ∷ at 0 (Set i (Binary Add (Var i) (Number 1))) ∷ at 0 (Set g (Binary LtU (Var i) (Number 2))) ∷ []
 
@@ -138,7 +139,7 @@ three_values_through_depth_two = three_values 2
 abbrev pub three_values_through_depth_one : Plan
 three_values_through_depth_one = three_values 1
 
--- registers x, o and p
+-- a module that pushes and pops one FIFO; its registers are x, o and p
 abbrev pub both_ends_in_one_module : Plan
 both_ends_in_one_module = plan_of (fifo 8 ∷ sink 8 ∷ [])
     (one_block (8 ∷ 1 ∷ 1 ∷ []) (block 3
@@ -152,7 +153,7 @@ both_ends_in_one_module = plan_of (fifo 8 ∷ sink 8 ∷ [])
 
 -- ---- queries
 
--- a push in clock 5, and a tried pop in this clock
+-- a push in clock 5, and a tried pop in the given clock
 abbrev pub tried_pop : ℕ → Plan
 tried_pop clock = plan_of (fifo 8 ∷ sink 8 ∷ [])
     (one_block [] (block 6 (at 5 (Write 0 (Number 3)) ∷ []))
@@ -166,7 +167,7 @@ tie_in_the_clock = tried_pop 5
 abbrev pub one_clock_after_the_push : Plan
 one_clock_after_the_push = tried_pop 6
 
--- a module that tries to pop one channel, and then pushes the other and tells
+-- a module that tries to pop one channel, then pushes another, and pushes the outcome on a third
 abbrev pub asking : ℕ → ℕ → ℕ → Module
 asking pops pushes tells = one_block (8 ∷ 1 ∷ [])
     (block 2 (at 0 (TryRead pops 0 1) ∷ at 1 (Write pushes (Number 1)) ∷ at 1 (Write tells (Var 1)) ∷ []))
@@ -175,7 +176,7 @@ abbrev pub two_least_queries : Plan
 two_least_queries = plan_of (fifo 8 ∷ fifo 8 ∷ sink 8 ∷ sink 8 ∷ []) (asking 1 0 2 ∷ asking 0 1 3 ∷ [])
     ([] ∷ [] ∷ [] ∷ [] ∷ []) (2 ∷ 2 ∷ 0 ∷ 0 ∷ [])
 
--- registers x, e, g and z; channels b, c and y
+-- a module that tests and pops; its registers are x, e, g and z, and its channels b, c and y
 abbrev pub tester : Module
 tester = one_block (8 ∷ 1 ∷ 1 ∷ 1 ∷ []) (loop 1 4 2
     (at 0 (Read 0 0)
@@ -200,7 +201,7 @@ outcome_that_turns depth = plan_of (fifo 8 ∷ sink 8 ∷ [])
     ∷ [])
     ([] ∷ [] ∷ []) (depth ∷ 0 ∷ [])
 
--- registers x, ok and one
+-- a module that tries to pop in each clock without end; its registers are x, ok and one
 abbrev pub poller : Module
 poller = one_block (8 ∷ 1 ∷ 1 ∷ []) (loop 1 1 2 (at 0 (TryRead 0 0 1) ∷ at 0 (Set 2 (Number 1)) ∷ []))
 
@@ -215,7 +216,7 @@ polling_loop = record {
 
 -- ---- deadlock
 
--- a producer without an end, whose consumer never pops
+-- a producer that pushes without end, and a consumer that never pops
 abbrev pub run_ahead_past_full : Plan
 run_ahead_past_full = plan_of (fifo 8 ∷ [])
     (one_block (1 ∷ []) (loop 1 1 0 (at 0 (Write 0 (Number 7)) ∷ at 0 (Set 0 (Number 1)) ∷ []))
@@ -223,14 +224,14 @@ run_ahead_past_full = plan_of (fifo 8 ∷ [])
     ∷ [])
     ([] ∷ []) (2 ∷ [])
 
--- a module that pops one channel, and then pushes the other
+-- a module that pops one channel, and then pushes another
 abbrev pub waiting : ℕ → ℕ → Module
 waiting pops pushes = one_block (8 ∷ []) (block 2 (at 0 (Read pops 0) ∷ at 1 (Write pushes (Number 1)) ∷ []))
 
 abbrev pub deadlock_at_once : Plan
 deadlock_at_once = plan_of (fifo 8 ∷ fifo 8 ∷ []) (waiting 1 0 ∷ waiting 0 1 ∷ []) ([] ∷ [] ∷ []) (2 ∷ 2 ∷ [])
 
--- channels b, c and y
+-- a deadlock that depends on the depth of the first FIFO; the channels are b, c and y
 abbrev pub deadlocked_record_goes_on : ℕ → Plan
 deadlocked_record_goes_on depth = plan_of (fifo 8 ∷ fifo 8 ∷ sink 8 ∷ [])
     (one_block [] (block 4
@@ -254,7 +255,7 @@ three_values_late depth = record (three_values depth) {
   design = record (three_values depth).design { channels = slow_fifo 8 5 ∷ [] };
 }
 
--- a push in clock 5 on a FIFO of this delay, and a tried pop in clock 6
+-- a push in clock 5 on a FIFO with this delay, and a tried pop in clock 6
 abbrev pub tried_pop_late : ℕ → Plan
 tried_pop_late delay = plan_of (slow_fifo 8 delay ∷ sink 8 ∷ [])
     (one_block [] (block 6 (at 5 (Write 0 (Number 3)) ∷ []))
@@ -262,11 +263,11 @@ tried_pop_late delay = plan_of (slow_fifo 8 delay ∷ sink 8 ∷ [])
     ∷ [])
     ([] ∷ [] ∷ []) (2 ∷ 0 ∷ [])
 
--- two modules that wait for one another; the one that pops first would wait long for its element
+-- two modules that wait for one another; the FIFO that one of them pops has a long delay
 abbrev pub slow_deadlock : Plan
 slow_deadlock = record deadlock_at_once { design = record deadlock_at_once.design { channels = slow_fifo 8 9 ∷ fifo 8 ∷ [] } }
 
--- a module that waits for an element that can be popped later, and for one that never comes
+-- a module that waits for an element in flight, and for an element that never comes
 abbrev pub held_by_the_second : Plan
 held_by_the_second = plan_of (slow_fifo 8 9 ∷ fifo 8 ∷ [])
     (one_block [] (block 1 (at 0 (Write 0 (Number 3)) ∷ []))
@@ -277,8 +278,8 @@ held_by_the_second = plan_of (slow_fifo 8 9 ∷ fifo 8 ∷ [])
 
 -- ---- loops, temps, memories and terminators
 
--- II = LEN = 2: the temp of an iteration is 0 at its start, whatever the iteration before left in its own. Registers i and g,
--- temp t: the temp is told at offset 0 and written at offset 1
+-- II = LEN = 2: the temp of an iteration is 0 at its start, whatever the iteration before it wrote in its own temp. The registers
+-- are i and g, and temp t is pushed at offset 0 and written at offset 1
 abbrev pub back_to_back : Plan
 back_to_back = plan_of (sink 8 ∷ [])
     (one_block (8 ∷ 1 ∷ []) (record {
@@ -294,8 +295,9 @@ back_to_back = plan_of (sink 8 ∷ [])
     }) ∷ [])
     ([] ∷ []) (0 ∷ [])
 
--- registers i and g, and a memory of 3 words of 4 bits. The first block stores 17 + i at address i + 1, by a temp of a loop of
--- two live iterations; then a branch to the third block, which tells the words and goes to the fourth, which stops
+-- registers i and g, and a memory of 3 words of 4 bits. The first block, a loop with two live iterations, stores 17 + i at address
+-- i + 1 by a temp. A branch leads to the third block, which pushes the words on the sink, and then to the fourth, which ends the
+-- module
 abbrev pub parts : Plan
 parts = plan_of (sink 8 ∷ [])
     (record {

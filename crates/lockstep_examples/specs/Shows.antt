@@ -1,4 +1,4 @@
--- What a report shows, in short.
+-- What a report says, in short.
 use Rattle.std.specs.Prelude.{◌≡◌, ℕ, Bool, List}
 use Rattle.flow_word.specs.declared.access.Access.{Access}
 use Rattle.flow_word.specs.declared.access.Kind.{Kind}
@@ -24,10 +24,10 @@ event i kind channel cycle = record { «module» = i; kind = kind; channel = cha
 abbrev pub held_by_channel : ℕ → Bool → ℕ → Held
 held_by_channel i full channel = record { «module» = i; full = full; channel = channel }
 
--- the access of an element of a channel, with what it pushes
+-- an access with its kind, its channel, its ordinal, and the value that it pushes
 abbrev pub access : Kind → ℕ → ℕ → ℕ → Access
 access kind channel ordinal value = record { kind = kind; channel = channel; ordinal = ordinal; value = value }
 
--- the mark of a step: its gap, its accesses, and how many queries came before
+-- the mark of a step: its gap, its accesses, and how many queries the module made before
 abbrev pub step_mark : ℕ → List Access → ℕ → Advance
 step_mark gap accesses first_query = Step (record { gap = gap; accesses = accesses; first_query = first_query })

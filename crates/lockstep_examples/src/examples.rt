@@ -9,7 +9,7 @@ ghost use Rattle.lockstep_defs.specs.OwnRun.{marks};
 ghost use Rattle.lockstep_examples.specs.Designs as Designs;
 ghost use Rattle.lockstep_examples.specs.Shows.{Shows, event, held_by_channel, access, step_mark};
 
-/// From a source to a sink.
+/// Values that go from a source to a sink.
 pub fn sources_and_sinks()
     ensures plain_case { Shows Designs.plain_case (Done 3) ((8 ∷ []) ∷ []) [] }
     ensures plain_events { (report Designs.plain_case).events ≡ event 0 Kind.Read 0 0 ∷ event 0 Kind.Write 1 2 ∷ [] }
@@ -45,7 +45,7 @@ pub fn fifos()
         ∷ event 1 Kind.Read 0 3 ∷ event 0 Kind.Write 0 4 ∷ event 1 Kind.Read 0 5 ∷ [] }
 {}
 
-/// FIFOs whose elements can be popped later, and other depths for them.
+/// FIFOs with a delay of more than one clock, and edits of their depths.
 pub fn delays()
     ensures five_clocks_later { Shows Designs.five_clocks_later (Done 8) ((5 ∷ []) ∷ []) [] }
     ensures later_events { (report Designs.five_clocks_later).events
@@ -64,7 +64,7 @@ pub fn delays()
     ensures held_by_the_second { Shows Designs.held_by_the_second (Deadlock 1) [] (held_by_channel 1 false 1 ∷ []) }
 {}
 
-/// Operations that never block, and tests.
+/// Queries: operations that never block.
 pub fn queries()
     ensures tie_in_the_clock { Shows Designs.tie_in_the_clock (Done 7) ((0 ∷ []) ∷ []) [] }
     ensures one_clock_after_the_push { Shows Designs.one_clock_after_the_push (Done 8) ((1 ∷ []) ∷ []) [] }
@@ -84,7 +84,7 @@ pub fn deadlocks()
     ensures run_ahead_past_full { Shows Designs.run_ahead_past_full (Deadlock 2) [] (held_by_channel 0 true 0 ∷ []) }
 {}
 
-/// Iterations that follow one another at once, and temps, memories and terminators.
+/// Iterations that follow one another without a gap, and temps, memories and terminators.
 pub fn blocks_and_loops()
     ensures back_to_back { Shows Designs.back_to_back (Done 6) ((0 ∷ 0 ∷ 0 ∷ []) ∷ []) [] }
     ensures parts { Shows Designs.parts (Done 9) ((3 ∷ 1 ∷ 2 ∷ []) ∷ []) [] }

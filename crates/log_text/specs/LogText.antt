@@ -9,22 +9,22 @@ use Rattle.report_text.specs.ReportText.{channel_name, kind_token, module_name}
 use Rattle.sim_core.specs.declared.access_log.LoggedAccess.{LoggedAccess}
 use Rattle.sim_core.specs.AccessLog.{log_of}
 
--- the value of the element that moved, if one moved
+-- the token of the value of the element that moved, if one moved
 abbrev pub value_tokens : Option ℕ → List Token
 value_tokens None = []
 value_tokens (Some value) = decimal value ∷ []
 
--- `access MODULE KIND CHANNEL CLOCK OUTCOME`, and the value
+-- the tokens of `access MODULE KIND CHANNEL CLOCK OUTCOME`, and of the value, if an element moved
 abbrev pub access_tokens : Design → LoggedAccess → List Token
 access_tokens design a =
     codes "access" ∷ module_name design a.event.module ∷ kind_token a.event.kind ∷ channel_name design a.event.channel
     ∷ decimal a.event.cycle ∷ decimal (from_bool a.outcome) ∷ value_tokens a.value
 
--- its module and its channel are the design's
+-- the module and the channel of an access are the design's
 abbrev pub IsNamed : Design → LoggedAccess → Type 0
 IsNamed design a = (a.event.module < length design.modules) × (a.event.channel < length design.channels)
 
--- the verdict, and a line for each access that was done
+-- the log of a plan: the verdict, and a line for each access that was done
 unfoldable pub log_text : Plan → List ℕ
 log_text p =
     text_of_lines ((codes "log" ∷ []) ∷ verdict_tokens (report p).verdict ∷ map (access_tokens p.design) (log_of p))

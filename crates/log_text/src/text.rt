@@ -20,10 +20,11 @@ use sim_io::{Sink, TellFault, write_full};
 use std::alloc::Global;
 use step_walk::StepWalk;
 
-/// Writes the text of the log of a final core's plan in pieces, and hands out the rest: the verdict, and a line for each access that
-/// was done, in the order of the report's events.
+/// Writes the log of a final core's plan in pieces, and answers the part that is not yet written. The log has the verdict, and a
+/// line for each access that was done, in the order of the report's events.
 ///
-/// It takes memory for two numbers of each module, for what one step's accesses gave, and for a piece of the text. After an error a
+/// It takes memory for two numbers for each module, for what the accesses of one step gave, and for a piece of the text. After a
+/// fault a prefix of the text is written.
 /// prefix of the text is written.
 #[tactic(auto, using(sim_io::proofs::Pending::prefix_none))]
 pub fn log_text<K: Sink>(alloc: Global, core: &Core, sink: &mut K) -> Result<List<u8>, TellFault>
@@ -39,7 +40,7 @@ pub fn log_text<K: Sink>(alloc: Global, core: &Core, sink: &mut K) -> Result<Lis
     Ok(pending)
 }
 
-/// Adds a line for each access of a final core's plan to what is pending, step by step, and writes that in pieces.
+/// Adds a line for each access of a final core's plan to the pending text, step by step, and writes it in pieces.
 fn write_steps<K: Sink>(
     alloc: Global,
     pending: &mut List<u8>,
@@ -69,7 +70,7 @@ fn write_steps<K: Sink>(
     Ok(())
 }
 
-/// Adds a line for each access to what is pending, and writes that in pieces.
+/// Adds a line for each of these accesses to the pending text, and writes it in pieces.
 fn write_log<K: Sink>(
     pending: &mut List<u8>,
     design: &Design,
@@ -90,7 +91,7 @@ fn write_log<K: Sink>(
     Ok(())
 }
 
-/// Adds the line of an access to what is pending, and writes that where it is a piece.
+/// Adds the line of an access to the pending text, and writes the text once it is a piece.
 #[tactic(auto, using(sim_io::proofs::Pending::prefix_none))]
 fn write_access<K: Sink>(
     pending: &mut List<u8>,
@@ -131,7 +132,7 @@ fn print_access(
     text.push(b'\n')
 }
 
-/// Adds the value of the element that moved, if one moved.
+/// Adds a space and the value of the element that moved, if one moved.
 fn push_moved(text: &mut List<u8>, value: Option<u64>) -> Result<(), OutOfMemory>
     ensures { OnOk result (text.new ≡ text.old ++ flat_map (λ t. 32 ∷ t) (value_tokens value)) }
 {

@@ -1,4 +1,4 @@
--- The chain of rests of a module's own run: each is the next one behind the replies to the one before it.
+-- The chain of rests of a module's own run: each rest is the next one after the replies to the rest before it.
 use Rattle.std.specs.Prelude.{ℕ, zero, suc, ◌+◌, ◌<◌, List, [], ◌∷◌, ◌++◌, slice_index_or, IsTrue}
 use Rattle.flow_design.specs.declared.plan.Plan.{Plan}
 use Rattle.flow_design.specs.declared.state.Advance.{Advance}
@@ -10,16 +10,16 @@ use Rattle.lockstep_defs.specs.Quiet.{quiet}
 use Rattle.module_interp.specs.OwnRests.{first_rest, next_rest, requests_at, mark_at}
 use Rattle.module_interp.specs.Runs.{is_step}
 
--- the replies to the k-th rest, from 0
+-- the replies to the k-th rest, counted from 0
 abbrev pub replies_to : List (List Reply) → ℕ → List Reply
 replies_to replies k = slice_index_or replies k []
 
--- the k-th rest, from 0
+-- the k-th rest of module i's own run, counted from 0
 unfoldable pub rest_at : Plan → ℕ → List (List Reply) → ℕ → Own
 rest_at p i replies zero = first_rest p i
 rest_at p i replies (suc k) = next_rest p i (rest_at p i replies k) (replies_to replies k)
 
--- the local clock in which it rests there
+-- the local clock of the k-th rest
 unfoldable pub clock_at : Plan → ℕ → List (List Reply) → ℕ → ℕ
 clock_at p i replies zero = quiet p i (opened (module_at p i))
 clock_at p i replies (suc k) =

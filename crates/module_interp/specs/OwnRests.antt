@@ -1,4 +1,4 @@
--- A module's own run from rest to rest: it rests in a local clock with a due FIFO operation, and where it is over.
+-- A module's own run from rest to rest: it rests in a local clock with a due FIFO operation, and once it is over.
 use Rattle.std.specs.Prelude.{ℕ, ◌+◌, sum_by, Bool, true, false, ◌&&◌, if◌then◌else◌, List, [], ◌∷◌, map, length, flat_map}
 use Rattle.flow_word.specs.declared.access.Access.{Access}
 use Rattle.flow_word.specs.declared.access.Kind.{Kind}
@@ -18,37 +18,37 @@ use Rattle.lockstep_defs.specs.Quiet.{quiet, own_later}
 
 -- ---- rests
 
--- at the end of its quiet clocks
+-- an own run of module i after its quiet clocks, at its next rest
 abbrev pub to_rest : Plan → ℕ → Own → Own
 to_rest p i o = own_later p i (quiet p i o.state) o
 
--- the first rest, from local clock 0 on
+-- the first rest of module i, from local clock 0 on
 abbrev pub first_rest : Plan → ℕ → Own
 first_rest p i = to_rest p i (record { state = opened (module_at p i); steps = []; since = 0 })
 
--- the requests of the step at which it rests
+-- the requests of the step at which module i rests
 abbrev pub requests_at : Plan → ℕ → Own → List Request
 requests_at p i o = requests_of p (i, o.state)
 
--- the next rest, where that step has these replies
+-- the next rest, where the step of this rest has these replies
 abbrev pub next_rest : Plan → ℕ → Own → List Reply → Own
 next_rest p i o replies = to_rest p i (own_after (module_at p i) o (requests_at p i o) replies)
 
--- the local clocks up to a rest: those of all gaps together
+-- the local clocks up to a rest: the sum of all gaps
 abbrev pub clocks_in : Own → ℕ
 clocks_in o = sum_by (λ s. s.gap) o.steps + o.since
 
 -- ---- marks
 
--- all that was done in steps
+-- all operations that were done in these steps
 abbrev pub done_in : List OwnStep → List Exchange
 done_in steps = flat_map (λ s. paired s.requests s.replies) steps
 
--- the accesses of the step at which it rests
+-- the accesses of the step at which module i rests
 abbrev pub accesses_at : Plan → ℕ → Own → List Access
 accesses_at p i o = map (access_of (done_in o.steps)) (requests_at p i o)
 
--- the mark of a rest: the step, or that the module is ended or spent
+-- the mark of a rest: its step, or that the module is ended or spent
 abbrev pub mark_at : Plan → ℕ → Own → Advance
 mark_at p i o =
     if o.state.ended then Ended o.since
@@ -57,7 +57,7 @@ mark_at p i o =
 
 -- ---- replies
 
--- a reply fits a kind of access
+-- a reply is one that an access of this kind can have
 abbrev pub fits_kind : Kind → Reply → Bool
 fits_kind kind.Read Done = false
 fits_kind kind.Read (Value v) = true
@@ -90,7 +90,7 @@ fits_kind kind.Full (Flag b) = true
 fits_kind kind.Full (Took v) = false
 fits_kind kind.Full Missed = false
 
--- one reply for each access, each of which fits it
+-- there is one reply for each access, and it is one that the access can have
 abbrev pub all_fit : List Access → List Reply → Bool
 all_fit [] [] = true
 all_fit [] (r ∷ rs) = false

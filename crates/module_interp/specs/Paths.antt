@@ -1,4 +1,4 @@
--- How the program's run stands in a module's own run.
+-- Where the program's run is in a module's own run.
 use Rattle.std.specs.Prelude.{ℕ, ◌≡◌, ◌+◌, ◌-◌, ◌*◌, ◌^◌, ◌<◌, ◌≤◌, if◌then◌else◌, true, false, List, [], length, slice_index}
 use Rattle.flow_word.specs.declared.access.Side.TheVariants.{Pop, Push}
 use Rattle.flow_design.specs.declared.limits.TheConstants.{BLOCK_CLOCKS, LONG_BLOCK_OPERATIONS}
@@ -25,44 +25,44 @@ use Rattle.module_interp.specs.declared.tally.Tally.{Tally}
 
 -- ---- how long a module can run
 
--- where each module may count so many operations, no block goes on for so many local clocks from its last start of an iteration
+-- a bound for how many local clocks a block can go on after its last iteration started, where a module may count so many operations
 abbrev pub block_bound : ℕ → ℕ
 block_bound operations = 2 * longest_block operations + 2
 
--- no module runs for so many local clocks: its blocks may be long, or its operations many, but not both
+-- a bound for how many local clocks a module can run: its blocks may be long, or its operations many, but not both
 abbrev pub clock_bound : ℕ
 clock_bound = (LONG_BLOCK_OPERATIONS + 1) * (2 * BLOCK_CLOCKS + 2)
 
--- falls in each local clock: the operation count goes up, or the next decision or the block's end comes nearer
+-- a measure that falls in each local clock: the operation count rises, or the next decision or the block's end comes nearer
 unfoldable pub clocks_to_go : ℕ → Module → ModuleState → ℕ
 clocks_to_go operations m s = (operations - s.count) * block_bound operations + clocks_left (block_of m s) s.control
 
--- the local clocks since a step, and the block's local clock, stay below the bound
+-- the local clocks since a step, and all that the module can still run, stay below the bound
 pub record IsInTime (p : Plan) (m : Module) (s : ModuleState) (elapsed : ℕ) : Type 0 where
   pub since : elapsed ≤ clock_bound
   pub left : s.ended ≡ false → elapsed + clocks_to_go p.ops m s ≤ clock_bound
   pub clock : s.ended ≡ false → s.control.clock + clocks_to_go p.ops m s ≤ clock_bound
 
--- ---- the move in which a module stands
+-- ---- the move at which a module stands
 
 abbrev pub after_move_by : Stage → Path → ModuleState
 after_move_by Begun x = x.state
 after_move_by Asked x = x.state
 after_move_by Ticked x = gone_on x.of x.state
 
--- the state behind what is left to do
+-- the state after what is left to do of the move
 abbrev pub after_move : Path → ModuleState
 after_move x = after_move_by x.stage x
 
--- what the due operations of the state ask, in channels for which the codes are right, is what was asked
+-- the path has the requests of its state, for all channels that fit its codes
 abbrev pub HasAsked : Path → Type 0
 HasAsked x = (channels : List Channel) → AreCodesOf channels x.of x.codes → x.asked ≡ requests channels x.of x.state
 
--- they ask nothing
+-- the path's state has no request, for all channels that fit its codes
 abbrev pub AsksNothing : Path → Type 0
 AsksNothing x = (channels : List Channel) → AreCodesOf channels x.of x.codes → requests channels x.of x.state ≡ []
 
--- what is needed to do it
+-- the path can commit on replies: its state is sound, and it has the notes of what is due
 pub record CanAnswer (x : Path) : Type 0 where
   pub state : IsStateSound x.of x.state
   pub noted : x.noted ≡ notes_of x.of x.state
@@ -98,23 +98,23 @@ pub record IsPathOf (p : Plan) (i : ℕ) (x : Path) : Type 0 where
 
 -- ---- the rest to which it leads
 
--- behind its move and the quiet clocks from there on, the path comes to this rest
+-- the path comes to this rest after its move and the quiet clocks that follow
 pub record LeadsTo (p : Plan) (i : ℕ) (o : Own) (x : Path) : Type 0 where
   pub path : IsPathOf p i x
   pub rest : o.state ≡ skip p i (quiet p i (after_move x)) (after_move x)
   pub since : o.since ≡ x.since + quiet p i (after_move x)
 
--- what leads to a rest still leads there
+-- each rest to which the first path leads is one to which the second leads
 abbrev pub KeepsRest : Path → Path → Type 0
 KeepsRest x y = (p : Plan) (i : ℕ) (o : Own) → LeadsTo p i o x → LeadsTo p i o y
 
--- the path of some module
+-- the path is that of some module of some plan
 pub record IsPath (x : Path) : Type 0 where
   pub plan : Plan
   pub number : ℕ
   pub is : IsPathOf plan number x
 
--- how many local clocks there may be up to the end, one more than that, and 0 at the end
+-- a measure of the way to the end: one more than the most local clocks up to it, and 0 at the end
 abbrev pub clocks_to_end : Path → ℕ
 clocks_to_end x =
     let s = after_move x in
@@ -122,7 +122,7 @@ clocks_to_end x =
 
 -- ---- rests
 
--- a FIFO operation is due, and all that is due was looked up
+-- the path is at a step: a FIFO operation is due, and all that is due was looked up
 pub record IsAtStep (x : Path) : Type 0 where
   pub begun : x.stage ≡ Begun
   pub alive : is_over x.limit x.state ≡ false
@@ -130,14 +130,14 @@ pub record IsAtStep (x : Path) : Type 0 where
   pub asked : HasAsked x
   pub some : 0 < length x.asked
 
--- the module is ended or spent
+-- the path is at its end: the module is ended or spent
 pub record IsAtEnd (x : Path) : Type 0 where
   pub begun : x.stage ≡ Begun
   pub over : is_over x.limit x.state ≡ true
 
 -- ---- what was done
 
--- the counts of what was done on so many channels
+-- the tally has the counts of these operations, on so many channels
 pub record IsTallyOf (channels : ℕ) (before : List Exchange) (t : Tally) : Type 0 where
   pub popped_count : length t.popped ≡ channels
   pub pushed_count : length t.pushed ≡ channels

@@ -19,7 +19,7 @@ is_asked Begun = false
 is_asked Asked = true
 is_asked Ticked = false
 
--- the step of the rest was given, and its replies are not there
+-- the run waits: the step at which it rests was given, and its replies are not there yet
 abbrev pub waits : ModuleRun → Bool
 waits r = is_asked r.path.value.stage
 
@@ -33,7 +33,7 @@ is_step (Spent g) = false
 abbrev pub listed : ModuleRun → StepOf
 listed r = record { gap = r.path.value.since; accesses = r.accesses; first_query = r.tally.queries }
 
--- an access's numbers are small
+-- the numbers of an access are in range
 pub record IsSmallAccess (a : Access) : Type 0 where
   pub channel : a.channel < 2 ^ 27
   pub ordinal : a.ordinal < 2 ^ 32
@@ -46,13 +46,13 @@ pub record IsFew (s : StepOf) : Type 0 where
   pub first_query : s.first_query < 2 ^ 32
   pub small : All IsSmallAccess s.accesses
 
--- how many local clocks a mark is behind the one before it
+-- the gap of a mark: how many local clocks it is after the mark before it
 abbrev pub gap_of : Advance → ℕ
 gap_of (Step s) = s.gap
 gap_of (Ended gap) = gap
 gap_of (Spent gap) = gap
 
--- the numbers of a step are small
+-- the numbers of a step are in range
 pub record IsSmallStep (s : StepOf) : Type 0 where
   pub few : length s.accesses ≤ LIVE_ITERATIONS * OPERATIONS
   pub first_query : s.first_query < 2 ^ 40
@@ -62,7 +62,7 @@ IsSmall (Step s) = IsSmallStep s
 IsSmall (Ended gap) = Unit {0}
 IsSmall (Spent gap) = Unit {0}
 
--- a mark behind so many steps is sound: its numbers are small, and its gap is short, and at least 1 behind a step
+-- a mark after so many steps has numbers in range, and a gap that is short, and at least 1 where there was a step
 pub record IsSoundMark (steps : ℕ) (mark : Advance) : Type 0 where
   pub small : IsSmall mark
   pub short : gap_of mark < 10 ^ 18

@@ -13,9 +13,8 @@ ghost use Rattle.module_interp.specs.OwnRests.{clocks_in, accesses_at, next_rest
 ghost use Rattle.module_interp.specs.Chains.{rest_at, clock_at, marks_before, GoesTo};
 ghost use Rattle.module_interp.specs.Runs.{StandsAt};
 
-/// The rests are those of the own run on any replies, each behind as many steps as there were rests before it. Where there are
-/// replies to each rest but the last, the marks of the rests are the marks of the own run, of any number of local clocks that
-/// goes past the last rest.
+/// The k-th rest, from 0, is where the own run is after k steps on these replies. Where there are replies to each rest but the
+/// last, the own run has the marks of the rests, after any number of local clocks that goes beyond the last rest.
 pub fn rests_are_own_runs()
     ensures own { (p : Plan) → FitsEngine p → (i : ℕ) (replies : Items (Items Reply)) (k : ℕ) → GoesTo p i replies k
         → own p i replies (clock_at p i replies k) ≡ rest_at p i replies k }
@@ -25,8 +24,8 @@ pub fn rests_are_own_runs()
         → (n : ℕ) → clock_at p i replies (length replies) < n → marks p i replies n ≡ marks_before p i replies (suc (length replies)) }
 {}
 
-/// A rest is less than 10^18 local clocks from the step before it or from local clock 0, and at least one behind a step. All gaps
-/// up to a rest are less than 10^18 local clocks together.
+/// A rest is less than 10^18 local clocks after the step before it, or after local clock 0, and at least 1 after a step. All gaps
+/// up to a rest together are less than 10^18 local clocks.
 pub fn gaps_are_short()
     ensures most { (p : Plan) (i : ℕ) (o : Own) (run : ModuleRun) → StandsAt p i o run → o.since < 10 ^ 18 }
     ensures all { (p : Plan) (i : ℕ) (o : Own) (run : ModuleRun) → StandsAt p i o run → clocks_in o < 10 ^ 18 }

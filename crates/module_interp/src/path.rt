@@ -4,18 +4,18 @@ use flow_design::{Module, ModuleState, Request};
 use flow_word::{List, Words};
 use std::alloc::Global;
 
-/// What is left to do of the move in which a module stands.
+/// What is left to do of the move at which a module stands.
 #[derive(Clone, Copy, Debug)]
 pub enum Stage {
-    /// All: the local clock has only begun.
+    /// The whole move is left: its local clock has only begun.
     Begun,
-    /// All, once the replies to its FIFO operations are there.
+    /// The whole move is left, and waits for the replies to its FIFO operations.
     Asked,
-    /// The loop decides and the block may end: the due operations have committed, and the clock has gone up.
+    /// The loop's decision and the block's end are left: the due operations have committed, and the local clock has gone up.
     Ticked,
 }
 
-/// A module with its code and its state.
+/// A module with its code and its state, on its way to its next rest.
 #[derive(Drop)]
 pub struct Path {
     pub alloc: Global,
@@ -26,12 +26,12 @@ pub struct Path {
     pub codes: List<BlockCode>,
     pub state: ModuleState,
     pub stage: Stage,
-    /// The local clocks from the last step, or from local clock 0, to the end of this move.
+    /// How many local clocks the current one is after the last step, or after local clock 0 where there was no step.
     pub since: u64,
-    /// What was noted of the due operations of the local clock.
+    /// The notes of the due operations of the current local clock.
     pub noted: List<Noted>,
-    /// The requests of the FIFO operations among them.
+    /// The requests of the FIFO operations that are due in the current local clock.
     pub asked: List<Request>,
-    /// Room for the results of expressions. What it holds means nothing.
+    /// Memory for the results of expressions. Its words mean nothing.
     pub scratch: Words,
 }

@@ -14,9 +14,9 @@ use flow_word::OutOfMemory;
 use module_move::{commit, go_on, is_over, note, tick_to};
 
 impl Path {
-    /// Comes to the next local clock with a due FIFO operation, or to the end of the run.
+    /// Runs to the next rest: the next local clock with a due FIFO operation, or the end of the run.
     ///
-    /// After want of memory the path still leads to the same rest.
+    /// After `OutOfMemory` the path still leads to the same rest.
     #[inline(always)]
     pub fn come_to_rest(&mut self) -> Result<(), OutOfMemory>
         requires path { IsPath self.old }
@@ -32,7 +32,7 @@ impl Path {
         Ok(())
     }
 
-    /// Does what is left of the move, and then comes nearer to the rest. Whether it is there.
+    /// Does what is left of the move, and one part of the way to the rest. Whether the path is at the rest.
     #[inline(always)]
     fn go_a_way(&mut self) -> Result<bool, OutOfMemory>
         requires path { IsPath self.old }
@@ -51,7 +51,7 @@ impl Path {
         Ok(rests)
     }
 
-    /// After the clock has gone up, lets the loop decide and the block end.
+    /// Lets the loop decide and the block end, where the local clock has just gone up.
     #[inline(always)]
     fn settle(&mut self) -> Result<(), OutOfMemory>
         requires path { IsPath self.old }
@@ -71,8 +71,8 @@ impl Path {
         }
     }
 
-    /// Whether a FIFO operation is due. If not, the due operations commit and the clock goes up, or it jumps to the next
-    /// local clock with work.
+    /// Whether a FIFO operation is due in this local clock. If not, the due operations commit and the local clock goes up, or it
+    /// jumps to the next local clock with work.
     #[inline(always)]
     fn stands_still(&mut self) -> Result<bool, OutOfMemory>
         requires path { IsPath self.old }
@@ -92,7 +92,8 @@ impl Path {
         Ok(false)
     }
 
-    /// A local clock in which no FIFO operation is due. Where nothing is due it may jump, else the due operations commit.
+    /// Goes on from a local clock in which no FIFO operation is due. It may jump where nothing is due, and else the due operations
+    /// commit.
     #[inline(always)]
     fn move_on(&mut self)
         requires path { IsPath self.old }
@@ -115,7 +116,7 @@ impl Path {
         self.pass();
     }
 
-    /// Jumps to a later local clock, before which there is no work.
+    /// Jumps to a later local clock. Before that clock there is no work.
     #[inline(never)]
     fn jump(&mut self, clock: u64)
         requires path { IsPath self.old }
@@ -155,7 +156,7 @@ impl Path {
         Ok(())
     }
 
-    /// A local clock in which no FIFO operation is due: the due operations commit.
+    /// Commits the due operations of a local clock in which no FIFO operation is due.
     #[inline(always)]
     fn pass(&mut self)
         requires path { IsPath self.old }
@@ -171,7 +172,7 @@ impl Path {
         self.since += 1;
     }
 
-    /// The due operations commit on these replies, and the clock goes up. It takes no memory.
+    /// Commits the due operations on these replies, and lets the local clock go up. It takes no memory.
     #[inline(always)]
     pub fn commit_due(&mut self, replies: &[Reply])
         requires path { IsPath self.old }

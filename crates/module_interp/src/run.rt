@@ -20,19 +20,18 @@ use flow_word::{Access, Accesses, List, OutOfMemory, Step};
 use module_move::is_over;
 use std::alloc::Global;
 
-/// What is below this fits 32 bits.
+/// One more than the greatest number of 32 bits.
 const MOST: u64 = 0x1_0000_0000;
 
-/// A module's own run, ahead of time: from one local clock with a due FIFO operation to the next, on the replies that it
-/// is fed.
+/// A module's own run, ahead of time: from one local clock with a due FIFO operation to the next, on the replies that it is fed.
 ///
-/// Contracts see where it stands: at a rest of the own run of the definitions, that is at its next step or its end, and
-/// whether that step waits for replies. How far the call has come towards the rest doesn't show.
+/// Contracts see the rest at which the run stands, its next step or its end, and whether that step waits for replies. They do not
+/// see how much of the way to the rest is done.
 pub struct ModuleRun {
-    /// On the heap, since a run goes out of its core and back at each turn.
+    /// On the heap, since a run is moved out of its core and back at each turn.
     path: Box<Path>,
     tally: Tally,
-    /// The accesses of the last step.
+    /// The accesses of the step that was listed last.
     accesses: List<Access>,
 }
 
@@ -64,9 +63,9 @@ impl ModuleRun {
         })
     }
 
-    /// The same module's run at its first rest again. Its blocks are not compiled again.
+    /// Puts a module's run back to its first rest. Its blocks are not compiled again.
     ///
-    /// An error leaves nothing.
+    /// After `OutOfMemory` the run is lost.
     pub fn again(self, alloc: Global) -> Result<ModuleRun, OutOfMemory>
         requires stands { (p : PlanOf) × ((i : ℕ) × ((o : Own) × StandsAt p i o self)) }
         ensures stands { IfOk result (λ run. (p : PlanOf) (i : ℕ) (o : Own) → StandsAt p i o self
@@ -87,7 +86,7 @@ impl ModuleRun {
         })
     }
 
-    /// Whether a step was given that waits for replies.
+    /// Whether a step was given whose replies are not there yet.
     pub fn is_waiting(&self) -> bool
         ensures { result ≡ waits self.now }
     {
@@ -97,7 +96,7 @@ impl ModuleRun {
         }
     }
 
-    /// The accesses of the step that waits for replies, in commit order; none exactly where no step waits.
+    /// The accesses of the step that waits for replies, in commit order. The slice is empty exactly where no step waits.
     pub fn waiting(&self) -> &[Access]
         ensures accesses { (p : PlanOf) (i : ℕ) (o : Own) → StandsAt p i o self.now
             → result.now ≡ (if waits self.now then accesses_at p i o else []) }
@@ -126,7 +125,7 @@ impl ModuleRun {
         self.tally.queries
     }
 
-    /// How many local clocks the step that waits is behind the one before it.
+    /// How many local clocks the step that waits is after the step before it, or after local clock 0.
     #[inline(always)]
     pub fn gap(&self) -> u64
         ensures { result ≡ (listed self.now).gap }
@@ -142,17 +141,18 @@ impl ModuleRun {
         self.accesses.as_slice()
     }
 
-    /// How many operations were done in its moves so far.
+    /// The operation count of the module so far.
     pub fn operations(&self) -> u64 {
         self.path.state.count
     }
 
-    /// Runs local clocks to the next one with a due FIFO operation, and gives that step, which then waits for replies; or
-    /// gives the end of the run, and does so again at each later call.
+    /// Runs to the next rest, and gives its mark. A step then waits for replies. The end of the run is given again by each later
+    /// call.
     ///
-    /// A step has at most 65,536 accesses, and a gap of fewer than 10^18 local clocks, which is at least 1 behind a step.
+    /// A step has at most `LIVE_ITERATIONS * OPERATIONS` accesses. The gap of a mark is less than 10^18 local clocks, and at least
+    /// 1 after a step.
     ///
-    /// After want of memory the run is as it was.
+    /// After `OutOfMemory` the run is as it was.
     pub fn advance(&mut self) -> Result<Advance, OutOfMemory>
         requires stands { (p : PlanOf) × ((i : ℕ) × ((o : Own) × StandsAt p i o self.old)) }
         requires answered { waits self.old ≡ false }
@@ -167,8 +167,9 @@ impl ModuleRun {
         Ok(mark)
     }
 
-    /// The same, but no mark is given. Whether it came to a step of one access or two whose numbers fit 32 bits: this then waits
-    /// for replies, and `gap`, `listed` and `queries` tell it. Any other mark is still to be given.
+    /// Runs to the next rest, and gives no mark. The answer is whether the rest is a step of one access or two whose numbers fit 32
+    /// bits: that step then waits for replies, and `gap`, `listed` and `queries` tell it. Any other mark is still to be given, by
+    /// `give`.
     #[inline(always)]
     pub fn advance_few(&mut self) -> Result<bool, OutOfMemory>
         requires stands { (p : PlanOf) × ((i : ℕ) × ((o : Own) × StandsAt p i o self.old)) }
@@ -191,7 +192,7 @@ impl ModuleRun {
         Ok(false)
     }
 
-    /// Comes to the next local clock with a due FIFO operation, or to the end of the run, of which it gives nothing yet.
+    /// Runs to the next rest, a local clock with a due FIFO operation or the end of the run, and gives nothing yet.
     #[inline(always)]
     fn come(&mut self) -> Result<(), OutOfMemory>
         requires stands { (p : PlanOf) × ((i : ℕ) × ((o : Own) × StandsAt p i o self.old)) }
@@ -204,8 +205,8 @@ impl ModuleRun {
         Ok(())
     }
 
-    /// Whether it came to a step of one access or two, and its gap fits 32 bits. Its other numbers always do, by the operation
-    /// limit.
+    /// Whether the rest is a step of at most two accesses whose gap fits 32 bits. The other numbers of a step always fit, by the
+    /// operation limit.
     #[inline(always)]
     fn rests_at_few(&self) -> bool
         ensures alive { result ≡ true → over_by self.now.path.value.limit self.now.path.value.state ≡ false }
@@ -217,7 +218,7 @@ impl ModuleRun {
             && self.path.since < MOST
     }
 
-    /// Gives the mark of what it came to: a step, which then waits for replies, or the end.
+    /// Gives the mark of the rest at which the run stands: a step, which then waits for replies, or the end.
     #[inline(never)]
     pub fn give(&mut self) -> Result<Advance, OutOfMemory>
         requires stands { (p : PlanOf) × ((i : ℕ) × ((o : Own) × StandsAt p i o self.old)) }
@@ -250,7 +251,7 @@ impl ModuleRun {
         }))
     }
 
-    /// Lists the accesses of the step to which it came, which then waits for replies.
+    /// Lists the accesses of the step at which the run rests. The step then waits for replies.
     #[inline(always)]
     fn list(&mut self) -> Result<(), OutOfMemory>
         requires stands { (p : PlanOf) × ((i : ℕ) × ((o : Own) × StandsAt p i o self.old)) }
@@ -271,8 +272,8 @@ impl ModuleRun {
         Ok(())
     }
 
-    /// Commits the step that waits, on its replies. It takes no memory: whether the loop goes on and whether the block ends is
-    /// left to the next call that goes on.
+    /// Commits the step that waits, on its replies. It takes no memory: the loop's decision and the block's end are left to the
+    /// next call that runs on.
     pub fn feed(&mut self, replies: &[Reply])
         requires stands { (p : PlanOf) × ((i : ℕ)
             × ((o : Own) × (StandsAt p i o self.old × (all_fit (accesses_at p i o) replies.now ≡ true)))) }
@@ -287,7 +288,7 @@ impl ModuleRun {
     }
 }
 
-/// Lists the accesses of these requests twice. What the kept list held before is gone.
+/// Lists the accesses of these requests twice: in the answer, and in `kept` in place of what it held.
 #[inline(always)]
 fn list_accesses(
     alloc: Global,
@@ -312,7 +313,7 @@ fn list_accesses(
     Ok(accesses)
 }
 
-/// Lists the accesses of these requests. What the list held before is gone.
+/// Lists the accesses of these requests in `kept`, in place of what it held.
 #[inline(always)]
 fn keep_accesses(
     tally: &Tally,

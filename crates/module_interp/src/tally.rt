@@ -14,7 +14,7 @@ use flow_design::{Reply, Request};
 use flow_word::{Access, Kind, OutOfMemory, Side, Words};
 use std::alloc::Global;
 
-/// The pops and pushes of each channel, and the queries, in the steps that have their replies.
+/// How many elements each channel popped and pushed, and how many queries there were, in the steps that have their replies.
 #[derive(Drop)]
 pub struct Tally {
     pub popped: Words,
@@ -23,7 +23,7 @@ pub struct Tally {
 }
 
 impl Tally {
-    /// No step yet, of a plan with so many channels.
+    /// The counts before any step, for a plan with so many channels.
     pub fn new(alloc: Global, channels: u64) -> Result<Tally, OutOfMemory>
         ensures { IfOk result (λ tally. IsTallyOf channels [] tally) }
     {
@@ -34,7 +34,7 @@ impl Tally {
         })
     }
 
-    /// No step yet, of the same plan.
+    /// Sets all counts back to 0.
     pub fn clear(&mut self)
         ensures { (channels : ℕ) (before : Items Exchange) → IsTallyOf channels before self.old → IsTallyOf channels [] self.new }
     {
@@ -43,7 +43,7 @@ impl Tally {
         self.queries = 0;
     }
 
-    /// A request as an access.
+    /// A request as an access: with the ordinal of its element.
     #[inline(always)]
     pub fn access(&self, request: Request) -> Access
         requires tally { (channels : ℕ)
@@ -61,7 +61,7 @@ impl Tally {
         }
     }
 
-    /// How many elements were popped, or pushed, at the side of the channel at which an operation stands.
+    /// How many elements an access of this kind finds already popped, or pushed, at its side of the channel.
     #[inline(always)]
     fn count_of(&self, kind: Kind, channel: u32) -> u64
         requires { (channels : ℕ) × ((before : Items Exchange) × (IsTallyOf channels before self.now × (channel < channels))) }
@@ -102,7 +102,7 @@ impl Tally {
         self.queries += asked(request.kind);
     }
 
-    /// Counts what it popped, or pushed.
+    /// Counts the element that an operation popped or pushed, if it did.
     #[inline(always)]
     fn count_moved(&mut self, request: Request, reply: Reply)
         requires tally { (channels : ℕ)
@@ -129,7 +129,7 @@ impl Tally {
     }
 }
 
-/// Each count is 0.
+/// Sets each count to 0.
 fn zero(counts: &mut Words)
     ensures { counts.new ≡ replicate (length counts.old) 0 }
 {
@@ -146,7 +146,7 @@ fn add_at(counts: &mut Words, at: u32, more: u64)
     counts.as_mut_slice()[at as usize] += more;
 }
 
-/// How many elements an operation popped.
+/// How many elements an operation popped: 0 or 1.
 #[inline(always)]
 fn popped(kind: Kind, reply: Reply) -> u64
     ensures count { (value : ℕ) → result ≡ length (popped_value kind (is_yes reply) value) }
@@ -159,7 +159,7 @@ fn popped(kind: Kind, reply: Reply) -> u64
     }
 }
 
-/// How many elements an operation pushed.
+/// How many elements an operation pushed: 0 or 1.
 #[inline(always)]
 fn pushed(kind: Kind, reply: Reply) -> u64
     ensures count { (value : ℕ) → result ≡ length (pushed_value kind (is_yes reply) value) }
@@ -172,7 +172,7 @@ fn pushed(kind: Kind, reply: Reply) -> u64
     }
 }
 
-/// How many queries an operation is.
+/// How many queries an operation of this kind is: 0 or 1.
 #[inline(always)]
 fn asked(kind: Kind) -> u64
     ensures count { result ≡ from_bool (not (is_blocking kind)) }

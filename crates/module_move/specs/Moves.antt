@@ -1,4 +1,4 @@
--- The parts of a move: what is noted, the commits, the clock, and how the loop and the block go on.
+-- The parts of a move: the notes, the commits, the clock, the loop's decision, and the block's end.
 use Rattle.std.specs.Prelude.{ℕ, ◌+◌, ◌-◌, List, map, filter, length, drop, slice_index_or, Option, None}
 use Rattle.flow_design.specs.declared.design.Block.{Block}
 use Rattle.flow_design.specs.declared.design.Module.{Module}
@@ -16,33 +16,33 @@ use Rattle.block_code.specs.declared.target.Target.TheVariants.{Register}
 use Rattle.block_code.specs.Actions.{action_request}
 use Rattle.block_code.specs.Notes.{noted_for}
 
--- those of these operations of a live iteration that have no guard, or one that is not 0
+-- which of these operations of a live iteration are due: their guard lets them be done
 abbrev pub passing : Block → ModuleState → ℕ → List ℕ → List Due
 passing b s place ns = map (λ n. record { iteration = place; op = n })
     (filter (λ n. passes s.registers (temps_of s place) (operation_at b n).guard) ns)
 
--- what is noted of the due operations, in commit order
+-- the notes of the due operations, in commit order
 abbrev pub notes_of : Module → ModuleState → List Noted
 notes_of m s = map (noted_for (block_of m s) s) (due m s)
 
--- what stands where a number names no action
+-- the default where a number names no action
 abbrev pub no_action : Guarded
 no_action = record { guard = None; action = Empty 0 (Register 0 0) }
 
--- what a due operation asks of a channel, by the code of its block
+-- the request of a due operation, by the code of its block; none where it is no FIFO operation
 abbrev pub asked_by : BlockCode → ModuleState → Due → Option Request
 asked_by code s d = action_request s d.iteration (slice_index_or code.actions d.op no_action).action
 
--- the due operations have committed and count
+-- the state after the due operations have committed and are counted
 abbrev pub counted : Module → ModuleState → List Reply → ModuleState
 counted m s replies = record (committed m s replies) { count = s.count + length (due m s) }
 
--- at a later local clock, the temps of the iterations that are no longer live have gone
+-- the state at a later local clock, without the temps of the iterations that are no longer live
 abbrev pub ticked_to : Module → ℕ → ModuleState → ModuleState
 ticked_to m clock s =
     let k = record s.control { clock = clock } in
     record s { control = k; temps = drop (length s.temps - live_count (block_of m s) k) s.temps }
 
--- the loop decides, and the block may end
+-- the state after the loop has decided and the block may have ended
 abbrev pub gone_on : Module → ModuleState → ModuleState
 gone_on m s = finished m (block_of m s) (decided (block_of m s) s)

@@ -1,4 +1,4 @@
--- What a module's machine needs to look up and compute its requests and its move.
+-- What must hold of a module's state for its requests and its move to be computed.
 use Rattle.std.specs.Prelude.{◌≡◌, ◌<◌, ◌^◌, false, List, length}
 use Rattle.flow_design.specs.declared.design.Channel.{Channel}
 use Rattle.flow_design.specs.declared.design.Module.{Module}
@@ -15,32 +15,32 @@ use Rattle.block_code.specs.Codes.{IsBlockCodeOf}
 use Rattle.block_code.specs.Notes.{noted_for}
 use Rattle.module_move.specs.Moves.{notes_of}
 
--- a state that the module comes to, in which it is not ended
+-- the state is one that the module can have, and the module is not ended in it
 pub record IsStateSound (m : Module) (s : ModuleState) : Type 0 where
   pub state : IsStateOf m s
   pub running : s.ended ≡ false
 
--- a module that is not ended is in a sound state
+-- the state is sound, unless the module is ended
 abbrev pub IsRunnable : Module → ModuleState → Type 0
 IsRunnable m s = s.ended ≡ false → IsStateSound m s
 
--- a due operation of a sound state: its iteration is live, and the block has it
+-- a due operation of a sound state names a live iteration and an operation of the block
 pub record IsDueSound (m : Module) (s : ModuleState) (d : Due) : Type 0 where
   pub iteration : d.iteration < length s.temps
   pub op : d.op < length (block_of m s).ops
 
--- the action gives of the state what the due operation gives, and finds what it looks up
+-- the action has the value, address and request of the due operation, and finds what it looks up
 pub record IsActionAt (m : Module) (s : ModuleState) (d : Due) (action : Action) : Type 0 where
   pub value : action_value s d.iteration action ≡ (noted_for (block_of m s) s d).value
   pub address : action_address s d.iteration action ≡ (noted_for (block_of m s) s d).address
   pub ready : IsActionReady s d.iteration action
 
--- what is needed to look up the due operations: the code of the block in which the module stands
+-- the due operations can be looked up: this is the code of the block in which the module stands
 pub record HasCode (channels : List Channel) (m : Module) (s : ModuleState) (code : BlockCode) : Type 0 where
   pub of : IsModuleSound (length channels) m
   pub code_is : IsBlockCodeOf channels m (block_of m s) code
 
--- what is needed to commit: in a sound state, by the code of its block, what was noted of all that is due
+-- the due operations can commit: the state is sound, and these are the code of its block and the notes of all that is due
 pub record CanCommit (channels : List Channel) (m : Module) (s : ModuleState) (code : BlockCode) (noted : List Noted) : Type 0 where
   pub of : IsModuleSound (length channels) m
   pub state : IsStateSound m s

@@ -1,4 +1,4 @@
-//! Writing what the due operations write.
+//! The writes of the due operations.
 ghost use Rattle.std.specs.Prelude.{◌≡◌, ℕ, ◌<◌, List as Items, fold, length, drop, if◌then◌else◌, slice_index_or, All};
 ghost use Rattle.flow_design.specs.declared.design.Block.{Block as BlockOf};
 ghost use Rattle.flow_design.specs.declared.design.Channel.{Channel as ChannelOf};
@@ -11,8 +11,8 @@ ghost use Rattle.block_code.specs.Notes.{effects_by};
 use block_code::{Action, BlockCode, Noted, carry_out};
 use flow_design::{ModuleState, Reply};
 
-/// Writes what the due operations write, by what was noted of them and their replies, in order, so that the last write to a
-/// place wins. Each FIFO operation takes the next reply.
+/// Writes what the due operations write, from their notes and replies, in commit order: the last write to a place wins. Each FIFO
+/// operation takes the next reply.
 #[inline(always)]
 pub(crate) fn commit_all(
     code: &BlockCode,
@@ -31,7 +31,7 @@ pub(crate) fn commit_all(
     }
 }
 
-/// Carries out an action by what was noted of it, and on the next reply if it takes one. How many replies were taken then.
+/// Carries out an action from its note, and on the next reply if it takes one. Answers how many replies are then taken.
 #[tactic(auto, using(crate::proofs::Writing::no_reply))]
 #[inline(always)]
 fn carry_out_next(
@@ -56,7 +56,7 @@ fn carry_out_next(
     answered_after(replies, answered)
 }
 
-/// The reply of this number, or that of a write where there are not so many.
+/// The reply with this number. Where there are not so many, it is the reply to a write.
 #[inline(always)]
 fn reply_at(replies: &[Reply], at: usize) -> Reply
     ensures { result ≡ slice_index_or replies.now at Reply.Done }
@@ -67,7 +67,7 @@ fn reply_at(replies: &[Reply], at: usize) -> Reply
     }
 }
 
-/// How many replies were taken, once one more was, if it was there.
+/// How many replies are taken after one more: the number stays where none is left.
 #[tactic(auto, using(crate::proofs::Writing::one_taken, crate::proofs::Writing::none_there))]
 #[inline(always)]
 fn answered_after(replies: &[Reply], answered: usize) -> usize

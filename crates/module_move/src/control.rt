@@ -13,7 +13,7 @@ use flow_design::{Block, BlockKind, Module, ModuleState, Next};
 use flow_word::OutOfMemory;
 use std::alloc::Global;
 
-/// The local clock goes up to a later one, and the temps of the iterations that are then no longer live go.
+/// Sets the local clock to a later one, and drops the temps of the iterations that are then no longer live.
 #[tactic(auto, using(crate::proofs::Begins::block_sound, crate::proofs::Begins::some_interval, crate::proofs::Begins::span))]
 #[inline(always)]
 pub fn tick_to(of: &Module, state: &mut ModuleState, clock: u64)
@@ -30,9 +30,9 @@ pub fn tick_to(of: &Module, state: &mut ModuleState, clock: u64)
     state.temps.keep_newest(live);
 }
 
-/// The loop decides, and the block may end, in the local clock that has begun.
+/// Lets the loop decide, and the block end, in the local clock that has begun.
 ///
-/// After want of memory the call may be made again: what it does then is what is left to do.
+/// After `OutOfMemory` the call may be made again: it then does what is left to do.
 #[tactic(auto, using(crate::proofs::Begins::block_sound, crate::proofs::Begins::some_interval))]
 #[inline(always)]
 pub fn go_on(alloc: Global, of: &Module, state: &mut ModuleState) -> Result<(), OutOfMemory>
@@ -54,7 +54,7 @@ pub fn go_on(alloc: Global, of: &Module, state: &mut ModuleState) -> Result<(), 
     Ok(())
 }
 
-/// Where the newest iteration of a loop has been live for II local clocks, its register decides whether the next one starts.
+/// Lets the loop's register decide whether the next iteration starts, where the newest one has been live for II local clocks.
 #[tactic(auto, unfolding(lockstep_defs::specs::Machine::decided))]
 #[inline(always)]
 fn decide(alloc: Global, block: &Block, state: &mut ModuleState) -> Result<(), OutOfMemory>
@@ -80,7 +80,7 @@ fn decide(alloc: Global, block: &Block, state: &mut ModuleState) -> Result<(), O
     Ok(())
 }
 
-/// Goes on by the block's terminator, where the block is over.
+/// Follows the block's terminator, where the block is over.
 #[tactic(auto, unfolding(lockstep_defs::specs::Machine::finished))]
 #[inline(always)]
 fn finish(
@@ -128,7 +128,7 @@ fn again(block: &Block, registers: &[u64]) -> u64
     }
 }
 
-/// The word at a place, or 0.
+/// The word at a place, or 0 where there is no such place.
 #[inline(always)]
 fn word_at(words: &[u64], at: u32) -> u64
     ensures { result ≡ slice_index words.now at }

@@ -14,7 +14,7 @@ use flow_design::{Module, ModuleState, Reply};
 use flow_word::OutOfMemory;
 use std::alloc::Global;
 
-/// The operations that are due commit together, by what was noted of them and on the replies, and count. It takes no memory.
+/// Commits the due operations together, from their notes and on the replies, and counts them. It takes no memory.
 #[inline(always)]
 pub fn commit(code: &BlockCode, state: &mut ModuleState, noted: &[Noted], replies: &[Reply])
     requires can { (channels : Items ChannelOf) × ((m : ModuleOf) × CanCommit channels m state.old code.now noted.now) }
@@ -28,9 +28,10 @@ pub fn commit(code: &BlockCode, state: &mut ModuleState, noted: &[Noted], replie
     state.count += noted.len() as u64;
 }
 
-/// One local clock: the operations that are due commit together, by what was noted of them and on the replies, the clock goes
-/// up, and the loop and the block may go on or end.
+/// Makes a move: one local clock on the replies. The due operations commit together, the local clock goes up by one, the loop
+/// decides, and the block may end.
 ///
+/// After `OutOfMemory` the state may be anything.
 /// After want of memory the state may be anything.
 #[inline(always)]
 pub fn make_move(

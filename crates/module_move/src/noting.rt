@@ -16,9 +16,9 @@ use flow_design::{Due, Module, ModuleState, Request};
 use flow_expr::variable;
 use flow_word::{List, OutOfMemory, Words};
 
-/// Fills `noted` with what is noted of the operations that are due, by the code of the block in which the module stands, and
-/// `asked` with the requests of the FIFO operations among them, both in commit order. What the two lists held before is gone.
-/// `scratch` is room that is used again, and what it holds means nothing.
+/// Fills `noted` with the notes of the due operations, and `asked` with the requests of the FIFO operations among them, both in
+/// commit order. The code is that of the block in which the module stands. What the two lists held before is lost. `scratch` is
+/// memory that is used again: its words mean nothing.
 pub fn note(
     of: &Module,
     code: &BlockCode,
@@ -41,7 +41,7 @@ pub fn note(
     Ok(())
 }
 
-/// Room for so many results.
+/// Makes `scratch` hold at least `room` words.
 fn make_room(scratch: &mut Words, room: u64) -> Result<(), OutOfMemory>
     ensures { OnOk result (room ≤ length scratch.new) }
 {
@@ -51,7 +51,7 @@ fn make_room(scratch: &mut Words, room: u64) -> Result<(), OutOfMemory>
     Ok(())
 }
 
-/// Fills the two lists, where there is room for the results of each expression.
+/// Fills the two lists of notes and requests. `scratch` has room for the results of each expression.
 #[inline(always)]
 fn note_due(
     of: &Module,
@@ -83,7 +83,7 @@ fn note_due(
     Ok(())
 }
 
-/// Adds what is noted of those of these operations of a live iteration that have no guard, or one that is not 0, and their requests.
+/// Adds the notes and the requests of those operations of a live iteration whose guard lets them be done.
 #[inline(always)]
 fn note_iteration(
     of: &Module,
@@ -134,7 +134,7 @@ fn note_iteration(
     Ok(())
 }
 
-/// Whether there is no guard, or one that is not 0.
+/// Whether a guard lets its operation be done: there is none, or it is not 0.
 #[inline(always)]
 fn passes(guard: Option<u32>, registers: &[u64], temps: &[u64]) -> bool
     requires { IfSome guard (λ at. at < length registers.now + length temps.now) }
@@ -146,7 +146,7 @@ fn passes(guard: Option<u32>, registers: &[u64], temps: &[u64]) -> bool
     }
 }
 
-/// Adds what is noted of an operation of an iteration with these temps where it is due, and its request if it is a FIFO operation.
+/// Adds the note of an operation of an iteration with these temps, if it is due, and its request if it is a FIFO operation.
 #[inline(always)]
 fn note_if(
     passes: bool,

@@ -9,7 +9,7 @@ use flow_design::{BlockKind, Control, LiveTemps, Memory, Module, ModuleState};
 use flow_word::{List, OutOfMemory, Words};
 use std::alloc::Global;
 
-/// Local clock 0 of the module's first block, with all registers and memory words 0.
+/// The first state of a module: local clock 0 of its first block, with all registers and memory words 0.
 pub fn open(alloc: Global, of: &Module) -> Result<ModuleState, OutOfMemory>
     requires { (channels : ℕ) × IsModuleSound channels of.now }
     ensures state { IfOk result (λ state. state ≡ opened of.now) }
@@ -43,7 +43,7 @@ fn first_state(alloc: Global, of: &Module) -> Result<ModuleState, OutOfMemory>
     Ok(state)
 }
 
-/// All words of some memories, each 0.
+/// The words of each of these memories, all 0.
 fn zero_memories(alloc: Global, memories: &[Memory]) -> Result<List<Words>, OutOfMemory>
     ensures { IfOk result (λ words. words ≡ map (λ memory. replicate memory.len 0) memories.now) }
 {
@@ -54,7 +54,7 @@ fn zero_memories(alloc: Global, memories: &[Memory]) -> Result<List<Words>, OutO
     Ok(words)
 }
 
-/// The module enters a block, whose first iteration starts. After want of memory the state is as it was.
+/// Enters a block, whose first iteration starts. After `OutOfMemory` the state is as it was.
 #[tactic(auto, unfolding(lockstep_defs::specs::Machine::entered))]
 #[inline(never)]
 pub(crate) fn enter(

@@ -1,4 +1,4 @@
-//! Where a module stands: its block, the iterations that are live, and whether it is over.
+//! The block of a module, its live iterations, and whether it is over.
 ghost use Rattle.std.specs.Prelude.{◌≡◌, ◌*◌, ◌<◌, ◌≤◌, length};
 ghost use Rattle.flow_design.specs.declared.limits.TheConstants.{LIVE_ITERATIONS};
 ghost use Rattle.flow_design.specs.Module.{block_of, interval, live_count};
@@ -35,7 +35,7 @@ pub(crate) fn live_count(block: &Block, control: &Control) -> u64
     if most < step { 1 } else { 1 + most / step }
 }
 
-/// Whether a module is spent: not ended, and its count is at least the operation limit.
+/// Whether a module is spent: it is not ended, and its operation count is at least the limit.
 #[inline(always)]
 pub fn is_spent(limit: u64, state: &ModuleState) -> bool
     ensures { result ≡ is_spent limit state.now }
@@ -43,7 +43,7 @@ pub fn is_spent(limit: u64, state: &ModuleState) -> bool
     !state.ended && limit <= state.count
 }
 
-/// Whether a module is ended or spent, so that it moves no more.
+/// Whether a module is over: it is ended or spent, and moves no more.
 #[tactic(auto, unfolding(lockstep_defs::specs::Machine::is_over))]
 #[inline(always)]
 pub fn is_over(limit: u64, state: &ModuleState) -> bool

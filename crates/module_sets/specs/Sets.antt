@@ -8,7 +8,7 @@ use Rattle.module_sets.specs.declared.mask.Mask.{Mask}
 abbrev pub IsSet : ℕ → ℕ → Type 0
 IsSet word bit = bit_at word bit ≡ 1
 
--- the first bit that is set from this one on
+-- bit `bit` is the first one, from bit `from` on, that is set
 pub record IsFirstBit (word from bit : ℕ) : Type 0 where
   pub behind : from ≤ bit
   pub is_set : IsSet word bit
@@ -20,7 +20,7 @@ pub record IsFirstBit (word from bit : ℕ) : Type 0 where
 unfoldable pub Has : List ℕ → ℕ → Type 0
 Has words n = IsSet (slice_index words (n / 64)) (n % 64)
 
--- for how many modules a set has room
+-- how many modules a set has room for
 abbrev pub capacity : List ℕ → ℕ
 capacity words = 64 * length words
 
@@ -28,31 +28,31 @@ capacity words = 64 * length words
 abbrev pub IsIn : Mask → ℕ → Type 0
 IsIn mask n = (mask.word ≡ n / 64) × IsSet mask.bits (n % 64)
 
--- one of the masks has it
+-- one of the masks has the module
 abbrev pub HasMask : List Mask → ℕ → Type 0
 HasMask [] n = ⊥
 HasMask (mask ∷ rest) n = IsIn mask n ⊎ HasMask rest n
 
 -- ---- what changes a set
 
--- one module more, where there is room for it
+-- a set with module m added, if there is room for it
 pub record IsAdded (old : List ℕ) (m : ℕ) (new : List ℕ) : Type 0 where
   pub room : length new ≡ length old
   pub has : (n : ℕ) → Has new n ↔ (Has old n ⊎ ((n ≡ m) × (n < capacity old)))
 
--- the modules of masks more, where there is room for them
+-- a set with the modules of masks added, as far as there is room for them
 pub record IsJoined (old : List ℕ) (masks : List Mask) (new : List ℕ) : Type 0 where
   pub room : length new ≡ length old
   pub has : (n : ℕ) → Has new n ↔ (Has old n ⊎ (HasMask masks n × (n < capacity old)))
 
--- one module less
+-- a set with module m removed
 pub record IsRemoved (old : List ℕ) (m : ℕ) (new : List ℕ) : Type 0 where
   pub room : length new ≡ length old
   pub has : (n : ℕ) → Has new n ↔ (Has old n × (n ≢ m))
 
 -- ---- looking for one
 
--- the first module of the set from this one on
+-- module m is the first one of the set, from number `from` on
 pub record IsFirstFrom (words : List ℕ) (from m : ℕ) : Type 0 where
   pub behind : from ≤ m
   pub has : Has words m

@@ -1,6 +1,6 @@
-//! A few modules whose numbers are near.
+//! A few modules whose numbers lie close together.
 
-/// Modules of one word: bit `k` of the word of this number is module 64 times the number plus `k`.
+/// Up to 64 modules: bit `k` of `bits` stands for module `64 * word + k`.
 #[derive(Clone, Copy, Debug, PartialEq, Eq)]
 pub struct Mask {
     pub word: u32,

@@ -8,7 +8,7 @@ use flow_word::{List, OutOfMemory};
 use std::alloc::Global;
 use std::marker::Model;
 
-/// A set of modules, for which there is room up to some number. Contracts see its words, of 64 modules each.
+/// A set of modules, with room for numbers below its capacity. Contracts see its words, of 64 modules each.
 #[derive(Drop)]
 pub struct ModuleSet {
     words: Vec<u64>,
@@ -25,7 +25,7 @@ impl Model for ModuleSet {
 }
 
 impl ModuleSet {
-    /// An empty set with room for so many modules.
+    /// An empty set with room for `count` modules or more.
     pub fn new(alloc: Global, count: u32) -> Result<ModuleSet, OutOfMemory>
         ensures room { IfOk result (λ set. count ≤ capacity set) }
         ensures empty { IfOk result (λ set. (n : ℕ) → Has set n → ⊥) }
@@ -44,7 +44,7 @@ impl ModuleSet {
         word < self.words.len() && (self.words[word] >> (member % 64)) % 2 == 1
     }
 
-    /// Adds a module, where there is room for it.
+    /// Adds a module. Nothing changes where there is no room for it.
     #[inline(always)]
     pub fn add(&mut self, member: u32)
         ensures { IsAdded self.old member self.new }
@@ -55,7 +55,7 @@ impl ModuleSet {
         });
     }
 
-    /// Adds the modules of these masks, where there is room for them.
+    /// Adds the modules of these masks, as far as there is room for them.
     #[inline(always)]
     pub fn add_masks(&mut self, masks: &[Mask])
         ensures { IsJoined self.old masks.now self.new }
@@ -65,7 +65,7 @@ impl ModuleSet {
         }
     }
 
-    /// Adds the modules of a mask, where there is room for them.
+    /// Adds the modules of a mask, as far as there is room for them.
     #[inline(always)]
     fn add_mask(&mut self, mask: Mask)
         ensures { IsJoined self.old (mask ∷ []) self.new }
@@ -76,7 +76,7 @@ impl ModuleSet {
         }
     }
 
-    /// Removes a module, where it is in the set.
+    /// Removes a module. Nothing changes where it is not in the set.
     #[inline(always)]
     pub fn remove(&mut self, member: u32)
         ensures { IsRemoved self.old member self.new }
@@ -103,7 +103,7 @@ impl ModuleSet {
         self.words.fill(u64::MAX);
     }
 
-    /// The first module of the set from this one on. None where there is none.
+    /// The first module of the set from number `from` on. `None` where there is none.
     pub fn first_from(&self, from: u32) -> Option<u32>
         ensures first { IfSome result (λ m. IsFirstFrom self.now from m) }
         ensures none { IsNone result → (n : ℕ) → from ≤ n → Has self.now n → ⊥ }
@@ -118,7 +118,7 @@ impl ModuleSet {
         }
     }
 
-    /// The first module of the set in the words from this one on. None where there is none.
+    /// The first module of the set from number `64 * first` on. `None` where there is none.
     fn first_behind(&self, first: u32) -> Option<u32>
         ensures first { IfSome result (λ m. IsFirstFrom self.now (64 * first) m) }
         ensures none { IsNone result → (n : ℕ) → 64 * first ≤ n → Has self.now n → ⊥ }

@@ -2,7 +2,7 @@
 ghost use Rattle.std.specs.Prelude.{ℕ, ◌<◌, ◌≤◌, IfSome, IsNone};
 ghost use Rattle.module_sets.specs.Sets.{IsSet, IsFirstBit};
 
-/// The first bit of a word that is set, from this one on. None where there is none.
+/// The first bit of a word, from bit `from` on, that is 1. `None` where there is none.
 pub(crate) fn first_bit(word: u64, from: u32) -> Option<u32>
     ensures first { IfSome result (λ bit. IsFirstBit word from bit) }
     ensures inside { IfSome result (λ bit. bit < 64) }

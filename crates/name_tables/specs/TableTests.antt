@@ -1,4 +1,4 @@
--- The tests of a statement, by the tables of the statements before it.
+-- The tests of a statement, by the tables of what is declared before it.
 use Rattle.std.specs.Prelude.{ℕ, ◌+◌, Bool, true, List, ◌++◌, ◌&&◌, not, nat_le, nat_lt, length, if◌then◌else◌, Option, None, Some, Result}
 use Rattle.std.specs.Prelude.{Err}
 use Rattle.std.specs.List.{list_all}
@@ -19,7 +19,7 @@ use Rattle.name_tables.specs.declared.tables.Tables.{Tables}
 abbrev Name : Type 0
 Name = List ℕ
 
--- the names of a space that stand already
+-- the names that are declared in a space
 abbrev pub taken : Tables → Space → List Name
 taken t ChannelName = t.channels
 taken t ModuleName = t.modules
@@ -36,7 +36,7 @@ abbrev pub is_first_input : Tables → Statement → Bool
 is_first_input t (Input n values) = not (is_among t.inputs n)
 is_first_input t s = true
 
--- the names of a sort
+-- the names of a sort that are declared
 abbrev pub named : Tables → Sort → List Name
 named t AnyChannel = t.channels
 named t ASource = t.sources
@@ -49,7 +49,7 @@ abbrev pub is_known : Tables → Part → Bool
 is_known t (Use sort name) = is_among (named t sort) name
 is_known t part = true
 
--- one more of these is not too many
+-- with this statement the limits allow as many of its kind
 abbrev pub has_room : Tables → Statement → Bool
 has_room t (Source n w) = nat_lt (length t.channels) t.limits.channels
 has_room t (Sink n w) = nat_lt (length t.channels) t.limits.channels
@@ -65,18 +65,18 @@ has_room t (Input n values) = nat_le (t.input_values + length values) t.limits.i
 has_room t (Depth n d) = nat_lt t.edits EDITS
 has_room t s = true
 
--- the first rule that a statement breaks
+-- the first rule that a statement breaks, if it breaks one
 unfoldable pub fault_by : Tables → Statement → Option Code
 fault_by t s =
     first_broken (list_all is_in_range (parts s) && is_within t.limits s) (list_all (is_new t) (parts s) && is_first_input t s)
     (list_all (is_known t) (parts s)) (has_room t s)
 
--- the first test that tokens fail that write this statement, or none
+-- the first test that tokens fail which write this statement; `Syntax` where they write none
 abbrev pub form_fault_by : Tables → Option Statement → Option Code
 form_fault_by t None = Some Syntax
 form_fault_by t (Some s) = if may_stand s t.place then fault_by t s else Some Syntax
 
--- what such tokens give: that fault, or the statement
+-- what tokens give that write this statement: the first test that they fail, or the statement
 abbrev pub reading_by : Tables → Option Statement → Result Statement Code
 reading_by t None = Err Syntax
 reading_by t (Some s) = judged (form_fault_by t (Some s)) s

@@ -1,4 +1,4 @@
--- The tables of the statements before a line, the latest first, at a scale, and what each statement does to them.
+-- The tables of the statements before a line, at a scale, and what each statement does to them.
 use Rattle.std.specs.Prelude.{◌≡◌, ℕ, ◌+◌, List, [], ◌∷◌, length}
 use Rattle.flow_design.specs.declared.limits.Scale.{Scale}
 use Rattle.flow_design.specs.declared.session.Statement.{Statement}
@@ -51,7 +51,7 @@ with_sink t n = record t { place = AmongChannels; channels = n ∷ t.channels }
 abbrev pub with_fifo : Tables → Name → Tables
 with_fifo t n = record t { place = AmongChannels; channels = n ∷ t.channels; fifos = n ∷ t.fifos }
 
--- a module begins with no register, memory and block
+-- the tables after a `module`: it has no register, memory or block yet
 abbrev pub with_module : Tables → Name → Tables
 with_module t n = record t { place = AmongRegisters; modules = n ∷ t.modules; registers = []; memories = []; blocks = [] }
 
@@ -61,7 +61,7 @@ with_register t n = record t { place = AmongRegisters; registers = n ∷ t.regis
 abbrev pub with_memory : Tables → Name → ℕ → Tables
 with_memory t n words = record t { place = AmongRegisters; memories = n ∷ t.memories; memory_words = t.memory_words + words }
 
--- a body begins with no temp and no operation
+-- the tables after a `block` or `loop`: its body has no temp or operation yet
 abbrev pub with_block : Tables → Name → Tables
 with_block t n = record t { place = AmongTemps; blocks = n ∷ t.blocks; temps = []; operations = 0 }
 
@@ -80,7 +80,7 @@ with_edit t = record t { place = AmongEdits; edits = t.edits + 1 }
 abbrev pub at_place : Tables → Place → Tables
 at_place t p = record t { place = p }
 
--- the tables after one statement more
+-- the tables after one more statement
 abbrev pub accepted : Tables → Statement → Tables
 accepted t (Flow v) = with_flow t v
 accepted t (Source n w) = with_source t n
@@ -101,6 +101,6 @@ accepted t (Limits c o) = at_place t AmongEdits
 accepted t (Depth n d) = with_edit t
 accepted t End = at_place t AtEnd
 
--- they are the tables of some statements at some scale
+-- the tables are those of some statements at some scale
 abbrev pub IsOfStatements : Tables → Type 0
 IsOfStatements t = (scale : Scale) × (earlier : List Statement) × (t ≡ tables_of scale earlier)

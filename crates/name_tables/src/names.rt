@@ -1,4 +1,4 @@
-//! Names that stand already.
+//! Names that are declared already.
 ghost use Rattle.std.specs.Prelude.{◌≡◌, false, [], ◌∷◌, nat_lt, length, OnOk, OnErr};
 ghost use Rattle.flow_grammar.specs.Before.{is_among};
 
@@ -7,8 +7,7 @@ use indexmap::IndexSet;
 use std::alloc::Global;
 use std::marker::Model;
 
-/// Names of a text, each once, which stay where they stand in the text. Contracts see them as a list, the latest
-/// first.
+/// Names of a text, each once. They are not copied: each is a part of the text. Contracts see them as a list, the latest first.
 #[derive(Drop)]
 pub struct Names<'a> {
     names: IndexSet<&'a [u8]>,
@@ -23,7 +22,7 @@ impl<'a> Model for Names<'a> {
 }
 
 impl<'a> Names<'a> {
-    /// No name.
+    /// No names.
     pub fn new(alloc: Global) -> Names<'a>
         ensures { result ≡ [] }
     {
@@ -32,21 +31,21 @@ impl<'a> Names<'a> {
         }
     }
 
-    /// Whether there are less than so many names.
+    /// Whether there are fewer than `most` names.
     pub fn has_room(&self, most: u64) -> bool
         ensures { result ≡ nat_lt (length self.now) most }
     {
         (self.names.len() as u64) < most
     }
 
-    /// Whether a name is among them.
+    /// Whether a name is one of these.
     pub fn has(&self, name: &[u8]) -> bool
         ensures { result ≡ is_among self.now name.now }
     {
         self.names.contains(name)
     }
 
-    /// Adds a name that is not among them. After want of memory the names are as they were.
+    /// Adds a name that is not there. After `OutOfMemory` the names are as they were.
     pub fn add(&mut self, name: &'a [u8]) -> Result<(), OutOfMemory>
         requires { is_among self.old name.now ≡ false }
         ensures ok { OnOk result (self.new ≡ name.now ∷ self.old) }

@@ -1,4 +1,4 @@
-//! The tables of what is declared before a line.
+//! Tables of what is declared before a line.
 ghost use Rattle.std.specs.Prelude.{◌≡◌, ◌+◌, ◌<◌, ◌≤◌, ◌^◌, [], false, length, OnOk, OnErr, ◌⊎◌};
 ghost use Rattle.flow_design.specs.declared.limits.TheConstants.{ALL_MEMORY_WORDS, EDITS};
 ghost use Rattle.flow_grammar.specs.Before as before;
@@ -13,10 +13,10 @@ use flow_grammar::{Known, Place, has_delays};
 use flow_word::OutOfMemory;
 use std::alloc::Global;
 
-/// What the statements before a line declare, as far as the line's tests ask for it.
+/// What the statements before a line declare, as far as the tests of the line need it.
 #[derive(Drop)]
 pub struct Tables<'a> {
-    /// The sort of the statement before.
+    /// The place after the last statement.
     pub place: Place,
     /// The version of the language that is declared.
     pub version: u64,
@@ -28,21 +28,21 @@ pub struct Tables<'a> {
     /// The channels that are FIFOs.
     pub fifos: Names<'a>,
     pub modules: Names<'a>,
-    /// The registers of this module.
+    /// The registers of the present module.
     pub registers: Names<'a>,
-    /// The memories of this module.
+    /// The memories of the present module.
     pub memories: Names<'a>,
-    /// The blocks of this module.
+    /// The blocks of the present module.
     pub blocks: Names<'a>,
-    /// The temps of this body.
+    /// The temps of the present body.
     pub temps: Names<'a>,
-    /// The sources that have an `input`.
+    /// The sources for which there is an `input`.
     pub inputs: Names<'a>,
-    /// The words of all memories.
+    /// How many words all memories have together.
     pub memory_words: u64,
-    /// How many operations this body has.
+    /// How many operations the present body has.
     pub operations: u64,
-    /// How many values all inputs have.
+    /// How many values all inputs have together.
     pub input_values: u64,
     /// How many edits there are.
     pub edits: u64,
@@ -58,7 +58,7 @@ impl Known for Tables<'_> {
 }
 
 impl<'a> Tables<'a> {
-    /// The tables of no statement, in a session of this scale.
+    /// The tables before any statement, in a session of this scale.
     #[tactic(auto, unfolding(crate::specs::TablesOf::tables_of))]
     pub fn new(alloc: Global, scale: Scale) -> Tables<'a>
         ensures { result ≡ given.tables_of scale [] }
@@ -83,7 +83,7 @@ impl<'a> Tables<'a> {
         }
     }
 
-    /// Whether a register or memory of this module has this name.
+    /// Whether a register or memory of the present module has this name.
     #[tactic(auto, using(crate::proofs::NameLemmas::among_append))]
     pub fn has_register_or_memory(&self, name: &[u8]) -> bool
         ensures { result ≡ is_among (tests.taken self.now RegisterName) name.now }
@@ -91,7 +91,7 @@ impl<'a> Tables<'a> {
         self.registers.has(name) || self.memories.has(name)
     }
 
-    /// Whether a register or memory of this module or a temp of this body has this name.
+    /// Whether a register or memory of the present module, or a temp of the present body, has this name.
     #[tactic(auto, using(crate::proofs::NameLemmas::among_append))]
     pub fn has_variable_or_memory(&self, name: &[u8]) -> bool
         ensures { result ≡ is_among (tests.taken self.now TempName) name.now }
@@ -99,14 +99,14 @@ impl<'a> Tables<'a> {
         self.registers.has(name) || self.memories.has(name) || self.temps.has(name)
     }
 
-    /// Another sort of statement that declares nothing.
+    /// Goes on to a place after a statement that declares nothing.
     pub fn go_on(&mut self, place: Place)
         ensures { self.new ≡ given.at_place self.old place }
     {
         self.place = place;
     }
 
-    /// Whether the FIFOs of the declared version have delays.
+    /// Whether FIFOs have delays in the declared version.
     pub fn has_delays(&self) -> bool
         ensures { result ≡ before.has_delays self.now.version }
     {
@@ -121,7 +121,7 @@ impl<'a> Tables<'a> {
         self.place = Place::AmongChannels;
     }
 
-    /// Adds a source. After want of memory the tables are as they were, or have the channel alone.
+    /// Adds a source. After `OutOfMemory` the tables are as they were, or have it as a channel only.
     #[tactic(auto, using(crate::proofs::ChannelLemmas::new_source))]
     pub fn add_source(&mut self, name: &'a [u8]) -> Result<(), OutOfMemory>
         requires tables { given.IsOfStatements self.old }
@@ -135,7 +135,7 @@ impl<'a> Tables<'a> {
         Ok(())
     }
 
-    /// Adds a sink. After want of memory the tables are as they were.
+    /// Adds a sink. After `OutOfMemory` the tables are as they were.
     pub fn add_sink(&mut self, name: &'a [u8]) -> Result<(), OutOfMemory>
         requires { is_among self.old.channels name.now ≡ false }
         ensures ok { OnOk result (self.new ≡ given.with_sink self.old name.now) }
@@ -146,7 +146,7 @@ impl<'a> Tables<'a> {
         Ok(())
     }
 
-    /// Adds a FIFO. After want of memory the tables are as they were, or have the channel alone.
+    /// Adds a FIFO. After `OutOfMemory` the tables are as they were, or have it as a channel only.
     #[tactic(auto, using(crate::proofs::ChannelLemmas::new_fifo))]
     pub fn add_fifo(&mut self, name: &'a [u8]) -> Result<(), OutOfMemory>
         requires tables { given.IsOfStatements self.old }
@@ -160,7 +160,7 @@ impl<'a> Tables<'a> {
         Ok(())
     }
 
-    /// Begins a module. After want of memory the tables are as they were.
+    /// Begins a module. After `OutOfMemory` the tables are as they were.
     pub fn add_module(&mut self, name: &'a [u8]) -> Result<(), OutOfMemory>
         requires { is_among self.old.modules name.now ≡ false }
         ensures ok { OnOk result (self.new ≡ given.with_module self.old name.now) }
@@ -174,7 +174,7 @@ impl<'a> Tables<'a> {
         Ok(())
     }
 
-    /// Adds a register. After want of memory the tables are as they were.
+    /// Adds a register. After `OutOfMemory` the tables are as they were.
     #[tactic(auto, using(crate::proofs::NameLemmas::absent_append))]
     pub fn add_register(&mut self, name: &'a [u8]) -> Result<(), OutOfMemory>
         requires { is_among (tests.taken self.old RegisterName) name.now ≡ false }
@@ -186,7 +186,7 @@ impl<'a> Tables<'a> {
         Ok(())
     }
 
-    /// Adds a memory of so many words. After want of memory the tables are as they were.
+    /// Adds a memory of so many words. After `OutOfMemory` the tables are as they were.
     #[tactic(auto, using(crate::proofs::NameLemmas::absent_append))]
     pub fn add_memory(&mut self, name: &'a [u8], words: u64) -> Result<(), OutOfMemory>
         requires new { is_among (tests.taken self.old RegisterName) name.now ≡ false }
@@ -200,7 +200,7 @@ impl<'a> Tables<'a> {
         Ok(())
     }
 
-    /// Begins the body of a block or a loop. After want of memory the tables are as they were.
+    /// Begins the body of a block or a loop. After `OutOfMemory` the tables are as they were.
     pub fn add_block(&mut self, name: &'a [u8]) -> Result<(), OutOfMemory>
         requires { is_among self.old.blocks name.now ≡ false }
         ensures ok { OnOk result (self.new ≡ given.with_block self.old name.now) }
@@ -213,7 +213,7 @@ impl<'a> Tables<'a> {
         Ok(())
     }
 
-    /// Adds a temp. After want of memory the tables are as they were.
+    /// Adds a temp. After `OutOfMemory` the tables are as they were.
     #[tactic(auto, using(crate::proofs::NameLemmas::absent_append))]
     pub fn add_temp(&mut self, name: &'a [u8]) -> Result<(), OutOfMemory>
         requires { is_among (tests.taken self.old TempName) name.now ≡ false }
@@ -234,7 +234,7 @@ impl<'a> Tables<'a> {
         self.place = Place::AmongOperations;
     }
 
-    /// Adds an input of so many values. After want of memory the tables are as they were.
+    /// Adds an input of so many values. After `OutOfMemory` the tables are as they were.
     pub fn add_input(&mut self, name: &'a [u8], count: u64) -> Result<(), OutOfMemory>
         requires new { is_among self.old.inputs name.now ≡ false }
         requires room { self.old.input_values + count < 2 ^ 64 }

@@ -4,15 +4,15 @@ use Rattle.std.specs.List.{enumerate_from}
 use Rattle.flow_design.specs.declared.plan.Edit.{Edit}
 use Rattle.flow_design.specs.declared.plan.Plan.{Plan}
 
--- the last of the edits, and this one where there is none
+-- the last of these edits, or the given one where there is none
 abbrev pub last_or : Edit → List Edit → Edit
 last_or other [] = other
 last_or other (e ∷ more) = last_or e more
 
--- the depth of a channel: what the last edit of it says, and where there is none the depth that stood
+-- the depth of channel f after these edits: that of its last edit, or the depth that it had
 abbrev pub depth_after : List Edit → ℕ → ℕ → ℕ
 depth_after edits f stood = (last_or (record { channel = f; depth = stood }) (filter (λ e. e.channel == f) edits)).depth
 
--- the plan after the edits
+-- the plan after these edits
 unfoldable pub plan_after : Plan → List Edit → Plan
 plan_after p edits = record p { depths = map (λ entry. depth_after edits entry.0 entry.1) (enumerate_from 0 p.depths) }

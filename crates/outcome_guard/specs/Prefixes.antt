@@ -1,6 +1,6 @@
 -- Lists of outcomes that begin alike.
 use Rattle.std.specs.Prelude.{◌≡◌, Bool, List, ◌++◌}
 
--- the longer list is the shorter one and more, or no more
+-- the longer list begins with the shorter one
 abbrev pub IsPrefix : List Bool → List Bool → Type 0
 IsPrefix shorter longer = (more : List Bool) × (longer ≡ shorter ++ more)

@@ -1,4 +1,5 @@
--- How many runs the reports of a design after its edits count: a report counts none where its answers go on where the kept ones end.
+-- How many runs the reports of a design after its edits count: a report begins no run where, in every module, its outcomes and the
+-- kept ones are such that one list begins with the other.
 use Rattle.std.specs.Prelude.{◌+◌, Bool, true, false, not, ◌&&◌, ◌||◌, if◌then◌else◌, nat_lt, List, [], ◌∷◌, length}
 use Rattle.outcome_guard.specs.declared.count.RunCount.{RunCount}
 
@@ -18,13 +19,13 @@ begins (x ∷ a) (y ∷ b) = same_outcome x y && begins a b
 abbrev pub goes_on : List Bool → List Bool → Bool
 goes_on a b = begins a b || begins b a
 
--- the longer of two lists, the first where they are as long
+-- the longer of two lists, or the first where they have the same length
 abbrev pub longer : List Bool → List Bool → List Bool
 longer a b = if nat_lt (length a) (length b) then b else a
 
 -- ---- the answers of all modules
 
--- in every module
+-- in every module one of the two lists is a prefix of the other
 abbrev pub all_go_on : List (List Bool) → List (List Bool) → Bool
 all_go_on [] found = true
 all_go_on (a ∷ kept) [] = true
@@ -37,19 +38,19 @@ all_longer (a ∷ kept) (b ∷ found) = longer a b ∷ all_longer kept found
 
 -- ---- the count
 
--- with the answers of the first report
+-- the count after the first report, with its answers
 abbrev pub first_counts : List (List Bool) → RunCount
 first_counts answers = record { kept = answers; runs = 1 }
 
--- with those of one report more: where in every module one of the lists is a prefix of the other, every module keeps the longer one; else
--- there is one run more, whose answers are kept
+-- the count after one more report, with its answers: where in every module one of the lists is a prefix of the other, every module
+-- keeps the longer list; else there is one more run, whose answers are kept
 unfoldable pub next_counts : RunCount → List (List Bool) → RunCount
 next_counts old found =
     if all_go_on old.kept found
     then record { kept = all_longer old.kept found; runs = old.runs }
     else record { kept = found; runs = old.runs + 1 }
 
--- with those of all further reports
+-- the count after all further reports, with their answers
 abbrev pub counts_after : RunCount → List (List (List Bool)) → RunCount
 counts_after old [] = old
 counts_after old (found ∷ more) = counts_after (next_counts old found) more

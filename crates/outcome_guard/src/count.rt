@@ -6,16 +6,16 @@ use crate::prefix::one_is_prefix;
 use flow_word::{Flags, List};
 use std::mem;
 
-/// The answers that are kept of the reports so far, and how many runs these reports count.
+/// The answers that are kept of the reports so far, and how many runs these reports count together.
 #[derive(Debug, Drop, PartialEq)]
 pub struct RunCount {
-    /// The outcomes of each module's queries, in order.
+    /// The kept outcomes of each module's queries, in order.
     pub kept: List<Flags>,
     pub runs: u64,
 }
 
 impl RunCount {
-    /// The count of the first report, with its answers: one run.
+    /// The count after the first report, with its answers: one run.
     pub fn new(answers: List<Flags>) -> RunCount
         ensures { result ≡ first_counts answers }
     {
@@ -25,7 +25,7 @@ impl RunCount {
         }
     }
 
-    /// Counts the answers of one report more. It takes no memory.
+    /// Counts one more report, with its answers. It takes no memory.
     #[tactic(auto, unfolding(crate::specs::Runs::next_counts))]
     pub fn add(&mut self, mut answers: List<Flags>)
         requires { self.old.runs < u64.MAX }
@@ -40,7 +40,7 @@ impl RunCount {
     }
 }
 
-/// Whether in every module one of the lists is a prefix of the other.
+/// Whether in every module one of the two lists of outcomes is a prefix of the other.
 fn all_go_on(kept: &[Flags], found: &[Flags]) -> bool
     ensures { result ≡ all_go_on kept.now found.now }
 {
@@ -59,7 +59,7 @@ fn goes_on(a: &[bool], b: &[bool]) -> bool
     one_is_prefix(a, b)
 }
 
-/// Keeps the longer list in every module.
+/// Keeps the longer list of outcomes in every module.
 fn keep_longer(kept: &mut [Flags], found: &mut [Flags])
     ensures { kept.new ≡ all_longer kept.old found.old }
 {
@@ -68,7 +68,7 @@ fn keep_longer(kept: &mut [Flags], found: &mut [Flags])
     }
 }
 
-/// Keeps the longer of two lists.
+/// Keeps the longer of two lists of outcomes.
 fn keep(own: &mut Flags, other: &mut Flags)
     ensures { own.new ≡ longer own.old other.old }
 {

@@ -1,14 +1,14 @@
-//! One outcome beside another.
+//! An assumed outcome compared with the one that is found.
 ghost use Rattle.std.specs.Prelude.{◌≡◌, ◌≢◌, ◌↔◌};
 
 use query_log::Query;
 
-/// What is found of outcomes that were assumed.
+/// The result of comparing assumed outcomes with those that are found.
 #[derive(Clone, Copy, Debug, PartialEq, Eq)]
 pub enum Guard {
-    /// The outcomes are as they were assumed.
+    /// Each outcome that is found is the assumed one.
     Same,
-    /// The outcome of this query is not as it was assumed.
+    /// The outcome that is found for this query is not the assumed one.
     Differs(Query),
 }
 

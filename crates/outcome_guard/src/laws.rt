@@ -1,11 +1,11 @@
-//! What edits come to one after the other.
+//! What several edits, one after the other, make of a plan.
 ghost use Rattle.std.specs.Prelude.{◌≡◌, ◌<◌, [], ◌∷◌, ◌++◌, length, List};
 ghost use Rattle.flow_design.specs.declared.plan.Plan.{Plan};
 ghost use Rattle.flow_design.specs.declared.plan.Edit.{Edit};
 ghost use Rattle.flow_design.specs.Plans.{with_depth};
 ghost use Rattle.outcome_guard.specs.Edits.{plan_after};
 
-/// Without edits a plan stays as it is, and one edit more sets one depth more.
+/// Without edits a plan stays as it is, and each further edit sets one more depth.
 pub fn edits_in_order()
     ensures none { (p : Plan) → plan_after p [] ≡ p }
     ensures one_more { (p : Plan) (edits : List Edit) (e : Edit) → e.channel < length p.depths

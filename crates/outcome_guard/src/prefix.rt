@@ -1,4 +1,4 @@
-//! One list of outcomes beside another.
+//! Two lists of outcomes compared.
 ghost use Rattle.std.specs.Prelude.{◌↔◌, ◌⊎◌, IsTrue};
 ghost use Rattle.outcome_guard.specs.Prefixes.{IsPrefix};
 

@@ -5,22 +5,22 @@ use Rattle.flow_word.specs.Kinds.{other_side, same_side}
 use Rattle.event_timing.specs.Machines.{Access, Design}
 use Rattle.event_timing.specs.Histories.{Trace, moves}
 
--- the access waits at this side of the channel, where it is not possible
+-- the access is one that waits where it is not possible, and it is at this side of the channel
 abbrev pub blocks_at : Side → ℕ → Access → Bool
 blocks_at side ch a = a.blocks && (same_side a.side side && eqb a.channel ch)
 
--- one of these accesses does
+-- one of the accesses can wait at this side of the channel
 abbrev pub waits_at : Side → ℕ → List Access → Bool
 waits_at side ch [] = false
 waits_at side ch (a ∷ xs) = blocks_at side ch a || waits_at side ch xs
 
--- In any run of the design with these numbers of elements and places to begin with, module n goes on from where it stands in clock f of
--- the run h at least w clocks after module m goes on from where it stands in clock e of h:
---   it is the same module and clock; or
---   so it is of an earlier clock than f; or
---   so it is, with one clock less, of the clock before f, in which n moves in h; or
---   n waits in clock f at a side of a channel, of which it has taken all that is there as long as the module at the other side does not
---   go on from where it stands in clock a; and of that one and clock a it is so with no fewer clocks than w without the channel's lag.
+-- IsAfter d start h m e n f w: in any run of the design with these numbers of elements and places to begin with, module n goes on from
+-- where it stands in clock f of the run h at least w clocks after module m goes on from where it stands in clock e of h:
+--   Same: it is the same module and clock, and w is 0;
+--   Later: it holds for an earlier clock than f already;
+--   Own: it holds, with one clock less, for the clock before f, in which n moves in h;
+--   Waits: n waits in clock f at a side of a channel. It has taken all that is there as long as the module at the other side, which stands
+--   there in clock a, does not go on; and that module, in clock a, comes after m by at least w clocks less the lag of the channel.
 pub data IsAfter {S : Type 0} (d : Design S) (start : Side → ℕ → ℕ) (h : Trace S) (m e : ℕ) : ℕ → ℕ → ℕ → Type 0 where
   Same : IsAfter d start h m e m e zero
   Later : (n f g w : ℕ) → f ≤ g → IsAfter d start h m e n f w → IsAfter d start h m e n g w

@@ -1,4 +1,4 @@
--- What a path of steps says of a plan with other depths.
+-- What a path of steps shows about a plan with other depths.
 use Rattle.std.specs.Prelude.{◌≡◌, ℕ, suc, ◌+◌, ◌-◌, ◌<◌, ◌≤◌, nat_lt, true, if◌then◌else◌, is_some, List, length, map}
 use Rattle.std.specs.Prelude.{slice_get, slice_index, slice_index_or, slice_set, Option, None, Some}
 use Rattle.flow_word.specs.declared.access.Access.{Access}
@@ -22,12 +22,12 @@ use Rattle.path_check.specs.Paths.{IsAfter}
 
 -- ---- the depths
 
--- a list of depths, with another one for a FIFO where there is an edit
+-- the list of depths, in which the edit, if there is one, has replaced the depth of its FIFO
 abbrev pub edited : List ℕ → Option Edit → List ℕ
 edited depths None = depths
 edited depths (Some edit) = slice_set depths edit.channel edit.depth
 
--- what is held is the end of the plan's run, in which nothing is asked, and these are depths for its FIFOs, none greater than its own
+-- the held run is the end of the plan's run, the plan asks nothing, and the depths fit its FIFOs and are no greater than their own
 pub record IsTried (p : Plan) (h : Held) (ends : List (Option Advance)) (depths : List ℕ) : Type 0 where
   pub finished : IsFinished p h ends
   pub quiet : AsksNothing p
@@ -36,12 +36,12 @@ pub record IsTried (p : Plan) (h : Held) (ends : List (Option Advance)) (depths 
 
 -- ---- waits
 
--- how many pops, or pushes, of a channel wait for nobody with these depths
+-- how many of a channel's first pops, or pushes, wait for no access of the other side, with these depths
 abbrev pub free_with : List Channel → List ℕ → Side → ℕ → ℕ
 free_with channels depths side c = if same_side side Push then slice_index depths c else free_of (channel_at channels c).kind side
 
--- with these depths the access waits for a pop, or a push, in the step at this place or in a later one of its module, and so many clocks
--- after it
+-- with these depths the access waits for a pop or a push in the step at this place, or in a later one of its module, and becomes
+-- possible so many clocks after it
 pub record WaitsFor (channels : List Channel) (depths : List ℕ) (a : Access) (place : Place) (lag : ℕ) : Type 0 where
   pub blocks : is_blocking a.kind ≡ true
   pub fifo : IsFifo (channel_at channels a.channel).kind
@@ -53,7 +53,7 @@ pub record WaitsFor (channels : List Channel) (depths : List ℕ) (a : Access) (
   pub no_earlier : place.step ≤ event.step
   pub its_lag : lag ≡ lag_of (channel_at channels a.channel).kind (side_of a.kind)
 
--- one of the accesses does
+-- with these depths one of the accesses waits for the step at this place, or for a later one of its module, with this lag
 pub record OneWaits (channels : List Channel) (depths : List ℕ) (accesses : List Access) (place : Place) (lag : ℕ) : Type 0 where
   pub number : ℕ
   pub access : Access
@@ -62,34 +62,34 @@ pub record OneWaits (channels : List Channel) (depths : List ℕ) (accesses : Li
 
 -- ---- paths
 
--- the cycle of the step at a place, where it has one
+-- the clock of the step at a place; 0 where it has none
 abbrev pub cycle_at : List Lane → Place → ℕ
 cycle_at lanes place = slice_index_or (lane_at lanes place.module).cycles place.step 0
 
--- this place is that of a step, and it has a cycle
+-- the place names a step that has a cycle
 pub record IsTimed (lanes : List Lane) (place : Place) : Type 0 where
   pub owner : place.module < length lanes
   pub step : place.step < length (lane_at lanes place.module).steps
   pub timed : place.step < length (lane_at lanes place.module).cycles
 
--- with these depths the step at one place is done so many clocks after the step at another, or later, or never
+-- with these depths the step at `to` is done at least so many clocks after the step at `from`, or never
 pub record ComesAfter (p : Plan) (h : Held) (depths : List ℕ) (from to : Place) (clocks : ℕ) : Type 0 where
   pub path : ℕ
   pub long : clocks ≤ path
   pub after : IsAfter (design p) (start_in (with_depths p depths)) (lockstep_run p) from.module (cycle_at h.lanes from)
       to.module (cycle_at h.lanes to) path
 
--- what comes so many clocks after any step at one place does so many more after it at the next
+-- whatever step the step at `before` comes after, the step at `next` comes after it by `more` clocks more
 abbrev pub Adds : Plan → Held → List ℕ → Place → Place → ℕ → Type 0
 Adds p h depths before next more =
     (from : Place) (clocks : ℕ) → ComesAfter p h depths from before clocks → ComesAfter p h depths from next (clocks + more)
 
--- the place of this number
+-- the place with this number in a path
 abbrev pub place_at : List Place → ℕ → Place
 place_at path k = slice_index_or path k (record { «module» = 0; step = 0 })
 
--- the first n places of a path are those of steps of which each waits for the one before it: the last of them comes so many clocks after
--- the first
+-- the first n places of the path name steps, each of which waits for the one before it, so that the last comes at least so many
+-- clocks after the first
 pub record IsAlong (engine : Engine) (depths : List ℕ) (path : List Place) (n clocks : ℕ) : Type 0 where
   pub some : 1 ≤ n
   pub within : n ≤ length path
@@ -98,7 +98,7 @@ pub record IsAlong (engine : Engine) (depths : List ℕ) (path : List Place) (n 
   pub along : (p : Plan) (ends : List (Option Advance)) → IsTried p (held_in engine (map is_some ends)) ends depths
       → ComesAfter p (held_in engine (map is_some ends)) depths (place_at path 0) (place_at path (n - 1)) clocks
 
--- how many clocks after a step its module still moves, where it has no next step
+-- how many clocks after a step its module still moves, up to its end; 0 where the module has a next step
 abbrev pub moves_behind : List Lane → List (Option Advance) → Place → ℕ
 moves_behind lanes ends last =
     if nat_lt (last.step + 1) (length (lane_at lanes last.module).steps) then 0 else gap_of (end_at ends last.module) - 1

@@ -1,4 +1,4 @@
-//! The laws, for any plan `p` that the engine takes.
+//! The laws of paths of waits, for any plan `p` that the engine takes.
 ghost use Rattle.std.specs.Prelude.{◌≡◌, ◌≢◌, ℕ, zero, suc, ◌+◌, ◌≤◌, IsTrue, List as Items};
 ghost use Rattle.flow_design.specs.declared.plan.Plan.{Plan};
 ghost use Rattle.flow_design.specs.declared.report.Verdict.TheVariants.{Done};
@@ -9,9 +9,10 @@ ghost use Rattle.depth_order.specs.Depths.{with_depths, AreDepths, AreDeeper, As
 ghost use Rattle.depth_order.specs.Chain.{moves_at};
 ghost use Rattle.path_check.specs.Paths.{IsAfter};
 
-/// Where no operation is a query, and with other depths a module of the plan goes on from a clock in which it moves so many clocks after
-/// the beginning, the plan with those depths ends no earlier than a clock after that. Where those depths are no greater than the plan's, a
-/// path may begin in any clock of the plan's run. Where a path leads back to where it began, the plan with those depths never ends.
+/// What a path of waits shows where no operation is a query. If with other depths a module goes on at least w clocks after the
+/// beginning, from a clock in which it moves, the plan with those depths ends after clock w. If those depths are no greater than
+/// the plan's, a path may begin in any clock of the plan's run. If a path leads back to the module and clock where it began, a
+/// clock or more later, the plan with those depths never ends.
 pub fn paths_end_late()
     ensures late { (p : Plan) → FitsEngine p → AsksNothing p → (ds : Items ℕ) → AreDepths p ds → (m n f w : ℕ)
         → IsAfter (design p) (start_in (with_depths p ds)) (lockstep_run p) m zero n f w → IsTrue (moves_at p f n)

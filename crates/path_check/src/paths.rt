@@ -1,4 +1,4 @@
-//! Paths of steps.
+//! What a path of steps shows of the end of a plan.
 ghost use Rattle.std.specs.Prelude.{◌≡◌, ◌≢◌, ℕ, ◌<◌, true, length, map, is_some, Option, IfSome, List as Items};
 ghost use Rattle.flow_design.specs.declared.plan.Plan.{Plan};
 ghost use Rattle.flow_design.specs.declared.report.Verdict.TheVariants.{Done};
@@ -15,12 +15,12 @@ use engine_view::Engine;
 use flow_design::{Advance, Edit};
 use flow_word::Place;
 
-/// Whether a path of steps shows that a plan ends after a clock with these depths and the edit: its steps wait each for the one before it,
-/// the first is done no earlier than with the depths that stand, and the module of the last one is not ended by then. There is a depth for
-/// each channel, none greater than the one that stands.
+/// Whether a path of steps shows that the plan ends after `clock` with these depths and the edit. It does if each step waits for
+/// the one before it, the first step is done no earlier than with the plan's own depths, and the module of the last step has not
+/// ended by `clock`.
 ///
-/// The engine holds the end of the plan's run, and no operation is a query. It looks at the accesses of each step once, and takes no
-/// memory.
+/// There is one depth per channel, none greater than the plan's own. The engine holds the end of the plan's run, and no operation
+/// is a query. The check looks at the accesses of each step once, and takes no memory.
 pub fn ends_after(
     engine: &Engine,
     ends: &[Option<Advance>],
@@ -43,11 +43,11 @@ pub fn ends_after(
     }
 }
 
-/// Whether a path of steps, each of which waits for the one before it, leads back to where it began in a clock or more, so that the plan
-/// never ends with these depths and the edit. There is a depth for each channel, none greater than the one that stands.
+/// Whether a path of steps, each of which waits for the one before it, leads back to its first step one clock or more later. If so,
+/// the plan never ends with these depths and the edit.
 ///
-/// The engine holds the end of the plan's run, and no operation is a query. It looks at the accesses of each step once, and takes no
-/// memory.
+/// There is one depth per channel, none greater than the plan's own. The engine holds the end of the plan's run, and no operation
+/// is a query. The check looks at the accesses of each step once, and takes no memory.
 pub fn never_ends(engine: &Engine, depths: &[u64], edit: Option<Edit>, path: &[Place]) -> bool
     requires { HasAccesses engine.now.graph.lanes engine.now.fifos.channels }
     ensures { result ≡ true → (p : Plan) (ends : Items (Option Advance))
@@ -65,7 +65,8 @@ pub fn never_ends(engine: &Engine, depths: &[u64], edit: Option<Edit>, path: &[P
     }
 }
 
-/// How many clocks the last step of a path comes after the first, where each waits for the one before it.
+/// How many clocks the last step of a path comes after its first one. `None` where the path is empty, or a step does not wait for
+/// the one before it.
 fn clocks_along(engine: &Engine, depths: &[u64], edit: Option<Edit>, path: &[Place]) -> Option<u64>
     requires { HasAccesses engine.now.graph.lanes engine.now.fifos.channels }
     ensures { IfSome result (λ clocks. IsAlong engine.now (edited depths.now edit) path.now (length path.now) clocks) }
@@ -85,7 +86,7 @@ fn clocks_along(engine: &Engine, depths: &[u64], edit: Option<Edit>, path: &[Pla
     Some(clocks)
 }
 
-/// The place of this number in a path.
+/// The place with this number in a path, counted from 0.
 fn place_at(path: &[Place], at: usize) -> Place
     requires { at < length path.now }
     ensures { result ≡ place_at path.now at }
@@ -93,14 +94,14 @@ fn place_at(path: &[Place], at: usize) -> Place
     path[at]
 }
 
-/// Whether two places are one.
+/// Whether two places are the same.
 fn is_same(first: Place, last: Place) -> bool
     ensures { result ≡ true → first ≡ last }
 {
     first.module == last.module && first.step == last.step
 }
 
-/// The cycle of a step that has one.
+/// The clock of a step with a cycle, in the run that the engine holds.
 fn cycle_of(engine: &Engine, place: Place) -> u64
     requires { IsTimed engine.now.graph.lanes place }
     ensures { result ≡ cycle_at engine.now.graph.lanes place }
@@ -108,7 +109,7 @@ fn cycle_of(engine: &Engine, place: Place) -> u64
     engine.graph.cycle_of(place).unwrap_or(0)
 }
 
-/// How many clocks after a step its module still moves, before its end or its next step.
+/// How many clocks after a step its module still moves, up to its end; 0 where the module has a next step.
 fn clocks_behind(engine: &Engine, ends: &[Option<Advance>], last: Place) -> u64
     requires { IsTimed engine.now.graph.lanes last }
     ensures { result ≡ moves_behind engine.now.graph.lanes ends.now last }
@@ -122,7 +123,7 @@ fn clocks_behind(engine: &Engine, ends: &[Option<Advance>], last: Place) -> u64
     }
 }
 
-/// The local clocks from a module's last step to its end.
+/// The local clocks from a module's last step to its end; 0 where it does not end.
 fn gap_of(end: &Option<Advance>) -> u64
     ensures { result ≡ gap_of end.now }
 {

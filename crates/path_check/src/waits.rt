@@ -10,15 +10,16 @@ use engine_view::Engine;
 use flow_design::Edit;
 use flow_word::{Access, Place, Side};
 
-/// Whether a place is that of a step with a cycle.
+/// Whether a place names a step that has a cycle.
 pub(crate) fn is_timed(engine: &Engine, place: Place) -> bool
     ensures { result ≡ true → IsTimed engine.now.graph.lanes place }
 {
     place.module < engine.graph.modules() && place.step < engine.graph.frontier(place.module)
 }
 
-/// How many clocks a step comes after another that it waits for: the next step of the same module, or a step with an access that waits
-/// for a pop or a push in the other one or in a later one of its module, with these depths and the edit. None where it is neither.
+/// How many clocks a step comes after another that it waits for, with these depths and the edit. A step waits for another if it is
+/// the next step of the same module, or if one of its accesses waits for a pop or a push that is in the other step or a later one
+/// of that module. `None` where it does neither.
 ///
 /// It looks at each access of the step once.
 pub(crate) fn clocks_between(
@@ -42,7 +43,8 @@ pub(crate) fn clocks_between(
     find_lag(engine, depths, edit, step.accesses.as_slice(), before)
 }
 
-/// The lag of the first of these accesses that waits for the step at a place, or for a later one of its module.
+/// The lag of the first of these accesses that waits for the step at a place, or for a later one of its module. `None` where no
+/// access does.
 fn find_lag(
     engine: &Engine,
     depths: &[u64],
@@ -61,7 +63,8 @@ fn find_lag(
     None
 }
 
-/// How many clocks an access is possible after the step at a place, where it waits for that step or a later one of its module.
+/// How many clocks after the step at a place an access becomes possible, where it waits for that step or a later one of its module.
+/// `None` where it does not.
 fn lag_behind(
     engine: &Engine,
     depths: &[u64],
@@ -89,7 +92,7 @@ fn lag_behind(
     }
 }
 
-/// How many pops, or pushes, of a channel wait for nobody with these depths and the edit.
+/// How many of a channel's first pops, or pushes, wait for no access of the other side, with these depths and the edit.
 fn free_with(engine: &Engine, depths: &[u64], edit: Option<Edit>, side: Side, channel: u32) -> u64
     requires { channel < length engine.now.fifos.channels }
     ensures { result ≡ free_with engine.now.fifos.channels (edited depths.now edit) side channel }
@@ -100,7 +103,7 @@ fn free_with(engine: &Engine, depths: &[u64], edit: Option<Edit>, side: Side, ch
     }
 }
 
-/// The depth of a channel with the edit, and 0 where the list has none.
+/// The depth of a channel with the edit; 0 where the list has no such channel.
 fn depth_with(depths: &[u64], edit: Option<Edit>, channel: u32) -> u64
     ensures { result ≡ slice_index (edited depths.now edit) channel }
 {

@@ -1,4 +1,4 @@
--- What the links of a chain add up to.
+-- Sums over the links of a chain, and over what was polled for along it.
 use Rattle.std.specs.Prelude.{ℕ, suc, ◌-◌, ◌<◌, ◌≤◌, ◌==◌, List, All, IfSome, if◌then◌else◌, count_by, length, slice_index, sum_by}
 use Rattle.flow_word.specs.declared.access.Side.{Side}
 use Rattle.flow_word.specs.declared.access.Side.TheVariants.{Pop, Push}
@@ -7,11 +7,11 @@ use Rattle.flow_design.specs.StaticRules.{is_port}
 use Rattle.depth_order.specs.declared.link.Link.{Link}
 use Rattle.path_text.specs.declared.link.Polled.{Polled}
 
--- the clocks of a link
+-- how many clocks a link has
 abbrev pub clocks_of : Link → ℕ
 clocks_of l = suc l.last - l.first
 
--- those in module m
+-- how many clocks a link has in module m: none where it is of another module
 abbrev pub clocks_at : ℕ → Link → ℕ
 clocks_at m l = if l.module == m then clocks_of l else 0
 
@@ -19,11 +19,11 @@ clocks_at m l = if l.module == m then clocks_of l else 0
 abbrev pub clocks_in : List Link → ℕ → ℕ
 clocks_in links m = sum_by (clocks_at m) links
 
--- how often a chain crosses channel f where a module could not pop, or push
+-- how often a chain crosses channel f at this side, that is, where a module could not pop, or not push
 abbrev pub crossings : List Link → Side → ℕ → ℕ
 crossings links side f = count_by (λ l. is_port (record { side = side; channel = f }) l.crossed) links
 
--- of two numbers of each channel, the first for its popping side and the second for its pushing side
+-- the entry of channel f: in the first list for its popping side, and in the second for its pushing side
 abbrev pub at_sides : List ℕ → List ℕ → Side → ℕ → ℕ
 at_sides popped pushed Pop f = slice_index popped f
 at_sides popped pushed Push f = slice_index pushed f
@@ -36,15 +36,15 @@ waiting q = (q.found - q.pushed) - 1
 abbrev pub times_polled : List Polled → ℕ → ℕ
 times_polled polls f = count_by (λ q. f == q.channel) polls
 
--- the waiting of an element that was polled for on channel f
+-- the clocks that an element waits that was polled for on channel f; 0 where it was on another channel
 abbrev pub waiting_at : ℕ → Polled → ℕ
 waiting_at f q = if q.channel == f then waiting q else 0
 
--- the waiting of them all
+-- the clocks that all elements polled for on channel f wait
 abbrev pub clocks_waited : List Polled → ℕ → ℕ
 clocks_waited polls f = sum_by (waiting_at f) polls
 
--- a poll is on a channel of the design, and the query comes after the push
+-- the poll is on a channel of the design, and its query comes after the push
 pub record IsPollOf (design : Design) (q : Polled) : Type 0 where
   pub inside : q.channel < length design.channels
   pub later : q.pushed < q.found
@@ -52,7 +52,7 @@ pub record IsPollOf (design : Design) (q : Polled) : Type 0 where
 abbrev pub ArePollsOf : Design → List Polled → Type 0
 ArePollsOf design polls = All (IsPollOf design) polls
 
--- a link's clocks are in order, and its module and channel are the design's
+-- the clocks of the link are in order, and its module and its crossed channel are the design's
 pub record IsLinkOf (design : Design) (l : Link) : Type 0 where
   pub order : l.first ≤ l.last
   pub mover : l.module < length design.modules

@@ -1,4 +1,4 @@
--- What is kept of the queries in a log, for a walk along the chain.
+-- What the walk along the chain keeps of the queries in a log.
 use Rattle.std.specs.Prelude.{◌≡◌, ℕ, ◌≤◌, ◌<◌, nat_le, nat_lt, Bool, true, false, ◌&&◌, ◌||◌, if◌then◌else◌, Option, Some, None, option_map}
 use Rattle.std.specs.Prelude.{List, [], All, AllPairs, filter, fold, length, map, slice_index_or}
 use Rattle.flow_word.specs.declared.access.Kind.{Kind}
@@ -15,42 +15,42 @@ use Rattle.path_text.specs.Polls.{ends_poll, from_query, front_pushed, moved_clo
 
 -- ---- the clocks of moved elements
 
--- in a log: of each channel those in which elements were moved at this side
+-- one entry per channel: the clocks of the log in which elements were moved at this side
 pub record AreMoved (side : Side) (channels : ℕ) (log : List LoggedAccess) (clocks : List (List ℕ)) : Type 0 where
   pub count : length clocks ≡ channels
   pub each : (f : ℕ) → f < channels → slice_index_or clocks f [] ≡ moved_clocks log side f
 
 -- ---- the last missed query
 
--- none
+-- no query was missed
 abbrev pub unmissed : LastMissed
 unmissed = record { tryread = None; empty = None }
 
--- the clock of a query of this kind
+-- the clock of the last missed query of this kind, if one was missed
 abbrev pub missed_of : LastMissed → Kind → Option ℕ
 missed_of m TryRead = m.tryread
 missed_of m Empty = m.empty
 missed_of m _ = None
 
--- by an access of this kind that was missed, or was not
+-- the last missed queries after an access of this kind in this clock, which was missed or was not
 abbrev pub missed_by : Bool → Kind → ℕ → LastMissed → LastMissed
 missed_by false kind c m = m
 missed_by true TryRead c m = record { tryread = Some c; empty = m.empty }
 missed_by true Empty c m = record { tryread = m.tryread; empty = Some c }
 missed_by true kind c m = m
 
--- one access more
+-- the last missed queries after one more access
 abbrev pub missed_with : LastMissed → LoggedAccess → LastMissed
 missed_with m a = missed_by (is_missed a) a.event.kind a.event.cycle m
 
--- in a log: the clock of the last query of this kind on channel f that was missed
+-- the last clock of a missed query of this kind on channel f, after one more access; and then, after all accesses of a log
 abbrev pub missed_more : Kind → ℕ → Option ℕ → LoggedAccess → Option ℕ
 missed_more kind f o a = if asks kind f a && is_missed a then Some a.event.cycle else o
 
 unfoldable pub last_missed : List LoggedAccess → Kind → ℕ → Option ℕ
 last_missed log kind f = fold (missed_more kind f) None log
 
--- of each channel
+-- one entry per channel: the last missed queries of each kind in the log
 pub record AreMissed (channels : ℕ) (log : List LoggedAccess) (missed : List LastMissed) : Type 0 where
   pub count : length missed ≡ channels
   pub tryread : (f : ℕ) → f < channels → (slice_index_or missed f unmissed).tryread ≡ last_missed log TryRead f
@@ -58,19 +58,19 @@ pub record AreMissed (channels : ℕ) (log : List LoggedAccess) (missed : List L
 
 -- ---- the queries that found an element
 
--- what is kept of a, if it hit and one like it was missed before
+-- the find that the access a is, if it found an element and one like it was missed before
 abbrev pub found_by : Bool → Option ℕ → LoggedAccess → ℕ → Option Find
 found_by hit missed a pushed = if hit then option_map (λ v. record { access = a; missed = v; pushed = pushed }) missed else None
 
 abbrev pub find_clock : Find → ℕ
 find_clock f = f.access.event.cycle
 
--- a query of the link's module in the link's clocks, and the missed one is too
+-- the find is of the link's module and in the link's clocks, and so is its missed query
 abbrev pub is_within : Link → Find → Bool
 is_within l f =
     is_of l.«module» f.access && ((nat_le l.first (find_clock f) && nat_le (find_clock f) l.last) && nat_le l.first f.missed)
 
--- it comes before the link, or before one that was found
+-- the find comes before the one that was found; and then, before the link or the one that was found
 abbrev pub is_before : Find → Option Find → Bool
 is_before f None = false
 is_before f (Some g) = nat_lt (find_clock f) (find_clock g)
@@ -78,22 +78,22 @@ is_before f (Some g) = nat_lt (find_clock f) (find_clock g)
 abbrev pub is_ahead : Find → Link → Option Find → Bool
 is_ahead f l found = nat_lt (find_clock f) l.first || is_before f found
 
--- one more, which is not later
+-- what is found after a look at one more find, which is not later
 abbrev pub with_find : Option Find → Find → Link → Option Find
 with_find found f l = if is_within l f then Some f else found
 
--- in order of time
+-- the finds are in order of time
 abbrev pub AreInOrder : List Find → Type 0
 AreInOrder finds = AllPairs (λ f g. f.access.event.cycle ≤ g.access.event.cycle) finds
 
--- they are the queries of each link's module that end a poll in the link's clocks, and the pushes of what they found
+-- the list has just the queries that end a poll, for each link, and the clocks in which what they found was pushed
 pub record AreFinds (p : Plan) (log : List LoggedAccess) (finds : List Find) : Type 0 where
   pub in_order : AreInOrder finds
   pub pushed : All (λ f. f.pushed ≡ front_pushed log f.access.event.channel f.access.event.cycle) finds
   pub each : (l : Link) → map (λ f. f.access) (filter (is_within l) finds)
       ≡ filter (ends_poll p (filter (is_of l.«module») log) l.first l.last) (filter (is_of l.«module») log)
 
--- the link that begins with what was found, if something was
+-- the link from the find on; the whole link where there is none
 abbrev pub by_find : Link → Option Find → PolledLink
 by_find l None = record { link = l; polled = None }
 by_find l (Some f) = from_query l f.access f.pushed

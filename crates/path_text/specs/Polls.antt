@@ -1,4 +1,4 @@
--- What a module polls for, and the chain that follows it to where that was pushed.
+-- What a module polls for, and the chain that goes back to where that was pushed.
 use Rattle.std.specs.Prelude.{◌<◌, ◌≡◌, ℕ, zero, suc, nat_le, nat_lt, Bool, true, false, not, ◌&&◌, ◌⊎◌, if◌then◌else◌}
 use Rattle.std.specs.Prelude.{Option, Some, None, List, [], ◌∷◌, ◌++◌, filter, map, slice_index}
 use Rattle.std.specs.List.{list_any}
@@ -23,31 +23,31 @@ use Rattle.path_text.specs.Walks.{before_link, link_at}
 
 -- ---- queries that found what was polled for
 
--- a query that asks whether an element is there
+-- the access is a query that asks whether an element is there
 abbrev pub seeks : Kind → Bool
 seeks TryRead = true
 seeks Empty = true
 seeks _ = false
 
--- such a query found an element on a FIFO
+-- the access asks whether an element is there, and found one on a FIFO
 abbrev pub is_hit : Plan → LoggedAccess → Bool
 is_hit p a = seeks a.event.kind && (not (is_missed a) && is_fifo (kind_at p a.event.channel))
 
--- b asked the same as a on the same channel, from clock x on and before a's clock, and was missed
+-- the access b asked the same as a on the same channel, from clock x on and before a's clock, and was missed
 abbrev pub missed_before : ℕ → LoggedAccess → LoggedAccess → Bool
 missed_before x a b =
     (asks a.event.kind a.event.channel b && is_missed b) && (nat_le x b.event.cycle && nat_lt b.event.cycle a.event.cycle)
 
--- with these accesses of its module, a found by clock t an element for which the module had polled from clock x on
+-- the access a found, by clock t, an element for which its module had polled from clock x on; these are the accesses of its module
 abbrev pub ends_poll : Plan → List LoggedAccess → ℕ → ℕ → LoggedAccess → Bool
 ends_poll p accesses x t a = is_hit p a && (nat_le a.event.cycle t && list_any (missed_before x a) accesses)
 
--- the later of two by their clocks, and the first of them where their clocks are one
+-- the one with the later clock; the first of the two where their clocks are equal
 abbrev pub later : {X : Type 0} → (X → ℕ) → X → Option X → Option X
 later clock a None = Some a
 later clock a (Some b) = if nat_lt (clock a) (clock b) then Some b else Some a
 
--- the latest, and of several in its clock the first
+-- the item with the latest clock; of several with that clock, the first
 abbrev pub latest : {X : Type 0} → (X → ℕ) → List X → Option X
 latest clock [] = None
 latest clock (a ∷ rest) = later clock a (latest clock rest)
@@ -55,7 +55,7 @@ latest clock (a ∷ rest) = later clock a (latest clock rest)
 abbrev pub clock_of : LoggedAccess → ℕ
 clock_of a = a.event.cycle
 
--- the query that ended the last poll of a link's module in the link's clocks
+-- the query that ended the last poll of the link's module in the link's clocks, if there is one
 abbrev pub last_poll : Plan → List LoggedAccess → Link → Option LoggedAccess
 last_poll p log l =
     latest clock_of (filter (ends_poll p (filter (is_of l.«module») log) l.first l.last) (filter (is_of l.«module») log))
@@ -64,14 +64,14 @@ last_poll p log l =
 abbrev pub moved_clocks : List LoggedAccess → Side → ℕ → List ℕ
 moved_clocks log side f = clocks_of (filter (moved_at (record { side = side; channel = f })) log)
 
--- the clock in which the element was pushed that is at the front of FIFO f in clock u: before it as many were pushed as were popped before
+-- the clock in which the first element that FIFO f holds in clock u was pushed: as many were pushed before it as were popped before
 -- clock u
 abbrev pub front_pushed : List LoggedAccess → ℕ → ℕ → ℕ
 front_pushed log f u = slice_index (moved_clocks log Push f) (before (moved_clocks log Pop f) u)
 
 -- ---- the chain
 
--- a link that begins with the query a, which found an element that was pushed in this clock
+-- the link from the query a on, which found an element pushed in this clock
 abbrev pub from_query : Link → LoggedAccess → ℕ → PolledLink
 from_query l a pushed = record {
   link = record { «module» = l.«module»; first = a.event.cycle; last = l.last; crossed = None };
@@ -82,11 +82,11 @@ abbrev pub link_by : List LoggedAccess → Link → Option LoggedAccess → Poll
 link_by log l None = record { link = l; polled = None }
 link_by log l (Some a) = from_query l a (front_pushed log a.event.channel a.event.cycle)
 
--- a link, cut off before the query that ended its module's last poll; whole where there is none
+-- the link from the query on that ended its module's last poll; the whole link where no poll ended there
 abbrev pub polled_link : Plan → List LoggedAccess → Link → PolledLink
 polled_link p log l = link_by log l (last_poll p log l)
 
--- the chain goes on at the push of what was polled for; where nothing was, as it does without polls
+-- where the chain goes on before a link: at the push of what was polled for, or as it does without polls where nothing was
 abbrev pub before_by : Plan → Link → Option Polled → Option At
 before_by p l None = before_link p l
 before_by p l (Some q) = Some (record { «module» = owner p (record { side = Push; channel = q.channel }); clock = q.pushed })
@@ -98,14 +98,14 @@ abbrev pub going_on : (At → List PolledLink) → Option At → List PolledLink
 going_on rest None = []
 going_on rest (Some at) = rest at
 
--- the chain back from a module that moves, of at most so many links; the latest is the first
+-- the chain back from a move of a module, with at most n links, the latest first
 unfoldable pub polled_chain : Plan → List LoggedAccess → ℕ → At → List PolledLink
 polled_chain p log zero at = []
 polled_chain p log (suc n) at =
     polled_link p log (link_at p at.«module» at.clock)
     ∷ going_on (λ before. polled_chain p log n before) (before_polled p (polled_link p log (link_at p at.«module» at.clock)))
 
--- each link of it ends before the one that it leads to, so no chain from clock c has more than c + 1
+-- the whole chain back from a move: each link ends before those later in time begin, so from clock c it has at most c + 1 links
 abbrev pub polled_from : Plan → List LoggedAccess → Option At → List PolledLink
 polled_from p log o = going_on (λ at. polled_chain p log (suc at.clock) at) o
 
@@ -118,11 +118,11 @@ unfoldable pub last_move : Plan → ℕ → Option At
 last_move p zero = None
 last_move p (suc c) = move_by c (first_mover p c) (last_move p c)
 
--- the chain back from there
+-- the chain back from the last move below this clock
 abbrev pub polled_path : Plan → List LoggedAccess → ℕ → List PolledLink
 polled_path p log clock = polled_from p log (last_move p clock)
 
--- its links, and what was polled for
+-- the links of the chain
 abbrev pub links_in : List PolledLink → List Link
 links_in chain = map (λ l. l.link) chain
 
@@ -138,6 +138,6 @@ polls_in (l ∷ chain) = if_some l.polled ++ polls_in chain
 abbrev pub EndsEarlier : Link → Link → Type 0
 EndsEarlier l k = k.last < l.first
 
--- none, or what each access of the plan gave
+-- the log is empty, or it is what each access of the plan gave
 abbrev pub AreAccesses : Plan → List LoggedAccess → Type 0
 AreAccesses p log = (log ≡ []) ⊎ (log ≡ log_of p)

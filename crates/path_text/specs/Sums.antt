@@ -11,15 +11,15 @@ use Rattle.path_text.specs.PathText.{told_links, told_polls}
 abbrev pub spent_clocks : Bool → Plan → ℕ
 spent_clocks polls p = sum_by (clocks_in (told_links polls p)) (range_with_len 0 (length p.design.modules))
 
--- of each line `cross empty F N`, N times the clocks that an element is under way in F after the clock of its push
+-- over all lines `cross empty F N`, the sum of N times the clocks that an element is in flight in F after the clock of its push
 abbrev pub crossed_clocks : Bool → Plan → ℕ
 crossed_clocks polls p =
     sum_by (λ f. crossings (told_links polls p) Pop f * (delay_at p f - 1)) (range_with_len 0 (length p.design.channels))
 
--- of each line `poll empty F N W` the clocks of waiting
+-- over all lines `poll empty F N W`, the sum of W
 abbrev pub waited_clocks : Bool → Plan → ℕ
 waited_clocks polls p = sum_by (clocks_waited (told_polls polls p)) (range_with_len 0 (length p.design.channels))
 
--- the clocks of them all
+-- the sum of all these clocks
 abbrev pub told_clocks : Bool → Plan → ℕ
 told_clocks polls p = spent_clocks polls p + crossed_clocks polls p + waited_clocks polls p

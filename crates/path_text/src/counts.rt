@@ -1,4 +1,4 @@
-//! What the links of a chain, and the polls that it follows, add up to.
+//! Sums over the links of a chain, and over the polls that it follows.
 ghost use Rattle.std.specs.Prelude.{◌≡◌, ◌==◌, ℕ, ◌<◌, ◌≤◌, ◌^◌, ◌+◌, All, IfOk, IfSome, if◌then◌else◌, length, slice_index, sum_by};
 ghost use Rattle.flow_design.specs.StaticRules.{is_port};
 ghost use Rattle.path_text.specs.Counts.{clocks_of, clocks_at, clocks_in, clocks_waited, crossings, times_polled, waiting, waiting_at};
@@ -8,7 +8,7 @@ use depth_order::Link;
 use flow_word::{List, OutOfMemory, Port, Side};
 use std::alloc::Global;
 
-/// How many clocks a chain spends in each of so many modules.
+/// One entry per module: how many clocks a chain spends in it. `OutOfMemory` where memory ran out.
 pub(crate) fn clocks_by_module(
     alloc: Global,
     modules: u64,
@@ -39,7 +39,8 @@ fn add_clocks(clocks: &mut [u64], link: &Link)
     clocks[link.module as usize] += link.last - link.first + 1;
 }
 
-/// How often a chain crosses each of so many channels where a module could not pop, or push.
+/// One entry per channel: how often a chain crosses it at this side, that is, where a module could not pop, or not push.
+/// `OutOfMemory` where memory ran out.
 pub(crate) fn crossings_by_channel(
     alloc: Global,
     channels: u64,
@@ -57,7 +58,7 @@ pub(crate) fn crossings_by_channel(
     Ok(times)
 }
 
-/// Counts a crossing, if it is at this side of a channel.
+/// Counts a crossing, if it is at this side of its channel.
 fn count_crossing(times: &mut [u64], side: Side, crossed: Option<Port>)
     requires inside { IfSome crossed (λ a. a.channel < length times.old) }
     requires few { (f : ℕ) → f < length times.old → slice_index times.old f + 1 < 2 ^ 64 }
@@ -72,7 +73,7 @@ fn count_crossing(times: &mut [u64], side: Side, crossed: Option<Port>)
     }
 }
 
-/// How often a chain goes back to a push that was polled for, on each of so many channels.
+/// One entry per channel: how often a chain goes back to a push there that was polled for. `OutOfMemory` where memory ran out.
 pub(crate) fn polls_by_channel(
     alloc: Global,
     channels: u64,
@@ -100,7 +101,8 @@ fn count_poll(times: &mut [u64], channel: u32)
     times[channel as usize] += 1;
 }
 
-/// How many clocks the elements waited that were polled for, on each of so many channels.
+/// One entry per channel: how many clocks the elements that were polled for there waited in all. `OutOfMemory` where memory ran
+/// out.
 pub(crate) fn waiting_by_channel(
     alloc: Global,
     channels: u64,
@@ -119,7 +121,7 @@ pub(crate) fn waiting_by_channel(
     Ok(clocks)
 }
 
-/// Adds the waiting of an element that was polled for to that of its channel.
+/// Adds the clocks that an element polled for waited to those of its channel.
 fn add_waiting(clocks: &mut [u64], poll: &Polled)
     requires later { poll.now.pushed < poll.now.found }
     requires inside { poll.now.channel < length clocks.old }

@@ -1,4 +1,4 @@
-//! The queries that found an element for which their module polled.
+//! Finds: the queries that found an element for which their module had polled.
 ghost use Rattle.std.specs.Prelude.{◌≡◌, ◌++◌, ◌<◌, ◌≤◌, true, AllPairs, IfOk, OnOk, length, replicate, slice_index, slice_index_or, slice_set};
 ghost use Rattle.flow_design.specs.Plans.{is_fifo as is_fifo_kind};
 ghost use Rattle.flow_design.specs.StaticRules.{FitsEngine};
@@ -14,24 +14,25 @@ use sim_core::LoggedAccess;
 use stall_text::is_missed;
 use std::alloc::Global;
 
-/// A query that found an element on a FIFO, after another of its kind on that FIFO was missed.
+/// A query that found an element on a FIFO, after another query of its kind on that FIFO was missed.
 #[derive(Clone, Copy, Debug, PartialEq, Eq)]
 pub(crate) struct Find {
     pub(crate) access: LoggedAccess,
-    /// The last clock before in which one was missed.
+    /// The last clock before this query in which one of its kind was missed.
     pub(crate) missed: u64,
     /// The clock in which the element was pushed.
     pub(crate) pushed: u64,
 }
 
-/// The last clock in which a query of each kind was missed on a channel.
+/// For one channel, the last clock in which a query of each kind was missed.
 #[derive(Clone, Copy, Debug, PartialEq, Eq)]
 pub(crate) struct LastMissed {
     pub(crate) tryread: Option<u64>,
     pub(crate) empty: Option<u64>,
 }
 
-/// The queries that found an element for which their module polled, in commit order, by what each access gave.
+/// The queries of a log that found an element for which their module had polled, in commit order. `OutOfMemory` where memory ran
+/// out.
 pub(crate) fn finds(
     alloc: Global,
     plan: &Plan,
@@ -57,7 +58,7 @@ pub(crate) fn finds(
     Ok(finds)
 }
 
-/// Of each channel no query.
+/// One entry per channel: no query was missed yet. `OutOfMemory` where memory ran out.
 fn nothing_missed(alloc: Global, channels: usize) -> Result<List<LastMissed>, OutOfMemory>
     ensures { IfOk result (λ missed. missed ≡ replicate channels unmissed) }
 {
@@ -71,7 +72,7 @@ fn nothing_missed(alloc: Global, channels: usize) -> Result<List<LastMissed>, Ou
     Ok(missed)
 }
 
-/// Adds a query, if there is one.
+/// Adds a find, if there is one. `OutOfMemory` where memory ran out.
 fn push_find(finds: &mut List<Find>, found: Option<Find>) -> Result<(), OutOfMemory>
     ensures { OnOk result (finds.new ≡ finds.old ++ if_some found) }
 {
@@ -81,7 +82,8 @@ fn push_find(finds: &mut List<Find>, found: Option<Find>) -> Result<(), OutOfMem
     }
 }
 
-/// What is kept of an access that found an element after one like it was missed, by the clocks of both sides of its channel.
+/// The find that an access is, by the clocks of both sides of its channel. `None` where the access found no element, or none like
+/// it was missed before.
 fn find_of(
     plan: &Plan,
     of: LastMissed,
@@ -116,7 +118,7 @@ fn is_hit(plan: &Plan, access: &LoggedAccess) -> bool
     seeks(access.event.kind) && !is_missed(access) && is_fifo(kind)
 }
 
-/// Whether an access asks for an element.
+/// Whether an access of this kind asks whether an element is there.
 fn seeks(kind: Kind) -> bool
     ensures { result ≡ seeks_by kind }
 {
@@ -130,7 +132,7 @@ fn is_fifo(kind: ChannelKind) -> bool
     matches!(kind, ChannelKind::Fifo { .. })
 }
 
-/// The last clock in which a query of this kind was missed.
+/// The last clock in which a query of this kind was missed, if one was.
 fn missed_of(of: LastMissed, kind: Kind) -> Option<u64>
     ensures { result ≡ missed_in of kind }
 {
@@ -141,7 +143,7 @@ fn missed_of(of: LastMissed, kind: Kind) -> Option<u64>
     }
 }
 
-/// Keeps an access, if it is a query that was missed.
+/// Notes an access, if it is a query that was missed.
 fn note(missed: &mut List<LastMissed>, access: &LoggedAccess)
     requires { access.now.event.channel < length missed.old }
     ensures { missed.new ≡ slice_set missed.old access.now.event.channel
@@ -151,7 +153,7 @@ fn note(missed: &mut List<LastMissed>, access: &LoggedAccess)
     *of = missed_with(*of, access);
 }
 
-/// The last missed queries with an access more.
+/// The last missed queries of a channel after one more access.
 fn missed_with(of: LastMissed, access: &LoggedAccess) -> LastMissed
     ensures { result ≡ missed_after of access.now }
 {

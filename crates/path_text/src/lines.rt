@@ -1,4 +1,4 @@
-//! Single lines, and a line for each module, each channel or each link.
+//! The lines of the text on the latency: for each module, channel and link.
 ghost use Rattle.std.specs.Prelude.{◌≡◌, ◌<◌, ◌^◌, ◌++◌, length, slice_index, All, OnOk};
 ghost use Rattle.report_text.specs.Lines.{line, text_of_lines};
 ghost use Rattle.path_text.specs.Counts.{at_sides};
@@ -10,7 +10,8 @@ use flow_design::Design;
 use flow_word::{List, OutOfMemory, Side};
 use report_text::{channel_name, module_name, push_token, push_value};
 
-/// Adds the line of a module in which the chain spends so many clocks, if it spends any.
+/// Adds the line `spend NAME N` of a module in which the chain spends N clocks, if N is not 0. After `OutOfMemory` the text may
+/// have part of it.
 fn print_spent(text: &mut List<u8>, name: &[u8], clocks: u64) -> Result<(), OutOfMemory>
     ensures { OnOk result (text.new ≡ text.old ++ text_of_lines (spend_lines name.now clocks)) }
 {
@@ -23,7 +24,8 @@ fn print_spent(text: &mut List<u8>, name: &[u8], clocks: u64) -> Result<(), OutO
     text.push(b'\n')
 }
 
-/// Adds the line of a channel that the chain crosses so many times at this side, if it does.
+/// Adds the line of a channel that the chain crosses so many times at this side, if the number is not 0. After `OutOfMemory` the
+/// text may have part of it.
 fn print_crossed(
     text: &mut List<u8>,
     side: Side,
@@ -42,7 +44,7 @@ fn print_crossed(
     text.push(b'\n')
 }
 
-/// The word for a channel at which a module cannot pop, or push.
+/// The word for why a module cannot move at this side of a channel: it is empty, or full.
 fn side_word(side: Side) -> &'static [u8]
     ensures { result.now ≡ word_of side }
 {
@@ -52,7 +54,7 @@ fn side_word(side: Side) -> &'static [u8]
     }
 }
 
-/// Adds a line for each module in which the chain spends clocks.
+/// Adds a line for each module in which the chain spends clocks. After `OutOfMemory` the text may have some of them.
 pub(crate) fn print_modules(
     text: &mut List<u8>,
     design: &Design,
@@ -68,8 +70,9 @@ pub(crate) fn print_modules(
     Ok(())
 }
 
-/// Adds the lines of each channel that the chain crosses, by how often it crosses each where a module could not pop and where one could
-/// not push, how often it goes back to a push there that was polled for, and how many clocks the elements waited that were.
+/// Adds the lines of each channel, by four lists with one entry per channel: how often the chain crosses it where a module could
+/// not pop, and where one could not push; how often it goes back to a push there that was polled for; and how many clocks the
+/// elements polled for waited. After `OutOfMemory` the text may have some of them.
 pub(crate) fn print_channels(
     text: &mut List<u8>,
     design: &Design,
@@ -95,7 +98,8 @@ pub(crate) fn print_channels(
     Ok(())
 }
 
-/// Adds the line of a channel on which something was polled for so many times and waited so many clocks, if it was.
+/// Adds the line of a channel with elements that were polled for: how many, and how many clocks they waited. It adds nothing where
+/// there are none.
 fn print_polled(
     text: &mut List<u8>,
     name: &[u8],
@@ -114,7 +118,7 @@ fn print_polled(
     text.push(b'\n')
 }
 
-/// Adds the line of a link.
+/// Adds the line `link NAME X T` of a link from clock X to clock T. After `OutOfMemory` the text may have part of it.
 fn print_link(text: &mut List<u8>, design: &Design, link: &Link) -> Result<(), OutOfMemory>
     requires { link.now.module < length design.now.modules }
     ensures { OnOk result (text.new ≡ text.old ++ line (link_tokens design.now link.now)) }
@@ -126,7 +130,7 @@ fn print_link(text: &mut List<u8>, design: &Design, link: &Link) -> Result<(), O
     text.push(b'\n')
 }
 
-/// Adds a line for each link of a chain, in order of time, if they are asked for. A chain has its latest link first.
+/// Adds a line for each link of a chain, in order of time, if asked for. The chain itself has its latest link first.
 pub(crate) fn print_links(
     text: &mut List<u8>,
     design: &Design,

@@ -1,4 +1,4 @@
-//! Links of a chain that follows polls.
+//! The links of a chain that follows polls.
 use depth_order::Link;
 use flow_word::List;
 
@@ -6,25 +6,26 @@ use flow_word::List;
 #[derive(Clone, Copy, Debug, PartialEq, Eq)]
 pub struct Polled {
     pub channel: u32,
-    /// The clock in which it was pushed.
+    /// The clock in which the element was pushed.
     pub pushed: u64,
-    /// The clock of the query that found it.
+    /// The clock of the query that found the element.
     pub found: u64,
 }
 
-/// Clocks that the chain spends in one module, and where it goes on before them.
+/// The clocks that the chain spends in one module, and how it goes on to earlier clocks.
 #[derive(Clone, Copy, Debug, PartialEq, Eq)]
 pub struct PolledLink {
-    /// Where the module polled, the first clock is that of the query that found the element, and no port is crossed.
+    /// The clocks and the crossed port. Where the module polled, the first clock is that of the query that found the element, and
+    /// no port is crossed.
     pub link: Link,
-    /// What it polled for; none where the chain goes on as it does without polls.
+    /// The element that the module polled for; `None` where the chain goes on as it does without polls.
     pub polled: Option<Polled>,
 }
 
-/// A chain of clocks, the latest link first.
+/// A chain of clocks. Its lists begin with what is latest in time.
 #[derive(Drop)]
 pub struct Path {
     pub links: List<Link>,
-    /// The elements that were polled for, where the chain goes back to their pushes.
+    /// The elements that were polled for and to whose pushes the chain goes back.
     pub polls: List<Polled>,
 }

@@ -1,4 +1,4 @@
-//! The clocks in which elements were moved, side by side of each channel.
+//! The clocks in which elements were moved, for each side of each channel.
 ghost use Rattle.std.specs.Prelude.{◌≡◌, ◌<◌, ◌++◌, ◌∷◌, [], All, IfOk, OnOk, length, replicate, slice_index_or, slice_set};
 ghost use Rattle.stall_text.specs.Stalls.{moved_at};
 ghost use Rattle.path_text.specs.Finds.{AreMoved};
@@ -7,7 +7,8 @@ use flow_word::{List, OutOfMemory, Side, Words};
 use sim_core::LoggedAccess;
 use std::alloc::Global;
 
-/// Of each channel the clocks in which elements were moved at one side, in order, by what each access gave.
+/// One entry per channel: the clocks in which elements were moved at one side, in order, read from a log. `OutOfMemory` where
+/// memory ran out.
 pub(crate) fn moved_clocks(
     alloc: Global,
     channels: usize,
@@ -26,7 +27,7 @@ pub(crate) fn moved_clocks(
     Ok(clocks)
 }
 
-/// Of each channel none.
+/// One entry per channel: no clocks yet. `OutOfMemory` where memory ran out.
 fn no_clocks(alloc: Global, channels: usize) -> Result<List<Words>, OutOfMemory>
     ensures { IfOk result (λ clocks. clocks ≡ replicate channels []) }
 {
@@ -44,7 +45,7 @@ fn is_moved(side: Side, access: &LoggedAccess) -> bool
     access.value.is_some() && access.event.kind.side() == side
 }
 
-/// A clock more of a channel.
+/// Adds a clock to those of a channel. `OutOfMemory` where memory ran out.
 fn push_clock(clocks: &mut List<Words>, channel: u32, clock: u64) -> Result<(), OutOfMemory>
     requires { channel < length clocks.old }
     ensures { OnOk result (clocks.new ≡ slice_set clocks.old channel (slice_index_or clocks.old channel [] ++ clock ∷ [])) }

@@ -9,7 +9,8 @@ use flow_design::{Module, Op, Plan, Timed};
 use flow_word::{List, OutOfMemory, Port, Side};
 use std::alloc::Global;
 
-/// The module at a side of each channel, the first if there were more; the number of modules where there is none.
+/// One entry per channel: the module at this side of it; the number of modules where there is none. `OutOfMemory` where memory ran
+/// out.
 pub(crate) fn owners(alloc: Global, plan: &Plan, side: Side) -> Result<List<u32>, OutOfMemory>
     requires { FitsEngine plan.now }
     ensures { IfOk result (λ found. found ≡ owners plan.now side) }
@@ -26,7 +27,7 @@ pub(crate) fn owners(alloc: Global, plan: &Plan, side: Side) -> Result<List<u32>
     Ok(found)
 }
 
-/// The first of these modules that pops or pushes at a port; their number where none does.
+/// The number of the first of these modules that pops or pushes at a port; the number of modules where none does.
 fn owner(modules: &[Module], port: Port) -> u32
     requires { length modules.now < u32.MAX }
     ensures { result ≡ position_or_len (uses port) modules.now }

@@ -1,4 +1,4 @@
-//! Searches in lists in order of time.
+//! Searches in lists that are sorted by time.
 ghost use Rattle.std.specs.Prelude.{◌≡◌, ℕ, ◌<◌, ◌≤◌, AllPairs, length, slice_index_or};
 ghost use Rattle.std.specs.List.{filter};
 ghost use Rattle.port_clocks.specs.Leads.{before};
@@ -8,7 +8,7 @@ ghost use Rattle.path_text.specs.Finds.{AreInOrder, find_clock, is_within as is_
 use crate::finds::Find;
 use depth_order::Link;
 
-/// How many of these clocks come before a clock.
+/// How many of these clocks come before a given clock.
 pub(crate) fn count_before(clocks: &[u64], clock: u64) -> usize
     requires { AllPairs (λ a b. a ≤ b) clocks.now }
     ensures { result ≡ before clocks.now clock }
@@ -26,7 +26,7 @@ pub(crate) fn count_before(clocks: &[u64], clock: u64) -> usize
     high
 }
 
-/// How many queries that found an element come up to a clock.
+/// How many of these finds are in a given clock or earlier.
 fn count_until(finds: &[Find], clock: u64) -> usize
     requires { AreInOrder finds.now }
     ensures within { result ≤ length finds.now }
@@ -45,10 +45,10 @@ fn count_until(finds: &[Find], clock: u64) -> usize
     high
 }
 
-/// Of the queries of a link's module that found an element in the link's clocks, after one like it was missed in these, the latest; of
-/// several in its clock the first.
+/// The latest find of a link's module that is in the link's clocks, with its missed query in them too; of several in that clock,
+/// the first. `None` where there is none.
 ///
-/// It looks at those from that clock to the link's last, and at some of the others.
+/// It looks at the finds from that clock to the link's last, and at some of the others.
 pub(crate) fn latest(finds: &[Find], link: &Link) -> Option<Find>
     requires { AreInOrder finds.now }
     ensures { result ≡ latest_of find_clock (filter (is_in link.now) finds.now) }
@@ -63,7 +63,7 @@ pub(crate) fn latest(finds: &[Find], link: &Link) -> Option<Find>
     found
 }
 
-/// Whether a query comes before the link, or before the one that was found.
+/// Whether a find comes before the link's clocks, or before the one that was found.
 fn is_ahead(find: &Find, link: &Link, found: Option<Find>) -> bool
     ensures { result ≡ is_ahead_of find.now link.now found }
 {
@@ -74,7 +74,7 @@ fn is_ahead(find: &Find, link: &Link, found: Option<Find>) -> bool
     }
 }
 
-/// The one that is found with a query more, which is not later.
+/// What is found after a look at one more find, which is not later than the one found so far.
 fn with_find(found: Option<Find>, find: &Find, link: &Link) -> Option<Find>
     ensures { result ≡ found_with found find.now link.now }
 {
@@ -85,7 +85,7 @@ fn with_find(found: Option<Find>, find: &Find, link: &Link) -> Option<Find>
     }
 }
 
-/// Whether a query is of the link's module and, as the missed one before it, in the link's clocks.
+/// Whether a find is of the link's module, and both it and its missed query are in the link's clocks.
 fn is_within(find: &Find, link: &Link) -> bool
     ensures { result ≡ is_in link.now find.now }
 {

@@ -1,4 +1,4 @@
-//! Links of the chain, read off spans.
+//! Links of the chain, read from the spans of modules.
 ghost use Rattle.std.specs.Prelude.{◌≡◌, ℕ, ◌<◌, IsTrue};
 ghost use Rattle.flow_design.specs.declared.plan.Plan.{Plan};
 ghost use Rattle.stall_spans.specs.Spans.{AreSpansBelow};
@@ -9,7 +9,7 @@ use depth_order::Link;
 use flow_word::Port;
 use stall_spans::{Doing, Span};
 
-/// The link that ends with this clock, in which the module moves, by the module's spans below a later clock.
+/// The link that ends with this clock, in which the module moves, read from the module's spans.
 pub(crate) fn link_to(spans: &[Span], owner: u32, clock: u64) -> Link
     requires { AreSorted spans.now }
     ensures { (p : Plan) (end : ℕ) → AreSpansBelow p owner end spans.now → clock < end → IsTrue (moves_at p clock owner)
@@ -24,7 +24,7 @@ pub(crate) fn link_to(spans: &[Span], owner: u32, clock: u64) -> Link
     }
 }
 
-/// The first clock of the span in which a module moves that has this clock.
+/// The first clock of the span with this clock, in which the module moves.
 fn start_of(spans: &[Span], clock: u64) -> u64
     requires { AreSorted spans.now }
     ensures { (p : Plan) (owner end : ℕ) → AreSpansBelow p owner end spans.now → clock < end → IsTrue (moves_at p clock owner)
@@ -36,7 +36,7 @@ fn start_of(spans: &[Span], clock: u64) -> u64
     }
 }
 
-/// The port at which a module stands in the clock before this one, in which it moves; none where it does not stand still.
+/// The port at which a module stalls in the clock before this one, in which it moves; `None` where it does not stall then.
 fn stood_before(spans: &[Span], clock: u64) -> Option<Port>
     requires { AreSorted spans.now }
     ensures { (p : Plan) (owner end : ℕ) → AreSpansBelow p owner end spans.now → clock < end → IsTrue (moves_at p clock owner)
@@ -51,7 +51,7 @@ fn stood_before(spans: &[Span], clock: u64) -> Option<Port>
     }
 }
 
-/// The port at which a module stands still.
+/// The port at which a module stalls; `None` where it moves.
 fn port_of(doing: Doing) -> Option<Port>
     ensures { result ≡ port_of doing }
 {
@@ -61,7 +61,7 @@ fn port_of(doing: Doing) -> Option<Port>
     }
 }
 
-/// The span that has a clock.
+/// The span that holds a clock; `None` where no span does.
 fn span_with(spans: &[Span], clock: u64) -> Option<Span>
     requires { AreSorted spans.now }
     ensures { IsWith spans.now clock result }
@@ -82,7 +82,7 @@ fn span_with(spans: &[Span], clock: u64) -> Option<Span>
     None
 }
 
-/// The clock after the last one in which a module moves; none where it moves in none.
+/// The clock after the last one in which a module moves; `None` where it moves in no clock.
 pub(crate) fn moving_end(spans: &[Span]) -> Option<u64>
     ensures { result ≡ moving_end spans.now }
 {

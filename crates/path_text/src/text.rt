@@ -1,4 +1,4 @@
-//! The text of a core's plan.
+//! The text on the latency of a core's plan.
 ghost use Rattle.std.specs.Prelude.{◌≡◌, ◌++◌, ◌<◌, ◌^◌, [], IfOk, OnOk, if◌then◌else◌, length, sum_by};
 ghost use Rattle.lockstep_defs.specs.Verdict.{verdict as verdict_of};
 ghost use Rattle.flow_design.specs.Reports.{clock_of as clock_in};
@@ -23,13 +23,13 @@ use sim_core::{Core, LoggedAccess};
 use stall_spans::Span;
 use std::alloc::Global;
 
-/// The text of what makes the latency of a final core's plan: the modules in which the chain back from its end spends clocks, and the
-/// channels that it crosses; with `events` also the links of the chain. With `polls` the chain goes back from a query that ended a poll to
-/// the push of the element that it found.
+/// The text on what decides the latency of a final core's plan: the modules in which the chain back from its end spends clocks, and
+/// the channels that it crosses. With `events` it also has the links of the chain. With `polls` the chain goes back from a query
+/// that ended a poll to the push of the element that the query found.
 ///
 /// It takes memory for the report without its events, for the spans of all modules, for the links, for a few numbers of each module
-/// and each channel, and for the text; with `polls` also for what each access gave, and for the clocks in which each element moved. An
-/// error leaves nothing.
+/// and each channel, and for the text; with `polls` also for what each access gave, and for the clocks in which each element moved.
+/// `OutOfMemory` where memory ran out.
 pub fn path_text(
     alloc: Global,
     core: &Core,
@@ -57,7 +57,7 @@ pub fn path_text(
     Ok(text)
 }
 
-/// What each access of a final core's plan gave, where it is asked for; else nothing.
+/// What each access of a final core's plan gave, if asked for; otherwise an empty log. `OutOfMemory` where memory ran out.
 fn log_if(alloc: Global, core: &Core, asked: bool) -> Result<List<LoggedAccess>, OutOfMemory>
     requires { IsFinal (design_of core.now.plan) core.now.plan.cycles (theory_of core.now) }
     ensures { IfOk result (λ log. log ≡ (if asked then log_of core.now.plan else [])) }
@@ -69,7 +69,7 @@ fn log_if(alloc: Global, core: &Core, asked: bool) -> Result<List<LoggedAccess>,
     }
 }
 
-/// The spans of each module below the clock of the plan's verdict.
+/// One entry per module: its spans below the clock of the plan's verdict. `OutOfMemory` where memory ran out.
 fn all_spans(
     alloc: Global,
     core: &Core,
@@ -88,7 +88,8 @@ fn all_spans(
     Ok(spans)
 }
 
-/// Adds the lines of the modules in which a chain spends clocks, and those of the channels that it crosses.
+/// Adds the lines of the modules in which a chain spends clocks, and of the channels that it crosses. After `OutOfMemory` the text
+/// may have some of them.
 fn print_counts(
     alloc: Global,
     text: &mut List<u8>,

@@ -1,4 +1,4 @@
-//! The walk along the chain.
+//! The walk back along the chain.
 ghost use Rattle.std.specs.Prelude.{◌≡◌, ℕ, ◌<◌, ◌≤◌, ◌++◌, filter, length, IfOk, IfSome, OnOk};
 ghost use Rattle.flow_word.specs.declared.access.Side.TheVariants as side;
 ghost use Rattle.flow_design.specs.declared.plan.Plan.{Plan};
@@ -25,18 +25,19 @@ use sim_core::LoggedAccess;
 use stall_spans::Span;
 use std::alloc::Global;
 
-/// A clock in which a module moves.
+/// A module, and a clock in which it moves.
 #[derive(Clone, Copy, Debug, PartialEq, Eq)]
 pub struct At {
     pub module: u32,
     pub clock: u64,
 }
 
-/// The chain that makes the latency of a plan, by the spans of its modules below the verdict's clock; it follows polls where `log` is
-/// what each access gave, and none where `log` is empty.
+/// The chain that decides the latency of a plan, read from the spans of its modules below the verdict's clock. It follows polls
+/// where `log` is what each access gave, and no polls where `log` is empty.
 ///
-/// It takes memory for the links, for two numbers of each channel, and with a log for the clocks in which each element moved and for the
-/// queries that found an element. It looks at each access once, at each such query at most once, and for each link at a few spans. An
+/// It takes memory for the links, for two numbers of each channel, and with a log for the clocks in which each element moved and
+/// for the queries that found an element. It looks at each access once, at each such query at most once, and for each link at a few
+/// spans. `OutOfMemory` where memory ran out.
 /// error leaves nothing.
 pub fn find_path(
     alloc: Global,
@@ -66,7 +67,7 @@ pub fn find_path(
     Ok(Path { links, polls })
 }
 
-/// The link, from the query on that ended the last poll of its module in its clocks; whole where there is none.
+/// The link from the query on that ended the last poll of its module in its clocks; the whole link where no poll ended there.
 fn polled_link(finds: &[Find], link: Link) -> PolledLink
     requires { AreInOrder finds.now }
     ensures { result ≡ by_find link (latest_of find_clock (filter (is_within link) finds.now)) }
@@ -77,7 +78,7 @@ fn polled_link(finds: &[Find], link: Link) -> PolledLink
     }
 }
 
-/// The link that begins with a query.
+/// The part of a link that begins with a query which found an element.
 fn from_query(link: Link, find: Find) -> PolledLink
     ensures { result ≡ begins_with link find.access find.pushed }
 {
@@ -97,7 +98,7 @@ fn from_query(link: Link, find: Find) -> PolledLink
     }
 }
 
-/// Adds what was polled for, if something was.
+/// Adds what was polled for, if anything was. `OutOfMemory` where memory ran out.
 fn push_poll(polls: &mut List<Polled>, polled: Option<Polled>) -> Result<(), OutOfMemory>
     ensures { OnOk result (polls.new ≡ polls.old ++ if_some polled) }
 {
@@ -107,7 +108,7 @@ fn push_poll(polls: &mut List<Polled>, polled: Option<Polled>) -> Result<(), Out
     }
 }
 
-/// The last clock in which a module moves, and the first module that moves in it.
+/// The last clock in which a module moves, and the first module that moves in it. `None` where no module moves.
 fn last_move(spans: &[List<Span>]) -> Option<At>
     requires { length spans.now < u32.MAX }
     ensures { (p : Plan) (end : ℕ) → HasSpans p end spans.now → IsLastMove p end (length spans.now) result }
@@ -119,7 +120,7 @@ fn last_move(spans: &[List<Span>]) -> Option<At>
     last
 }
 
-/// The same with one module more, which moves in the clock before this one and in none after, if it moves at all.
+/// The last move after one more module is looked at. `end` is the clock after that module's last move, if it moves at all.
 fn with_module(last: Option<At>, owner: u32, end: Option<u64>) -> Option<At>
     ensures { result ≡ with_module last owner end }
 {
@@ -136,7 +137,8 @@ fn with_module(last: Option<At>, owner: u32, end: Option<u64>) -> Option<At>
     }
 }
 
-/// The place at which the chain goes on before a link: at the push of what was polled for, or where it goes on without polls.
+/// Where the chain goes on before a link: at the push of what was polled for, or else where it goes on without polls. `None` where
+/// the chain ends.
 fn before_polled(plan: &Plan, poppers: &[u32], pushers: &[u32], step: &PolledLink) -> Option<At>
     requires poppers { poppers.now ≡ owners plan.now side.Pop }
     requires pushers { pushers.now ≡ owners plan.now side.Push }
@@ -154,7 +156,7 @@ fn before_polled(plan: &Plan, poppers: &[u32], pushers: &[u32], step: &PolledLin
     }
 }
 
-/// The place at which the chain goes on before a link.
+/// Where the chain goes on before a link without polls: at the other side of the crossed port. `None` where no port is crossed.
 fn before_link(plan: &Plan, poppers: &[u32], pushers: &[u32], link: &Link) -> Option<At>
     requires poppers { poppers.now ≡ owners plan.now side.Pop }
     requires pushers { pushers.now ≡ owners plan.now side.Push }
@@ -176,7 +178,7 @@ fn before_link(plan: &Plan, poppers: &[u32], pushers: &[u32], link: &Link) -> Op
     })
 }
 
-/// After how many clocks an element that is pushed can be popped.
+/// How many clocks after its push an element can be popped.
 fn delay_of(kind: ChannelKind) -> u64
     ensures { result ≡ delay_of kind }
 {

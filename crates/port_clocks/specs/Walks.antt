@@ -1,4 +1,4 @@
--- Where a walk over the clocks of a FIFO's ports stands.
+-- How far a walk over the clocks of a FIFO's ports is.
 use Rattle.std.specs.Prelude.{ℕ, ◌≡◌, ◌<◌, ◌≤◌, ◌^◌, ◌-◌, nat_lt, IsTrue, min, length}
 use Rattle.flow_word.specs.declared.access.Port.{Port}
 use Rattle.flow_word.specs.declared.access.Side.TheVariants.{Pop, Push}
@@ -8,22 +8,22 @@ use Rattle.fifo_fills.specs.Fills.{last_clock, moved_before}
 use Rattle.port_clocks.specs.declared.walk.PortWalk.{PortWalk}
 use Rattle.port_clocks.specs.declared.walk.FifoWalk.{FifoWalk}
 
--- later than each clock
+-- a number that is later than each clock
 abbrev pub never : ℕ
 never = 2 ^ 64 - 1
 
--- the element of this number, from 0 on, passes a port in this clock: up to the verdict's, more elements than its number have passed before
--- the clocks after this one, and before no others
+-- the element with this number, counted from 0, passes a port in this clock: up to the verdict's clock, more elements have passed
+-- before exactly those clocks that come after this one
 abbrev pub PassesAt : Plan → Port → ℕ → ℕ → Type 0
 PassesAt p port number clock =
     (c : ℕ) → c ≤ last_clock p → nat_lt number (moved_before p port.side port.channel c) ≡ nat_lt clock c
 
--- a walk stands at a clock: it knows how many elements passed the port before, and in which clock the next one does
+-- a walk is at a clock: it knows how many elements passed the port before, and in which clock the next one does
 pub record StandsAt (p : Plan) (port : Port) (clock : ℕ) (walk : PortWalk) : Type 0 where
   pub count : walk.count ≡ moved_before p port.side port.channel clock
   pub next : PassesAt p port walk.count walk.next
 
--- a walk over both ports of a FIFO
+-- the walk of a FIFO is at one clock of the plan at both of its ports
 pub record IsFifoWalk (p : Plan) (walk : FifoWalk) : Type 0 where
   pub inside : walk.channel < length p.design.channels
   pub fifo : IsTrue (is_fifo (kind_at p walk.channel))
@@ -31,6 +31,6 @@ pub record IsFifoWalk (p : Plan) (walk : FifoWalk) : Type 0 where
   pub pops : StandsAt p (record { side = Pop; channel = walk.channel }) walk.clock walk.pops
   pub pushes : StandsAt p (record { side = Push; channel = walk.channel }) walk.clock walk.pushes
 
--- the clock of the next pop or push
+-- the clock of the next pop or push of a walk
 abbrev pub next_of : FifoWalk → ℕ
 next_of walk = min walk.pops.next walk.pushes.next

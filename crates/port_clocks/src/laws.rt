@@ -1,4 +1,4 @@
-//! What the clocks of a FIFO's ports tell.
+//! The law of a port's clocks.
 ghost use Rattle.std.specs.Prelude.{◌≡◌, ◌+◌, ◌<◌, ◌≤◌, ℕ, true, length, List as Items};
 ghost use Rattle.flow_word.specs.declared.access.Port.{Port};
 ghost use Rattle.flow_word.specs.declared.access.Side.TheVariants.{Pop, Push};
@@ -9,8 +9,8 @@ ghost use Rattle.fifo_fills.specs.Fills.{fill, last_clock};
 ghost use Rattle.port_clocks.specs.Leads.{before};
 ghost use Rattle.port_clocks.specs.Clocks.{ArePortClocks};
 
-/// No other clocks are those of a port. In each clock up to the verdict's a FIFO holds so many elements as clocks of its pushes come
-/// before that clock, less those of its pops.
+/// A port has exactly one list of clocks. In each clock up to the verdict's a FIFO holds as many elements as clocks of its pushes
+/// come before that clock, less the clocks of its pops.
 pub fn clocks_tell_fills()
     ensures one { (p : Plan) (port : Port) (xs ys : Items ℕ) → ArePortClocks p port xs → ArePortClocks p port ys → xs ≡ ys }
     ensures fills { (p : Plan) → FitsEngine p → (f : ℕ) → f < length p.design.channels → is_fifo (kind_at p f) ≡ true

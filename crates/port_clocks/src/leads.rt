@@ -1,11 +1,12 @@
-//! Lists of clocks that rise, and by how many one is ahead of the other.
+//! Two rising lists of clocks, and by how many one is ahead of the other.
 ghost use Rattle.std.specs.Prelude.{◌≡◌, ◌+◌, ◌-◌, ◌<◌, ◌≤◌, ◌^◌, ℕ, true, max, length, slice_get, option_map, unwrap_or, nat_lt, All};
 ghost use Rattle.std.specs.Prelude.{AllPairs};
 ghost use Rattle.port_clocks.specs.Leads as counts;
 
-/// In how many clocks below `clock` at least `margin` more of the first clocks are before it than of the second.
+/// In how many clocks below `clock` the first list is ahead of the second by at least `margin`: at least so many more of its clocks
+/// are before that clock.
 ///
-/// It looks at each of the second clocks once, and at one of the first for each, and takes no memory.
+/// It looks at each clock of the second list once, and each time at one of the first. It takes no memory.
 pub fn ahead_clocks(first: &[u64], second: &[u64], margin: u64, clock: u64) -> u64
     requires first { AllPairs (λ a b. a ≤ b) first.now }
     requires second { AllPairs (λ a b. a ≤ b) second.now }
@@ -25,7 +26,8 @@ pub fn ahead_clocks(first: &[u64], second: &[u64], margin: u64, clock: u64) -> u
     total + clocks_after(first, second.len() as u64 + margin - 1, from, clock)
 }
 
-/// How many clocks from one to another come after the clock at a place; none where there is no such place.
+/// How many clocks, from `from` on and below `until`, come after the clock at a place of the list; none where there is no such
+/// place.
 fn clocks_after(clocks: &[u64], at: u64, from: u64, until: u64) -> u64
     requires { All (λ x. x + 1 < 2 ^ 64) clocks.now }
     ensures { result ≡ unwrap_or (option_map (λ x. until - max from (x + 1)) (slice_get clocks.now at)) 0 }
@@ -36,9 +38,10 @@ fn clocks_after(clocks: &[u64], at: u64, from: u64, until: u64) -> u64
     }
 }
 
-/// By how many the first clocks are ahead of the second at most: in some clock so many more of them are before it, and in none more.
+/// By how many the first list is ahead of the second at most: in some clock so many more of its clocks are before that clock, and
+/// in no clock more.
 ///
-/// It looks at each of the first clocks once, and at one of the second for each, and takes no memory.
+/// It looks at each clock of the first list once, and each time at one of the second. It takes no memory.
 pub fn most_ahead(first: &[u64], second: &[u64]) -> u64
     requires first { AllPairs (λ a b. a ≤ b) first.now }
     requires second { AllPairs (λ a b. a ≤ b) second.now }
@@ -54,7 +57,7 @@ pub fn most_ahead(first: &[u64], second: &[u64]) -> u64
     most as u64
 }
 
-/// Whether the clock at a place comes after this one; true where there is no such place.
+/// Whether the clock at a place of the list comes after this one; true where there is no such place.
 fn is_after(clocks: &[u64], at: usize, clock: u64) -> bool
     ensures { result ≡ unwrap_or (option_map (λ x. nat_lt clock x) (slice_get clocks.now at)) true }
 {

@@ -11,9 +11,10 @@ use flow_word::{List, OutOfMemory, Port, Words};
 use sim_core::Core;
 use std::alloc::Global;
 
-/// The clocks in which elements pass a port of a final core's plan, in order: one for each element that is popped there, or pushed.
+/// The clocks in which elements pass a port of a final core's plan, in order: one clock for each element that is popped, or pushed,
+/// there.
 ///
-/// It looks at each step that uses the port once, and takes memory for the clocks. An error leaves nothing.
+/// It looks once at each step that uses the port, and takes memory for the clocks.
 pub fn clocks_at(alloc: Global, core: &Core, port: Port) -> Result<Words, OutOfMemory>
     requires is_final { IsFinal (design core.now.plan) core.now.plan.cycles (theory_of core.now) }
     requires channel { port.channel < length core.now.plan.design.channels }
@@ -25,7 +26,7 @@ pub fn clocks_at(alloc: Global, core: &Core, port: Port) -> Result<Words, OutOfM
 
 /// The clocks in which a module moves elements at a port of a final core's plan, in order; none where the port is another module's.
 ///
-/// It looks at each step that uses the port at most once, and takes memory for the clocks. An error leaves nothing.
+/// It looks at most once at each step that uses the port, and takes memory for the clocks.
 pub fn own_clocks(alloc: Global, core: &Core, owner: u32, port: Port) -> Result<Words, OutOfMemory>
     requires is_final { IsFinal (design core.now.plan) core.now.plan.cycles (theory_of core.now) }
     requires channel { port.channel < length core.now.plan.design.channels }

@@ -25,7 +25,7 @@ pub(crate) fn uses(engine: &Engine, owner: u32, port: Port) -> bool
     }
 }
 
-/// The cycles of the steps that use a port, as far as they have one.
+/// The cycles of the steps that use a port, in order, up to the first one that has none.
 pub(crate) fn cycles_at(alloc: Global, engine: &Engine, port: Port) -> Result<Words, OutOfMemory>
     requires channel { port.channel < length engine.now.fifos.channels }
     requires places { HasPlaces engine.now.graph.lanes engine.now.fifos.channels }
@@ -42,7 +42,7 @@ pub(crate) fn cycles_at(alloc: Global, engine: &Engine, port: Port) -> Result<Wo
     Ok(cycles)
 }
 
-/// How many steps use a port, those without a cycle too; a step counts for each element that it moves there.
+/// How many steps use a port, also without a cycle. A step counts once for each element that it moves there.
 fn count(engine: &Engine, port: Port) -> u64
     requires { port.channel < length engine.now.fifos.channels }
     ensures { result ≡ length (places_of port.side (channel_at engine.now.fifos.channels port.channel)) }
@@ -53,7 +53,7 @@ fn count(engine: &Engine, port: Port) -> u64
     }
 }
 
-/// The cycle of the step that uses a port with so many before it; none where there is no such step, or it has no cycle.
+/// The cycle of the step that uses a port after `before` earlier uses. `None` where there is no such step, or it has no cycle.
 pub(crate) fn cycle_at(engine: &Engine, port: Port, before: u64) -> Option<u64>
     requires channel { port.channel < length engine.now.fifos.channels }
     requires places { HasPlaces engine.now.graph.lanes engine.now.fifos.channels }

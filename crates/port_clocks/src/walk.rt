@@ -14,20 +14,20 @@ use crate::reading::cycle_at;
 use flow_word::{Port, Side};
 use sim_core::Core;
 
-/// The clock of an element that does not pass a port: later than each clock.
+/// Stands for the clock of an element that does not pass a port: it is later than each clock.
 const NEVER: u64 = u64::MAX;
 
-/// Where a walk over the clocks of a port stands.
+/// How far a walk over the clocks of a port is.
 #[derive(Clone, Copy, Debug, PartialEq, Eq)]
 pub(crate) struct PortWalk {
     /// How many elements passed the port before the walk's clock.
     pub(crate) count: u64,
-    /// The clock in which the next one passes.
+    /// The clock in which the next element passes the port.
     pub(crate) next: u64,
 }
 
-/// A walk over the clocks of a FIFO in a final core's plan, up to the verdict's. It stands at a clock, at first at clock 0, and knows
-/// what the FIFO holds there, and in which clock the next element is popped off it or pushed on it.
+/// A walk over the clocks of a FIFO in a final core's plan, from clock 0 up to the verdict's. It is at some clock, and knows how
+/// many elements the FIFO holds there, and in which clock the next element is popped or pushed.
 #[derive(Clone, Copy, Debug, PartialEq, Eq)]
 pub struct FifoWalk {
     pub(crate) channel: u32,
@@ -37,7 +37,7 @@ pub struct FifoWalk {
 }
 
 impl FifoWalk {
-    /// At clock 0 of a FIFO. It takes no memory.
+    /// A walk over the clocks of a FIFO, at clock 0. It takes no memory.
     pub fn new(core: &Core, channel: u32) -> FifoWalk
         requires is_final { IsFinal (design core.now.plan) core.now.plan.cycles (theory_of core.now) }
         requires channel { channel < length core.now.plan.design.channels }
@@ -54,22 +54,22 @@ impl FifoWalk {
         }
     }
 
-    /// The clock at which it stands.
+    /// The clock at which the walk is.
     pub fn clock(&self) -> u64
         ensures { result ≡ self.now.clock }
     {
         self.clock
     }
 
-    /// The clock of the next pop or push; the verdict's clock or a later one where there is none.
+    /// The clock of the next pop or push. Where there is none, it is the verdict's clock or a later one.
     pub fn next(&self) -> u64
         ensures { result ≡ next_of self.now }
     {
         self.pops.next.min(self.pushes.next)
     }
 
-    /// How many elements the FIFO holds where the walk stands, those under way included, and in each clock up to the one of the next
-    /// pop or push.
+    /// How many elements the FIFO holds, those in flight included, in each clock from the walk's up to that of the next pop or
+    /// push.
     pub fn fill(&self) -> u64
         ensures { (p : Plan) → FitsEngine p → IsFifoWalk p self.now → (clock : ℕ) → self.now.clock ≤ clock → clock ≤ next_of self.now
             → clock ≤ last_clock p → result ≡ fill p self.now.channel clock }
@@ -77,8 +77,8 @@ impl FifoWalk {
         self.pushes.count.saturating_sub(self.pops.count)
     }
 
-    /// Goes on to the clock right after the next pop or push, which comes before the verdict's clock. It looks at one step for each
-    /// element that passes, and takes no memory.
+    /// Goes on to the clock right after the next pop or push, which must be before the verdict's clock. It looks at one step for
+    /// each element that passes, and takes no memory.
     pub fn pass(&mut self, core: &Core)
         requires is_final { IsFinal (design core.now.plan) core.now.plan.cycles (theory_of core.now) }
         requires walk { IsFifoWalk core.now.plan self.old }
@@ -95,14 +95,14 @@ impl FifoWalk {
     }
 }
 
-/// A channel's port.
+/// The port at this side of a channel.
 fn port_of(channel: u32, side: Side) -> Port
     ensures { result ≡ record { side = side; channel = channel } }
 {
     Port { side, channel }
 }
 
-/// A port at clock 0.
+/// The walk of a port, at clock 0.
 fn first(core: &Core, channel: u32, side: Side) -> PortWalk
     requires is_final { IsFinal (design core.now.plan) core.now.plan.cycles (theory_of core.now) }
     requires channel { channel < length core.now.plan.design.channels }
@@ -114,7 +114,7 @@ fn first(core: &Core, channel: u32, side: Side) -> PortWalk
     }
 }
 
-/// A port right after a clock, from a walk that stands at that.
+/// The walk of a port right after a clock, from the walk at that clock.
 fn pass_port(core: &Core, port: Port, walk: PortWalk, clock: u64) -> PortWalk
     requires is_final { IsFinal (design core.now.plan) core.now.plan.cycles (theory_of core.now) }
     requires channel { port.channel < length core.now.plan.design.channels }
@@ -134,7 +134,7 @@ fn pass_port(core: &Core, port: Port, walk: PortWalk, clock: u64) -> PortWalk
     }
 }
 
-/// The clock in which the element of this number passes a port; `NEVER` where it does not.
+/// The clock in which the element with this number, counted from 0, passes a port. `NEVER` where it does not.
 fn clock_of(core: &Core, port: Port, number: u64) -> u64
     requires is_final { IsFinal (design core.now.plan) core.now.plan.cycles (theory_of core.now) }
     requires channel { port.channel < length core.now.plan.design.channels }

@@ -1,4 +1,4 @@
--- The outcomes of each module's queries, of which a front is verified.
+-- The outcomes of each module's queries, of which a prefix is verified.
 use Rattle.std.specs.Prelude.{ℕ, ◌+◌, ◌≤◌, Bool, List, [], ◌∷◌, ◌++◌, length, map, slice_get, slice_set, slice_index_or, Option}
 use Rattle.query_log.specs.declared.roomy.RoomyLog.{RoomyLog}
 
@@ -7,7 +7,7 @@ pub record Log : Type 0 where
   pub outcomes : List Bool
   pub verified : ℕ
 
--- the log of each module, and how many more outcomes each takes without memory
+-- the log of each module, and how many further outcomes each takes without asking for memory
 pub record RoomedLogs : Type 0 where
   pub logs : List Log
   pub rooms : List ℕ
@@ -20,31 +20,31 @@ no_log = record { outcomes = []; verified = 0 }
 abbrev pub log_at : List Log → ℕ → Log
 log_at logs owner = slice_index_or logs owner no_log
 
--- the outcome of a module's query, where there is one
+-- the outcome of a module's query with this number, if there is one
 abbrev pub outcome_of : List Log → ℕ → ℕ → Option Bool
 outcome_of logs owner number = slice_get (log_at logs owner).outcomes number
 
--- the verified outcomes are a prefix
+-- the verified outcomes of a log are a prefix
 abbrev pub IsSoundLog : Log → Type 0
 IsSoundLog log = log.verified ≤ length log.outcomes
 
--- a log with a verified outcome more
+-- a log with one more outcome, verified
 abbrev pub answered : Log → Bool → Log
 answered log outcome = record { outcomes = log.outcomes ++ outcome ∷ []; verified = log.verified + 1 }
 
--- the logs with a verified outcome more in one of them
+-- the logs with one more outcome of a module, verified
 abbrev pub with_outcome : List Log → ℕ → Bool → List Log
 with_outcome logs owner outcome = slice_set logs owner (answered (log_at logs owner) outcome)
 
--- a log with these outcomes more, all verified
+-- a log with these further outcomes, all verified
 abbrev pub all_answered : Log → List Bool → Log
 all_answered log more = record { outcomes = log.outcomes ++ more; verified = length (log.outcomes ++ more) }
 
--- the logs with these outcomes more in one of them
+-- the logs with these further outcomes of a module, all verified
 abbrev pub with_outcomes : List Log → ℕ → List Bool → List Log
 with_outcomes logs owner more = slice_set logs owner (all_answered (log_at logs owner) more)
 
--- the logs with so many verified outcomes in one of them
+-- the logs with so many verified outcomes of a module
 abbrev pub with_verified : List Log → ℕ → ℕ → List Log
 with_verified logs owner verified = slice_set logs owner (record (log_at logs owner) { verified = verified })
 
@@ -52,10 +52,10 @@ with_verified logs owner verified = slice_set logs owner (record (log_at logs ow
 abbrev pub log_of : RoomyLog → Log
 log_of roomy = record { outcomes = roomy.outcomes.items; verified = roomy.verified }
 
--- the logs alone
+-- the logs without their rooms
 abbrev pub logs_of : List RoomyLog → List Log
 logs_of logs = map log_of logs
 
--- the rooms alone
+-- the rooms without their logs
 abbrev pub rooms_of : List RoomyLog → List ℕ
 rooms_of logs = map (λ l. l.outcomes.room) logs

@@ -7,9 +7,9 @@ use flow_word::OutOfMemory;
 use std::alloc::Global;
 use std::marker::Model;
 
-/// The outcomes of each module's queries, in order. The verified ones are a prefix, the others are assumed.
+/// The outcomes of each module's queries, in order. The verified outcomes of a module are a prefix; the others are assumed.
 ///
-/// Contracts see the logs, and beside them the room of each: how many more outcomes it takes without memory.
+/// Contracts see the logs, and the room of each: how many further outcomes it takes without asking for memory.
 pub struct QueryLog {
     logs: Vec<RoomyLog>,
 }
@@ -32,7 +32,7 @@ impl Model for QueryLog {
 }
 
 impl QueryLog {
-    /// No outcome yet of any module.
+    /// A log without an outcome for each of `modules` modules.
     pub fn new(alloc: Global, modules: u32) -> Result<QueryLog, OutOfMemory>
         ensures { IfOk result (λ log. log.logs ≡ replicate modules no_log) }
     {
@@ -43,9 +43,9 @@ impl QueryLog {
         Ok(QueryLog { logs })
     }
 
-    /// Makes room for so many more outcomes of a module.
+    /// Reserves room for `queries` further outcomes of a module.
     ///
-    /// No module's room falls, and the logs are as they were, also after want of memory.
+    /// The logs stay as they are and no room falls, after `OutOfMemory` either.
     pub fn reserve(&mut self, owner: u32, queries: u64) -> Result<(), OutOfMemory>
         requires { owner < length self.old.logs }
         ensures logs { self.new.logs ≡ self.old.logs }
@@ -55,7 +55,7 @@ impl QueryLog {
         self.logs[owner as usize].outcomes.reserve(queries)
     }
 
-    /// Adds a module's next outcome, which is verified. It uses one place of the room that was reserved for the module.
+    /// Adds the outcome of a module's next query, verified. It uses one place of the room that was reserved for the module.
     pub fn add(&mut self, owner: u32, yes: bool)
         requires owner { owner < length self.old.logs }
         requires room { 0 < slice_index self.old.rooms owner }
@@ -67,7 +67,7 @@ impl QueryLog {
         self.logs[owner as usize].add(yes);
     }
 
-    /// How many outcomes of a module there are.
+    /// How many outcomes a module has.
     pub fn len(&self, owner: u32) -> u64
         requires { owner < length self.now.logs }
         ensures { result ≡ length (log_at self.now.logs owner).outcomes }
@@ -75,7 +75,7 @@ impl QueryLog {
         self.logs[owner as usize].outcomes.len()
     }
 
-    /// The outcome of a module's query of this number, from 0, where there is one.
+    /// The outcome of a module's query with this number, counted from 0. `None` where there is none.
     pub fn outcome(&self, owner: u32, number: u64) -> Option<bool>
         requires { owner < length self.now.logs }
         ensures { result ≡ outcome_of self.now.logs owner number }
@@ -105,7 +105,7 @@ impl QueryLog {
         self.logs[owner as usize].verified
     }
 
-    /// Verifies a module's first outcome that is not verified.
+    /// Verifies a module's first outcome that is assumed.
     pub fn verify_next(&mut self, owner: u32)
         requires owner { owner < length self.old.logs }
         requires assumed { (log_at self.old.logs owner).verified < length (log_at self.old.logs owner).outcomes }
@@ -115,7 +115,7 @@ impl QueryLog {
         self.logs[owner as usize].verify_next();
     }
 
-    /// Verifies a module's outcomes below this number. Those that are verified stay so.
+    /// Verifies a module's outcomes with numbers below this one, counted from 0. Verified outcomes stay so.
     pub fn verify_up_to(&mut self, owner: u32, number: u64)
         requires owner { owner < length self.old.logs }
         requires recorded { number ≤ length (log_at self.old.logs owner).outcomes }
@@ -126,7 +126,7 @@ impl QueryLog {
         log.verified = number.max(log.verified);
     }
 
-    /// Takes a module's outcomes from this number on as assumed. All outcomes stay.
+    /// Makes a module's outcomes from this number on, counted from 0, assumed. All outcomes stay.
     pub fn assume_from(&mut self, owner: u32, number: u64)
         requires { owner < length self.old.logs }
         ensures logs { self.new.logs ≡ with_verified self.old.logs owner (min number (log_at self.old.logs owner).verified) }

@@ -1,11 +1,11 @@
-//! A query by its number.
+//! A query, named by its number.
 use flow_word::Kind;
 
-/// One query of a module.
+/// A query of a module: its number, and what it asks.
 #[derive(Clone, Copy, Debug, PartialEq, Eq)]
 pub struct Query {
     pub module: u32,
-    /// The number, from 0, among the module's queries.
+    /// The number of the query among the module's queries, counted from 0.
     pub number: u64,
     pub kind: Kind,
     /// The number of the channel.

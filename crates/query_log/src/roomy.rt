@@ -5,7 +5,7 @@ ghost use Rattle.query_log.specs.Logs.{no_log, answered, log_of};
 use flow_word::RoomyList;
 use std::alloc::Global;
 
-/// A module's outcomes, with room for more, and how many of the first are verified.
+/// A module's outcomes, with room for further ones, and how many of the first are verified.
 #[derive(Drop)]
 pub struct RoomyLog {
     pub outcomes: RoomyList<bool>,
@@ -13,7 +13,7 @@ pub struct RoomyLog {
 }
 
 impl RoomyLog {
-    /// No outcome yet, which takes no memory.
+    /// A log without an outcome. It takes no memory.
     pub fn new(alloc: Global) -> RoomyLog
         ensures { log_of result ≡ no_log }
     {
@@ -23,7 +23,7 @@ impl RoomyLog {
         }
     }
 
-    /// Adds the next outcome, so that all are verified.
+    /// Adds the outcome of the next query, verified. All earlier ones must be verified.
     pub fn add(&mut self, yes: bool)
         requires room { 0 < self.old.outcomes.room }
         requires verified { self.old.verified ≡ length self.old.outcomes.items }
@@ -35,12 +35,12 @@ impl RoomyLog {
         self.verified = self.outcomes.len();
     }
 
-    /// Verifies the first outcome that is not verified.
+    /// Verifies the first outcome that is assumed.
     pub fn verify_next(&mut self)
         requires { self.old.verified < length self.old.outcomes.items }
         ensures { self.new ≡ record self.old { verified = self.old.verified + 1 } }
     {
-        // What is below a length has a number next to it.
+        // The number of verified outcomes is below a length, so one more fits its type.
         let _len = self.outcomes.len();
         self.verified += 1;
     }

@@ -3,14 +3,14 @@ use Rattle.std.specs.Prelude.{◌≡◌, ℕ, ◌≤◌, List, Option, None, Som
 use Rattle.event_graph.specs.declared.candidate.Candidate.{Candidate}
 use Rattle.event_graph.specs.declared.candidate.Candidate.TheVariants.{At, Waits, Beyond, Nothing}
 
--- the cycle of a candidate, where it is determined and below the limit
+-- the cycle of a candidate, if it is determined and below the limit
 abbrev pub cycle_of : Candidate → Option ℕ
 cycle_of (At cycle) = Some cycle
 cycle_of (Waits i) = None
 cycle_of Beyond = None
 cycle_of Nothing = None
 
--- this module has this cycle; no module has a lesser one, and no module before it the same
+-- module m's candidate has this cycle; no other candidate has a lesser one, and none of a lower module the same
 pub record IsEarliest (candidates : List Candidate) (m cycle : ℕ) : Type 0 where
   pub here : slice_get candidates m ≡ Some (At cycle)
   pub least : (n other : ℕ) → slice_get candidates n ≡ Some (At other) → cycle ≤ other

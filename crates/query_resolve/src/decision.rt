@@ -13,12 +13,11 @@ use time_engine::{Known, known_of};
 pub enum Decision {
     Yes,
     No,
-    /// The access's enabler has no cycle.
+    /// The access waits for an event that has no cycle yet.
     Undecided,
 }
 
-/// Whether a query is possible in the clock in which its step is done, by the cycles that were given so far. It takes no
-/// memory.
+/// Whether a query is possible in the clock of its step, by the cycles that were given so far. It takes no memory.
 pub fn decide(graph: &Graph, fifos: &FifoTable, access: &Access, cycle: u64) -> Decision
     requires access { IsAccess fifos.now.channels access.now }
     requires places { HasPlaces graph.now.lanes fifos.now.channels }
@@ -33,8 +32,8 @@ pub fn decide(graph: &Graph, fifos: &FifoTable, access: &Access, cycle: u64) -> 
     }
 }
 
-/// The outcome of a query of this kind where the access is not possible: yes of `Empty` and `Full`, and no of `TryRead`
-/// and `TryWrite`. It takes no memory.
+/// The outcome of a query of this kind that is not possible: yes for `Empty` and `Full`, no for `TryRead` and `TryWrite`. It takes
+/// no memory.
 pub fn late(kind: Kind) -> bool
     ensures { result ≡ late_outcome kind }
 {

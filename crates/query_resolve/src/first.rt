@@ -4,8 +4,8 @@ ghost use Rattle.query_resolve.specs.Earliest.{cycle_of, IsEarliest};
 
 use event_graph::Candidate;
 
-/// The first module with the least cycle, and that cycle, where the candidates stand in order of modules. None where no
-/// candidate has a cycle. It takes no memory.
+/// The first module whose candidate has the least cycle, and that cycle. The candidates stand in order of modules. `None` where no
+/// candidate has a cycle below the limit. It takes no memory.
 pub fn earliest(candidates: &[Candidate]) -> Option<(u32, u64)>
     requires { length candidates.now < 2 ^ 32 }
     ensures some { IfSome result (λ found. IsEarliest candidates.now found.0 found.1) }

@@ -1,32 +1,32 @@
--- Lines of tokens, which every text that the program writes is made of.
+-- Lines of tokens: every text that the program writes is made of them.
 use Rattle.std.specs.Prelude.{ℕ, List, [], ◌∷◌, ◌++◌, codes, decimal}
 use Rattle.std.specs.List.{flat_map, join_with_byte}
 use Rattle.flow_design.specs.declared.report.Verdict.{Verdict}
 use Rattle.flow_design.specs.declared.report.Verdict.TheVariants.{Done, Deadlock, Cycles, Ops}
 
--- a token is its bytes
+-- a token, as its bytes
 abbrev pub Token : Type 0
 Token = List ℕ
 
--- a line: its tokens with one space between each two, and a line feed
+-- a line: its tokens with one space between each two, and a line feed at its end
 abbrev pub line : List Token → List ℕ
 line tokens = join_with_byte 32 tokens ++ 10 ∷ []
 
--- lines, one after the other
+-- the text of lines, one after the other
 abbrev pub text_of_lines : List (List Token) → List ℕ
 text_of_lines = flat_map line
 
--- `verdict done C` and the like
+-- the tokens of a verdict line, as `verdict done C`
 abbrev pub verdict_tokens : Verdict → List Token
 verdict_tokens (Done c) = codes "verdict" ∷ codes "done" ∷ decimal c ∷ []
 verdict_tokens (Deadlock c) = codes "verdict" ∷ codes "deadlock" ∷ decimal c ∷ []
 verdict_tokens (Cycles c) = codes "verdict" ∷ codes "cycles" ∷ decimal c ∷ []
 verdict_tokens (Ops c) = codes "verdict" ∷ codes "ops" ∷ decimal c ∷ []
 
--- `runs K`, the last line of all
+-- the tokens of `runs K`, the last line of a text
 abbrev pub runs_tokens : ℕ → List Token
 runs_tokens runs = codes "runs" ∷ decimal runs ∷ []
 
--- numbers, with a space before each
+-- numbers, each with a space before it
 abbrev pub spaced : List ℕ → List ℕ
 spaced = flat_map (λ n. 32 ∷ decimal n)

@@ -1,4 +1,4 @@
-//! The text of a report, and the lines and numbers that other texts of the program share with it.
+//! The text of a report, with the lines and numbers that the program's other texts have too.
 #![tactic(auto)]
 
 mod lines;

@@ -7,7 +7,7 @@ use flow_design::Verdict;
 use flow_word::{List, OutOfMemory};
 use itoa::Buffer;
 
-/// Adds a number in decimal digits, with no leading zero. After want of memory the text is as it was.
+/// Adds a number in decimal digits, without leading zeros. After `OutOfMemory` the text is as it was.
 pub fn push_number(text: &mut List<u8>, number: u64) -> Result<(), OutOfMemory>
     ensures ok { OnOk result (text.new ≡ text.old ++ decimal number) }
     ensures err { OnErr result (text.new ≡ text.old) }
@@ -16,7 +16,7 @@ pub fn push_number(text: &mut List<u8>, number: u64) -> Result<(), OutOfMemory>
     text.extend_from_slice(buffer.format(number).as_bytes())
 }
 
-/// Adds a line of a word and then numbers. After want of memory a part of it may stand behind the text of before.
+/// Adds a line of a word and numbers. After `OutOfMemory` the text may end with a part of it.
 #[tactic(auto, using(crate::proofs::LineLemmas::word_line))]
 pub fn print_numbers(text: &mut List<u8>, word: &[u8], numbers: &[u64]) -> Result<(), OutOfMemory>
     ensures ok { OnOk result (text.new ≡ text.old ++ line (word.now ∷ map decimal numbers.now)) }
@@ -27,7 +27,7 @@ pub fn print_numbers(text: &mut List<u8>, word: &[u8], numbers: &[u64]) -> Resul
     text.push(b'\n')
 }
 
-/// Adds the line `runs K`. After want of memory a part of it may stand behind the text of before.
+/// Adds the line `runs K`. After `OutOfMemory` the text may end with a part of it.
 pub fn print_runs(text: &mut List<u8>, runs: u64) -> Result<(), OutOfMemory>
     ensures ok { OnOk result (text.new ≡ text.old ++ line (runs_tokens runs)) }
     ensures err { OnErr result (StartsWith text.new text.old) }
@@ -35,7 +35,7 @@ pub fn print_runs(text: &mut List<u8>, runs: u64) -> Result<(), OutOfMemory>
     print_numbers(text, b"runs", &[runs])
 }
 
-/// Adds the line `verdict VERDICT C`. After want of memory a part of it may stand behind the text of before.
+/// Adds the line `verdict VERDICT C`. After `OutOfMemory` the text may end with a part of it.
 pub fn print_verdict(text: &mut List<u8>, verdict: Verdict) -> Result<(), OutOfMemory>
     ensures ok { OnOk result (text.new ≡ text.old ++ line (verdict_tokens verdict)) }
     ensures err { OnErr result (StartsWith text.new text.old) }
@@ -48,7 +48,7 @@ pub fn print_verdict(text: &mut List<u8>, verdict: Verdict) -> Result<(), OutOfM
     }
 }
 
-/// Adds numbers, with a space before each.
+/// Adds numbers, each with a space before it. After `OutOfMemory` the text may end with a part of them.
 #[tactic(auto, using(crate::proofs::LineLemmas::spaced_more, crate::proofs::LineLemmas::still_starts))]
 pub fn push_values(text: &mut List<u8>, numbers: &[u64]) -> Result<(), OutOfMemory>
     ensures ok { OnOk result (text.new ≡ text.old ++ spaced numbers.now) }
@@ -60,7 +60,7 @@ pub fn push_values(text: &mut List<u8>, numbers: &[u64]) -> Result<(), OutOfMemo
     Ok(())
 }
 
-/// Adds a space and a number.
+/// Adds a space and a number. After `OutOfMemory` the text may end with a part of them.
 pub fn push_value(text: &mut List<u8>, number: u64) -> Result<(), OutOfMemory>
     ensures ok { OnOk result (text.new ≡ text.old ++ 32 ∷ decimal number) }
     ensures err { OnErr result (StartsWith text.new text.old) }
@@ -69,7 +69,7 @@ pub fn push_value(text: &mut List<u8>, number: u64) -> Result<(), OutOfMemory>
     push_number(text, number)
 }
 
-/// Adds a space and a token. After want of memory a part of it may stand behind the text of before.
+/// Adds a space and a token. After `OutOfMemory` the text may end with a part of them.
 pub fn push_token(text: &mut List<u8>, token: &[u8]) -> Result<(), OutOfMemory>
     ensures ok { OnOk result (text.new ≡ text.old ++ 32 ∷ token.now) }
     ensures err { OnErr result (StartsWith text.new text.old) }

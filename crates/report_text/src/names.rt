@@ -1,11 +1,11 @@
-//! The names that a report's numbers stand for.
+//! The names of channels, modules and kinds, by number.
 ghost use Rattle.std.specs.Prelude.{◌≡◌, ◌<◌, length};
 ghost use Rattle.report_text.specs.ReportText.{channel_name, module_name, kind_token};
 
 use flow_design::Design;
 use flow_word::Kind;
 
-/// The name of a channel.
+/// The name of the channel with this number.
 pub fn channel_name(design: &Design, number: u32) -> &[u8]
     requires { number < length design.now.channels }
     ensures { result.now ≡ channel_name design.now number }
@@ -13,7 +13,7 @@ pub fn channel_name(design: &Design, number: u32) -> &[u8]
     design.channels.as_slice()[number as usize].name.bytes()
 }
 
-/// The name of a module.
+/// The name of the module with this number.
 pub fn module_name(design: &Design, number: u32) -> &[u8]
     requires { number < length design.now.modules }
     ensures { result.now ≡ module_name design.now number }

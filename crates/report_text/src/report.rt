@@ -11,9 +11,8 @@ use crate::names::{channel_name, kind_word, module_name};
 use flow_design::{Channel, ChannelKind, Design, EventLine, Held, Report, Verdict};
 use flow_word::{List, OutOfMemory, Words};
 
-/// Adds the text of the report with this number, with its events if asked. The report is one of this design: its module
-/// and channel numbers are the design's, and it has one output per sink. After want of memory a part of it may stand behind the
-/// text of before.
+/// Adds the text of report `number`, with its events if asked. It must be a report of this design: its module and channel numbers
+/// are the design's, and it has one output for each sink. After `OutOfMemory` the text may end with a part of it.
 #[tactic(auto, using(crate::proofs::LineLemmas::all_parts, crate::proofs::LineLemmas::still_starts), unfolding(crate::specs::ReportText::report_text_of))]
 pub fn print_report(
     text: &mut List<u8>,
@@ -33,7 +32,7 @@ pub fn print_report(
     print_events(text, design, events, report.events.as_slice())
 }
 
-/// Whether held modules are told of.
+/// Whether a report with this verdict tells held modules.
 fn tells_held(verdict: Verdict) -> bool
     ensures { result ≡ tells_held verdict }
 {
@@ -73,7 +72,7 @@ fn print_output(text: &mut List<u8>, name: &[u8], values: &[u64]) -> Result<(), 
     text.push(b'\n')
 }
 
-/// Adds a line for each held module, where the verdict has any.
+/// Adds a line for each held module, if a report with this verdict tells them.
 #[tactic(auto, using(crate::proofs::LineLemmas::lines_more, crate::proofs::LineLemmas::still_starts))]
 fn print_all_held(
     text: &mut List<u8>,

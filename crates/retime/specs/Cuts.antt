@@ -14,31 +14,31 @@ use Rattle.engine_view.specs.Engines.{held_in}
 use Rattle.engine_view.specs.Turns.{OfEach}
 use Rattle.retime.specs.Rounds.{LeadsAll, HasEnded}
 
--- lanes, and nothing beside them
+-- what is held, with lanes alone
 abbrev pub only_lanes : List Lane → Held
 only_lanes lanes = record { lanes = lanes; channels = []; logs = []; over = [] }
 
--- how many queries a module's steps with a cycle have
+-- how many queries module m's steps with a cycle have
 abbrev pub timed_queries : List Lane → ℕ → ℕ
 timed_queries lanes m = queries_before (only_lanes lanes) m (length (lane_at lanes m).cycles)
 
--- a module's outcomes, of which those of its steps with a cycle stay verified
+-- a module's log with only the outcomes of its steps with a cycle verified, as far as they were
 abbrev pub assumed : List Lane → ℕ → Log → Log
 assumed lanes m log = record log { verified = min (timed_queries lanes m) log.verified }
 
--- so are the first so many modules' outcomes, and the others are as they were
+-- the outcomes of steps without a cycle are assumed in the first so many modules, and the other logs are as they were
 pub record AreAssumed (lanes : List Lane) (old now : List Log) (many : ℕ) : Type 0 where
   pub count : length now ≡ length old
   pub done : (m : ℕ) → m < many → log_at now m ≡ assumed lanes m (log_at old m)
   pub rest : (m : ℕ) → many ≤ m → log_at now m ≡ log_at old m
 
--- steps tell how many queries were before them, and no more outcomes are verified than there are queries
+-- each step tells how many queries came before it, and no module has more verified outcomes than queries
 pub record AreNumbered (lanes : List Lane) (logs : List Log) : Type 0 where
   pub first : (m k : ℕ) → k < emitted_of (only_lanes lanes) m
       → (step_of (only_lanes lanes) m k).first_query ≡ queries_before (only_lanes lanes) m k
   pub most : (m : ℕ) → (log_at logs m).verified ≤ queries_before (only_lanes lanes) m (emitted_of (only_lanes lanes) m)
 
--- the depth is the edit's, the cycles from this clock on are forgotten, and the outcomes of steps without a cycle are assumed
+-- the depth is the edit's, the cycles from this clock on are forgotten, and the outcomes of all steps without a cycle are assumed
 pub record IsCutBack (old new : Engine) (edit : Edit) (clock : ℕ) : Type 0 where
   pub lanes : new.graph.lanes ≡ map (timed_below clock) old.graph.lanes
   pub sound : All IsSoundLane new.graph.lanes
@@ -50,14 +50,15 @@ pub record IsCutBack (old new : Engine) (edit : Edit) (clock : ℕ) : Type 0 whe
   pub log_rooms : new.log.rooms ≡ old.log.rooms
   pub credits : new.credits ≡ old.credits
 
--- for each design of which the one is a core: from the theory's core after the edit, cut back at clock t, actions lead to the other
+-- for each design of which the old engine is a core: actions lead from its core after the edit, cut back at clock t, to the new
+-- engine's core
 abbrev pub HasRetimed : Guard → Edit → ℕ → ℕ → Engine → Engine → Type 0
 HasRetimed guard edit t limit old new =
     OfEach old (λ d over.
     LeadsAll (edited d edit.channel edit.depth) limit (after_edit d (core_of d (held_in old over)) t) (held_in new over)
     × HasEnded guard (edited d edit.channel edit.depth) limit (held_in new over))
 
--- the credits stay, and the room that they promise is left for the edited design
+-- the credits stay, and the room that they promise is there for the edited design
 pub record KeepsRoomEdited (edit : Edit) (old new : Engine) : Type 0 where
   pub credits : new.credits ≡ old.credits
   pub room : OfEach old (λ d over. IsRoomy d old over → IsRoomy (edited d edit.channel edit.depth) new over)

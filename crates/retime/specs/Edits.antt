@@ -26,7 +26,7 @@ use Rattle.engine_view.specs.Shown.{IsSound, queries_before}
 use Rattle.engine_view.specs.Turns.{first_of}
 use Rattle.retime.specs.Touched.{IsFirstTouched, IsNeverTouched}
 
--- what is held is a final core, and agrees with the history
+-- what is held is a final core of the design, and agrees with the history
 pub record IsFinalOf {S : Type 0} (d : Design S) (y : Trace S) (limit : ℕ) (h : Held) : Type 0 where
   pub design : IsDesign d
   pub history : IsHistory d y
@@ -34,8 +34,7 @@ pub record IsFinalOf {S : Type 0} (d : Design S) (y : Trace S) (limit : ℕ) (h 
   pub agreed : IsAgreed d y limit (core_of d h)
   pub final : IsFinal d limit (core_of d h)
 
--- the depth is another than the one that stands, and cycles are given anew from clock t on: the first touched one, or the limit where
--- there is none
+-- the edit changes the depth, and cycles are given anew from clock t on: the first touched clock, or the limit where there is none
 pub record IsEditFrom (lanes : List Lane) (channels : List Channel) (e : Edit) (limit t : ℕ) : Type 0 where
   pub inside : e.channel < length channels
   pub is_fifo : IsFifo (channel_at channels e.channel).kind
@@ -45,7 +44,7 @@ pub record IsEditFrom (lanes : List Lane) (channels : List Channel) (e : Edit) (
   pub from : IsFirstTouched lanes (channel_at channels e.channel) e.depth t
       ⊎ (IsNeverTouched lanes (channel_at channels e.channel) e.depth × (t ≡ limit))
 
--- the query is that of the access at this place of its module's step k: its number counts the module's queries before it, and its ordinal
+-- the query is the access at this place of its module's step k: its number counts the module's queries before it, and its ordinal
 -- is one more than the elements that the module popped, or pushed, on the channel before the step
 pub record IsQueryAt {S : Type 0} (d : Design S) (h : Held) (k place : ℕ) (q : Query) : Type 0 where
   pub access : Access
@@ -56,8 +55,8 @@ pub record IsQueryAt {S : Type 0} (d : Design S) (h : Held) (k place : ℕ) (q :
   pub number : q.number ≡ queries_before h q.module k + queries_in (take place (step_of h q.module k).accesses)
   pub ordinal : q.ordinal ≡ suc (core_tally d (core_of d h) q.module (side_of q.kind) q.channel k)
 
--- the history does the query's step in this clock, where the query is possible or not, and the outcome that is recorded under its number
--- says otherwise
+-- the history does the query's step in some clock, and there the query has another outcome than the one that is recorded under its
+-- number
 pub record IsOtherInHistory {S : Type 0} (d : Design S) (y : Trace S) (h : Held) (q : Query) : Type 0 where
   pub clock : ℕ
   pub step : IsStepAt d y q.module (first_of h q.module) clock
@@ -67,11 +66,11 @@ pub record IsOtherInHistory {S : Type 0} (d : Design S) (y : Trace S) (h : Held)
   pub recorded : outcome_of h.logs q.module q.number ≡ Some outcome
   pub differs : possible_by q.kind (Some outcome) ≢ is_possible d y clock (side_of q.kind) q.channel
 
--- each recorded outcome of the module is verified
+-- each recorded outcome of module m is verified
 abbrev pub AreVerified : {S : Type 0} → Core S → ℕ → Type 0
 AreVerified {S} x m = (k : ℕ) → k < x.emitted m → x.answered m k ≡ true → x.verified m k ≡ true
 
--- the module's record of outcomes grew: what was recorded stays, and either nothing was added, or all that is recorded is verified
+-- module m's record of outcomes grows: what was recorded stays, and either nothing is added, or all that is recorded is verified
 pub record RecordGrows {S : Type 0} (x y : Core S) (m : ℕ) : Type 0 where
   pub emitted : y.emitted m ≡ x.emitted m
   pub answered : (k : ℕ) → x.answered m k ≡ true → y.answered m k ≡ true
@@ -79,15 +78,15 @@ pub record RecordGrows {S : Type 0} (x y : Core S) (m : ℕ) : Type 0 where
   pub verified : (k : ℕ) → x.verified m k ≡ true → y.verified m k ≡ true
   pub ends : ((k : ℕ) → y.answered m k ≡ x.answered m k) ⊎ AreVerified y m
 
--- a module's outcomes with those that were added: none, or all are verified
+-- a module's outcomes grow: those that it had stay, and either no other is added, or all are verified
 pub record OutcomesGrow (old now : Log) : Type 0 where
   pub grew : IsPrefix old.outcomes now.outcomes
   pub ends : (now.outcomes ≡ old.outcomes) ⊎ (now.verified ≡ length now.outcomes)
 
 -- ---- a retiming of a final core
 
--- the one is a final core of the design and agrees with its history; from the clock of the edit on cycles were given anew, which led to
--- the other; `z` is the history of the edited design
+-- the old engine is a final core of the design and agrees with its history `y`; a retiming from the edit's clock on leads to the
+-- new engine; `z` is the history of the edited design
 pub record IsEditOf (d : Design ModuleState) (y z : Trace ModuleState) (limit : ℕ) (over : List Bool) (old new : Engine) (guard : Guard)
     (e : Edit) (t : ℕ) : Type 0 where
   pub final : IsFinalOf d y limit (held_in old over)

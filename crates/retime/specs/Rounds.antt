@@ -15,7 +15,7 @@ use Rattle.engine_view.specs.Engines.{held_in}
 use Rattle.engine_view.specs.Kept.{IsKept}
 use Rattle.engine_view.specs.Turns.{IsDifferent, IsIdle, OfEach}
 
--- each of them gives a cycle, or answers queries that are all decided
+-- each of these actions is an Assign or an Answer
 abbrev pub AreTimings : List Action → Type 0
 AreTimings [] = Unit {0}
 AreTimings (Run m ∷ rest) = ⊥
@@ -23,30 +23,30 @@ AreTimings (Assign m ∷ rest) = AreTimings rest
 AreTimings (Answer m ∷ rest) = AreTimings rest
 AreTimings (Earliest m ∷ rest) = ⊥
 
--- such actions, each permitted, lead from a core of the theory to one that is held
+-- Assigns and Answers, each permitted, lead from a core x of the theory to one that is held
 pub record LeadsAll {S : Type 0} (d : Design S) (limit : ℕ) (x : Core S) (g : Held) : Type 0 where
   pub actions : List Action
   pub timings : AreTimings actions
   pub all : ActsAll d limit x actions (core_of d g)
   pub kept : IsKept d g
 
--- of no module is one of them permitted any more, or a query is found to be another
+-- the rounds have ended: no Assign or Answer is permitted for any module, or a query is found with another outcome
 abbrev pub HasEnded : {S : Type 0} → Guard → Design S → ℕ → Held → Type 0
 HasEnded {S} Same d limit g = (m : ℕ) → IsIdle d limit (core_of d g) m
 HasEnded {S} (Differs q) d limit g = IsDifferent d limit g q.module q
 
--- of each design of which the one is a core they lead to the other
+-- for each design of which s is a core: Assigns and Answers lead from it to t
 abbrev pub HasGone : ℕ → Engine → Engine → Type 0
 HasGone limit s t = OfEach s (λ d over. LeadsAll d limit (core_of d (held_in s over)) (held_in t over))
 
 abbrev pub IsAtEnd : Guard → ℕ → Engine → Type 0
 IsAtEnd guard limit t = OfEach t (λ d over. HasEnded guard d limit (held_in t over))
 
--- the steps of all modules, without their cycles
+-- the steps of all modules, without cycles
 abbrev pub only_steps : List Lane → List (List Step)
 only_steps lanes = map (λ l. l.steps) lanes
 
--- how many steps have a cycle, and how many there are
+-- how many steps of all modules have a cycle
 abbrev pub cycles_in : List Lane → ℕ
 cycles_in lanes = sum_by (λ l. length l.cycles) lanes
 

@@ -11,50 +11,50 @@ use Rattle.fifo_table.specs.declared.enabler.Enabler.{Enabler}
 use Rattle.fifo_table.specs.declared.enabler.Enabler.TheVariants as enabler
 use Rattle.fifo_table.specs.Channels.{Channel, IsFifo, channel_at, depth_of, places_of}
 
--- the edit gives one of the channels, a FIFO, a depth that a FIFO may have
+-- the edit is of one of the channels, a FIFO, to a depth that a FIFO may have
 pub record IsEditIn (channels : List Channel) (e : Edit) : Type 0 where
   pub inside : e.channel < length channels
   pub is_fifo : IsFifo (channel_at channels e.channel).kind
   pub least : 1 ≤ e.depth
   pub most : e.depth ≤ FIFO_DEPTH
 
--- there is a cycle, and it is before clock c
+-- the cycle, if there is one, is before clock c
 abbrev pub is_before : ℕ → Option ℕ → Bool
 is_before c None = false
 is_before c (Some u) = nat_lt u c
 
--- how many of the places have a cycle before clock c
+-- how many of these places have a cycle before clock c
 abbrev pub timed_before : List Lane → List Place → ℕ → ℕ
 timed_before lanes places c = length (filter (λ p. is_before c (cycle_of lanes p)) places)
 
--- by the cycles that were given, how many elements a channel holds in clock c, those in flight with them
+-- how many elements a channel holds in clock c, those in flight included, by the cycles that were given
 abbrev pub held_at : List Lane → Channel → ℕ → ℕ
 held_at lanes channel c = timed_before lanes (places_of Push channel) c - timed_before lanes (places_of Pop channel) c
 
--- one module has them, and each stands in a later step of it than the one before
+-- the places are of one module, and each is of a later step than the place before it
 abbrev pub AreInOrder : List Place → Type 0
 AreInOrder places = AllPairs (λ p q. (p.module ≡ q.module) × (p.step < q.step)) places
 
--- the cycle of the place of this number, counted from 0, where there is one with a cycle
+-- the cycle of the i-th of these places, counted from 0; none where there is no such place or cycle
 abbrev pub clock_at : List Lane → List Place → ℕ → Option ℕ
 clock_at lanes places i = option_and_then (cycle_of lanes) (slice_get places i)
 
--- the cycle of the event that an access waits for, where there is one with a cycle
+-- the cycle of the event that an access waits for; none where there is no such event with a cycle
 abbrev pub clock_by : List Lane → Enabler → Option ℕ
 clock_by lanes enabler.Free = None
 clock_by lanes enabler.Never = None
 clock_by lanes enabler.Missing = None
 clock_by lanes (enabler.Event place) = cycle_of lanes place
 
--- the depth changes, and clock t, which is the one behind a push, is the first in which the FIFO holds as many elements as the lesser
--- of both depths
+-- the depth changes, and t, the clock after a push, is the first clock in which the FIFO holds as many elements as the lesser of
+-- both depths
 pub record IsFirstTouched (lanes : List Lane) (channel : Channel) (depth t : ℕ) : Type 0 where
   pub changes : depth_of channel.kind ≡ depth → ⊥
   pub behind : (i u : ℕ) × (clock_at lanes (places_of Push channel) i ≡ Some u) × (t ≡ suc u)
   pub reached : held_at lanes channel t ≡ min (depth_of channel.kind) depth
   pub first : (c : ℕ) → c < t → held_at lanes channel c ≡ min (depth_of channel.kind) depth → ⊥
 
--- the depth stands, or there is no such clock
+-- the depth stays the same, or in no clock does the FIFO hold as many elements as the lesser of both depths
 abbrev pub IsNeverTouched : List Lane → Channel → ℕ → Type 0
 IsNeverTouched lanes channel depth = (depth_of channel.kind ≡ depth)
     ⊎ ((c : ℕ) → held_at lanes channel c ≡ min (depth_of channel.kind) depth → ⊥)

@@ -13,8 +13,8 @@ ghost use Rattle.outcome_guard.specs.declared.guard.Guard.{Guard as guard};
 ghost use Rattle.engine_view.specs.declared.engine.Engine.{Engine};
 ghost use Rattle.engine_view.specs.Engines.{held_in};
 
-/// After an edit the core agrees with the edited design's history, and of each module the log has the outcomes that it had, with none
-/// more, or with more and all verified.
+/// After a retiming the core agrees with the edited design's history. Of each module the log has the outcomes that it had: with no
+/// further ones, or with further ones and all verified.
 pub fn retimings_agree()
     ensures agreed { (d : Design ModuleState) (y z : Trace ModuleState) (limit : ℕ) (over : List Bool) (old new : Engine) (guard : guard)
         (e : Edit) (t : ℕ) → IsEditOf d y z limit over old new guard e t

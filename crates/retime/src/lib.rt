@@ -1,4 +1,4 @@
-//! Cycles anew after a change of a FIFO's depth, from the first clock on that the change touches.
+//! New cycles after a change of a FIFO's depth, from the first clock that the change touches.
 #![tactic(auto)]
 
 mod laws;

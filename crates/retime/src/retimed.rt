@@ -1,4 +1,4 @@
-//! Cycles anew after a change of a depth.
+//! New cycles after a change of a depth.
 ghost use Rattle.std.specs.Prelude.{◌≡◌, ◌+◌, ◌≤◌, length, map, unwrap_or};
 ghost use Rattle.event_graph.specs.Lanes.{cycle_bound, timed_below};
 ghost use Rattle.fifo_table.specs.Channels.{with_depth};
@@ -17,11 +17,11 @@ use outcome_guard::Guard;
 use query_log::QueryLog;
 use std::sync::ledger::Ledger;
 
-/// Sets a FIFO's depth, forgets the cycles from a clock on and takes their outcomes as assumed, and gives cycles and
-/// answers queries anew as long as that is permitted, or until an outcome is not as it was assumed.
+/// Sets a FIFO's depth, forgets the cycles from clock `from` on, makes the outcomes of steps without a cycle assumed, and then does
+/// Assigns and Answers as long as one is permitted, or until an outcome that is found is not the assumed one.
 ///
-/// Without a clock no cycle below the limit is forgotten. The cycles that were given stay where an outcome differs. The hints say
-/// where to look first. It takes no memory.
+/// Without `from` no cycle below the limit is forgotten. Where an outcome differs, the cycles that were given by then stay. The
+/// hints say where to look first. It takes no memory.
 pub fn retime<L: Ledger>(
     engine: &mut Engine,
     hints: &mut Hints,
@@ -46,7 +46,7 @@ pub fn retime<L: Ledger>(
     time_all(engine, hints, limit, steps)
 }
 
-/// Sets a FIFO's depth, forgets the cycles from a clock on, and takes the outcomes of all steps without a cycle as assumed.
+/// Sets a FIFO's depth, forgets the cycles from a clock on, and makes the outcomes of all steps without a cycle assumed.
 fn cut_back(engine: &mut Engine, edit: &Edit, clock: u64)
     requires edit { IsEditIn engine.old.fifos.channels edit.now }
     requires core { IsSomeCore engine.old }
@@ -57,7 +57,7 @@ fn cut_back(engine: &mut Engine, edit: &Edit, clock: u64)
     assume_rest(&engine.graph, &mut engine.log);
 }
 
-/// Takes the outcomes of all steps without a cycle as assumed. It looks at one step of each module.
+/// Makes the outcomes of all steps without a cycle assumed. It looks at one step of each module.
 fn assume_rest(graph: &Graph, log: &mut QueryLog)
     requires logs { length log.old.logs ≡ length graph.now.lanes }
     requires numbered { AreNumbered graph.now.lanes log.old.logs }

@@ -1,4 +1,4 @@
-//! Round after round over the modules.
+//! Rounds over the modules, in which steps get cycles and queries answers.
 ghost use Rattle.std.specs.Prelude.{◌≡◌, ◌+◌, ◌≤◌};
 ghost use Rattle.event_graph.specs.Lanes.{cycle_bound};
 ghost use Rattle.engine_view.specs.Taking.{kinds_in};
@@ -10,10 +10,10 @@ use flow_word::Steps;
 use outcome_guard::Guard;
 use std::sync::ledger::Ledger;
 
-/// Gives cycles and answers queries as long as that is permitted, or until an outcome is not as it was assumed.
+/// Does Assigns and Answers as long as one is permitted, or until an outcome that is found is not the assumed one.
 ///
-/// At a module it does all that it can, and then goes round to the next one of which something may have changed, or, where there is
-/// none such, to the next one. It takes no memory.
+/// At a module it does all that is permitted. Then it goes to the next hinted module, where something may have changed, or, if
+/// there is none, to the next module. It takes no memory.
 pub fn time_all<L: Ledger>(
     engine: &mut Engine,
     hints: &mut Hints,

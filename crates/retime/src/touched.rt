@@ -11,8 +11,8 @@ use fifo_table::{Enabler, FifoTable};
 use flow_design::Edit;
 use flow_word::Side;
 
-/// The least clock in which the FIFO, by the cycles that were given, holds as many elements as the lesser of its depth and
-/// this one. None where there is no such clock, or the depth is the one that stands.
+/// The first touched clock of an edit: the first clock in which the FIFO, by the cycles that were given, holds as many elements as
+/// the lesser of its depth and the new one. `None` where there is no such clock, or the depth stays the same.
 ///
 /// It looks at each push and each pop of the channel at most once, and takes no memory.
 pub fn first_touched(graph: &Graph, fifos: &FifoTable, edit: &Edit) -> Option<u64>
@@ -29,15 +29,15 @@ pub fn first_touched(graph: &Graph, fifos: &FifoTable, edit: &Edit) -> Option<u6
         return None;
     }
     let full = edit.depth.min(stands);
-    // The lanes are sound as ever.
+    // This brings in what a graph always keeps: its lanes are sound.
     let _modules = graph.modules();
     for before in full - 1..fifos.pushes(edit.channel) {
-        // The cycle of the push with so many pushes before it. The pop that takes its element waits for it.
+        // The cycle of the push that comes after so many others. The pop of its element waits for it.
         let Some(push) = event_cycle(graph, fifos, edit.channel, Side::Pop, before + 1) else {
             return None;
         };
-        // This push makes the FIFO that full, unless the pop that leaves one place more was before it or in its clock. For
-        // that pop a later push waits.
+        // This push makes the FIFO that full, unless the pop that frees one more place came before it or in its clock. A later push
+        // waits for that pop.
         let waiting = stands + (before + 2 - full);
         match event_cycle(graph, fifos, edit.channel, Side::Push, waiting) {
             Some(pop) if pop <= push => {}
@@ -47,7 +47,8 @@ pub fn first_touched(graph: &Graph, fifos: &FifoTable, edit: &Edit) -> Option<u6
     None
 }
 
-/// The cycle of the event that the n-th pop, or the n-th push, of a FIFO waits for, where there is one with a cycle.
+/// The cycle of the event that the n-th pop, or the n-th push, of a FIFO waits for. `None` where there is no such event with a
+/// cycle.
 fn event_cycle(graph: &Graph, fifos: &FifoTable, channel: u32, side: Side, n: u64) -> Option<u64>
     requires channel { channel < length fifos.now.channels }
     requires fifo { IsFifo (channel_at fifos.now.channels channel).kind }

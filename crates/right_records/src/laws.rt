@@ -1,4 +1,4 @@
-//! The laws, for any design `d` over states of any type `S`, and any history `h` of it.
+//! The laws of right records, for any design `d` over states of any type `S`, and any history `h` of it.
 ghost use Rattle.std.specs.Prelude.{Bool, ◌⊎◌, ◌≡◌, ℕ, ◌-◌, ◌<◌, ◌≤◌, Some};
 ghost use Rattle.event_timing.specs.Machines.{Access, Design, IsDesign};
 ghost use Rattle.event_timing.specs.Histories.{Trace, IsHistory};
@@ -12,9 +12,9 @@ ghost use Rattle.right_records.specs.Records.{IsRightRecord, IsRight, with_cycle
 ghost use Rattle.right_records.specs.Records.{enabler_at, partner, count_at, IsBetween, AreRightAround};
 ghost use Rattle.flow_word.specs.Kinds.{other_side};
 
-/// A record in which each step is right, and the next step of each module is not determined below the limit, agrees with the history,
-/// and is final. So equations between neighbours alone determine the steps' cycles and outcomes, in whatever order they were found. A
-/// final core that agrees is such a record.
+/// A record is right where each of its steps is right, and no module's next step is determined below the limit. A right record
+/// agrees with the history and is final, and a final core that agrees is a right record. So equations between neighbours determine
+/// the cycles and outcomes of all steps, in whatever order they were found.
 pub fn right_records<S>()
     ensures agrees { (d : Design S) (h : Trace S) → IsDesign d → IsHistory d h → (limit : ℕ) (x : Core S) → IsRightRecord d limit x
         → IsAgreed d h limit x }
@@ -23,11 +23,13 @@ pub fn right_records<S>()
         → IsFinal d limit x → IsRightRecord d limit x }
 {}
 
-/// A step stays right where its own cycle, the one of the step before it and those of its enablers stay; so it does where nothing is said
-/// of it as one that changed, that comes next in its module, or that waits for one that changed. It stays right after an edit of a depth
-/// where it has no access at the FIFO's pushing end, or the depth is not felt in it. An access comes after the step that takes at its
-/// side next before it, and not after the one that takes there next: between these are the steps that a changed one enables. Where steps
-/// are right, cycles rise.
+/// A step stays right where its own cycle, that of the step before it, and those of its enablers stay. So it is enough to look at
+/// each step that changed, at the step after it in its module, and at the steps that it enables. A step stays right after an edit
+/// of a depth where it has no access at the FIFO's pushing side, or the depth is not felt in it.
+///
+/// The step that enables an access is the one that takes the element, or place, with that ordinal at the channel's other side. An
+/// access comes after the step that takes just before it at its own side, and not after the one that takes next: so the steps that
+/// a changed step enables are found between two others. Where steps are right, the cycles of a module rise.
 pub fn local_changes<S>()
     ensures still { (d : Design S) (x : Core S) (cycles : ℕ → ℕ → ℕ) (m k : ℕ) → IsStill d x cycles m k → IsRight d x m k
         → IsRight d (with_cycles x cycles) m k }
@@ -46,8 +48,9 @@ pub fn local_changes<S>()
         → x.cycle m j < x.cycle m k }
 {}
 
-/// After an edit of a depth a right record with new cycles is a right record where each step that does not stay as it was, and each in
-/// which the new depth is felt, is found to be right in them, and nothing else is determined. No history is asked for.
+/// A right record with new cycles after an edit is a right record again, if three things are found. Each step keeps its cycle and
+/// those it depends on, and the new depth is not felt in it; or it is right with the new cycles. All new cycles are below the
+/// limit. No further step is determined below it. No history is needed for that.
 pub fn records_go_on<S>()
     ensures { (d : Design S) (limit : ℕ) (x : Core S) → IsRightRecord d limit x → (fifo depth : ℕ) (cycles : ℕ → ℕ → ℕ)
         → ((m k : ℕ) → k < x.timed m → IsChecked d x cycles fifo depth 0 m k)

@@ -1,5 +1,5 @@
-//! Local equations determine everything: a record of cycles and outcomes in which each step is right by its neighbours is the history.
-//! Nothing here runs in the program. The functions have no body; each clause is a theorem on the definitions.
+//! Local equations determine everything: a record of cycles and outcomes in which each step is right by its neighbours is that of
+//! the history. Nothing here runs in the program. The functions have no body; each clause is a theorem on the definitions.
 #![tactic(auto)]
 
 mod laws;

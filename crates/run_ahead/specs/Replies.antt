@@ -1,4 +1,4 @@
--- The replies to a step's accesses, by what they need.
+-- The replies to a step's accesses, from the outcomes and values that they need.
 use Rattle.std.specs.Prelude.{Bool, true, false, cond, List, [], ◌∷◌, ◌++◌, ℕ, suc, ◌-◌, Option, None, Some, option_map, is_none, slice_get}
 use Rattle.flow_word.specs.Kinds.{is_blocking}
 use Rattle.flow_word.specs.declared.access.Access.{Access}
@@ -9,7 +9,8 @@ use Rattle.flow_design.specs.declared.state.Reply.TheVariants.{Done, Value, Flag
 use Rattle.fifo_table.specs.Channels.{Channel}
 use Rattle.engine_view.specs.Held.{values_at}
 
--- by its query's outcome and the value that a pop finds, each where it is there
+-- the reply to an access of this kind, from its query's outcome and the value that it pops; none where one that it needs is not
+-- there
 abbrev pub reply_now : Kind → Option Bool → Option ℕ → Option Reply
 reply_now Read outcome value = option_map Value value
 reply_now Write outcome value = Some Done
@@ -20,40 +21,40 @@ reply_now TryWrite outcome value = option_map Flag outcome
 reply_now Empty outcome value = option_map Flag outcome
 reply_now Full outcome value = option_map Flag outcome
 
--- before others, where all are there
+-- a reply in front of others, if all of them are there
 abbrev pub put_first : Option Reply → Option (List Reply) → Option (List Reply)
 put_first None rest = None
 put_first (Some r) None = None
 put_first (Some r) (Some rs) = Some (r ∷ rs)
 
--- behind these
+-- these replies in front of others, if the others are there
 abbrev pub put_before : List Reply → Option (List Reply) → Option (List Reply)
 put_before rs None = None
 put_before rs (Some qs) = Some (rs ++ qs)
 
--- so many outcomes are read behind this access
+-- how many outcomes are read after an access of this kind
 abbrev pub told_by : Kind → ℕ → ℕ
 told_by kind told = cond (is_blocking kind) told (suc told)
 
--- to a step's accesses, where so many of the outcomes belong to earlier steps, by the value that each pop finds; None where one of them is
--- not there
+-- the replies to a step's accesses, where so many of the outcomes belong to earlier steps, and each pop has this value; none where
+-- one of them is not there
 abbrev pub replies_from : List Bool → (Access → Option ℕ) → ℕ → List Access → Option (List Reply)
 replies_from outcomes value told [] = Some []
 replies_from outcomes value told (a ∷ as') =
     put_first (reply_now a.kind (slice_get outcomes told) (value a)) (replies_from outcomes value (told_by a.kind told) as')
 
--- the first access whose reply is not there
+-- the number of the first access whose reply is not there
 abbrev pub first_missing : List Bool → (Access → Option ℕ) → ℕ → List Access → Option ℕ
 first_missing outcomes value told [] = None
 first_missing outcomes value told (a ∷ as') =
     cond (is_none (reply_now a.kind (slice_get outcomes told) (value a))) (Some 0)
     (option_map suc (first_missing outcomes value (told_by a.kind told) as'))
 
--- what a table has for a pop: the value at its ordinal
+-- the value that a table has for a pop, by its ordinal
 abbrev pub value_now : List Channel → Access → Option ℕ
 value_now channels a = slice_get (values_at channels a.channel) (a.ordinal - 1)
 
--- the reply took a value
+-- the reply takes a value
 abbrev pub has_value : Reply → Bool
 has_value Done = false
 has_value (Value v) = true

@@ -1,4 +1,4 @@
--- What a burst is so far, while it goes on.
+-- How far a burst has come, while it goes on.
 use Rattle.std.specs.Prelude.{◌≡◌, ℕ, ◌+◌, Bool, false, List, [], ◌∷◌, ◌++◌, length, Some}
 use Rattle.flow_design.specs.declared.plan.Plan.{Plan}
 use Rattle.flow_design.specs.declared.state.Advance.{Advance}
@@ -13,11 +13,11 @@ use Rattle.run_ahead.specs.declared.mail.Burst.{Burst}
 use Rattle.run_ahead.specs.declared.mail.Task.{Task}
 use Rattle.run_ahead.specs.Mails.{replies_in, taken_after, IsLeft, GoesOn}
 
--- a run stands at some rest of some module
+-- the run stands at some rest of some module
 abbrev pub StandsSomewhere : ModuleRun → Type 0
 StandsSomewhere run = (p : Plan) × ((i : ℕ) × ((o : Own) × StandsAt p i o run))
 
--- a run that waited at a rest was fed with the replies of its mail, and stands at the next; this is left of the mail
+-- a run that waited at a rest was given the replies of its mail, and stands at the next rest; `rest` is what is left of the mail
 pub record IsFed (p : Plan) (i : ℕ) (o : Own) (mail : Mail) (told : ℕ) (taken : List ℕ) (run : ModuleRun) (now : ℕ) (rest : Mail) : Type 0
   where
     pub replies : List Reply
@@ -26,7 +26,7 @@ pub record IsFed (p : Plan) (i : ℕ) (o : Own) (mail : Mail) (told : ℕ) (take
     pub number : now ≡ told + queries_in (accesses_at p i o)
     pub left : IsLeft mail (taken_after taken (accesses_at p i o) replies) rest
 
--- one mark more was given
+-- one more mark was given
 pub record IsEmitted (before after : ModuleRun) (marks more : List Advance) (step : Bool) : Type 0 where
   pub mark : Advance
   pub added : more ≡ marks ++ mark ∷ []
@@ -35,7 +35,7 @@ pub record IsEmitted (before after : ModuleRun) (marks more : List Advance) (ste
   pub kind : is_step mark ≡ step
   pub waits : waits after ≡ step
 
--- whatever marks follow from where it stands now, follow those that it gave so far
+-- the run has given these marks since the rest o, and is at a rest from which all further marks follow on them
 pub record IsSoFar (p : Plan) (i : ℕ) (mail : Mail) (o : Own) (told : ℕ) (taken : List ℕ) (marks : List Advance) (run : ModuleRun) (now : ℕ)
     (left : Mail) : Type 0 where
   pub at : Own
@@ -49,11 +49,11 @@ pub record IsSoFar (p : Plan) (i : ℕ) (mail : Mail) (o : Own) (told : ℕ) (ta
 abbrev pub task_of : ModuleRun → Mail → Task
 task_of run mail = record { run = run; mail = mail }
 
--- a burst of these parts
+-- a burst that leaves this run and mail, and gave these marks
 abbrev pub burst_of : Task → List Advance → Bool → Burst
 burst_of last marks short = record { run = last.run; emitted = marks; short = short; mail = last.mail }
 
--- what the loop keeps
+-- what the loop of a burst keeps: how far it has come from each rest at which its run may have begun
 pub record IsGoingOn (first : Mail) (from : ModuleRun) (told : ℕ) (marks : List Advance) (run : ModuleRun) (now : ℕ) (left : Mail) : Type 0
   where
     pub so_far : (p : Plan) (i : ℕ) (o : Own) → StandsAt p i o from → (mail : Mail) (taken : List ℕ) → IsLeft mail taken first

@@ -1,4 +1,4 @@
-//! How far a module's run goes on what it is given beforehand: the outcomes of its queries, and the values of its pops.
+//! How far a module's run goes on what it is given ahead: the outcomes of its queries, and the values of its pops.
 #![tactic(auto)]
 
 mod mail;

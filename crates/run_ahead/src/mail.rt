@@ -1,4 +1,4 @@
-//! A module's run with its mail, and how far it goes on that alone.
+//! A module's run with its mail, and how far it goes on the mail alone.
 ghost use Rattle.std.specs.Prelude.{◌≡◌, ℕ, ◌<◌, [], length, drop, slice_set};
 ghost use Rattle.std.specs.Prelude.{List as Items, Some, None, true, false, IsTrue, IsFalse, IfOk, OnErr};
 ghost use Rattle.flow_design.specs.declared.plan.Plan.{Plan as PlanOf};
@@ -16,7 +16,7 @@ use flow_word::{Access, Flags, List, OutOfMemory, Queue};
 use module_interp::{Advance, ModuleRun, Reply};
 use std::alloc::Global;
 
-/// What a module's run has not taken yet: outcomes of its queries, and of each channel the values from its next pop on.
+/// What a module's run is given ahead: outcomes of its queries, and for each channel the values from its next pop on.
 pub struct Mail {
     pub outcomes: Flags,
     pub values: List<Queue<u64>>,
@@ -38,14 +38,14 @@ pub struct Task {
     pub mail: Mail,
 }
 
-/// The marks that a run gave on its mail, and the run behind them.
+/// The marks that a run gave on its mail, the run after them, and what is left of the mail.
 #[derive(Drop)]
 pub struct Burst {
     pub run: ModuleRun,
     pub emitted: List<Advance>,
-    /// Whether the burst stopped for want of memory.
+    /// Whether the burst stopped because memory ran out.
     pub short: bool,
-    /// What is left of the mail: the values that the run has not taken. The outcomes are those that it had.
+    /// The mail with the values that the run has not taken. All its outcomes are still there.
     pub mail: Mail,
 }
 
@@ -54,7 +54,7 @@ impl Values for Mail {
 
     ghost value = { λ mail a. next_value mail (none_taken mail) a.channel };
 
-    /// The next value of the access's channel.
+    /// The next value of the access's channel. `None` where the mail has no further one.
     fn value(&self, access: &Access) -> Option<u64> {
         match self.values.as_slice().get(access.channel as usize) {
             Some(values) => values.front(),
@@ -63,7 +63,7 @@ impl Values for Mail {
     }
 }
 
-/// Whether the reply took a value.
+/// Whether a reply takes a value.
 fn takes(reply: Reply) -> bool
     ensures { result ≡ has_value reply }
 {
@@ -84,7 +84,7 @@ fn take_value(mail: &mut Mail, channel: u32)
     }
 }
 
-/// Takes the values of a step's replies off the mail.
+/// Takes the values that a step's replies use off the mail.
 fn take_values(mail: &mut Mail, accesses: &[Access], replies: &[Reply])
     requires each { length replies.now ≡ length accesses.now }
     ensures left { (whole : MailOf) (taken : Items ℕ) → IsLeft whole taken mail.old
@@ -97,8 +97,8 @@ fn take_values(mail: &mut Mail, accesses: &[Access], replies: &[Reply])
     }
 }
 
-/// Gives the run the replies of its mail to the step that waits, and takes their values off the mail; or one of them is not there, and
-/// nothing is done.
+/// Gives the run the replies of its mail to the step that waits, and takes the values that they use off the mail. Whether all
+/// replies are in the mail: where one is missing, or after `OutOfMemory`, the run and the mail stay as they were.
 fn answer(
     run: &mut ModuleRun,
     mail: &mut Mail,
@@ -127,7 +127,7 @@ fn answer(
     Ok(true)
 }
 
-/// Whether the mark is a step.
+/// Whether a mark is a step.
 fn is_step(mark: &Advance) -> bool
     ensures { result ≡ is_step_of mark.now }
 {
@@ -137,7 +137,7 @@ fn is_step(mark: &Advance) -> bool
     }
 }
 
-/// Puts a mark at this place of the list, over the one that stands there.
+/// Replaces the mark at this place of the list.
 fn put(marks: &mut List<Advance>, at: u64, mark: Advance)
     requires { at < length marks.old }
     ensures { marks.new ≡ slice_set marks.old at mark }
@@ -145,7 +145,8 @@ fn put(marks: &mut List<Advance>, at: u64, mark: Advance)
     marks.as_mut_slice()[at as usize] = mark;
 }
 
-/// Gives the next mark, and says whether it is a step, which then waits. Its place is made first, so that no mark is lost.
+/// Adds the run's next mark to the list. Whether it is a step, which then waits for replies. The place in the list is made first,
+/// so that no mark is lost.
 fn emit(run: &mut ModuleRun, marks: &mut List<Advance>) -> Result<bool, OutOfMemory>
     requires stands { StandsSomewhere run.old }
     requires goes { waits run.old ≡ false }
@@ -169,7 +170,7 @@ fn emit(run: &mut ModuleRun, marks: &mut List<Advance>) -> Result<bool, OutOfMem
     }
 }
 
-/// Goes on from a rest as far as the mail goes, of which so many outcomes were read. It says whether it stopped for want of memory.
+/// Runs on from a rest, as far as the mail goes. `told` counts the outcomes of the mail that were read. Whether memory ran out.
 fn go_on(
     run: &mut ModuleRun,
     mail: &mut Mail,
@@ -200,7 +201,8 @@ fn go_on(
     true
 }
 
-/// Goes as far as the mail goes, whose values it takes. It says whether it stopped for want of memory.
+/// Runs as far as the mail goes, from a rest or from a step that waits, and takes the values that it uses off the mail. Whether
+/// memory ran out.
 fn begin(alloc: Global, run: &mut ModuleRun, mail: &mut Mail, marks: &mut List<Advance>) -> bool
     requires stands { StandsSomewhere run.old }
     requires none { marks.old ≡ [] }
@@ -219,7 +221,8 @@ fn begin(alloc: Global, run: &mut ModuleRun, mail: &mut Mail, marks: &mut List<A
     go_on(run, mail, &mut told, &mut replies, marks)
 }
 
-/// Runs ahead on the mail, until the run is over or a reply is not in the mail. The values that the run takes leave the mail.
+/// Runs ahead on the mail, until the run is over, a reply is not in the mail, or memory runs out. The values that the run takes
+/// leave the mail.
 pub fn work(alloc: Global, task: Task) -> Burst
     requires stands { StandsSomewhere task.run }
     ensures { (p : PlanOf) (i : ℕ) (o : Own) → StandsAt p i o task.run → IsBurst p i o task result }

@@ -1,4 +1,4 @@
-//! The replies to a step, by what is there for it.
+//! The replies to a step, from the outcomes and values that are there for it.
 ghost use Rattle.std.specs.Prelude.{◌≡◌, ℕ, ◌+◌, ◌<◌, ◌^◌, Option, All, Some, None, IfOk, IfSome, IsNone, length, slice_get, false};
 ghost use Rattle.flow_word.specs.declared.access.Access.{Access as AccessOf};
 ghost use Rattle.flow_word.specs.Kinds.{is_blocking};
@@ -10,15 +10,15 @@ use fifo_table::FifoTable;
 use flow_word::{Access, Kind, List, OutOfMemory};
 use module_interp::Reply;
 
-/// What gives the values to pops.
+/// Something that has the values of pops.
 pub trait Values {
-    /// That the table may be asked about this access.
+    /// Whether it may be asked about an access.
     ghost knows: { Self → AccessOf → Type 0 };
 
-    /// What it gives for an access.
+    /// The value that it has for an access, if any.
     ghost value: { Self → AccessOf → Option ℕ };
 
-    /// The value that is there for the access, where it is a pop.
+    /// The value for an access that pops. `None` where it is not there.
     fn value(&self, access: &Access) -> Option<u64>
         requires { knows self.now access.now }
         ensures { result ≡ value self.now access.now };
@@ -35,7 +35,7 @@ impl Values for FifoTable {
     }
 }
 
-/// The outcome of this number.
+/// The outcome with this number, counted from 0. `None` where it is not there.
 #[inline(always)]
 fn outcome_at(outcomes: &[bool], number: u64) -> Option<bool>
     ensures outcome { result ≡ slice_get outcomes.now number }
@@ -44,7 +44,8 @@ fn outcome_at(outcomes: &[bool], number: u64) -> Option<bool>
     outcomes.get(number as usize).copied()
 }
 
-/// The reply to an access, whose query, where it is one, has this number among the outcomes.
+/// The reply to an access. If the access is a query, its outcome has this number. `None` where the outcome or the value is not
+/// there.
 #[inline(always)]
 fn reply_at<V: Values>(outcomes: &[bool], values: &V, number: u64, access: &Access) -> Option<Reply>
     requires { V.knows values.now access.now }
@@ -63,8 +64,8 @@ fn reply_at<V: Values>(outcomes: &[bool], values: &V, number: u64, access: &Acce
     }
 }
 
-/// Writes the replies to a step's accesses into the list, whose items are dropped, where so many outcomes belong to earlier steps. It says
-/// how many do behind the step; none where a reply is not there.
+/// Fills the list with the replies to a step's accesses, in place of what it held. The given number is how many outcomes belong to
+/// earlier steps; the answer is how many belong to these and this step. `None` where a reply is not there.
 pub fn find_replies<V: Values>(
     outcomes: &[bool],
     values: &V,
@@ -91,7 +92,7 @@ pub fn find_replies<V: Values>(
     Ok(Some(next))
 }
 
-/// The first of a step's accesses whose reply is not there, where so many outcomes belong to earlier steps.
+/// The number of the first of a step's accesses whose reply is not there, where so many outcomes belong to earlier steps.
 pub fn first_missing<V: Values>(
     outcomes: &[bool],
     values: &V,

@@ -1,4 +1,4 @@
--- What driving a module tells.
+-- What driving a module tells its pass.
 use Rattle.std.specs.Prelude.{◌≡◌, ℕ}
 use Rattle.turn_lock.specs.declared.view.View.{View}
 use Rattle.turn_history.specs.declared.entry.HubEntry.{HubEntry}
@@ -12,7 +12,7 @@ use Rattle.run_threads.specs.declared.drive.Went.TheVariants as went
 use Rattle.run_threads.specs.declared.drive.End.{End}
 use Rattle.run_threads.specs.declared.drive.End.TheVariants as end
 
--- over and short are read off what was seen
+-- what a try to drive a module says follows from what its pass has seen
 abbrev pub WentIs : View HubEntry → Went → Type 0
 WentIs v (went.Ran concern done) = Unit {0}
 WentIs v went.Held = Unit {0}
@@ -24,10 +24,10 @@ EndIs v end.Over = Behind v.seen IsFinished
 EndIs v end.Short = Behind v.seen WasShort
 EndIs v end.Undriven = Unit {0}
 
--- the pass of this hub and module, with no desk out
+-- the pass is that of module m of this hub, with no desk out
 abbrev pub IsHere : Hub → ℕ → ModulePass → Type 0
 IsHere hub m pass = IsOfHub hub pass × (module_of pass ≡ m) × HasNoDeskOut m (module_view pass)
 
--- what a module's thread answers
+-- a module's thread gives back its pass, with no desk out, and why it ended
 abbrev pub IsBack : Hub → ℕ → Answered → Type 0
 IsBack hub m a = IsHere hub m a.pass × EndIs (module_view a.pass) a.end

@@ -7,7 +7,7 @@ use Rattle.run_threads.specs.declared.drive.Seat.{Seat}
 use Rattle.run_threads.specs.declared.start.Slot.{Slot}
 use Rattle.run_threads.specs.declared.start.Slot.TheVariants as slot
 
--- the passes of the modules, in order, of this hub, with no desk out
+-- these are the passes of this hub's modules, in order, with no desk out
 abbrev pub AreHere : Hub → List ModulePass → Type 0
 AreHere hub passes = (k : ℕ) (p : ModulePass) → slice_get passes k ≡ Some p → IsHere hub k p
 
@@ -15,18 +15,18 @@ AreHere hub passes = (k : ℕ) (p : ModulePass) → slice_get passes k ≡ Some 
 abbrev pub passes_in : List Seat → List ModulePass
 passes_in seats = map (λ (s : Seat). s.pass) seats
 
--- the module's pass comes back from its thread, or it is here
+-- module m's pass is here, with no desk out, or comes back from its thread so
 abbrev pub SlotIs : Hub → ℕ → Slot → Type 0
 SlotIs hub m (slot.There child) = (child.promise.hub.value ≡ hub) × (child.promise.which ≡ m)
 SlotIs hub m (slot.Here pass) = IsHere hub m pass
 SlotIs hub m slot.Gone = ⊥
 
--- the caller has the module's pass, which no thread drives
+-- the caller has the pass, and no thread drives its module
 abbrev pub IsKept : Slot → Type 0
 IsKept (slot.There child) = ⊥
 IsKept (slot.Here pass) = Unit {0}
 IsKept slot.Gone = ⊥
 
--- the slots of the modules, in order
+-- these are the slots of the modules, in order
 abbrev pub AreSlots : Hub → List Slot → Type 0
 AreSlots hub slots = (k : ℕ) (s : Slot) → slice_get slots k ≡ Some s → SlotIs hub k s

@@ -1,11 +1,13 @@
-//! What wakes the threads, each where news concern it.
+//! What wakes the threads, each when there are news for it.
 //!
-//! No ring is lost. A thread clears its bell before it looks at the hub, and whoever changes the hub rings the bells afterwards; all
-//! these steps stand in one order. Where the look came before the change it did not see, the bell was cleared before it was rung, and
-//! whoever waits for such news finds that it rang. A thread says that it is asleep before its last glance at the bell, and who rings
-//! looks afterwards whether it is: so it was seen asleep, or it saw the ring. A ring between that glance and `park` leaves a token
-//! with the parker, and `park` returns at once. A token that is left from an earlier ring makes `park` return too early, and the bell
-//! is glanced at again.
+//! No ring is lost. A thread clears its bell before it looks at the hub, and whoever changes the hub rings the bells afterwards.
+//! All these steps stand in one order. If the look came before a change that it did not see, then the bell was cleared before it
+//! was rung for that change, and whoever waits for such news finds that it rang.
+//!
+//! A thread says that it is asleep before its last glance at the bell, and whoever rings looks afterwards whether it is asleep. So
+//! the thread was seen asleep, or it saw the ring. A ring between that glance and `park` leaves a token with the parker, and `park`
+//! returns at once. A token that is left from an earlier ring makes `park` return too early, and then the thread glances at the
+//! bell again.
 ghost use Rattle.std.specs.Prelude.{◌<◌, length};
 
 use crate::concern::{Concern, News};
@@ -19,20 +21,20 @@ use std::alloc::Global;
 use std::sync::Wait;
 use std::sync::atomic::{AtomicBool, AtomicU64, Ordering};
 
-/// A bell, at which one thread waits.
+/// A bell, for which one thread waits.
 #[derive(Drop)]
 struct Bell {
     unparker: Unparker,
-    /// The bits of all news since it was cleared.
+    /// The bits of all news for which it was rung since it was cleared.
     rang: AtomicU64,
-    /// The bits of the news that it is to ring for.
+    /// The bits of the news that its thread waits for.
     wanted: AtomicU64,
-    /// Whether its thread sleeps, or is about to.
+    /// Whether its thread sleeps, or is about to sleep.
     asleep: AtomicBool,
 }
 
 impl Bell {
-    /// A bell that has rung for all news, and what its thread parks on.
+    /// A bell that has rung for all news, and the parker on which its thread sleeps.
     fn new(alloc: Global) -> Result<(Bell, Parker), OutOfMemory> {
         let parker = Parker::new(alloc)?;
         let bell = Bell {
@@ -52,12 +54,12 @@ impl Bell {
         self.wanted.store(concern.bits(), Ordering::SeqCst);
     }
 
-    /// Whether the bell rang for news that are wanted.
+    /// Whether the bell rang for news that its thread waits for.
     fn calls(&self) -> bool {
         self.rang.load(Ordering::SeqCst) & self.wanted.load(Ordering::SeqCst) != 0
     }
 
-    /// Rings.
+    /// Rings for these news.
     fn tell(&self, news: News) {
         let bit = news.bit();
         if self.rang.load(Ordering::SeqCst) & bit != 0 {
@@ -72,8 +74,8 @@ impl Bell {
         }
     }
 
-    /// Waits until the bell has rung for news that are wanted: at first awake, so that news which come at once cost no sleep. Whether it
-    /// had to wait.
+    /// Waits until the bell has rung for news that its thread waits for. Whether it had to wait. At first it stays awake, so that
+    /// news that come at once cost no sleep.
     fn wait<R: Wait>(&self, rt: &R, parker: &Parker) -> bool {
         if self.calls() {
             return false;
@@ -97,28 +99,28 @@ impl Bell {
     }
 }
 
-/// A module's bell, and who drives it.
+/// A module's bell, and who drives the module.
 #[derive(Drop)]
 struct Place {
     bell: Bell,
-    /// Whether the module's thread is to answer its pass undriven.
+    /// Whether the module's thread is to give its pass back without driving the module.
     undriven: AtomicBool,
-    /// The caller drives it.
+    /// Whether the caller drives the module.
     handed_over: AtomicBool,
 }
 
-/// The caller's bell, and one for each module.
+/// The caller's bell, and a bell for each module.
 #[derive(Drop)]
 pub struct Bells {
     caller: Bell,
     modules: Vec<Place>,
     /// For each module the modules that pop what it pushes.
     readers: Vec<Vec<u32>>,
-    /// A module's thread was not started.
+    /// Whether some module's thread was not started.
     unstarted: AtomicBool,
 }
 
-/// The modules that pop what a module of the core's plan pushes. Where nobody pops a channel, one more than there are stands there.
+/// The modules that pop what a module of the core's plan pushes. For a channel that nobody pops, it is the number of modules.
 fn readers_of(alloc: Global, core: &Core, owner: u32) -> Result<Vec<u32>, OutOfMemory>
     requires { owner < length core.now.plan.design.modules }
 {
@@ -136,7 +138,7 @@ fn readers_of(alloc: Global, core: &Core, owner: u32) -> Result<Vec<u32>, OutOfM
 }
 
 impl Bells {
-    /// The caller's bell and none for a module of the core's plan yet, and what the caller parks on.
+    /// The caller's bell, with no bell of a module of the core's plan yet, and the parker on which the caller sleeps.
     pub fn new(alloc: Global, core: &Core) -> Result<(Bells, Parker), OutOfMemory> {
         let (caller, parker) = Bell::new(alloc)?;
         let mut readers = Vec::new(alloc);
@@ -155,7 +157,7 @@ impl Bells {
         Ok((bells, parker))
     }
 
-    /// Adds the bell of the next module, and gives what its thread parks on.
+    /// Adds the bell of the next module, and answers the parker on which its thread sleeps.
     pub fn add(&mut self, alloc: Global) -> Result<Parker, OutOfMemory> {
         let (bell, parker) = Bell::new(alloc)?;
         let place = Place {
@@ -169,14 +171,14 @@ impl Bells {
         }
     }
 
-    /// Tells all modules.
+    /// Rings the bells of all modules for these news.
     pub fn tell_all(&self, news: News) {
         for place in &self.modules {
             place.bell.tell(news);
         }
     }
 
-    /// Tells the modules that pop what this one pushes that its desk came back.
+    /// Rings the bells of the modules that pop what this module pushes: its desk came back.
     pub fn tell_readers(&self, which: u32) {
         if let Some(readers) = self.readers.get(which as usize) {
             for reader in readers {
@@ -187,7 +189,7 @@ impl Bells {
         }
     }
 
-    /// Tells the caller.
+    /// Rings the caller's bell for these news.
     pub fn tell_caller(&self, news: News) {
         self.caller.tell(news);
     }
@@ -197,7 +199,7 @@ impl Bells {
         self.caller.clear();
     }
 
-    /// The caller waits until its bell has rung.
+    /// Lets the caller wait until its bell has rung.
     pub fn wait_as_caller<R: Wait>(&self, rt: &R, parker: &Parker) {
         self.caller.wait(rt, parker);
     }
@@ -209,14 +211,14 @@ impl Bells {
         }
     }
 
-    /// From now on a module's bell rings for this.
+    /// Sets the news that a module's thread waits for.
     pub fn want(&self, which: u32, concern: Concern) {
         if let Some(place) = self.modules.get(which as usize) {
             place.bell.want(concern);
         }
     }
 
-    /// A module's thread waits until its bell has rung. Whether it had to wait.
+    /// Lets a module's thread wait until its bell has rung. Whether it had to wait.
     pub fn wait<R: Wait>(&self, rt: &R, parker: &Parker, which: u32) -> bool {
         match self.modules.get(which as usize) {
             Some(place) => place.bell.wait(rt, parker),
@@ -224,14 +226,14 @@ impl Bells {
         }
     }
 
-    /// From now on a thread of this module answers its pass undriven.
+    /// From now on a thread of this module is to give its pass back without driving the module.
     pub fn forbid(&self, which: u32) {
         if let Some(place) = self.modules.get(which as usize) {
             place.undriven.store(true, Ordering::SeqCst);
         }
     }
 
-    /// Whether a thread of this module is to answer its pass undriven.
+    /// Whether a thread of this module is to give its pass back without driving the module.
     pub fn is_forbidden(&self, which: u32) -> bool {
         match self.modules.get(which as usize) {
             Some(place) => place.undriven.load(Ordering::SeqCst),
@@ -239,26 +241,26 @@ impl Bells {
         }
     }
 
-    /// From now on the caller drives this module, whose thread was not started.
+    /// From now on the caller drives this module, since its thread was not started.
     pub fn keep(&self, which: u32) {
         self.unstarted.store(true, Ordering::SeqCst);
         self.leave(which);
     }
 
-    /// From now on the caller drives this module.
+    /// From now on the caller drives this module, since it is to have no thread.
     pub fn leave(&self, which: u32) {
         if let Some(place) = self.modules.get(which as usize) {
             place.handed_over.store(true, Ordering::SeqCst);
         }
     }
 
-    /// From now on the caller drives this module, whose thread ends.
+    /// From now on the caller drives this module, since its thread ends.
     pub fn hand_over(&self, which: u32) {
         self.leave(which);
         self.caller.tell(News::Returned);
     }
 
-    /// Whether the caller is to drive this module now.
+    /// Whether the caller is to drive this module now: it is the caller's, and its bell has rung.
     pub fn calls(&self, which: usize) -> bool {
         match self.modules.get(which) {
             Some(place) => place.handed_over.load(Ordering::SeqCst) && place.bell.calls(),
@@ -266,7 +268,7 @@ impl Bells {
         }
     }
 
-    /// The modules that the caller drives since their bursts are light, and not since their thread was not started.
+    /// The modules that the caller drives since their bursts are light. Those whose thread was not started are left out.
     pub fn light(&self) -> Light {
         let mut light = Light::none();
         for which in 0..MODULES as u32 {
@@ -277,7 +279,7 @@ impl Bells {
         light
     }
 
-    /// Whether the module is one of them.
+    /// Whether the caller drives this module since its bursts are light.
     fn is_light(&self, which: u32) -> bool {
         match self.modules.get(which as usize) {
             Some(place) => {
@@ -287,7 +289,7 @@ impl Bells {
         }
     }
 
-    /// Whether a module's thread was not started.
+    /// Whether some module's thread was not started.
     pub fn has_unstarted(&self) -> bool {
         self.unstarted.load(Ordering::SeqCst)
     }

@@ -1,4 +1,4 @@
-//! What lets a module that is held go on.
+//! What lets a held module go on.
 use flow_word::Kind;
 use sim_hub::Burst;
 
@@ -9,12 +9,12 @@ pub enum News {
     Timed,
     /// A desk came back.
     Returned,
-    /// All is over, or memory was wanted.
+    /// The core is final, or memory ran out.
     Over,
 }
 
 impl News {
-    /// The bit that stands for them.
+    /// The bit that stands for these news.
     pub fn bit(self) -> u64 {
         match self {
             News::Timed => 1,
@@ -24,21 +24,21 @@ impl News {
     }
 }
 
-/// What a module waits for.
+/// The news that a module waits for.
 #[derive(Clone, Copy, Debug, PartialEq, Eq)]
 pub enum Concern {
-    /// That all is over.
+    /// News that all is over.
     End,
-    /// Outcomes.
+    /// News that there may be outcomes.
     Timing,
-    /// Values.
+    /// News that there may be values.
     Values,
     /// Any news.
     Anything,
 }
 
 impl Concern {
-    /// The bits of the news that meet it.
+    /// The bits of the news that the module waits for.
     pub fn bits(self) -> u64 {
         match self {
             Concern::End => 4,
@@ -49,9 +49,10 @@ impl Concern {
     }
 }
 
-/// What lets a module go on behind its burst: all replies to the step that waits; or nothing, where its run is over.
+/// What lets a module go on after its burst: all replies to the step that waits, or nothing where its run is over.
 ///
-/// The outcomes of a step are found once it has its cycle, so that its values are there, and those that its tries find too.
+/// The outcomes of a step are found once it has its cycle. By then all values that it pops are there, so that only outcomes need be
+/// waited for.
 pub fn concern_behind(burst: &Burst) -> Concern {
     let mut concern = Concern::End;
     for access in burst.run.waiting() {

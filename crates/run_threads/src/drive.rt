@@ -1,4 +1,4 @@
-//! A module is driven until all is over.
+//! Driving a module until all is over.
 ghost use Rattle.std.specs.Prelude.{◌≡◌};
 ghost use Rattle.sim_hub.specs.Places.{HasNoDeskOut};
 ghost use Rattle.sim_hub.specs.Hubs.{IsOfHub, module_of, module_view};
@@ -12,13 +12,14 @@ use sim_hub::{Desk, Hub, ModulePass};
 use std::alloc::Global;
 use std::sync::Wait;
 
-/// A burst with fewer operations is light: it takes less time than to wake a thread.
+/// A burst with fewer operations is light: it takes less time than waking a thread.
 const LIGHT_OPERATIONS: u64 = 1_000;
 
-/// After so many light bursts in a row, each after a wait, a thread hands its module over to the caller.
+/// After so many light bursts in a row, each of them after a wait, a thread hands its module over to the caller.
 const LIGHT_BURSTS: u64 = 3;
 
-/// How many light bursts in a row a thread has made, each after a wait, with one more burst of so many operations.
+/// How many light bursts in a row a thread has made, each of them after a wait, once it has made one more burst of so many
+/// operations.
 fn light_bursts(before: u64, waited: bool, operations: u64) -> u64 {
     if waited && operations < LIGHT_OPERATIONS {
         before.saturating_add(1)
@@ -27,45 +28,45 @@ fn light_bursts(before: u64, waited: bool, operations: u64) -> u64 {
     }
 }
 
-/// How one try to drive a module went.
+/// What came of one try to drive a module.
 #[derive(Clone, Copy, Debug, PartialEq, Eq)]
 pub enum Went {
-    /// A desk was borrowed and returned. This lets the module go on after its burst, which had so many operations.
+    /// A desk was borrowed and returned. The module goes on after these news, and its burst had so many operations.
     Ran(Concern, u64),
     /// No Run of the module was permitted.
     Held,
     /// The core is final.
     Over,
-    /// Memory was wanted.
+    /// Memory ran out.
     Short,
 }
 
-/// Why a module is driven no further.
+/// Why a module is no longer driven by whoever drove it.
 #[derive(Clone, Copy, Debug, PartialEq, Eq)]
 pub enum End {
     /// The core is final.
     Over,
-    /// Memory was wanted.
+    /// Memory ran out.
     Short,
-    /// The module's thread was not started, or hands the module over to the caller.
+    /// The module's thread was not started, or it hands the module over to the caller.
     Undriven,
 }
 
-/// What a module's thread answers.
+/// What a module's thread gives back at its end.
 #[derive(Drop)]
 pub struct Answered {
     pub pass: ModulePass,
     pub end: End,
 }
 
-/// A module's pass, and what its thread parks on.
+/// A module's pass, and the parker on which its thread sleeps.
 #[derive(Drop)]
 pub struct Seat {
     pub pass: ModulePass,
     pub parker: Parker,
 }
 
-/// Borrows a desk, has its burst made, and returns it.
+/// Borrows a module's desk, has the gate make its burst, and returns it.
 pub fn drive_once<G: Gate, R: Wait>(
     rt: &R,
     alloc: Global,
@@ -96,8 +97,8 @@ pub fn drive_once<G: Gate, R: Wait>(
     }
 }
 
-/// Drives a module in a thread of its own, until all is over, or its bursts turn out to be light: then the caller drives it from then
-/// on.
+/// Drives a module in a thread of its own, until all is over. If its bursts turn out to be light, the thread ends, and the caller
+/// drives the module from then on.
 pub fn drive<G: Gate, R: Wait>(
     rt: &R,
     alloc: Global,
@@ -143,7 +144,7 @@ pub fn drive<G: Gate, R: Wait>(
     unreachable!()
 }
 
-/// The pass of a module that its thread drives no further, though all is not over.
+/// Gives back the pass of a module that its thread no longer drives, though all is not over.
 fn undriven(pass: ModulePass) -> Answered
     ensures { (result.pass ≡ pass) × (result.end ≡ End.Undriven) }
 {
@@ -153,7 +154,7 @@ fn undriven(pass: ModulePass) -> Answered
     }
 }
 
-/// Hands a module over to the caller, who is told.
+/// Hands a module over to the caller, and tells the caller.
 fn handed_over(bells: &Bells, pass: ModulePass) -> Answered
     ensures { (result.pass ≡ pass) × (result.end ≡ End.Undriven) }
 {
@@ -161,7 +162,7 @@ fn handed_over(bells: &Bells, pass: ModulePass) -> Answered
     undriven(pass)
 }
 
-/// Tells the caller, who tells the others, that the module is driven no further.
+/// Gives back the pass of a module for which all is over, and tells the caller, who tells the other threads.
 fn ended(bells: &Bells, pass: ModulePass, end: End) -> Answered
     ensures { (result.pass ≡ pass) × (result.end ≡ end) }
 {

@@ -17,10 +17,11 @@ use std::mem;
 use std::sync::Wait;
 use std::thread::{Threads, yield_now};
 
-/// How many rounds the caller goes over its modules between two turns of its own.
+/// How many rounds over its modules the caller makes between two of its own turns, at most.
 const ROUNDS: u32 = 16;
 
-/// Tries to drive a module that is called, once its thread has ended where it has one. The second answer says whether it ran.
+/// Tries once to drive a module that is called. If the module had a thread, that thread must have ended. The second answer tells
+/// whether it ran.
 fn try_one<G: Gate, R: Threads + Wait>(
     rt: &R,
     alloc: Global,
@@ -47,7 +48,7 @@ fn try_one<G: Gate, R: Threads + Wait>(
     }
 }
 
-/// Tries to drive each module that is called. The second answer says whether one ran.
+/// Tries once to drive each module that is called. The second answer tells whether one ran.
 fn try_all<G: Gate, R: Threads + Wait>(
     rt: &R,
     alloc: Global,
@@ -72,7 +73,8 @@ fn try_all<G: Gate, R: Threads + Wait>(
     (slots, any)
 }
 
-/// The same in rounds, as long as one runs, up to some number. The second answer says whether one ran.
+/// Drives the modules that are called in rounds, as long as one runs, up to `ROUNDS` rounds. The second answer tells whether one
+/// ran.
 fn try_rounds<G: Gate, R: Threads + Wait>(
     rt: &R,
     alloc: Global,
@@ -97,8 +99,8 @@ fn try_rounds<G: Gate, R: Threads + Wait>(
     (slots, ran)
 }
 
-/// Takes performance turns until all is over, and drives the modules that have no thread between them. It waits where nothing is to
-/// do, and drives none.
+/// Takes performance turns until all is over, and drives the modules that have no thread between these turns. It waits where there
+/// is nothing to do, and drives none meanwhile.
 pub fn lead<G: Gate, R: Threads + Wait>(
     rt: &R,
     alloc: Global,
@@ -142,7 +144,7 @@ pub fn lead<G: Gate, R: Threads + Wait>(
     unreachable!()
 }
 
-/// Lets others go first, where a module's thread was not started; else waits for news.
+/// Waits for news; or, where some module's thread was not started, lets other threads go first.
 fn rest<R: Wait>(rt: &R, bells: &Bells, parker: &Parker) {
     if bells.has_unstarted() {
         yield_now();
@@ -151,7 +153,7 @@ fn rest<R: Wait>(rt: &R, bells: &Bells, parker: &Parker) {
     }
 }
 
-/// Takes a module's pass, once its thread has ended.
+/// Takes a module's pass. Where a thread has it, it waits for the thread's end.
 fn take_one<R: Threads>(rt: &R, hub: &Hub, slot: Slot, which: usize) -> ModulePass
     requires { SlotIs hub.now which slot }
     ensures { IsHere hub.now which result }
@@ -163,7 +165,7 @@ fn take_one<R: Threads>(rt: &R, hub: &Hub, slot: Slot, which: usize) -> ModulePa
     }
 }
 
-/// Takes all passes back, in order.
+/// Takes all modules' passes, in order.
 pub fn gather<R: Threads>(
     rt: &R,
     hub: &Hub,

@@ -1,4 +1,4 @@
-//! A plan simulated by a thread for each module, which takes turns at one core with the caller.
+//! Simulating a plan with a thread for each module. The threads and the caller take turns at one core.
 #![tactic(auto)]
 
 mod bells;

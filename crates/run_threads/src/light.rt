@@ -1,4 +1,4 @@
-//! Which modules the caller drives from the start of a run.
+//! The modules that the caller drives from the start of a run.
 ghost use Rattle.std.specs.Prelude.{◌≡◌, ◌⊎◌, ◌↔◌, ℕ, ◌<◌, ◌≤◌, IsTrue, length};
 ghost use Rattle.flow_design.specs.declared.limits.TheConstants.{MODULES};
 ghost use Rattle.flow_design.specs.StaticRules.{FitsEngine};
@@ -9,18 +9,18 @@ use flow_design::{Module, Plan};
 use flow_word::OutOfMemory;
 use std::alloc::Global;
 
-/// How many modules have a thread at most.
+/// The most modules that have a thread.
 const THREADS: usize = 64;
 
-/// The modules that have no thread of their own: those whose bursts are light, as far as is known, so that it would take longer to wake
-/// a thread than to make one of them; and, where there are many modules, those with few operations.
+/// The modules that have no thread of their own. Their bursts are known to be light: waking a thread takes longer than making one.
+/// Where there are many modules, those with few operations are here too.
 #[derive(Clone, Copy, Debug, PartialEq, Eq)]
 pub struct Light {
     named: [bool; MODULES as usize],
 }
 
 impl Light {
-    /// Of no module it is known.
+    /// No module.
     pub fn none() -> Light
         ensures { (m : ℕ) → IsNamed result m → ⊥ }
     {
@@ -29,7 +29,7 @@ impl Light {
         }
     }
 
-    /// The modules from this one on.
+    /// The modules from number `first` on.
     pub fn from_module(first: u32) -> Light
         ensures { (m : ℕ) → IsNamed result m ↔ ((first ≤ m) × (m < MODULES)) }
     {
@@ -40,7 +40,7 @@ impl Light {
         light
     }
 
-    /// Whether the module is one of them.
+    /// Whether the module is one of these.
     pub fn has(&self, which: u32) -> bool
         ensures { IsTrue result ↔ IsNamed self.now which }
     {
@@ -48,7 +48,7 @@ impl Light {
         which < self.named.len() && self.named[which]
     }
 
-    /// Adds a module, which is one of as many as a plan has.
+    /// Adds a module, if a plan may have one with this number.
     pub fn add(&mut self, which: u32)
         ensures { (m : ℕ) → IsNamed self.new m ↔ (IsNamed self.old m ⊎ ((m ≡ which) × (m < MODULES))) }
     {
@@ -58,8 +58,8 @@ impl Light {
         }
     }
 
-    /// Where a plan has more modules than may have threads, adds those with the fewest operations, so that for the others there are
-    /// enough. It takes memory for the counts, and after want of it some are added.
+    /// Adds the modules with the fewest operations, where a plan has more modules than may have threads, so that the others all get
+    /// one. It takes memory for the counts. After `OutOfMemory` perhaps only some are added.
     pub(crate) fn add_small(&mut self, alloc: Global, plan: &Plan) -> Result<(), OutOfMemory>
         requires { FitsEngine plan.now }
         ensures kept { (m : ℕ) → IsNamed self.old m → IsNamed self.new m }
@@ -77,14 +77,14 @@ impl Light {
     }
 }
 
-/// How many operations a module has.
+/// A module, by how many operations it has.
 #[derive(Clone, Copy, Debug, PartialEq, Eq, PartialOrd, Ord)]
 struct Size {
     operations: u64,
     which: u32,
 }
 
-/// The sizes of a plan's modules, the smallest first.
+/// The modules of a plan by how many operations they have, in rising order.
 fn sizes_of(alloc: Global, plan: &Plan) -> Result<Vec<Size>, OutOfMemory>
     requires { FitsEngine plan.now }
 {
@@ -101,7 +101,7 @@ fn sizes_of(alloc: Global, plan: &Plan) -> Result<Vec<Size>, OutOfMemory>
     Ok(sizes)
 }
 
-/// How many operations stand in the bodies of a module.
+/// How many operations the bodies of a module have together.
 fn count_operations(declared: &Module) -> u64 {
     let mut count = 0u64;
     for block in declared.blocks.as_slice() {

@@ -26,8 +26,8 @@ use std::sync::Wait;
 use std::thread;
 use std::thread::Threads;
 
-/// Drives all modules until all is over, and takes all passes back. All memory of its own was taken before: once a thread is started
-/// nothing may fail before the caller leads.
+/// Drives all modules until all is over, and takes all passes back. All its memory was taken before: between starting a thread and
+/// the caller's lead nothing may fail.
 fn run_all<G: Gate + Sync, R: Threads + Wait + Sync>(
     rt: &R,
     alloc: Global,
@@ -67,10 +67,11 @@ fn run_all<G: Gate + Sync, R: Threads + Wait + Sync>(
     )
 }
 
-/// As `run_threads`, of a core in which nothing is emitted yet. The caller drives the modules whose bursts are known to be light, and where
-/// there are more than 64, those with few operations; those that it drives at the end are known to be light then.
+/// Simulates from a core in which nothing is emitted yet, with a thread for each module, as `run_threads` does. The caller drives
+/// the modules in `light`, whose bursts are known to be light, and, where there are more than 64 modules, those with few
+/// operations. Afterwards `light` has the modules that it drove at the end.
 ///
-/// An error leaves what was known, and the core is gone.
+/// After `OutOfMemory` the core is lost, and `light` is as it was.
 pub fn run_core<G: Gate + Sync, R: Threads + Wait + Sync>(
     rt: &R,
     alloc: Global,
@@ -82,7 +83,7 @@ pub fn run_core<G: Gate + Sync, R: Threads + Wait + Sync>(
     requires own { AreOwn core }
     ensures run { IfOk result (λ threaded. IsRun core.plan threaded) }
 {
-    // The core agrees with its plan.
+    // This brings in what a core always keeps: it agrees with its plan.
     let _count = core.modules();
     let mut driven = *light;
     driven.add_small(alloc, core.plan())?;
@@ -107,10 +108,11 @@ pub fn run_core<G: Gate + Sync, R: Threads + Wait + Sync>(
     }
 }
 
-/// A final core of the plan, and the turns that led to it, by a thread for each module, of more than 64 for those with the most operations;
-/// the caller gives the cycles, and drives the modules that have no thread. Where a thread can't be started, it drives that module too.
+/// Simulates a plan with a thread for each module: the answer has a final core, and the turns that led to it. Where there are more
+/// than 64 modules, those with the most operations get a thread. The caller gives the cycles, and drives the modules that have no
+/// thread, also where a thread cannot be started.
 ///
-/// An error leaves nothing, and the plan is gone.
+/// After `OutOfMemory` the plan is lost.
 pub fn run_threads<G: Gate + Sync, R: Threads + Wait + Sync>(
     rt: &R,
     alloc: Global,

@@ -1,4 +1,4 @@
-//! A module's thread is started, or the caller keeps the module.
+//! Starting the modules' threads, or keeping modules with the caller.
 ghost use Rattle.std.specs.Prelude.{◌≡◌, ◌≤◌, [], length, map, IfOk, vec_capacity};
 ghost use Rattle.sim_hub.specs.Places.{HasNoDeskOut};
 ghost use Rattle.sim_hub.specs.Hubs.{IsOfHub, module_of, module_view};
@@ -17,7 +17,7 @@ use std::snapshot::Snapshot;
 use std::sync::Wait;
 use std::thread::{Promise, PromisedHandle, Scope, Threads};
 
-/// The pass of this module comes back, of this hub, with no desk out.
+/// The promise that the pass of this module comes back: a pass of this hub, with no desk out.
 #[derive(Drop)]
 pub struct Comes {
     hub: Snapshot<Hub>,
@@ -30,12 +30,12 @@ impl Promise<Answered> for Comes {
     ghost kept_by = { λ promise a. IsBack promise.hub.value promise.which a };
 }
 
-/// A module's pass: with its thread, or with the caller.
+/// Where a module's pass is: with its thread, or with the caller.
 #[derive(Drop)]
 pub enum Slot {
     There(PromisedHandle<Answered, Comes>),
     Here(ModulePass),
-    /// The thread is being looked at.
+    /// Neither: the pass is being taken.
     Gone,
 }
 
@@ -57,7 +57,7 @@ pub fn seat_all(
     Ok(seats)
 }
 
-/// Starts a module's thread. Where it is refused, the pass comes back undriven.
+/// Starts a module's thread. Where the thread cannot be started, the caller keeps the pass.
 fn start_one<'s, 'e, G: Gate + Sync, R: Threads + Wait + Sync>(
     scope: &'s Scope<'s, &'e ()>,
     rt: &'e R,
@@ -90,7 +90,7 @@ fn start_one<'s, 'e, G: Gate + Sync, R: Threads + Wait + Sync>(
     }
 }
 
-/// Starts a module's thread, or leaves the module to the caller, where it is to have none.
+/// Starts a module's thread, or leaves the module to the caller if it is to have none.
 fn place_one<'s, 'e, G: Gate + Sync, R: Threads + Wait + Sync>(
     scope: &'s Scope<'s, &'e ()>,
     rt: &'e R,
@@ -115,7 +115,7 @@ fn place_one<'s, 'e, G: Gate + Sync, R: Threads + Wait + Sync>(
     }
 }
 
-/// Starts a thread for each module but those that the caller drives.
+/// Starts a thread for each module, except those that the caller drives.
 pub fn start_all<'s, 'e, G: Gate + Sync, R: Threads + Wait + Sync>(
     scope: &'s Scope<'s, &'e ()>,
     rt: &'e R,

@@ -1,4 +1,4 @@
--- Which rules a module breaks, in order, and what is answered of it.
+-- Which rules of serial modules a module breaks, in which order, and the answer that follows.
 use Rattle.std.specs.Prelude.{ℕ, ◌<◌, ◌≤◌, ◌-◌, ◌^◌, ◌==◌, ◌&&◌, ◌||◌, nat_le, nat_lt, min, max, Bool, List, [], ◌∷◌, ◌++◌, length}
 use Rattle.std.specs.Prelude.{map, filter, flat_map, fold, slice_index_or, Option, Some, None, unwrap_or}
 use Rattle.std.specs.List.{list_any, enumerate_from, range_with_len}
@@ -18,12 +18,12 @@ use Rattle.serial_order.specs.declared.order.Order.{Order}
 use Rattle.serial_order.specs.declared.order.Order.TheVariants.{Serial, Query, Late, Wide}
 use Rattle.serial_order.specs.Uses.{writes, is_use}
 
--- ---- what is asked of a design
+-- ---- the modules of a design
 
 abbrev pub module_in : Design → ℕ → Module
 module_in design i = slice_index_or design.modules i no_module
 
--- the module is there, and it keeps the static rules and the limits; so does the number of channels
+-- the design has a module of this number, which keeps the static rules and the limits; so does the number of channels
 pub record HasModule (design : Design) (i : ℕ) : Type 0 where
   pub in_range : i < length design.modules
   pub sound : IsModuleSound (length design.channels) (module_in design i)
@@ -31,7 +31,7 @@ pub record HasModule (design : Design) (i : ℕ) : Type 0 where
 
 -- ---- lists
 
--- the first of a list, if there is one
+-- the first item of a list, if it has one
 abbrev pub head : {A : Type 0} → List A → Option A
 head [] = None
 head (x ∷ xs) = Some x
@@ -40,13 +40,13 @@ head (x ∷ xs) = Some x
 abbrev pub numbers_where : (Timed → Bool) → List Timed → List ℕ
 numbers_where test ops = map (λ t. t.0) (filter (λ t. test t.1) (enumerate_from 0 ops))
 
--- ---- no queries
+-- ---- first rule: no queries
 
--- the query operations of a block, by the block's number and theirs
+-- the query operations of a block, each by the numbers of the block and of the operation
 abbrev pub queries_of : ℕ × Block → List Order
 queries_of b = map (Query b.0) (numbers_where (λ t. is_query t.op) (b.1).ops)
 
--- ---- the loop's register is written early
+-- ---- second rule: the loop's register is written early
 
 -- the operation writes the loop's register at an offset of II or more
 abbrev pub is_late : ℕ → ℕ → Timed → Bool
@@ -55,17 +55,17 @@ is_late ii again t = nat_le ii t.offset && writes (Register again) t.op
 abbrev pub lates_of : ℕ → ℕ → ℕ → List Timed → List Order
 lates_of number ii again ops = map (Late number) (numbers_where (is_late ii again) ops)
 
--- ---- iterations use a thing one after the other
+-- ---- third rule: iterations use a thing one after the other
 
--- the offsets at which operations use a thing, in text order
+-- the offsets at which operations use the thing, in text order
 abbrev pub offsets_of_use : Used → List Timed → List ℕ
 offsets_of_use thing ops = map (λ t. t.offset) (filter (is_use thing) ops)
 
--- the least of them; the greatest word where there are none
+-- the least offset at which an operation uses the thing; the greatest word where none does
 abbrev pub first_use : Used → List Timed → ℕ
 first_use thing ops = fold min (2 ^ 64 - 1) (offsets_of_use thing ops)
 
--- the greatest of them; 0 where there are none
+-- the greatest offset at which an operation uses the thing; 0 where none does
 abbrev pub last_use : Used → List Timed → ℕ
 last_use thing ops = fold max 0 (offsets_of_use thing ops)
 
@@ -73,13 +73,13 @@ last_use thing ops = fold max 0 (offsets_of_use thing ops)
 abbrev pub is_written_at : ℕ → Used → List Timed → Bool
 is_written_at offset thing ops = list_any (λ t. (t.offset == offset) && writes thing t.op) ops
 
--- the last offset of use minus the first is more than II, or it is II and an operation at the last writes the thing
+-- the last offset of use minus the first is more than II; or it equals II, and an operation at the last offset writes the thing
 abbrev pub is_wide : ℕ → List Timed → Used → Bool
 is_wide ii ops thing =
     let reach = last_use thing ops - first_use thing ops in
     nat_lt ii reach || ((reach == ii) && is_written_at (last_use thing ops) thing ops)
 
--- all things of a module, by how many there are: registers, memories, and both ends of each channel
+-- everything that a module can use, by the numbers of registers, memories and channels: each of these, a channel with both its ends
 abbrev pub things : ℕ → ℕ → ℕ → List Used
 things registers memories channels =
     ((map Register (range_with_len 0 registers) ++ map Memory (range_with_len 0 memories)) ++ map Reading (range_with_len 0 channels))
@@ -93,7 +93,7 @@ wides_of channels m number ii ops = map (Wide number) (filter (is_wide ii ops) (
 
 -- ---- the answer
 
--- what breaks the rules of loops in a block
+-- all breaches of the rules of loops in a block, in order
 abbrev pub faults_by : ℕ → Module → ℕ → List Timed → BlockKind → List Order
 faults_by channels m number ops Plain = []
 faults_by channels m number ops (Loop ii again) = lates_of number ii again ops ++ wides_of channels m number ii ops
@@ -101,11 +101,11 @@ faults_by channels m number ops (Loop ii again) = lates_of number ii again ops +
 abbrev pub faults_of : ℕ → Module → ℕ × Block → List Order
 faults_of channels m b = faults_by channels m b.0 (b.1).ops (b.1).kind
 
--- all that breaks the rules: first the queries, and then block by block what breaks the rules of loops
+-- all breaches of the rules in a module: first its queries, then block by block the breaches of the rules of loops
 abbrev pub all_faults : ℕ → Module → List Order
 all_faults channels m =
     flat_map queries_of (enumerate_from 0 m.blocks) ++ flat_map (faults_of channels m) (enumerate_from 0 m.blocks)
 
--- the first of it; serial where nothing does
+-- the first breach of the rules in the module; `Serial` where there is none
 abbrev pub order_of : Design → ℕ → Order
 order_of design i = unwrap_or (head (all_faults (length design.channels) (module_in design i))) Serial

@@ -1,4 +1,4 @@
--- The serial run of a module: a loop's iterations run one after another, and each channel gives the values of a list.
+-- The serial run of a module: the iterations of a loop run one after another, and pops take their values from a list per channel.
 use Rattle.std.specs.Prelude.{◌≡◌, ℕ, zero, suc, ◌<◌, ◌++◌, ◌==◌, ◌&&◌, Bool, true, false, not, if◌then◌else◌, IsTrue, List, [], ◌∷◌}
 use Rattle.std.specs.Prelude.{length}
 use Rattle.std.specs.Prelude.{flat_map, slice_index, slice_index_or}
@@ -19,15 +19,15 @@ use Rattle.serial_order.specs.Orders.{module_in}
 
 -- ---- replies from lists
 
--- the n-th value of a channel, by a list of values per channel; 0 behind the end of its list
+-- the n-th value of a channel, given a list of values per channel; 0 after the end of its list
 abbrev pub value_given : List (List ℕ) → ℕ → ℕ → ℕ
 value_given lists f n = slice_index (slice_index_or lists f []) n
 
--- the reply to a request behind what was done: nothing waits, and a pop behind n pops of its channel gives the n-th value
+-- the reply to a request after these exchanges: nothing waits, and a pop after n pops of its channel gives its n-th value
 abbrev pub given : List (List ℕ) → List Exchange → Request → Reply
 given lists done r = reply_by r.kind true (value_given lists r.channel (length (moved_by Pop r.channel done)))
 
--- to all requests of a local clock, one behind the other
+-- the replies to the requests of a local clock, each after the exchanges of those before it
 abbrev pub all_given : List (List ℕ) → List Exchange → List Request → List Reply
 all_given lists done [] = []
 all_given lists done (r ∷ rs) =
@@ -35,61 +35,62 @@ all_given lists done (r ∷ rs) =
 
 -- ---- the serial run
 
--- how far a run has come: the module's state, and what it has done at its channels
+-- the progress of a run: the module's state, and what the module has done at its channels
 pub record Progress : Type 0 where
   pub state : ModuleState
   pub done : List Exchange
 
--- the only live iteration is of this age
+-- the state with a single live iteration, which is of this age
 abbrev pub alone_at : ℕ → ModuleState → ModuleState
 alone_at age s = record s { control = record { block = s.control.block; clock = age; newest = 0; looping = false } }
 
--- the operations that are due in a local clock commit together
+-- the progress after one local clock: all operations that are due in it commit together
 abbrev pub clock_made : List (List ℕ) → List Channel → Module → ModuleState → List Exchange → Progress
 clock_made lists channels m s done =
     let asked = requests channels m s in
     record { state = committed m s (all_given lists done asked); done = done ++ paired asked (all_given lists done asked) }
 
--- so many offsets of an iteration, which starts with its temps at 0
+-- the progress after this many offsets of an iteration, which starts with its temps at 0
 unfoldable pub iteration : List (List ℕ) → List Channel → Module → ℕ → Progress → Progress
 iteration lists channels m zero x = record x { state = record x.state { temps = fresh_temps (block_of m x.state) ∷ [] } }
 iteration lists channels m (suc age) x =
     let y = iteration lists channels m age x in clock_made lists channels m (alone_at age y.state) y.done
 
--- the loop's register is not 0
+-- the block is a loop whose register is not 0
 abbrev pub goes_again : Block → ModuleState → Bool
 goes_again b s = is_loop b.kind && not (slice_index s.registers (again_of b.kind) == 0)
 
--- a loop goes on as long as its register is not 0; then the terminator leads on
+-- the state after an iteration: a loop starts another one while its register is not 0; otherwise the terminator leads to the next
+-- block
 abbrev pub gone_on : Module → ModuleState → ModuleState
 gone_on m s = if goes_again (block_of m s) s then s else followed m (block_of m s).next s
 
--- one iteration more, with all its offsets; a module that is ended stays
+-- the progress after one more iteration with all its offsets; a module that has ended stays as it is
 abbrev pub iterated : List (List ℕ) → List Channel → Module → Progress → Progress
 iterated lists channels m x =
     if x.state.ended then x
     else (let y = iteration lists channels m (block_of m x.state).len x in record y { state = gone_on m y.state })
 
--- the serial run of a module after so many iterations
+-- the serial run of a module after this many iterations
 unfoldable pub serial : List (List ℕ) → List Channel → Module → ℕ → Progress
 serial lists channels m zero = record { state = opened m; done = [] }
 serial lists channels m (suc n) = iterated lists channels m (serial lists channels m n)
 
--- ---- an own run on lists
+-- ---- own runs with the values of lists
 
--- the replies to steps are those of the lists, behind what was done before
+-- the replies to these steps are those that the lists give, after the exchanges done before
 abbrev pub AreGiven : List (List ℕ) → List Exchange → List OwnStep → Type 0
 AreGiven lists done [] = Unit {0}
 AreGiven lists done (s ∷ ss) = (s.replies ≡ all_given lists done s.requests) × AreGiven lists (done ++ paired s.requests s.replies) ss
 
--- what an own run has done
+-- what an own run has done at its channels
 abbrev pub done_by : Own → List Exchange
 done_by o = flat_map (λ s. paired s.requests s.replies) o.steps
 
 -- ---- serial modules
 
--- a serial run has come to its end with the results of an own run: on each channel the same pushes in the same order and as many pops,
--- and the same registers and memories
+-- the serial run has ended with the results of the own run: on each channel the same pushes in the same order and the same number
+-- of pops, and the same registers and memories
 pub record EndsAlike (channels : ℕ) (x : Progress) (o : Own) : Type 0 where
   pub ended : IsTrue x.state.ended
   pub pushes : (f : ℕ) → f < channels → moved_by Push f x.done ≡ moved_by Push f (done_by o)
@@ -97,7 +98,7 @@ pub record EndsAlike (channels : ℕ) (x : Progress) (o : Own) : Type 0 where
   pub registers : x.state.registers ≡ o.state.registers
   pub memories : x.state.memories ≡ o.state.memories
 
--- whatever the lists of values: where the module's own run on them comes to its end, the serial run does too, with the same results
+-- for all lists of values: if the module's own run on them ends, the serial run ends too, with the same results
 abbrev pub EqualsPlainLoops : Design → ℕ → Type 0
 EqualsPlainLoops design i =
     (p : Plan) → p.design ≡ design → (lists : List (List ℕ)) (replies : List (List Reply)) (n : ℕ)
@@ -106,17 +107,16 @@ EqualsPlainLoops design i =
 
 -- ---- runs that have not ended
 
--- the first list is a front of the second
+-- the first list is a prefix of the second
 abbrev pub IsFront : List ℕ → List ℕ → Type 0
 IsFront front whole = (more : List ℕ) × (whole ≡ front ++ more)
 
--- a serial run has got as far as an own run: on each channel it has pushed what the own run has, in the same order, and maybe more, and
--- it has popped what the own run has, and maybe more
+-- the serial run has done at least what the own run has: on each channel, the own run's pushes and pops are a prefix of its own
 pub record GetsAsFar (channels : ℕ) (x : Progress) (o : Own) : Type 0 where
   pub pushes : (f : ℕ) → f < channels → IsFront (moved_by Push f (done_by o)) (moved_by Push f x.done)
   pub pops : (f : ℕ) → f < channels → IsFront (moved_by Pop f (done_by o)) (moved_by Pop f x.done)
 
--- whatever the lists of values, and however far the module's own run on them has come: the serial run gets as far
+-- for all lists of values: at each point of the module's own run on them, the serial run gets at least as far
 abbrev pub KeepsToPlainLoops : Design → ℕ → Type 0
 KeepsToPlainLoops design i =
     (p : Plan) → p.design ≡ design → (lists : List (List ℕ)) (replies : List (List Reply)) (n : ℕ)

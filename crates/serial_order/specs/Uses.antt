@@ -1,4 +1,4 @@
--- What an operation makes use of: the registers, memories and ends of channels that it reads, writes or has as its guard.
+-- What an operation uses: the registers, memories and ends of channels that it reads, writes, or has as its guard.
 use Rattle.std.specs.Prelude.{ℕ, Bool, false, ◌||◌, ◌==◌, Option, Some, None, List}
 use Rattle.std.specs.List.{list_any}
 use Rattle.flow_word.specs.declared.access.Port.{Port}
@@ -23,22 +23,22 @@ names x (Binary' op s (more_of-Expr a _) t (more_of-Expr b _)) = names x a || na
 names x (Sext' k s (more_of-Expr a _)) = names x a
 names x (Pick' s (more_of-Expr a _) t (more_of-Expr b _) u (more_of-Expr c _)) = names x a || (names x b || names x c)
 
--- one of the expressions does
+-- one of the expressions names this register or temp
 abbrev pub is_named : ℕ → List (Expr ℕ) → Bool
 is_named x es = list_any (names x) es
 
--- the number is there, and it is this one
+-- a number is present, and it is this one
 abbrev pub is_this : ℕ → Option ℕ → Bool
 is_this n None = false
 is_this n (Some k) = k == n
 
--- the register or temp is one of these
+-- the register or temp is an item of the list
 abbrev pub is_among : ℕ → List ℕ → Bool
 is_among x xs = list_any (λ y. y == x) xs
 
 -- ---- uses
 
--- the memory that an operation writes
+-- the memory that an operation writes, if any
 abbrev pub stored_in : Op ℕ → Option ℕ
 stored_in (Set x e) = None
 stored_in (Load x n e) = None
@@ -50,7 +50,7 @@ stored_in (TryWrite f ok e) = None
 stored_in (Empty f x) = None
 stored_in (Full f x) = None
 
--- the two ends of a channel
+-- the end of a channel at which elements are popped; and then, the one at which they are pushed
 abbrev pub reading_end : ℕ → Port
 reading_end f = record { side = Pop; channel = f }
 

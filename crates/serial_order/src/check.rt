@@ -1,4 +1,4 @@
-//! The answer of a module.
+//! Checks the rules of serial modules on one module.
 ghost use Rattle.std.specs.Prelude.{◌≡◌, ◌<◌, ◌≤◌, ◌^◌, length, All};
 ghost use Rattle.std.specs.List.{enumerate_from, flat_map};
 ghost use Rattle.flow_design.specs.declared.limits.TheConstants.{CHANNELS};
@@ -10,7 +10,7 @@ use crate::order::Order;
 use crate::rules::{first_late, first_query, first_wide};
 use flow_design::{Block, BlockKind, Design, Module, Timed};
 
-/// The first query operation of a module.
+/// The first query operation in the blocks of a module, in text order. `None` where the module has no query.
 fn query_of(blocks: &[Block]) -> Option<Order>
     requires blocks { length blocks.now < 2 ^ 32 }
     requires operations { All (λ b. length b.ops < 2 ^ 32) blocks.now }
@@ -27,7 +27,7 @@ fn query_of(blocks: &[Block]) -> Option<Order>
     None
 }
 
-/// What breaks the rules of loops first in a loop with these operations.
+/// The first breach of the rules of loops in the operations of one loop. `None` where the loop keeps them.
 #[tactic(auto, using(crate::proofs::Heads::loop_late, crate::proofs::Heads::loop_wide))]
 fn loop_fault(
     channels: u32,
@@ -58,7 +58,7 @@ fn loop_fault(
     }
 }
 
-/// What breaks the rules of loops first in a block.
+/// The first breach of the rules of loops in a block. `None` where the block keeps them, as every block does that is no loop.
 fn fault_of(channels: u32, module: &Module, number: u32, block: &Block) -> Option<Order>
     requires sound { IsModuleSound channels «module».now }
     requires operations { length block.now.ops < 2 ^ 32 }
@@ -71,7 +71,7 @@ fn fault_of(channels: u32, module: &Module, number: u32, block: &Block) -> Optio
     }
 }
 
-/// What breaks the rules of loops first in a module.
+/// The first breach of the rules of loops in a module, block by block. `None` where all its loops keep them.
 fn fault_in(channels: u32, module: &Module) -> Option<Order>
     requires { IsModuleSound channels «module».now }
     ensures { result ≡ head (flat_map (faults_of channels «module».now) (enumerate_from 0 «module».now.blocks)) }
@@ -84,7 +84,7 @@ fn fault_in(channels: u32, module: &Module) -> Option<Order>
     None
 }
 
-/// What breaks the rules of serial modules first in a module.
+/// The first breach of the rules of serial modules in a module: a query first, then the rules of loops. `None` where it is serial.
 fn first_fault(channels: u32, module: &Module) -> Option<Order>
     requires { IsModuleSound channels «module».now }
     ensures { result ≡ head (all_faults channels «module».now) }

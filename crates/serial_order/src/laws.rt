@@ -7,9 +7,9 @@ ghost use Rattle.serial_order.specs.SerialRun.{EqualsPlainLoops, KeepsToPlainLoo
 
 /// A serial module does what it would do with the iterations of its loops one after another, whatever values the channels give.
 ///
-/// Where the module's own run on these values comes to its end, the serial run does too, with the same pushes on each channel in the
-/// same order, the same number of pops of each channel, and the same registers and memories. However far the own run has come, also
-/// where it never ends: what it has pushed on each channel, and popped off it, is a front of what the serial run pushes and pops.
+/// If the module's own run on these values ends, the serial run ends too: with the same pushes on each channel in the same order,
+/// the same number of pops of each channel, and the same registers and memories. An own run that has not ended, or never ends, has
+/// pushed on each channel, and popped from it, a prefix of what the serial run pushes and pops there.
 pub fn serial_modules_equal_plain_loops()
     ensures ends { (design : Designed) (i : ℕ) → HasModule design i → order_of design i ≡ Serial → EqualsPlainLoops design i }
     ensures goes { (design : Designed) (i : ℕ) → HasModule design i → order_of design i ≡ Serial → KeepsToPlainLoops design i }

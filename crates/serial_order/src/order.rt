@@ -1,6 +1,7 @@
-//! What is answered of a module.
+//! The answer to the question whether a module is serial.
 
-/// A thing of which operations make use, by its number in the module, or by the channel's number.
+/// Something that operations use: a register, a memory, or one end of a channel. The number is that of the module's register or
+/// memory, or that of the channel.
 #[derive(Clone, Copy, Debug, PartialEq, Eq)]
 pub enum Used {
     Register(u32),
@@ -20,6 +21,7 @@ pub enum Order {
     Query { block: u32, operation: u32 },
     /// In this loop this operation writes the loop's register at an offset of II or more.
     Late { block: u32, operation: u32 },
-    /// In this loop the last offset at which this thing is used is more than II behind the first, or II behind it and a write.
+    /// In this loop the last offset at which this thing is used is more than II after the first one; or it is exactly II after it,
+    /// and an operation at the last offset writes the thing.
     Wide { block: u32, used: Used },
 }

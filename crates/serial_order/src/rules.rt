@@ -1,4 +1,4 @@
-//! The rules of serial modules: what breaks each of them first.
+//! The rules of serial modules: each function finds the first breach of one of them.
 ghost use Rattle.std.specs.Prelude.{◌≡◌, ◌<◌, ◌^◌, length, find};
 ghost use Rattle.lockstep_defs.specs.Laws.{is_query};
 ghost use Rattle.serial_order.specs.Orders.{head, numbers_where, is_late, first_use, last_use, is_written_at, is_wide, things};
@@ -17,7 +17,7 @@ fn is_query(op: &Op<u32>) -> bool
     }
 }
 
-/// The number of the first query operation of a body.
+/// The number of the first query operation of a body, counted from 0 in text order. `None` where it has no query.
 pub(crate) fn first_query(ops: &[Timed]) -> Option<u32>
     requires { length ops.now < 2 ^ 32 }
     ensures { result ≡ head (numbers_where (λ t. is_query t.op) ops.now) }
@@ -37,7 +37,7 @@ fn is_late(timed: &Timed, ii: u64, again: u32) -> bool
     ii <= timed.offset && writes(&timed.op, Used::Register(again))
 }
 
-/// The number of the first operation that writes the loop's register at an offset of II or more.
+/// The number of the first operation of a loop that writes the loop's register at an offset of II or more. `None` where none does.
 pub(crate) fn first_late(ops: &[Timed], ii: u64, again: u32) -> Option<u32>
     requires { length ops.now < 2 ^ 32 }
     ensures { result ≡ head (numbers_where (is_late ii again) ops.now) }
@@ -50,13 +50,14 @@ pub(crate) fn first_late(ops: &[Timed], ii: u64, again: u32) -> Option<u32>
     None
 }
 
-/// The first and the last offset at which a body uses a thing.
+/// The first and the last offset, in clocks, at which a body uses a thing.
 struct Span {
     first: u64,
     last: u64,
 }
 
-/// The span of a thing. Where a body does not use it, it begins behind its end.
+/// The first and the last offset at which a body uses a thing. Where the body does not use it, the first offset is greater than the
+/// last.
 fn span_of(ops: &[Timed], used: Used) -> Span
     ensures first { result.first ≡ first_use used ops.now }
     ensures last { result.last ≡ last_use used ops.now }
@@ -72,7 +73,7 @@ fn span_of(ops: &[Timed], used: Used) -> Span
     Span { first, last }
 }
 
-/// Whether an operation at this offset writes a thing.
+/// Whether an operation at this offset writes the thing.
 fn is_written_at(ops: &[Timed], used: Used, offset: u64) -> bool
     ensures { result ≡ is_written_at offset used ops.now }
 {
@@ -80,7 +81,7 @@ fn is_written_at(ops: &[Timed], used: Used, offset: u64) -> bool
         .any(|timed| timed.offset == offset && writes(&timed.op, used))
 }
 
-/// Whether the uses of a thing reach over more than II, or over II with a write at the last offset.
+/// Whether the last use of a thing is more than II clocks after its first, or exactly II after it with a write at the last offset.
 fn is_wide(ops: &[Timed], ii: u64, used: Used) -> bool
     ensures { result ≡ is_wide ii ops.now used }
 {
@@ -89,7 +90,8 @@ fn is_wide(ops: &[Timed], ii: u64, used: Used) -> bool
     ii < reach || reach == ii && is_written_at(ops, used, last)
 }
 
-/// The first thing whose uses reach so far, among so many registers, memories and channels.
+/// The first thing whose uses lie too far apart for this II, among this many registers, memories and channels. `None` where no
+/// thing's uses do.
 pub(crate) fn first_wide(
     ops: &[Timed],
     ii: u64,

@@ -1,4 +1,4 @@
-//! What an operation makes use of.
+//! What an operation uses, and what it writes.
 ghost use Rattle.std.specs.Prelude.{◌≡◌};
 ghost use Rattle.flow_design.specs.Operations.{places_of, expressions_of, memory_of};
 ghost use Rattle.flow_design.specs.Operations.{port_of, used_port};
@@ -25,7 +25,7 @@ fn names(expr: &Expr<u32>, variable: u32) -> bool
     }
 }
 
-/// Whether one of an operation's expressions names it.
+/// Whether one of an operation's expressions names this register or temp.
 fn is_named(op: &Op<u32>, variable: u32) -> bool
     ensures { result ≡ is_named variable (expressions_of op.now) }
 {
@@ -59,7 +59,7 @@ fn is_place(op: &Op<u32>, variable: u32) -> bool
     }
 }
 
-/// The memory of an operation.
+/// The memory that an operation reads or writes. `None` where it uses no memory.
 fn memory_of(op: &Op<u32>) -> Option<u32>
     ensures { result ≡ memory_of op.now }
 {
@@ -75,7 +75,7 @@ fn memory_of(op: &Op<u32>) -> Option<u32>
     }
 }
 
-/// The memory that an operation writes.
+/// The memory that an operation writes. `None` where it writes no memory.
 fn stored_in(op: &Op<u32>) -> Option<u32>
     ensures { result ≡ stored_in op.now }
 {
@@ -85,21 +85,21 @@ fn stored_in(op: &Op<u32>) -> Option<u32>
     }
 }
 
-/// Whether a port is this side of this channel.
+/// Whether a port is there, and is this side of this channel.
 fn is_end(port: Option<Port>, side: Side, channel: u32) -> bool
     ensures { result ≡ is_port (record { side = side; channel = channel }) port }
 {
     port == Some(Port { side, channel })
 }
 
-/// Whether the number is there, and is this one.
+/// Whether a number is there, and is the wanted one.
 fn is_this(number: Option<u32>, wanted: u32) -> bool
     ensures { result ≡ is_this wanted number }
 {
     number == Some(wanted)
 }
 
-/// Whether an operation writes a thing: a pop writes the reading end of its channel, and a push the writing end.
+/// Whether an operation writes a thing. A pop writes the reading end of its channel, and a push the writing end.
 pub(crate) fn writes(op: &Op<u32>, used: Used) -> bool
     ensures { result ≡ writes used op.now }
 {
@@ -111,7 +111,7 @@ pub(crate) fn writes(op: &Op<u32>, used: Used) -> bool
     }
 }
 
-/// Whether a scheduled operation reads a thing, writes it or has it as its guard.
+/// Whether a scheduled operation reads a thing, writes it, or has it as its guard.
 pub(crate) fn is_use(timed: &Timed, used: Used) -> bool
     ensures { result ≡ is_use used timed.now }
 {

@@ -5,16 +5,16 @@ use Rattle.std.specs.Str.{bytes_eq}
 abbrev pub Name : Type 0
 Name = List ℕ
 
--- the place of the first of these names that is this one
+-- the place in a list where a name stands first, if it is there
 abbrev pub place_of : List Name → Name → Option ℕ
 place_of [] n = None
 place_of (m ∷ names) n = if bytes_eq n m then Some 0 else option_map (λ k. k + 1) (place_of names n)
 
--- the number of a name: its place, or how many names there are where it is none of them
+-- the number of a name: its place in the list, or the number of names where it is not there
 abbrev pub number_of : List Name → Name → ℕ
 number_of names n = unwrap_or (place_of names n) (length names)
 
--- the names that stand in a body: the channels of the session, what its module declares, and its temps
+-- the names that a body may use: the channels of the session, what its module declares, and its temps
 pub record Scope : Type 0 where
   pub channels : List Name
   pub registers : List Name

@@ -32,7 +32,7 @@ channel (Sink n w) = Some (record { name = n; width = w; kind = kind.Sink })
 channel (Fifo n w depth delay) = Some (record { name = n; width = w; kind = kind.Fifo depth delay })
 channel s = None
 
--- the depth of a FIFO, and 0 for the other channels
+-- the declared depth of a FIFO, or 0 for any other channel
 abbrev pub depth_in : ChannelKind → ℕ
 depth_in kind.Source = 0
 depth_in kind.Sink = 0
@@ -40,12 +40,12 @@ depth_in (kind.Fifo depth delay) = depth
 
 -- ---- blocks
 
--- the first of these, or else this
+-- the first item of a list, or the given default where there is none
 abbrev pub first_or : {A : Type 0} → A → List A → A
 first_or a [] = a
 first_or a (b ∷ bs) = b
 
--- `block N LEN` and `loop N II LEN while R`
+-- the kind of the block that `block N LEN`, or `loop N II LEN while R`, begins
 abbrev pub kind_of : Scope → Statement → BlockKind
 kind_of scope (Loop n ii len again) = block_kind.Loop ii (number_of scope.registers again)
 kind_of scope s = block_kind.Plain
@@ -55,7 +55,7 @@ len_of (Block n len) = len
 len_of (Loop n ii len again) = len
 len_of s = 0
 
--- a block in its module: the temps of its body stand behind the module's registers
+-- a block in its module: the temps of its body are numbered after the module's registers
 unfoldable pub block : Scope → Statement × List Statement → BlockOfPlan
 block scope (head, body) =
     let own : Scope = record scope { temps = filter_map (declared sort.Temps) body } in
@@ -77,7 +77,7 @@ abbrev pub module_name : Statement → Name
 module_name (Module n) = n
 module_name s = []
 
--- the names that stand in a module, beside the channels
+-- the names that the bodies of a module may use, without their temps
 abbrev pub scope_of : List Name → List Statement → Scope
 scope_of channels body = record {
   channels = channels;
@@ -97,12 +97,12 @@ module_of channels (head, body) = record {
 
 -- ---- inputs, limits and edits
 
--- the values of an `input` of channel number f
+-- the values of an `input` for channel f; none for any other statement
 abbrev pub values_for : List Name → ℕ → Statement → List ℕ
 values_for names f (Input n values) = if number_of names n == f then values else []
 values_for names f s = []
 
--- the inputs of channel number f: a source takes the values that are given for it, each cut to its width
+-- the inputs of a channel: a source takes the values that are given for it, each cut to its width
 abbrev pub inputs_of : ChannelKind → ℕ → List ℕ → List ℕ
 inputs_of kind.Source width values = map (cut_to width) values
 inputs_of kind.Sink width values = []
@@ -111,12 +111,12 @@ inputs_of (kind.Fifo depth delay) width values = []
 abbrev pub inputs_for : List Name → List Statement → ℕ × Channel → List ℕ
 inputs_for names statements (f, c) = inputs_of c.kind c.width (flat_map (values_for names f) statements)
 
--- the cycle limit and the operation limit of each module, as a statement gives them
+-- the cycle limit and the operation limit of each module that a statement gives, if it gives them
 abbrev pub limits : Statement → Option (ℕ × ℕ)
 limits (Limits cycles ops) = Some (cycles, ops)
 limits s = None
 
--- the same of a session: the defaults where no statement gives any
+-- the limits of a session: those that a statement gives, or else the defaults
 abbrev pub limits_of : Scale → List Statement → ℕ × ℕ
 limits_of scale statements = first_or (CYCLES, (limits_at scale).default_operations) (filter_map limits statements)
 

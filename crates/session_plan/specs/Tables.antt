@@ -1,4 +1,4 @@
--- The names that stand in a body, from the tables of its module.
+-- The names that a body may use, from the tables of its module.
 use Rattle.std.specs.Prelude.{List}
 use Rattle.session_plan.specs.Names.{Name, Scope}
 use Rattle.session_plan.specs.declared.scope.ModuleNames.{ModuleNames}

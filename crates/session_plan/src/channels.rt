@@ -10,7 +10,7 @@ use flow_design::{Channel, ChannelKind, Edit, Statement};
 use flow_word::{List, OutOfMemory, TryCopy, Width, Words, cut};
 use std::alloc::Global;
 
-/// The channel that a statement declares.
+/// The channel that a statement declares. `None` where it declares none.
 fn channel(alloc: Global, statement: &Statement) -> Result<Option<Channel>, OutOfMemory>
     ensures { IfOk result (λ c. c ≡ channel statement.now) }
 {
@@ -41,7 +41,7 @@ fn channel(alloc: Global, statement: &Statement) -> Result<Option<Channel>, OutO
     }))
 }
 
-/// The channels of a session, from their names: at most 2^30, so that 32 bits hold the number of each.
+/// The channels of a session, given their names. There are at most 2^30, so that their numbers fit 32 bits.
 pub(crate) fn channels_of(
     alloc: Global,
     names: &Names,
@@ -60,7 +60,7 @@ pub(crate) fn channels_of(
     Ok(channels)
 }
 
-/// The depth of a FIFO, and 0 for the other channels.
+/// The declared depth of a FIFO, or 0 for any other channel.
 fn depth_in(kind: ChannelKind) -> u64
     ensures { result ≡ depth_in kind }
 {
@@ -70,7 +70,7 @@ fn depth_in(kind: ChannelKind) -> u64
     }
 }
 
-/// The depths of the channels.
+/// The declared depth of each channel, which is 0 where it is no FIFO.
 pub(crate) fn depths_of(alloc: Global, channels: &[Channel]) -> Result<Words, OutOfMemory>
     ensures { IfOk result (λ depths. depths ≡ map (λ c. depth_in c.kind) channels.now) }
 {
@@ -81,7 +81,7 @@ pub(crate) fn depths_of(alloc: Global, channels: &[Channel]) -> Result<Words, Ou
     Ok(depths)
 }
 
-/// The cycle limit, in clocks, and the operation limit of each module.
+/// The cycle limit of a session, in clocks, and the operation limit of each module.
 pub(crate) fn limits_of(scale: Scale, statements: &[Statement]) -> (u64, u64)
     ensures { result ≡ limits_of scale statements.now }
 {

@@ -1,4 +1,4 @@
-//! What a session has that gives no limits of its own. Its operation limit is the default of its scale.
+//! The limits of a session that gives none of its own. Its operation limit depends on the scale.
 
-/// The cycle limit, in clocks.
+/// The cycle limit of a session that gives none, in clocks.
 pub const CYCLES: u64 = 1_000_000_000;

@@ -10,7 +10,7 @@ use flow_design::{Channel, ChannelKind, Statement};
 use flow_word::{List, OutOfMemory, Width, Words, cut};
 use std::alloc::Global;
 
-/// Adds values, each cut to the width.
+/// Adds values to a list, each cut to the width.
 fn push_cut(width: Width, values: &[u64], out: &mut Words) -> Result<(), OutOfMemory>
     ensures { OnOk result (out.new ≡ out.old ++ map (cut_to width) values.now) }
 {
@@ -20,7 +20,7 @@ fn push_cut(width: Width, values: &[u64], out: &mut Words) -> Result<(), OutOfMe
     Ok(())
 }
 
-/// Adds the values that a channel takes.
+/// Adds values to a channel's inputs, each cut to its width. Only a source takes any.
 fn give(channel: &Channel, values: &[u64], out: &mut Words) -> Result<(), OutOfMemory>
     ensures { OnOk result (out.new ≡ out.old ++ inputs_of channel.now.kind channel.now.width values.now) }
 {
@@ -30,7 +30,7 @@ fn give(channel: &Channel, values: &[u64], out: &mut Words) -> Result<(), OutOfM
     }
 }
 
-/// Adds what a statement gives to the inputs of its channel.
+/// Adds the values of a statement, if it is an `input`, to those of its channel.
 fn add_values(
     names: &Names,
     channels: &[Channel],
@@ -53,7 +53,7 @@ fn add_values(
     Ok(())
 }
 
-/// A list of so many empty lists.
+/// A list of `count` empty lists.
 fn no_inputs(alloc: Global, count: u64) -> Result<List<Words>, OutOfMemory>
     ensures { IfOk result (λ inputs. inputs ≡ replicate count []) }
 {

@@ -1,12 +1,11 @@
-//! Laws of plans.
+//! The laws of plans.
 ghost use Rattle.std.specs.Prelude.{◌≡◌, ◌∷◌, ℕ, List};
 ghost use Rattle.flow_design.specs.declared.limits.Scale.{Scale};
 ghost use Rattle.flow_design.specs.declared.session.Statement.{Statement};
 ghost use Rattle.flow_design.specs.declared.session.Statement.TheVariants.{Flow};
 ghost use Rattle.session_plan.specs.Plans.{plan_of, edits_of};
 
-/// Two sessions that differ in the language's version alone, as `flow 1` and `flow 2`, have one plan at each scale, and the
-/// same edits.
+/// Two sessions that differ only in the language's version have the same plan at each scale, and the same edits.
 pub fn versions_agree()
     ensures plans { (scale : Scale) → (one other : ℕ) → (rest : List Statement)
         → plan_of scale (Flow one ∷ rest) ≡ plan_of scale (Flow other ∷ rest) }

@@ -1,4 +1,4 @@
-//! From the statements of a session to its plan and its edits: names become numbers.
+//! From the statements of a session to its plan and its edits: numbers replace names.
 #![tactic(auto)]
 
 mod channels;

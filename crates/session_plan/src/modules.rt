@@ -17,7 +17,7 @@ use flow_design::{Block, BlockKind, Memory, Module, Name, Next, Statement, Timed
 use flow_word::{List, OutOfMemory, TryCopy, Width};
 use std::alloc::Global;
 
-/// The widths of the registers, or of the temps, in order.
+/// The widths of the registers, or temps, that these statements declare, in order.
 fn widths_of(alloc: Global, sort: Sort, body: &[Statement]) -> Result<List<Width>, OutOfMemory>
     ensures { IfOk result (λ widths. widths ≡ filter_map (declared_width sort) body.now) }
 {
@@ -30,7 +30,7 @@ fn widths_of(alloc: Global, sort: Sort, body: &[Statement]) -> Result<List<Width
     Ok(widths)
 }
 
-/// The memories, in order.
+/// The memories that these statements declare, in order.
 fn memories_of(alloc: Global, body: &[Statement]) -> Result<List<Memory>, OutOfMemory>
     ensures { IfOk result (λ memories. memories ≡ filter_map memory body.now) }
 {
@@ -46,7 +46,7 @@ fn memories_of(alloc: Global, body: &[Statement]) -> Result<List<Memory>, OutOfM
     Ok(memories)
 }
 
-/// The operations, in order.
+/// The operations of a body, in order.
 fn operations_of(
     alloc: Global,
     channels: &Names,
@@ -65,7 +65,7 @@ fn operations_of(
     Ok(ops)
 }
 
-/// The first terminator.
+/// The first terminator of a body.
 fn next_of(own: &ModuleNames, body: &[Statement]) -> Next
     ensures { result ≡ first_or next.Stop (filter_map (terminator (scope_at [] own.now [])) body.now) }
 {
@@ -77,7 +77,7 @@ fn next_of(own: &ModuleNames, body: &[Statement]) -> Next
     Next::Stop
 }
 
-/// What the statement that begins a block says of its kind.
+/// The kind of the block that a statement begins.
 fn kind_of(own: &ModuleNames, head: &Statement) -> BlockKind
     ensures { result ≡ kind_of (scope_at [] own.now []) head.now }
 {
@@ -94,7 +94,7 @@ fn kind_of(own: &ModuleNames, head: &Statement) -> BlockKind
     }
 }
 
-/// What it says of its length.
+/// The LEN of the block that a statement begins.
 fn len_of(head: &Statement) -> u64
     ensures { result ≡ len_of head.now }
 {
@@ -104,7 +104,7 @@ fn len_of(head: &Statement) -> u64
     }
 }
 
-/// A block of a module.
+/// A block of a module, from the statement that begins it and its body.
 #[tactic(auto, unfolding(crate::specs::Plans::block))]
 fn block_of(
     alloc: Global,
@@ -155,7 +155,7 @@ fn names_in<'a>(alloc: Global, body: &'a [Statement]) -> Result<ModuleNames<'a>,
     })
 }
 
-/// The blocks of a module, from what it declares.
+/// The blocks of a module, given the names that it declares.
 fn blocks_in(
     alloc: Global,
     channels: &Names,
@@ -169,7 +169,7 @@ fn blocks_in(
     blocks
 }
 
-/// The name of a module.
+/// The name of the module that a statement begins.
 fn name_of(alloc: Global, head: &Statement) -> Result<Name, OutOfMemory>
     ensures { IfOk result (λ name. name ≡ module_name head.now) }
 {
@@ -179,7 +179,7 @@ fn name_of(alloc: Global, head: &Statement) -> Result<Name, OutOfMemory>
     }
 }
 
-/// A module.
+/// A module, from the statement that begins it and the statements up to the next module.
 #[tactic(auto, unfolding(crate::specs::Plans::module_of))]
 fn module_of(
     alloc: Global,

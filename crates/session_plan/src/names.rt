@@ -1,4 +1,4 @@
-//! Names by number.
+//! Names and their numbers.
 ghost use Rattle.std.specs.Prelude.{◌≡◌, ◌≤◌, ◌^◌, ℕ, List as Items, [], ◌∷◌, ◌++◌, length, if◌then◌else◌, OnOk, OnErr};
 ghost use Rattle.std.specs.Option.{option_or};
 ghost use Rattle.std.specs.Str.{bytes_eq};
@@ -10,7 +10,7 @@ use indexmap::IndexMap;
 use std::alloc::Global;
 use std::marker::Model;
 
-/// Names in the order in which they were declared, at most 2^30 of them. Contracts see them as that list.
+/// Names in order of declaration, at most 2^30 of them. Contracts see them as that list.
 #[derive(Drop)]
 pub(crate) struct Names<'a> {
     all: List<&'a [u8]>,
@@ -31,7 +31,7 @@ impl<'a> Model for Names<'a> {
         × ((n : Items ℕ) → number_at names.numbers n ≡ place_of (map (λ name. name.now) names.all) n) };
 }
 
-/// Notes the number of a name, unless it has one already. After want of memory the table is as it was.
+/// Notes the number of a name, unless it has one already. After `OutOfMemory` the table is as it was.
 fn note<'a>(
     numbers: &mut IndexMap<&'a [u8], u32>,
     name: &'a [u8],
@@ -48,7 +48,7 @@ fn note<'a>(
 }
 
 impl<'a> Names<'a> {
-    /// No name.
+    /// No names.
     pub(crate) fn new(alloc: Global) -> Names<'a>
         ensures { result ≡ [] }
     {
@@ -58,7 +58,7 @@ impl<'a> Names<'a> {
         }
     }
 
-    /// Another name. More than 2^30 are refused as want of memory.
+    /// Adds a name at the end. Where there are 2^30 already, the answer is `OutOfMemory`.
     pub(crate) fn add(&mut self, name: &'a [u8]) -> Result<(), OutOfMemory>
         ensures { OnOk result (self.new ≡ self.old ++ name.now ∷ []) }
     {
@@ -82,7 +82,7 @@ impl<'a> Names<'a> {
         self.all.len() as u32
     }
 
-    /// The number of a name: its place, or how many names there are where it is none of them.
+    /// The number of a name: its place in the list, or the number of names where it is not there.
     pub(crate) fn number(&self, name: &[u8]) -> u32
         ensures number { result ≡ number_of self.now name.now }
         ensures most { result ≤ 2 ^ 30 }

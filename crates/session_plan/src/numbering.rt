@@ -1,4 +1,4 @@
-//! Numbers in the place of names.
+//! Replacing names by numbers.
 ghost use Rattle.std.specs.Prelude.{◌≡◌, [], ◌++◌, option_map, IfOk};
 ghost use Rattle.session_plan.specs.Names.{number_of};
 ghost use Rattle.session_plan.specs.Numbered.{numbered, operation, timed, terminator};
@@ -10,7 +10,7 @@ use flow_design::{Expr, Name, Next, Op, Statement, Timed};
 use flow_word::{Boxed, OutOfMemory};
 use std::alloc::Global;
 
-/// The number of a register, or of a temp: the temps follow the registers.
+/// The number of a register or temp: temps are numbered after the registers.
 #[tactic(auto, using(crate::proofs::NameLemmas::number_behind, crate::proofs::NameLemmas::number_among))]
 fn place(own: &ModuleNames, temps: &Names, name: &Name) -> u32
     ensures { result ≡ number_of (own.now.registers ++ temps.now) name.now }
@@ -23,7 +23,7 @@ fn place(own: &ModuleNames, temps: &Names, name: &Name) -> u32
     }
 }
 
-/// An expression over numbers.
+/// An expression with its names replaced by numbers.
 #[tactic(auto, using(crate::proofs::Trees::the_numbered))]
 fn numbered(
     alloc: Global,
@@ -58,7 +58,7 @@ fn numbered(
     }
 }
 
-/// An operation over numbers.
+/// An operation with its names replaced by numbers.
 fn operation(
     alloc: Global,
     channels: &Names,
@@ -136,7 +136,7 @@ fn operation(
     }
 }
 
-/// The number of a guard.
+/// The number of a guard, if there is one.
 fn guard(own: &ModuleNames, temps: &Names, name: &Option<Name>) -> Option<u32>
     ensures { result ≡ option_map (number_of (own.now.registers ++ temps.now)) name.now }
 {
@@ -146,7 +146,7 @@ fn guard(own: &ModuleNames, temps: &Names, name: &Option<Name>) -> Option<u32>
     }
 }
 
-/// What an `at` schedules.
+/// The operation that an `at` schedules, with its offset and guard. `None` for any other statement.
 pub(crate) fn timed(
     alloc: Global,
     channels: &Names,
@@ -168,7 +168,7 @@ pub(crate) fn timed(
     }
 }
 
-/// What a terminator says.
+/// The terminator that a statement is. `None` where it is none.
 pub(crate) fn terminator(own: &ModuleNames, statement: &Statement) -> Option<Next>
     ensures { result ≡ terminator (scope_at [] own.now []) statement.now }
 {

@@ -10,7 +10,7 @@ use flow_design::Statement;
 use flow_word::OutOfMemory;
 use std::alloc::Global;
 
-/// The names that a module declares, beside the temps of its bodies.
+/// The names that a module declares, without the temps of its bodies.
 #[derive(Drop)]
 pub(crate) struct ModuleNames<'a> {
     pub(crate) registers: Names<'a>,

@@ -1,18 +1,18 @@
-//! Sections of a session, and what its statements declare.
+//! The sections of a session, and what its statements declare.
 ghost use Rattle.std.specs.Prelude.{◌≡◌, option_map};
 ghost use Rattle.session_plan.specs.Sections.{begins, body_of, declared, declared_width};
 
 use flow_design::Statement;
 use flow_word::Width;
 
-/// What a section is.
+/// Whether a section is a module or a block.
 #[derive(Clone, Copy, Debug, PartialEq, Eq)]
 pub enum Level {
     Modules,
     Blocks,
 }
 
-/// What a name stands for.
+/// What a declared name stands for.
 #[derive(Clone, Copy, Debug, PartialEq, Eq)]
 pub enum Sort {
     Channels,
@@ -22,7 +22,7 @@ pub enum Sort {
     Temps,
 }
 
-/// Whether a statement begins a section.
+/// Whether a statement begins a section of this level.
 pub(crate) fn begins(level: Level, statement: &Statement) -> bool
     ensures { result ≡ begins level statement.now }
 {
@@ -33,7 +33,7 @@ pub(crate) fn begins(level: Level, statement: &Statement) -> bool
     }
 }
 
-/// The statements up to the next section.
+/// The statements up to the next section of this level.
 pub(crate) fn body_of<'a>(level: Level, rest: &'a [Statement]) -> &'a [Statement]
     ensures { result.now ≡ body_of level rest.now }
 {
@@ -45,7 +45,7 @@ pub(crate) fn body_of<'a>(level: Level, rest: &'a [Statement]) -> &'a [Statement
     rest
 }
 
-/// The name that a statement declares.
+/// The name that a statement declares for something of this sort. `None` where it declares none.
 pub(crate) fn declared<'a>(sort: Sort, statement: &'a Statement) -> Option<&'a [u8]>
     ensures { option_map (λ n. n.now) result ≡ declared sort statement.now }
 {
@@ -64,7 +64,7 @@ pub(crate) fn declared<'a>(sort: Sort, statement: &'a Statement) -> Option<&'a [
     }
 }
 
-/// The width of a register or temp.
+/// The width of the register, or temp, that a statement declares. `None` where it declares none.
 pub(crate) fn declared_width(sort: Sort, statement: &Statement) -> Option<Width>
     ensures { result ≡ declared_width sort statement.now }
 {

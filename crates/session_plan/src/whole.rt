@@ -13,18 +13,17 @@ use flow_design::{Channel, Design, Edit, Plan, Statement};
 use flow_word::{List, OutOfMemory};
 use std::alloc::Global;
 
-/// The plan and the edits of a session.
+/// The plan of a session, and its edits.
 #[derive(Debug, Drop, PartialEq)]
 pub struct Checked {
     pub plan: Plan,
-    /// The session's edits in order, none of them applied to the plan.
+    /// The session's edits, in order. None of them is applied to the plan.
     pub edits: List<Edit>,
 }
 
-/// The plan and the edits that these statements write: channels, modules, blocks, registers and memories are numbered in
-/// order of their statements, and the temps of a body follow the module's registers. A name that stands for nothing
-/// gets the count of the names among which it was looked for, so that its number is out of range. Where no statement
-/// limits the operations of a module, the scale does.
+/// The plan and the edits that these statements write. Channels, modules, blocks, registers and memories are numbered in order of
+/// their statements, and the temps of a body follow the module's registers. The number of a name that is not declared is the number
+/// of those that are, and so out of range. Where no statement limits the operations of a module, the scale does.
 #[tactic(auto, unfolding(crate::specs::Plans::edits_of))]
 pub fn elaborate(
     alloc: Global,
@@ -33,7 +32,7 @@ pub fn elaborate(
 ) -> Result<Checked, OutOfMemory>
     ensures plan { IfOk result (λ checked. checked.plan ≡ plan_of scale statements.now) }
     ensures edits { IfOk result (λ checked. checked.edits ≡ edits_of statements.now) }
-    // 32 bits hold the number of each channel.
+    // The number of each channel fits 32 bits.
     ensures few { IfOk result (λ checked. length checked.plan.design.channels ≤ 2 ^ 30) }
 {
     let names = names_of(alloc, Sort::Channels, statements)?;
@@ -43,7 +42,7 @@ pub fn elaborate(
     Ok(Checked { plan, edits })
 }
 
-/// The plan, from the channels and their names.
+/// The plan, given its channels and their names.
 #[tactic(auto, unfolding(crate::specs::Plans::plan_of))]
 fn plan_in(
     alloc: Global,

@@ -5,7 +5,8 @@ use flow_word::OutOfMemory;
 use std::env::Env;
 use std::{env, io};
 
-/// All arguments, the program's own name first. Arguments that can't be read as text count as none, and so are refused.
+/// All arguments of the program, its own name first. If one of them can't be read as text there are none, so that the words are
+/// refused. `OutOfMemory` where memory ran out.
 pub(crate) fn arguments(rt: &(impl Env + AllocGlobal)) -> Result<Vec<String>, OutOfMemory> {
     match env::args(rt) {
         Ok(args) => Ok(args.collect(rt.alloc())?),
@@ -14,7 +15,7 @@ pub(crate) fn arguments(rt: &(impl Env + AllocGlobal)) -> Result<Vec<String>, Ou
     }
 }
 
-/// All but the first, which is the program's own name.
+/// All arguments but the first, which is the program's own name.
 pub(crate) fn behind_the_name(arguments: &[String]) -> &[String]
     ensures { result.now ≡ drop 1 arguments.now }
 {

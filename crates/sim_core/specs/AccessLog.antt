@@ -17,30 +17,30 @@ use Rattle.engine_report.specs.declared.events.TimedStep.{TimedStep}
 use Rattle.sim_core.specs.Found.{replies_now}
 use Rattle.sim_core.specs.declared.access_log.LoggedAccess.{LoggedAccess}
 
--- ---- of a history
+-- ---- by a history
 
--- an operation that was done: its event, its outcome, and the value that it moved, if it moved one
+-- what an operation that was done gave: its event, its outcome, and the value that it moved, if it moved one
 abbrev pub logged : HistoryStep → Exchange → LoggedAccess
 logged s x = record { event = event_of s x; outcome = is_yes x.reply; value = slice_get (moved_value (side_of x.request.kind) x) 0 }
 
 abbrev pub logged_in : List HistoryStep → List LoggedAccess
 logged_in steps = flat_map (λ s. map (logged s) s.exchanges) steps
 
--- all of them, in the order of the report's events
+-- what all accesses of a plan gave, in the order of the report's events
 unfoldable pub log_of : Plan → List LoggedAccess
 log_of p = logged_in (history p (clock_of (verdict p)))
 
--- ---- of what is held
+-- ---- by what is held
 
 -- an access as a request
 abbrev pub request_of : Access → Request
 request_of a = record { kind = a.kind; channel = a.channel; value = a.value }
 
--- with the reply to it
+-- an access with its reply
 abbrev pub exchange_of : Access → Reply → Exchange
 exchange_of a r = record { request = request_of a; reply = r }
 
--- the replies to a step, none where some are not there
+-- the replies to module m's step k; none where some of them are not there
 abbrev pub replies_at : Held → ℕ → ℕ → List Reply
 replies_at h m k = unwrap_or (replies_now h m (step_of h m k)) []
 
@@ -48,7 +48,7 @@ replies_at h m k = unwrap_or (replies_now h m (step_of h m k)) []
 abbrev pub step_with : TimedStep → List Exchange → HistoryStep
 step_with key xs = record { clock = key.cycle; «module» = key.module; exchanges = xs }
 
--- what the accesses of a step that is held gave
+-- what the accesses of a step with a cycle gave, by what is held
 abbrev pub logged_at : Held → TimedStep → List LoggedAccess
 logged_at h key =
     map (logged (step_with key [])) (paired (map request_of (step_of h key.module key.step).accesses) (replies_at h key.module key.step))

@@ -1,4 +1,4 @@
--- Which modules may be given a cycle or an answer, as far as it is known.
+-- The modules for which an Assign or an Answer may be permitted, as far as it is known.
 use Rattle.std.specs.Prelude.{◌≡◌, ℕ, ◌<◌, ◌≤◌, false, List, [], length, slice_get, slice_index_or, Some}
 use Rattle.flow_word.specs.Kinds.{other_side}
 use Rattle.flow_word.specs.declared.access.Port.{Port}
@@ -11,15 +11,15 @@ use Rattle.timing_bridge.specs.Designs.{design}
 use Rattle.turn_history.specs.Apart.{AreApart}
 use Rattle.turn_history.specs.Rounds.{may_time}
 
--- a module is not in the set
+-- module n is not in the set
 abbrev pub Lacks : List ℕ → ℕ → Type 0
 Lacks set n = Has set n → ⊥
 
--- there is room in the set for each module
+-- the set has room for each module of the plan
 abbrev pub HasRoom : Plan → List ℕ → Type 0
 HasRoom p set = length p.design.modules ≤ capacity set
 
--- the modules at the other ends of the channels of the first so many ports are in the set
+-- the set has the modules at the other sides of the channels of the first so many ports
 abbrev pub AreAcrossTo : Plan → List Port → ℕ → List ℕ → Type 0
 AreAcrossTo p ports many set = (i : ℕ) (port : Port) → i < many → slice_get ports i ≡ Some port → (n : ℕ)
     → n < length p.design.modules → (design p).owner (other_side port.side) port.channel ≡ n → Has set n
@@ -27,7 +27,7 @@ AreAcrossTo p ports many set = (i : ℕ) (port : Port) → i < many → slice_ge
 abbrev pub AreAcross : Plan → List Port → List ℕ → Type 0
 AreAcross p ports set = AreAcrossTo p ports (length ports) set
 
--- of each of the first so many modules masks that leave out only modules that share no channel with it
+-- for each of the first so many modules there are masks that leave out only modules that share no channel with it
 pub record AreBesideTo (p : Plan) (many : ℕ) (beside : List (List Mask)) : Type 0 where
   pub count : length beside ≡ many
   pub apart : (m : ℕ) → m < many → (n : ℕ) → n < length p.design.modules → (HasMask (slice_index_or beside m []) n → ⊥)
@@ -36,7 +36,7 @@ pub record AreBesideTo (p : Plan) (many : ℕ) (beside : List (List Mask)) : Typ
 abbrev pub AreBeside : Plan → List (List Mask) → Type 0
 AreBeside p beside = AreBesideTo p (length p.design.modules) beside
 
--- of a module that is not in the set no Assign and no Answer is permitted
+-- no Assign and no Answer is permitted for a module that is not in the set
 pub record AreAsking (p : Plan) (x : Core ModuleState) (asking : List ℕ) : Type 0 where
   pub room : HasRoom p asking
   pub idle : (n : ℕ) → n < length p.design.modules → Lacks asking n → may_time (design p) p.cycles x n ≡ false

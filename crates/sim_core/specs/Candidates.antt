@@ -1,4 +1,4 @@
--- What is known of the cycles of the modules' first steps without one.
+-- What is known of the cycles of the modules' first steps without a cycle.
 use Rattle.std.specs.Prelude.{◌≡◌, ◌↔◌, ℕ, ◌<◌, List, slice_index_or, Some}
 use Rattle.event_graph.specs.Lanes.{Lane}
 use Rattle.event_graph.specs.declared.candidate.Candidate.{Candidate}
@@ -6,7 +6,7 @@ use Rattle.event_graph.specs.declared.candidate.Candidate.TheVariants.{At, Nothi
 use Rattle.fifo_table.specs.Channels.{Channel}
 use Rattle.time_engine.specs.Cycles.{determined}
 
--- of the first so many modules the candidate is at a cycle exactly where that is determined, below the limit
+-- for each of the first so many modules the candidate is at a cycle exactly where that is determined, below the limit
 abbrev pub AreCandidates : List Lane → List Channel → ℕ → ℕ → List Candidate → Type 0
 AreCandidates lanes channels limit many candidates =
     (m cycle : ℕ) → m < many → (slice_index_or candidates m Nothing ≡ At cycle) ↔

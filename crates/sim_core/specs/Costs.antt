@@ -1,4 +1,4 @@
--- What an edit and the actions behind it cost.
+-- What an edit and the actions after it cost.
 use Rattle.std.specs.Prelude.{◌≡◌, ℕ, ◌+◌, ◌≤◌, ◌⊎◌, map}
 use Rattle.flow_design.specs.declared.plan.Edit.{Edit}
 use Rattle.event_graph.specs.Lanes.{timed_below}
@@ -7,16 +7,17 @@ use Rattle.retime.specs.Rounds.{cycles_in, steps_in}
 use Rattle.retime.specs.Touched.{IsFirstTouched, IsNeverTouched}
 use Rattle.sim_core.specs.Views.{CoreView}
 
--- the first clock that the edit touches, or the limit where it touches none
+-- the clock is the first touched clock of the edit, or the limit where there is none
 abbrev pub IsFeltFrom : CoreView → Edit → ℕ → Type 0
 IsFeltFrom v e clock = IsFirstTouched v.held.lanes (channel_at v.held.channels e.channel) e.depth clock
     ⊎ (IsNeverTouched v.held.lanes (channel_at v.held.channels e.channel) e.depth × (clock ≡ v.plan.cycles))
 
--- how many steps have a cycle below the clock
+-- how many steps of a core have a cycle below the clock
 abbrev pub kept_below : CoreView → ℕ → ℕ
 kept_below v clock = cycles_in (map (timed_below clock) v.held.lanes)
 
--- the cycles that were set, and the steps that kept theirs below the first touched clock, are no more than all steps afterwards
+-- the cycles that were set, and the steps with a cycle below the edit's first touched clock, are together at most all steps
+-- afterwards
 pub record HasSetFew (v : CoreView) (e : Edit) (w : CoreView) (set : ℕ) : Type 0 where
   pub clock : ℕ
   pub felt : IsFeltFrom v e clock

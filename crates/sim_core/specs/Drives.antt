@@ -1,4 +1,4 @@
--- What rounds over the modules leave of a core.
+-- What rounds over the modules make of a core.
 use Rattle.std.specs.Prelude.{◌≡◌, ℕ, suc, ◌+◌, ◌<◌, ◌⊎◌, List, [], ◌∷◌, length, slice_index_or, true, false}
 use Rattle.flow_design.specs.StaticRules.{FitsEngine}
 use Rattle.query_log.specs.declared.query.Query.{Query}
@@ -16,7 +16,7 @@ use Rattle.sim_core.specs.declared.visit.Visit.TheVariants.{Acted, Differs, Idle
 use Rattle.sim_core.specs.Views.{CoreView, theory_of}
 use Rattle.sim_core.specs.Turns.{IsStill, IsEarliestOther}
 
--- how many of the actions give a step its cycle
+-- how many of these actions give a step its cycle
 abbrev pub given : List Action → ℕ
 given [] = 0
 given (Run m ∷ rest) = given rest
@@ -24,7 +24,7 @@ given (Assign m ∷ rest) = suc (given rest)
 given (Answer m ∷ rest) = given rest
 given (Earliest m ∷ rest) = given rest
 
--- permitted actions lead from the one to the other, and a counter rose by one for each Assign
+-- permitted actions lead from v to w, and a counter rose by one for each Assign
 pub record Goes (v : CoreView) (before : ℕ) (w : CoreView) (after : ℕ) : Type 0 where
   pub actions : List Action
   pub all : ActsAll (design v.plan) v.plan.cycles (theory_of v) actions (theory_of w)
@@ -32,24 +32,25 @@ pub record Goes (v : CoreView) (before : ℕ) (w : CoreView) (after : ℕ) : Typ
   pub plan : w.plan ≡ v.plan
   pub lent : w.lent ≡ v.lent
 
--- and by them the core has done more
+-- permitted actions lead from v to w, a counter rose by one for each Assign, and w has done more
 pub record GoesOn (v : CoreView) (before : ℕ) (w : CoreView) (after : ℕ) : Type 0 where
   pub goes : Goes v before w after
   pub risen : work (design v.plan) (theory_of v) < work (design v.plan) (theory_of w)
 
--- Assigns and Answers of module m, as far as they are permitted
+-- Assigns and Answers of module m lead from v to w, or none is permitted, or one finds a query with another outcome
 abbrev pub HasTimed : Visit → CoreView → ℕ → ℕ → CoreView → ℕ → Type 0
 HasTimed (Acted again) v before m w after = GoesOn v before w after
 HasTimed (Differs q) v before m w after = (w ≡ v) × (after ≡ before) × IsDifferent (design v.plan) v.plan.cycles v.held m q
 HasTimed Idle v before m w after = (w ≡ v) × (after ≡ before) × IsIdle (design v.plan) v.plan.cycles (theory_of v) m
 
--- and its Runs
+-- a visit at module m leads from v to w, or nothing but an Earliest is permitted there, or an Answer finds a query with another
+-- outcome
 abbrev pub HasVisited : Visit → CoreView → ℕ → ℕ → CoreView → ℕ → Type 0
 HasVisited (Acted again) v before m w after = GoesOn v before w after
 HasVisited (Differs q) v before m w after = (w ≡ v) × (after ≡ before) × IsDifferent (design v.plan) v.plan.cycles v.held m q
 HasVisited Idle v before m w after = (w ≡ v) × (after ≡ before) × IsStill v m
 
--- an Answer or an Earliest is permitted, and this query is found to be another
+-- an Answer or an Earliest is permitted, and finds query q with another outcome
 abbrev pub IsDiffering : CoreView → Query → Type 0
 IsDiffering v q = (m : ℕ) × (IsDifferent (design v.plan) v.plan.cycles v.held m q ⊎ IsEarliestOther v m q)
 
@@ -59,11 +60,11 @@ HasDriven (guard.Differs q) w = IsDiffering w q
 
 -- ---- rounds
 
--- no run is lent
+-- no module's run is lent
 abbrev pub AreOwn : CoreView → Type 0
 AreOwn v = (m : ℕ) → m < length v.plan.design.modules → slice_index_or v.lent m true ≡ false
 
--- what the rounds keep: from `first` to `now`, with so many ticks before and by now
+-- what the rounds keep: how they led from `first` to `now`, with a counter that had `before` ticks and now has `ticks`
 pub record IsGoingRound (first now : CoreView) (before ticks : ℕ) (cursor : CursorView) : Type 0 where
   pub goes : Goes first before now ticks
   pub agreed : IsAgreed (design first.plan) (lockstep_run first.plan) first.plan.cycles (theory_of first)

@@ -1,4 +1,4 @@
--- What an edit of a depth leaves of a core.
+-- What an edit of a depth makes of a core.
 use Rattle.std.specs.Prelude.{◌≡◌, ℕ, ◌+◌, ◌<◌, ◌≤◌, ◌⊎◌, List, Some, length, map}
 use Rattle.flow_design.specs.declared.plan.Edit.{Edit}
 use Rattle.flow_word.specs.declared.access.Place.{Place}
@@ -17,30 +17,30 @@ use Rattle.retime.specs.Rounds.{LeadsAll, HasEnded, only_steps, cycles_in, steps
 use Rattle.cycle_changes.specs.Moved.{moved_in}
 use Rattle.sim_core.specs.Views.{CoreView, theory_of}
 
--- the depth is the one that stands, and nothing changed
+-- the FIFO has the depth already, and nothing changed
 pub record IsAsBefore (old new : CoreView) (e : Edit) (guard : Guard) (before after : ℕ) : Type 0 where
   pub stands : depth_of (channel_at old.held.channels e.channel).kind ≡ e.depth
   pub same : guard ≡ Same
   pub core : new ≡ old
   pub no_tick : after ≡ before
 
--- the cycles below a clock stay, the first touched one or the limit where there is none; from there on cycles were given anew and queries
--- answered, as long as that is permitted or until an outcome is not the recorded one
+-- the cycles below a clock stay, the first touched clock or the limit where there is none; from it on Assigns and Answers were done
+-- as long as one was permitted, or until the outcome that was found for a query was not the recorded one
 pub record IsRetimed (old new : CoreView) (e : Edit) (guard : Guard) (before after : ℕ) : Type 0 where
   pub clock : ℕ
   pub from : IsEditFrom old.held.lanes old.held.channels e old.plan.cycles clock
   pub leads : LeadsAll (design new.plan) new.plan.cycles (after_edit (design old.plan) (theory_of old) clock) new.held
   pub ended : HasEnded guard (design new.plan) new.plan.cycles new.held
-  -- one tick for each cycle that was given, and no more than there are steps beside those whose cycles stay
+  -- there was one tick for each cycle that was given; they are at most the steps whose cycles did not stay
   pub ticked : after + cycles_in (map (timed_below clock) old.held.lanes) ≡ before + cycles_in new.held.lanes
   pub few : after + cycles_in (map (timed_below clock) old.held.lanes) ≤ before + steps_in old.held.lanes
   pub outcomes : (m : ℕ) → m < length old.held.logs → OutcomesGrow (log_at old.held.logs m) (log_at new.held.logs m)
 
--- a step whose cycle is below the clock keeps it
+-- each step with a cycle below the clock keeps it
 abbrev pub StayBelow : ℕ → List Lane → List Lane → Type 0
 StayBelow clock old new = (at : Place) (c : ℕ) → cycle_of old at ≡ Some c → c < clock → cycle_of new at ≡ Some c
 
--- few cycles changed: with those that did, the core is that of the edited plan, and nothing is left to do
+-- few cycles changed: with the new ones the core is a final core of the edited plan
 pub record IsChanged (old new : CoreView) (e : Edit) (guard : Guard) (before after : ℕ) : Type 0 where
   pub clock : ℕ
   pub from : IsEditFrom old.held.lanes old.held.channels e old.plan.cycles clock
@@ -52,16 +52,16 @@ pub record IsChanged (old new : CoreView) (e : Edit) (guard : Guard) (before aft
   pub logs : new.held.logs ≡ old.held.logs
   pub over : new.held.over ≡ old.held.over
   pub stay : StayBelow clock old.held.lanes new.held.lanes
-  -- one tick for each step whose cycle is another, and none beside them
+  -- there was one tick for each step that has another cycle
   pub ticked : after ≡ before + moved_in old.held.lanes new.held.lanes
-  -- no more ticks than there are steps beside those whose cycles were below the first touched clock
+  -- there were at most as many ticks as steps without a cycle below the first touched clock
   pub few : after + cycles_in (map (timed_below clock) old.held.lanes) ≤ before + steps_in old.held.lanes
 
 abbrev pub IsEdited : CoreView → CoreView → Edit → Guard → ℕ → ℕ → Type 0
 IsEdited old new e guard before after =
     IsAsBefore old new e guard before after ⊎ (IsRetimed old new e guard before after ⊎ IsChanged old new e guard before after)
 
--- a query that differs has another outcome in the plan's lockstep run
+-- a query that is found with another outcome than the recorded one has another one in the plan's lockstep run too
 abbrev pub IsTrueGuard : Guard → CoreView → Type 0
 IsTrueGuard Same v = Unit {0}
 IsTrueGuard (Differs q) v = IsOtherInHistory (design v.plan) (lockstep_run v.plan) v.held q

@@ -8,33 +8,33 @@ use Rattle.fifo_table.specs.Channels.{Channel}
 use Rattle.engine_view.specs.Held.{values_at, queries_in}
 use Rattle.run_ahead.specs.declared.mail.Mail.{Mail}
 
--- a loop over outcomes has read those before this one
+-- a loop over outcomes has read those before number `at`
 pub record IsReadingOutcomes (all : List Bool) (first count : ℕ) (read : List Bool) (at : ℕ) : Type 0 where
   pub same : read ++ take (count - at) (drop (first + at) all) ≡ take count (drop first all)
 
--- a loop over the values of a channel has read those before this one
+-- a loop over the values of a channel has read those before number `at`
 pub record IsReadingValues (all : List ℕ) (first : ℕ) (read : List ℕ) (at : ℕ) : Type 0 where
   pub same : read ++ drop at all ≡ drop first all
 
--- the values that a module's next pops of a channel find; none where another module pops it
+-- the values that module m's next pops of channel c give; none where another module pops it
 abbrev pub mailed : List Channel → List ℕ → ℕ → List ℕ → ℕ → List ℕ
 mailed channels readers m popped c = cond (eqb (slice_index readers c) m) (drop (slice_index popped c) (values_at channels c)) []
 
--- those of the first channels
+-- these are the values that module m's next pops of the first n channels give
 pub record AreMailed (channels : List Channel) (readers : List ℕ) (m : ℕ) (popped : List ℕ) (values : List (List ℕ)) (n : ℕ) : Type 0 where
   pub count : length values ≡ n
   pub each : (c : ℕ) → c < n → slice_index_or values c [] ≡ mailed channels readers m popped c
 
--- no channel has a value
+-- none of these lists has a value
 abbrev pub AreEmpty : List (List ℕ) → Type 0
 AreEmpty values = (c : ℕ) → slice_index_or values c [] ≡ []
 
--- each channel that the module pops has its port in the list
+-- the list has the popping port of each channel that module m pops
 abbrev pub HasAllPops : List ℕ → ℕ → List Port → Type 0
 HasAllPops readers m ports = (c : ℕ) → c < length readers → slice_index readers c ≡ m
     → (i : ℕ) × (slice_get ports i ≡ Some (record { side = Pop; channel = c }))
 
--- a loop over ports has read the values at those before this one, and each other channel is still empty
+-- a loop over ports has read the values of those before number `at`, and no value of any other channel
 pub record IsReadingPorts (channels : List Channel) (readers : List ℕ) (m : ℕ) (popped : List ℕ) (ports : List Port)
     (values : List (List ℕ)) (at : ℕ) : Type 0 where
   pub count : length values ≡ length readers
@@ -42,7 +42,7 @@ pub record IsReadingPorts (channels : List Channel) (readers : List ℕ) (m : �
   pub read : (i c : ℕ) → i < at → c < length readers → slice_get ports i ≡ Some (record { side = Pop; channel = c })
       → slice_index_or values c [] ≡ mailed channels readers m popped c
 
--- the mail of a module that made so many queries and pops, and waits for the replies to these accesses
+-- the mail is that of a module that made so many queries and pops, and that waits for the replies to these accesses
 pub record IsMade (outcomes : List Bool) (channels : List Channel) (readers : List ℕ) (m first : ℕ) (popped : List ℕ)
     (accesses : List Access) (mail : Mail) : Type 0 where
   pub told : mail.outcomes ≡ take (queries_in accesses) (drop first outcomes)

@@ -1,4 +1,4 @@
--- How a core begins.
+-- A core at the beginning.
 use Rattle.std.specs.Prelude.{◌≡◌, ℕ, ◌<◌, Bool, true, false, eqb, List, []}
 use Rattle.std.specs.Prelude.{◌∷◌, ◌++◌, flat_map, length, map, slice_index, slice_index_or, Option, None, Some}
 use Rattle.std.specs.Prelude.{is_none}
@@ -20,7 +20,7 @@ use Rattle.module_interp.specs.declared.run.ModuleRun.{ModuleRun}
 use Rattle.module_interp.specs.OwnRests.{first_rest}
 use Rattle.module_interp.specs.Runs.{StandsAt, waits}
 
--- a plan's channel as the table has it: with the inputs of a source, and with the depth of a FIFO that stands
+-- the kind of a plan's channel, in the form that the table needs: with the inputs of a source, or the present depth of a FIFO
 abbrev pub kind_by : ChannelKind → List ℕ → ℕ → TableChannel
 kind_by plan.Source inputs depth = Source inputs
 kind_by plan.Sink inputs depth = Sink
@@ -36,7 +36,7 @@ kind_in p c = kind_by (kind_at p c) (source_values p c) (slice_index p.depths c)
 abbrev pub kinds_of : Plan → List TableChannel
 kinds_of p = map (kind_in p) (range_with_len 0 (length p.design.channels))
 
--- so many runs, each at its module's first rest
+-- there are so many runs, each at its module's first rest
 pub record AreFirstRuns (p : Plan) (runs : List (Option ModuleRun)) (many : ℕ) : Type 0 where
   pub count : length runs ≡ many
   pub some : (m : ℕ) → m < many → is_none (slice_index_or runs m None) ≡ false
@@ -46,25 +46,25 @@ pub record AreFirstRuns (p : Plan) (runs : List (Option ModuleRun)) (many : ℕ)
 abbrev pub AreOlderRuns : Plan → List (Option ModuleRun) → Type 0
 AreOlderRuns p runs = (m : ℕ) (run : ModuleRun) → slice_index_or runs m None ≡ Some run → (o : Own) × StandsAt p m o run
 
--- the runs that are left are where they were, in as many places
+-- the runs that are left are in the places where they were
 pub record AreLeft (runs left : List (Option ModuleRun)) : Type 0 where
   pub count : length left ≡ length runs
   pub each : (m : ℕ) (run : ModuleRun) → slice_index_or left m None ≡ Some run → slice_index_or runs m None ≡ Some run
 
--- a port, or none
+-- the port, if the condition holds, else none
 abbrev pub port_where : Bool → Side → ℕ → List Port
 port_where true side c = record { side = side; channel = c } ∷ []
 port_where false side c = []
 
--- the ports of a channel at which a module stands
+-- the ports that module m has at channel c
 abbrev pub ports_at : Plan → ℕ → ℕ → List Port
 ports_at p m c = port_where (eqb ((design p).owner Pop c) m) Pop c ++ port_where (eqb ((design p).owner Push c) m) Push c
 
--- those of the first so many channels
+-- the ports that module m has at the first so many channels
 abbrev pub ports_to : Plan → ℕ → ℕ → List Port
 ports_to p m channels = flat_map (ports_at p m) (range_with_len 0 channels)
 
--- of each of the first so many modules its own ports
+-- each of the first so many modules has its own ports in the list
 pub record AreOwnPorts (p : Plan) (many : ℕ) (ports : List (List Port)) : Type 0 where
   pub count : length ports ≡ many
   pub each : (m : ℕ) → m < many → slice_index_or ports m [] ≡ ports_to p m (length p.design.channels)

@@ -9,7 +9,7 @@ use Rattle.flow_design.specs.declared.plan.Plan.{Plan}
 use Rattle.flow_design.specs.StaticRules.{uses}
 use Rattle.timing_bridge.specs.Designs.{design}
 
--- the module at this side of each channel; the number of modules where none is
+-- the list has the module at this side of each channel, or the number of modules where there is none
 pub record AreUsers (p : Plan) (side : Side) (users : List ℕ) : Type 0 where
   pub count : length users ≡ length p.design.channels
   pub each : (c : ℕ) → c < length users → slice_index users c ≡ (design p).owner side c
@@ -20,20 +20,20 @@ AreReaders p readers = AreUsers p Pop readers
 abbrev pub port_at : Side → ℕ → Port
 port_at side c = record { side = side; channel = c }
 
--- the module is noted at these channels, where it said `none` before
+-- the module is noted at these channels, wherever the list had `none` before
 pub record AreNoted (none owner : ℕ) (at : ℕ → Bool) (before after : List ℕ) : Type 0 where
   pub count : length after ≡ length before
   pub each : (c : ℕ) → c < length before
       → slice_index after c ≡ cond (nat_eq (slice_index before c) none && at c) owner (slice_index before c)
 
--- a loop has noted some; with those at which it still has to be noted it is noted at all
+-- a loop that notes the module has noted it at some channels; with those that are left it is noted at all
 pub record IsNoting (none owner : ℕ) (left all : ℕ → Bool) (before now : List ℕ) : Type 0 where
   pub count : length now ≡ length before
   pub each : (c : ℕ) → c < length before
       → cond (nat_eq (slice_index now c) none && left c) owner (slice_index now c)
       ≡ cond (nat_eq (slice_index before c) none && all c) owner (slice_index before c)
 
--- with the first of the modules that are left, where none is noted, it is the first of all
+-- a loop over the modules has noted the first user of each channel, as far as it has come
 pub record IsSearching (side : Side) (modules : List Module) (none : ℕ) (now : List ℕ) (i : ℕ) : Type 0 where
   pub each : (c : ℕ) → c < length now
       → cond (nat_eq (slice_index now c) none) (i + position_or_len (uses (port_at side c)) (drop i modules)) (slice_index now c)

@@ -1,4 +1,4 @@
--- What edits leave of the records of outcomes.
+-- What edits make of the records of outcomes.
 use Rattle.std.specs.Prelude.{◌≡◌, ◌≢◌, ℕ, ◌<◌, Bool, List, [], length, map, take, slice_get, slice_index_or, Some}
 use Rattle.flow_design.specs.declared.plan.Edit.{Edit}
 use Rattle.flow_design.specs.declared.plan.Plan.{Plan}
@@ -16,20 +16,20 @@ use Rattle.sim_core.specs.Views.{CoreView, theory_of}
 use Rattle.sim_core.specs.Drives.{Goes}
 use Rattle.sim_core.specs.Edits.{IsEdited}
 
--- what a core always is
+-- what always holds of a core: it agrees with its plan, which the engine takes
 pub record IsSoundCore (v : CoreView) : Type 0 where
   pub fits : FitsEngine v.plan
   pub sound : IsSound (design v.plan) v.held
   pub agreed : IsAgreed (design v.plan) (lockstep_run v.plan) v.plan.cycles (theory_of v)
 
--- the outcomes that a log holds of each module, and those of them that are verified
+-- all outcomes that these logs hold, module by module; and then, those of them that are verified
 abbrev pub recorded_in : List Log → List (List Bool)
 recorded_in logs = map (λ l. l.outcomes) logs
 
 abbrev pub verified_in : List Log → List (List Bool)
 verified_in logs = map (λ l. take l.verified l.outcomes) logs
 
--- an edit of a final core led to another, and from there actions led on
+-- an edit of the final core v, and actions after it, led to w
 pub record IsEditedOn (v : CoreView) (e : Edit) (w : CoreView) : Type 0 where
   pub from : IsSoundCore v
   pub to : IsSoundCore w
@@ -45,7 +45,7 @@ pub record IsEditedOn (v : CoreView) (e : Edit) (w : CoreView) : Type 0 where
   pub edited : IsEdited v middle e guard before now
   pub goes : Goes middle later w after
 
--- the plan's report has another outcome of the query than the one that is recorded under its number
+-- the plan's report has another outcome for the query than the one that is recorded under its number
 pub record HasOtherAnswer (logs : List Log) (p : Plan) (q : Query) : Type 0 where
   pub inside : q.module < length logs
   pub recorded : Bool

@@ -1,4 +1,4 @@
--- Marks that come back to a core.
+-- Marks with which a run comes back to a core.
 use Rattle.std.specs.Prelude.{◌≡◌, ℕ, ◌*◌, ◌<◌, ◌≤◌, Bool, true, false, List, length, slice_index, slice_index_or, Option}
 use Rattle.flow_design.specs.declared.plan.Plan.{Plan}
 use Rattle.flow_design.specs.declared.state.Advance.{Advance}
@@ -19,20 +19,20 @@ use Rattle.run_ahead.specs.Working.{burst_of}
 use Rattle.sim_core.specs.Runs.{HasBodiesWithin, IsRunOf, IsCore, lent_of, over_of, rest_behind}
 use Rattle.sim_core.specs.Tasks.{IsTaskFor, rest_of}
 
--- what is stored, as the theory's core
+-- the theory's core of what is stored
 abbrev pub core_in : Plan → Engine → List (Option Advance) → Core ModuleState
 core_in p s ends = core_of (design p) (held_in s (over_of ends))
 
--- a core whose run of this module is out, with room for so many marks of it
+-- module m's run is out of the core, and there is room for so many of its marks
 pub record HasRoomForMarks (p : Plan) (s : Engine) (ends : List (Option Advance)) (runs : List (Option ModuleRun))
     (m count : ℕ) : Type 0 where
   pub core : IsCore p s ends runs
   pub lent : slice_index_or (lent_of runs) m true ≡ true
   pub places : 2 * count ≤ slice_index s.credits.items m
-  -- a step has no more queries than its body has operations
+  -- a step has at most as many queries as its body has operations
   pub outcomes : HasBodiesWithin (module_at p m) (slice_index s.log.rooms m)
 
--- the mark is the module's next, there is room for it, and a Run is permitted
+-- the mark is module m's next one, a Run of the module is permitted, and there is room for it
 pub record IsNextMark (p : Plan) (s : Engine) (ends : List (Option Advance)) (runs : List (Option ModuleRun)) (m : ℕ)
     (mark : Advance) : Type 0 where
   pub room : HasRoomForMarks p s ends runs m 1
@@ -40,7 +40,7 @@ pub record IsNextMark (p : Plan) (s : Engine) (ends : List (Option Advance)) (ru
   pub is : mark ≡ mark_at p m (rest_behind p (core_in p s ends) m ((core_in p s ends).emitted m))
   pub sound : IsSoundMark (length (rest_behind p (core_in p s ends) m ((core_in p s ends).emitted m)).steps) mark
 
--- the run is out of the core and waits for nothing, and there is room for its next mark
+-- module m's run is out of the core and waits for nothing, and there is room for its next mark
 pub record CanGoOn (p : Plan) (s : Engine) (ends : List (Option Advance)) (runs : List (Option ModuleRun)) (m : ℕ) (run : ModuleRun)
     : Type 0 where
   pub room : HasRoomForMarks p s ends runs m 1
@@ -49,7 +49,7 @@ pub record CanGoOn (p : Plan) (s : Engine) (ends : List (Option Advance)) (runs 
   pub answered : waits run ≡ false
   pub lives : slice_index_or (over_of ends) m false ≡ false
 
--- the marks are those of a burst on a task for the core, which leaves this run with this mail, and there is room for them
+-- the marks are those of a burst on a task for the core; it leaves this run and mail, and there is room for the marks
 pub record AreReturned (p : Plan) (s : Engine) (ends : List (Option Advance)) (runs : List (Option ModuleRun)) (m : ℕ)
     (marks : List Advance) (last : Task) : Type 0 where
   pub room : HasRoomForMarks p s ends runs m (length marks)

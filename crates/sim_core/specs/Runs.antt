@@ -1,4 +1,4 @@
--- Where the modules' runs stand beside the core, and what a core keeps.
+-- Where the modules' runs stand, compared with the core, and what a core keeps.
 use Rattle.std.specs.Prelude.{◌≡◌, ℕ, suc, ◌<◌, ◌≤◌, Bool, true, false, List, Option, None, Some, map, is_none, is_some, slice_index_or, length}
 use Rattle.std.specs.Prelude.{slice_index, All}
 use Rattle.flow_design.specs.StaticRules.{FitsEngine}
@@ -34,27 +34,28 @@ use Rattle.sim_core.specs.declared.wiring.Wiring.{Wiring}
 
 -- ---- runs
 
--- the rest of module m behind its first k steps, on the core's replies
+-- module m's rest after its first k steps, on the core's replies
 abbrev pub rest_behind : Plan → Core ModuleState → ℕ → ℕ → Own
 rest_behind p x m k = rest_at p m (core_replies p x m k) k
 
--- all replies to a module's newest step are there
+-- all replies to module m's newest step are there
 abbrev pub IsAnswered : Plan → Core ModuleState → ℕ → Type 0
 IsAnswered p x m = (k : ℕ) → suc k ≡ x.emitted m → (x.answered m k ≡ true) × (values_there (design p) x m k ≡ true)
 
--- the run waits at the module's newest step, or it has its replies too and goes on to the next rest, which is not emitted or is the end
+-- the run is module m's: it waits at the module's newest step; or the replies to that step are there, and it goes on to the next
+-- rest
 pub record IsRunOf (p : Plan) (x : Core ModuleState) (m : ℕ) (run : ModuleRun) : Type 0 where
   pub waiting : waits run ≡ true → (k : ℕ) × (suc k ≡ x.emitted m) × StandsAt p m (rest_behind p x m k) run
   pub going : waits run ≡ false → IsAnswered p x m × StandsAt p m (rest_behind p x m (x.emitted m)) run
   pub over : x.over m ≡ true → waits run ≡ false
 
--- the module's run is this one, and it is out of the core
+-- module m's run is this one, and it is out of the core
 pub record IsOut (v : CoreView) (m : ℕ) (run : ModuleRun) : Type 0 where
   pub inside : m < length v.plan.design.modules
   pub lent : slice_index_or v.lent m true ≡ true
   pub run_is : IsRunOf v.plan (theory_of v) m run
 
--- the mark of the end behind all steps of the module, which has every reply
+-- the mark is module m's end, after all its emitted steps, to which every reply is there
 pub record IsEndOf (p : Plan) (x : Core ModuleState) (m : ℕ) (mark : Advance) : Type 0 where
   pub no_step : is_step mark ≡ false
   pub short : gap_of mark < gap_bound
@@ -63,15 +64,15 @@ pub record IsEndOf (p : Plan) (x : Core ModuleState) (m : ℕ) (mark : Advance) 
 
 -- ---- a core
 
--- of each module whether its run is lent, and whether its end was emitted
+-- for each module whether its run is lent; and then, whether its end was emitted
 abbrev pub lent_of : List (Option ModuleRun) → List Bool
 lent_of runs = map is_none runs
 
 abbrev pub over_of : List (Option Advance) → List Bool
 over_of ends = map is_some ends
 
--- what is held is a core of the plan that agrees with its lockstep run, there is room, and the runs stand at its newest marks. Nothing is
--- said of an outcome that is not verified
+-- what is held is a core of the plan that agrees with its lockstep run, with room, and each run stands at its module's newest mark;
+-- nothing is said of outcomes that are assumed
 pub record IsCore (p : Plan) (s : Engine) (ends : List (Option Advance)) (runs : List (Option ModuleRun)) : Type 0 where
   pub fits : FitsEngine p
   pub sound : IsSound (design p) (held_in s (over_of ends))
@@ -85,29 +86,30 @@ pub record IsCore (p : Plan) (s : Engine) (ends : List (Option Advance)) (runs :
   pub ends_are : (m : ℕ) (mark : Advance) → slice_index_or ends m None ≡ Some mark
       → IsEndOf p (core_of (design p) (held_in s (over_of ends))) m mark
 
--- what came back unread of each channel are the next ones of its values, behind so many
+-- for each channel the unread values are some of its values, in order
 abbrev pub AreUnreadIn : Plan → Engine → List (Option Advance) → List Unread → Type 0
 AreUnreadIn p s ends unread = AreUnread (core_values (design p) (core_of (design p) (held_in s (over_of ends)))) (length p.design.channels)
     unread
 
--- no body of the module has more operations than so many
+-- no body of the module has more than `most` operations
 abbrev pub HasBodiesWithin : Module → ℕ → Type 0
 HasBodiesWithin m most = All (λ b. length b.ops ≤ most) m.blocks
 
--- for so many modules it is told how long their bodies are at most
+-- for each of so many modules the list has a bound for the operations of its bodies
 pub record AreBodyLengths (p : Plan) (many : ℕ) (lengths : List ℕ) : Type 0 where
   pub count : length lengths ≡ many
   pub each : (m : ℕ) → m < many → HasBodiesWithin (module_at p m) (slice_index lengths m)
 
--- each module has its own ports, it is told who pops each channel, who shares a channel with whom, and how long the bodies are
+-- what is found once for the plan is right: each module's ports, the module that pops each channel, those that share a channel, and
+-- the lengths of bodies
 pub record IsWired (p : Plan) (w : Wiring) : Type 0 where
   pub ports_are : AreOwnPorts p (length p.design.modules) w.ports
   pub readers_are : AreReaders p w.readers.items
   pub beside_are : AreBeside p w.hints
   pub bodies_are : AreBodyLengths p (length p.design.modules) w.bodies
 
--- and it is told who stands where, what came back unread, and who may be given a cycle or an answer, and there is a candidate for each
--- module
+-- the parts of a stored core fit each other: the core, what is found once for the plan, the unread values, the modules for which an
+-- Assign or an Answer may be permitted, and a candidate for each module
 pub record IsStoredCore (p : Plan) (s : Engine) (ends : List (Option Advance)) (runs : List (Option ModuleRun)) (wiring : Wiring)
     (unread : List Unread) (asking : List ℕ) (candidates : List Candidate) : Type 0 where
   pub core : IsCore p s ends runs

@@ -27,30 +27,30 @@ outcomes_in [] flags = []
 outcomes_in (r ∷ rs) [] = []
 outcomes_in (r ∷ rs) (b ∷ bs) = cond (is_blocking r.kind) (outcomes_in rs bs) (outcome_by r.kind b ∷ outcomes_in rs bs)
 
--- the outcomes of a module's step of this number, where there is one
+-- the outcomes of module m's step k; none where there is no such step
 abbrev pub outcomes_at : Plan → Core ModuleState → ℕ → ℕ → List Bool
 outcomes_at p x m k = cond (ltb k (x.emitted m)) (outcomes_in (requests_of p (m, x.state m k)) (x.flags m k)) []
 
--- the values that the module's next pops of a channel find, behind its first n steps
+-- the values that module m's next pops of channel c give, after its first n steps
 abbrev pub values_behind : Plan → Core ModuleState → ℕ → ℕ → ℕ → List ℕ
 values_behind p x m n c = drop (core_tally (design p) x m Pop c n) (core_values (design p) x c)
 
--- so many steps of the module have their replies committed
+-- to how many of module m's steps its run has committed the replies
 abbrev pub committed : Core ModuleState → ℕ → ModuleRun → ℕ
 committed x m run = cond (waits run) (x.emitted m - 1) (x.emitted m)
 
--- a mail that has nothing but what the core has: the outcomes of the step that waits, and of each channel's next values some
+-- the mail has only what the core has: the outcomes of the step that waits, and for each channel some of its next values
 pub record IsMailFor (p : Plan) (x : Core ModuleState) (m n : ℕ) (mail : Mail) : Type 0 where
   pub outcomes : mail.outcomes ≡ outcomes_at p x m n
   pub values : (c : ℕ) → Begins (values_behind p x m n c) (values_on mail c)
 
--- a task of a core: the module may run, the run stands where the core has it, and its mail has nothing but what the core has
+-- the task is one for the core: a Run of module m is permitted, the run is the module's, and the mail has only what the core has
 pub record IsTaskFor (p : Plan) (x : Core ModuleState) (m : ℕ) (task : Task) : Type 0 where
   pub may : MayRun (design p) x m
   pub run : IsRunOf p x m task.run
   pub mail : IsMailFor p x m (committed x m task.run) task.mail
 
--- and the mail has all of it: one list for each channel, with all values of those that the module pops
+-- the task is what the core lends: besides, the mail has all outcomes, and all values of the channels that module m pops
 pub record IsTaskOf (p : Plan) (x : Core ModuleState) (m : ℕ) (task : Task) : Type 0 where
   pub may : MayRun (design p) x m
   pub run : IsRunOf p x m task.run
@@ -60,7 +60,7 @@ pub record IsTaskOf (p : Plan) (x : Core ModuleState) (m : ℕ) (task : Task) : 
       → values_on task.mail c ≡ values_behind p x m (committed x m task.run) c
   pub others : (c : ℕ) → ((design p).owner Pop c ≡ m → ⊥) → values_on task.mail c ≡ []
 
--- a run with what is left of its mail: it stands where the core has it, and the values are the next ones of the core
+-- a run with what is left of its mail: it is module m's, and for each channel the values are some of its next values
 pub record IsTaskLeft (p : Plan) (x : Core ModuleState) (m : ℕ) (task : Task) : Type 0 where
   pub run : IsRunOf p x m task.run
   pub values : (c : ℕ) → Begins (values_behind p x m (committed x m task.run) c) (values_on task.mail c)
@@ -69,7 +69,7 @@ pub record IsTaskLeft (p : Plan) (x : Core ModuleState) (m : ℕ) (task : Task) 
 abbrev pub rest_of : Plan → Core ModuleState → ℕ → Task → Own
 rest_of p x m task = rest_behind p x m (committed x m task.run)
 
--- a burst of a task of this core
+-- the burst is one of a task for this core
 abbrev pub IsBurstOf : CoreView → ℕ → Burst → Type 0
 IsBurstOf v m burst = (task : Task) × (IsTaskFor v.plan (theory_of v) m task
     × IsBurst v.plan m (rest_of v.plan (theory_of v) m task) task burst)

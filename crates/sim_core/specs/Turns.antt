@@ -1,4 +1,4 @@
--- What the actions at a module, and those of all modules, leave of a core.
+-- What the actions at a module, and those over all modules, make of a core.
 use Rattle.std.specs.Prelude.{◌≡◌, ℕ, ◌<◌, Option, None, Some}
 use Rattle.query_log.specs.declared.query.Query.{Query}
 use Rattle.outcome_guard.specs.declared.guard.Guard.{Guard}
@@ -11,8 +11,8 @@ use Rattle.engine_view.specs.Turns.{IsDifferent, IsFoundOther, IsIdle}
 use Rattle.timing_bridge.specs.Designs.{design}
 use Rattle.sim_core.specs.Views.{CoreView, theory_of}
 
--- the module's first step without a cycle was given its cycle, or its queries were answered and it may be given that cycle now, as far
--- as that is permitted
+-- a turn at module m leads from v to w: an Assign; or an Answer, after which an Assign is permitted; or nothing changed, since an
+-- outcome differs or neither is permitted
 abbrev pub HasTurned : Timing → CoreView → ℕ → CoreView → Type 0
 HasTurned (Assigned c) v m w = Acts (design v.plan) v.plan.cycles (theory_of v) (Assign m) (theory_of w)
 HasTurned (Answered c) v m w = Acts (design v.plan) v.plan.cycles (theory_of v) (Answer m) (theory_of w) × (theory_of w ≡ theory_of v → ⊥)
@@ -20,22 +20,22 @@ HasTurned (Answered c) v m w = Acts (design v.plan) v.plan.cycles (theory_of v) 
 HasTurned (Differs q) v m w = (w ≡ v) × IsDifferent (design v.plan) v.plan.cycles v.held m q
 HasTurned Nothing v m w = (w ≡ v) × IsIdle (design v.plan) v.plan.cycles (theory_of v) m
 
--- nothing of the module is permitted, but an Earliest
+-- no Run, Assign or Answer of module m is permitted
 pub record IsStill (v : CoreView) (m : ℕ) : Type 0 where
   pub no_run : MayRun (design v.plan) (theory_of v) m → ⊥
   pub idle : IsIdle (design v.plan) v.plan.cycles (theory_of v) m
 
--- an Earliest is permitted, and this query is found to be another
+-- an Earliest of module m is permitted, and finds query q with another outcome
 pub record IsEarliestOther (v : CoreView) (m : ℕ) (q : Query) : Type 0 where
   pub cycle : ℕ
   pub may : MayEarliest (design v.plan) v.plan.cycles (theory_of v) m cycle
   pub found : IsFoundOther (design v.plan) v.held m cycle q
 
--- none is permitted of a module before it
+-- no Earliest is permitted for a module with a lower number than m
 abbrev pub IsFirstEarliest : CoreView → ℕ → Type 0
 IsFirstEarliest v m = (k : ℕ) → k < m → (c : ℕ) → MayEarliest (design v.plan) v.plan.cycles (theory_of v) k c → ⊥
 
--- the first of the least open steps was answered, where there is one
+-- the Earliest of the first module with the least cycle leads from v to w, or finds another outcome; or v is final
 abbrev pub HasAnsweredLeast : Option (ℕ × Guard) → CoreView → CoreView → Type 0
 HasAnsweredLeast None v w = (w ≡ v) × IsFinal (design v.plan) v.plan.cycles (theory_of v)
 HasAnsweredLeast (Some (m, guard.Same)) v w = Acts (design v.plan) v.plan.cycles (theory_of v) (Earliest m) (theory_of w)

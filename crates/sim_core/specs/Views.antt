@@ -6,12 +6,12 @@ use Rattle.event_timing.specs.Core.{Core}
 use Rattle.engine_view.specs.Held.{Held, core_of}
 use Rattle.timing_bridge.specs.Designs.{design}
 
--- its plan, what it holds, and of each module whether its run is lent
+-- the plan of a core, what it holds, and for each module whether its run is lent
 pub record CoreView : Type 0 where
   pub plan : Plan
   pub held : Held
   pub lent : List Bool
 
--- the theory's core
+-- the core of the theory that a core holds
 abbrev pub theory_of : CoreView → Core ModuleState
 theory_of v = core_of (design v.plan) v.held

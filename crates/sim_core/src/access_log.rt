@@ -23,19 +23,18 @@ use timing_bridge::steps_in_order;
 /// An access that was done, and what it gave.
 #[derive(Clone, Copy, Debug, PartialEq, Eq)]
 pub struct LoggedAccess {
-    /// The access's module, kind and channel, and its clock.
+    /// The module, kind, channel and clock of the access.
     pub event: EventLine,
-    /// The outcome of a query; true of a read or a write.
+    /// The outcome of a query; true for a read or a write.
     pub outcome: bool,
-    /// The value of the element that it took or gave, cut to the channel's width; none where no element moved.
+    /// The value of the element that was popped or pushed, cut to the channel's width. `None` where no element moved.
     pub value: Option<u64>,
 }
 
 impl Core {
     /// What each access of a final core's plan gave, in the order of the report's events.
     ///
-    /// It takes memory for the answer, for one key of each step, which are then sorted, and for the replies to a step. An error leaves
-    /// nothing.
+    /// It takes memory for the answer, for one key for each step, which are sorted, and for the replies to a step.
     pub fn access_log(&self, alloc: Global) -> Result<List<LoggedAccess>, OutOfMemory>
         requires { IsFinal (design self.now.plan) self.now.plan.cycles (theory_of self.now) }
         ensures { IfOk result (λ log. log ≡ log_of self.now.plan) }
@@ -50,10 +49,10 @@ impl Core {
         Ok(log)
     }
 
-    /// Adds what each access of a step with a cycle gave, in order. What was in the list of replies doesn't matter: it is room that a
-    /// caller may use for many steps.
+    /// Adds what each access of a step with a cycle gave, in order. The list of replies is only memory that a caller may use for
+    /// many steps: what it held before does not matter.
     ///
-    /// It takes memory for what it adds, and for the replies to the step. After an error both lists may have some of that.
+    /// It takes memory for what it adds, and for the replies to the step. After `OutOfMemory` both lists may have a part of that.
     pub fn log_step(
         &self,
         key: &TimedStep,
@@ -79,7 +78,7 @@ impl Core {
     }
 }
 
-/// Adds what accesses of a step gave, by their replies.
+/// Adds what the accesses of a step gave, by their replies.
 fn log_accesses(
     key: &TimedStep,
     accesses: &[Access],
@@ -95,7 +94,7 @@ fn log_accesses(
     Ok(())
 }
 
-/// What an access gave, by its reply.
+/// What an access of a step gave, by its reply.
 fn logged(key: &TimedStep, access: &Access, reply: Reply) -> LoggedAccess
     ensures { result ≡ logged (step_with key.now []) (exchange_of access.now reply) }
 {
@@ -111,7 +110,7 @@ fn logged(key: &TimedStep, access: &Access, reply: Reply) -> LoggedAccess
     }
 }
 
-/// The value that an access moved, if it moved one.
+/// The value that an access moved, by its reply. `None` where it moved none.
 fn moved_value(access: &Access, reply: Reply) -> Option<u64>
     ensures { result ≡ slice_get (moved_value (side_of access.now.kind) (exchange_of access.now reply)) 0 }
 {
@@ -124,7 +123,7 @@ fn moved_value(access: &Access, reply: Reply) -> Option<u64>
     }
 }
 
-/// The value in a reply, 0 where it has none.
+/// The value in a reply to an operation that popped one, else 0.
 fn popped_value(reply: Reply) -> u64
     ensures { result ≡ value_in reply }
 {

@@ -14,9 +14,9 @@ use std::alloc::Global;
 use std::marker::Brand;
 use std::sync::ledger::{Blank, Ledger};
 
-/// A final core of this plan, all of whose outcomes are verified.
+/// Simulates a plan on one thread: the answer is a final core of the plan, with all outcomes verified.
 ///
-/// An error leaves nothing, and the plan is gone.
+/// After `OutOfMemory` the plan is lost.
 pub fn run_alone(alloc: Global, plan: Plan) -> Result<Core, OutOfMemory>
     requires { FitsEngine plan }
     ensures plan { IfOk result (λ core. core.plan ≡ plan) }
@@ -27,10 +27,10 @@ pub fn run_alone(alloc: Global, plan: Plan) -> Result<Core, OutOfMemory>
     finish_alone(Core::new(alloc, plan)?)
 }
 
-/// Does all that is left to do in a core of which no run is lent, and all of whose outcomes are verified, as in one in which nothing
-/// is emitted yet.
+/// Does all actions that are left in a core, until it is final. No run is lent, and all its outcomes are verified, as in a core in
+/// which nothing is emitted yet.
 ///
-/// An error leaves nothing.
+/// After `OutOfMemory` the core is lost.
 pub fn finish_alone(mut core: Core) -> Result<Core, OutOfMemory>
     requires own { AreOwn core }
     requires verified { AllVerified (theory_of core) }
@@ -43,7 +43,7 @@ pub fn finish_alone(mut core: Core) -> Result<Core, OutOfMemory>
     Ok(core)
 }
 
-/// Does all that is left to do in a core whose outcomes are all verified.
+/// Does all actions that are left in a core whose outcomes are all verified, until it is final.
 fn finish<L: Ledger>(core: &mut Core, blank: Blank) -> Result<(), OutOfMemory>
     requires name { blank.name ≡ L.name }
     requires parts { blank.parts ≡ L.parts }
@@ -55,7 +55,7 @@ fn finish<L: Ledger>(core: &mut Core, blank: Blank) -> Result<(), OutOfMemory>
     ensures done { OnOk result (IsFinal (design core.new.plan) core.new.plan.cycles (theory_of core.new)) }
     ensures verified { OnOk result (AllVerified (theory_of core.new)) }
 {
-    // The core agrees with its plan.
+    // This brings in what a core always keeps: it agrees with its plan.
     let _count = core.modules();
     let mut steps = Steps::<L>::new(blank);
     core.drive(&mut steps)?;

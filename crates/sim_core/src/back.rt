@@ -1,4 +1,4 @@
-//! The marks of a run that comes back.
+//! Emitting the marks of a run.
 ghost use Rattle.std.specs.Prelude.{◌≡◌, ◌+◌, ◌<◌, ◌≤◌, length, slice_index, slice_get, slice_set, OnErr, OnOk, Some};
 ghost use Rattle.std.specs.Prelude.{List as Items, Option as Maybe};
 ghost use Rattle.flow_design.specs.declared.plan.Plan.{Plan as PlanOf};
@@ -18,7 +18,7 @@ use flow_design::Advance;
 use flow_word::{List, OutOfMemory};
 use module_interp::ModuleRun;
 
-/// Takes the mark of this number out of the list.
+/// Takes the mark with this number out of the list, and leaves another in its place.
 fn take_mark(marks: &mut List<Advance>, at: u64) -> Advance
     requires { at < length marks.old }
     ensures mark { slice_get marks.old at ≡ Some result }
@@ -27,7 +27,7 @@ fn take_mark(marks: &mut List<Advance>, at: u64) -> Advance
     std::mem::replace(&mut marks.as_mut_slice()[at as usize], Advance::Ended(0))
 }
 
-/// Emits a module's next mark. There is room for it.
+/// Emits a module's next mark. There must be room for it.
 #[inline(never)]
 pub(crate) fn record_mark(
     engine: &mut Engine,
@@ -57,7 +57,7 @@ pub(crate) fn record_mark(
     }
 }
 
-/// Emits a module's next mark, which is this step. There is room for it.
+/// Emits a module's next mark, which is a step of one access or two. There must be room for it.
 #[inline(always)]
 pub(crate) fn record_few(engine: &mut Engine, owner: u32, step: &StepView<'_>)
     requires owner { owner < length engine.old.graph.lanes }
@@ -75,9 +75,9 @@ pub(crate) fn record_few(engine: &mut Engine, owner: u32, step: &StepView<'_>)
     engine.emit_few(owner, step);
 }
 
-/// Brings a module's run, which waits for nothing, to its next mark, and emits that. There is room for it.
+/// Brings a module's run, which waits for no replies, to its next mark, and emits the mark. There must be room for it.
 ///
-/// After want of memory the run stands where it stood, and nothing else changed.
+/// After `OutOfMemory` the run stands where it stood, and nothing else has changed.
 #[inline(always)]
 pub(crate) fn emit_mark(
     engine: &mut Engine,
@@ -110,7 +110,7 @@ pub(crate) fn emit_mark(
     Ok(())
 }
 
-/// Emits a module's next marks. There is room for them. What is left of the list doesn't matter.
+/// Emits a module's next marks, in order. There must be room for them. What the list then holds does not matter.
 pub(crate) fn record_all(
     engine: &mut Engine,
     ends: &mut Vec<Option<Advance>>,

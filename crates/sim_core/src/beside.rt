@@ -1,4 +1,4 @@
-//! Which modules may be given a cycle or an answer, and which share a channel with one that was.
+//! Which modules may be given a cycle or an answer, and which modules share a channel.
 ghost use Rattle.std.specs.Prelude.{◌≡◌, ◌≢◌, ◌<◌, ℕ, All, true, length, IfOk};
 ghost use Rattle.flow_design.specs.StaticRules.{FitsEngine};
 ghost use Rattle.flow_word.specs.Kinds.{other_side};
@@ -18,7 +18,7 @@ use flow_word::{List, OutOfMemory, Port, Side};
 use module_sets::{Mask, ModuleSet};
 use std::alloc::Global;
 
-/// The module at the other end of a port's channel; the number of modules where none is.
+/// The module at the other side of a port's channel, or the number of modules where there is none.
 fn across(plan: &Plan, port: Port, readers: &[u32], writers: &[u32]) -> u32
     requires within { port.channel < length plan.now.design.channels }
     requires readers { AreReaders plan.now readers.now }
@@ -32,7 +32,7 @@ fn across(plan: &Plan, port: Port, readers: &[u32], writers: &[u32]) -> u32
     }
 }
 
-/// Adds the modules at the other ends of these ports' channels to a set.
+/// Adds the modules at the other sides of these ports' channels to a set.
 fn add_across(plan: &Plan, ports: &[Port], readers: &[u32], writers: &[u32], set: &mut ModuleSet)
     requires within { All (λ port. port.channel < length plan.now.design.channels) ports.now }
     requires readers { AreReaders plan.now readers.now }
@@ -46,7 +46,7 @@ fn add_across(plan: &Plan, ports: &[Port], readers: &[u32], writers: &[u32], set
     }
 }
 
-/// For each module the masks of the others that use one of its channels.
+/// For each module the masks of the modules at the other sides of its channels.
 pub(crate) fn find_beside(
     alloc: Global,
     plan: &Plan,
@@ -71,8 +71,8 @@ pub(crate) fn find_beside(
     Ok(beside)
 }
 
-/// Which modules may be given a cycle or an answer after this was done of one: itself and those that share a channel with it, beside those
-/// that might before. Where nothing was permitted, all but itself.
+/// Notes which modules may be given a cycle or an answer after a turn at a module. Where the turn did something, that module and
+/// those that share a channel with it are added. Where nothing was permitted, the module is removed.
 #[inline(always)]
 pub(crate) fn ask_after(asking: &mut ModuleSet, beside: &[Mask], owner: u32, timing: &Timing)
     ensures room { length asking.new ≡ length asking.old }

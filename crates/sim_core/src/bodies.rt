@@ -1,4 +1,4 @@
-//! How long the bodies of the modules are.
+//! How many operations the bodies of the modules have.
 ghost use Rattle.std.specs.Prelude.{◌≡◌, ◌<◌, length, slice_index, IfOk};
 ghost use Rattle.sim_core.specs.Runs.{HasBodiesWithin, AreBodyLengths};
 
@@ -6,7 +6,7 @@ use flow_design::{Module, Plan};
 use flow_word::{OutOfMemory, Words};
 use std::alloc::Global;
 
-/// For each module of a plan the most operations of one of its bodies.
+/// For each module of a plan the most operations that one of its bodies has.
 pub(crate) fn find_body_lengths(alloc: Global, plan: &Plan) -> Result<Words, OutOfMemory>
     ensures { IfOk result (λ lengths. AreBodyLengths plan.now (length plan.now.design.modules) lengths) }
 {
@@ -17,7 +17,7 @@ pub(crate) fn find_body_lengths(alloc: Global, plan: &Plan) -> Result<Words, Out
     Ok(lengths)
 }
 
-/// The most operations of a body of the module.
+/// The most operations that a body of the module has.
 fn longest_body(of: &Module) -> u64
     ensures { HasBodiesWithin of.now result }
 {
@@ -28,7 +28,7 @@ fn longest_body(of: &Module) -> u64
     longest
 }
 
-/// The most operations of a body of this module, where it is told for all.
+/// The most operations that a body of module `owner` has, out of the list for all modules.
 pub(crate) fn body_length(lengths: &Words, owner: u32) -> u64
     requires { owner < length lengths.now }
     ensures { result ≡ slice_index lengths.now owner }

@@ -13,9 +13,9 @@ ghost use Rattle.run_ahead.specs.Mails.{IsBurst, task_left};
 ghost use Rattle.sim_core.specs.Tasks.{IsTaskOf, IsTaskFor, IsTaskLeft, rest_of};
 ghost use Rattle.std.specs.Prelude.{List as Items};
 
-/// What is lent of a core is a task for it, and stays one while others act. A burst on a task for a core is as many permitted Runs of the
-/// module, which lead to a core beside which the burst's run stands, with what is left of its mail. On what was lent it has at least one
-/// mark, unless it stopped for want of memory.
+/// What is lent of a core is a task for it, and stays one while other modules act. A burst on a task for a core is as many
+/// permitted Runs of the module as it has marks. They lead to a core at whose newest mark the burst's run stands, with what is left
+/// of its mail. A burst on what was lent has at least one mark, unless memory ran out.
 pub fn bursts_are_runs()
     ensures lent { (p : Plan) (x : Core ModuleState) (m : ℕ) (task : Task) → IsTaskOf p x m task → IsTaskFor p x m task }
     ensures kept { (p : Plan) → FitsEngine p → (x : Core ModuleState) → IsAgreed (design p) (lockstep_run p) p.cycles x

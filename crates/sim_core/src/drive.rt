@@ -1,4 +1,4 @@
-//! All that is left to do.
+//! Doing all that is left to do.
 ghost use Rattle.std.specs.Prelude.{◌≡◌, ℕ, ◌<◌, ◌≤◌, ◌⊎◌, true, false, length, slice_index_or, IfOk, OnErr};
 ghost use Rattle.event_timing.specs.Actions.{MayRun};
 ghost use Rattle.event_timing.specs.Agreement.{AllVerified};
@@ -15,10 +15,12 @@ use outcome_guard::Guard;
 use std::sync::ledger::Ledger;
 
 impl Core {
-    /// Does all that is permitted, until the core is final or the outcome of a query is not as it was assumed. No run is lent.
+    /// Does permitted actions until the core is final, or until the outcome that is found for a query is not the assumed one. No
+    /// run may be lent.
     ///
-    /// It visits the modules of which something may have changed, and goes round all where there is none such. An Earliest comes only
-    /// where a whole round found nothing. After want of memory the actions so far stay, and a Run is permitted, of which it comes.
+    /// It visits the hinted modules, at which something may have changed, and else goes round all modules. An Earliest comes only
+    /// after a whole round that found nothing to do. After `OutOfMemory` the actions that were done stay, and some Run is
+    /// permitted: only a Run takes memory.
     pub fn drive<L: Ledger>(&mut self, steps: &mut Steps<L>) -> Result<Guard, OutOfMemory>
         requires { (m : ℕ) → m < length self.old.plan.design.modules → slice_index_or self.old.lent m true ≡ false }
         ensures goes { Goes self.old steps.old self.new steps.new }
@@ -58,7 +60,7 @@ impl Core {
         self.wiring.hints.hint(owner);
     }
 
-    /// Hints the modules beside one that acted, and that one too, where it is to be visited again at once.
+    /// Hints the modules beside one that acted, and with `again` that module itself.
     fn hint_around(&mut self, owner: u32, again: bool)
         ensures { self.new ≡ self.old }
     {
@@ -68,7 +70,7 @@ impl Core {
         }
     }
 
-    /// Sends a cursor to the next hinted module, where there is one.
+    /// Sends a cursor to the next hinted module, if there is one.
     fn jump(&mut self, cursor: &mut Cursor)
         requires { 0 < cursor.old.count }
         ensures same { self.new ≡ self.old }
@@ -79,7 +81,7 @@ impl Core {
         let _ = cursor.jump(&mut self.wiring.hints);
     }
 
-    /// Sends a cursor on from where nothing was to be done.
+    /// Sends a cursor on from a module at which nothing was to be done.
     fn pass(&mut self, cursor: &mut Cursor)
         requires { cursor.old.idle < cursor.old.count }
         ensures same { self.new ≡ self.old }

@@ -24,11 +24,13 @@ use std::sync::ledger::Ledger;
 impl Core {
     /// Changes the depth of a FIFO in a final core.
     ///
-    /// Where few cycles change, they are given anew, and the core is final again. Else the cycles from the first clock on that
-    /// the change touches are given anew, as long as outcomes are as they were recorded, so that the core agrees with the edited
-    /// plan; `drive` does the rest. Where the outcome of a query is another than the recorded one, that query is told. What came
-    /// back unread is let go. It needs no memory. It ticks once for each step whose cycle is another, where these are few; else
-    /// once for each cycle that it gives. With the ticks of `drive` these are no more than `edits_set_few` says.
+    /// Where few cycles change, these alone are given anew, and the core is final again. Else all cycles from the first touched
+    /// clock on are given anew, as far as that is permitted, so that the core agrees with the edited plan; `drive` does the rest.
+    /// Where the outcome that is found for a query is not the recorded one, the query is told. Values that came back unread are
+    /// dropped. It takes no memory.
+    ///
+    /// It ticks once for each step that gets another cycle, where these are few; else once for each cycle that it gives. The law
+    /// `edits_set_few` bounds these ticks and those of `drive` together.
     pub fn edit<L: Ledger>(&mut self, edit: &Edit, steps: &mut Steps<L>) -> Guard
         requires is_final { IsFinal (design self.old.plan) self.old.plan.cycles (theory_of self.old) }
         requires fits { EditFits self.old.plan edit.now }
@@ -66,7 +68,8 @@ impl Core {
     }
 }
 
-/// Gives the few cycles anew that an edit changes, where it touches a clock and they are few. If not, all is as it was.
+/// Gives new cycles to the steps whose cycles an edit changes, if it touches a clock and they are few. Else nothing changes, and it
+/// is false.
 fn change_few<L: Ledger>(
     engine: &mut Engine,
     changes: &mut Changes,

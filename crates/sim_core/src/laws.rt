@@ -15,9 +15,9 @@ ghost use Rattle.sim_core.specs.OwnMarks.{TellsOwnRun};
 use crate::machine::Core as EngineCore;
 use timing_bridge::{every_order_agrees, every_report, few_actions};
 
-/// Whatever list of permitted actions leads from the opening core to another: that one agrees with the plan's lockstep run; where it
-/// is final, the report that is read off it is the plan's; and the list is not longer than three actions for each operation of each
-/// module, and one for each module.
+/// Permitted actions from the opening core on, in any order, lead to a core that agrees with the plan's lockstep run. Where that
+/// core is final, the report that is read off it is the plan's. Such a list has at most three actions for each operation that each
+/// module may do, and one for each module.
 pub fn every_order()
     ensures agrees { (p : Plan) → FitsEngine p → (actions : List Action) (x : Core ModuleState)
         → ActsAll (design p) p.cycles (opening_core (design p)) actions x → IsAgreed (design p) (lockstep_run p) p.cycles x }
@@ -33,8 +33,8 @@ pub fn every_order()
 }
 
 /// The steps that a core has emitted of a module are the marks of the module's own run on the core's replies, each with its gap in
-/// local clocks, its accesses with their ordinals, and the number of its first query: the replies to the first k steps give k + 1 of
-/// them. Where the module's end was emitted, the own run comes to one mark more behind all of them, which is its end or spent mark.
+/// local clocks, its accesses with their ordinals, and the number of its first query. The replies to the first k steps give k + 1
+/// of these marks. Where the module's end was emitted, the own run has one more mark after all of them: that it ended or is spent.
 pub fn steps_are_own_marks(core: &EngineCore)
     ensures { (i : ℕ) → i < length core.now.plan.design.modules → TellsOwnRun core.now i }
 {

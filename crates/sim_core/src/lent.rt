@@ -1,4 +1,4 @@
-//! Runs that are lent, and come back with their marks.
+//! Lending runs, and taking them back with their marks.
 ghost use Rattle.std.specs.Prelude.{◌≡◌, ◌+◌, ◌^◌, ◌<◌, ◌≤◌, true, false};
 ghost use Rattle.std.specs.Prelude.{length, slice_set, slice_index_or, IsNone, IfOk, IfSome, OnOk, OnErr};
 ghost use Rattle.event_timing.specs.Actions.{ActsAll, MayRun, runs};
@@ -19,11 +19,11 @@ use run_ahead::{Burst, Mail, Task};
 use std::alloc::Global;
 use std::mem;
 
-/// The places at each end that a module is given at once, as for 256 Runs of its own.
+/// How many places a module is given at once at each of its ports: enough for 256 Runs, of which each takes at most two.
 const CREDIT: u64 = 512;
 
-/// For how many places room is made, where so many are there and so many are wanted: for many at once, so that this seldom takes
-/// time.
+/// For how many places room is made, where `there` are there and `wanted` are wanted. Where more are needed, it is for many at
+/// once, so that memory is seldom asked for.
 fn places_for(there: u64, wanted: u64) -> u64
     requires { wanted + 1 < 2 ^ 64 }
     ensures wanted { wanted ≤ result }
@@ -37,11 +37,11 @@ fn places_for(there: u64, wanted: u64) -> u64
 }
 
 impl Core {
-    /// Lends a module's run with its mail, where a Run of the module is permitted and its run is not lent.
+    /// Lends a module's run with its mail, if a Run of the module is permitted and its run is not lent; else `None`.
     ///
-    /// The mail has all that the core can tell the run: the outcomes of the step that waits, and of each channel that the
-    /// module pops the values from its next pop on. Those that came back unread with the run are not copied again. None, and want of
-    /// memory, leave the core as it was. Where the Run is not permitted, no memory is taken.
+    /// The mail has all that the core can tell the run: the outcomes of the step that waits, and for each channel that the module
+    /// pops the values from its next pop on. Values that came back unread with the run are not copied again. `None` and
+    /// `OutOfMemory` leave the core as it was. Where the Run is not permitted, it takes no memory.
     pub fn lend(&mut self, alloc: Global, owner: u32) -> Result<Option<Task>, OutOfMemory>
         requires { owner < length self.old.plan.design.modules }
         ensures task { IfOk result (λ lent. IfSome lent (λ task. IsTaskOf self.old.plan (theory_of self.old) owner task)) }
@@ -68,7 +68,7 @@ impl Core {
         }
     }
 
-    /// The mail of a module's run, which is out of the core.
+    /// The mail for a module's run that is out of the core.
     fn mail_of(&mut self, alloc: Global, owner: u32, run: &ModuleRun) -> Result<Mail, OutOfMemory>
         requires out { IsOut self.old owner run.now }
         ensures unchanged { self.new ≡ self.old }
@@ -96,8 +96,8 @@ impl Core {
         )
     }
 
-    /// Takes a module's run back, with the marks that it gave meanwhile: these are as many Runs of the module, one after the
-    /// other. What is left of its mail is kept for its next one. After want of memory all is as it was, and the run stays lent.
+    /// Takes a module's run back, with the marks that it gave: they are as many Runs of the module, one after the other. What is
+    /// left of its mail is kept for its next mail. After `OutOfMemory` all is as it was, and the run stays lent.
     pub fn take_back(&mut self, owner: u32, burst: Burst) -> Result<(), OutOfMemory>
         requires owner { owner < length self.old.plan.design.modules }
         requires lent { slice_index_or self.old.lent owner true ≡ true }

@@ -1,4 +1,4 @@
-//! The core.
+//! The core of a plan.
 ghost use Rattle.std.specs.Prelude.{◌≡◌, ℕ, ◌<◌, length};
 ghost use Rattle.flow_design.specs.StaticRules.{FitsEngine};
 ghost use Rattle.event_timing.specs.Agreement.{IsAgreed};
@@ -24,38 +24,38 @@ use std::marker::Model;
 
 /// A plan with the marks, cycles and outcomes of its modules so far.
 ///
-/// It always agrees with the plan: each cycle is the clock in which the lockstep machine does the step, and each verified outcome is
-/// the one there. Contracts see the plan, what is held of the modules, and of each module whether its run is lent.
+/// A core always agrees with its plan: each cycle is the clock in which the lockstep machine does the step, and each verified
+/// outcome is the one that the query has there. Contracts see the plan, what is held, and for each module whether its run is lent.
 pub struct Core {
     pub(crate) plan: Plan,
     pub(crate) engine: Engine,
-    /// The end mark of each module whose own run came to its end.
+    /// The end mark of each module whose own run came to its end. `None` for any other module.
     pub(crate) ends: Vec<Option<Advance>>,
-    /// The run of each module; none while it is lent.
+    /// The run of each module. `None` while it is lent.
     pub(crate) runs: Vec<Option<ModuleRun>>,
-    /// Who stands where.
+    /// The ports of each module, and what else is found once for a plan.
     pub(crate) wiring: Wiring,
-    /// For each channel what came back unread with the run that pops it.
+    /// For each channel the values that came back unread with the run that pops it.
     pub(crate) unread: List<Unread>,
-    /// The modules of which an Assign or an Answer may be permitted.
+    /// The modules for which an Assign or an Answer may be permitted.
     pub(crate) asking: ModuleSet,
-    /// Room for a candidate of each module.
+    /// Memory for a candidate of each module.
     pub(crate) candidates: Vec<Candidate>,
     pub(crate) scratch: Scratch,
 }
 
-/// Room that is used again. What is in it doesn't matter.
+/// Memory that is used again and again. What it holds does not matter.
 pub(crate) struct Scratch {
-    /// For the values of a mail: the lists of the last one that came back.
+    /// Memory for the values of a mail: the lists of the last mail that came back.
     pub(crate) values: List<Queue<u64>>,
-    /// For the replies to a step.
+    /// Memory for the replies to a step.
     pub(crate) replies: List<Reply>,
-    /// For the few cycles that an edit changes.
+    /// Memory for the few cycles that an edit changes.
     pub(crate) changes: Changes,
 }
 
 impl Scratch {
-    /// No room yet.
+    /// Empty lists. They take no memory.
     pub(crate) fn new(alloc: Global) -> Scratch {
         Scratch {
             values: List::new(alloc),
@@ -112,7 +112,7 @@ impl Model for Core {
 }
 
 impl Core {
-    /// The core's plan, with the depths that stand.
+    /// The core's plan, with its present depths.
     pub fn plan(&self) -> &Plan
         ensures { result.now ≡ self.now.plan }
     {
@@ -127,7 +127,7 @@ impl Core {
         ports_of(&self.wiring.ports, owner)
     }
 
-    /// For each channel the module that pops it; the number of modules where none does.
+    /// For each channel the module that pops it, or the number of modules where none does.
     pub fn readers(&self) -> &[u32]
         ensures { AreReaders self.now.plan result.now }
     {
@@ -145,7 +145,7 @@ impl Core {
         self.engine.graph.modules()
     }
 
-    /// What the core holds. No module makes so many queries that their numbers run out.
+    /// What the core holds. Each module's number of queries fits 64 bits.
     pub fn engine(&self) -> &Engine
         ensures lanes { result.now.graph.lanes ≡ self.now.held.lanes }
         ensures channels { result.now.fifos.channels ≡ self.now.held.channels }

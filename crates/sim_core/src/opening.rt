@@ -1,4 +1,4 @@
-//! How a core begins.
+//! A core at the beginning.
 ghost use Rattle.std.specs.Prelude.{◌≡◌, ℕ, ◌<◌, true, false, None, map, length, replicate, IfOk, IfSome};
 ghost use Rattle.std.specs.Prelude.{slice_index_or, slice_set};
 ghost use Rattle.flow_design.specs.StaticRules.{FitsEngine};
@@ -27,10 +27,10 @@ use query_log::QueryLog;
 use std::alloc::Global;
 
 impl Core {
-    /// A core of a plan in which nothing is emitted yet. It has the runs of all modules. No outcome is assumed, so that `drive` finds
-    /// none that differs.
+    /// A core of a plan in which nothing is emitted yet, with the runs of all modules. None of its outcomes is assumed, so `drive`
+    /// finds none that differs.
     ///
-    /// An error leaves nothing, and the plan is gone.
+    /// After `OutOfMemory` the plan is lost.
     pub fn new(alloc: Global, plan: Plan) -> Result<Core, OutOfMemory>
         requires { FitsEngine plan }
         ensures plan { IfOk result (λ core. core.plan ≡ plan) }
@@ -42,10 +42,10 @@ impl Core {
         begin(alloc, plan, runs)
     }
 
-    /// A core of the same plan in which nothing is emitted yet. The runs of the modules go over to it, so that their blocks are not
-    /// compiled again; of a module whose run is lent it has a new one. Of the core that is left only the plan counts.
+    /// A core of the same plan in which nothing is emitted yet. It takes over the runs of the modules, whose blocks are not
+    /// compiled again; of a module whose run is lent it has a new run. Of the old core only the plan may be used afterwards.
     ///
-    /// An error leaves the plan.
+    /// After `OutOfMemory` too the old core has its plan.
     pub fn again(&mut self, alloc: Global) -> Result<Core, OutOfMemory>
         ensures kept { self.new.plan ≡ self.old.plan }
         ensures plan { IfOk result (λ core. core.plan ≡ self.old.plan) }
@@ -100,7 +100,7 @@ fn begin(alloc: Global, plan: Plan, runs: Vec<Option<ModuleRun>>) -> Result<Core
     })
 }
 
-/// The runs of all modules, each at its first rest. Older ones go over to them, as far as they are there.
+/// The runs of all modules, each at its first rest. The runs of an older core are used again, as far as they are there.
 fn first_runs(
     alloc: Global,
     plan: &Plan,
@@ -120,7 +120,7 @@ fn first_runs(
     Ok(runs)
 }
 
-/// A module's run at its first rest: an older one of the module's, or else a new one.
+/// A module's run at its first rest: the older run, put back, if there is one, else a new one.
 fn first_run(
     alloc: Global,
     plan: &Plan,
@@ -139,7 +139,7 @@ fn first_run(
     }
 }
 
-/// Takes out the run at a place, if one is there.
+/// Takes the run at a place out of the list. `None` where none is there.
 fn take_run(runs: &mut Vec<Option<ModuleRun>>, at: usize) -> Option<ModuleRun>
     ensures run { result ≡ slice_index_or runs.old.items at None }
     ensures left { runs.new.items ≡ slice_set runs.old.items at None }
@@ -151,7 +151,7 @@ fn take_run(runs: &mut Vec<Option<ModuleRun>>, at: usize) -> Option<ModuleRun>
     }
 }
 
-/// The end marks of so many modules that did not come to their end.
+/// A list without an end mark for each of so many modules.
 fn no_ends(alloc: Global, modules: u32) -> Result<Vec<Option<Advance>>, OutOfMemory>
     ensures { IfOk result (λ ends. ends.items ≡ replicate modules None) }
 {
@@ -162,7 +162,7 @@ fn no_ends(alloc: Global, modules: u32) -> Result<Vec<Option<Advance>>, OutOfMem
     Ok(ends)
 }
 
-/// The candidates of so many modules without a step.
+/// A list with a candidate for each of so many modules that have no step.
 fn no_candidates(alloc: Global, modules: u32) -> Result<Vec<Candidate>, OutOfMemory>
     ensures { IfOk result (λ candidates. length candidates.items ≡ modules) }
 {
@@ -173,7 +173,7 @@ fn no_candidates(alloc: Global, modules: u32) -> Result<Vec<Candidate>, OutOfMem
     Ok(candidates)
 }
 
-/// The plan's channels as the table has them.
+/// The kinds of the plan's channels, in the form that the table needs.
 fn make_kinds(alloc: Global, plan: &Plan) -> Result<List<TableChannel>, OutOfMemory>
     requires fits { FitsEngine plan.now }
     ensures { IfOk result (λ kinds. kinds ≡ kinds_of plan.now) }
@@ -186,7 +186,7 @@ fn make_kinds(alloc: Global, plan: &Plan) -> Result<List<TableChannel>, OutOfMem
     Ok(kinds)
 }
 
-/// The table's channel for a channel of the plan.
+/// The kind of the plan's channel i, in the form that the table needs.
 fn make_kind(alloc: Global, plan: &Plan, i: usize) -> Result<TableChannel, OutOfMemory>
     requires fits { FitsEngine plan.now }
     requires within { i < length plan.now.design.channels }
@@ -207,7 +207,7 @@ fn make_kind(alloc: Global, plan: &Plan, i: usize) -> Result<TableChannel, OutOf
     }
 }
 
-/// Values, each cut to a width.
+/// The values, each cut to a width.
 fn cut_values(alloc: Global, width: Width, values: &[u64]) -> Result<Words, OutOfMemory>
     ensures { IfOk result (λ words. words ≡ map (cut_to width) values.now) }
 {

@@ -1,4 +1,4 @@
-//! The mail of a run: what its next steps find.
+//! The mail of a run: the outcomes and values for its next steps.
 ghost use Rattle.std.specs.Prelude.{◌≡◌, ℕ, ◌+◌, ◌-◌, ◌<◌, [], length, take, drop, false, List as Items};
 ghost use Rattle.std.specs.Prelude.{IfOk, OnOk};
 ghost use Rattle.event_timing.specs.Views.{Begins};
@@ -15,7 +15,7 @@ use query_log::QueryLog;
 use run_ahead::Mail;
 use std::alloc::Global;
 
-/// Reads so many of a module's outcomes, from this one on, as far as they are there.
+/// Reads `count` of a module's outcomes, from number `first` on, as far as they are there.
 pub(crate) fn read_outcomes(
     log: &QueryLog,
     owner: u32,
@@ -39,7 +39,7 @@ pub(crate) fn read_outcomes(
     Ok(())
 }
 
-/// Reads the values of a channel behind so many, of which the first are there.
+/// Adds the values of a channel after its first `first` values. Those that the queue has already are not read again.
 fn read_values(
     fifos: &FifoTable,
     channel: u32,
@@ -63,7 +63,7 @@ fn read_values(
     Err(OutOfMemory)
 }
 
-/// Puts the values of a channel there that a module's next pops find. Those that came back unread are not copied again.
+/// Sets the queue to the values that a module's next pops of a channel give. Values that came back unread are not copied again.
 fn read_channel(
     alloc: Global,
     fifos: &FifoTable,
@@ -81,14 +81,14 @@ fn read_channel(
     read_values(fifos, channel, first, values)
 }
 
-/// Whether one of the lists has a value.
+/// Whether one of these queues has a value.
 fn has_values(values: &[Queue<u64>]) -> bool
     ensures { result ≡ false → AreEmpty values.now }
 {
     values.iter().any(|words| words.len() > 0)
 }
 
-/// Makes a list one of so many channels, of which none has a value.
+/// Makes the list one of so many channels' queues, all empty.
 fn make_places(
     alloc: Global,
     values: &mut List<Queue<u64>>,
@@ -107,7 +107,7 @@ fn make_places(
     Ok(())
 }
 
-/// Reads the values of all channels that a module's next pops find, behind so many of each, into empty places.
+/// Reads the values that a module's next pops of each channel give, after so many pops of each, into empty queues.
 pub(crate) fn read_all(
     alloc: Global,
     fifos: &FifoTable,
@@ -136,19 +136,19 @@ pub(crate) fn read_all(
     Ok(())
 }
 
-/// What a run asks of its mail.
+/// What a run needs in its mail.
 #[derive(Drop)]
 pub(crate) struct Wants<'a> {
-    /// How many queries it made.
+    /// How many queries the run made.
     pub(crate) first: u64,
-    /// How many pops it made of each channel.
+    /// How many elements of each channel the run popped.
     pub(crate) popped: &'a [u64],
-    /// The accesses whose replies it waits for.
+    /// The accesses for whose replies the run waits.
     pub(crate) accesses: &'a [Access],
 }
 
-/// The mail of a module's run: all that it wants, as far as it is there. Its lists of values are those that are given, whatever is in
-/// them.
+/// The mail of a module's run: all that it needs, as far as it is there. Its lists of values are the given ones, whatever they
+/// held.
 pub(crate) fn make_mail(
     alloc: Global,
     engine: &Engine,

@@ -9,7 +9,7 @@ use flow_design::{Module, Op, Plan, Timed};
 use flow_word::{OutOfMemory, Side};
 use std::alloc::Global;
 
-/// Notes a module at a channel, where none is noted.
+/// Notes a module at a channel, unless a module is noted there.
 fn note(channel: u32, none: u32, owner: u32, users: &mut [u32])
     ensures { AreNoted none owner (λ c. nat_eq c channel) users.old users.new }
 {
@@ -19,7 +19,7 @@ fn note(channel: u32, none: u32, owner: u32, users: &mut [u32])
     }
 }
 
-/// Notes a module at the channel that its operation pops, or pushes, where none is noted.
+/// Notes a module at the channel that its operation pops, or pushes, unless a module is noted there.
 fn note_op(op: &Op<u32>, side: Side, none: u32, owner: u32, users: &mut [u32])
     ensures { AreNoted none owner (λ c. is_port (port_at side c) (used_port op.now)) users.old users.new }
 {
@@ -29,7 +29,7 @@ fn note_op(op: &Op<u32>, side: Side, none: u32, owner: u32, users: &mut [u32])
     }
 }
 
-/// Notes a module at the channels that a body of it pops, or pushes, where none is noted.
+/// Notes a module at the channels that one of its bodies pops, or pushes, unless a module is noted there.
 fn note_ops(ops: &[Timed], side: Side, none: u32, owner: u32, users: &mut [u32])
     requires { owner < none }
     ensures { AreNoted none owner (λ c. list_any (λ t. is_port (port_at side c) (used_port t.op)) ops.now) users.old users.new }
@@ -39,7 +39,7 @@ fn note_ops(ops: &[Timed], side: Side, none: u32, owner: u32, users: &mut [u32])
     }
 }
 
-/// Notes a module at the channels that it pops, or pushes, where none is noted.
+/// Notes a module at the channels that it pops, or pushes, unless a module is noted there.
 fn note_module(of: &Module, side: Side, none: u32, owner: u32, users: &mut [u32])
     requires { owner < none }
     ensures { AreNoted none owner (λ c. uses (port_at side c) of.now) users.old users.new }
@@ -49,7 +49,7 @@ fn note_module(of: &Module, side: Side, none: u32, owner: u32, users: &mut [u32]
     }
 }
 
-/// The module that pops, or pushes, each channel of a plan; the number of modules where none does.
+/// The module that pops, or pushes, each channel of a plan, or the number of modules where none does.
 pub(crate) fn find_users(alloc: Global, plan: &Plan, side: Side) -> Result<Vec<u32>, OutOfMemory>
     requires { FitsEngine plan.now }
     ensures { IfOk result (λ users. AreUsers plan.now side users.items) }

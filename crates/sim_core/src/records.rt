@@ -1,4 +1,4 @@
-//! The laws of edits: what they leave of the records of outcomes, and what they cost.
+//! The laws of edits: what they do to the records of outcomes, and what they cost.
 ghost use Rattle.std.specs.Prelude.{◌≡◌, ℕ, ◌+◌, ◌<◌, [], length, take, slice_index_or};
 ghost use Rattle.flow_design.specs.declared.plan.Edit.{Edit};
 ghost use Rattle.lockstep_defs.specs.Report.{report};
@@ -14,11 +14,12 @@ ghost use Rattle.sim_core.specs.Drives.{IsDiffering};
 ghost use Rattle.sim_core.specs.Costs.{HasSetFew};
 ghost use Rattle.sim_core.specs.Records.{IsSoundCore, IsEditedOn, HasOtherAnswer, recorded_in, verified_in};
 
-/// The answers of the report are the verified outcomes of a final core, which are all that it holds where none is assumed; of any other
-/// core the verified outcomes are the first of them. While a core is edited and driven, the outcomes that it holds of a module only
-/// grow, and either none is added or all are verified. Where none is added to any module's, no Run is permitted, so that driving wants
-/// no memory. A query that is found to be another has another answer in the report than the one that was recorded under its number before
-/// the edit.
+/// The answers of the report are the verified outcomes of a final core. Where no outcome is assumed these are all that it holds.
+/// The verified outcomes of any core are the first ones of the report.
+///
+/// While a core is edited and driven, the outcomes that it holds of a module only grow: either none is added, or all are verified.
+/// Where none is added for any module, no Run is permitted, so driving takes no memory. A query whose outcome is found to differ
+/// has another answer in the report than the one that was recorded under its number before the edit.
 pub fn records_are_answers()
     ensures answers { (v : CoreView) → IsSoundCore v → IsFinal (design v.plan) v.plan.cycles (theory_of v)
         → (report v.plan).answers ≡ verified_in v.held.logs }
@@ -34,9 +35,9 @@ pub fn records_are_answers()
         → HasOtherAnswer v.held.logs w.plan q }
 {}
 
-/// An edit and the `drive` behind it set no more cycles than there are steps at or after the first clock that the edit touches, steps
-/// that had no cycle, and new steps: the cycles that they set, and the steps that keep theirs below that clock, are no more than all
-/// steps afterwards.
+/// The cycles that an edit and the `drive` after it set, and the steps that keep their cycles below the first touched clock, are
+/// together at most all steps afterwards. So no more cycles are set than there are steps of three kinds: those with a cycle at that
+/// clock or later, those that had none, and new ones.
 pub fn edits_set_few()
     ensures { (v : CoreView) (e : Edit) (w : CoreView) (on : IsEditedOn v e w) (set : ℕ)
         → on.now + on.after ≡ on.before + on.later + set → HasSetFew v e w set }

@@ -13,7 +13,7 @@ use flow_word::OutOfMemory;
 use std::alloc::Global;
 
 impl Core {
-    /// The verdict of a core that is final: the lockstep machine's. It takes no memory.
+    /// The verdict of a final core: it is the lockstep machine's. It takes no memory.
     pub fn verdict(&self) -> Verdict
         requires { IsFinal (design self.now.plan) self.now.plan.cycles (theory_of self.now) }
         ensures { result ≡ lockstep.verdict self.now.plan }
@@ -21,8 +21,8 @@ impl Core {
         verdict_of(&self.plan, &self.engine, &self.ends)
     }
 
-    /// The end mark of each module of a core that is final; none of a module that waits for good or until the cycle limit. With what
-    /// the engine holds, this is the end of the plan's simulation.
+    /// The end mark of each module of a final core. `None` for a module that waits for good or until the cycle limit. Together with
+    /// what the engine holds these are the end of the plan's simulation.
     pub fn ends(&self) -> &[Option<Advance>]
         requires { IsFinal (design self.now.plan) self.now.plan.cycles (theory_of self.now) }
         ensures { IsFinished self.now.plan self.now.held result.now }
@@ -30,9 +30,9 @@ impl Core {
         self.ends.as_slice()
     }
 
-    /// The report of a core that is final: the lockstep machine's, with its events where they are asked for and else with none.
+    /// The report of a final core: it is the lockstep machine's, with its events if they are asked for, else with none.
     ///
-    /// It takes memory for the report, and for one key of each step where the events are asked for. An error leaves nothing.
+    /// It takes memory for the report and, where events are asked for, for one key for each step.
     pub fn report(&self, alloc: Global, with_events: bool) -> Result<Report, OutOfMemory>
         requires { IsFinal (design self.now.plan) self.now.plan.cycles (theory_of self.now) }
         ensures { IfOk result (λ report. report ≡ report_with with_events self.now.plan) }
@@ -40,9 +40,10 @@ impl Core {
         report_of(alloc, &self.plan, &self.engine, &self.ends, with_events)
     }
 
-    /// The same of a core that is final. None where an action is permitted.
+    /// The report of a core that is final, with its events if they are asked for, else with none. `None` where an action is
+    /// permitted.
     ///
-    /// It takes memory for the report, and for one key of each step where the events are asked for. An error leaves nothing.
+    /// It takes memory for the report and, where events are asked for, for one key for each step.
     pub fn final_report(
         &self,
         alloc: Global,

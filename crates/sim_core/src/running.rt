@@ -1,4 +1,4 @@
-//! The runs of the modules, ahead of time.
+//! Runs of the modules.
 ghost use Rattle.std.specs.Prelude.{◌≡◌, ◌<◌, true, false, length, slice_index_or, slice_set, IfOk, IfSome, IsNone, OnOk, OnErr};
 ghost use Rattle.event_timing.specs.Actions.{Acts, MayRun};
 ghost use Rattle.event_timing.specs.Actions.Action.{Run};
@@ -17,9 +17,9 @@ use module_interp::ModuleRun;
 use run_ahead::{find_replies, first_missing};
 
 impl Core {
-    /// Commits the replies to a module's newest step, and emits its next mark, where that is permitted. The module's run is
-    /// not lent. Whether it was permitted; where it was not, and after want of memory, nothing changed. Memory is wanted only where
-    /// it is permitted.
+    /// Does a module's Run, if it is permitted: commits the replies to the module's newest step, and emits its next mark. The
+    /// module's run must not be lent. Whether the Run was permitted. Where it was not, and after `OutOfMemory`, nothing has
+    /// changed. It takes memory only where the Run is permitted.
     pub fn run(&mut self, owner: u32) -> Result<bool, OutOfMemory>
         requires owner { owner < length self.old.plan.design.modules }
         requires here { slice_index_or self.old.lent owner true ≡ false }
@@ -40,7 +40,7 @@ impl Core {
         ran
     }
 
-    /// Takes a module's run out of the core, where it is not lent. Then it counts as lent.
+    /// Takes a module's run out of the core. `None` where it is lent. Then the run counts as lent.
     #[inline(always)]
     pub(crate) fn take_out(&mut self, owner: u32) -> Option<ModuleRun>
         requires { owner < length self.old.plan.design.modules }
@@ -53,7 +53,7 @@ impl Core {
         self.runs[owner as usize].take()
     }
 
-    /// Puts a module's run back, which stands where the module's marks say.
+    /// Puts a module's run back. It must stand where the module's marks say.
     #[inline(always)]
     pub(crate) fn put_back(&mut self, owner: u32, run: ModuleRun)
         requires { IsOut self.old owner run }
@@ -62,7 +62,7 @@ impl Core {
         self.runs[owner as usize] = Some(run);
     }
 
-    /// Runs a module by its own run, which is out of the core.
+    /// Does a module's Run, if it is permitted, with its run, which is out of the core. Whether it was permitted.
     #[inline(always)]
     pub(crate) fn run_with(&mut self, owner: u32, run: &mut ModuleRun) -> Result<bool, OutOfMemory>
         requires out { IsOut self.old owner run.old }
@@ -78,13 +78,14 @@ impl Core {
     {
         match self.try_with(owner, run) {
             Ok(ran) => Ok(ran),
-            // The list of replies wanted memory, though not all of them are there.
+            // Memory ran out for the list of replies, though not all replies are there.
             Err(OutOfMemory) if !self.may_run(owner) => Ok(false),
             Err(OutOfMemory) => Err(OutOfMemory),
         }
     }
 
-    /// Runs a module by its own run; memory may be wanted even where no Run is permitted.
+    /// Does a module's Run, if it is permitted, with its run, which is out of the core. Memory may run out even where it is not
+    /// permitted.
     #[inline(always)]
     fn try_with(&mut self, owner: u32, run: &mut ModuleRun) -> Result<bool, OutOfMemory>
         requires out { IsOut self.old owner run.old }
@@ -107,7 +108,7 @@ impl Core {
         Ok(true)
     }
 
-    /// Whether a Run of a module is permitted, whether its run is lent or not. It takes no memory.
+    /// Whether a Run of a module is permitted. Its run may be lent or not. It takes no memory.
     pub fn may_run(&self, owner: u32) -> bool
         requires { owner < length self.now.plan.design.modules }
         ensures some { result ≡ true → MayRun (design self.now.plan) (theory_of self.now) owner }
@@ -146,8 +147,8 @@ impl Core {
         self.ends[owner as usize].is_some()
     }
 
-    /// Feeds a module's run, where it waits, with the replies to the module's newest step, where all are there. Whether it
-    /// waits no more.
+    /// Gives a module's run, if it waits, the replies to the module's newest step, if all of them are there. Whether the run does
+    /// not wait then.
     #[inline(always)]
     fn feed(&mut self, owner: u32, run: &mut ModuleRun) -> Result<bool, OutOfMemory>
         requires out { IsOut self.old owner run.old }
@@ -173,7 +174,7 @@ impl Core {
         Ok(true)
     }
 
-    /// Brings a module's run, which doesn't wait and is out of the core, to its next mark, and emits that.
+    /// Brings a module's run to its next mark, and emits the mark. The run does not wait, and is out of the core.
     #[inline(always)]
     fn emit_next(&mut self, owner: u32, run: &mut ModuleRun) -> Result<(), OutOfMemory>
         requires out { IsOut self.old owner run.old }
@@ -187,7 +188,7 @@ impl Core {
         ensures lent { self.new.lent ≡ self.old.lent }
     {
         self.asking.add(owner);
-        // Each operation of a body makes one query of a step at most.
+        // Each operation of a body makes at most one query in a step.
         self.engine.make_room(
             owner,
             ports_of(&self.wiring.ports, owner),

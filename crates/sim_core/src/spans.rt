@@ -14,9 +14,10 @@ use stall_spans::Span;
 use std::alloc::Global;
 
 impl Core {
-    /// The spans of a module of a core that is final, where this is the clock of the plan's verdict: the lockstep machine's, in order.
+    /// The spans of a module of a final core, in order, where `clock` is that of the plan's verdict. They are the lockstep
+    /// machine's.
     ///
-    /// It looks at each of the module's steps and accesses once, and takes memory for the spans. An error leaves nothing.
+    /// It looks once at each of the module's steps and accesses, and takes memory for the spans.
     pub fn spans(&self, alloc: Global, owner: u32, clock: u64) -> Result<List<Span>, OutOfMemory>
         requires is_final { IsFinal (design self.now.plan) self.now.plan.cycles (theory_of self.now) }
         requires owner { owner < length self.now.plan.design.modules }

@@ -1,4 +1,4 @@
-//! The turn of a thread that gives steps their cycles, and the test for the end.
+//! The turn in which a thread gives steps cycles, and the test whether a core is final.
 ghost use Rattle.std.specs.Prelude.{◌≡◌, ℕ, ◌<◌, true, false, length, Some};
 ghost use Rattle.event_timing.specs.Actions.{IsDetermined, IsFinal, MayEarliest, MayRun};
 ghost use Rattle.event_timing.specs.Agreement.{AllVerified};
@@ -18,8 +18,8 @@ use std::sync::ledger::Ledger;
 use time_engine::candidate;
 
 impl Core {
-    /// Does each permitted Assign and Answer, modules in order and round after round, and tells how many: at one module all that it can,
-    /// then at the next one that has any. All outcomes are verified. It takes no memory.
+    /// Does each permitted Assign and Answer, and answers how many they were. It goes over the modules in order, round after round,
+    /// and does at each all that it can. All outcomes must be verified. It takes no memory.
     pub fn time_all<L: Ledger>(&mut self, steps: &mut Steps<L>) -> u64
         requires { AllVerified (theory_of self.old) }
         ensures rounds { timings (design self.old.plan) self.old.plan.cycles result 0 (theory_of self.old) ≡ Some (theory_of self.new) }
@@ -40,7 +40,7 @@ impl Core {
         done
     }
 
-    /// One Assign or Answer of a module, where one is permitted. Whether one was done.
+    /// Does one Assign or Answer of a module, if one is permitted. Whether one was done.
     fn time_one<L: Ledger>(&mut self, owner: u32, steps: &mut Steps<L>) -> bool
         requires owner { owner < length self.old.plan.design.modules }
         requires verified { AllVerified (theory_of self.old) }
@@ -48,7 +48,7 @@ impl Core {
         ensures none { result ≡ false → IsUntimable self.old owner }
         ensures unchanged { result ≡ false → (self.new ≡ self.old) × (steps.new ≡ steps.old) }
     {
-        // The core agrees with its plan.
+        // This brings in what a core always keeps: it agrees with its plan.
         let _count = self.modules();
         if !self.asking.has(owner) {
             return false;
@@ -59,8 +59,8 @@ impl Core {
         }
     }
 
-    /// Where no Run is permitted either and some step is open, answers that of the first module with the least cycle. Whether one was
-    /// answered. No Assign and no Answer is permitted, and all outcomes are verified. It takes no memory.
+    /// Does the Earliest of the first module with the least cycle, if one is permitted: no Run is permitted, and a step is open.
+    /// Whether one was done. No Assign and no Answer may be permitted, and all outcomes must be verified. It takes no memory.
     pub fn answer_earliest(&mut self) -> bool
         requires verified { AllVerified (theory_of self.old) }
         requires none_left { NoTiming (design self.old.plan) self.old.plan.cycles (theory_of self.old) }
@@ -72,7 +72,7 @@ impl Core {
         ensures lent { self.new.lent ≡ self.old.lent }
         ensures verified { AllVerified (theory_of self.new) }
     {
-        // The core agrees with its plan.
+        // This brings in what a core always keeps: it agrees with its plan.
         let _count = self.modules();
         if self.any_may_run() {
             return false;
@@ -83,7 +83,8 @@ impl Core {
         }
     }
 
-    /// Whether no action is permitted. It takes no memory, and stops at the first module that has something to do.
+    /// Whether the core is final: no action is permitted. It takes no memory, and stops at the first module that has something to
+    /// do.
     pub fn is_final(&self) -> bool
         ensures holds { result ≡ true → IsFinal (design self.now.plan) self.now.plan.cycles (theory_of self.now) }
         ensures fails { result ≡ false → IsFinal (design self.now.plan) self.now.plan.cycles (theory_of self.now) → ⊥ }
@@ -96,8 +97,8 @@ impl Core {
         true
     }
 
-    /// Whether a Run of a module is permitted, or its first step without a cycle is determined, below the limit. Then it may be
-    /// assigned, or its queries answered.
+    /// Whether a Run of a module is permitted, or its first step without a cycle is determined, below the limit: it can then be
+    /// given its cycle, or its queries answered.
     fn has_more(&self, owner: u32) -> bool
         requires { owner < length self.now.plan.design.modules }
         ensures some { result ≡ true → HasMore self.now owner }
@@ -106,7 +107,7 @@ impl Core {
         self.may_run(owner) || self.has_cycle(owner)
     }
 
-    /// Whether the cycle of a module's first step without one is determined, below the limit.
+    /// Whether a module's first step without a cycle is determined, below the limit.
     fn has_cycle(&self, owner: u32) -> bool
         requires { owner < length self.now.plan.design.modules }
         ensures some { result ≡ true

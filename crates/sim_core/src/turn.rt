@@ -1,4 +1,4 @@
-//! The cycles of the modules' steps, and the answers to their queries.
+//! The actions that give steps cycles and queries answers.
 ghost use Rattle.std.specs.Prelude.{◌≡◌, ◌+◌, ◌<◌, ◌≤◌, length, IfSome, Some};
 ghost use Rattle.event_graph.specs.Lanes.{cycle_bound};
 ghost use Rattle.time_engine.specs.Conditions.{HasAccesses, HasPlaces};
@@ -21,8 +21,8 @@ use std::sync::ledger::Ledger;
 use time_engine::candidate;
 
 impl Core {
-    /// Gives a module's first step without a cycle its cycle, or answers its queries, where that is permitted. It takes no
-    /// memory.
+    /// Does a module's Assign or Answer, if one is permitted: gives its first step without a cycle a cycle, or answers the step's
+    /// queries. It takes no memory.
     pub fn time<L: Ledger>(&mut self, owner: u32, steps: &mut Steps<L>) -> Timing
         requires owner { owner < length self.old.plan.design.modules }
         ensures done { HasTurned result self.old owner self.new }
@@ -37,7 +37,7 @@ impl Core {
         timing
     }
 
-    /// Gives a module's first step without a cycle this one, which it may be given. It takes no memory.
+    /// Does a module's Assign, which must be permitted, with this cycle. It takes no memory.
     #[inline(never)]
     pub(crate) fn assign<L: Ledger>(&mut self, owner: u32, cycle: u64, steps: &mut Steps<L>)
         requires owner { owner < length self.old.plan.design.modules }
@@ -52,8 +52,8 @@ impl Core {
         ask_after(&mut self.asking, beside, owner, &Timing::Assigned(cycle));
     }
 
-    /// Where no Run, Assign or Answer of any module is permitted, answers the first of the least open steps, and gives its
-    /// module. None where there is none, so that the core is final. It takes no memory.
+    /// Does the Earliest of the first module with the least cycle, and answers that module and what was found. `None` where no step
+    /// is open: the core is then final. No Run, Assign or Answer may be permitted. It takes no memory.
     pub(crate) fn answer_least(&mut self) -> Option<(u32, Guard)>
         requires { IsQuiet (design self.old.plan) self.old.plan.cycles (theory_of self.old) }
         ensures done { HasAnsweredLeast result self.old self.new }
@@ -74,8 +74,7 @@ impl Core {
         }
     }
 
-    /// Answers the queries of a module's first step without a cycle in this clock, where an Earliest is permitted. It takes no
-    /// memory.
+    /// Does a module's Earliest, which must be permitted, in this clock. It takes no memory.
     pub fn answer_open(&mut self, owner: u32, cycle: u64) -> Guard
         requires { MayEarliest (design self.old.plan) self.old.plan.cycles (theory_of self.old) owner cycle }
         ensures done { HasAnsweredLeast (Some (owner, result)) self.old self.new }
@@ -89,7 +88,7 @@ impl Core {
     }
 }
 
-/// Writes what is known of the cycle of each module's first step without one into the list.
+/// Fills the list with what is known of the cycle of each module's first step without a cycle.
 fn list_candidates(graph: &Graph, fifos: &FifoTable, limit: u64, candidates: &mut Vec<Candidate>)
     requires accesses { HasAccesses graph.now.lanes fifos.now.channels }
     requires places { HasPlaces graph.now.lanes fifos.now.channels }

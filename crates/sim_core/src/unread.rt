@@ -1,4 +1,4 @@
-//! Values that were copied for the mail of a run, and came back unread.
+//! Values that were copied for a run's mail and came back unread.
 ghost use Rattle.std.specs.Prelude.{◌≡◌, ◌≢◌, ℕ, ◌<◌, [], length, drop, slice_index, slice_index_or, slice_set, true, false, IfOk};
 ghost use Rattle.std.specs.Prelude.{List as Items};
 ghost use Rattle.flow_word.specs.declared.access.Side.TheVariants.{Pop};
@@ -9,8 +9,8 @@ use flow_word::{List, OutOfMemory, Port, Queue, Side};
 use std::alloc::Global;
 use std::mem;
 
-/// Values of a channel that came back unread with the run that pops it: the next ones behind so many. They go into its next mail, so
-/// that each value is copied once.
+/// Values of a channel that came back unread with the run that pops it: they come next after its first `behind` values. They go
+/// into the run's next mail, so each value is copied once.
 pub(crate) struct Unread {
     pub(crate) behind: u64,
     pub(crate) values: Queue<u64>,
@@ -36,7 +36,7 @@ pub(crate) struct Inlets<'a> {
 }
 
 impl Unread {
-    /// The values, where they are the next ones behind so many, or else none.
+    /// The values, if they are those that come next after the channel's first `behind` values; else none.
     fn values_behind(self, alloc: Global, behind: u64) -> Queue<u64>
         ensures { (all : Items ℕ) → IsUnread all self → Begins (drop behind all) result }
     {
@@ -52,7 +52,7 @@ impl Unread {
     }
 }
 
-/// No value.
+/// An entry without a value.
 fn no_values(alloc: Global) -> Unread
     ensures { result ≡ none_unread }
 {
@@ -62,7 +62,7 @@ fn no_values(alloc: Global) -> Unread
     }
 }
 
-/// No value of each of so many channels.
+/// An entry without a value for each of so many channels.
 pub(crate) fn nothing_unread(alloc: Global, channels: u64) -> Result<List<Unread>, OutOfMemory>
     ensures { IfOk result (λ unread. (all : ℕ → Items ℕ) (n : ℕ) → AreUnread all n unread) }
 {
@@ -73,7 +73,7 @@ pub(crate) fn nothing_unread(alloc: Global, channels: u64) -> Result<List<Unread
     Ok(unread)
 }
 
-/// Takes what is unread of a channel, and leaves none.
+/// Takes the unread values of a channel, and leaves none.
 fn take_out(alloc: Global, unread: &mut List<Unread>, at: usize) -> Unread
     requires { at < length unread.old }
     ensures out { result ≡ unread_at unread.old at }
@@ -82,7 +82,8 @@ fn take_out(alloc: Global, unread: &mut List<Unread>, at: usize) -> Unread
     mem::replace(&mut unread.as_mut_slice()[at], no_values(alloc))
 }
 
-/// The values of a channel that came back unread, where they are the next ones behind so many, or else none. None are left.
+/// Takes the unread values of a channel, if they are those that come next after its first `behind` values; else none. None are
+/// left.
 pub(crate) fn take_unread(
     alloc: Global,
     unread: &mut List<Unread>,
@@ -108,7 +109,7 @@ fn take_values(alloc: Global, values: &mut List<Queue<u64>>, at: usize) -> Queue
     mem::replace(&mut values.as_mut_slice()[at], Queue::new(alloc))
 }
 
-/// Puts values of a channel there, over those that are there.
+/// Sets the unread values of a channel, in place of those that it had.
 fn put(unread: &mut List<Unread>, at: usize, behind: u64, values: Queue<u64>)
     ensures { unread.new ≡ slice_set unread.old at (record { behind = behind; values = values }) }
 {
@@ -117,7 +118,7 @@ fn put(unread: &mut List<Unread>, at: usize, behind: u64, values: Queue<u64>)
     }
 }
 
-/// Keeps what a run has left of its mail: of each channel that its module pops the values behind those that it popped.
+/// Keeps what a run has left of its mail: for each channel that its module pops the values after those that it popped.
 pub(crate) fn keep_unread(
     alloc: Global,
     unread: &mut List<Unread>,
@@ -139,7 +140,7 @@ pub(crate) fn keep_unread(
     }
 }
 
-/// Whether the module pops the channel at this port.
+/// Whether the module pops this port's channel.
 pub(crate) fn pops(port: &Port, readers: &[u32], owner: u32) -> bool
     ensures inside { result ≡ true → port.now.channel < length readers.now }
     ensures mine { result ≡ true → slice_index readers.now port.now.channel ≡ owner }

@@ -1,4 +1,4 @@
-//! What is done at one module, before another's turn.
+//! What is done at one module before the next module's turn.
 ghost use Rattle.std.specs.Prelude.{◌≡◌, ℕ, ◌<◌, true, false, length, slice_index_or, IfOk, IfSome, IsNone, OnErr};
 ghost use Rattle.event_timing.specs.Actions.{MayRun};
 ghost use Rattle.timing_bridge.specs.Designs.{design};
@@ -14,22 +14,24 @@ use module_interp::ModuleRun;
 use outcome_guard::Query;
 use std::sync::ledger::Ledger;
 
-/// How many turns a stretch of Runs, or of other actions, has at most: so few that a module's steps are near when they get their cycles.
+/// The most actions of a stretch of Runs, or of other actions: so few that a module's steps were made shortly before they get their
+/// cycles.
 const STRETCH: u32 = 64;
 
-/// What was done at a module.
+/// What a visit did at a module.
 #[derive(Clone, Copy, Debug, PartialEq, Eq)]
 pub(crate) enum Visit {
-    /// Something, by which something may have changed of the modules beside it. Whether the module itself is to be visited again at once.
+    /// Some actions, after which other actions may be permitted for the modules beside it. `again` tells whether to visit the
+    /// module again at once.
     Acted { again: bool },
-    /// The outcome of this query is not as it was assumed. Nothing changed.
+    /// The outcome that is found for this query is not the assumed one. Nothing changed.
     Differs(Query),
-    /// None is permitted, but perhaps an Earliest. Nothing changed.
+    /// Nothing: no Run, Assign or Answer of the module is permitted. Nothing changed.
     Idle,
 }
 
 impl Core {
-    /// What is permitted at a module, but an Earliest, up to some bound: its Runs first.
+    /// Does permitted actions of a module, up to some number: Runs first, then Assigns and Answers, and no Earliest.
     pub(crate) fn visit<L: Ledger>(
         &mut self,
         owner: u32,
@@ -52,8 +54,8 @@ impl Core {
         }
     }
 
-    /// Runs of a module, as long as they are permitted, with the Assigns and Answers by which its queries get their outcomes. None where
-    /// no Run was; else whether the module is to be visited again at once.
+    /// Does Runs of a module as long as they are permitted, and the Assigns and Answers by which its queries get their outcomes.
+    /// `None` where no Run was permitted; else whether to visit the module again at once.
     fn run_on<L: Ledger>(
         &mut self,
         owner: u32,
@@ -78,7 +80,8 @@ impl Core {
         ran
     }
 
-    /// Runs a stretch of a module by its own run, which is out of the core.
+    /// Does a stretch of Runs of a module with its run, which is out of the core, and the Assigns and Answers by which its queries
+    /// get their outcomes. `None` where no Run was permitted; else whether to visit the module again at once.
     fn run_stretch<L: Ledger>(
         &mut self,
         owner: u32,
@@ -109,8 +112,8 @@ impl Core {
         Ok(Some(true))
     }
 
-    /// Another Run, or, where the module's newest step waits for an outcome, the Assigns and Answers by which it may get it. None where
-    /// none was permitted.
+    /// Does another Run, or, where the module's newest step waits for an outcome, the Assigns and Answers by which it may get it.
+    /// `None` where none was permitted; else whether to visit the module again at once.
     #[inline(always)]
     fn go_on<L: Ledger>(
         &mut self,
@@ -135,7 +138,7 @@ impl Core {
         }
     }
 
-    /// Whether a module's newest step ends with a query, and no outcome of it is there.
+    /// Whether a module's newest step ends with a query whose outcome is not there.
     #[inline(always)]
     fn has_asked(&self, owner: u32, run: &ModuleRun) -> bool
         requires { owner < length self.now.plan.design.modules }
@@ -147,7 +150,7 @@ impl Core {
                 .is_some_and(|access| !access.kind.is_blocking())
     }
 
-    /// Does one Run of a stretch, where it is permitted. Whether it was.
+    /// Does one Run of a stretch, if it is permitted. Whether it was.
     fn run_once(&mut self, owner: u32, run: &mut ModuleRun) -> Result<bool, OutOfMemory>
         requires out { IsOut self.old owner run.old }
         ensures some { IfOk result (λ ran. ran ≡ true → (n : ℕ) → GoesOn self.old n self.new n) }
@@ -159,12 +162,13 @@ impl Core {
         ensures plan { self.new.plan ≡ self.old.plan }
         ensures lent { self.new.lent ≡ self.old.lent }
     {
-        // The core agrees with its plan.
+        // This brings in what a core always keeps: it agrees with its plan.
         let _count = self.modules();
         self.run_with(owner, run)
     }
 
-    /// Assigns and Answers of a module, as long as they are permitted. A run of it that is out of the core stands where it stood.
+    /// Does Assigns and Answers of a module as long as they are permitted, up to some number. If the module's run is out of the
+    /// core, it still stands where the core's marks say.
     fn time_on<L: Ledger>(&mut self, owner: u32, steps: &mut Steps<L>) -> Visit
         requires { owner < length self.old.plan.design.modules }
         ensures timed { HasTimed result self.old steps.old owner self.new steps.new }
@@ -186,7 +190,7 @@ impl Core {
         Visit::Acted { again: true }
     }
 
-    /// Whether each step of a module has its cycle.
+    /// Whether each step of a module has a cycle.
     #[inline(always)]
     fn is_timed(&self, owner: u32) -> bool
         requires { owner < length self.now.plan.design.modules }
@@ -194,14 +198,14 @@ impl Core {
         self.engine.graph.frontier(owner) == self.engine.graph.len(owner)
     }
 
-    /// Does one action other than a Run; after an Answer it does the Assign of the same step too.
+    /// Does one Assign or Answer of a module, if one is permitted. After an Answer it does the Assign of the same step too.
     #[inline(always)]
     fn time_once<L: Ledger>(&mut self, owner: u32, steps: &mut Steps<L>) -> Visit
         requires { owner < length self.old.plan.design.modules }
         ensures timed { HasTimed result self.old steps.old owner self.new steps.new }
         ensures out { (run : RunOf) → IsOut self.old owner run → IsOut self.new owner run }
     {
-        // The core agrees with its plan.
+        // This brings in what a core always keeps: it agrees with its plan.
         let _count = self.modules();
         if !self.asking.has(owner) {
             return Visit::Idle;

@@ -1,4 +1,4 @@
-//! Who stands at which channel, found once for a plan.
+//! What is found once for a plan: the modules at each channel, and the channels of each module.
 ghost use Rattle.std.specs.Prelude.{◌≡◌, ◌++◌, ◌<◌, ℕ, eqb, [], length, replicate, slice_index_or, IfOk, OnOk};
 ghost use Rattle.flow_word.specs.declared.access.Side.TheVariants.{Push};
 ghost use Rattle.flow_design.specs.StaticRules.{FitsEngine};
@@ -15,15 +15,15 @@ use flow_word::{List, OutOfMemory, Port, Side, Words};
 use module_sets::ModuleSet;
 use std::alloc::Global;
 
-/// Who stands at which channel of a plan.
+/// What is found once for a plan: the modules at each channel, and the channels of each module.
 pub(crate) struct Wiring {
     /// The ports of each module.
     pub(crate) ports: List<List<Port>>,
-    /// For each channel the module that pops it; the number of modules where none does.
+    /// For each channel the module that pops it, or the number of modules where none does.
     pub(crate) readers: Vec<u32>,
-    /// For each module the others that access one of its channels; and where to look first.
+    /// For each module the modules at the other sides of its channels; and the hints.
     pub(crate) hints: Hints,
-    /// For each module the most operations of one of its bodies.
+    /// For each module the most operations that one of its bodies has.
     pub(crate) bodies: Words,
 }
 
@@ -38,7 +38,7 @@ impl Drop for Wiring {
     }
 }
 
-/// Finds who stands at which channel of a plan.
+/// Finds the modules at each channel of a plan, and the channels of each module.
 pub(crate) fn find_wiring(alloc: Global, plan: &Plan) -> Result<Wiring, OutOfMemory>
     requires { FitsEngine plan.now }
     ensures { IfOk result (λ wiring. IsWired plan.now wiring) }
@@ -56,7 +56,7 @@ pub(crate) fn find_wiring(alloc: Global, plan: &Plan) -> Result<Wiring, OutOfMem
     })
 }
 
-/// No ports of each of so many modules.
+/// An empty list of ports for each of so many modules.
 fn no_ports(alloc: Global, modules: u64) -> Result<List<List<Port>>, OutOfMemory>
     ensures { IfOk result (λ ports. ports ≡ replicate modules []) }
 {
@@ -67,7 +67,7 @@ fn no_ports(alloc: Global, modules: u64) -> Result<List<List<Port>>, OutOfMemory
     Ok(ports)
 }
 
-/// Adds a port to those of its module, where it has one.
+/// Adds a port to those of its module, if a module has it.
 fn add_port(
     ports: &mut List<List<Port>>,
     owner: u32,
@@ -86,7 +86,7 @@ fn add_port(
     Ok(())
 }
 
-/// The ports of each module, where it is told who pops and who pushes each channel.
+/// The ports of each module, where the module that pops and the one that pushes each channel are known.
 fn make_ports(
     alloc: Global,
     plan: &Plan,
@@ -107,7 +107,7 @@ fn make_ports(
     Ok(ports)
 }
 
-/// The ports of a module.
+/// The ports of module `owner`.
 pub(crate) fn ports_of(ports: &List<List<Port>>, owner: u32) -> &[Port]
     requires { owner < length ports.now }
     ensures { result.now ≡ slice_index_or ports.now owner [] }

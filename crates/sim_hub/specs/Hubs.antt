@@ -1,4 +1,4 @@
--- What the answers of a hub say.
+-- What the answers of a hub mean.
 use Rattle.std.specs.Prelude.{◌≡◌, ◌⊎◌, ℕ, ◌+◌, List, length, Bool, true, false}
 use Rattle.flow_design.specs.declared.plan.Plan.{Plan}
 use Rattle.flow_design.specs.declared.state.ModuleState.{ModuleState}
@@ -26,11 +26,11 @@ use Rattle.sim_hub.specs.declared.answer.PerfAnswer.{PerfAnswer}
 use Rattle.sim_hub.specs.declared.answer.PerfAnswer.TheVariants as perf
 use Rattle.sim_hub.specs.Places.{Behind, HasAdded, HasLooked, HasDesk, HasNoDesk}
 
--- which hub it is
+-- the identity of a hub
 abbrev pub hub_id : Hub → TableId
 hub_id h = lock_id h.lock
 
--- which module's pass it is, of which hub, and what it knows
+-- the module of a pass, the hub of a pass, and what the pass knows
 abbrev pub module_of : ModulePass → ℕ
 module_of p = p.which
 
@@ -40,7 +40,7 @@ module_hub p = pass_lock p.place.pass
 abbrev pub module_view : ModulePass → View HubEntry
 module_view p = view_of p.place.pass
 
--- the same of the performance pass
+-- the hub of the performance pass, and what it knows; and then, a pass is one of this hub
 abbrev pub perf_hub : PerfPass → TableId
 perf_hub p = pass_lock p.place.pass
 
@@ -53,55 +53,55 @@ IsOfHub h p = module_hub p ≡ hub_id h
 abbrev pub IsPerfOf : Hub → PerfPass → Type 0
 IsPerfOf h p = perf_hub p ≡ hub_id h
 
--- ---- what stands behind a history
+-- ---- where a history leads
 
--- no Run of the module is permitted, more is to do, and no memory was wanted
+-- no Run of module m is permitted, the core is not final, and memory did not run out
 pub record IsHeld (m : ℕ) (p : Plan) (at : Turned ModuleState) : Type 0 where
   pub no_run : MayRun (design p) at.core m → ⊥
   pub more : IsFinal (design p) p.cycles at.core → ⊥
   pub memory : at.short ≡ false
 
--- no Assign, Answer or Earliest is permitted, more is to do, and no memory was wanted
+-- no Assign, Answer or Earliest is permitted, the core is not final, and memory did not run out
 pub record IsIdle (p : Plan) (at : Turned ModuleState) : Type 0 where
   pub no_timing : NoTiming (design p) p.cycles at.core
   pub no_earliest : (m c : ℕ) → MayEarliest (design p) p.cycles at.core m c → ⊥
   pub more : IsFinal (design p) p.cycles at.core → ⊥
   pub memory : at.short ≡ false
 
--- the core is final, and no memory was wanted
+-- the core is final, and memory did not run out
 pub record IsFinished (p : Plan) (at : Turned ModuleState) : Type 0 where
   pub final : IsFinal (design p) p.cycles at.core
   pub memory : at.short ≡ false
 
--- memory was wanted
+-- memory ran out
 abbrev pub WasShort : Plan → Turned ModuleState → Type 0
 WasShort p at = at.short ≡ true
 
--- no memory was wanted
+-- memory did not run out
 abbrev pub HadMemory : Plan → Turned ModuleState → Type 0
 HadMemory p at = at.short ≡ false
 
--- all is over
+-- after this history the core is final, or memory ran out
 abbrev pub IsOverAt : List HubEntry → Type 0
 IsOverAt seen = Behind seen IsFinished ⊎ Behind seen WasShort
 
 -- ---- desks
 
--- the task is all that the core tells of the module
+-- the task is all that the core after this history lends of module m
 abbrev pub IsDesk : ℕ → List HubEntry → Task → Type 0
 IsDesk m seen task = Behind seen (λ p at. IsTaskOf p at.core m task)
 
--- a burst of work on the task, wherever its run stands
+-- the burst is one on the task, wherever the task's run stands
 abbrev pub IsBurstOn : Task → Burst → Type 0
 IsBurstOn task burst = (p : Plan) (m : ℕ) (o : Own) → StandsAt p m o task.run → IsBurst p m o task burst
 
--- a burst on the desk that is out
+-- the burst is one on the desk of module m, as it is lent after this history
 abbrev pub IsDeskBurst : ℕ → List HubEntry → Burst → Type 0
 IsDeskBurst m seen burst = (task : Task) × IsDesk m seen task × IsBurstOn task burst
 
 -- ---- answers
 
--- memory was wanted before; or it was not, and is in this turn
+-- memory ran out in an earlier turn, or in this one
 abbrev pub FoundShort : ℕ → View HubEntry → View HubEntry → Type 0
 FoundShort n v w =
     Behind w.seen WasShort × (HasLooked v w ⊎ ((before : List HubEntry) × HasAdded (Short n) before v w × Behind before HadMemory))
@@ -112,14 +112,15 @@ DeskIs m v w (desk.Held n) = HasLooked v w × (n ≡ length w.seen) × Behind w.
 DeskIs m v w desk.Over = HasLooked v w × Behind w.seen IsFinished
 DeskIs m v w desk.Short = FoundShort (m + 1) v w
 
--- behind this history a desk is out just where it was lent, its task is that of the core there, and its run can go on
+-- after this history module m's desk is out exactly where it was lent; its task is what the core lends, and its run stands at some
+-- rest
 abbrev pub OutAt : ℕ → List HubEntry → Desk → Type 0
 OutAt m seen (desk.Run task) = HasDesk m seen × IsDesk m seen task × StandsSomewhere task.run
 OutAt m seen (desk.Held n) = HasNoDesk m seen
 OutAt m seen desk.Over = HasNoDesk m seen
 OutAt m seen desk.Short = HasNoDesk m seen
 
--- the same of what a pass has seen
+-- after what a pass has seen, module m's desk is out exactly where it was lent
 abbrev pub OutIs : ℕ → View HubEntry → Desk → Type 0
 OutIs m w answer = OutAt m w.seen answer
 
@@ -129,7 +130,7 @@ PerfIs v w (perf.Idle n) = HasLooked v w × (n ≡ length w.seen) × Behind w.se
 PerfIs v w perf.Over = HasLooked v w × Behind w.seen IsFinished
 PerfIs v w perf.Short = FoundShort 0 v w
 
--- the Runs were made; or memory was wanted
+-- the turn added n Runs of module m, or noted that memory ran out
 abbrev pub ReturnIs : ℕ → ℕ → View HubEntry → View HubEntry → Bool → Type 0
 ReturnIs m n v w true = (before : List HubEntry) × HasAdded (Ran (m + 1) m n) before v w
 ReturnIs m n v w false = (before : List HubEntry) × HasAdded (Short (m + 1)) before v w

@@ -5,10 +5,10 @@ use Rattle.turn_history.specs.Entries.{history_of}
 use Rattle.sim_hub.specs.declared.kept.Books.{Books}
 use Rattle.sim_hub.specs.declared.ledger.Ledger.{Ledger}
 
--- the plan at whose opening it began, and the turns since
+-- the history of a ledger: the opening of its plan, and all turns since
 abbrev pub entries_in : Ledger → List HubEntry
 entries_in l = history_of l.core.plan l.turns.items
 
--- the same of the ledger that lies under the lock
+-- the history of a ledger that a turn lock protects
 abbrev pub entries_under : Books → List HubEntry
 entries_under b = entries_in b.ledger.value

@@ -1,4 +1,4 @@
--- What a pass of a hub knows, between two turns and behind one.
+-- What a pass of a hub knows, between two turns and after one.
 use Rattle.std.specs.Prelude.{◌≡◌, ℕ, ◌+◌, ◌<◌, List, [], ◌∷◌, ◌++◌, length, Some}
 use mathlib.Core.List.{IsPrefix}
 use Rattle.flow_design.specs.declared.plan.Plan.{Plan}
@@ -12,31 +12,31 @@ use Rattle.turn_history.specs.declared.turn.HubTurn.{HubTurn}
 use Rattle.turn_history.specs.Entries.{bearer, Stands}
 use Rattle.turn_history.specs.Turned.{Turned, lent_at}
 
--- a legal history of a plan that the engine takes, and what stands behind it
+-- the history is a legal one of a plan that the engine takes
 pub record IsLegal (seen : List HubEntry) : Type 0 where
   pub plan : Plan
   pub at : Turned ModuleState
   pub stands : Stands plan seen at
 
--- a pass has seen a legal history, with its own entries
+-- the pass with number n has seen a legal history, in which its own entries are those that bear n
 pub record IsPlace (n : ℕ) (v : View HubEntry) : Type 0 where
   pub own : v.own ≡ entries_of bearer n v.seen
   pub legal : IsLegal v.seen
 
--- the history is of a plan with so many modules
+-- the history is one of a plan with so many modules
 abbrev pub HasModules : ℕ → List HubEntry → Type 0
 HasModules count seen = ∥ ((l : IsLegal seen) × (length l.plan.design.modules ≡ count)) ∥₁
 
--- the module is one of the plan's
+-- module m is one of the history's plan
 abbrev pub HasModule : ℕ → List HubEntry → Type 0
 HasModule m seen = ∥ ((l : IsLegal seen) × (m < length l.plan.design.modules)) ∥₁
 
--- the first pass has made one pass for each module, and none of them was joined
+-- the first pass has made one pass for each module, and none was joined
 pub record HasMadeAll (v : View HubEntry) : Type 0 where
   pub made : HasModules v.made v.seen
   pub joined : v.joined ≡ []
 
--- the first pass of a hub that was just opened with this history, after it made so many
+-- the first pass of a hub that was just opened with this history, after it has made so many passes
 pub record IsFirst (made : ℕ) (seen : List HubEntry) (v : View HubEntry) : Type 0 where
   pub number : v.number ≡ 0
   pub made_is : v.made ≡ made
@@ -44,25 +44,25 @@ pub record IsFirst (made : ℕ) (seen : List HubEntry) (v : View HubEntry) : Typ
   pub own : v.own ≡ []
   pub seen_is : v.seen ≡ seen
 
--- what stands behind the history passes
+-- P holds of the history's plan and of where the history leads
 abbrev pub Behind : List HubEntry → (Plan → Turned ModuleState → Type 0) → Type 0
 Behind seen P = (p : Plan) × (at : Turned ModuleState) × Stands p seen at × P p at
 
--- behind this history a desk of the module is out with its pass
+-- after this history module m's desk is out with its pass
 abbrev pub HasDesk : ℕ → List HubEntry → Type 0
 HasDesk m seen = Behind seen (λ p at. lent_at at m ≡ Some (m + 1))
 
 abbrev pub HasNoDesk : ℕ → List HubEntry → Type 0
 HasNoDesk m seen = Behind seen (λ p at. lent_at at m ≡ Some (m + 1) → ⊥)
 
--- the same of what a pass has seen
+-- after what a pass has seen, module m's desk is out with it
 abbrev pub HasDeskOut : ℕ → View HubEntry → Type 0
 HasDeskOut m v = HasDesk m v.seen
 
 abbrev pub HasNoDeskOut : ℕ → View HubEntry → Type 0
 HasNoDeskOut m v = HasNoDesk m v.seen
 
--- the same pass behind one turn more
+-- w is the pass v after one more turn
 pub record IsLater (v w : View HubEntry) : Type 0 where
   pub begins : IsPrefix v.seen w.seen
   pub turns : w.turns ≡ v.turns + 1
@@ -70,18 +70,18 @@ pub record IsLater (v w : View HubEntry) : Type 0 where
   pub made : w.made ≡ v.made
   pub joined : w.joined ≡ v.joined
 
--- One turn of the lock led from the pass v to the pass w. It began with this history, in which what is new to the pass is of others,
--- and it was handed back with these entries more, the pass's own, and with no others
+-- one turn of the lock led from the pass v to the pass w: it found this history, in which all that is new to the pass is of other
+-- passes, and handed it back with these further entries, all of them the pass's own
 pub record TookTurn (added found : List HubEntry) (v w : View HubEntry) : Type 0 where
   pub tries : ℕ
   pub turn : View HubEntry
   pub began : BeginsTurn bearer tries found v turn
   pub ended : EndsTurn added (found ++ added) turn w
 
--- the turn added this entry to what it found
+-- a turn that found this history led from v to w, and added this entry
 abbrev pub HasAdded : HubTurn → List HubEntry → View HubEntry → View HubEntry → Type 0
 HasAdded t found v w = TookTurn (Turn t ∷ []) found v w
 
--- the turn added no entry: the pass has seen just what the turn found
+-- a turn led from v to w, and added no entry: the pass has seen just what it found
 abbrev pub HasLooked : View HubEntry → View HubEntry → Type 0
 HasLooked v w = TookTurn [] w.seen v w

@@ -1,4 +1,4 @@
--- What the work of a turn asks of its pass, and what it does to the history.
+-- What the work of a turn needs of its pass, and what it does to the history.
 use Rattle.std.specs.Prelude.{◌≡◌, ℕ, ◌+◌, List, [], ◌∷◌, ◌++◌, length, Bool, true, false}
 use Rattle.run_ahead.specs.declared.mail.Burst.{Burst}
 use Rattle.turn_history.specs.declared.entry.HubEntry.{HubEntry}
@@ -18,7 +18,7 @@ use Rattle.sim_hub.specs.Hubs.{IsDesk, IsDeskBurst, IsHeld, IsIdle, IsFinished, 
 
 -- ---- before
 
--- the pass of this module has come to the history, with no desk out
+-- the pass of module m took the turn that found this history, with no desk out
 pub record ComesHome (m : ℕ) (log : List HubEntry) : Type 0 where
   pub before : View HubEntry
   pub number : before.number ≡ m + 1
@@ -26,7 +26,7 @@ pub record ComesHome (m : ℕ) (log : List HubEntry) : Type 0 where
   pub within : HasModule m before.seen
   pub home : HasNoDesk m before.seen
 
--- or with its desk out, and a burst on it
+-- the pass of module m took the turn that found this history, with its desk out and a burst on it
 pub record ComesBack (m : ℕ) (burst : Burst) (log : List HubEntry) : Type 0 where
   pub before : View HubEntry
   pub number : before.number ≡ m + 1
@@ -34,42 +34,42 @@ pub record ComesBack (m : ℕ) (burst : Burst) (log : List HubEntry) : Type 0 wh
   pub out : HasDesk m before.seen
   pub is_burst : IsDeskBurst m before.seen burst
 
--- ---- behind
+-- ---- after the work
 
--- this turn is added
+-- this turn was added to the history
 abbrev pub Adds : HubTurn → List HubEntry → List HubEntry → Type 0
 Adds turn log more = more ≡ log ++ Turn turn ∷ []
 
--- memory is wanted in this turn, or was before
+-- memory ran out in this turn, which was added, or it ran out before
 abbrev pub ShortIs : ℕ → List HubEntry → List HubEntry → Bool → Type 0
 ShortIs q log more true = Adds (Short q) log more × Behind log HadMemory
 ShortIs q log more false = (more ≡ log) × Behind log WasShort
 
--- what a lending does to the history: the second answer is whether it added a turn
+-- what a lending does to the history; the second answer tells whether it added a turn
 abbrev pub LendingIs : ℕ → List HubEntry → List HubEntry → Desk → Bool → Type 0
 LendingIs m log more (desk.Run task) added = (added ≡ true) × Adds (Lent (m + 1) m) log more × IsDesk m log task
 LendingIs m log more (desk.Held n) added = (added ≡ false) × (more ≡ log) × (n ≡ length log) × Behind log (IsHeld m)
 LendingIs m log more desk.Over added = (added ≡ false) × (more ≡ log) × Behind log IsFinished
 LendingIs m log more desk.Short added = ShortIs (m + 1) log more added
 
--- so many Runs were made, or memory is wanted
+-- a turn with n Runs of module m was added, or one that notes that memory ran out
 abbrev pub BackIs : ℕ → ℕ → List HubEntry → List HubEntry → Bool → Type 0
 BackIs m n log more true = Adds (Ran (m + 1) m n) log more
 BackIs m n log more false = Adds (Short (m + 1)) log more
 
--- what a turn that times does to the history
+-- what a turn of the performance pass does to the history; the second answer tells whether it added a turn
 abbrev pub TimingIs : List HubEntry → List HubEntry → PerfAnswer → Bool → Type 0
 TimingIs log more (perf.Did n) added = (added ≡ true) × Adds (Timed 0 n) log more
 TimingIs log more (perf.Idle n) added = (added ≡ false) × (more ≡ log) × (n ≡ length log) × Behind log IsIdle
 TimingIs log more perf.Over added = (added ≡ false) × (more ≡ log) × Behind log IsFinished
 TimingIs log more perf.Short added = ShortIs 0 log more added
 
--- one turn of this pass is added, or nothing
+-- one turn of pass q was added, or nothing
 abbrev pub MayAdd : ℕ → Bool → List HubEntry → List HubEntry → Type 0
 MayAdd q true log more = (turn : HubTurn) × Adds turn log more × (taker turn ≡ q)
 MayAdd q false log more = more ≡ log
 
--- the turn v ends at w, with the entry that was added, or with none
+-- the turn v ends, and the pass then knows w: with the entry that was added, or with none
 abbrev pub IsEnd : Bool → List HubEntry → List HubEntry → View HubEntry → View HubEntry → Type 0
 IsEnd true log more v w = (turn : HubTurn) → Adds turn log more → EndsTurn (Turn turn ∷ []) more v w
 IsEnd false log more v w = EndsTurn [] more v w

@@ -1,30 +1,30 @@
-//! What the calls of a hub answer.
+//! The answers of a hub's calls.
 use sim_core::{Core, Task};
 use turn_history::HubTurn;
 
-/// What a module's pass gets.
+/// What a module's pass gets when it asks for a desk.
 #[derive(Drop)]
 pub enum Desk {
-    /// The module's run with its mail.
+    /// The module's run, lent with its mail.
     Run(Task),
-    /// No Run of the module is permitted yet, after so many entries.
+    /// No Run of the module is permitted yet, in a history of so many entries.
     Held(u64),
     /// The core is final.
     Over,
-    /// Memory was wanted.
+    /// Memory ran out, in this turn or before.
     Short,
 }
 
-/// What the performance pass gets.
+/// What the performance pass gets for a turn.
 #[derive(Clone, Copy, Debug, PartialEq, Eq)]
 pub enum PerfAnswer {
-    /// The visit did so many actions.
+    /// The turn did so many actions.
     Did(u64),
-    /// No action but a Run is permitted, after so many entries.
+    /// No action but a Run is permitted, in a history of so many entries.
     Idle(u64),
     /// The core is final.
     Over,
-    /// Memory was wanted.
+    /// Memory ran out, in this turn or before.
     Short,
 }
 
@@ -35,11 +35,11 @@ pub struct Threaded {
     pub turns: Vec<HubTurn>,
 }
 
-/// What a hub leaves.
+/// What is left when a hub is closed.
 #[derive(Drop)]
 pub enum Closed {
-    /// A final core.
+    /// A final core, with all turns that led to it.
     Final(Threaded),
-    /// Memory was wanted.
+    /// Nothing: memory ran out.
     Short,
 }

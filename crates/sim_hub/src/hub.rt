@@ -1,4 +1,4 @@
-//! The hub.
+//! A core that passes share.
 use crate::kept::Books;
 use turn_lock::TurnLock;
 
@@ -6,7 +6,7 @@ mod ends;
 mod turns;
 mod work;
 
-/// A core that passes change in turns. Its entries are one legal history, whose replay gives the core.
+/// A core that passes change in turns. Its entries are one legal history, and replaying that gives the core.
 #[derive(Drop)]
 pub struct Hub {
     lock: TurnLock<Books>,

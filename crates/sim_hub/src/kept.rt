@@ -1,4 +1,4 @@
-//! The ledger as a list of entries.
+//! The ledger as a turn lock keeps it: a list of entries.
 ghost use Rattle.std.specs.Prelude.{◌≡◌, length};
 ghost use Rattle.turn_history.specs.Entries.{bearer};
 ghost use Rattle.sim_hub.specs.Ledgers.{entries_in, entries_under};
@@ -7,7 +7,7 @@ use crate::ledger::Ledger;
 use turn_history::HubEntry;
 use turn_lock::Kept;
 
-/// A ledger on the heap, so that a turn moves its address and not its core.
+/// A ledger on the heap, so that a turn moves its address only, and not its core.
 #[derive(Drop)]
 pub struct Books {
     pub(crate) ledger: Box<Ledger>,
@@ -26,7 +26,7 @@ impl Kept for Books {
 }
 
 impl Ledger {
-    /// How many entries it has: one more than turns.
+    /// How many entries the history has: one more than there were turns.
     pub(crate) fn count(&self) -> u64
         ensures { result ≡ length (entries_in self.now) }
     {

@@ -1,4 +1,4 @@
-//! What lies under the lock.
+//! What the turn lock of a hub protects.
 ghost use Rattle.std.specs.Prelude.{vec_capacity};
 ghost use Rattle.std.specs.Coded.{codes};
 ghost use Rattle.std.proofs.Props.{props};
@@ -10,14 +10,15 @@ use turn_history::HubTurn;
 mod desks;
 mod timing;
 
-/// A core with the turns that led to it. There is room for a turn of each desk that is out, and for one more until memory was wanted.
+/// A core with the turns that led to it. There is room for a turn for each desk that is out, and for one more unless memory ran out
+/// before.
 #[derive(Drop)]
 pub struct Ledger {
     pub(crate) core: Core,
     pub(crate) turns: Vec<HubTurn>,
-    /// How many desks are out, at most.
+    /// A bound for how many desks are out.
     pub(crate) out: usize,
-    /// Memory was wanted.
+    /// Whether memory ran out.
     pub(crate) short: bool,
     ghost kept: { IsKept core turns.items out short (vec_capacity turns) } by { Prim.hlevel (codes, props) },
 }

@@ -1,4 +1,4 @@
-//! One core under a turn lock: modules borrow desks, run ahead outside the lock, and give their bursts back, and a performance pass
+//! One core under a turn lock. Modules borrow desks, run ahead outside the lock, and give their bursts back; a performance pass
 //! gives steps their cycles. All turns are one legal history of the core.
 #![tactic(auto)]
 

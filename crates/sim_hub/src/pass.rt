@@ -6,7 +6,7 @@ ghost use Rattle.sim_hub.specs.Places.{IsPlace, HasMadeAll, HasModule};
 use crate::kept::Books;
 use turn_lock::Pass;
 
-/// A pass of the turn lock with its number. What it has seen is a legal history.
+/// A pass of the turn lock, with its number. What it has seen is a legal history.
 #[derive(Drop)]
 pub struct Place {
     pub(crate) pass: Pass<Books>,
@@ -23,7 +23,7 @@ pub struct PerfPass {
     ghost made: { ∥ HasMadeAll (view_of place.pass) ∥₁ },
 }
 
-/// The pass of a module: its number is one more than the module's.
+/// The pass of a module. Its number is one more than the module's.
 #[derive(Drop)]
 pub struct ModulePass {
     pub(crate) place: Place,

@@ -12,26 +12,26 @@ pub record HasCause {T E : Type 0} (before now : ℕ) (result : Result T E) : Ty
   pub later : before ≤ now
   pub failed : OnErr result (Rose before now)
 
--- the known bytes lost exactly so many at their front
+-- exactly n bytes went from the beginning of the known bytes
 pub record LosesCount (old new : Option (List ℕ)) (n : ℕ) : Type 0 where
   pub bytes : List ℕ
   pub consumed : Consumes old new bytes
   pub count : length bytes ≡ n
 
--- the known bytes lost at most so many at their front
+-- at most n bytes went from the beginning of the known bytes
 pub record LosesAtMost (old new : Option (List ℕ)) (n : ℕ) : Type 0 where
   pub bytes : List ℕ
   pub consumed : Consumes old new bytes
   pub count : length bytes ≤ n
 
--- the known bytes lost so many at their front, which a list gained at its end
+-- exactly n bytes went from the beginning of the known bytes to the end of a list
 pub record Moves (old new : Option (List ℕ)) (before after : List ℕ) (n : ℕ) : Type 0 where
   pub bytes : List ℕ
   pub consumed : Consumes old new bytes
   pub gained : after ≡ before ++ bytes
   pub count : length bytes ≡ n
 
--- the known bytes grew by a prefix of the text
+-- a prefix of the text was added to the known bytes
 pub record AppendsPrefix (old new : Option (List ℕ)) (text : List ℕ) : Type 0 where
   pub count : ℕ
   pub appended : Appends old new (take count text)

@@ -20,7 +20,7 @@ pub record Taken : Type 0 where
   pub faults : ℕ
   pub finished : Bool
 
--- a count after one more, which stands still at the greatest u64
+-- a count raised by one, or still the greatest u64
 abbrev pub one_more : ℕ → ℕ
 one_more n = min (n + 1) (2 ^ 64 - 1)
 
@@ -56,7 +56,7 @@ FailsPut k piece = Contains k.fails k.calls ⊎ ((0 < length piece) × (k.room �
 abbrev pub after_put : Taken → List ℕ → Taken
 after_put k bytes = record k { held = k.held ++ bytes; room = k.room - length bytes; calls = one_more k.calls; finished = false }
 
--- a sink after a put that fails: what it holds stays, the mark is gone
+-- a sink after a put that fails: what it holds stays, and it is unfinished
 abbrev pub after_failed_put : Taken → Taken
 after_failed_put k = record k { calls = one_more k.calls; faults = one_more k.faults; finished = false }
 

@@ -3,7 +3,7 @@ use Rattle.std.specs.Prelude.{◌≡◌, ℕ, List, ◌++◌}
 use Rattle.std.specs.declared.option.Option.{Option}
 use Rattle.std.specs.Io.KnownBytes.{Appends}
 
--- the known bytes grew by a prefix of the text, and the rest of it is pending
+-- a prefix of the text was added to the known bytes, and the rest of it is pending
 pub record IsTold (old new : Option (List ℕ)) (pending text : List ℕ) : Type 0 where
   pub sent : List ℕ
   pub appended : Appends old new sent

@@ -10,8 +10,8 @@ use flow_word::{List, OutOfMemory, Words};
 use std::alloc::Global;
 use std::marker::Model;
 
-/// A sink in memory. It has room for so many bytes, takes them in pieces, and fails in chosen calls: those of `put` and
-/// `finish` are numbered together, from 0.
+/// A sink in memory. It has room for a given number of bytes, takes them in pieces, and fails in chosen calls. The
+/// calls of `put` and `finish` are numbered together, from 0.
 #[derive(Drop)]
 pub struct MemSink {
     buffer: Vec<u8>,
@@ -60,7 +60,7 @@ impl MemSink {
         })
     }
 
-    /// What it holds.
+    /// The bytes that the sink holds.
     pub fn held(&self) -> &[u8]
         ensures { result.now ≡ self.now.held }
     {

@@ -36,9 +36,11 @@ impl From<OutOfMemory> for TakeFault {
 /// How many bytes are asked of a source at once, at most.
 const CHUNK: u64 = 65536;
 
-/// All bytes up to the end, of which there are at most `limit`. What was taken before a fault is gone.
+/// Reads a source up to its end: all its bytes, of which there are at most `limit`. After a fault the bytes that were
+/// taken are lost.
 ///
-/// Where there are more, it stops with `TooLong` once it has taken `limit + 1` bytes.
+/// Where there are more, the fault is `TooLong`, and `limit + 1` bytes have been taken. After `ReadFault` at most
+/// `limit` bytes have been taken, and after `OutOfMemory` at most `limit + 1`.
 pub fn read_all<S: Source>(alloc: Global, source: &mut S, limit: u64) -> Result<List<u8>, TakeFault>
     ensures bytes { IfOk result (λ bytes. Consumes (S.left source.old) (S.left source.new) bytes) }
     ensures end { OnOk result (IsAtEnd (S.left source.new)) }
@@ -62,7 +64,8 @@ pub fn read_all<S: Source>(alloc: Global, source: &mut S, limit: u64) -> Result<
     Err(TakeFault::TooLong)
 }
 
-/// Takes the next bytes by way of the chunk, and adds them to those read so far. None is the end.
+/// Takes the next bytes of a source into the chunk, adds them to those read so far, and answers how many they are: 0 at
+/// the end of the source.
 fn take_more<S: Source>(
     source: &mut S,
     chunk: &mut [u8],

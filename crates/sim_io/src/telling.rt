@@ -41,10 +41,11 @@ impl From<OutOfMemory> for TellFault {
     }
 }
 
-/// How many bytes of a text wait before they are written. A line less than 64 KiB long makes of them at most 1 MiB.
+/// From how many collected bytes on a text is written. With lines shorter than 64 KiB at most 1 MiB is collected.
 pub const PIECE: u64 = (1 << 20) - (1 << 16);
 
-/// Writes what is pending of a text, where that is a piece or longer, and empties it. After a fault a prefix of it is written.
+/// Writes the collected bytes of a text, where they are `PIECE` or more, and then holds none; fewer stay collected.
+/// After a fault a prefix of them is written.
 #[tactic(auto, using(crate::proofs::Pending::told_all, crate::proofs::Pending::told_none))]
 pub fn write_full<K: Sink>(sink: &mut K, pending: &mut List<u8>) -> Result<(), PutFault>
     ensures ok { OnOk result (IsTold (K.held sink.old) (K.held sink.new) pending.new pending.old) }

@@ -14,14 +14,14 @@ pub struct Failed;
 
 /// Something to take bytes from.
 pub trait Source {
-    /// The bytes that it has left, where it tells them.
+    /// The bytes that are left in the source, where it tells them.
     ghost left: { Self → Option (List ℕ) };
 
-    /// How often it has failed so far. The count never falls, and stands still at the greatest u64.
+    /// How often the source has failed so far. The count never falls, and stands still at the greatest u64.
     ghost faults: { Self → ℕ };
 
-    /// Moves the next bytes into the front of `into`, and answers how many. None, where `into` has room, is the end of
-    /// the input. After `Failed`, which it has counted, what is left is as it was.
+    /// Moves the next bytes to the beginning of `into`, and answers how many they are. An answer of 0, where `into` has
+    /// room, is the end of the input. `Failed` is counted, and leaves all bytes in the source.
     fn take(&mut self, into: &mut [u8]) -> Result<usize, Failed>
         ensures bound { ReadsAtMost result into.new }
         ensures bytes { ReadConsumes (left self.old) (left self.new) result into.new }
@@ -30,17 +30,17 @@ pub trait Source {
 
 /// Something to put bytes into.
 pub trait Sink {
-    /// The bytes that it holds, where it tells them.
+    /// The bytes that the sink holds, where it tells them.
     ghost held: { Self → Option (List ℕ) };
 
-    /// How often it has failed so far. The count never falls, and stands still at the greatest u64.
+    /// How often the sink has failed so far. The count never falls, and stands still at the greatest u64.
     ghost faults: { Self → ℕ };
 
-    /// Whether all that it holds is finished.
+    /// Whether the sink has finished all that it holds.
     ghost is_finished: { Self → Bool };
 
-    /// Takes a prefix of the piece, and answers how many bytes: at least one, if the piece has any. Every call makes the
-    /// sink unfinished. After `Failed`, which it has counted, what it holds is as it was.
+    /// Takes a prefix of the piece, and answers how many bytes it has: at least one, if the piece has any. Every call
+    /// makes the sink unfinished. `Failed` is counted, and leaves what the sink holds as it was.
     fn put(&mut self, piece: &[u8]) -> Result<usize, Failed>
         ensures bound { WritesAtMost result piece.now }
         ensures some { IfOk result (λ n. 0 < length piece.now → 0 < n) }
@@ -48,7 +48,7 @@ pub trait Sink {
         ensures unfinished { is_finished self.new ≡ false }
         ensures cause { HasCause (faults self.old) (faults self.new) result };
 
-    /// Finishes what the sink holds, which stays as it was. `Failed` is counted.
+    /// Finishes what the sink holds. The bytes stay as they were, and `Failed` is counted.
     fn finish(&mut self) -> Result<(), Failed>
         ensures finished { OnOk result (is_finished self.new ≡ true) }
         ensures bytes { Keeps (held self.old) (held self.new) }

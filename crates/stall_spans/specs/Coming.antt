@@ -1,4 +1,4 @@
--- Spans that come to a clock.
+-- Spans that go up to a clock.
 use Rattle.std.specs.Prelude.{ℕ, ◌≡◌, ◌-◌, ◌<◌, ◌≤◌, List, length, slice_index_or, Some}
 use Rattle.flow_design.specs.declared.plan.Plan.{Plan}
 use Rattle.stall_spans.specs.declared.span.Doing.{Doing}
@@ -7,18 +7,18 @@ use Rattle.stall_spans.specs.declared.span.Span.{Span}
 use Rattle.stall_spans.specs.Doings.{doing}
 use Rattle.stall_spans.specs.Spans.{AreSpansBelow}
 
--- the last of the spans, and one without a clock where there is none
+-- the last of these spans, or a span without a clock where there is none
 abbrev pub last_span : List Span → Span
 last_span spans = slice_index_or spans (length spans - 1) (record { first = 0; until = 0; doing = Moves })
 
--- the clock after it
+-- the clock up to which these spans go: the one after the last of them
 abbrev pub reached : List Span → ℕ
 reached spans = (last_span spans).until
 
--- these are the spans of module i below that clock
+-- these are the spans of module i below the clock up to which they go
 abbrev pub Comes : Plan → ℕ → List Span → Type 0
 Comes p i spans = AreSpansBelow p i (reached spans) spans
 
--- module i does this in each clock from one to another
+-- module i does this in each clock from `first` on, up to `until`
 abbrev pub Does : Plan → ℕ → ℕ → ℕ → Doing → Type 0
 Does p i first until d = (c : ℕ) → first ≤ c → c < until → doing p c i ≡ Some d

@@ -11,11 +11,11 @@ pub record IsSpan (p : Plan) (i end : ℕ) (s : Span) : Type 0 where
   pub some : s.first < s.until
   pub below : s.until ≤ end
   pub throughout : (c : ℕ) → s.first ≤ c → c < s.until → doing p c i ≡ Some s.doing
-  -- it does not in the clock before, nor in the clock after
+  -- the module does something else in the clock before the span, and in the clock after it
   pub begins : (c : ℕ) → c + 1 ≡ s.first → doing p c i ≢ Some s.doing
   pub ends : s.until < end → doing p s.until i ≢ Some s.doing
 
--- one is over where the other begins, or before
+-- the first span ends where the second one begins, or earlier
 abbrev pub IsBefore : Span → Span → Type 0
 IsBefore s t = s.until ≤ t.first
 

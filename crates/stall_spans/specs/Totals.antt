@@ -1,4 +1,4 @@
--- In how many clocks a module moves, and in how many it stands still, by which cause.
+-- In how many clocks a module moves, and in how many it stalls, for which cause.
 use Rattle.std.specs.Prelude.{ℕ, ◌≡◌, ◌≢◌, ◌-◌, ◌<◌, ◌≤◌, Bool, true, false, Option, None, Some, List, if◌then◌else◌, count_by, sum_by}
 use Rattle.std.specs.List.{range_with_len}
 use Rattle.flow_word.specs.declared.access.Port.{Port}
@@ -22,35 +22,35 @@ abbrev pub is_still : Doing → Bool
 is_still Moves = false
 is_still (Still port) = true
 
--- it stands still since it cannot pop, or push, at this port
+-- the module stalls, since it cannot pop, or cannot push, at this port
 abbrev pub is_still_at : Port → Doing → Bool
 is_still_at port Moves = false
 is_still_at port (Still at) = same_port port at
 
--- a module that is over does nothing
+-- what a module does passes a test; a module that is over does nothing
 abbrev pub passes : (Doing → Bool) → Option Doing → Bool
 passes test None = false
 passes test (Some d) = test d
 
 -- ---- clocks
 
--- in how many clocks below this one module i does what passes the test
+-- in how many clocks before `end` what module i does passes the test
 unfoldable pub clocks_in : (Doing → Bool) → Plan → ℕ → ℕ → ℕ
 clocks_in test p i end = count_by (λ c. passes test (doing p c i)) (range_with_len 0 end)
 
--- in how many clocks below the verdict's it moves
+-- in how many clocks before the verdict's module i moves
 abbrev pub moved_clocks : Plan → ℕ → ℕ
 moved_clocks p i = clocks_in is_moving p i (clock_of (verdict p))
 
--- in how many it stands still
+-- in how many clocks before the verdict's module i stalls
 abbrev pub still_clocks : Plan → ℕ → ℕ
 still_clocks p i = clocks_in is_still p i (clock_of (verdict p))
 
--- and in how many by this cause
+-- in how many clocks before the verdict's module i stalls for this cause
 abbrev pub still_clocks_at : Plan → ℕ → Side → ℕ → ℕ
 still_clocks_at p i side f = clocks_in (is_still_at (record { side = side; channel = f })) p i (clock_of (verdict p))
 
--- it is over from this clock on, or from the verdict's, and not before
+-- module i is over from this clock on, or this is the verdict's clock; it is not over before
 pub record IsOverFrom (p : Plan) (i clock : ℕ) : Type 0 where
   pub within : clock ≤ clock_of (verdict p)
   pub before : (c : ℕ) → c < clock → doing p c i ≢ None
@@ -58,10 +58,10 @@ pub record IsOverFrom (p : Plan) (i clock : ℕ) : Type 0 where
 
 -- ---- spans
 
--- the clocks of a span that passes the test
+-- how many clocks a span has, or 0 where what it says does not pass the test
 abbrev pub span_clocks : (Doing → Bool) → Span → ℕ
 span_clocks test s = if test s.doing then s.until - s.first else 0
 
--- those of all of them
+-- how many clocks those spans have together that pass the test
 abbrev pub spans_clocks : (Doing → Bool) → List Span → ℕ
 spans_clocks test spans = sum_by (span_clocks test) spans

@@ -12,14 +12,14 @@ ghost use Rattle.stall_spans.specs.Covers.{HasClock, GoesOnFrom};
 ghost use Rattle.stall_spans.specs.Spans.{AreSpansBelow};
 ghost use Rattle.stall_spans.specs.Totals.{clocks_in, moved_clocks, still_clocks, still_clocks_at, spans_clocks, IsOverFrom};
 
-/// Below each clock a module has one list of spans.
+/// A module has exactly one list of spans below a clock.
 pub fn spans_are_one()
     ensures there { (p : Plan) (i end : ℕ) → (spans : Items Span) × AreSpansBelow p i end spans }
     ensures only { (p : Plan) (i end : ℕ) (a b : Items Span) → AreSpansBelow p i end a → AreSpansBelow p i end b → a ≡ b }
 {}
 
-/// The spans below a clock cover each clock in which the module is not over: the first begins in clock 0, and each other one begins
-/// where the one before it is over, and says something else.
+/// The spans below a clock have each clock in which the module is not over. The first begins in clock 0. Each other one begins
+/// where the one before it ends, and says something else.
 pub fn spans_cover_clocks()
     ensures covered { (p : Plan) (i end : ℕ) (spans : Items Span) → AreSpansBelow p i end spans → (c : ℕ) → c < end → doing p c i ≢ None
         → (s : Span) × Contains spans s × HasClock s c }
@@ -29,9 +29,9 @@ pub fn spans_cover_clocks()
         → AllAdjacentBelow GoesOnFrom spans (length spans) }
 {}
 
-/// The spans below a clock have all clocks in which a module does something. The clocks in which it moves, and those in which it
-/// stands still, come to the clock in which it is over, or to the verdict's; and the clocks of all causes add up to those in which it
-/// stands still.
+/// The spans below a clock account for all clocks in which a module does something. The clocks in which it moves and those in which
+/// it stalls add up to the clock in which it is over, or to the verdict's. The clocks of all causes add up to those in which it
+/// stalls.
 pub fn clocks_add_up()
     ensures spans { (test : Doing → Bool) (p : Plan) (i end : ℕ) (spans : Items Span) → AreSpansBelow p i end spans
         → spans_clocks test spans ≡ clocks_in test p i end }

@@ -1,5 +1,5 @@
-//! Where the time goes: in each clock below the verdict's a module moves, or stands still by one cause, and its spans are the
-//! maximal intervals of that.
+//! Where time goes: in each clock before the verdict's a module moves, or stalls for one cause. Its spans are the maximal intervals
+//! in which it does the same.
 #![tactic(auto)]
 
 mod laws;

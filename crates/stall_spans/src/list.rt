@@ -1,4 +1,4 @@
-//! The spans of a module, as they are put together from its first clock on.
+//! Putting the spans of a module together, from its first clock on.
 ghost use Rattle.std.specs.Prelude.{ℕ, ◌≡◌, ◌≢◌, ◌≤◌, ◌<◌, ◌-◌, ◌∷◌, [], ◌++◌, take, max, length, slice_index_or, OnOk, true, false};
 ghost use Rattle.flow_design.specs.declared.plan.Plan.{Plan};
 ghost use Rattle.stall_spans.specs.Coming.{reached, Comes, Does, last_span};
@@ -6,8 +6,8 @@ ghost use Rattle.stall_spans.specs.Coming.{reached, Comes, Does, last_span};
 use crate::span::{Doing, Span};
 use flow_word::{List, OutOfMemory};
 
-/// A module does this from the end of its spans up to a clock; nothing where its spans come to that clock or a later one. The last
-/// span goes on where it says the same. An error leaves all spans but the last, or all.
+/// Adds that a module does this from the end of its spans up to clock `until`. The last span goes on where it says the same.
+/// Nothing changes where the spans come to `until` or further. After `OutOfMemory` there are all spans, or all but the last.
 pub fn go_on(spans: &mut List<Span>, until: u64, doing: Doing) -> Result<(), OutOfMemory>
     ensures spans { OnOk result ((p : Plan) (i : ℕ) → Comes p i spans.old → Does p i (reached spans.old) until doing
         → Comes p i spans.new) }
@@ -27,7 +27,7 @@ pub fn go_on(spans: &mut List<Span>, until: u64, doing: Doing) -> Result<(), Out
     })
 }
 
-/// The last span goes on up to a clock.
+/// Lets the last span go on up to a clock.
 fn go_longer(spans: &mut List<Span>, until: u64) -> Result<(), OutOfMemory>
     requires { 0 < length spans.old }
     ensures { OnOk result (spans.new ≡ take (length spans.old - 1) spans.old
@@ -43,7 +43,7 @@ fn go_longer(spans: &mut List<Span>, until: u64) -> Result<(), OutOfMemory>
     })
 }
 
-/// Whether the last span says this.
+/// Whether there is a last span, and it says this.
 fn says_last(spans: &[Span], doing: Doing) -> bool
     ensures some { result ≡ true → 0 < length spans.now }
     ensures same { result ≡ true → (last_span spans.now).doing ≡ doing }
@@ -55,7 +55,7 @@ fn says_last(spans: &[Span], doing: Doing) -> bool
     }
 }
 
-/// The clock to which the spans come.
+/// The clock up to which the spans go: 0 where there is none.
 pub fn end_of(spans: &[Span]) -> u64
     ensures { result ≡ reached spans.now }
 {

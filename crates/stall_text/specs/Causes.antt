@@ -1,4 +1,4 @@
--- The causes of a module's stalls, by the clocks at each empty channel and at each full one.
+-- The causes of a module's stalls, given its clocks at each empty channel and at each full one.
 use Rattle.std.specs.Prelude.{ℕ, ◌<◌, List, slice_index}
 use Rattle.flow_word.specs.declared.access.Side.{Side}
 use Rattle.flow_word.specs.declared.access.Side.TheVariants.{Pop, Push}
@@ -9,7 +9,7 @@ use Rattle.stall_spans.specs.declared.span.Doing.{Doing}
 use Rattle.stall_spans.specs.declared.span.Doing.TheVariants.{Moves, Still}
 use Rattle.stall_text.specs.StallText.{cause_lines}
 
--- where the module stands still, its port is one of so many channels
+-- where a module stalls, its port is at one of so many channels
 abbrev pub IsInside : ℕ → Doing → Type 0
 IsInside channels Moves = Unit {0}
 IsInside channels (Still port) = port.channel < channels

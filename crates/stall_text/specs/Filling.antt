@@ -5,15 +5,15 @@ use Rattle.port_clocks.specs.Leads.{ahead_clocks}
 use Rattle.stall_text.specs.declared.fifos.Filling.{Filling}
 use Rattle.stall_text.specs.Stalls.{most, empty_clocks, full_clocks}
 
--- clocks that come so many clocks later
+-- each of these clocks, `by` clocks later
 abbrev pub later : ℕ → List ℕ → List ℕ
 later by clocks = map (λ c. c + by) clocks
 
--- in how many clocks below one a FIFO of this delay has no element that can be popped
+-- in how many clocks below `clock` a FIFO with this delay has no element that can be popped, by the clocks of its pops and pushes
 abbrev pub empty_by : ℕ → ℕ → List ℕ → List ℕ → ℕ
 empty_by delay clock pops pushes = clock - ahead_clocks 1 (later (delay - 1) pushes) pops clock
 
--- it tells how full channel f is
+-- the filling is that of channel f
 pub record IsFilling (p : Plan) (f : ℕ) (filling : Filling) : Type 0 where
   pub most : filling.most ≡ most p f
   pub empty : filling.empty ≡ empty_clocks p f

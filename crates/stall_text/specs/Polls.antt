@@ -1,4 +1,4 @@
--- Modules that poll: they move, and get nothing.
+-- Modules that poll: they move, and get nothing by it.
 use Rattle.std.specs.Prelude.{ℕ, ◌==◌, Bool, true, false, not, ◌&&◌, if◌then◌else◌, List, [], ◌∷◌, ◌++◌, length, codes, decimal}
 use Rattle.std.specs.Prelude.{count_by, filter}
 use Rattle.std.specs.List.{flat_map, list_any, range_with_len}
@@ -13,7 +13,7 @@ use Rattle.sim_core.specs.declared.access_log.LoggedAccess.{LoggedAccess}
 
 -- ---- missed queries
 
--- a query whose outcome tells that it was not possible: it moved nothing, or the channel was empty or full
+-- the query is missed: its outcome tells that it moved nothing, or that the channel was empty or full
 abbrev pub misses : Kind → Bool → Bool
 misses Read outcome = false
 misses Write outcome = false
@@ -34,18 +34,18 @@ is_of i a = a.event.«module» == i
 abbrev pub accesses_of : Plan → ℕ → List LoggedAccess
 accesses_of p i = filter (is_of i) (log_of p)
 
--- in this clock one of these accesses was done, and none but missed queries
+-- there are accesses in clock c among these, and each of them is a missed query
 abbrev pub polls_in : List LoggedAccess → ℕ → Bool
 polls_in accesses c =
     list_any (λ a. a.event.cycle == c) accesses && not (list_any (λ a. (a.event.cycle == c) && not (is_missed a)) accesses)
 
--- in how many clocks below the verdict's module i polls
+-- in how many clocks before the verdict's module i polls
 unfoldable pub polled_clocks : Plan → ℕ → ℕ
 polled_clocks p i = count_by (polls_in (accesses_of p i)) (range_with_len 0 (last_clock p))
 
 -- ---- queries of a kind on a channel
 
--- two kinds of queries are one
+-- two kinds are the same kind of query
 abbrev pub same_query : Kind → Kind → Bool
 same_query TryRead TryRead = true
 same_query TryWrite TryWrite = true
@@ -56,13 +56,13 @@ same_query _ _ = false
 abbrev pub asks : Kind → ℕ → LoggedAccess → Bool
 asks kind f a = same_query kind a.event.kind && (f == a.event.channel)
 
--- those that module i makes
+-- the queries of this kind on channel f that module i makes
 abbrev pub queries_of : Plan → ℕ → Kind → ℕ → List LoggedAccess
 queries_of p i kind f = filter (λ a. is_of i a && asks kind f a) (log_of p)
 
 -- ---- lines
 
--- `polls M N`, where N is not 0
+-- the line `polls M N`, if N is not 0
 abbrev pub polls_lines : Token → ℕ → List (List Token)
 polls_lines name n = if n == 0 then [] else (codes "polls" ∷ name ∷ decimal n ∷ []) ∷ []
 
@@ -74,12 +74,12 @@ query_word TryWrite = codes "trywrite"
 query_word Empty = codes "empty"
 query_word Full = codes "full"
 
--- `poll M KIND F TRIED MISSED`, where TRIED is not 0
+-- the line `poll M KIND F TRIED MISSED`, if TRIED is not 0
 abbrev pub query_lines : Token → Kind → Token → ℕ → ℕ → List (List Token)
 query_lines name kind channel tried missed =
     if tried == 0 then [] else (codes "poll" ∷ name ∷ query_word kind ∷ channel ∷ decimal tried ∷ decimal missed ∷ []) ∷ []
 
--- of each channel, in order of declaration, the lines of each kind of query
+-- for each channel, in order of declaration, the lines of each kind of query
 abbrev pub at_each_query : ℕ → (ℕ → Kind → List (List Token)) → List (List Token)
 at_each_query channels lines =
     flat_map (λ f. ((lines f TryRead ++ lines f TryWrite) ++ lines f Empty) ++ lines f Full) (range_with_len 0 channels)
@@ -89,6 +89,6 @@ tries_of p i f kind =
     let queries = queries_of p i kind f in
     query_lines (module_name p.design i) kind (channel_name p.design f) (length queries) (count_by is_missed queries)
 
--- the lines of a module that `--polls` adds
+-- the lines of module i that `--polls` adds
 abbrev pub poll_lines : Plan → ℕ → List (List Token)
 poll_lines p i = polls_lines (module_name p.design i) (polled_clocks p i) ++ at_each_query (length p.design.channels) (tries_of p i)

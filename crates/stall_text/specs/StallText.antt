@@ -16,33 +16,33 @@ abbrev pub side_word : Side → Token
 side_word Pop = codes "pop"
 side_word Push = codes "push"
 
--- a module that cannot pop stands still at an empty channel, and one that cannot push at a full one
+-- the word for the cause of a stall: a module that cannot pop stalls at an empty channel, and one that cannot push at a full one
 abbrev pub cause_word : Side → Token
 cause_word Pop = codes "empty"
 cause_word Push = codes "full"
 
--- `module M MOVED STILL`
+-- the tokens of `module M MOVED STILL`
 abbrev pub module_tokens : Token → ℕ → ℕ → List Token
 module_tokens name moved still = codes "module" ∷ name ∷ decimal moved ∷ decimal still ∷ []
 
--- `stall M empty F N` or `stall M full F N`, where N is not 0
+-- the line `stall M empty F N` or `stall M full F N`, if N is not 0
 abbrev pub cause_lines : Token → Token → Side → ℕ → List (List Token)
 cause_lines name channel side clocks =
     if clocks == 0 then [] else (codes "stall" ∷ name ∷ cause_word side ∷ channel ∷ decimal clocks ∷ []) ∷ []
 
--- the last of a number and those after it
+-- the last of these numbers, or n where there are no further ones
 abbrev pub last_of : ℕ → List ℕ → ℕ
 last_of n [] = n
 last_of n (m ∷ more) = last_of m more
 
--- `port M pop F N FIRST LAST` or `port M push F N FIRST LAST`, where N is not 0
+-- the line `port M pop F N FIRST LAST` or `port M push F N FIRST LAST`, if N is not 0
 abbrev pub port_lines : Token → Token → Side → List ℕ → List (List Token)
 port_lines name channel side [] = []
 port_lines name channel side (first ∷ more) =
     (codes "port" ∷ name ∷ side_word side ∷ channel ∷ decimal (length (first ∷ more)) ∷ decimal first
     ∷ decimal (last_of first more) ∷ []) ∷ []
 
--- of each channel, in order of declaration, the lines of its popping side and then those of its pushing side
+-- for each channel, in order of declaration, the lines of its popping side and then those of its pushing side
 abbrev pub at_each_side : ℕ → (ℕ → Side → List (List Token)) → List (List Token)
 at_each_side channels lines = flat_map (λ f. lines f Pop ++ lines f Push) (range_with_len 0 channels)
 
@@ -53,17 +53,17 @@ abbrev pub ports_of : Plan → ℕ → ℕ → Side → List (List Token)
 ports_of p i f side =
     port_lines (module_name p.design i) (channel_name p.design f) side (port_clocks p i (record { side = side; channel = f }))
 
--- of a module its clocks, and then the causes of its stalls
+-- the lines of module i's clocks, and of the causes of its stalls
 abbrev pub clock_lines : Plan → ℕ → List (List Token)
 clock_lines p i =
     module_tokens (module_name p.design i) (moved_clocks p i) (still_clocks p i) ∷ at_each_side (length p.design.channels) (causes_of p i)
 
--- and then its ports, and where they are asked for its polls
+-- all lines of module i: its clocks, the causes of its stalls, its ports, and, if they are asked for, its polls
 abbrev pub module_lines : Bool → Plan → ℕ → List (List Token)
 module_lines polls p i =
     (clock_lines p i ++ at_each_side (length p.design.channels) (ports_of p i)) ++ (if polls then poll_lines p i else [])
 
--- `fifo F MOST EMPTY FULL`
+-- the tokens of `fifo F MOST EMPTY FULL`
 abbrev pub fifo_tokens : Token → ℕ → ℕ → ℕ → List Token
 fifo_tokens name most empty full = codes "fifo" ∷ name ∷ decimal most ∷ decimal empty ∷ decimal full ∷ []
 
@@ -75,6 +75,6 @@ stall_lines polls p =
     (codes "stalls" ∷ []) ∷ verdict_tokens (verdict p)
     ∷ flat_map (module_lines polls p) (range_with_len 0 (length p.design.modules)) ++ map (fifo_line p) (fifos p)
 
--- with the lines of polls or without them
+-- the text of `stalls`, with the lines of polls or without them
 unfoldable pub stalls_text : Bool → Plan → List ℕ
 stalls_text polls p = text_of_lines (stall_lines polls p)

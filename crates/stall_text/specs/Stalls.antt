@@ -31,10 +31,10 @@ port_clocks p i port = clocks_of (filter (λ a. a.event.«module» == i && moved
 unfoldable pub most : Plan → ℕ → ℕ
 most p f = fold max 0 (map (fill p f) (range_with_len 0 (last_clock p + 1)))
 
--- in how many clocks below the verdict's it holds no element that can be popped
+-- in how many clocks before the verdict's channel f holds no element that can be popped
 unfoldable pub empty_clocks : Plan → ℕ → ℕ
 empty_clocks p f = count_by (λ c. is_empty c (contents_of (state p c).contents f)) (range_with_len 0 (last_clock p))
 
--- and in how many it is full
+-- in how many clocks before the verdict's channel f is full
 unfoldable pub full_clocks : Plan → ℕ → ℕ
 full_clocks p f = count_by (λ c. is_full p f (contents_of (state p c).contents f)) (range_with_len 0 (last_clock p))

@@ -1,4 +1,4 @@
-//! The clocks of each module, and why it stands still.
+//! The lines of each module's clocks, and of the causes of its stalls.
 ghost use Rattle.std.specs.Prelude.{ℕ, ◌≡◌, ◌<◌, ◌≤◌, ◌^◌, ◌+◌, ◌++◌, Bool, length, slice_index};
 ghost use Rattle.std.specs.Prelude.{All, IfOk, OnOk};
 ghost use Rattle.report_text.specs.Lines.{line, text_of_lines};
@@ -14,16 +14,16 @@ use report_text::{channel_name, module_name, push_token, push_value};
 use stall_spans::{Doing, Span};
 use std::alloc::Global;
 
-/// The clocks of a module below the verdict's.
+/// How a module spends the clocks before the verdict's.
 #[derive(Clone, Copy, Debug, PartialEq, Eq)]
 pub(crate) struct Clocks {
-    /// The clocks in which the module moves.
+    /// In how many clocks the module moves.
     pub(crate) moved: u64,
-    /// The clocks in which the module stands still.
+    /// In how many clocks the module stalls.
     pub(crate) still: u64,
 }
 
-/// The clocks of spans in which the module moves, and those in which it stands still.
+/// In how many clocks of these spans the module moves, and in how many it stalls.
 pub(crate) fn clocks_of(spans: &[Span]) -> Clocks
     requires order { All (λ s. s.first ≤ s.until) spans.now }
     requires few { (test : Doing → Bool) → spans_clocks test spans.now < 2 ^ 64 }
@@ -42,7 +42,7 @@ pub(crate) fn clocks_of(spans: &[Span]) -> Clocks
     Clocks { moved, still }
 }
 
-/// For each channel the clocks of spans in which the module stands still at this side of it.
+/// For each channel the number of clocks of these spans in which the module stalls at this side of it.
 pub(crate) fn still_clocks(
     alloc: Global,
     channels: usize,
@@ -63,7 +63,7 @@ pub(crate) fn still_clocks(
     Ok(clocks)
 }
 
-/// Adds the clocks of a span in which the module stands still at this side of a channel.
+/// Adds the clocks of a span to those of a channel, if the module stalls there at this side.
 fn add_still(clocks: &mut [u64], side: Side, span: Span)
     requires order { span.first ≤ span.until }
     requires inside { IsInside (length clocks.old) span.doing }
@@ -96,7 +96,7 @@ pub(crate) fn print_clocks(
     text.push(b'\n')
 }
 
-/// Adds the lines of the causes for which a module stands still, by the clocks at each empty channel and at each full one.
+/// Adds the lines of the causes of a module's stalls, given its clocks at each empty channel and at each full one.
 pub(crate) fn print_causes(
     text: &mut List<u8>,
     design: &Design,
@@ -121,7 +121,7 @@ pub(crate) fn print_causes(
     Ok(())
 }
 
-/// Adds the line of a cause, if the module stands still for it in some clock.
+/// Adds the line of a cause, if the module stalls for it in some clock.
 fn print_cause(
     text: &mut List<u8>,
     name: &[u8],
@@ -142,7 +142,7 @@ fn print_cause(
     text.push(b'\n')
 }
 
-/// Why a module stands still that cannot pop, or push.
+/// The word for the cause of a module's stall: it cannot pop, or cannot push.
 fn cause_word(side: Side) -> &'static [u8]
     ensures { result.now ≡ cause_word side }
 {

@@ -1,4 +1,4 @@
-//! How full each FIFO is.
+//! The lines that tell how full each FIFO is.
 ghost use Rattle.std.specs.Prelude.{◌≡◌, ◌<◌, ◌≤◌, ◌++◌, [], true, if◌then◌else◌, length, map, slice_index};
 ghost use Rattle.std.specs.Prelude.{All, IfOk, OnOk};
 ghost use Rattle.event_timing.specs.Actions.{IsFinal};
@@ -20,18 +20,18 @@ use report_text::{channel_name, push_token, push_value};
 use sim_core::Core;
 use std::alloc::Global;
 
-/// How full a FIFO is.
+/// How full a FIFO is in a simulation.
 #[derive(Clone, Copy, Debug, PartialEq, Eq)]
 struct Filling {
-    /// How many elements it holds at most.
+    /// The most elements that the FIFO holds in a clock.
     most: u64,
-    /// The clocks in which the FIFO holds no element that can be popped.
+    /// In how many clocks the FIFO holds no element that can be popped.
     empty: u64,
-    /// The clocks in which the FIFO is full.
+    /// In how many clocks the FIFO is full.
     full: u64,
 }
 
-/// Adds the line of each FIFO of a final core's plan, where this is the clock of its verdict.
+/// Adds a line for each FIFO of a final core's plan. `clock` is that of the plan's verdict.
 pub(crate) fn print_fifos(
     alloc: Global,
     text: &mut List<u8>,
@@ -74,7 +74,7 @@ fn print_fifo(
     }
 }
 
-/// How full a FIFO of this delay is.
+/// How full a FIFO with this delay is in a final core's plan.
 fn filling_at(
     alloc: Global,
     core: &Core,
@@ -111,9 +111,9 @@ fn filling_at(
     )
 }
 
-/// How full a FIFO of this depth and delay is below a clock, by the clocks of its pops and pushes.
+/// How full a FIFO with this depth and delay is in the clocks below `clock`, given the clocks of its pops and pushes.
 ///
-/// It takes memory for the clocks in which the elements can be popped.
+/// It takes memory for the clocks from which on its elements can be popped.
 fn filling_of(
     alloc: Global,
     depth: u64,
@@ -141,7 +141,7 @@ fn filling_of(
     })
 }
 
-/// Clocks that come so many clocks later.
+/// Each of these clocks, `by` clocks later.
 fn later(alloc: Global, clocks: &[u64], by: u64) -> Result<Words, OutOfMemory>
     requires by { by ≤ FIFO_DELAY }
     requires clocks { All (λ c. c < CYCLES) clocks.now }

@@ -1,4 +1,4 @@
-//! Modules that poll.
+//! How modules poll.
 ghost use Rattle.std.specs.Prelude.{◌≡◌, ◌<◌, ◌^◌, ◌++◌, length, replicate, slice_index_or, slice_set};
 ghost use Rattle.std.specs.Prelude.{All, IfOk, IfSome, OnOk, is_some};
 ghost use Rattle.event_timing.specs.Actions.{IsFinal};
@@ -16,28 +16,28 @@ use report_text::{module_name, push_token, push_value};
 use sim_core::{Core, LoggedAccess};
 use std::alloc::Global;
 
-/// What is known of a module that may poll.
+/// What is known of a module that may poll, after some of its accesses.
 #[derive(Clone, Copy, Debug, PartialEq, Eq)]
 pub(crate) struct Polling {
-    /// In how many clocks before the last one with an access each access was a missed query.
+    /// In how many clocks the module polled, before its last clock with an access.
     pub(crate) before: u64,
-    /// The last clock with an access.
+    /// The module's last clock with an access. `None` where it had no access.
     pub(crate) last: Option<u64>,
-    /// Whether each access of that clock was a missed query.
+    /// Whether each access of the module in its last clock with an access was a missed query.
     pub(crate) missing: bool,
 }
 
 /// How the modules of a design poll.
 #[derive(Drop)]
 pub(crate) struct Polls {
-    /// Of each module.
+    /// How each module polls, in order.
     pub(crate) modules: List<Polling>,
     pub(crate) queries: AllQueries,
 }
 
-/// How the modules of a final core's plan poll; nothing where it is not asked for.
+/// How the modules of a final core's plan poll. `None` where that is not asked for.
 ///
-/// It takes memory for what each access gave, where it is asked for.
+/// It takes memory for what each access gave, if it is asked for.
 pub(crate) fn polls_if(
     alloc: Global,
     asked: bool,
@@ -59,7 +59,7 @@ pub(crate) fn polls_if(
     }))
 }
 
-/// Adds the lines of how a module polls, where it is asked for.
+/// Adds the lines that tell how a module polls, if they are asked for.
 pub(crate) fn print_polling(
     text: &mut List<u8>,
     design: &Design,
@@ -77,7 +77,7 @@ pub(crate) fn print_polling(
     }
 }
 
-/// Adds the lines of how a module polls.
+/// Adds the lines that tell how a module polls.
 fn print_kept(
     text: &mut List<u8>,
     design: &Design,
@@ -94,7 +94,7 @@ fn print_kept(
     print_queries(text, design, owner, &kept.queries)
 }
 
-/// How each of so many modules polls, by what each access gave.
+/// How each of so many modules polls, given what each access gave.
 fn pollings(alloc: Global, modules: u32, log: &[LoggedAccess]) -> Result<List<Polling>, OutOfMemory>
     requires inside { All (λ a. a.event.module < modules) log.now }
     ensures { IfOk result (ArePollings modules log.now) }
@@ -106,7 +106,7 @@ fn pollings(alloc: Global, modules: u32, log: &[LoggedAccess]) -> Result<List<Po
     Ok(pollings)
 }
 
-/// Of each module no access.
+/// What is known of each of so many modules before any access.
 fn no_pollings(alloc: Global, modules: u32) -> Result<List<Polling>, OutOfMemory>
     ensures { IfOk result (λ pollings. pollings ≡ replicate modules unpolled) }
 {
@@ -121,7 +121,7 @@ fn no_pollings(alloc: Global, modules: u32) -> Result<List<Polling>, OutOfMemory
     Ok(pollings)
 }
 
-/// A module makes an access more.
+/// Counts one more access, at its module.
 fn count_access(pollings: &mut List<Polling>, access: &LoggedAccess)
     requires inside { access.now.event.module < length pollings.old }
     requires few { polled (slice_index_or pollings.old access.now.event.module unpolled) < 2 ^ 64 }
@@ -132,7 +132,7 @@ fn count_access(pollings: &mut List<Polling>, access: &LoggedAccess)
     *of = polling_with(*of, access);
 }
 
-/// How a module polls with an access more.
+/// What is known of a module after one more access.
 fn polling_with(of: Polling, access: &LoggedAccess) -> Polling
     requires { polled of < 2 ^ 64 }
     ensures { result ≡ polling_with of access.now }
@@ -153,7 +153,7 @@ fn polling_with(of: Polling, access: &LoggedAccess) -> Polling
     }
 }
 
-/// In how many clocks a module polls.
+/// In how many clocks the module polled so far.
 fn polled_so_far(of: Polling) -> u64
     requires { polled of < 2 ^ 64 }
     ensures { result ≡ polled of }
@@ -161,7 +161,7 @@ fn polled_so_far(of: Polling) -> u64
     of.before + of.missing as u64
 }
 
-/// Adds the line of a module that polls in so many clocks, if there are any.
+/// Adds the line that tells in how many clocks a module polls, if it polls in any.
 fn print_polls(text: &mut List<u8>, name: &[u8], clocks: u64) -> Result<(), OutOfMemory>
     ensures { OnOk result (text.new ≡ text.old ++ text_of_lines (polls_lines name.now clocks)) }
 {

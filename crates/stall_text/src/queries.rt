@@ -1,4 +1,4 @@
-//! The queries of each kind on each channel.
+//! The queries of each kind on each channel, and their lines.
 ghost use Rattle.std.specs.Prelude.{◌≡◌, ◌≢◌, ◌<◌, ◌+◌, ◌^◌, ◌++◌, length, replicate, slice_set, slice_index_or};
 ghost use Rattle.std.specs.Prelude.{All, IfOk, OnOk};
 ghost use Rattle.report_text.specs.Lines.{text_of_lines};
@@ -11,18 +11,18 @@ use report_text::{channel_name, module_name, push_token, push_value};
 use sim_core::LoggedAccess;
 use std::alloc::Global;
 
-/// What is known of the queries of one kind on a channel.
+/// The queries of one kind on one channel.
 #[derive(Clone, Copy, Debug, PartialEq, Eq)]
 pub(crate) struct Queries {
-    /// The module that made the last of them; 0 where there is none.
+    /// The module that made the last of these queries; 0 where there is none.
     pub(crate) owner: u32,
-    /// How many there are.
+    /// How many of these queries there are.
     pub(crate) tried: u64,
-    /// How many of them were missed.
+    /// How many of these queries were missed.
     pub(crate) missed: u64,
 }
 
-/// The queries of each kind, on each channel.
+/// The queries of each kind, channel by channel.
 #[derive(Drop)]
 pub(crate) struct AllQueries {
     pub(crate) tryreads: List<Queries>,
@@ -31,7 +31,7 @@ pub(crate) struct AllQueries {
     pub(crate) fulls: List<Queries>,
 }
 
-/// The queries of all kinds on so many channels, by what each access gave.
+/// The queries of all kinds on so many channels, given what each access gave.
 pub(crate) fn all_queries(
     alloc: Global,
     channels: usize,
@@ -48,7 +48,7 @@ pub(crate) fn all_queries(
     })
 }
 
-/// The queries of one kind on each channel, by what each access gave.
+/// The queries of one kind on each of so many channels, given what each access gave.
 fn queries_at(
     alloc: Global,
     channels: usize,
@@ -67,7 +67,7 @@ fn queries_at(
     Ok(queries)
 }
 
-/// Of each channel no query.
+/// For each of so many channels that there is no query.
 fn no_queries(alloc: Global, channels: usize) -> Result<List<Queries>, OutOfMemory>
     ensures { IfOk result (λ queries. queries ≡ replicate channels unasked) }
 {
@@ -82,14 +82,14 @@ fn no_queries(alloc: Global, channels: usize) -> Result<List<Queries>, OutOfMemo
     Ok(queries)
 }
 
-/// Whether an access is a query of this kind; false of a read and of a write.
+/// Whether an access is a query of this kind. It is false for a read or a write.
 fn same_query(kind: Kind, other: Kind) -> bool
     ensures { result ≡ form.same_query kind other }
 {
     !kind.is_blocking() && kind == other
 }
 
-/// Counts a query on its channel.
+/// Counts one more query, at its channel.
 fn count_query(queries: &mut List<Queries>, access: &LoggedAccess)
     requires inside { access.now.event.channel < length queries.old }
     requires few_tried { (slice_index_or queries.old access.now.event.channel unasked).tried + 1 < 2 ^ 64 }
@@ -103,7 +103,7 @@ fn count_query(queries: &mut List<Queries>, access: &LoggedAccess)
     of.missed += is_missed(access) as u64;
 }
 
-/// Whether an access is a query that was not possible in its clock.
+/// Whether an access is a missed query: a query that was not possible in its clock.
 pub fn is_missed(access: &LoggedAccess) -> bool
     ensures { result ≡ form.is_missed access.now }
 {
@@ -143,7 +143,7 @@ pub(crate) fn print_queries(
     Ok(())
 }
 
-/// The queries on a channel.
+/// The queries on this channel, out of the list for all channels.
 fn queries_on(queries: &List<Queries>, channel: u32) -> Queries
     requires { channel < length queries.now }
     ensures { result ≡ slice_index_or queries.now channel unasked }
@@ -151,7 +151,7 @@ fn queries_on(queries: &List<Queries>, channel: u32) -> Queries
     queries.as_slice()[channel as usize]
 }
 
-/// Adds the line of queries, if they are the module's.
+/// Adds the line of these queries, if they are the module's.
 fn print_own(
     text: &mut List<u8>,
     owner: u32,
@@ -168,7 +168,7 @@ fn print_own(
     Ok(())
 }
 
-/// Adds the line of queries that are made.
+/// Adds the line of these queries, if there are any.
 fn print_query(
     text: &mut List<u8>,
     name: &[u8],

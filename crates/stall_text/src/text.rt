@@ -19,11 +19,12 @@ use report_text::{module_name, print_verdict};
 use sim_core::Core;
 use std::alloc::Global;
 
-/// The text of `stalls` for a final core's plan: the clocks in which each module moves and stands still, the causes of its stalls and
-/// the elements at its ports, and how full each FIFO is; with `polls` also how each module polls.
+/// The text of `stalls` for a final core's plan: in how many clocks each module moves and stalls, the causes of its stalls, the
+/// elements at its ports, and how full each FIFO is; with `polls` also how each module polls.
 ///
-/// It takes memory for the spans of one module at a time, for the clocks of one FIFO's pushes and pops at a time, for two numbers of each
-/// channel, and for the text; with `polls` also for what each access gave, and for a few numbers of each module and of each channel. An
+/// It takes memory for the spans of one module at a time, for the clocks of one FIFO's pushes and pops at a time, for two numbers
+/// for each channel, and for the text; with `polls` also for what each access gave, and for a few numbers for each module and each
+/// channel.
 /// error leaves nothing.
 pub fn stalls_text(alloc: Global, core: &Core, polls: bool) -> Result<List<u8>, OutOfMemory>
     requires { IsFinal (design_of core.now.plan) core.now.plan.cycles (theory_of core.now) }
@@ -39,7 +40,7 @@ pub fn stalls_text(alloc: Global, core: &Core, polls: bool) -> Result<List<u8>, 
     Ok(text)
 }
 
-/// Adds the lines of each module, and how the modules poll where that is asked for.
+/// Adds the lines of each module, and how it polls if that is asked for.
 fn print_modules(
     alloc: Global,
     text: &mut List<u8>,

@@ -1,4 +1,4 @@
-//! The laws, for any plan `p` that the engine takes.
+//! The laws of walks, for any plan `p` that the engine takes.
 ghost use Rattle.std.specs.Prelude.{◌≡◌, ℕ, suc, ◌+◌, ◌<◌, ◌≤◌, [], ◌∷◌, ◌++◌, List as Items, length, slice_index, slice_set, replicate};
 ghost use Rattle.flow_design.specs.declared.plan.Plan.{Plan};
 ghost use Rattle.flow_design.specs.declared.state.ModuleState.{ModuleState};
@@ -14,9 +14,9 @@ ghost use Rattle.timing_bridge.specs.Designs.{design, lockstep_run};
 ghost use Rattle.timing_bridge.specs.CoreReports.{core_step};
 ghost use Rattle.step_order.specs.Walks.{IsWalked, AreLate};
 
-/// A walk begins with no step. It may pass the next step of a module in the clock where it stands, if it stands before that module; it may
-/// skip modules, and it may go on to a later clock. Once it has passed all steps of a final core that have a cycle, they are the history up
-/// to the verdict; and before that they begin the history, where all others that have a cycle come later.
+/// A walk begins with no step. It may pass the next step of a module in its clock, if it is not beyond that module. It may skip
+/// modules, and go on to a later clock. Once it has passed all steps with a cycle of a final core, they are the history up to the
+/// verdict. Before that they begin the history, where all other steps with a cycle come later.
 pub fn walks_are_histories()
     ensures begins { (p : Plan) (x : Core ModuleState) (n : ℕ) → IsWalked p x [] (replicate n 0) 0 0 }
     ensures passes { (p : Plan) (x : Core ModuleState) (done : Items HistoryStep) (passed : Items ℕ) (clock next i : ℕ)

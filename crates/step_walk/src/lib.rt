@@ -1,4 +1,4 @@
-//! A walk over the steps of all modules that an engine has given cycles: clock by clock, and in one clock module by module.
+//! A walk over the steps to which an engine has given cycles: clock by clock, and within one clock module by module.
 #![tactic(auto)]
 
 mod walk;

@@ -1,4 +1,4 @@
-//! The walk.
+//! A walk over the steps of a graph.
 ghost use Rattle.std.specs.Prelude.{◌≡◌, ◌+◌, ◌<◌, ◌∷◌, ◌++◌, [], ℕ, length, map, is_some, IfOk, IfSome, IsNone, List as Items, Option};
 ghost use Rattle.std.specs.Prelude.{◌^◌, Some, min, slice_index, slice_set};
 ghost use Rattle.flow_design.specs.declared.plan.Plan.{Plan};
@@ -18,27 +18,27 @@ use event_graph::{Graph, Place};
 use flow_word::{List, OutOfMemory, Words};
 use std::alloc::Global;
 
-/// The cycle of a step that has none: later than each cycle.
+/// Stands for the cycle of a step that has none: it is later than each cycle.
 const NEVER: u64 = u64::MAX;
 
-/// A walk over the steps of a graph that have a cycle, in order of cycles, and in one cycle of modules. It goes round the modules once for
-/// each clock in which some step is done.
+/// A walk over the steps of a graph that have a cycle, in order of cycles, and within one cycle in order of modules. For each clock
+/// in which a step is done it makes a round over the modules.
 #[derive(Drop)]
 pub struct StepWalk {
-    /// Of each module how many of its steps were given.
+    /// How many of each module's steps were given.
     pub(crate) given: Words,
-    /// Of each module the cycle of its next step.
+    /// The cycle of each module's next step.
     pub(crate) next: Words,
     /// The clock of this round.
     pub(crate) clock: u64,
     /// The module whose turn it is in this round.
     pub(crate) module: u32,
-    /// The least cycle after the clock of those next steps whose modules have had their turn.
+    /// The least cycle, after this round's clock, of the next steps of those modules that have had their turn.
     pub(crate) later: u64,
 }
 
 impl StepWalk {
-    /// A walk that has given no step. It takes memory for two numbers of each module. An error leaves nothing.
+    /// A walk that has given no step. It takes memory for two numbers for each module.
     pub fn new(alloc: Global, graph: &Graph) -> Result<StepWalk, OutOfMemory>
         ensures walk { IfOk result (IsWalk graph.now.lanes) }
         ensures given { IfOk result (λ walk. HasGiven graph.now.lanes walk []) }
@@ -52,9 +52,9 @@ impl StepWalk {
         })
     }
 
-    /// The next step of the graph; none where it has given all that have a cycle. It takes no memory.
+    /// The next step of the walk. `None` once it has given all steps that have a cycle. It takes no memory.
     ///
-    /// Where what is held is the end of a plan's run, all that it gave are the history of the plan up to its verdict.
+    /// Where the engine holds the end of a plan's simulation, all steps together are the plan's history up to its verdict.
     pub fn advance(&mut self, graph: &Graph) -> Option<TimedStep>
         requires { IsWalk graph.now.lanes self.old }
         ensures walk { IsWalk graph.now.lanes self.new }
@@ -75,7 +75,7 @@ impl StepWalk {
         found
     }
 
-    /// The next step in the clock of this round.
+    /// The next step in this round's clock. `None` where this round has no further one.
     fn find(&mut self, graph: &Graph) -> Option<TimedStep>
         requires { IsWalk graph.now.lanes self.old }
         ensures walk { IsWalk graph.now.lanes self.new }
@@ -116,7 +116,7 @@ impl StepWalk {
         }
     }
 
-    /// Passes the module whose turn it is, which does nothing in this clock.
+    /// Passes over the module whose turn it is, and which has no step in this round's clock.
     fn pass(&mut self, owner: u32)
         requires turn { self.old.module ≡ owner }
         requires inside { owner < length self.old.next }
@@ -131,7 +131,7 @@ impl StepWalk {
         self.module = owner + 1;
     }
 
-    /// Begins the round of the next clock in which a step is done.
+    /// Begins a round for the next clock in which a step is done.
     fn begin_round(&mut self)
         ensures given { self.new.given ≡ self.old.given }
         ensures next { self.new.next ≡ self.old.next }
@@ -156,7 +156,7 @@ fn first_cycles(alloc: Global, graph: &Graph) -> Result<Words, OutOfMemory>
     Ok(cycles)
 }
 
-/// The cycle of a module's step of this number; `NEVER` where it has none.
+/// The cycle of a module's step with this number. `NEVER` where it has none.
 fn cycle_at(graph: &Graph, owner: u32, step: u64) -> u64
     requires { owner < length graph.now.lanes }
     ensures { result ≡ next_cycle graph.now.lanes owner step }

@@ -1,4 +1,4 @@
-//! Timing: the cycle of a module's next step, from the cycles that were given before.
+//! Timing: the cycle of a module's next step, from the cycles that were given so far.
 #![tactic(auto)]
 
 mod known;

@@ -1,4 +1,4 @@
-//! The cycle of a module's first step without one.
+//! The cycle of a module's first step without a cycle.
 ghost use Rattle.std.specs.Prelude.{◌≡◌, ℕ, List, All, ◌+◌, ◌^◌, ◌<◌, ◌≤◌, ◌↔◌, ◌∷◌, [], length, filter, not, cond, slice_index};
 ghost use Rattle.std.specs.Prelude.{position};
 ghost use Rattle.std.specs.Prelude.{unwrap_or, is_none, None, Some, IfSome, IfOk, OnOk, IfErr, IsSomeAnd};
@@ -16,8 +16,8 @@ use fifo_table::FifoTable;
 use flow_word::Steps;
 use std::sync::ledger::Ledger;
 
-/// What is known of the cycle of a module's first step without one. It looks at each access of that step once, and takes
-/// no memory.
+/// What is known of the cycle of a module's first step without a cycle. A determined cycle of `limit` or more is `Beyond`. It looks
+/// at each access of that step once, and takes no memory.
 #[inline(always)]
 pub fn candidate(graph: &Graph, fifos: &FifoTable, owner: u32, limit: u64) -> Candidate
     requires owner { owner < length graph.now.lanes }
@@ -35,7 +35,8 @@ pub fn candidate(graph: &Graph, fifos: &FifoTable, owner: u32, limit: u64) -> Ca
     candidate_and_queries(graph, fifos, owner, limit).0
 }
 
-/// The candidate of a module's next step, and how many of the step's accesses are queries where none waits.
+/// What is known of the cycle of a module's first step without a cycle, and how many of its accesses are queries. The number is
+/// right where no access waits.
 #[inline(always)]
 pub fn candidate_and_queries(
     graph: &Graph,
@@ -71,8 +72,7 @@ pub fn candidate_and_queries(
     }
 }
 
-/// Gives a module's first step without a cycle this one. The steps stay, so what the graph and a table were to each
-/// other they still are.
+/// Gives a cycle to a module's first step without one. The steps stay, so the graph still fits each table that it fitted.
 pub fn assign<L: Ledger>(graph: &mut Graph, owner: u32, cycle: u64, steps: &mut Steps<L>)
     requires { MayTake graph.old.lanes owner cycle }
     ensures lanes { graph.new.lanes ≡ with_cycle graph.old.lanes owner cycle }
@@ -85,7 +85,7 @@ pub fn assign<L: Ledger>(graph: &mut Graph, owner: u32, cycle: u64, steps: &mut 
     graph.set_cycle(owner, cycle, steps);
 }
 
-/// A module's last cycle, and 0 where it has none.
+/// A module's last cycle, or 0 where it has none.
 pub fn last_cycle(graph: &Graph, owner: u32) -> u64
     requires { owner < length graph.now.lanes }
     ensures cycle { result ≡ unwrap_or (last_of (lane_at graph.now.lanes owner)) 0 }
@@ -102,8 +102,8 @@ pub fn last_cycle(graph: &Graph, owner: u32) -> u64
     }
 }
 
-/// The latest of a clock and of those from which the blocking accesses are possible, or the number of the first access that
-/// waits.
+/// The latest of a clock and of those from which on the blocking accesses are possible. The error is the number, counted from 0, of
+/// the first access that waits.
 pub fn latest(
     graph: &Graph,
     fifos: &FifoTable,
@@ -121,7 +121,8 @@ pub fn latest(
     Ok(cycle)
 }
 
-/// The latest clock of these accesses, and how many of them are queries.
+/// The latest of a clock and of those from which on the blocking accesses are possible, and how many of the accesses are queries.
+/// The error is the number, counted from 0, of the first access that waits.
 #[inline(always)]
 fn latest_and_queries(
     graph: &Graph,
@@ -151,7 +152,7 @@ fn latest_and_queries(
     Ok((cycle, queries))
 }
 
-/// The later of a clock and of the one from which the access, if it blocks, is possible. None where it waits.
+/// The later of a clock and that from which on the access is possible, if it blocks. `None` where it waits.
 #[inline(always)]
 fn later(graph: &Graph, fifos: &FifoTable, access: &Access, clock: u64) -> Option<u64>
     requires access { IsAccess fifos.now.channels access.now }
@@ -168,7 +169,7 @@ fn later(graph: &Graph, fifos: &FifoTable, access: &Access, clock: u64) -> Optio
     }
 }
 
-/// How many queries an access of this kind is.
+/// How many queries an access of this kind is: 0 or 1.
 pub fn query_count(kind: Kind) -> u64
     ensures count { result ≡ cond (is_blocking kind) 0 1 }
     ensures most { result ≤ 1 }

@@ -28,7 +28,7 @@ use Rattle.timing_bridge.specs.Designs.{design, seen, told_all}
 
 -- ---- steps
 
--- step k of module i, with its cycle, as the history has it
+-- step k of module i, with its cycle, in the form that the history has
 abbrev pub core_step : Plan → Core ModuleState → ℕ → ℕ → HistoryStep
 core_step p x i k = record {
   clock = x.cycle i k;
@@ -36,11 +36,11 @@ core_step p x i k = record {
   exchanges = paired (requests_of p (i, x.state i k)) (told_all (requests_of p (i, x.state i k)) (core_reply (design p) x i k));
 }
 
--- the steps with a cycle
+-- the steps of module i with a cycle, in order
 abbrev pub core_steps : Plan → Core ModuleState → ℕ → List HistoryStep
 core_steps p x i = map (core_step p x i) (range_with_len 0 (x.timed i))
 
--- all modules' steps with a cycle, in order of cycles and then of modules
+-- these are all modules' steps with a cycle, in order of cycles, and within one cycle in order of modules
 pub record AreInOrder (p : Plan) (x : Core ModuleState) (steps : List HistoryStep) : Type 0 where
   pub rising : AllPairs IsBefore steps
   pub each : (i : ℕ) → steps_of i steps ≡ core_steps p x i
@@ -48,15 +48,15 @@ pub record AreInOrder (p : Plan) (x : Core ModuleState) (steps : List HistorySte
 abbrev pub modules_of : Plan → List ℕ
 modules_of p = range_with_len 0 (length p.design.modules)
 
--- all steps with a cycle, each by its module and its number, module by module
+-- the places of all steps with a cycle, module by module: each is a module's number and the step's number
 abbrev pub core_places : Plan → Core ModuleState → List (ℕ × ℕ)
 core_places p x = flat_map (λ i. map (λ k. (i, k)) (range_with_len 0 (x.timed i))) (modules_of p)
 
--- one comes before the other: its cycle is less, or it is the same and its module's number is less
+-- a step comes before another: its cycle is less, or the cycles are equal and its module's number is less
 abbrev pub comes_before : Core ModuleState → ℕ × ℕ → ℕ × ℕ → Bool
 comes_before x a b = nat_lt (x.cycle a.0 a.1) (x.cycle b.0 b.1) || (x.cycle a.0 a.1 == x.cycle b.0 b.1 && nat_lt a.0 b.0)
 
--- these are those places, sorted
+-- these are the places of all steps with a cycle, sorted by cycle and module
 pub record AreSorted (p : Plan) (x : Core ModuleState) (places : List (ℕ × ℕ)) : Type 0 where
   pub all : IsPermutation (core_places p x) places
   pub sorted : IsSortedBy (comes_before x) places
@@ -66,7 +66,7 @@ steps_at p x places = map (λ a. core_step p x a.0 a.1) places
 
 -- ---- the verdict
 
--- the state of a module behind its steps with a cycle and its quiet clocks
+-- the state of module i after its steps with a cycle and the quiet clocks that follow
 abbrev pub core_state : Plan → Core ModuleState → ℕ → ModuleState
 core_state p x i = ready (design p) i (own (design p) i (core_reply (design p) x i) (x.timed i))
 
@@ -78,11 +78,12 @@ abbrev pub last_stop : Plan → Core ModuleState → ℕ → ℕ
 last_stop p x zero = 0
 last_stop p x (suc n) = max (stop (design p) x n) (last_stop p x n)
 
--- some first step without a cycle is determined, at the limit or later
+-- the core determines some module's first step without a cycle
 abbrev pub is_determined : Plan → Core ModuleState → Bool
 is_determined p x = list_any (λ i. is_some (candidate (design p) (view (design p) x) i)) (modules_of p)
 
--- the cycle limit where a step is determined or a stop is above it, and else what the states at the last stop say
+-- the verdict that a final core tells: the cycle limit where a step is determined or a stop is above the limit, and else what the
+-- states at the last stop say
 unfoldable pub core_verdict : Plan → Core ModuleState → Verdict
 core_verdict p x =
     if is_determined p x || nat_lt p.cycles (last_stop p x (length p.design.modules)) then Cycles p.cycles
@@ -90,13 +91,13 @@ core_verdict p x =
 
 -- ---- held modules
 
--- the core knows from which clock on it is possible
+-- the core knows from which clock on an access is possible
 abbrev pub is_from : Known → Bool
 is_from (From u) = true
 is_from Never = false
 is_from Unknown = false
 
--- a blocking request of the first step without a cycle that will never be done, by what the core knows
+-- the request holds module i: it blocks, and the core does not know from when on it is possible
 abbrev pub is_stuck : Plan → Core ModuleState → ℕ → Request → Bool
 is_stuck p x i r = is_blocking r.kind && not (is_from (known_of (design p) (view (design p) x) i (seen r)))
 
@@ -118,7 +119,7 @@ core_held p x (Ops c) = filter_map (core_held_by p x) (modules_of p)
 abbrev pub pusher : Plan → ℕ → ℕ
 pusher p f = owner p (record { side = Push; channel = f })
 
--- all that was pushed on a channel in steps with a cycle
+-- all values that were pushed on a channel in steps with a cycle
 abbrev pub sink_values : Plan → Core ModuleState → ℕ → List ℕ
 sink_values p x f =
     values (contents_of (state p 0).contents f)
@@ -126,7 +127,7 @@ sink_values p x f =
 
 -- ---- the report
 
--- with these steps, in order
+-- the report that is read off a final core with these steps, in order, and this verdict
 abbrev pub core_report : Plan → Core ModuleState → List HistoryStep → Verdict → Report
 core_report p x steps v = record {
   verdict = v;

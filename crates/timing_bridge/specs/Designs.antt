@@ -22,7 +22,7 @@ use Rattle.event_timing.specs.Histories.{Trace}
 
 -- ---- requests and replies
 
--- a request as the theory sees it
+-- a request as an access of the theory
 abbrev pub seen : Request → theory.Access
 seen r = record {
   side = side_of r.kind;
@@ -32,7 +32,7 @@ seen r = record {
   value = r.value;
 }
 
--- the theory's reply as the module is told it; `empty` and `full` report the negation
+-- a reply of the theory as the machine gives it; `empty` and `full` answer the negation
 abbrev pub told : Request → theory.Reply → Reply
 told r a = reply_by r.kind a.possible a.front
 
@@ -54,12 +54,12 @@ is_source Source = true
 is_source Sink = false
 is_source (Fifo depth delay) = false
 
--- how many pops are possible before any push, and how many pushes before any pop
+-- how many pops of a channel are possible before any push, and how many pushes before any pop
 abbrev pub start_in : Plan → Side → ℕ → ℕ
 start_in p Pop f = length (values (contents_of (state p 0).contents f))
 start_in p Push f = slice_index p.depths f
 
--- a push is seen by a pop after the channel's delay, and a pop by a push one clock later
+-- the lag of a side: a pop sees a push after the channel's delay, and a push sees a pop one clock later
 abbrev pub lag_in : Plan → Side → ℕ → ℕ
 lag_in p Pop f = delay_at p f
 lag_in p Push f = 1

@@ -1,4 +1,4 @@
-//! The laws, for any plan `p` that the engine takes.
+//! The laws of the bridge, for any plan `p` that the engine takes.
 ghost use Rattle.std.specs.Prelude.{ℕ, true, ◌≡◌, suc, ◌+◌, ◌*◌, ◌<◌, ◌≤◌, List, [], ◌∷◌, Some, map, length, slice_index};
 ghost use Rattle.std.specs.List.{range_with_len};
 ghost use Rattle.flow_word.specs.declared.access.Side.{Side};
@@ -36,9 +36,9 @@ pub fn plans_are_designs()
     ensures bounded { (p : Plan) → FitsEngine p → IsBounded (design p) p.ops }
 {}
 
-/// A module's own run, local clock by local clock, is the theory's own run: as long as it has made no more steps than there are
-/// replies, its steps are the theory's, each with its quiet clocks as gap and the requests of the state behind them, and it stands
-/// in the quiet clocks behind the latest. The replies may be those that a core tells of emitted steps.
+/// A module's own run, local clock by local clock, is the theory's own run, as long as it has made no more steps than there are
+/// replies. Its steps are the theory's: each has its quiet clocks as gap, and the requests of the state after them. Its state is
+/// the theory's after the latest step and some quiet clocks. The replies may be those that a core gives to emitted steps.
 pub fn own_runs_are_the_same()
     ensures same { (p : Plan) → FitsEngine p → (i : ℕ) → i < length p.design.modules
         → (r : ℕ → List theory.Reply) (replies : List (List Reply)) → AreTold p i r replies
@@ -47,22 +47,22 @@ pub fn own_runs_are_the_same()
         → AreTold p i (core_reply (design p) x i) (core_replies p x i n) }
 {}
 
-/// After every list of permitted actions from the opening core, the core agrees with the plan's lockstep run.
+/// A core that permitted actions make of the opening core agrees with the plan's lockstep run, in whatever order they come.
 pub fn every_order_agrees()
     ensures { (p : Plan) → FitsEngine p → (limit : ℕ) (actions : List Action) (x : Core ModuleState)
         → ActsAll (design p) limit (opening_core (design p)) actions x → IsAgreed (design p) (lockstep_run p) limit x }
 {}
 
-/// Of a core that agrees, a module's first steps with a cycle are its steps in the history, each with its clock, accesses, values
-/// and outcomes: as many as the history does before a clock up to which the core has them all.
+/// In a core that agrees, a module's steps with a cycle are its first steps in the history, each with its clock, accesses, values
+/// and outcomes. Where the core has all steps before a clock, they are as many as the history does before it.
 pub fn cores_show_history()
     ensures { (p : Plan) → FitsEngine p → (limit : ℕ) (x : Core ModuleState) → IsAgreed (design p) (lockstep_run p) limit x
         → (i : ℕ) → i < length p.design.modules → (c : ℕ) → done (design p) (lockstep_run p) i c ≤ x.timed i
         → steps_of i (history p c) ≡ map (core_step p x i) (range_with_len 0 (done (design p) (lockstep_run p) i c)) }
 {}
 
-/// The step of a determined candidate is the module's next step in the history, in that clock. Its outcomes there are what an Answer
-/// and an Earliest find, and what is recorded where they are verified.
+/// A determined step is the module's next step in the history, in the determined clock. Its outcomes there are those that an Answer
+/// or an Earliest finds, and those that are recorded and verified.
 pub fn outcomes_are_history()
     ensures determined { (p : Plan) → FitsEngine p → (limit : ℕ) (x : Core ModuleState) → IsAgreed (design p) (lockstep_run p) limit x
         → (i c : ℕ) → candidate (design p) (view (design p) x) i ≡ Some c → (s : HistoryStep) × (s.clock ≡ c) × IsNextStep p x i (suc c) s }
@@ -77,14 +77,14 @@ pub fn outcomes_are_history()
         → (s : HistoryStep) × IsNextStep p x i limit s × (outcomes (s ∷ []) ≡ outcomes_by (first_requests p x i) (x.flags i (x.timed i))) }
 {}
 
-/// The theory's count of a module's pops, or pushes, of a channel before its step `k` is how many elements its earlier steps
-/// moved there. So the ordinal of an access is one more.
+/// The theory's count of a module's pops, or pushes, of a channel before its step `k` is how many elements its earlier steps moved
+/// there. The ordinal of an access in step `k` is one more.
 pub fn ordinals_are_counts()
     ensures { (p : Plan) (x : Core ModuleState) → AreOwnMarks (design p) x → (i : ℕ) (side : Side) (f k : ℕ) → k ≤ x.emitted i
         → core_tally (design p) x i side f k ≡ length (moved side f (map (core_step p x i) (range_with_len 0 k))) }
 {}
 
-/// The report that is read off a final core, however it was reached, is the plan's.
+/// The report that is read off a final core is the plan's, in whatever order the core was reached.
 pub fn every_report()
     ensures reached { (p : Plan) → FitsEngine p → (actions : List Action) (x : Core ModuleState)
         → ActsAll (design p) p.cycles (opening_core (design p)) actions x → IsFinal (design p) p.cycles x
@@ -94,9 +94,9 @@ pub fn every_report()
         → (steps : List HistoryStep) → AreInOrder p x steps → report p ≡ core_report p x steps (core_verdict p x) }
 {}
 
-/// The steps with a cycle of a final core, in order of cycles and in one cycle of modules, are the history before the limit, and no
-/// other list is. They can be had by sorting, also those of a core that is not final. From the verdict's clock up to the cycle limit
-/// nothing is done, so the history before that limit is the one that the report tells.
+/// The steps with a cycle of a final core, in order of cycles, and within one cycle in order of modules, are the history before the
+/// limit. No other list in that order has the same steps. Sorting gives that order, for a core that is not final too. From the
+/// verdict's clock up to the cycle limit nothing is done, so the history before the limit is the one that the report tells.
 pub fn steps_in_order()
     ensures history { (p : Plan) → FitsEngine p → (limit : ℕ) (x : Core ModuleState) → IsAgreed (design p) (lockstep_run p) limit x
         → IsFinal (design p) limit x → AreInOrder p x (history p limit) }
@@ -107,9 +107,9 @@ pub fn steps_in_order()
     ensures reported { (p : Plan) → history p p.cycles ≡ history p (clock_of (verdict p)) }
 {}
 
-/// An edit that the plan takes gives a plan that the engine takes, whose design is the edited one; an edit to the depth that stands
-/// gives the plan itself. A final core that is cut back to the cycles below the first touched clock agrees with the edited plan; and
-/// after every list of actions that are permitted from there, the report that is read off a final core is the edited plan's.
+/// An edit that the plan takes gives a plan that the engine takes, whose design is the edited design. An edit to the depth that a
+/// FIFO has already gives the plan itself. A final core that is cut back to the cycles below the first touched clock agrees with
+/// the edited plan. After any permitted actions from there, the report that is read off a final core is the edited plan's.
 pub fn edited_plans_agree()
     ensures fits { (p : Plan) → FitsEngine p → (e : Edit) → EditFits p e → FitsEngine (with_depth p e.channel e.depth) }
     ensures same_depth { (p : Plan) (f : ℕ) → with_depth p f (slice_index p.depths f) ≡ p }
@@ -126,7 +126,8 @@ pub fn edited_plans_agree()
         → (steps : List HistoryStep) → AreInOrder q y steps → report q ≡ core_report q y steps (core_verdict q y) }
 {}
 
-/// From the opening core no list of permitted actions is longer than three for each operation of each module, and one for each module.
+/// A list of permitted actions from the opening core has at most three actions for each operation that each module may do, and one
+/// for each module.
 pub fn few_actions()
     ensures { (p : Plan) → FitsEngine p → (limit : ℕ) (actions : List Action) (x : Core ModuleState)
         → ActsAll (design p) limit (opening_core (design p)) actions x → length actions ≤ length p.design.modules * (3 * p.ops + 1) }

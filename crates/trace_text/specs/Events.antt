@@ -15,18 +15,18 @@ use Rattle.trace_text.specs.Spans.{spans_of}
 
 -- ---- one event
 
--- a track with this number and name
+-- the event that names the track with this number
 unfoldable pub name_event : ℕ → Token → List ℕ
 name_event number name =
     codes "{\"ph\":\"M\",\"pid\":0,\"tid\":" ++ decimal number
     ++ codes ",\"name\":\"thread_name\",\"args\":{\"name\":\"" ++ name ++ codes "\"}}"
 
--- `empty F` of a module that cannot pop off F, and `full F` of one that cannot push on it
+-- the words `empty F` of a module that cannot pop F, and `full F` of one that cannot push F
 abbrev pub side_word : Side → Token
 side_word Pop = codes "empty "
 side_word Push = codes "full "
 
--- its channel, where it stands still, is one of the design
+-- where a module stalls, its channel is one of the design
 abbrev pub IsDrawn : Design → Doing → Type 0
 IsDrawn design Moves = Unit {0}
 IsDrawn design (Still port) = port.channel < length design.channels
@@ -35,13 +35,13 @@ abbrev pub doing_name : Design → Doing → Token
 doing_name design Moves = codes "moves"
 doing_name design (Still port) = side_word port.side ++ channel_name design port.channel
 
--- a span of the track with this number
+-- the event of a span in the track with this number
 unfoldable pub span_event : Design → ℕ → Span → List ℕ
 span_event design number s =
     codes "{\"ph\":\"X\",\"pid\":0,\"tid\":" ++ decimal number ++ codes ",\"ts\":" ++ decimal s.first
     ++ codes ",\"dur\":" ++ decimal (s.until - s.first) ++ codes ",\"name\":\"" ++ doing_name design s.doing ++ codes "\"}"
 
--- what a FIFO of this name holds from this clock on
+-- the event that says how many elements a FIFO with this name holds from this clock on
 unfoldable pub fill_event : Token → ℕ → ℕ → List ℕ
 fill_event name clock count =
     codes "{\"ph\":\"C\",\"pid\":0,\"ts\":" ++ decimal clock ++ codes ",\"name\":\"" ++ name
@@ -55,16 +55,16 @@ names_of design = map (λ i. name_event i (module_name design i)) (range_with_le
 abbrev pub span_events : Plan → ℕ → List (List ℕ)
 span_events p i = map (span_event p.design i) (spans_of p i)
 
--- in clock 0, and where a FIFO holds another number of elements than in the clock before
+-- the event of FIFO f in clock c: in clock 0, and where it holds another number of elements than in the clock before
 abbrev pub fill_events_at : Plan → ℕ → ℕ → List (List ℕ)
 fill_events_at p f c =
     if c == 0 || not (fill p f c == fill p f (c - 1)) then fill_event (channel_name p.design f) c (fill p f c) ∷ [] else []
 
--- those up to a clock, it included
+-- the events of FIFO f in the clocks up to this one, which is included
 unfoldable pub fill_events : Plan → ℕ → ℕ → List (List ℕ)
 fill_events p f clock = flat_map (fill_events_at p f) (range_with_len 0 (clock + 1))
 
--- each module's name; each module's spans in order of time; each FIFO's fills in order of time
+-- all events of a trace: each module's name, each module's spans in order of time, and each FIFO's fills in order of time
 abbrev pub trace_events : Plan → List (List ℕ)
 trace_events p =
     names_of p.design ++ flat_map (span_events p) (range_with_len 0 (length p.design.modules))

@@ -1,4 +1,4 @@
--- The spans of a module as a list: one for each clock in which it begins to do something else.
+-- The spans of a module as a list: there is one for each clock in which it begins to do something else.
 use Rattle.std.specs.Prelude.{ℕ, ◌+◌, ◌-◌, ◌==◌, ◌||◌, Bool, true, false, not, unwrap_or, Option, Some, None, List, map}
 use Rattle.std.specs.Prelude.{filter}
 use Rattle.std.specs.List.{range_with_len, prefix_len}
@@ -10,7 +10,7 @@ use Rattle.stall_spans.specs.declared.span.Doing.TheVariants.{Moves, Still}
 use Rattle.stall_spans.specs.declared.span.Span.{Span}
 use Rattle.stall_spans.specs.Doings.{doing}
 
--- it moves in both, or it stands still in both by one cause
+-- two doings are the same: the module moves in both, or it stalls in both for one cause
 abbrev pub same_doing : Doing → Doing → Bool
 same_doing Moves Moves = true
 same_doing Moves (Still b) = false
@@ -25,7 +25,7 @@ is_doing d (Some e) = same_doing d e
 abbrev pub does : Plan → ℕ → Doing → ℕ → Bool
 does p i d c = is_doing d (doing p c i)
 
--- it does something in this clock, and did something else in the clock before
+-- module i does this in clock c, and did something else in the clock before
 abbrev pub begins_with : Plan → ℕ → ℕ → Option Doing → Bool
 begins_with p i c None = false
 begins_with p i c (Some d) = c == 0 || not (does p i d (c - 1))
@@ -33,7 +33,7 @@ begins_with p i c (Some d) = c == 0 || not (does p i d (c - 1))
 abbrev pub begins : Plan → ℕ → ℕ → Bool
 begins p i c = begins_with p i c (doing p c i)
 
--- it goes on as long as it does the same, up to the verdict's clock
+-- the span that begins in clock c: it goes on as long as module i does the same, up to the verdict's clock
 abbrev pub span_with : Plan → ℕ → ℕ → Doing → Span
 span_with p i c d = record { first = c; until = c + prefix_len (does p i d) (range_with_len c (last_clock p - c)); doing = d }
 

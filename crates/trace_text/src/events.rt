@@ -1,4 +1,4 @@
-//! Single events, each on a line of its own.
+//! Writing single events of a trace, each on a line of its own.
 ghost use Rattle.std.specs.Prelude.{◌≡◌, ◌<◌, ◌≤◌, ◌+◌, ◌++◌, ◌∷◌, ◌==◌, [], not};
 ghost use Rattle.std.specs.Prelude.{if◌then◌else◌, codes, map, length, slice_index_or, All, IsErrOf, OnErr, OnOk};
 ghost use Rattle.sim_io.specs.Causes.{AppendsPrefix, Rose};
@@ -14,7 +14,7 @@ use report_text::{channel_name, push_number};
 use sim_io::{Sink, TellFault, write_full};
 use stall_spans::{Doing, Span};
 
-/// Adds the name of a module's track.
+/// Adds the event that names a module's track.
 #[tactic(auto, unfolding(crate::specs::Events::name_event))]
 pub(crate) fn print_name(text: &mut List<u8>, number: u32, name: &[u8]) -> Result<(), OutOfMemory>
     ensures { OnOk result (text.new ≡ text.old ++ name_event number name.now) }
@@ -26,7 +26,7 @@ pub(crate) fn print_name(text: &mut List<u8>, number: u32, name: &[u8]) -> Resul
     text.extend_from_slice(b"\"}}")
 }
 
-/// Adds what a module does in a span.
+/// Adds the words for what a module does in a span.
 fn print_doing(text: &mut List<u8>, design: &Design, doing: Doing) -> Result<(), OutOfMemory>
     requires { IsDrawn design.now doing }
     ensures { OnOk result (text.new ≡ text.old ++ doing_name design.now doing) }
@@ -40,7 +40,7 @@ fn print_doing(text: &mut List<u8>, design: &Design, doing: Doing) -> Result<(),
     }
 }
 
-/// The word for a module that cannot pop, or push.
+/// The word for a module that cannot pop, or cannot push.
 fn side_word(side: Side) -> &'static [u8]
     ensures { result.now ≡ side_word side }
 {
@@ -50,7 +50,7 @@ fn side_word(side: Side) -> &'static [u8]
     }
 }
 
-/// Adds a span of a module's track, after a comma.
+/// Adds a comma and the event of a span, in a module's track.
 #[tactic(auto, unfolding(crate::specs::Events::span_event))]
 fn print_span(
     text: &mut List<u8>,
@@ -74,7 +74,7 @@ fn print_span(
     text.extend_from_slice(b"\"}")
 }
 
-/// Adds a span of a module's track to what is pending, and writes that where it is a piece.
+/// Adds the event of a span, in a module's track, to the pending text, and writes the text once it is a piece.
 #[tactic(auto, using(sim_io::proofs::Pending::prefix_none))]
 fn write_span<K: Sink>(
     pending: &mut List<u8>,
@@ -97,7 +97,7 @@ fn write_span<K: Sink>(
     Ok(())
 }
 
-/// Adds the spans of a module's track to what is pending, and writes that in pieces.
+/// Adds the events of a module's spans to the pending text, and writes it in pieces.
 pub(crate) fn write_spans<K: Sink>(
     pending: &mut List<u8>,
     design: &Design,
@@ -120,7 +120,7 @@ pub(crate) fn write_spans<K: Sink>(
     Ok(())
 }
 
-/// Adds what a FIFO holds from a clock on, after a comma.
+/// Adds a comma and the event that says what a FIFO holds from a clock on.
 #[tactic(auto, unfolding(crate::specs::Events::fill_event))]
 fn print_fill(text: &mut List<u8>, name: &[u8], clock: u64, fill: u64) -> Result<(), OutOfMemory>
     ensures { OnOk result (text.new ≡ text.old ++ (codes ",\n" ++ fill_event name.now clock fill)) }
@@ -135,7 +135,8 @@ fn print_fill(text: &mut List<u8>, name: &[u8], clock: u64, fill: u64) -> Result
     text.extend_from_slice(b"}}")
 }
 
-/// Adds what a FIFO holds from a clock on to what is pending, after a comma, and writes that where it is a piece.
+/// Adds a comma and the event that says what a FIFO holds from a clock on to the pending text, and writes the text once it is a
+/// piece.
 #[tactic(auto, using(sim_io::proofs::Pending::prefix_none))]
 pub(crate) fn write_fill<K: Sink>(
     pending: &mut List<u8>,
@@ -156,8 +157,8 @@ pub(crate) fn write_fill<K: Sink>(
     Ok(())
 }
 
-/// Adds what a FIFO holds from a clock on to what is pending, where that is another number of elements than before, and writes that where
-/// it is a piece.
+/// Adds the event that says what a FIFO holds from a clock on to the pending text, if it is another number of elements than before,
+/// and writes the text once it is a piece.
 pub(crate) fn write_change<K: Sink>(
     pending: &mut List<u8>,
     name: &[u8],

@@ -1,4 +1,4 @@
-//! What each FIFO holds, clock by clock.
+//! Writing what each FIFO holds, clock by clock.
 ghost use Rattle.std.specs.Prelude.{◌≡◌, ◌<◌, ◌≤◌, ◌++◌, [], length, if◌then◌else◌, IsErrOf, IsTrue, OnErr, OnOk};
 ghost use Rattle.std.specs.List.{flat_map};
 ghost use Rattle.sim_io.specs.Causes.{AppendsPrefix, Rose};
@@ -18,7 +18,7 @@ use report_text::channel_name;
 use sim_core::Core;
 use sim_io::{Sink, TellFault};
 
-/// Adds the lines of each FIFO up to the verdict's clock to what is pending, in order of declaration, and writes that in pieces.
+/// Adds the events of each FIFO up to the verdict's clock to the pending text, in order of declaration, and writes it in pieces.
 pub(crate) fn write_counters<K: Sink>(
     pending: &mut List<u8>,
     core: &Core,
@@ -41,7 +41,7 @@ pub(crate) fn write_counters<K: Sink>(
     Ok(())
 }
 
-/// Adds the lines of a channel up to the verdict's clock, if it is a FIFO, to what is pending, and writes that in pieces.
+/// Adds the events of a channel up to the verdict's clock to the pending text, if it is a FIFO, and writes it in pieces.
 fn write_channel<K: Sink>(
     pending: &mut List<u8>,
     core: &Core,
@@ -66,8 +66,8 @@ fn write_channel<K: Sink>(
     write_fifo(pending, core, channel, last, sink)
 }
 
-/// Adds the lines of a FIFO up to the verdict's clock to what is pending, and writes that in pieces: a line for clock 0, and one for each
-/// clock in which it holds another number of elements than in the clock before.
+/// Adds the events of a FIFO up to the verdict's clock to the pending text, and writes it in pieces: one for clock 0, and one for
+/// each clock in which the FIFO holds another number of elements than in the clock before.
 fn write_fifo<K: Sink>(
     pending: &mut List<u8>,
     core: &Core,

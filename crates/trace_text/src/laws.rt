@@ -4,8 +4,8 @@ ghost use Rattle.flow_design.specs.declared.plan.Plan.{Plan};
 ghost use Rattle.stall_spans.specs.Spans.{AreSpans};
 ghost use Rattle.trace_text.specs.Spans.{spans_of};
 
-/// A module's track has its spans: each maximal interval below the verdict's clock in which it moves throughout, or stands still
-/// throughout by one cause, in order of time, and nothing else.
+/// A module's track has exactly its spans, in order of time: the maximal intervals below the verdict's clock in which it moves
+/// throughout, or stalls throughout for one cause.
 pub fn tracks_have_the_spans()
     ensures { (p : Plan) (i : ℕ) → AreSpans p i (spans_of p i) }
 {}

@@ -19,10 +19,11 @@ use sim_core::Core;
 use sim_io::{Sink, TellFault, write_full};
 use std::alloc::Global;
 
-/// Writes the text of the trace of a final core's plan in pieces, and hands out the rest: each module's spans, and how many elements
-/// each FIFO holds in each clock up to the verdict's.
+/// Writes the trace of a final core's plan in pieces, and answers the part that is not yet written. The trace has each module's
+/// spans, and how many elements each FIFO holds in each clock up to the verdict's.
 ///
-/// It takes memory for the spans of one module at a time, and for a piece of the text. After an error a prefix of the text is written.
+/// It takes memory for the spans of one module at a time, and for a piece of the text. After a fault a prefix of the text is
+/// written.
 pub fn trace_text<K: Sink>(alloc: Global, core: &Core, sink: &mut K) -> Result<List<u8>, TellFault>
     requires { IsFinal (design_of core.now.plan) core.now.plan.cycles (theory_of core.now) }
     ensures rest { IfOk result (λ rest. IsTold (K.held sink.old) (K.held sink.new) rest (form.trace_text core.now.plan)) }
@@ -39,7 +40,7 @@ pub fn trace_text<K: Sink>(alloc: Global, core: &Core, sink: &mut K) -> Result<L
     Ok(pending)
 }
 
-/// Adds the names of the modules' tracks, with a comma between each two.
+/// Adds the events that name the modules' tracks, with a comma between each two.
 fn print_names(text: &mut List<u8>, design: &Design) -> Result<(), OutOfMemory>
     requires { length design.now.modules < 2 ^ 32 }
     ensures { OnOk result (text.new ≡ text.old ++ lines_of (names_of design.now)) }
@@ -55,7 +56,7 @@ fn print_names(text: &mut List<u8>, design: &Design) -> Result<(), OutOfMemory>
     Ok(())
 }
 
-/// Adds the spans of each module to what is pending, and writes that in pieces.
+/// Adds the events of each module's spans to the pending text, and writes it in pieces.
 fn write_tracks<K: Sink>(
     alloc: Global,
     pending: &mut List<u8>,

@@ -9,7 +9,7 @@ use Rattle.turn_history.specs.Turned.{Turned}
 use Rattle.turn_history.specs.Turns.{taker}
 use Rattle.turn_history.specs.Histories.{standing_of}
 
--- the pass whose number an entry bears
+-- the number of the pass that an entry bears; the opening bears none
 abbrev pub bearer : HubEntry → Option ℕ
 bearer (Opened p) = None
 bearer (Turn turn) = Some (taker turn)
@@ -17,7 +17,7 @@ bearer (Turn turn) = Some (taker turn)
 abbrev pub history_of : Plan → List HubTurn → List HubEntry
 history_of p turns = Opened p ∷ map Turn turns
 
--- what has been seen is a legal history of the plan, and this stands behind it
+-- the entries are a legal history of the plan, which leads to v
 pub record Stands (p : Plan) (seen : List HubEntry) (v : Turned ModuleState) : Type 0 where
   pub turns : List HubTurn
   pub entries : seen ≡ history_of p turns

@@ -11,13 +11,13 @@ use Rattle.turn_history.specs.Replays.{turn_on, turns_on}
 abbrev pub IsTurn : Plan → Turned ModuleState → HubTurn → Turned ModuleState → Type 0
 IsTurn p v turn w = IsTurnOf (design p) p.cycles v turn w
 
--- the turns, from the opening on, are legal, and this stands behind them
+-- the turns are legal from the plan's opening on, and lead to v
 abbrev pub IsHistoryOf : Plan → List HubTurn → Turned ModuleState → Type 0
 IsHistoryOf p turns v = TurnsOf (design p) p.cycles (opening_turned (design p)) turns v
 
 abbrev pub turned_by : Plan → Turned ModuleState → HubTurn → Option (Turned ModuleState)
 turned_by p v turn = turn_on (design p) p.cycles v turn
 
--- what stands behind the turns from the opening on, where they are legal
+-- where the turns lead from the plan's opening on; none where they are not legal
 abbrev pub standing_of : Plan → List HubTurn → Option (Turned ModuleState)
 standing_of p turns = turns_on (design p) p.cycles (opening_turned (design p)) turns

@@ -1,4 +1,4 @@
--- Legal histories of turns, computed: what stands behind a history is a function of it.
+-- Legal histories of turns, computed: where a history leads is a function of it.
 use Rattle.std.specs.Prelude.{ℕ, not, ◌&&◌, cond, eqb, ltb, List, [], ◌∷◌, Option, None, Some, is_none}
 use Rattle.std.specs.Option.{option_or, option_map}
 use Rattle.event_timing.specs.Machines.{Design}
@@ -8,7 +8,7 @@ use Rattle.turn_history.specs.declared.turn.HubTurn.TheVariants.{Lent, Ran, Time
 use Rattle.turn_history.specs.Turned.{Turned, lent_at, is_lent_to, after_lent, after_ran, after_timed, after_short}
 use Rattle.turn_history.specs.Rounds.{then_on, timings, earliest_of, runs_of}
 
--- what stands behind one turn more, where it fits
+-- where one more turn leads; none where it is not legal
 abbrev pub turn_on : {S : Type 0} → Design S → ℕ → Turned S → HubTurn → Option (Turned S)
 turn_on {S} d limit v (Lent q m) = cond (not v.short && (may_run d v.core m && is_none (lent_at v m))) (Some (after_lent v q m)) None
 turn_on {S} d limit v (Ran q m n) =
@@ -18,7 +18,7 @@ turn_on {S} d limit v (Timed q n) =
     (option_map (after_timed v) (option_or (timings d limit n 0 v.core) (cond (eqb n 1) (earliest_of d limit v.core) None))) None
 turn_on {S} d limit v (Short q) = Some (after_short v q)
 
--- what stands behind these turns, where each fits
+-- where these turns lead; none where one of them is not legal
 abbrev pub turns_on : {S : Type 0} → Design S → ℕ → Turned S → List HubTurn → Option (Turned S)
 turns_on {S} d limit v [] = Some v
 turns_on {S} d limit v (turn ∷ more) = then_on (turn_on d limit v turn) (λ w. turns_on d limit w more)

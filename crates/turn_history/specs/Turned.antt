@@ -1,4 +1,4 @@
--- What stands behind some turns: the core, to which pass each module is lent, and whether memory was wanted.
+-- What some turns lead to: the core, the pass to which each module is lent, and whether memory ran out.
 use Rattle.std.specs.Prelude.{ℕ, Bool, false, true, cond, eqb, List, map, replicate, get_or, slice_set, Option, None, Some}
 use Rattle.event_timing.specs.Machines.{Design}
 use Rattle.event_timing.specs.Core.{Core, opening_core}
@@ -11,7 +11,7 @@ pub record Turned (S : Type 0) : Type 0 where
 abbrev pub opening_turned : {S : Type 0} → Design S → Turned S
 opening_turned {S} d = record { core = opening_core d; lent_to = replicate d.modules None; short = false }
 
--- the pass to which the module is lent
+-- the pass to which module m is lent, if any
 abbrev pub lent_at : {S : Type 0} → Turned S → ℕ → Option ℕ
 lent_at {S} v m = get_or v.lent_to m None
 
@@ -19,11 +19,11 @@ abbrev pub is_lent_to : Option ℕ → ℕ → Bool
 is_lent_to None q = false
 is_lent_to (Some r) q = eqb q r
 
--- what was lent to this pass is not lent any more
+-- the pass to which a module is lent, once nothing is lent to pass q any more
 abbrev pub not_to : ℕ → Option ℕ → Option ℕ
 not_to q o = cond (is_lent_to o q) None o
 
--- ---- what each turn leaves
+-- ---- what each turn leads to
 
 abbrev pub after_lent : {S : Type 0} → Turned S → ℕ → ℕ → Turned S
 after_lent {S} v q m = record v { lent_to = slice_set v.lent_to m (Some q) }

@@ -1,4 +1,4 @@
--- Legal histories of turns as a relation: what each turn is, in words of the core's actions.
+-- Legal histories of turns as a relation: what each turn is, as actions of the core.
 use Rattle.std.specs.Prelude.{◌≡◌, ℕ, ◌<◌, ◌≤◌, ◌⊎◌, ⊤, false, List, [], ◌∷◌, length, None, Some}
 use Rattle.event_timing.specs.Machines.{Design}
 use Rattle.event_timing.specs.Core.{Core}
@@ -8,7 +8,7 @@ use Rattle.turn_history.specs.declared.turn.HubTurn.{HubTurn}
 use Rattle.turn_history.specs.declared.turn.HubTurn.TheVariants.{Lent, Ran, Timed, Short}
 use Rattle.turn_history.specs.Turned.{Turned, lent_at, after_lent, after_ran, after_timed, after_short}
 
--- nothing but Assign and Answer
+-- each of these actions is an Assign or an Answer
 abbrev pub AreTimings : List Action → Type 0
 AreTimings [] = ⊤
 AreTimings (Run m ∷ rest) = ⊥
@@ -16,12 +16,12 @@ AreTimings (Assign m ∷ rest) = AreTimings rest
 AreTimings (Answer m ∷ rest) = AreTimings rest
 AreTimings (Earliest m ∷ rest) = ⊥
 
--- no Assign and no Answer is permitted
+-- no Assign and no Answer of any module is permitted
 pub record NoTiming {S : Type 0} (d : Design S) (limit : ℕ) (x : Core S) : Type 0 where
   pub no_assign : (m c : ℕ) → MayAssign d limit x m c → ⊥
   pub no_answer : (m c : ℕ) → MayAnswer d limit x m c → ⊥
 
--- so many Assigns and Answers, up to where none is permitted any more
+-- n Assigns and Answers, each permitted, lead from x to y, in which no further one is permitted
 pub record IsTimedTo {S : Type 0} (d : Design S) (limit : ℕ) (x : Core S) (n : ℕ) (y : Core S) : Type 0 where
   pub actions : List Action
   pub timings : AreTimings actions
@@ -29,7 +29,7 @@ pub record IsTimedTo {S : Type 0} (d : Design S) (limit : ℕ) (x : Core S) (n :
   pub acts : ActsAll d limit x actions y
   pub none_left : NoTiming d limit y
 
--- one Earliest, of the first module with the least cycle
+-- one Earliest leads from x to y: that of the first module with the least cycle
 pub record IsEarliestTo {S : Type 0} (d : Design S) (limit : ℕ) (x y : Core S) : Type 0 where
   pub owner : ℕ
   pub cycle : ℕ
@@ -37,7 +37,7 @@ pub record IsEarliestTo {S : Type 0} (d : Design S) (limit : ℕ) (x y : Core S)
   pub first : (m : ℕ) → m < owner → IsOpen d limit x m cycle → ⊥
   pub acts : ActsAll d limit x (Earliest owner ∷ []) y
 
--- a turn leads from what stands behind some turns to what stands behind one more
+-- a turn is legal in v, and leads to w
 abbrev pub IsTurnOf : {S : Type 0} → Design S → ℕ → Turned S → HubTurn → Turned S → Type 0
 IsTurnOf {S} d limit v (Lent q m) w = (v.short ≡ false) × MayRun d v.core m × (lent_at v m ≡ None) × (w ≡ after_lent v q m)
 IsTurnOf {S} d limit v (Ran q m n) w =
@@ -47,19 +47,19 @@ IsTurnOf {S} d limit v (Timed q n) w =
     × (w ≡ after_timed v w.core)
 IsTurnOf {S} d limit v (Short q) w = w ≡ after_short v q
 
--- these turns, one after the other
+-- these turns are legal one after the other, and lead from v to w
 abbrev pub TurnsOf : {S : Type 0} → Design S → ℕ → Turned S → List HubTurn → Turned S → Type 0
 TurnsOf {S} d limit v [] w = w ≡ v
 TurnsOf {S} d limit v (turn ∷ more) w = (u : Turned S) × IsTurnOf d limit v turn u × TurnsOf d limit u more w
 
--- the pass that took the turn
+-- the pass that took a turn
 abbrev pub taker : HubTurn → ℕ
 taker (Lent q m) = q
 taker (Ran q m n) = q
 taker (Timed q n) = q
 taker (Short q) = q
 
--- the pass took none of them
+-- pass q took none of these turns
 abbrev pub AreOfOthers : ℕ → List HubTurn → Type 0
 AreOfOthers q [] = ⊤
 AreOfOthers q (turn ∷ more) = (taker turn ≡ q → ⊥) × AreOfOthers q more

@@ -5,8 +5,8 @@ use flow_design::Plan;
 /// An entry of a hub's history.
 #[derive(Drop)]
 pub enum HubEntry {
-    /// The plan at whose opening it began.
+    /// The plan at whose opening the history began.
     Opened(Plan),
-    /// A turn of a pass.
+    /// A turn that a pass took.
     Turn(HubTurn),
 }

@@ -1,4 +1,4 @@
-//! The laws, for any design `d` over states of any type `S`, any history `h` of its lockstep machine, and any plan `p`.
+//! The laws of turns, for any design `d` over states of any type `S`, any history `h` of its lockstep machine, and any plan `p`.
 ghost use Rattle.std.specs.Prelude.{◌≡◌, ℕ, ◌≤◌, List, [], ◌∷◌, ◌++◌, false, None, Some};
 ghost use Rattle.flow_design.specs.declared.plan.Plan.{Plan};
 ghost use Rattle.flow_design.specs.declared.state.ModuleState.{ModuleState};
@@ -18,8 +18,9 @@ ghost use Rattle.turn_history.specs.Turns.{IsTurnOf, TurnsOf, AreOfOthers, taker
 ghost use Rattle.turn_history.specs.Replays.{turn_on, turns_on};
 ghost use Rattle.turn_history.specs.Histories.{IsHistoryOf, IsTurn, standing_of, turned_by};
 
-/// A turn that is computed is legal. A legal lending, return and want of memory are computed, and so are the rounds of a turn that
-/// times, and its one Earliest. No step may be emitted there for a number that names no module; in a core that agrees none is.
+/// A turn that the computed test accepts is legal. The test accepts each legal lending, return and want of memory, the Assigns and
+/// Answers of a turn in the order of rounds, and a turn with the one Earliest. For the Earliest the core must have emitted steps of
+/// the design's modules alone, as each core that agrees has.
 pub fn turns_fit<S>()
     ensures legal { (d : Design S) (h : Trace S) → IsDesign d → IsHistory d h → (limit : ℕ) (v w : Turned S)
         → IsAgreed d h limit v.core → AllVerified v.core → (turn : HubTurn) → turn_on d limit v turn ≡ Some w → IsTurnOf d limit v turn w }
@@ -36,8 +37,8 @@ pub fn turns_fit<S>()
         → turn_on d limit v (Short q) ≡ Some w }
 {}
 
-/// Histories only grow: what stands behind more turns is what stands behind these, and then the others. Behind a final core there is
-/// no turn but a want of memory, and the core stays.
+/// Histories only grow: turns lead where their first part leads, and from there the rest. After a final core the only turn is a
+/// want of memory, and the core stays.
 pub fn histories_grow<S>()
     ensures joined { (d : Design S) (limit : ℕ) (v : Turned S) (turns more : List HubTurn)
         → turns_on d limit v (turns ++ more) ≡ then_on (turns_on d limit v turns) (λ u. turns_on d limit u more) }
@@ -47,15 +48,16 @@ pub fn histories_grow<S>()
         → TurnsOf d limit v turns w → w.core ≡ v.core }
 {}
 
-/// While a module is lent to a pass that takes no turn, it stays so, and what the others do are permitted actions without a Run of it.
+/// A module that is lent to a pass stays lent while other passes take turns, and these turns are permitted actions without a Run of
+/// it.
 pub fn lent_runs_stay<S>()
     ensures { (d : Design S) (limit : ℕ) (v w : Turned S) (q m : ℕ) → lent_at v m ≡ Some q → (turns : List HubTurn)
         → AreOfOthers q turns → TurnsOf d limit v turns w
         → (lent_at w m ≡ Some q) × ((actions : List Action) × IsNoRunOf m actions × ActsAll d limit v.core actions w.core) }
 {}
 
-/// A history of a plan that is computed is legal. A legal history is a list of permitted actions from the opening core on: so the core
-/// behind it agrees with the lockstep run, with all outcomes verified.
+/// A history that the computed test accepts is legal. A legal history is a list of permitted actions from the opening core on. So
+/// the core after it agrees with the plan's lockstep run, and all its outcomes are verified.
 pub fn histories_are_legal()
     ensures legal { (p : Plan) → FitsEngine p → (turns : List HubTurn) (v : Turned ModuleState) → standing_of p turns ≡ Some v
         → IsHistoryOf p turns v }

@@ -1,5 +1,5 @@
-//! Legal histories of the turns that threads take at one core: definitions, and laws on them. Only a turn and an entry are types of
-//! the program.
+//! Legal histories of the turns that threads take at one core: definitions, and laws about them. Of all this only a turn and an
+//! entry are types of the program.
 #![tactic(auto)]
 
 mod entry;

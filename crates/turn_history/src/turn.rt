@@ -1,14 +1,14 @@
-//! The turns.
+//! The turns of passes.
 
-/// What a pass did in one turn. Passes and modules are told by their numbers.
+/// What a pass did in one turn. Passes and modules are named by their numbers.
 #[derive(Clone, Copy, Debug, PartialEq, Eq)]
 pub enum HubTurn {
     /// The run of this module was lent to the pass.
     Lent { pass: u32, module: u32 },
-    /// The pass made so many Runs of this module, and gave the run back.
+    /// The pass made so many Runs of the module that it was lent, and gave the run back.
     Ran { pass: u32, module: u32, runs: u64 },
-    /// The pass made so many actions other than a Run.
+    /// The pass made so many actions, none of them a Run.
     Timed { pass: u32, actions: u64 },
-    /// Memory was wanted.
+    /// The pass found that memory ran out.
     Short(u32),
 }

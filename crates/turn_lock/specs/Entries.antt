@@ -2,7 +2,7 @@
 use Rattle.std.specs.Prelude.{◌≡◌, ℕ, ◌<◌, List, [], filter, Option, Some, None, Bool, false, ◌==◌}
 use Rattle.turn_lock.specs.declared.view.View.{View}
 
--- the number n is borne
+-- the number that an entry bears, if any, is n
 abbrev pub bears : Option ℕ → ℕ → Bool
 bears (Some k) n = k == n
 bears None n = false
@@ -11,7 +11,8 @@ bears None n = false
 abbrev pub entries_of : {E : Type 0} → (E → Option ℕ) → ℕ → List E → List E
 entries_of bearer n es = filter (λ e. bears (bearer e) n) es
 
--- the pass's own entries are those of this history that bear its number, and none bears a number that the first pass has yet to give
+-- a pass's own entries are those of this history that bear its number; if it is the first pass, no entry bears a number that it has
+-- yet to give
 pub record Owns {E : Type 0} (bearer : E → Option ℕ) (log : List E) (v : View E) : Type 0 where
   pub own : v.own ≡ entries_of bearer v.number log
   pub unborn : v.number ≡ 0 → (n : ℕ) → v.made < n → n < v.passes → entries_of bearer n log ≡ []

@@ -1,4 +1,4 @@
--- What a clause says of a lock, its passes and its turns.
+-- What a clause says about a lock, its passes and its turns.
 use Rattle.std.specs.Prelude.{List}
 pub use Rattle.atomic_table.specs.Seated.{TableId}
 use Rattle.turn_lock.specs.declared.kept.Kept.{Ghosts}
@@ -9,19 +9,19 @@ use Rattle.turn_lock.specs.declared.pass.Turn.{Turn}
 use Rattle.turn_lock.specs.declared.pass.Tried.{Tried}
 use Rattle.turn_lock.specs.declared.pass.Tried.TheVariants.{Won, Lost}
 
--- which lock it is
+-- the identity of a lock
 abbrev pub lock_id : {K E : Type 0} → TurnLock K E → TableId
 lock_id l = l.table.shared.table_id
 
 module _ {K E : Type 0} {G : Ghosts K E} where
-  -- what a pass knows, and of which lock it is
+  -- what a pass knows, and the identity of its lock
   abbrev pub view_of : Pass K E G → View E
   view_of p = p.seat.me.0
 
   abbrev pub pass_lock : Pass K E G → TableId
   pass_lock p = p.seat.table_id
 
-  -- the same of a turn
+  -- what a pass knows in a turn, and the identity of its lock
   abbrev pub turn_view : Turn K E G → View E
   turn_view t = t.hold.seat.me.0
 
@@ -32,7 +32,7 @@ module _ {K E : Type 0} {G : Ghosts K E} where
   abbrev pub begun_at : Turn K E G → List E
   begun_at t = t.hold.seat.me.0.history
 
-  -- what holds where the try won the turn, and where it lost
+  -- one fact where the try won the turn, another where it lost
   abbrev pub MatchTried : Tried K E G → (Turn K E G → Type 0) → (Pass K E G → Type 0) → Type 0
   MatchTried (Won t) won lost = won t
   MatchTried (Lost p) won lost = lost p

@@ -9,8 +9,8 @@ use Rattle.turn_lock.specs.declared.view.View.{View}
 use Rattle.turn_lock.specs.declared.view.Joined.{Joined}
 use Rattle.turn_lock.specs.Entries.{entries_of}
 
--- What the rule speaks of beside the table: the value's history, how many passes the first made, those that were joined into it,
--- the seat that holds the turn or held it last, and which seat has the pass of a number
+-- what the rule speaks of beside the table: the value's history, how many passes the first one made, those that were joined into
+-- it, the seat that holds the turn or held it last, and the seat of the pass with each number
 pub record Story (E : Type 0) : Type 0 where
   pub history : List E
   pub made : ℕ
@@ -22,7 +22,7 @@ pub record Story (E : Type 0) : Type 0 where
 abbrev pub turn_of : {S V : Type 0} → State S V → ℕ
 turn_of s = slice_index s.words 0
 
--- two words and one slot
+-- the table has two words and one slot
 abbrev pub HasShape : {S V : Type 0} → State S V → Type 0
 HasShape s = (length s.words ≡ 2) × (length s.homes ≡ 1)
 
@@ -30,67 +30,67 @@ HasShape s = (length s.words ≡ 2) × (length s.homes ≡ 1)
 abbrev pub IsHome : {K E : Type 0} → (K → List E) → List (maybe.Option (Option K)) → List E → Type 0
 IsHome {K} history homes log = (x : K) × (get_elem? homes 0 ≡ some (some (Some x))) × (history x ≡ log)
 
--- the slot is with a seat, which alone knows what it has
+-- the slot is lent to a seat, which alone knows what it has
 abbrev pub IsOut : {K : Type 0} → List (maybe.Option (Option K)) → Type 0
 IsOut homes = get_elem? homes 0 ≡ some none
 
--- the seat j has the mark
+-- seat j holds the turn
 abbrev pub HasMark : {E : Type 0} → List (View E) → ℕ → Type 0
 HasMark {E} views j = (v : View E) × (get_elem? views j ≡ some v) × (v.spent ≡ false) × (v.is_holder ≡ true)
 
--- the seat j is the holder's, the turn is taken, and the view names the value's history
+-- seat j is the holder's, the turn is taken, and the seat's view has the value's history
 abbrev pub IsHolder : {E : Type 0} → Story E → ℕ → ℕ → View E → Type 0
 IsHolder t turn j v = (j ≡ t.holder) × (turn ≡ 1) × (v.history ≡ t.history)
 
--- the view has what the first pass made and joined
+-- the view has the passes that the first pass made, and those that were joined
 abbrev pub IsFirst : {E : Type 0} → Story E → View E → Type 0
 IsFirst t v = (v.made ≡ t.made) × (v.joined ≡ t.joined)
 
--- what the rule says of the view v of the seat j, where the turn word is `turn`
+-- the rule for view v of seat j, where the turn word is `turn`
 pub record Knows {E : Type 0} (bearer : E → Option ℕ) (passes : ℕ) (t : Story E) (turn j : ℕ) (v : View E) : Type 0 where
-  -- the history begins with what was seen; so of what two have seen one is a beginning of the other
+  -- the history begins with what the pass has seen; so of what two passes have seen, one is a prefix of the other
   pub begins : IsPrefix v.seen t.history
-  -- one seat at most has the mark, only where the turn is taken, and its view names the history
+  -- at most one seat holds the turn, only where the turn is taken, and its view has the history
   pub mark : v.is_holder ≡ true → IsHolder t turn j v
-  -- the number is at most the count of passes made, for as many as the lock was made for
+  -- the number of a pass is at most the count of passes made; the view has the number of passes for which the lock was made
   pub low : v.number ≤ t.made
   pub limit : v.passes ≡ passes
-  -- the numbers differ: each has its own seat
+  -- each number has its own seat, so no two passes have the same number
   pub placed : t.seat_of v.number ≡ j
-  -- the pass with number 0 has the count of passes made, and it alone has passes that were joined
+  -- the pass with number 0 has the count of passes made, and only it has passes that were joined
   pub first : v.number ≡ 0 → IsFirst t v
   pub lone : v.number ≢ 0 → v.joined ≡ []
-  -- the number is not that of a pass that was joined
+  -- the number is not that of a joined pass
   pub gone : (k : ℕ) (m : Joined E) → get_elem? t.joined k ≡ some m → v.number ≢ m.number
-  -- the own entries are those that bear the number, and all of them were seen
+  -- the own entries of a pass are those that bear its number, and it has seen all of them
   pub own : v.own ≡ entries_of bearer v.number t.history
   pub own_seen : v.own ≡ entries_of bearer v.number v.seen
 
--- what the rule says of a pass that was joined, where the value has this history and so many passes were made
+-- the rule for a pass that was joined, where the value has this history and so many passes were made
 pub record Past {E : Type 0} (bearer : E → Option ℕ) (log : List E) (made : ℕ) (m : Joined E) : Type 0 where
   -- its number is that of a pass that the first made
   pub positive : 0 < m.number
   pub low : m.number ≤ made
-  -- its own entries are kept
+  -- its own entries are those of the history that bear its number
   pub own : m.own ≡ entries_of bearer m.number log
-  -- the history begins with what it and the first had seen
+  -- the history begins with what the pass had seen, and with what the first pass had seen before the join
   pub seen : IsPrefix m.seen log
   pub before : IsPrefix m.before log
 
--- the rule
+-- the rule of the table, for any time between two steps
 pub record Ruled {K E : Type 0} (history : K → List E) (bearer : E → Option ℕ) (passes : ℕ) (s : State (Option K) (View E)) : Type 0 where
   pub story : Story E
   pub shape : HasShape s
   -- the turn word is 0 or 1, and the count word has the number of entries
   pub turn : turn_of s < 2
   pub counted : slice_index s.words 1 ≡ length story.history
-  -- where the turn is free the value is at home
+  -- where the turn is free, the slot has the value
   pub free : turn_of s ≡ 0 → IsHome history s.homes story.history
-  -- where it is taken the slot is out, and the holder's seat has the mark
+  -- where the turn is taken, the slot is lent, and the holder's seat holds the turn
   pub taken : turn_of s ≡ 1 → IsOut s.homes × HasMark s.views story.holder
-  -- what holds of each pass
+  -- the rule for each pass that was not joined
   pub each : (j : ℕ) (v : View E) → get_elem? s.views j ≡ some v → v.spent ≡ false → Knows bearer passes story (turn_of s) j v
-  -- what holds of each pass that was joined
+  -- the rule for each pass that was joined
   pub past : (k : ℕ) (m : Joined E) → get_elem? story.joined k ≡ some m → Past bearer story.history story.made m
-  -- no entry bears the number of a pass that is yet to be made
+  -- no entry bears the number of a pass that is not made yet
   pub unborn : (n : ℕ) → story.made < n → n < passes → entries_of bearer n story.history ≡ []

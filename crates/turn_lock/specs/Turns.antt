@@ -1,4 +1,4 @@
--- What a turn, and the close, tell of a pass.
+-- What a turn, and the end of the lock, tell about a pass.
 use Rattle.std.specs.Prelude.{◌≡◌, ℕ, ◌+◌, ◌<◌, ◌≤◌, List, [], ◌++◌, Option, Some, true, slice_get}
 use mathlib.Core.Option.{some}
 use mathlib.Core.List.{IsPrefix}
@@ -7,20 +7,20 @@ use Rattle.turn_lock.specs.declared.view.View.{View}
 use Rattle.turn_lock.specs.declared.view.Joined.{Joined}
 use Rattle.turn_lock.specs.Entries.{entries_of, Owns}
 
--- it is the same pass, which has made the same passes and has the same passes joined
+-- v and w are views of the same pass, with the same passes made and joined
 pub record IsSamePass {E : Type 0} (v w : View E) : Type 0 where
   pub number : w.number ≡ v.number
   pub passes : w.passes ≡ v.passes
   pub made : w.made ≡ v.made
   pub joined : w.joined ≡ v.joined
 
--- the history goes on from what the pass has seen, has its own entries, and none since then
+-- the history goes on from what the pass has seen; it has the pass's own entries, and none of them after that
 pub record Continues {E : Type 0} (bearer : E → Option ℕ) (v : View E) (log : List E) : Type 0 where
   pub begins : IsPrefix v.seen log
   pub owns : Owns bearer log v
   pub since : (later : List E) → v.seen ++ later ≡ log → entries_of bearer v.number later ≡ []
 
--- the pass v got the turn after so many lost tries, and w is what it knows in the turn, at which the value has this history
+-- pass v got the turn after so many lost tries; in the turn it knows w, and the value has this history
 pub record BeginsTurn {E : Type 0} (bearer : E → Option ℕ) (tries : ℕ) (log : List E) (v w : View E) : Type 0 where
   pub same : IsSamePass v w
   pub seen : w.seen ≡ v.seen
@@ -30,7 +30,7 @@ pub record BeginsTurn {E : Type 0} (bearer : E → Option ℕ) (tries : ℕ) (lo
   pub history : w.history ≡ log
   pub continues : Continues bearer v log
 
--- the turn v was handed back with this history, to which it added these entries of its own, and w is what the pass knows then
+-- turn v was handed back with this history, which has these further entries of the pass; the pass then knows w
 pub record EndsTurn {E : Type 0} (added log : List E) (v w : View E) : Type 0 where
   pub same : IsSamePass v w
   pub seen : w.seen ≡ log
@@ -39,34 +39,34 @@ pub record EndsTurn {E : Type 0} (added log : List E) (v w : View E) : Type 0 wh
   pub turns : w.turns ≡ v.turns + 1
   pub lost : w.lost ≡ v.lost
 
--- each pass that the first made was joined into it
+-- each pass that the first one made was joined into it
 abbrev pub AllJoined : {E : Type 0} → View E → Type 0
 AllJoined {E} v = (n : ℕ) → 0 < n → n ≤ v.made → (k : ℕ) × (m : Joined E) × (get_elem? v.joined k ≡ some m) × (m.number ≡ n)
 
--- the history has the own entries of the pass that was joined, and begins with what it and the first pass had seen
+-- the history has the joined pass's own entries, and begins with what it and the first pass had seen
 pub record Shows {E : Type 0} (bearer : E → Option ℕ) (log : List E) (m : Joined E) : Type 0 where
   pub own : entries_of bearer m.number log ≡ m.own
   pub seen : IsPrefix m.seen log
   pub before : IsPrefix m.before log
 
--- the history has the own entries of each pass, begins with what each has seen, and has none of a pass that was never made
+-- the history has each pass's own entries, begins with what each pass has seen, and has no entry of a pass that was never made
 pub record ShowsAll {E : Type 0} (bearer : E → Option ℕ) (v : View E) (log : List E) : Type 0 where
   pub seen : IsPrefix v.seen log
   pub own : entries_of bearer 0 log ≡ v.own
   pub joined : (k : ℕ) (m : Joined E) → get_elem? v.joined k ≡ some m → Shows bearer log m
   pub unborn : (n : ℕ) → v.made < n → n < v.passes → entries_of bearer n log ≡ []
 
--- the history begins with what the pass has seen, and has its own entries, each once and in their order
+-- the history begins with what the pass has seen, and has the pass's own entries, each once and in their order
 pub record ShowsPass {E : Type 0} (bearer : E → Option ℕ) (log : List E) (v : View E) : Type 0 where
   pub seen : IsPrefix v.seen log
   pub own : entries_of bearer v.number log ≡ v.own
 
--- the history shows the first pass v and each of the others, and has none of a pass that was never made
+-- the history shows the first pass v and each of the others, and has no entry of a pass that was never made
 pub record ShowsEach {E : Type 0} (bearer : E → Option ℕ) (v : View E) (rest : List (View E)) (log : List E) : Type 0 where
   pub first : ShowsPass bearer log v
   pub others : (k : ℕ) (w : View E) → slice_get rest k ≡ Some w → ShowsPass bearer log w
   pub unborn : (n : ℕ) → v.made < n → n < v.passes → entries_of bearer n log ≡ []
 
--- each pass that the first made stands somewhere among these, in whatever order
+-- each pass that the first one made is among these, in any order
 abbrev pub AreAllMade : {E : Type 0} → View E → List (View E) → Type 0
 AreAllMade {E} v ws = (n : ℕ) → 0 < n → n ≤ v.made → (k : ℕ) × (w : View E) × (slice_get ws k ≡ Some w) × (w.number ≡ n)

@@ -4,7 +4,7 @@ use Rattle.turn_lock.specs.declared.view.View.{View}
 use Rattle.turn_lock.specs.declared.view.Joined.{Joined}
 
 module _ {E : Type 0} where
-  -- a pass without a turn: its number, the count of passes, what it has seen, and whether it is settled
+  -- a pass between turns: with its number, for how many passes the lock was made, what it has seen, and whether it is settled
   abbrev pub new_view : ℕ → ℕ → List E → Bool → View E
   new_view n passes seen settled = record {
     spent = false;
@@ -21,7 +21,7 @@ module _ {E : Type 0} where
     history = [];
   }
 
-  -- the first pass of a lock for so many passes, which has seen the opening
+  -- the first pass of a lock for so many passes, which has seen the value's entries
   abbrev pub first_view : ℕ → List E → View E
   first_view passes opening = new_view 0 passes opening true
 
@@ -42,11 +42,11 @@ module _ {E : Type 0} where
     history = [];
   }
 
-  -- the first pass, which has made one pass more
+  -- the first pass after it has made one more pass
   abbrev pub after_split : View E → View E
   after_split v = record v { made = v.made + 1 }
 
-  -- the pass that it made: that count is its number, and it has seen what the first has
+  -- the pass that the first pass v makes: the count of passes made is its number, and it has seen what v has seen
   abbrev pub split_off : View E → View E
   split_off v = new_view (v.made + 1) v.passes v.seen v.settled
 
@@ -54,15 +54,15 @@ module _ {E : Type 0} where
   abbrev pub after_lost_tries : ℕ → View E → View E
   after_lost_tries k v = record v { lost = v.lost + k }
 
-  -- a pass after a try that found the turn free: it holds the turn, and the value has this history
+  -- a pass after a try that won the turn: it holds the turn, and the value has this history
   abbrev pub as_holder : List E → View E → View E
   as_holder log v = record v { is_holder = true; history = log }
 
-  -- the holder, which has put the entry e, after which the value has this history
+  -- a pass that holds the turn, after it has put entry e: the value then has this history
   abbrev pub after_entry : List E → E → View E → View E
   after_entry log e v = record v { seen = log; own = v.own ++ e ∷ []; history = log }
 
-  -- a pass that has handed the turn back
+  -- a pass after it has handed the turn back
   abbrev pub after_turn : View E → View E
   after_turn v = record v { seen = v.history; settled = true; turns = v.turns + 1; is_holder = false }
 
@@ -74,6 +74,6 @@ module _ {E : Type 0} where
   abbrev pub as_joined : View E → View E → Joined E
   as_joined v w = record { number = w.number; own = w.own; seen = w.seen; before = v.seen }
 
-  -- the first pass v, into which the pass w was joined
+  -- the first pass v after pass w was joined into it
   abbrev pub after_join : View E → View E → View E
   after_join v w = record v { seen = longer v.seen w.seen; settled = false; joined = v.joined ++ as_joined v w ∷ [] }

@@ -1,19 +1,19 @@
-//! The rule of the table. Word 0 is the turn: 0 where it is free, 1 where it is taken. Word 1 is the number of entries. The slot
-//! has the value, or nothing while the turn is taken.
+//! The rule of the lock's table. Word 0 is the turn: 0 where it is free, 1 where it is taken. Word 1 is the number of entries. The
+//! slot has the value, or nothing while the turn is taken.
 use crate::kept::Kept;
 use crate::view::View;
 use atomic_table::TableRule;
 use std::marker::PhantomData;
 use std::snapshot::Snapshot;
 
-/// What the table is told when it is made: the first value, and how many passes there may be.
+/// What the table is made with: the first value, and how many passes there may be.
 #[derive(Drop)]
 pub struct Opening<K> {
     pub value: Snapshot<K>,
     pub passes: u32,
 }
 
-/// The rule of a turn lock round a `K`.
+/// The rule of the table of a turn lock that protects a `K`.
 pub struct Law<K> {
     marker: PhantomData<K>,
 }

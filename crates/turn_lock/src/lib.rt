@@ -1,4 +1,4 @@
-//! A lock that hands its value out for one turn at a time, and passes that know how far the value's history has come.
+//! A lock that lends its value for one turn at a time, and passes that know how far the value's history has come.
 #![tactic(auto)]
 
 mod counts;

@@ -1,4 +1,4 @@
-//! What is done with the lock, each call in a few steps on its table.
+//! The calls of the lock. Each takes a few steps on its table.
 ghost use Rattle.std.specs.Prelude.{◌≡◌, ◌+◌, ◌<◌, ◌^◌, ℕ, [], ◌∷◌, ◌++◌, length, Some, IfOk};
 ghost use Rattle.turn_lock.specs.Entries.{entries_of, Owns};
 ghost use Rattle.turn_lock.specs.Views.{first_view, after_split, split_off, after_lost_tries, after_turn, after_join};
@@ -19,8 +19,8 @@ use std::sync::Wait;
 use std::thread::yield_now;
 
 impl<K: Kept> TurnLock<K> {
-    /// A lock for so many passes round the value, and its first pass, which has number 0 and has seen the value's entries. Where
-    /// there is no memory the value is dropped.
+    /// A lock for `passes` passes that protects the value, and its first pass. The first pass has number 0, and has seen the
+    /// entries that the value has. After `OutOfMemory` the value is dropped.
     pub fn new(alloc: Global, kept: K, passes: u32) -> Result<(TurnLock<K>, Pass<K>), OutOfMemory>
         requires some { 0 < passes }
         requires unused { (n : ℕ) → n < passes → entries_of K.bearer n (K.history kept) ≡ [] }
@@ -40,8 +40,7 @@ impl<K: Kept> TurnLock<K> {
         }
     }
 
-    /// The first pass makes one pass more. The new pass has the count of passes made as its number, and has seen what the first
-    /// has.
+    /// Makes one more pass. The number of the new pass is the count of passes made, and it has seen what the first pass has seen.
     pub fn split(&self, first: Pass<K>) -> (Pass<K>, Pass<K>)
         requires own { pass_lock first ≡ lock_id self.now }
         requires first { (view_of first).number ≡ 0 }
@@ -55,8 +54,8 @@ impl<K: Kept> TurnLock<K> {
         (Pass { seat }, Pass { seat: new })
     }
 
-    /// One try to get the turn. After `Lost` the pass comes back, with one lost try more. That another pass had the turn then is read
-    /// off the code: no clause says it.
+    /// Tries once to get the turn. `Lost` gives the pass back, with one more lost try. A try is lost where another pass has the
+    /// turn: that is read off the code, and no clause says it.
     pub fn try_take(&self, pass: Pass<K>) -> Tried<K>
         requires own { pass_lock pass ≡ lock_id self.now }
         ensures lock { MatchTried result (λ t. turn_lock_of t ≡ lock_id self.now) (λ p. pass_lock p ≡ lock_id self.now) }
@@ -77,7 +76,7 @@ impl<K: Kept> TurnLock<K> {
         }
     }
 
-    /// Tries until the pass has the turn. The value's history begins with all that the pass has seen.
+    /// Tries until the pass has the turn. The value's history then begins with all that the pass has seen.
     pub fn take<R: Wait>(&self, rt: &R, pass: Pass<K>) -> Turn<K>
         requires own { pass_lock pass ≡ lock_id self.now }
         ensures lock { turn_lock_of result ≡ lock_id self.now }
@@ -94,7 +93,7 @@ impl<K: Kept> TurnLock<K> {
         unreachable!()
     }
 
-    /// Hands the turn back, with the value's history as it was when the turn began.
+    /// Hands the turn back. The value's history must be what it was when the turn began.
     pub fn give_back(&self, turn: Turn<K>) -> Pass<K>
         requires own { turn_lock_of turn ≡ lock_id self.now }
         requires same { K.history turn.value ≡ begun_at turn }
@@ -105,8 +104,8 @@ impl<K: Kept> TurnLock<K> {
         self.free(seat)
     }
 
-    /// Hands the turn back, with one entry more in the value's history, which bears the pass's number: it is the pass's own next
-    /// entry.
+    /// Hands the turn back, with one more entry in the value's history. The entry bears the pass's number: it is the next of the
+    /// pass's own entries.
     pub fn put(&self, turn: Turn<K>) -> Pass<K>
         requires own { turn_lock_of turn ≡ lock_id self.now }
         requires room { length (K.history turn.value) < 2 ^ 64 }
@@ -120,7 +119,7 @@ impl<K: Kept> TurnLock<K> {
         self.free(seat)
     }
 
-    // Puts the value into the slot again, while the turn is still taken.
+    // Puts the value back into the slot, while the turn is still taken.
     fn bring_home(&self, turn: Turn<K>) -> Seat<Option<K>, View<K::Entry>>
         requires own { turn_lock_of turn ≡ lock_id self.now }
         ensures lock { result.table_id ≡ lock_id self.now }
@@ -144,7 +143,8 @@ impl<K: Kept> TurnLock<K> {
         Pass { seat }
     }
 
-    /// Joins a pass into the first, which keeps its number and its entries, and has then seen the longer of the two histories.
+    /// Joins a pass into the first pass. The first pass keeps its number and its entries, and has then seen the longer of the two
+    /// histories.
     pub fn join(&self, pass: Pass<K>, other: Pass<K>) -> Pass<K>
         requires own { (pass_lock pass ≡ lock_id self.now) × (pass_lock other ≡ lock_id self.now) }
         requires first { (view_of pass).number ≡ 0 }
@@ -157,8 +157,8 @@ impl<K: Kept> TurnLock<K> {
         Pass { seat }
     }
 
-    /// The value, once each pass that the first made was joined into it. Its history begins with all that the passes have seen,
-    /// and has each own entry of each pass once, in its order.
+    /// Ends the lock, once each pass that the first one made is joined into it, and answers the value. The value's history begins
+    /// with all that the passes have seen, and has each pass's own entries, each once and in their order.
     pub fn close(self, last: Pass<K>) -> K
         requires own { pass_lock last ≡ lock_id self }
         requires first { (view_of last).number ≡ 0 }

@@ -8,15 +8,15 @@ use crate::view::View;
 use atomic_table::{Seat, Table};
 use std::alloc::Global;
 
-/// A value that passes take in turns: one turn at a time may change it.
+/// A value that passes use in turns: one turn at a time may change it.
 #[derive(Drop)]
 pub struct TurnLock<K: Kept> {
     pub(crate) table: Table<Option<K>, View<K::Entry>, Opening<K>, Law<K>, Global>,
     ghost sized: { (table.shared.table_id.words ≡ 2) × (table.shared.table_id.slots ≡ 1) },
 }
 
-/// What a thread carries between its turns. A pass that is settled has as its own entries those that bear its number in the history
-/// that it has seen.
+/// A thread's leave to take turns, which it carries between them. In the history that a settled pass has seen, the entries that
+/// bear its number are its own entries.
 #[derive(Drop)]
 pub struct Pass<K: Kept> {
     pub(crate) seat: Seat<Option<K>, View<K::Entry>>,
@@ -25,7 +25,7 @@ pub struct Pass<K: Kept> {
     pub ghost own: { seat.me.0.settled ≡ true → Owns K.bearer seat.me.0.seen seat.me.0 },
 }
 
-/// A seat that holds the turn, and the slot, which is empty.
+/// The table's seat while it holds the turn and the empty slot.
 pub struct Hold<K: Kept> {
     pub(crate) seat: Seat<Option<K>, View<K::Entry>>,
     ghost alive: { seat.me.0.spent ≡ false },
@@ -40,7 +40,7 @@ pub struct Turn<K: Kept> {
     pub(crate) value: K,
 }
 
-/// The answer of one try: the turn, or the pass where another holds the turn.
+/// The answer of one try: the turn, or the pass again.
 pub enum Tried<K: Kept> {
     Won(Turn<K>),
     Lost(Pass<K>),

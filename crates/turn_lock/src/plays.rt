@@ -1,4 +1,4 @@
-//! What each kind of step tells its caller, and how a view is split and two are joined.
+//! What each kind of step on the table tells its caller, and how a view is split and two views are joined.
 ghost use Rattle.turn_lock.specs.Views.{spent_view, after_split, split_off, after_join};
 ghost use Rattle.turn_lock.specs.Steps.{Swapped, Added, Freed};
 
@@ -6,28 +6,28 @@ use crate::kept::Kept;
 use crate::view::View;
 use atomic_table::{Join, Play, Split};
 
-/// A swap of 1 on the turn word.
+/// The step that swaps a 1 into the turn word.
 pub(crate) struct Swap;
 
 impl<K: Kept> Play<Option<K>, View<K::Entry>> for Swap {
     ghost then = { Swapped K.history K.bearer };
 }
 
-/// A fetch_add of 1 on the count word.
+/// The step that adds 1 to the count word.
 pub(crate) struct Add;
 
 impl<K: Kept> Play<Option<K>, View<K::Entry>> for Add {
     ghost then = { Added K.history };
 }
 
-/// A store of 0 in the turn word.
+/// The step that stores a 0 in the turn word.
 pub(crate) struct Free;
 
 impl<K: Kept> Play<Option<K>, View<K::Entry>> for Free {
     ghost then = { Freed };
 }
 
-/// The first pass makes another.
+/// The step by which the first pass makes another pass.
 pub(crate) struct Make;
 
 impl<E> Split<View<E>> for Make {
@@ -36,7 +36,7 @@ impl<E> Split<View<E>> for Make {
     ghost right = { split_off };
 }
 
-/// A pass is joined into the first.
+/// The step by which a pass is joined into the first pass.
 pub(crate) struct TakeIn;
 
 impl<E> Join<View<E>> for TakeIn {

@@ -2,6 +2,6 @@
 use Rattle.std.specs.Prelude.{ℕ, ◌+◌, ◌==◌, if◌then◌else◌, List, [], ◌∷◌, map}
 use Rattle.std.specs.Int.Digits.{digits_of}
 
--- a number in binary digits, with no leading zero
+-- a number in binary digits, without leading zeros
 unfoldable pub binary : ℕ → List ℕ
 binary n = if n == 0 then 48 ∷ [] else map (λ d. 48 + d) (digits_of 2 n)

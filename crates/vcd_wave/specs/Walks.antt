@@ -1,4 +1,4 @@
--- Walks over the clocks of all FIFOs of a plan, beside one another.
+-- Walks over the clocks of all FIFOs of a plan, side by side.
 use Rattle.std.specs.Prelude.{ℕ, ◌≡◌, ◌≤◌, ◌==◌, min, fold, if◌then◌else◌, Option, Some, None, List, [], ◌∷◌, All, map}
 use Rattle.flow_design.specs.declared.plan.Plan.{Plan}
 use Rattle.fifo_fills.specs.Fills.{fifos}
@@ -7,30 +7,30 @@ use Rattle.port_clocks.specs.Walks.{IsFifoWalk, never, next_of}
 use Rattle.vcd_wave.specs.declared.walk.FillChange.{FillChange}
 use Rattle.vcd_wave.specs.Wave.{Change}
 
--- from where the walk stands up to this clock nothing is popped or pushed
+-- the walk may be taken to be at this clock: from its own clock up to this one nothing is popped or pushed
 pub record StandsBy (p : Plan) (clock : ℕ) (walk : FifoWalk) : Type 0 where
   pub is_walk : IsFifoWalk p walk
   pub from : walk.clock ≤ clock
   pub until : clock ≤ next_of walk
 
--- one of each FIFO
+-- these are walks of all FIFOs, in order of declaration, and each may be taken to be at this clock
 pub record AreWalks (p : Plan) (clock : ℕ) (walks : List FifoWalk) : Type 0 where
   pub channels : map (λ (w : FifoWalk). w.channel) walks ≡ fifos p
   pub each : All (StandsBy p clock) walks
 
--- the clock of the next pop or push of any of them
+-- the clock of the next pop or push of any of these walks
 abbrev pub least_next : List FifoWalk → ℕ
 least_next walks = fold (λ least w. min least (next_of w)) never walks
 
--- what a FIFO holds now, where it held another number of elements before
+-- how many elements a FIFO holds now, if it held another number before
 abbrev pub other_fill : ℕ → ℕ → Option ℕ
 other_fill before now = if now == before then None else Some now
 
--- a change, as the wave has it
+-- a change in the form that the wave has
 abbrev pub change_of : FillChange → Change
 change_of c = record { fifo = c.fifo; fill = c.fill }
 
--- that of this FIFO, if there is one
+-- the change of this FIFO, if there is one
 abbrev pub change_if : ℕ → Option ℕ → List Change
 change_if fifo None = []
 change_if fifo (Some fill) = record { fifo = fifo; fill = fill } ∷ []

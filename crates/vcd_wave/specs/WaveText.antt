@@ -9,23 +9,23 @@ use Rattle.vcd_wave.specs.Wave.{Change, Instant, Wave}
 abbrev pub code_of : ℕ → Token
 code_of fifo = 102 ∷ decimal fifo
 
--- `$var wire 32 fI NAME $end`
+-- the tokens of `$var wire 32 fI NAME $end`
 abbrev pub var_tokens : ℕ × List ℕ → List Token
 var_tokens fifo = codes "$var wire 32" ∷ code_of fifo.0 ∷ fifo.1 ∷ codes "$end" ∷ []
 
--- `#C`
+-- the tokens of `#C`
 abbrev pub time_tokens : ℕ → List Token
 time_tokens clock = (35 ∷ decimal clock) ∷ []
 
--- `bN fI`
+-- the tokens of `bN fI`
 abbrev pub change_tokens : Change → List Token
 change_tokens change = (98 ∷ binary change.fill) ∷ code_of change.fifo ∷ []
 
--- the time, and then what changes
+-- the lines of a clock: its time, and then its changes
 abbrev pub instant_lines : Instant → List (List Token)
 instant_lines i = time_tokens i.clock ∷ map change_tokens i.changes
 
--- in clock 0 so many FIFOs are empty
+-- clock 0, in which all of so many FIFOs are empty
 abbrev pub opening : ℕ → Instant
 opening count = record { clock = 0; changes = map (λ i. record { fifo = i; fill = 0 }) (range_with_len 0 count) }
 

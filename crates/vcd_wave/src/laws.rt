@@ -7,7 +7,8 @@ ghost use Rattle.vcd_wave.specs.Wave.{wave_of};
 ghost use Rattle.vcd_wave.specs.WaveText.{wave_text};
 ghost use Rattle.vcd_wave.specs.Told.{IsWave, TellsFill, told_fill, last_told};
 
-/// The wave of a plan is one of its FIFOs, ends in the verdict's clock, and tells what each FIFO holds in each clock up to that.
+/// The wave of a plan is a wave of its FIFOs. It ends in the verdict's clock, and tells what each FIFO holds in each clock up to
+/// that one.
 pub fn waves_tell_fills()
     ensures wave { (p : Plan) → FitsEngine p → IsWave (wave_of p) }
     ensures count { (p : Plan) → length (wave_of p).names ≡ length (fifos p) }

@@ -1,4 +1,4 @@
-//! The wave of a plan: a text in the value change dump form that tells how many elements each FIFO holds.
+//! The wave of a plan: a value change dump that tells how many elements each FIFO holds in each clock.
 #![tactic(auto)]
 
 mod binary;

@@ -35,7 +35,7 @@ fn print_var(text: &mut List<u8>, fifo: u64, name: &[u8]) -> Result<(), OutOfMem
     text.push(b'\n')
 }
 
-/// Adds a line for each FIFO among the channels, and returns how many there are.
+/// Adds a line for each FIFO among the channels, and answers how many there are.
 fn print_vars(text: &mut List<u8>, channels: &[Channel]) -> Result<u64, OutOfMemory>
     ensures text { OnOk result (text.new ≡ text.old ++ text_of_lines (map var_tokens (enumerate_from 0 (fifo_names channels.now)))) }
     ensures count { IfOk result (λ count. count ≡ length (fifo_names channels.now)) }
@@ -50,7 +50,7 @@ fn print_vars(text: &mut List<u8>, channels: &[Channel]) -> Result<u64, OutOfMem
     Ok(count)
 }
 
-/// Adds all lines before the first time, and returns how many FIFOs there are.
+/// Adds all lines before the first time, and answers how many FIFOs there are.
 pub fn print_header(text: &mut List<u8>, channels: &[Channel]) -> Result<u64, OutOfMemory>
     ensures text { OnOk result (text.new ≡ text.old ++ text_of_lines (header_lines (fifo_names channels.now))) }
     ensures count { IfOk result (λ count. count ≡ length (fifo_names channels.now)) }
@@ -70,7 +70,7 @@ pub fn print_time(text: &mut List<u8>, clock: u64) -> Result<(), OutOfMemory>
     text.push(b'\n')
 }
 
-/// Adds the line of a change.
+/// Adds the line of a FIFO that holds another number of elements than before.
 fn print_change(text: &mut List<u8>, fifo: u64, fill: u64) -> Result<(), OutOfMemory>
     ensures { OnOk result (text.new ≡ text.old ++ line (change_tokens (record { fifo = fifo; fill = fill }))) }
 {
@@ -80,7 +80,7 @@ fn print_change(text: &mut List<u8>, fifo: u64, fill: u64) -> Result<(), OutOfMe
     text.push(b'\n')
 }
 
-/// Adds clock 0, in which so many FIFOs are empty.
+/// Adds the lines of clock 0, in which all of these FIFOs are empty.
 pub fn print_opening(text: &mut List<u8>, count: u64) -> Result<(), OutOfMemory>
     ensures { OnOk result (text.new ≡ text.old ++ text_of_lines (instant_lines (opening count))) }
 {
@@ -91,7 +91,7 @@ pub fn print_opening(text: &mut List<u8>, count: u64) -> Result<(), OutOfMemory>
     Ok(())
 }
 
-/// Adds a clock with its changes, if there is any, and returns whether there is.
+/// Adds the lines of a clock and its changes, if there is a change. Whether there is one.
 fn print_instant(
     text: &mut List<u8>,
     clock: u64,
@@ -119,7 +119,8 @@ fn print_changes(text: &mut List<u8>, changes: &[FillChange]) -> Result<(), OutO
     Ok(())
 }
 
-/// Adds a clock with its changes, if there is any, to what is pending, writes that where it is a piece, and returns whether there is.
+/// Adds the lines of a clock and its changes to the pending text, if there is a change, and writes the text once it is a piece.
+/// Whether there is a change.
 #[tactic(auto, using(sim_io::proofs::Pending::prefix_none))]
 pub(crate) fn write_instant<K: Sink>(
     pending: &mut List<u8>,

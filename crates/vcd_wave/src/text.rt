@@ -19,10 +19,11 @@ use sim_core::Core;
 use sim_io::{Sink, TellFault};
 use std::alloc::Global;
 
-/// Writes the text of the wave of a final core's plan, whose design this is, in pieces, and hands out the rest: how many elements each
-/// FIFO holds in each clock up to the verdict's.
+/// Writes the wave of a final core's plan, whose design this is, in pieces, and answers the part that is not yet written. The wave
+/// tells how many elements each FIFO holds in each clock up to the verdict's.
 ///
-/// It takes memory for six numbers of each FIFO, for the changes of one clock, and for a piece of the text. After an error a prefix of the
+/// It takes memory for six numbers for each FIFO, for the changes of one clock, and for a piece of the text. After a fault a prefix
+/// of the text is written.
 /// text is written.
 pub fn wave_text<K: Sink>(
     alloc: Global,
@@ -45,8 +46,8 @@ pub fn wave_text<K: Sink>(
     Ok(pending)
 }
 
-/// Adds the clocks after clock 0 in which a FIFO holds another number of elements than in the clock before, and the last clock, to what
-/// is pending, and writes that in pieces.
+/// Adds the lines after clock 0 to the pending text, and writes it in pieces: of each clock in which some FIFO holds another number
+/// of elements than in the clock before, and of the last clock.
 fn write_later<K: Sink>(
     alloc: Global,
     pending: &mut List<u8>,

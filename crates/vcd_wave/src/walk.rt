@@ -12,16 +12,16 @@ use port_clocks::FifoWalk;
 use sim_core::Core;
 use std::alloc::Global;
 
-/// What a FIFO holds, where that changes.
+/// A change: how many elements a FIFO holds from a clock on.
 #[derive(Clone, Copy, Debug, PartialEq, Eq)]
 pub(crate) struct FillChange {
-    /// The FIFO's number, from 0 on in order of declaration.
+    /// The number of the FIFO among the FIFOs, counted from 0 in order of declaration.
     pub(crate) fifo: u64,
-    /// How many elements it holds now.
+    /// How many elements the FIFO holds now.
     pub(crate) fill: u64,
 }
 
-/// A walk over the clocks of each FIFO of a final core's plan, in order of declaration, all at clock 0.
+/// A walk over the clocks of each FIFO of a final core's plan, in order of declaration. All are at clock 0.
 pub(crate) fn fifo_walks(alloc: Global, core: &Core) -> Result<List<FifoWalk>, OutOfMemory>
     requires { IsFinal (design core.now.plan) core.now.plan.cycles (theory_of core.now) }
     ensures { IfOk result (AreWalks core.now.plan 0) }
@@ -37,7 +37,7 @@ pub(crate) fn fifo_walks(alloc: Global, core: &Core) -> Result<List<FifoWalk>, O
     Ok(walks)
 }
 
-/// The clock of the next pop or push of any FIFO; the verdict's clock or a later one where there is none.
+/// The clock of the next pop or push of any FIFO. Where there is none, it is the verdict's clock or a later one.
 pub(crate) fn next_clock(walks: &[FifoWalk]) -> u64
     ensures { result ≡ least_next walks.now }
 {
@@ -48,8 +48,8 @@ pub(crate) fn next_clock(walks: &[FifoWalk]) -> u64
     least
 }
 
-/// Goes on to the clock right after this one, up to which nothing was popped or pushed. The changes are then those of the FIFOs that
-/// hold another number of elements than in this clock, in place of those that were there.
+/// Lets all walks go on to the clock right after this one. Nothing may be popped or pushed before this clock. `changes` then has
+/// those FIFOs that hold another number of elements than in this clock, in place of what it had.
 pub(crate) fn pass_clock(
     core: &Core,
     walks: &mut List<FifoWalk>,
@@ -74,7 +74,7 @@ pub(crate) fn pass_clock(
     Ok(())
 }
 
-/// Adds what a FIFO holds, where that changed.
+/// Adds a change, if what a FIFO holds changed.
 fn push_change(
     changes: &mut List<FillChange>,
     fifo: u64,
@@ -88,7 +88,7 @@ fn push_change(
     }
 }
 
-/// Sets the walk over a FIFO.
+/// Replaces the walk over a FIFO.
 fn put(walks: &mut List<FifoWalk>, fifo: u64, walk: FifoWalk)
     requires { fifo < length walks.old }
     ensures { walks.new ≡ slice_set walks.old fifo walk }
@@ -96,8 +96,8 @@ fn put(walks: &mut List<FifoWalk>, fifo: u64, walk: FifoWalk)
     walks.as_mut_slice()[fifo as usize] = walk;
 }
 
-/// Goes on to the clock right after this one, up to which nothing was popped or pushed, and returns what the FIFO then holds where that
-/// is another number of elements.
+/// Lets a walk go on to the clock right after this one. Nothing may be popped or pushed before this clock. The answer is how many
+/// elements the FIFO then holds. `None` where it holds as many as before.
 fn pass_fifo(core: &Core, walk: &mut FifoWalk, clock: u64) -> Option<u64>
     requires is_final { IsFinal (design core.now.plan) core.now.plan.cycles (theory_of core.now) }
     requires walk { StandsBy core.now.plan clock walk.old }

@@ -1,4 +1,4 @@
--- Lines of clocks and changes, read in order for one FIFO.
+-- The clocks and changes of a wave, read in order, for one FIFO.
 use Rattle.std.specs.Prelude.{ℕ, ◌≡◌, ◌+◌, ◌^◌, ◌<◌, ◌==◌, ◌&&◌, not, nat_le, nat_lt, true, false, if◌then◌else◌, List, [], ◌∷◌, ◌++◌}
 use Rattle.std.specs.Prelude.{map, Option, None, Some}
 use Rattle.std.specs.List.{flat_map}
@@ -16,12 +16,12 @@ abbrev pub begun : Line → List ℕ → List ℕ
 begun (Time clock) rest = 35 ∷ (numeral 10 clock ++ 10 ∷ rest)
 begun (Change fifo fill) rest = 98 ∷ (numeral 2 fill ++ 32 ∷ 102 ∷ (numeral 10 fifo ++ 10 ∷ rest))
 
--- the numbers that are read
+-- the numbers of a line are such as a reader takes
 abbrev pub Fits : Line → Type 0
 Fits (Time clock) = clock < 2 ^ 64
 Fits (Change fifo fill) = (fifo < 2 ^ 64) × (fill < 2 ^ 32)
 
--- a change of the clock at which the lines stand
+-- the state after a change in the present clock; none where it is not in order
 abbrev pub change_step : Asked → Scan → ℕ → ℕ → Option Scan
 change_step a s fifo fill =
     if nat_le s.next fifo && (nat_lt fifo a.count && not ((fifo == a.fifo) && (fill == s.fill)))
@@ -33,7 +33,7 @@ change_step a s fifo fill =
       told = if (fifo == a.fifo) && nat_le s.clock a.clock then fill else s.told;
     }) else None
 
--- a later clock
+-- the state after the line of a later clock; none where it is not in order
 abbrev pub time_step : Scan → ℕ → Option Scan
 time_step s clock =
     if s.some && nat_lt s.clock clock then Some (record { clock = clock; next = 0; some = false; fill = s.fill; told = s.told }) else None
@@ -42,13 +42,13 @@ abbrev pub step : Asked → Scan → Line → Option Scan
 step a s (Time clock) = time_step s clock
 step a s (Change fifo fill) = change_step a s fifo fill
 
--- changes of a clock lead from the first state to the second
+-- these changes of one clock lead from the first state to the second
 abbrev pub ChangesLead : Asked → Scan → List WaveChange → Scan → Type 0
 ChangesLead a s [] r = s ≡ r
 ChangesLead a s (c ∷ cs) r =
     (next : Scan) × (change_step a s c.fifo c.fill ≡ Some next) × (c.fifo < 2 ^ 64) × (c.fill < 2 ^ 32) × ChangesLead a next cs r
 
--- clocks with their changes do
+-- these clocks with their changes lead from the first state to the second
 abbrev pub InstantsLead : Asked → Scan → List Instant → Scan → Type 0
 InstantsLead a s [] r = s ≡ r
 InstantsLead a s (i ∷ is) r =
@@ -64,11 +64,11 @@ pub record Leads (a : Asked) (s : Scan) (text : List ℕ) (r : Scan) : Type 0 wh
   pub now : ChangesLead a s changes middle
   pub onward : InstantsLead a middle later r
 
--- in clock 0 all has changed
+-- the state after clock 0, in which each FIFO has its change
 abbrev pub opening_scan : ℕ → Scan
 opening_scan count = record { clock = 0; next = count; some = true; fill = 0; told = 0 }
 
--- for this FIFO, the text is that of lines in order
+-- the text is that of lines in order, for this FIFO
 abbrev pub LeadsFor : Asked → ℕ → List ℕ → Type 0
 LeadsFor a fifo text =
     (r : Scan) × Leads (record { count = a.count; fifo = fifo; clock = a.clock }) (opening_scan a.count) text r

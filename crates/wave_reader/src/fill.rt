@@ -1,4 +1,4 @@
-//! What a wave says that a FIFO holds.
+//! Reading what a wave says that a FIFO holds.
 ghost use Rattle.std.specs.Prelude.{◌≡◌, ℕ, ◌<◌, ◌↔◌, IsTrue, IfSome, Some};
 ghost use Rattle.vcd_wave.specs.Told.{TellsFill};
 ghost use Rattle.wave_reader.specs.Scans.{LeadsFor};
@@ -6,7 +6,7 @@ ghost use Rattle.wave_reader.specs.Scans.{LeadsFor};
 use crate::header::header_in;
 use crate::scan::{Asked, scan_lines};
 
-/// Whether the lines are in order, and each change of each FIFO is to another number than before.
+/// Whether the lines are in order, and each change of each FIFO is to another number than before it.
 fn each_varies(asked: Asked, text: &[u8]) -> bool
     ensures { IsTrue result ↔ ((fifo : ℕ) → fifo < asked.count → LeadsFor asked fifo text.now) }
 {
@@ -24,10 +24,11 @@ fn each_varies(asked: Asked, text: &[u8]) -> bool
     true
 }
 
-/// What the text of a wave says that the FIFO of this number holds in this clock. `None` where the text is no text of a wave, or its wave
-/// has no such FIFO, or ends before the clock.
+/// What the text of a wave says that this FIFO holds in this clock. `None` where the text is not that of a wave, or the wave has no
+/// such FIFO, or ends before the clock.
 ///
-/// It takes no memory. It passes over the text once more for each FIFO that is declared, since each change must be to another number than
+/// It takes no memory. It goes over the text once for each FIFO that is declared, and once more, since each change must be to
+/// another number than before it.
 /// before.
 pub fn wave_fill(text: &[u8], fifo: u32, clock: u64) -> Option<u64>
     ensures some { IfSome result (TellsFill text.now fifo clock) }

@@ -1,4 +1,4 @@
-//! What stands in a wave before its later clocks.
+//! Reading what comes in a wave before its later clocks.
 ghost use Rattle.std.specs.Prelude.{◌≡◌, ◌<◌, ◌^◌, ◌∷◌, ◌++◌, ℕ, List, IfSome, MatchOption, IsTrue, length};
 ghost use Rattle.flow_design.specs.Names.{is_name};
 ghost use Rattle.wave_reader.specs.Digits.{numeral};
@@ -7,7 +7,7 @@ ghost use Rattle.wave_reader.specs.Headers.{named, Names, Headed, empty_text};
 use crate::numbers::{cut, number_before};
 use flow_design::is_name;
 
-/// What stands behind a front.
+/// The text after this prefix. `None` where it does not begin with the prefix.
 #[tactic(auto, using(crate::proofs::Fronts::front_is, crate::proofs::Fronts::front_rest, crate::proofs::Fronts::front_not))]
 fn behind<'a>(text: &'a [u8], front: &[u8]) -> Option<&'a [u8]>
     ensures some { IfSome result (λ rest. text.now ≡ front.now ++ rest.now) }
@@ -20,7 +20,7 @@ fn behind<'a>(text: &'a [u8], front: &[u8]) -> Option<&'a [u8]>
     }
 }
 
-/// What stands behind a front, this number and a byte.
+/// The text after a prefix, this number and a byte. `None` where it does not begin so.
 fn behind_number<'a>(text: &'a [u8], front: &[u8], number: u64, byte: u8) -> Option<&'a [u8]>
     requires byte { byte < 48 }
     ensures some { IfSome result (λ rest. text.now ≡ front.now ++ (numeral 10 number ++ byte ∷ rest.now)) }
@@ -32,7 +32,7 @@ fn behind_number<'a>(text: &'a [u8], front: &[u8], number: u64, byte: u8) -> Opt
     if found == number { Some(rest) } else { None }
 }
 
-/// What stands behind the line that declares the FIFO of this number.
+/// The text after the line that declares the FIFO with this number. `None` where it does not begin with such a line.
 fn behind_name(number: u64, text: &[u8]) -> Option<&[u8]>
     ensures some { IfSome result (λ rest. (name : List ℕ) × IsTrue (is_name name) × (text.now ≡ named number name rest.now)) }
     ensures all { (name rest : List ℕ) → IsTrue (is_name name) → text.now ≡ named number name rest
@@ -47,7 +47,7 @@ fn behind_name(number: u64, text: &[u8]) -> Option<&[u8]>
     }
 }
 
-/// How many names there are, and what stands behind them and `$u`.
+/// How many names there are, and the text after them and `$u`. `None` where the text does not begin so.
 fn names_in(text: &[u8]) -> Option<(u64, &[u8])>
     ensures some { IfSome result (λ found. Names 0 text.now found.0 found.1.now) }
     ensures all { (count : ℕ) (rest : List ℕ) → Names 0 text.now count rest
@@ -66,7 +66,7 @@ fn names_in(text: &[u8]) -> Option<(u64, &[u8])>
     }
 }
 
-/// What stands behind the lines that say that so many FIFOs are empty.
+/// The text after the lines that say that so many FIFOs are empty. `None` where it does not begin with these lines.
 fn behind_empty(count: u64, text: &[u8]) -> Option<&[u8]>
     ensures some { IfSome result (λ rest. text.now ≡ empty_text 0 count ++ rest.now) }
     ensures all { (rest : List ℕ) → text.now ≡ empty_text 0 count ++ rest → MatchOption result ⊥ (λ found. found.now ≡ rest) }
@@ -78,7 +78,7 @@ fn behind_empty(count: u64, text: &[u8]) -> Option<&[u8]>
     Some(rest)
 }
 
-/// How many FIFOs are declared, and what stands behind clock 0.
+/// How many FIFOs are declared, and the text after clock 0. `None` where the text does not begin so.
 pub fn header_in(text: &[u8]) -> Option<(u64, &[u8])>
     ensures some { IfSome result (λ found. Headed text.now found.0 found.1.now) }
     ensures all { (count : ℕ) (rest : List ℕ) → Headed text.now count rest

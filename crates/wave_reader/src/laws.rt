@@ -7,10 +7,12 @@ ghost use Rattle.vcd_wave.specs.Wave.{Wave, wave_of};
 ghost use Rattle.vcd_wave.specs.WaveText.{wave_text};
 ghost use Rattle.vcd_wave.specs.Told.{IsWave, TellsFill};
 
-/// A text is the text of one wave at most, so it tells one number of each FIFO in each clock at most. The text of a plan's wave tells
-/// exactly what the plan's FIFOs hold in the clocks up to the verdict's: nothing of later clocks, and nothing of other FIFOs.
+/// A text is the text of at most one wave, so it tells at most one number for each FIFO in each clock. The text of a plan's wave
+/// tells exactly what the plan's FIFOs hold in the clocks up to the verdict's: nothing about later clocks, and nothing about other
+/// FIFOs.
 ///
-/// `one_wave` speaks of waves with fewer than 2^64 names, as each that stands in memory has: `decimal` writes the last 64 digits of a
+/// `one_wave` speaks of waves with fewer than 2^64 names, as each wave in memory has. `decimal` writes the last 64 digits of a
+/// number, so it gives different numbers of FIFOs the same text from 10^64 on.
 /// number, so it does not tell all numbers of FIFOs apart from 10^64 on.
 pub fn waves_read_back()
     ensures one_wave { (v w : Wave) → IsWave v → IsWave w → length v.names < 2 ^ 64 → wave_text v ≡ wave_text w → v ≡ w }

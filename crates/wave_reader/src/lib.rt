@@ -1,5 +1,5 @@
-//! Reading a wave: what its text says that a FIFO holds in a clock. A text is the text of one wave at most, so the text of a plan's wave
-//! tells what each FIFO holds in each clock up to the verdict's, and nothing else.
+//! Reading a wave: what its text says that a FIFO holds in a clock. A text is the text of at most one wave, so the text of a plan's
+//! wave tells what each FIFO holds in each clock up to the verdict's, and nothing else.
 #![tactic(auto)]
 
 mod fill;

@@ -1,4 +1,4 @@
-//! The lines of a wave behind its header.
+//! Reading the lines of a wave after its header.
 ghost use Rattle.std.specs.Prelude.{◌≡◌, ℕ, ◌<◌, ◌^◌, List, ◌∷◌, ◌++◌, IfSome, MatchOption};
 ghost use Rattle.wave_reader.specs.Digits.{numeral};
 ghost use Rattle.wave_reader.specs.Scans.{begun, Fits};
@@ -6,12 +6,12 @@ ghost use Rattle.wave_reader.specs.declared.lines.Line.{Line as Shown};
 
 use crate::numbers::number_before;
 
-/// A line.
+/// A line of a wave after its header.
 #[derive(Clone, Copy)]
 pub enum Line {
-    /// What follows changes in this clock.
+    /// The lines that follow are of this clock.
     Time(u64),
-    /// The FIFO of this number holds so many elements.
+    /// The FIFO with this number holds so many elements from now on.
     Change { fifo: u64, fill: u64 },
 }
 
@@ -53,7 +53,7 @@ fn change_in(bits: &[u8]) -> Option<(Line, &[u8])>
     Some((Line::Change { fifo, fill }, behind))
 }
 
-/// The first line of a text, and what stands behind it.
+/// The first line of a text, and the text after it. `None` where it is no line of a wave.
 pub fn first_line(text: &[u8]) -> Option<(Line, &[u8])>
     ensures some { IfSome result (λ first. (text.now ≡ begun first.0 first.1.now) × Fits first.0) }
     ensures all { (l : Shown) (rest : List ℕ) → Fits l → text.now ≡ begun l rest

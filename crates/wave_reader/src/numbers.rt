@@ -1,4 +1,4 @@
-//! Numbers in the digits that a wave writes them in.
+//! Reading numbers in the digits of a wave.
 ghost use Rattle.std.specs.Prelude.{◌≡◌, ◌≢◌, ℕ, ◌<◌, ◌≤◌, List, ◌∷◌, ◌++◌, IfSome, MatchOption, EachIndex, slice_index};
 ghost use Rattle.wave_reader.specs.Digits.{one_digit, digits_read, number_read, numeral};
 
@@ -32,7 +32,7 @@ fn number_in(base: u64, most: u64, digits: &[u8]) -> Option<u64>
     }
 }
 
-/// A text before and behind its first byte of this kind.
+/// The text before the first byte of this value, and the text after it. `None` where there is no such byte.
 pub fn cut(text: &[u8], byte: u8) -> Option<(&[u8], &[u8])>
     ensures { MatchOption result (EachIndex text.now (λ k. slice_index text.now k ≢ byte)) (λ parts.
         (text.now ≡ parts.0.now ++ byte ∷ parts.1.now) × EachIndex parts.0.now (λ k. slice_index parts.0.now k ≢ byte)) }
@@ -45,8 +45,8 @@ pub fn cut(text: &[u8], byte: u8) -> Option<(&[u8], &[u8])>
     None
 }
 
-/// The number whose digits in this base, with no leading zero, stand before a byte, where it is not above the most, and what stands behind
-/// that byte.
+/// The number whose digits in this base stand before the first such byte, and the text after that byte. `None` where these are no
+/// digits, have a leading zero, or write a number above `most`.
 pub fn number_before(base: u64, most: u64, byte: u8, text: &[u8]) -> Option<(u64, &[u8])>
     requires base { 2 ≤ base }
     requires byte { byte < 48 }

@@ -1,33 +1,33 @@
-//! The clocks and changes of a wave, read in order for one FIFO.
+//! The clocks and changes of a wave, read in order, for one FIFO.
 ghost use Rattle.std.specs.Prelude.{◌≡◌, IfSome, IsSome};
 ghost use Rattle.wave_reader.specs.declared.scan.Scan.{Scan as State};
 ghost use Rattle.wave_reader.specs.Scans.{step, change_step, time_step, opening_scan, Leads};
 
 use crate::lines::{Line, first_line};
 
-/// What is asked of a wave.
+/// What is asked about a wave.
 #[derive(Clone, Copy)]
 pub struct Asked {
     /// How many FIFOs are declared.
     pub count: u64,
-    /// The number of the FIFO.
+    /// The number of the FIFO that is asked about.
     pub fifo: u64,
-    /// The clock.
+    /// The clock that is asked about.
     pub clock: u64,
 }
 
-/// What the lines up to a place say.
+/// What the lines that are read so far say.
 #[derive(Clone, Copy)]
 pub struct Scan {
-    /// The clock of the last line of a clock.
+    /// The clock of the last line that gives one.
     pub clock: u64,
-    /// The least number of a FIFO that may change next in this clock.
+    /// The least number of a FIFO that may change next in that clock.
     pub next: u64,
-    /// Whether the clock has a change.
+    /// Whether that clock has a change.
     pub some: bool,
-    /// What the FIFO holds.
+    /// What the FIFO holds after these lines.
     pub fill: u64,
-    /// What it holds in the clock that is asked for.
+    /// What the FIFO holds in the clock that is asked about.
     pub told: u64,
 }
 
@@ -77,7 +77,7 @@ fn step(asked: Asked, scan: Scan, line: Line) -> Option<Scan>
     }
 }
 
-/// What all lines say, where they are in order.
+/// What all lines of a text say. `None` where they are not in order.
 pub fn scan_lines(asked: Asked, text: &[u8]) -> Option<Scan>
     ensures some { IfSome result (Leads asked (opening_scan asked.count) text.now) }
     ensures all { (r : State) → Leads asked (opening_scan asked.count) text.now r → IsSome result }

@@ -1,4 +1,4 @@
--- The job of a plan and its edits: the reports, one more after each edit, their text, the number of runs, and the ending.
+-- The job of a plan and its edits: a report of the plan and one after each edit, their texts, the number of runs, and the ending.
 use Rattle.std.specs.Prelude.{ℕ, ◌+◌, Bool, true, false, if◌then◌else◌, List, [], ◌∷◌, ◌++◌, length, map, take, flat_map}
 use Rattle.std.specs.List.{range_with_len}
 use Rattle.flow_design.specs.declared.plan.Plan.{Plan}
@@ -22,22 +22,22 @@ use Rattle.whole_answer.specs.declared.ending.Ending.TheVariants.{Done, Words, T
 abbrev pub plan_at : Plan → List Edit → ℕ → Plan
 plan_at p edits k = plan_after p (take k edits)
 
--- report number k
+-- the report of the plan after its first k edits
 unfoldable pub report_at : Plan → List Edit → ℕ → Report
 report_at p edits k = report (plan_at p edits k)
 
--- so many numbers of reports, from 0 on
+-- the numbers of the first n reports
 abbrev pub first_numbers : ℕ → List ℕ
 first_numbers n = range_with_len 0 n
 
--- ---- their texts
+-- ---- the texts of the reports
 
 abbrev pub texts_of : Bool → Plan → List Edit → List ℕ → List ℕ
 texts_of events p edits numbers = flat_map (λ k. report_text_of p.design (report_at p edits k) k events) numbers
 
 -- ---- the runs
 
--- the count of the first report, and of so many behind it
+-- the count of runs after the first report and n more
 abbrev pub counts_in : Plan → List Edit → ℕ → RunCount
 counts_in p edits n = counts_after (first_counts (report_at p edits 0).answers)
     (map (λ k. (report_at p edits k).answers) (range_with_len 1 n))
@@ -57,11 +57,8 @@ is_done Text = false
 is_done Deadlock = false
 is_done Cycles = false
 is_done Ops = false
-is_done ReadFault = false
-is_done WriteFault = false
-is_done Memory = false
 
--- the first that is not done
+-- the first ending that is not `Done`; `Done` where all are
 abbrev pub first_not_done : List Ending → Ending
 first_not_done [] = Done
 first_not_done (s ∷ ss) = if is_done s then first_not_done ss else s
@@ -71,7 +68,7 @@ endings_of p edits numbers = map (λ k. ending_of (report_at p edits k).verdict)
 
 -- ---- the job
 
--- the texts of all reports and the line of the runs, with the ending of the first report that is not done
+-- the texts of all reports and the line of the runs, with the ending of the first report whose plan is not done
 unfoldable pub job : Bool → Plan → List Edit → Answer
 job events p edits = record {
   text = texts_of events p edits (first_numbers (length edits + 1)) ++ line (runs_tokens (counts_in p edits (length edits)).runs);

@@ -1,4 +1,4 @@
--- What the program makes of a session that passes reading and checking.
+-- What a task makes of a session that reading and checking accept.
 use Rattle.std.specs.Prelude.{ℕ, ◌%◌, ◌^◌, List, [], ◌∷◌, length, codes, decimal, slice_index_or, sum_by, unwrap_or}
 use Rattle.flow_design.specs.declared.limits.Scale.{Scale}
 use Rattle.flow_design.specs.declared.limits.Scale.TheVariants.{Standard}
@@ -27,7 +27,7 @@ use Rattle.whole_answer.specs.Job.{ending_of, job}
 abbrev pub refused_words : Answer
 refused_words = record { text = line (codes "refused" ∷ codes "words" ∷ []); ending = Words }
 
--- the number of a code in the language
+-- the number that stands for a code in the answer
 abbrev pub number_of : Code → ℕ
 number_of code.TooLong = 1
 number_of code.NotAscii = 2
@@ -44,7 +44,7 @@ number_of code.Truncated = 12
 number_of code.TooMany = 13
 number_of code.WrongSide = 14
 
--- `refused LINE CODE`
+-- the answer `refused LINE CODE`
 abbrev pub refused : TextFault → Answer
 refused fault = record {
   text = line (codes "refused" ∷ decimal fault.line ∷ decimal (number_of fault.code) ∷ []);
@@ -53,11 +53,11 @@ refused fault = record {
 
 -- ---- simulations
 
--- the plan with the limits of the options in place of its own
+-- the plan with those limits of the options that are given instead of its own
 abbrev pub with_limits : Options → Plan → Plan
 with_limits o p = record p { cycles = unwrap_or o.cycles p.cycles; ops = unwrap_or o.ops p.ops }
 
--- the job of its plan, under these limits, and of its edits
+-- the job of the session's plan, under the limits of the options, and of its edits
 abbrev pub simulated : Scale → Options → List Statement → Answer
 simulated scale o statements = job o.events (with_limits o (plan_of scale statements)) (edits_of statements)
 
@@ -68,19 +68,19 @@ canonical statements = record { text = canonical_text statements; ending = Done 
 
 -- ---- the summary of a generated session
 
--- the values in the first sink, which is the only one of a generated session
+-- the values in the first sink, which is the only one that a generated session has
 abbrev pub values_in : Report → List ℕ
 values_in r = slice_index_or r.outputs 0 []
 
--- `sum COUNT TOTAL`
+-- the tokens of the line `sum COUNT TOTAL`
 abbrev pub sum_tokens : List ℕ → List Token
 sum_tokens values = codes "sum" ∷ decimal (length values) ∷ decimal (sum_by (λ v. v) values % 2 ^ 64) ∷ []
 
--- `gen SEED MODULES`
+-- the tokens of the line `gen SEED MODULES`
 abbrev pub gen_tokens : ℕ → ℕ → List Token
 gen_tokens seed modules = codes "gen" ∷ decimal seed ∷ decimal modules ∷ []
 
--- the lines of a summary: what was asked for, the verdict, the sum, and the one run
+-- the lines of a summary: what was asked for, the verdict, the sum, and the number of runs, which is 1
 abbrev pub summary_lines : ℕ → ℕ → Report → List (List Token)
 summary_lines seed modules r = gen_tokens seed modules ∷ verdict_tokens r.verdict ∷ sum_tokens (values_in r) ∷ runs_tokens 1 ∷ []
 
@@ -90,10 +90,10 @@ summary seed modules p = record {
   ending = ending_of (report p).verdict;
 }
 
--- ---- what a task makes of the statements of a session, which is read at a scale
+-- ---- what a task makes of the statements of a session that is read at a scale
 
 abbrev pub made : Scale → Task → List Statement → Answer
--- whatever simulates it
+-- the answer is the same whichever simulator runs the plan
 made scale (Simulate by o) statements = simulated scale o statements
 made scale Check statements = canonical statements
 made scale (Advise o) statements = advice (with_limits o (plan_of scale statements))
@@ -103,6 +103,6 @@ made scale (Sweep lo hi o) statements = swept lo hi (with_limits o (plan_of scal
 made scale (Size slack o) statements = sized slack (with_limits o (plan_of scale statements))
 made scale (Least slack o) statements = least_told slack (with_limits o (plan_of scale statements))
 
--- the summary of the session of this seed
+-- the answer to `gen`: the summary of the session of this seed
 abbrev pub generated : ℕ → ℕ → Answer
 generated seed modules = summary seed modules (plan_of Standard (session seed modules))

@@ -1,4 +1,4 @@
--- What is shown of a plan's simulation.
+-- The answers to the commands that show a simulation.
 use Rattle.std.specs.Prelude.{ℕ, List}
 use Rattle.flow_design.specs.declared.plan.Plan.{Plan}
 use Rattle.lockstep_defs.specs.Report.{report}
@@ -14,7 +14,7 @@ use Rattle.vcd_wave.specs.WaveText.{wave_text}
 use Rattle.whole_answer.specs.declared.answer.Answer.{Answer}
 use Rattle.whole_answer.specs.Job.{ending_of}
 
--- the text of a view, with what the options ask for: `stalls` with polls, `path` with its links
+-- the text of a view, as the options ask for it: `stalls` with polls, `path` with its links
 abbrev pub view_text : View → Options → Plan → List ℕ
 view_text Wave o p = wave_text (wave_of p)
 view_text Log o p = log_text p
@@ -22,6 +22,6 @@ view_text Stalls o p = stalls_text o.polls p
 view_text Path o p = path_text o.events o.polls p
 view_text Trace o p = trace_text p
 
--- with the ending of the verdict
+-- the text of a view, with the ending of the plan's verdict
 unfoldable pub shown : View → Options → Plan → Answer
 shown view o p = record { text = view_text view o p; ending = ending_of (report p).verdict }

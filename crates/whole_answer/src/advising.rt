@@ -1,4 +1,4 @@
-//! What `advise` answers.
+//! The answer to `advise`.
 ghost use Rattle.std.specs.Prelude.{◌≡◌, IfOk};
 ghost use Rattle.flow_design.specs.StaticRules.{FitsEngine};
 ghost use Rattle.whole_answer.specs.Further.{advice};
@@ -15,7 +15,8 @@ use std::alloc::Global;
 use std::sync::Wait;
 use std::thread::Threads;
 
-/// The verdict of a plan with room for all, and depths for its FIFOs that never block.
+/// The answer to `advise`: the verdict of the plan with FIFOs that never block, and such depths. `OutOfMemory` where memory ran
+/// out.
 #[tactic(auto, unfolding(crate::specs::Further::advice))]
 pub(crate) fn advise_depths<R: Threads + Wait + Sync, G: Gate + Sync>(
     rt: &R,

@@ -1,4 +1,4 @@
-//! The whole answer: what the words ask for is read, checked, run and written.
+//! Makes the whole answer: it reads what the words ask for, checks it, runs it, and writes what comes of it.
 ghost use Rattle.std.specs.Prelude.{◌≡◌, ◌≢◌, ◌≤◌, ◌↔◌, [], false, map, string_bytes, IfOk, IfSome, IsErrOf, Some};
 ghost use Rattle.sim_io.specs.Causes.{Rose};
 ghost use Rattle.cli_words.specs.CommandWords.{accepted, IsInRange, IsSound};
@@ -24,7 +24,7 @@ use std::alloc::Global;
 use std::sync::Wait;
 use std::thread::Threads;
 
-/// A text for the sink, and how the answer ends. What is left to write of an answer is an answer, too.
+/// A text for the sink, and the status of the program. It is the whole answer, or the part of it that is not written yet.
 #[derive(Debug, Drop)]
 pub(crate) struct Answer {
     pub text: List<u8>,
@@ -38,7 +38,7 @@ pub(crate) enum Unanswered {
     ReadFault,
     /// The sink has failed.
     WriteFault,
-    /// There was no memory.
+    /// Memory ran out.
     OutOfMemory,
 }
 
@@ -66,14 +66,14 @@ impl From<TellFault> for Unanswered {
     }
 }
 
-/// What is wrong with a text that is too long: no line of it is read.
+/// The fault of a text that is too long. Its line is 0, since no line of the text is read.
 const TOO_LONG: TextFault = TextFault {
     line: 0,
     code: Code::TooLong,
 };
 
-/// Begins the answer to the words, with what the source gives as the input: a prefix of its text is written, and the rest is handed
-/// out. Nothing is written before all is read.
+/// Begins the answer to the words, with what the source gives as the input: it writes a prefix of the answer's text, and returns
+/// the rest. It writes nothing before it has read all.
 pub(crate) fn answer_words<R: Threads + Wait + Sync, S: Source, G: Gate + Sync, K: Sink>(
     rt: &R,
     alloc: Global,
@@ -103,7 +103,7 @@ pub(crate) fn answer_words<R: Threads + Wait + Sync, S: Source, G: Gate + Sync, 
     }
 }
 
-/// Begins the answer to a command.
+/// Begins the answer to a command: it writes a prefix of the answer's text, and returns the rest.
 fn obey<R: Threads + Wait + Sync, S: Source, G: Gate + Sync, K: Sink>(
     rt: &R,
     alloc: Global,
@@ -132,7 +132,7 @@ fn obey<R: Threads + Wait + Sync, S: Source, G: Gate + Sync, K: Sink>(
     }
 }
 
-/// Begins the answer to what is asked of the text that the source gives.
+/// Begins the answer to a command that takes input, with the text that the source gives: it writes a prefix, and returns the rest.
 fn answer_source<R: Threads + Wait + Sync, S: Source, G: Gate + Sync, K: Sink>(
     rt: &R,
     alloc: Global,
@@ -159,7 +159,8 @@ fn answer_source<R: Threads + Wait + Sync, S: Source, G: Gate + Sync, K: Sink>(
     }
 }
 
-/// The summary of the session of a seed, of which the plan is made as of any other.
+/// The answer to `gen`: the summary of the session of a seed. Its plan is made as that of any session. `OutOfMemory` where memory
+/// ran out.
 fn answer_generated<R: Threads + Wait + Sync, G: Gate + Sync>(
     rt: &R,
     alloc: Global,
@@ -176,8 +177,8 @@ fn answer_generated<R: Threads + Wait + Sync, G: Gate + Sync>(
     summarize(rt, alloc, seed, modules, plan, gate)
 }
 
-/// Begins the answer to a text: it is read to a session, the session is checked, and the task makes the answer of it, all at the
-/// scale that is asked for.
+/// Begins the answer to a text. It reads the text to a session and checks the session, at the scale that is asked for, and the task
+/// makes the answer from it. It writes a prefix of the answer's text, and returns the rest.
 fn answer_text<R: Threads + Wait + Sync, G: Gate + Sync, K: Sink>(
     rt: &R,
     alloc: Global,
@@ -205,7 +206,7 @@ fn answer_text<R: Threads + Wait + Sync, G: Gate + Sync, K: Sink>(
     }
 }
 
-/// `refused words`
+/// The answer `refused words`. `OutOfMemory` where memory ran out.
 fn refuse_words(alloc: Global) -> Result<Answer, OutOfMemory>
     ensures { IfOk result (λ whole. whole ≡ refused_words) }
 {
@@ -215,7 +216,7 @@ fn refuse_words(alloc: Global) -> Result<Answer, OutOfMemory>
     })
 }
 
-/// `refused LINE CODE`
+/// The answer `refused LINE CODE`. `OutOfMemory` where memory ran out.
 fn refuse(alloc: Global, fault: TextFault) -> Result<Answer, OutOfMemory>
     ensures { IfOk result (λ whole. whole ≡ refused fault) }
 {
@@ -227,7 +228,7 @@ fn refuse(alloc: Global, fault: TextFault) -> Result<Answer, OutOfMemory>
     })
 }
 
-/// The number of a code in the language.
+/// The number that stands for a code in the answer.
 fn number_of(code: Code) -> u64
     ensures { result ≡ number_of code }
 {

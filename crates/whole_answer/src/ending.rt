@@ -34,7 +34,7 @@ impl Ending {
         }
     }
 
-    /// This ending where it is not `Done`, and else the next one.
+    /// This ending where it is not `Done`, and `next` otherwise.
     pub fn unless_done(self, next: Ending) -> Ending
         ensures { result ≡ (if is_done self then next else self) }
     {

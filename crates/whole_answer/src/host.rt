@@ -1,7 +1,7 @@
 //! What simulations run on.
 use std::alloc::Global;
 
-/// The runtime that has the threads, the allocator, and the gate that makes the bursts of modules.
+/// The runtime with its threads, the allocator, and the gate that makes the bursts of modules.
 #[derive(Drop)]
 pub(crate) struct Host<'a, R, G> {
     pub(crate) rt: &'a R,

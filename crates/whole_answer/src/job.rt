@@ -31,7 +31,8 @@ use std::sync::Wait;
 use std::thread::Threads;
 use timing_bridge::edited_plans_agree;
 
-/// The job of a plan and its edits. Each report is written as it is made, and the line of the runs is handed out.
+/// Runs the job of a plan and its edits. It writes each report as it is made, and returns the line of the runs, which is not
+/// written yet.
 pub(crate) fn job<R: Threads + Wait + Sync, G: Gate + Sync, K: Sink>(
     host: &Host<'_, R, G>,
     by: Simulator,
@@ -58,8 +59,8 @@ pub(crate) fn job<R: Threads + Wait + Sync, G: Gate + Sync, K: Sink>(
     }
 }
 
-/// The same by the event engine, which after an edit computes again only what the edit touches. The runner simulates the plan, and
-/// once more wherever an edit turns the outcome of a query.
+/// Runs the job of a plan and its edits on the event engine, which after an edit computes again only what the edit touches. The
+/// runner simulates the plan, and once more whenever an edit changes the outcome of a query.
 fn engine_job<R: Threads + Wait + Sync, G: Gate + Sync, U: Runner, K: Sink>(
     host: &Host<'_, R, G>,
     events: bool,
@@ -94,7 +95,8 @@ fn engine_job<R: Threads + Wait + Sync, G: Gate + Sync, U: Runner, K: Sink>(
     Ok(last_line(alloc, session.runs(), ending)?)
 }
 
-/// The same by the lockstep machine, which goes through all clocks again after each edit. Each block is compiled once.
+/// Runs the job of a plan and its edits on the lockstep machine, which goes through all clocks again after each edit. It compiles
+/// each block once.
 fn clock_job<K: Sink>(
     alloc: Global,
     events: bool,
@@ -130,7 +132,7 @@ fn clock_job<K: Sink>(
     Ok(last_line(alloc, count.runs, ending)?)
 }
 
-/// Writes the report of a plan, whole and at once.
+/// Writes the report of a plan as a whole, with one call of the sink's writing.
 fn write_report<K: Sink>(
     alloc: Global,
     plan: &Plan,
@@ -155,7 +157,7 @@ fn write_report<K: Sink>(
     Ok(())
 }
 
-/// The line of the runs, which is left to write, and the job's ending.
+/// The line of the runs, which is not written yet, and the ending. `OutOfMemory` where memory ran out.
 fn last_line(alloc: Global, runs: u64, ending: Ending) -> Result<Answer, OutOfMemory>
     ensures text { IfOk result (λ rest. rest.text ≡ line (runs_tokens runs)) }
     ensures ending { IfOk result (λ rest. rest.ending ≡ ending) }

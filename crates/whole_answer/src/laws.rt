@@ -13,7 +13,7 @@ ghost use Rattle.cli_words.specs.declared.Asked.{Asked};
 use flow_grammar::one_answer as one_reading;
 use lockstep_defs::reports_name_their_plans;
 
-/// All words have exactly one answer to each input.
+/// For each list of words and each input there is exactly one answer.
 pub fn one_answer()
     ensures some { (words : List (List ℕ)) (bytes : List ℕ) → (a : Answer) × Answers words bytes a }
     ensures no_other { (words : List (List ℕ)) (bytes : List ℕ) (a b : Answer) → Answers words bytes a → Answers words bytes b → a ≡ b }
@@ -21,7 +21,7 @@ pub fn one_answer()
     one_text_answer();
 }
 
-/// Each text has exactly one answer under each task at each scale.
+/// For each text there is exactly one answer under each task at each scale.
 pub(crate) fn one_text_answer()
     ensures some { (asked : Asked) (text : List ℕ) → (a : Answer) × AnswersText asked text a }
     ensures no_other { (asked : Asked) (text : List ℕ) (a b : Answer) → AnswersText asked text a → AnswersText asked text b → a ≡ b }
@@ -29,7 +29,7 @@ pub(crate) fn one_text_answer()
     one_reading();
 }
 
-/// A report whose events were not asked for tells all else like one with them.
+/// Apart from its events, a report without them says the same as one with them.
 pub(crate) fn reports_without_events()
     ensures numbers { (events : Bool) (p : Plan) → FitsEngine p → HasNumbersOf p (report_with events p) }
     ensures verdict { (events : Bool) (p : Plan) → (report_with events p).verdict ≡ (report p).verdict }

@@ -1,4 +1,4 @@
-//! The whole answer to the words of a command and the bytes of a session: what is written, and the status.
+//! The whole answer to the words of a command and the bytes of a session: the text that is written, and the status.
 #![tactic(auto)]
 
 mod advising;

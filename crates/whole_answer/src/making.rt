@@ -1,4 +1,4 @@
-//! What a task makes of a session that passes reading and checking.
+//! What a task makes of a session that reading and checking accept.
 ghost use Rattle.std.specs.Prelude.{◌≡◌, ◌≤◌, ◌++◌, ◌%◌, ◌^◌, ℕ, List as Items, Option, sum_by, All, IfOk, IsErrOf, OnErr, OnOk};
 ghost use Rattle.sim_io.specs.Causes.{AppendsPrefix, Rose};
 ghost use Rattle.flow_design.specs.Plans.{EditFits};
@@ -33,7 +33,8 @@ use std::alloc::Global;
 use std::sync::Wait;
 use std::thread::Threads;
 
-/// What is asked of a session that passes the check: a prefix of its text is written, and the rest is handed out.
+/// Begins the answer to what is asked of a session that passes the check: it writes a prefix of the answer's text, and returns the
+/// rest.
 #[tactic(auto, using(crate::proofs::Limits::limits_fit))]
 pub(crate) fn make<R: Threads + Wait + Sync, G: Gate + Sync, K: Sink>(
     host: &Host<'_, R, G>,
@@ -81,7 +82,7 @@ pub(crate) fn make<R: Threads + Wait + Sync, G: Gate + Sync, K: Sink>(
     }
 }
 
-/// An answer of which nothing is written yet.
+/// An answer that was made as a whole, as what is left to write: nothing of it is written yet. `OutOfMemory` where memory ran out.
 fn unwritten(made: Result<Answer, OutOfMemory>) -> Result<Answer, TellFault>
     ensures rest { (whole : Answer) (held : Option (Items ℕ)) → IfOk made (λ answer. answer ≡ whole)
         → IfOk result (λ rest. IsRest whole held held rest) }
@@ -91,7 +92,7 @@ fn unwritten(made: Result<Answer, OutOfMemory>) -> Result<Answer, TellFault>
     Ok(made?)
 }
 
-/// The canonical form.
+/// The answer to `check`: the canonical form of a session. `OutOfMemory` where memory ran out.
 fn print(alloc: Global, session: &Session) -> Result<Answer, OutOfMemory>
     ensures { IfOk result (λ whole. whole ≡ canonical session.now.statements) }
 {
@@ -101,7 +102,7 @@ fn print(alloc: Global, session: &Session) -> Result<Answer, OutOfMemory>
     })
 }
 
-/// The job of a session under the limits of the options.
+/// Runs the job of a session under the limits of the options.
 fn simulate<R: Threads + Wait + Sync, G: Gate + Sync, K: Sink>(
     host: &Host<'_, R, G>,
     by: Simulator,
@@ -123,7 +124,7 @@ fn simulate<R: Threads + Wait + Sync, G: Gate + Sync, K: Sink>(
     job(host, by, options.events, Checked { plan, edits }, sink)
 }
 
-/// The plan of a session under the limits of the options. Its edits are let go of.
+/// The plan of a session under the limits of the options. It frees the edits.
 fn limited(checked: Checked, options: &Options) -> Plan
     requires fits { FitsEngine (with_limits options.now checked.plan) }
     ensures plan { result ≡ with_limits options.now checked.plan }
@@ -134,7 +135,7 @@ fn limited(checked: Checked, options: &Options) -> Plan
     plan
 }
 
-/// Puts the limits of the options in place of the plan's own.
+/// Replaces the limits of the plan by those of the options that are given.
 fn set_limits(plan: &mut Plan, options: &Options)
     ensures { plan.new ≡ with_limits options.now plan.old }
 {
@@ -142,7 +143,7 @@ fn set_limits(plan: &mut Plan, options: &Options)
     plan.ops = options.ops.unwrap_or(plan.ops);
 }
 
-/// The summary of a generated session, which is run with a thread for each module.
+/// The summary of a generated session, which is run with a thread for each module. `OutOfMemory` where memory ran out.
 #[tactic(auto, unfolding(crate::specs::Made::summary))]
 pub(crate) fn summarize<R: Threads + Wait + Sync, G: Gate + Sync>(
     rt: &R,
@@ -165,7 +166,7 @@ pub(crate) fn summarize<R: Threads + Wait + Sync, G: Gate + Sync>(
     })
 }
 
-/// Adds the lines of a summary.
+/// Adds the lines of a summary. After `OutOfMemory` the text may have some of them.
 fn print_summary(
     text: &mut List<u8>,
     seed: u64,
@@ -180,7 +181,7 @@ fn print_summary(
     print_runs(text, 1)
 }
 
-/// The values in the first sink.
+/// The values in the first sink of a report; none where it has no sink.
 fn values_in(outcome: &Report) -> &[u64]
     ensures { result.now ≡ values_in outcome.now }
 {
@@ -190,14 +191,14 @@ fn values_in(outcome: &Report) -> &[u64]
     }
 }
 
-/// Adds the line `sum COUNT TOTAL`.
+/// Adds the line `sum COUNT TOTAL`. After `OutOfMemory` the text may have part of it.
 fn print_sum(text: &mut List<u8>, values: &[u64]) -> Result<(), OutOfMemory>
     ensures { OnOk result (text.new ≡ text.old ++ line (sum_tokens values.now)) }
 {
     print_numbers(text, b"sum", &[values.len() as u64, total(values)])
 }
 
-/// The sum modulo 2^64.
+/// The sum of the values modulo 2^64.
 #[tactic(auto, using(crate::proofs::Sums::one_more))]
 fn total(values: &[u64]) -> u64
     ensures { result ≡ sum_by (λ v. v) values.now % 2 ^ 64 }

@@ -1,4 +1,4 @@
-//! What `order` answers.
+//! The answer to `order`.
 ghost use Rattle.std.specs.Prelude.{◌≡◌, ◌<◌, ◌∷◌, ◌++◌, [], decimal, flat_map, length, IfOk, OnOk};
 ghost use Rattle.flow_design.specs.StaticRules.{FitsEngine};
 ghost use Rattle.report_text.specs.Lines.{line};
@@ -13,7 +13,7 @@ use report_text::{module_name, push_token, push_value};
 use serial_order::{Order, Used, check_order};
 use std::alloc::Global;
 
-/// A line for each module of a plan. Nothing is simulated.
+/// The answer to `order`: a line for each module of a plan. Nothing is simulated. `OutOfMemory` where memory ran out.
 pub(crate) fn order_modules(alloc: Global, plan: &Plan) -> Result<Answer, OutOfMemory>
     requires { FitsEngine plan.now }
     ensures { IfOk result (λ whole. whole ≡ ordered plan.now.design) }
@@ -28,7 +28,8 @@ pub(crate) fn order_modules(alloc: Global, plan: &Plan) -> Result<Answer, OutOfM
     })
 }
 
-/// Adds the line of a module.
+/// Adds the line of a module: whether it is serial, or which rule it breaks first. After `OutOfMemory` the text may have part of
+/// it.
 #[tactic(auto, using(crate::proofs::FurtherLines::line_of_more))]
 fn print_order(text: &mut List<u8>, design: &Design, module: u32) -> Result<(), OutOfMemory>
     requires { HasModule design.now «module» }
@@ -40,7 +41,7 @@ fn print_order(text: &mut List<u8>, design: &Design, module: u32) -> Result<(), 
     text.push(b'\n')
 }
 
-/// Adds what is answered of a module, with a space before each word.
+/// Adds the words for what a module is, with a space before each. After `OutOfMemory` the text may have some of them.
 fn push_order(text: &mut List<u8>, order: Order) -> Result<(), OutOfMemory>
     ensures { OnOk result (text.new ≡ text.old ++ flat_map (λ t. 32 ∷ t) (order_words order)) }
 {
@@ -58,7 +59,7 @@ fn push_order(text: &mut List<u8>, order: Order) -> Result<(), OutOfMemory>
     }
 }
 
-/// Adds a word and the numbers of a block and of an operation.
+/// Adds a word, the number of a block and the number of an operation, with a space before each.
 fn push_place(
     text: &mut List<u8>,
     word: &[u8],
@@ -72,7 +73,7 @@ fn push_place(
     push_value(text, operation as u64)
 }
 
-/// The word for a kind of thing, and its number.
+/// The word for the kind of a thing that operations use, and the thing's number.
 fn used_words(thing: Used) -> (&'static [u8], u32)
     ensures { used_words thing ≡ result.0.now ∷ decimal result.1 ∷ [] }
 {

@@ -1,4 +1,4 @@
-//! The top call.
+//! The program as one call.
 ghost use Rattle.std.specs.Prelude.{◌≡◌, ◌≢◌, ◌≤◌, [], false, map, string_bytes, IfSome};
 ghost use Rattle.sim_io.specs.Causes.{Rose};
 ghost use Rattle.cli_words.specs.CommandWords.{accepted};
@@ -12,13 +12,13 @@ use std::alloc::Global;
 use std::sync::Wait;
 use std::thread::Threads;
 
-/// Does what the words ask for, and writes the answer: `words` are the words after the program's own name, and the source
-/// gives the session text. Where modules run on threads of their own, the gate makes their bursts.
+/// Does what the words ask for, and writes the answer. `words` are the words after the program's own name, and the source gives the
+/// text of the session. Where modules run on threads of their own, the gate makes their bursts.
 ///
-/// The sink gets exactly the text of the whole answer, and the result is its status, but for three cases: the source has
-/// failed and nothing was written, the sink has failed and a prefix was written, or there was no memory and a prefix was
-/// written. Each report is written as it is made, by one `write_all_of`, and the rest of the answer by one more. Refused words read
-/// nothing, and neither does `gen`.
+/// The sink gets exactly the text of the whole answer, and the result is its status, except in three cases: the source has failed
+/// and nothing was written; the sink has failed and a prefix was written; or memory ran out and a prefix was written. Each report
+/// is written as it is made, by one `write_all_of`, and the rest of the answer by one more. For words that are refused, and for
+/// `gen`, nothing is read.
 pub fn omnisim<R: Threads + Wait + Sync, S: Source, K: Sink, G: Gate + Sync>(
     rt: &R,
     alloc: Global,
@@ -45,7 +45,7 @@ pub fn omnisim<R: Threads + Wait + Sync, S: Source, K: Sink, G: Gate + Sync>(
     }
 }
 
-/// Writes a whole answer, and finishes.
+/// Writes the rest of an answer, finishes the sink, and returns the answer's status; `WriteFault` where the sink fails.
 fn tell<K: Sink>(sink: &mut K, whole: &Answer) -> Status
     ensures told { Tells whole.now result (K.held sink.old) (K.held sink.new) (K.is_finished sink.new) }
     ensures write_fault { result ≡ Status.WriteFault → Rose (K.faults sink.old) (K.faults sink.new) }

@@ -1,4 +1,4 @@
-//! Refusals of sessions that a command does not take.
+//! Refusals of sessions that are sound but that a command does not take.
 ghost use Rattle.std.specs.Prelude.{◌≡◌, IfOk};
 ghost use Rattle.whole_answer.specs.Further.{not_taken};
 
@@ -8,13 +8,13 @@ use flow_word::{List, OutOfMemory};
 use report_text::print_numbers;
 use std::alloc::Global;
 
-/// The code where a sweep would have too many points.
+/// The code for a sweep with too many points.
 pub(crate) const TOO_MANY_POINTS: u64 = 21;
 
-/// The code where a command takes no queries, and the session has one.
+/// The code for a session with a query under a command that takes none.
 pub(crate) const HAS_QUERY: u64 = 22;
 
-/// `refused 0 CODE`
+/// The answer `refused 0 CODE`. `OutOfMemory` where memory ran out.
 pub(crate) fn refuse(alloc: Global, code: u64) -> Result<Answer, OutOfMemory>
     ensures { IfOk result (λ whole. whole ≡ not_taken code) }
 {

@@ -1,4 +1,4 @@
-//! What is shown of a simulation.
+//! The answers to the commands that show a simulation.
 ghost use Rattle.std.specs.Prelude.{◌≤◌, IfOk, IsErrOf, OnErr};
 ghost use Rattle.sim_io.specs.Causes.{AppendsPrefix, Rose};
 ghost use Rattle.sim_io.specs.Telling.{IsTold};
@@ -28,7 +28,8 @@ use std::thread::Threads;
 use trace_text::trace_text;
 use vcd_wave::wave_text;
 
-/// A view of a plan's simulation, which has a thread for each module, with the ending of its verdict.
+/// Simulates a plan with a thread for each module, and begins the answer with a view of the simulation and the ending of its
+/// verdict: it writes a prefix, and returns the rest.
 #[tactic(auto, using(sim_io::proofs::Pending::prefix_none))]
 pub(crate) fn show<R: Threads + Wait + Sync, G: Gate + Sync, K: Sink>(
     host: &Host<'_, R, G>,
@@ -49,8 +50,8 @@ pub(crate) fn show<R: Threads + Wait + Sync, G: Gate + Sync, K: Sink>(
     Ok(Answer { text, ending })
 }
 
-/// The text of a view of a final core's plan, with what the options ask for: `stalls` with polls, `path` with its links. Those that may
-/// be long are written in pieces, and the rest is handed out.
+/// The text of a view of a final core's plan, as the options ask for it: `stalls` with polls, `path` with its links. Views that may
+/// be long are written piece by piece, and the part that is not written yet is returned.
 fn view_text<K: Sink>(
     alloc: Global,
     view: View,

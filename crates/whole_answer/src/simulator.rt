@@ -9,7 +9,8 @@ use flow_design::{Plan, Report};
 use flow_word::{List, OutOfMemory};
 use std::alloc::Global;
 
-/// The report of a plan by the lockstep machine, by the code of its blocks: with its events, or with none.
+/// The report of a plan by the lockstep machine, from the code of its blocks: with its events if `events` is set, and without
+/// otherwise. `OutOfMemory` where memory ran out.
 pub(crate) fn clock_report(
     alloc: Global,
     plan: &Plan,

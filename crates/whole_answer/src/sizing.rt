@@ -1,4 +1,4 @@
-//! What `size` and `least` answer.
+//! The answers to `size` and `least`.
 ghost use Rattle.std.specs.Prelude.{◌≡◌, ◌≤◌, IfOk};
 ghost use Rattle.flow_design.specs.StaticRules.{FitsEngine};
 ghost use Rattle.depth_order.specs.Depths.{AsksNothing};
@@ -19,7 +19,8 @@ use std::alloc::Global;
 use std::sync::Wait;
 use std::thread::Threads;
 
-/// The smallest FIFOs of a plan that lose no more than so many clocks, and the status of the verdict with them.
+/// The answer to `size`: the smallest FIFOs of a plan that lose no more than `slack` clocks, with the status of the verdict with
+/// them. `OutOfMemory` where memory ran out.
 #[tactic(auto, unfolding(crate::specs::Further::sized))]
 pub(crate) fn size_fifos<R: Threads + Wait + Sync, G: Gate + Sync>(
     rt: &R,
@@ -40,7 +41,8 @@ pub(crate) fn size_fifos<R: Threads + Wait + Sync, G: Gate + Sync>(
     })
 }
 
-/// What `least` answers: the depths that need the fewest bits, or a refusal where the plan has a query.
+/// The answer to `least`: the depths that take the fewest bits, or a refusal where the plan has a query. `OutOfMemory` where memory
+/// ran out.
 pub(crate) fn least_fifos<R: Threads + Wait + Sync, G: Gate + Sync>(
     rt: &R,
     alloc: Global,
@@ -59,7 +61,8 @@ pub(crate) fn least_fifos<R: Threads + Wait + Sync, G: Gate + Sync>(
     }
 }
 
-/// The depths of a plan's FIFOs that need the fewest bits and lose no more than so many clocks, and the status of the verdict with them.
+/// The depths of a plan's FIFOs that take the fewest bits and lose no more than `slack` clocks, with the status of the verdict with
+/// them. `OutOfMemory` where memory ran out.
 #[tactic(auto, unfolding(crate::specs::Further::fewest_bits))]
 fn fewest_bits<R: Threads + Wait + Sync, G: Gate + Sync>(
     rt: &R,

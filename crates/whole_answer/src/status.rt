@@ -8,7 +8,7 @@ use crate::ending::Ending;
 /// How the program ends.
 #[derive(Clone, Copy, Debug, PartialEq, Eq)]
 pub enum Status {
-    /// The design is done, or what was asked for is printed.
+    /// All modules came to their ends, or what was asked for is printed.
     Done,
     /// The words were refused, and nothing was read.
     Words,
@@ -24,12 +24,12 @@ pub enum Status {
     ReadFault,
     /// The sink has failed.
     WriteFault,
-    /// There was no memory.
+    /// Memory ran out.
     Memory,
 }
 
 impl Status {
-    /// The status of an answer that was written whole.
+    /// The ending of an answer that was written whole.
     pub(crate) fn of(ending: Ending) -> Status
         ensures status { result ≡ status_of ending }
         ensures answer { IsAnswer result }
@@ -44,7 +44,7 @@ impl Status {
         }
     }
 
-    /// The program's exit status.
+    /// The number with which the program exits.
     pub fn number(self) -> u8
         ensures { result ≡ exit_number self }
     {

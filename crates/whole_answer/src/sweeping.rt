@@ -1,4 +1,4 @@
-//! What `sweep` answers.
+//! The answer to `sweep`.
 ghost use Rattle.std.specs.Prelude.{◌≡◌, ◌≤◌, ◌∷◌, ◌++◌, [], decimal, map, IfOk, OnOk};
 ghost use Rattle.std.specs.List.{list_any};
 ghost use Rattle.flow_design.specs.StaticRules.{FitsEngine};
@@ -16,7 +16,8 @@ use report_text::{print_numbers, push_token, push_value, push_values};
 use std::alloc::Global;
 use std::thread::Threads;
 
-/// The answer to a sweep of a plan's depths.
+/// The answer to `sweep`: the points of a plan's grid of depths, or a refusal where it has too many. `OutOfMemory` where memory ran
+/// out.
 pub(crate) fn sweep_depths<R: Threads + Sync>(
     rt: &R,
     alloc: Global,
@@ -37,7 +38,7 @@ pub(crate) fn sweep_depths<R: Threads + Sync>(
     }
 }
 
-/// A line for each point, and the best.
+/// A line for each point, and the line of the best point. `OutOfMemory` where memory ran out.
 fn tell_points(alloc: Global, points: &[Point]) -> Result<Answer, OutOfMemory>
     ensures { IfOk result (λ whole. whole ≡ told_points points.now) }
 {
@@ -50,7 +51,7 @@ fn tell_points(alloc: Global, points: &[Point]) -> Result<Answer, OutOfMemory>
     })
 }
 
-/// Adds a line for each point.
+/// Adds a line for each point. After `OutOfMemory` the text may have some of them.
 #[tactic(auto, using(report_text::proofs::LineLemmas::lines_more))]
 fn print_points(text: &mut List<u8>, points: &[Point]) -> Result<(), OutOfMemory>
     ensures { OnOk result (text.new ≡ text.old ++ text_of_lines (map point_tokens points.now)) }
@@ -61,7 +62,7 @@ fn print_points(text: &mut List<u8>, points: &[Point]) -> Result<(), OutOfMemory
     Ok(())
 }
 
-/// Adds the line of a point.
+/// Adds the line of a point: `point`, its depths, and its verdict. After `OutOfMemory` the text may have part of it.
 #[tactic(auto, using(crate::proofs::PointLines::point_line))]
 fn print_point(text: &mut List<u8>, point: &Point) -> Result<(), OutOfMemory>
     ensures { OnOk result (text.new ≡ text.old ++ line (point_tokens point.now)) }
@@ -74,7 +75,7 @@ fn print_point(text: &mut List<u8>, point: &Point) -> Result<(), OutOfMemory>
     text.push(b'\n')
 }
 
-/// The verdict's word, and its clock.
+/// The word of a verdict, and its clock.
 fn verdict_words(verdict: Verdict) -> (&'static [u8], u64)
     ensures { verdict_words verdict ≡ result.0.now ∷ decimal result.1 ∷ [] }
 {
@@ -86,7 +87,7 @@ fn verdict_words(verdict: Verdict) -> (&'static [u8], u64)
     }
 }
 
-/// Adds the line of the best point.
+/// Adds the line of the best point: `best` and its depths, or `best none`. After `OutOfMemory` the text may have part of it.
 fn print_best(text: &mut List<u8>, points: &[Point]) -> Result<(), OutOfMemory>
     ensures { OnOk result (text.new ≡ text.old ++ line (best_tokens (best_of points.now))) }
 {
@@ -96,7 +97,7 @@ fn print_best(text: &mut List<u8>, points: &[Point]) -> Result<(), OutOfMemory>
     }
 }
 
-/// Done where some point is done, and else what the first point tells.
+/// `Done` where some point is done, and otherwise the ending of the first point's verdict.
 fn points_ending(points: &[Point]) -> Ending
     ensures { result ≡ points_ending points.now }
 {
@@ -114,7 +115,7 @@ fn some_is_done(points: &[Point]) -> bool
     points.iter().any(is_done)
 }
 
-/// What the first point tells.
+/// The ending of the first point's verdict; `Done` where there are no points.
 fn first_ending(points: &[Point]) -> Ending
     ensures { result ≡ first_ending points.now }
 {

@@ -26,10 +26,11 @@ use std::alloc::Global;
 use turn_lock::{Pass, TurnLock};
 
 impl Hub {
-    /// A hub of an opening core, of which no run is lent, with its performance pass and a pass for each module, in order. Its history
-    /// has one entry.
+    /// Opens a hub of a core in which nothing is emitted yet and no run is lent. The answer has its performance pass, and a pass
+    /// for each module, in order. Its history has one entry.
     ///
-    /// It takes memory for the core with its turns, the lock, and a pass for each module. An error leaves nothing, and the core is gone.
+    /// It takes memory for the core with its turns, for the lock, and for a pass for each module. After `OutOfMemory` the core is
+    /// lost.
     pub fn new(alloc: Global, core: Core) -> Result<(Hub, PerfPass, Vec<ModulePass>), OutOfMemory>
         requires opening { theory_of core ≡ opening_core (design core.plan) }
         requires own { AreOwn core }
@@ -46,7 +47,8 @@ impl Hub {
         Ok((Hub { lock }, perf_pass(first, count), modules))
     }
 
-    /// The core with all turns that led to it, once no desk is out and all is over. The passes of the modules may come in any order.
+    /// Closes a hub, once no desk is out, and the core is final or memory ran out. The answer has the core with all turns that led
+    /// to it. The passes of the modules may come in any order.
     pub fn close(self, perf: PerfPass, modules: Vec<ModulePass>) -> Closed
         requires own { IsPerfOf self perf × AreOfHub (hub_id self) modules.items }
         requires each { HasEachModule perf modules.items }
@@ -73,7 +75,7 @@ impl Hub {
     }
 }
 
-/// The first pass makes a pass for each of so many modules, in order.
+/// Makes a pass for each of so many modules, in order, out of the first pass.
 fn split_all(
     alloc: Global,
     lock: &TurnLock<Books>,
@@ -100,7 +102,7 @@ fn split_all(
     Ok((first, list))
 }
 
-/// A module's pass, which was just made.
+/// The pass of a module, from a pass that was just made.
 fn module_pass(pass: Pass<Books>, which: u32) -> ModulePass
     requires room { which + 1 < 2 ^ 32 }
     requires number { (view_of pass).number ≡ which + 1 }
@@ -115,7 +117,7 @@ fn module_pass(pass: Pass<Books>, which: u32) -> ModulePass
     ModulePass { place, which }
 }
 
-/// The performance pass, which has just made a pass for each of so many modules.
+/// The performance pass, from the first pass, which has just made a pass for each of so many modules.
 fn perf_pass(pass: Pass<Books>, count: u32) -> PerfPass
     requires first { IsFirst count (view_of pass).seen (view_of pass) }
     requires modules { HasModules count (view_of pass).seen }
@@ -127,13 +129,13 @@ fn perf_pass(pass: Pass<Books>, count: u32) -> PerfPass
     PerfPass { place }
 }
 
-/// The end of a ledger, once no desk is out and all is over.
+/// What a ledger leaves, once no desk is out, and the core is final or memory ran out.
 fn settle(ledger: Ledger) -> Closed
     requires over { (seen : List HubEntry) × IsPrefix seen (entries_in ledger) × IsOverAt seen }
     requires home { (m : ℕ) → m < length ledger.core.plan.design.modules → ∥ ComesHome m (entries_in ledger) ∥₁ }
     ensures { EndsAt (entries_in ledger) result }
 {
-    // The core agrees with its plan.
+    // This brings in what a core always keeps: it agrees with its plan.
     let _count = ledger.core.modules();
     let Ledger {
         core,

@@ -1,4 +1,4 @@
-//! How a turn begins and ends.
+//! Beginning and ending a turn.
 ghost use Rattle.std.specs.Prelude.{◌≡◌, ℕ, ◌+◌, ◌^◌, ◌<◌, List, [], ◌∷◌, ◌++◌, length};
 ghost use Rattle.turn_lock.specs.Passes.{view_of, pass_lock, turn_view, turn_lock_of, begun_at};
 ghost use Rattle.turn_lock.specs.Turns.{BeginsTurn};
@@ -14,7 +14,7 @@ use std::sync::Wait;
 use turn_lock::Turn;
 
 impl Hub {
-    /// Takes the turn for a pass.
+    /// Takes the turn for a pass. It waits until the turn is free.
     pub(super) fn begin<R: Wait>(&self, rt: &R, place: Place) -> Turn<Books>
         requires own { pass_lock place.pass ≡ hub_id self.now }
         ensures lock { turn_lock_of result ≡ hub_id self.now }
@@ -24,7 +24,7 @@ impl Hub {
         self.lock.take(rt, pass)
     }
 
-    /// Ends a turn, in which the pass with this number added one of its own, or nothing.
+    /// Hands the turn back. `added` tells whether the pass, which has this number, added an entry of its own.
     pub(super) fn end(&self, turn: Turn<Books>, number: u32, added: bool) -> Place
         requires own { turn_lock_of turn ≡ hub_id self.now }
         requires number { (turn_view turn).number ≡ number }

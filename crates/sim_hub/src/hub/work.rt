@@ -1,4 +1,4 @@
-//! What passes do in a turn.
+//! What passes do in their turns.
 ghost use Rattle.std.specs.Prelude.{◌≡◌, ◌⊎◌, ℕ, ◌+◌, ◌^◌, ◌<◌, List, [], ◌∷◌, ◌++◌, length, true, false};
 ghost use Rattle.sim_hub.specs.Places.{HasDeskOut, HasNoDeskOut, IsLater};
 ghost use Rattle.sim_hub.specs.Hubs.{module_of, module_view, perf_view, IsOfHub, IsPerfOf, DeskIs, OutIs, PerfIs, ReturnIs, IsDeskBurst};
@@ -10,7 +10,7 @@ use sim_core::Burst;
 use std::sync::Wait;
 
 impl Hub {
-    /// Lends a module's run with its mail, where a Run of the module is permitted. One turn.
+    /// Lends a module's run with its mail, if a Run of the module is permitted. It takes one turn.
     pub fn borrow_desk<R: Wait>(&self, rt: &R, pass: ModulePass) -> (ModulePass, Desk)
         requires own { IsOfHub self.now pass }
         requires home { HasNoDeskOut (module_of pass) (module_view pass) }
@@ -28,8 +28,8 @@ impl Hub {
         (pass, desk)
     }
 
-    /// Takes a module's run back, with the marks of its burst: as many Runs are made. Whether they were made; they are not where the
-    /// burst wanted memory, or where there is none for its marks. One turn.
+    /// Takes a module's run back, with the marks of its burst, and does as many Runs. Whether they were done: not where memory ran
+    /// out in the burst, or for its marks. It takes one turn.
     pub fn return_desk<R: Wait>(&self, rt: &R, pass: ModulePass, burst: Burst) -> (ModulePass, bool)
         requires own { IsOfHub self.now pass }
         requires out { HasDeskOut (module_of pass) (module_view pass) }
@@ -49,8 +49,8 @@ impl Hub {
         (pass, made)
     }
 
-    /// Does each permitted Assign and Answer, modules in order and round after round; or, where none was done and no Run is permitted
-    /// either, one Earliest. One turn.
+    /// Does each permitted Assign and Answer, over the modules in order and round after round. Where none is permitted, and no Run
+    /// either, it does one Earliest. It takes one turn.
     pub fn perf_turn<R: Wait>(&self, rt: &R, pass: PerfPass) -> (PerfPass, PerfAnswer)
         requires own { IsPerfOf self.now pass }
         ensures own { IsPerfOf self.now result.0 }

@@ -1,4 +1,4 @@
-//! What is lent of a ledger's core, and comes back.
+//! Lending runs of a ledger's core, and taking them back.
 ghost use Rattle.std.specs.Prelude.{◌≡◌, ℕ, ◌+◌, ◌<◌, ◌≤◌, [], true, false, length, IfOk};
 ghost use Rattle.event_timing.specs.Core.{opening_core};
 ghost use Rattle.timing_bridge.specs.Designs.{design};
@@ -19,13 +19,13 @@ use std::alloc::Global;
 use turn_history::HubTurn;
 
 impl Ledger {
-    /// A ledger of an opening core, of which no run is lent. An error leaves nothing, and the core is gone.
+    /// A ledger of a core in which nothing is emitted yet and no run is lent. After `OutOfMemory` the core is lost.
     pub(crate) fn new(alloc: Global, core: Core) -> Result<Ledger, OutOfMemory>
         requires opening { theory_of core ≡ opening_core (design core.plan) }
         requires own { AreOwn core }
         ensures { IfOk result (λ ledger. entries_in ledger ≡ history_of core.plan []) }
     {
-        // The core agrees with its plan.
+        // This brings in what a core always keeps: it agrees with its plan.
         let _count = core.modules();
         let turns = Vec::with_capacity(alloc, 1)?;
         Ok(Ledger {
@@ -36,19 +36,19 @@ impl Ledger {
         })
     }
 
-    /// Lends a module's run to its pass, where a Run of the module is permitted. Beside the answer: whether a turn was added.
+    /// Lends a module's run to its pass, if a Run of the module is permitted. The second answer tells whether a turn was added.
     pub(crate) fn lend(&mut self, pass: u32, owner: u32) -> (Desk, bool)
         requires pass { pass ≡ owner + 1 }
         requires home { ComesHome owner (entries_in self.old) }
         ensures lending { LendingIs owner (entries_in self.old) (entries_in self.new) result.0 result.1 }
         ensures out { OutAt owner (entries_in self.new) result.0 }
     {
-        // The core agrees with its plan.
+        // This brings in what a core always keeps: it agrees with its plan.
         let _count = self.core.modules();
         if self.short {
             return (Desk::Short, false);
         }
-        // For this turn, for one of each desk that is then out, and for one more.
+        // Room for this turn, for one turn of each desk that is then out, and for one more.
         if self.turns.reserve(self.out + 3).is_err() {
             self.fall_short(pass);
             return (Desk::Short, true);
@@ -77,7 +77,7 @@ impl Ledger {
         }
     }
 
-    /// Takes a module's run back from its pass, with the marks of its burst. Whether they were made.
+    /// Takes a module's run back from its pass, with the marks of its burst, and does as many Runs. Whether they were done.
     pub(crate) fn take_back(&mut self, pass: u32, owner: u32, burst: Burst) -> bool
         requires pass { pass ≡ owner + 1 }
         requires back { ComesBack owner burst (entries_in self.old) }
@@ -85,7 +85,7 @@ impl Ledger {
         ensures short { burst.short ≡ true → result ≡ false }
         ensures home { HasNoDesk owner (entries_in self.new) }
     {
-        // The core agrees with its plan.
+        // This brings in what a core always keeps: it agrees with its plan.
         let _count = self.core.modules();
         if burst.short {
             drop(burst);
@@ -110,7 +110,7 @@ impl Ledger {
         }
     }
 
-    /// Notes that memory was wanted, for a pass with no desk out.
+    /// Notes that memory ran out for a pass that has no desk out.
     pub(crate) fn fall_short(&mut self, pass: u32)
         requires memory { self.old.short ≡ false }
         requires pass { pass ≤ length self.old.core.plan.design.modules }
@@ -120,7 +120,7 @@ impl Ledger {
         self.short = true;
     }
 
-    /// Notes that memory was wanted, for a pass whose desk is out: its run stays out of the core.
+    /// Notes that memory ran out for a pass whose desk is out. The desk's run stays out of the core.
     fn give_up(&mut self, pass: u32, owner: u32)
         requires pass { pass ≡ owner + 1 }
         requires out { HasDesk owner (entries_in self.old) }

@@ -1,4 +1,4 @@
-//! What the performance pass does with a ledger's core.
+//! The turns of the performance pass.
 ghost use Rattle.std.specs.Prelude.{◌≡◌, ℕ, ◌<◌, false, Some};
 ghost use Rattle.flow_design.specs.declared.state.ModuleState.{ModuleState};
 ghost use Rattle.event_timing.specs.Actions.{MayEarliest};
@@ -21,17 +21,17 @@ use std::sync::ledger::{Blank, Ledger as Ticks};
 use turn_history::HubTurn;
 
 impl Ledger {
-    /// Does each permitted Assign and Answer, round after round; or, where none was done, one Earliest, where it is permitted. Beside
-    /// the answer: whether a turn was added.
+    /// Does each permitted Assign and Answer, round after round; or, where none is permitted, one Earliest, if it is permitted. The
+    /// second answer tells whether a turn was added.
     pub(crate) fn time(&mut self) -> (PerfAnswer, bool)
         ensures { TimingIs (entries_in self.old) (entries_in self.new) result.0 result.1 }
     {
-        // The core agrees with its plan.
+        // This brings in what a core always keeps: it agrees with its plan.
         let _count = self.core.modules();
         if self.short {
             return (PerfAnswer::Short, false);
         }
-        // For this turn, for one of each desk that is out, and for one more.
+        // Room for this turn, for one turn of each desk that is out, and for one more.
         if self.turns.reserve(self.out + 2).is_err() {
             self.fall_short(0);
             return (PerfAnswer::Short, true);
@@ -52,7 +52,8 @@ impl Ledger {
     }
 }
 
-/// How many actions were done: each permitted Assign and Answer, round after round; or one Earliest.
+/// Does each permitted Assign and Answer, round after round; or, where none is permitted, one Earliest. Answers how many actions
+/// were done.
 fn act<L: Ticks>(core: &mut Core, blank: Blank) -> u64
     requires name { blank.name ≡ L.name }
     requires parts { blank.parts ≡ L.parts }
@@ -67,7 +68,7 @@ fn act<L: Ticks>(core: &mut Core, blank: Blank) -> u64
     ensures no_earliest { result ≡ 0 → (m c : ℕ)
         → MayEarliest (design core.new.plan) core.new.plan.cycles (theory_of core.new) m c → ⊥ }
 {
-    // The core agrees with its plan.
+    // This brings in what a core always keeps: it agrees with its plan.
     let _count = core.modules();
     let mut steps = Steps::<L>::new(blank);
     let count = core.time_all(&mut steps);

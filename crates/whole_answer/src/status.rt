@@ -29,7 +29,7 @@ pub enum Status {
 }
 
 impl Status {
-    /// The ending of an answer that was written whole.
+    /// The status of an answer that was written whole.
     pub(crate) fn of(ending: Ending) -> Status
         ensures status { result ≡ status_of ending }
         ensures answer { IsAnswer result }

@@ -57,9 +57,6 @@ is_done Text = false
 is_done Deadlock = false
 is_done Cycles = false
 is_done Ops = false
-is_done ReadFault = false
-is_done WriteFault = false
-is_done Memory = false
 
 -- the first that is not done
 abbrev pub first_not_done : List Ending → Ending

@@ -25,7 +25,6 @@ use std::alloc::Global;
 /// It takes memory for the spans of one module at a time, for the clocks of one FIFO's pushes and pops at a time, for two numbers
 /// for each channel, and for the text; with `polls` also for what each access gave, and for a few numbers for each module and each
 /// channel.
-/// error leaves nothing.
 pub fn stalls_text(alloc: Global, core: &Core, polls: bool) -> Result<List<u8>, OutOfMemory>
     requires { IsFinal (design_of core.now.plan) core.now.plan.cycles (theory_of core.now) }
     ensures { IfOk result (λ text. text ≡ form.stalls_text polls core.now.plan) }

@@ -45,7 +45,8 @@ impl Drop for BlockCode {
     }
 }
 
-/// The code of each block of a module over these channels. Each block must keep the limits that a schedule needs.
+/// The code of each block of a module over these channels. Each block must keep the limits that a schedule needs. `OutOfMemory` where
+/// memory ran out.
 pub fn codes_of(
     alloc: Global,
     channels: &[Channel],

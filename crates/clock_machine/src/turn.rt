@@ -167,8 +167,8 @@ fn fall_asleep(
     Ok(true)
 }
 
-/// A module's turn in a clock. Whether it moves: it does not where it is over or stalls. What it pops and pushes, its events and
-/// its outcomes are added.
+/// A module's turn in a clock. Whether it moves: it does not where it is over or stalls. What it pops and pushes, its events and its
+/// outcomes are added. After `OutOfMemory` the turn may be done in part.
 pub fn take_turn(
     at: &Standing<'_>,
     i: usize,

@@ -36,7 +36,7 @@ pub struct RoomyChannel {
 }
 
 impl RoomyChannel {
-    /// A channel of this kind without any push or pop.
+    /// A channel of this kind without any push or pop. `OutOfMemory` where memory ran out.
     pub fn new(alloc: Global, kind: &TableChannel) -> Result<RoomyChannel, OutOfMemory>
         ensures { IfOk result (λ channel. channel_of channel ≡ unused kind.now) }
     {
@@ -47,7 +47,8 @@ impl RoomyChannel {
         })
     }
 
-    /// Reserves room for so many further pushes and pops. Neither room falls.
+    /// Reserves room for so many further pushes and pops. Neither room falls. The pushes and pops stay. `OutOfMemory` where memory ran
+    /// out.
     pub fn reserve(&mut self, pushes: u64, pops: u64) -> Result<(), OutOfMemory>
         ensures channel { channel_of self.new ≡ channel_of self.old }
         ensures push_room { OnOk result (pushes ≤ self.new.pushes.room) }

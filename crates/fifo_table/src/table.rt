@@ -47,7 +47,7 @@ impl Model for FifoTable {
 }
 
 impl FifoTable {
-    /// A table of these channels without any push or pop.
+    /// A table of these channels without any push or pop. `OutOfMemory` where memory ran out.
     pub fn new(alloc: Global, channels: &[TableChannel]) -> Result<FifoTable, OutOfMemory>
         requires count { length channels.now < 2 ^ 32 }
         requires kinds { All IsSoundKind channels.now }

@@ -192,8 +192,8 @@ fn read_back<K: Known>(
     Ok(Some(stack))
 }
 
-/// The expressions that tokens write one after the other, the first one on top of the stack. Each is whole, or is the first test
-/// that it fails. `None` where the tokens write no expressions.
+/// The expressions that tokens write one after the other, the first one on top of the stack. Each is whole, or is the first test that
+/// it fails. `None` where the tokens write no expressions. `OutOfMemory` where memory ran out.
 #[tactic(auto, using(crate::proofs::Kept::kept_all))]
 pub fn operands<K: Known>(
     alloc: Global,

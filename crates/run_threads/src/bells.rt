@@ -138,7 +138,8 @@ fn readers_of(alloc: Global, core: &Core, owner: u32) -> Result<Vec<u32>, OutOfM
 }
 
 impl Bells {
-    /// The caller's bell, with no bell of a module of the core's plan yet, and the parker on which the caller sleeps.
+    /// The caller's bell, with no bell of a module of the core's plan yet, and the parker on which the caller sleeps. `OutOfMemory`
+    /// where memory ran out.
     pub fn new(alloc: Global, core: &Core) -> Result<(Bells, Parker), OutOfMemory> {
         let (caller, parker) = Bell::new(alloc)?;
         let mut readers = Vec::new(alloc);
@@ -157,7 +158,7 @@ impl Bells {
         Ok((bells, parker))
     }
 
-    /// Adds the bell of the next module, and answers the parker on which its thread sleeps.
+    /// Adds the bell of the next module, and answers the parker on which its thread sleeps. `OutOfMemory` where memory ran out.
     pub fn add(&mut self, alloc: Global) -> Result<Parker, OutOfMemory> {
         let (bell, parker) = Bell::new(alloc)?;
         let place = Place {

@@ -31,7 +31,7 @@ pub struct BlockCode {
     pub schedule: Schedule,
     /// The operations, in text order.
     pub actions: List<Guarded>,
-    /// How many instructions the longest expression of the block has. Their results need so many words of `scratch`.
+    /// How many instructions the longest expression of the block has, and so how many words of `scratch` their results need.
     pub room: u64,
 }
 

@@ -103,7 +103,7 @@ pub fn open_all(alloc: Global, plan: &Plan) -> Result<ClockState, OutOfMemory>
     Ok(ClockState { modules, contents })
 }
 
-/// An empty list of answers for each of so many modules. `OutOfMemory` where memory ran out.
+/// One empty list of answers for each of `modules` modules. `OutOfMemory` where memory ran out.
 pub fn no_answers(alloc: Global, modules: u64) -> Result<List<Flags>, OutOfMemory>
     ensures { IfOk result (λ answers. answers ≡ replicate modules []) }
 {

@@ -49,7 +49,7 @@ fn open_run(alloc: Global, plan: &Plan) -> Result<Run, OutOfMemory>
 }
 
 /// Runs one clock: each module has its turn, then all that they pop is taken off the channels, and then all that they push is put
-/// in. Whether a module moves.
+/// in. Returns whether a module moves.
 fn step(
     alloc: Global,
     of: &Compiled<'_>,

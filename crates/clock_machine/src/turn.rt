@@ -69,8 +69,8 @@ fn answer(
     Ok(true)
 }
 
-/// The turn of a module that is awake, with the notes and requests of what is due: it moves where it does not stall. Whether it
-/// moves.
+/// Takes the turn of a module that is awake, with the notes and requests of what is due. Returns whether the module moves, which it
+/// does where it does not stall.
 #[inline(always)]
 fn act(
     at: &Standing<'_>,
@@ -167,8 +167,8 @@ fn fall_asleep(
     Ok(true)
 }
 
-/// A module's turn in a clock. Whether it moves: it does not where it is over or stalls. What it pops and pushes, its events and its
-/// outcomes are added. After `OutOfMemory` the turn may be done in part.
+/// Takes a module's turn in a clock, and adds what it pops and pushes, its events and its outcomes. Returns whether the module
+/// moves: it does not where it is over or stalls. After `OutOfMemory` the turn may be done in part.
 pub fn take_turn(
     at: &Standing<'_>,
     i: usize,

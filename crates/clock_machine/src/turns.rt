@@ -13,8 +13,8 @@ use crate::turn::take_turn;
 use flow_design::ModuleState;
 use flow_word::{Flags, OutOfMemory, Words};
 
-/// The turns of all modules in a clock, in order. Whether one of them moves. After `OutOfMemory` some turns may be done, and one in
-/// part.
+/// Takes the turns of all modules in a clock, in order. Returns whether a module moves. After `OutOfMemory` some turns may be done,
+/// and one in part.
 pub fn take_turns(
     at: &Standing<'_>,
     states: &mut [ModuleState],

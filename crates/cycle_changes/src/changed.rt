@@ -22,8 +22,8 @@ use flow_word::Steps;
 use std::marker::Brand;
 use std::sync::ledger::{Blank, Ledger};
 
-/// The part of the steps that a search may visit: of those from the first touched clock on, one in so many. A visit takes several
-/// times as long as giving a step its cycle in a retiming.
+/// A search may visit one in this many of the steps from the first touched clock on. A visit takes several times as long as giving
+/// a step its cycle in a retiming.
 const SEARCHED_PART: u64 = 16;
 
 /// How many steps a search may visit beside that part.

@@ -47,8 +47,8 @@ impl RoomyChannel {
         })
     }
 
-    /// Reserves room for so many further pushes and pops. Neither room falls. The pushes and pops stay. `OutOfMemory` where memory ran
-    /// out.
+    /// Reserves room for `pushes` further pushes and `pops` further pops. Neither room falls. The pushes and pops stay.
+    /// `OutOfMemory` where memory ran out.
     pub fn reserve(&mut self, pushes: u64, pops: u64) -> Result<(), OutOfMemory>
         ensures channel { channel_of self.new ≡ channel_of self.old }
         ensures push_room { OnOk result (pushes ≤ self.new.pushes.room) }

@@ -60,7 +60,7 @@ impl FifoTable {
         Ok(FifoTable { channels: made })
     }
 
-    /// Reserves room for so many further pushes and pops of a channel.
+    /// Reserves room for `pushes` further pushes and `pops` further pops of a channel.
     ///
     /// The channels stay as they are and no room falls, after `OutOfMemory` either.
     pub fn reserve(&mut self, channel: u32, pushes: u64, pops: u64) -> Result<(), OutOfMemory>

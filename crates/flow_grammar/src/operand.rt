@@ -34,7 +34,7 @@ pub fn earlier_test(a: Code, b: Code) -> Code
     }
 }
 
-/// An expression with so many nodes and levels. Where one of these numbers is above its limit, it is the code for that.
+/// An expression with this many nodes and levels; where one of these numbers is above its limit, the code for that.
 fn sized(tree: Expr<Name>, nodes: u64, depth: u64) -> Operand
     ensures { result ≡ sized tree nodes depth }
 {

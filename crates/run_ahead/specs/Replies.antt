@@ -36,8 +36,8 @@ put_before rs (Some qs) = Some (rs ++ qs)
 abbrev pub told_by : Kind → ℕ → ℕ
 told_by kind told = cond (is_blocking kind) told (suc told)
 
--- the replies to a step's accesses, where so many of the outcomes belong to earlier steps, and each pop has this value; none where
--- one of them is not there
+-- the replies to a step's accesses, given the outcomes, of which the first ones belong to earlier steps, and the value that each
+-- pop gives; none where one of them is not there
 abbrev pub replies_from : List Bool → (Access → Option ℕ) → ℕ → List Access → Option (List Reply)
 replies_from outcomes value told [] = Some []
 replies_from outcomes value told (a ∷ as') =

@@ -93,7 +93,7 @@ pub fn find_replies<V: Values>(
     Ok(Some(next))
 }
 
-/// The number of the first of a step's accesses whose reply is not there, where so many outcomes belong to earlier steps.
+/// The number of the first of a step's accesses whose reply is not there. The first `told` outcomes belong to earlier steps.
 pub fn first_missing<V: Values>(
     outcomes: &[bool],
     values: &V,

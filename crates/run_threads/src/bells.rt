@@ -74,8 +74,8 @@ impl Bell {
         }
     }
 
-    /// Waits until the bell has rung for news that its thread waits for. Whether it had to wait. At first it stays awake, so that
-    /// news that come at once cost no sleep.
+    /// Waits until the bell has rung for news that its thread waits for. Returns whether it had to wait. At first it stays awake,
+    /// so that news that come at once cost no sleep.
     fn wait<R: Wait>(&self, rt: &R, parker: &Parker) -> bool {
         if self.calls() {
             return false;
@@ -219,7 +219,7 @@ impl Bells {
         }
     }
 
-    /// Lets a module's thread wait until its bell has rung. Whether it had to wait.
+    /// Lets a module's thread wait until its bell has rung. Returns whether it had to wait.
     pub fn wait<R: Wait>(&self, rt: &R, parker: &Parker, which: u32) -> bool {
         match self.modules.get(which as usize) {
             Some(place) => place.bell.wait(rt, parker),

@@ -91,7 +91,7 @@ pub fn print_opening(text: &mut List<u8>, count: u64) -> Result<(), OutOfMemory>
     Ok(())
 }
 
-/// Adds the lines of a clock and its changes, if there is a change. Whether there is one.
+/// Adds the lines of a clock and its changes, if there is a change. Returns whether there is one.
 fn print_instant(
     text: &mut List<u8>,
     clock: u64,
@@ -120,7 +120,7 @@ fn print_changes(text: &mut List<u8>, changes: &[FillChange]) -> Result<(), OutO
 }
 
 /// Adds the lines of a clock and its changes to the pending text, if there is a change, and writes the text once it is a piece.
-/// Whether there is a change.
+/// Returns whether there is a change.
 #[tactic(auto, using(sim_io::proofs::Pending::prefix_none))]
 pub(crate) fn write_instant<K: Sink>(
     pending: &mut List<u8>,

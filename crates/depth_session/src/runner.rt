@@ -173,7 +173,7 @@ impl AloneRunner {
 impl Runner for AloneRunner {
     ghost made = { λ runner. runner.runs };
 
-    /// It has no threads, so its gate is never used.
+    /// The runner has no threads, so its gate is never used.
     type Gate = FreeGate;
 
     ghost gate_of = { λ runner. None };

@@ -95,7 +95,7 @@ has_small_trees (op.Write f e) = is_small e
 has_small_trees (op.TryWrite f ok e) = is_small e
 has_small_trees o = true
 
--- with this statement the limits of the scale allow as many of its kind
+-- after the earlier statements the limits of the scale allow one more statement like this
 abbrev pub has_room : Scale → List Statement → Statement → Bool
 has_room scale earlier (Source n w) = nat_lt (length (channels earlier)) (limits_at scale).channels
 has_room scale earlier (Sink n w) = nat_lt (length (channels earlier)) (limits_at scale).channels

@@ -28,7 +28,7 @@ const MOST: u64 = 0x1_0000_0000;
 /// Contracts see the rest at which the run stands, its next step or its end, and whether that step waits for replies. They do not
 /// see how much of the way to the rest is done.
 pub struct ModuleRun {
-    /// On the heap, since a run is moved out of its core and back at each turn.
+    /// The path of the run. It is on the heap, since a run is moved out of its core and back at each turn.
     path: Box<Path>,
     tally: Tally,
     /// The accesses of the step that was listed last.

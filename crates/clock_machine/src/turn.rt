@@ -30,8 +30,9 @@ fn still_stalls(at: &Standing<'_>, seat: &Seat) -> bool
     seat.known && place < requests.len() && stalls(at, &requests[place])
 }
 
-/// Whether none of these operations blocks and cannot be done. Then their replies are filled in, the outcomes of the queries are
-/// added, and what they pop and push is added. Else `replies` holds those that could be given.
+/// Answers these operations, unless one of them blocks and cannot be done. Returns whether all are answered: then their replies are
+/// filled in, and the outcomes of the queries and what they pop and push are added. Otherwise `replies` holds those that could be
+/// given.
 #[inline(always)]
 fn answer(
     at: &Standing<'_>,

@@ -200,7 +200,7 @@ fn tick_each<L: Ledger>(count: u64, steps: &mut Steps<L>)
     }
 }
 
-/// How many steps have no cycle below the given one: a retiming from there gives at most so many cycles.
+/// How many steps have no cycle below the given one: a retiming from there gives at most this many cycles.
 fn count_left(graph: &Graph, from: u64) -> u64
     ensures { result + cycles_in (map (timed_below from) graph.now.lanes) ≤ steps_in graph.now.lanes }
 {

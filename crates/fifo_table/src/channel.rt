@@ -16,7 +16,7 @@ pub enum TableChannel {
     /// An output stream, which is never full.
     Sink,
     /// A queue of this depth, in elements, and this delay, in clocks, both within the limits of the language. An element can be
-    /// popped so many clocks after its push.
+    /// popped this many clocks after its push.
     Fifo { depth: u64, delay: u64 },
 }
 
@@ -60,7 +60,7 @@ impl RoomyChannel {
         self.pops.reserve(pops)
     }
 
-    /// The lag of a side, in clocks: a pop, or a push, is possible so many clocks after the event that it waits for.
+    /// The lag of a side, in clocks: a pop, or a push, is possible this many clocks after the event that it waits for.
     pub fn lag(&self, side: Side) -> u64
         ensures { result ≡ lag_of self.now.kind side }
     {

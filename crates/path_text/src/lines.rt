@@ -24,8 +24,8 @@ fn print_spent(text: &mut List<u8>, name: &[u8], clocks: u64) -> Result<(), OutO
     text.push(b'\n')
 }
 
-/// Adds the line of a channel that the chain crosses so many times at this side, if the number is not 0. After `OutOfMemory` the
-/// text may have part of it.
+/// Adds the line of a channel that the chain crosses at this side, with how often it does, if it does. After `OutOfMemory` the text
+/// may have part of it.
 fn print_crossed(
     text: &mut List<u8>,
     side: Side,

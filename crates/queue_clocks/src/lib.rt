@@ -1,4 +1,4 @@
-//! In how many clocks a queue holds at least so many elements, by the clocks of its pushes and pops.
+//! In how many clocks a queue holds at least a given number of elements, by the clocks of its pushes and pops.
 #![tactic(auto)]
 
 mod leads;

@@ -76,7 +76,7 @@ pub record IsTimedSound (channels : ℕ) (m : Module) (b : Block) (t : Timed) : 
 
 -- ---- blocks and modules
 
--- II, LEN and the register of a loop are in range, where the module has so many registers
+-- II, LEN and the register of a loop are in range, where the module has this many registers
 pub record IsLoopSound (registers len ii again : ℕ) : Type 0 where
   pub interval : 1 ≤ ii
   pub least : ii ≤ len

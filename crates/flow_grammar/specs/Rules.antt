@@ -152,7 +152,7 @@ pub record KeepsRules (scale : Scale) (before : List Statement) (s : Statement) 
   -- its numbers are in range, its new names are new, the names that it uses are declared, and it is not one too many
   pub faultless : statement_fault scale (reverse before) s ≡ None
 
--- each statement of a whole session keeps the rules; so it is with each session that a text stands for
+-- each statement of a whole session keeps the rules, as in each session that a text stands for
 pub record KeepsReadingRules (scale : Scale) (statements : List Statement) : Type 0 where
   pub each : (i : ℕ) (s : Statement) → slice_get statements i ≡ Some s → KeepsRules scale (take i statements) s
   pub over : is_over statements ≡ true

@@ -43,7 +43,7 @@ taken_after taken (a ∷ as') (r ∷ rs) = taken_after (cond (has_value r) (one_
 abbrev pub none_taken : Mail → List ℕ
 none_taken mail = replicate (length mail.values) 0
 
--- what is left of a mail after so many values of each channel were taken: the values after these, and all its outcomes
+-- what is left of a mail after this many values of each channel were taken: the values after these, and all its outcomes
 pub record IsLeft (mail : Mail) (taken : List ℕ) (left : Mail) : Type 0 where
   pub outcomes : left.outcomes ≡ mail.outcomes
   pub count : length left.values ≡ length mail.values

@@ -21,13 +21,13 @@ reply_now TryWrite outcome value = option_map Flag outcome
 reply_now Empty outcome value = option_map Flag outcome
 reply_now Full outcome value = option_map Flag outcome
 
--- a reply in front of others, if all of them are there
+-- a reply and the others after it, if all of them are there
 abbrev pub put_first : Option Reply → Option (List Reply) → Option (List Reply)
 put_first None rest = None
 put_first (Some r) None = None
 put_first (Some r) (Some rs) = Some (r ∷ rs)
 
--- these replies in front of others, if the others are there
+-- these replies and the others after them, if the others are there
 abbrev pub put_before : List Reply → Option (List Reply) → Option (List Reply)
 put_before rs None = None
 put_before rs (Some qs) = Some (rs ++ qs)

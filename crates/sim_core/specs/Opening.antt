@@ -60,7 +60,7 @@ port_where false side c = []
 abbrev pub ports_at : Plan → ℕ → ℕ → List Port
 ports_at p m c = port_where (eqb ((design p).owner Pop c) m) Pop c ++ port_where (eqb ((design p).owner Push c) m) Push c
 
--- the ports that module m has at the first so many channels
+-- the ports that module m has at the first `channels` channels
 abbrev pub ports_to : Plan → ℕ → ℕ → List Port
 ports_to p m channels = flat_map (ports_at p m) (range_with_len 0 channels)
 

@@ -101,7 +101,7 @@ abbrev pub polling_lines : Design → ℕ → Option Polls → List (List Token)
 polling_lines design i None = []
 polling_lines design i (Some polls) = kept_lines design i polls
 
--- what is kept of queries has an entry for each of so many channels
+-- what is kept of queries has an entry for each of `channels` channels
 pub record HaveChannels (channels : ℕ) (all : AllQueries) : Type 0 where
   pub tryreads : length all.tryreads ≡ channels
   pub trywrites : length all.trywrites ≡ channels

@@ -46,7 +46,8 @@ IsInstructionSound places results (Sext k a) = IsArgumentSound places results a
 IsInstructionSound places results (Pick a b c) =
     IsArgumentSound places results a × (IsArgumentSound places results b × IsArgumentSound places results c)
 
--- what each instruction looks up is there, where there are so many results before the first instruction
+-- what each instruction looks up is there: `places` registers and temps, and the results of the instructions before it, which begin
+-- with `results` ones
 unfoldable pub AreSound : ℕ → ℕ → List Instruction → Type 0
 AreSound places results [] = Unit {0}
 AreSound places results (i ∷ is) = IsInstructionSound places results i × AreSound places (results + 1) is

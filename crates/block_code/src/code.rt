@@ -31,7 +31,7 @@ pub struct BlockCode {
     pub schedule: Schedule,
     /// The operations, in text order.
     pub actions: List<Guarded>,
-    /// How many instructions the longest expression of the block has. Their results need so many words of `scratch`.
+    /// How many instructions the longest expression of the block has, and so how many words of `scratch` their results need.
     pub room: u64,
 }
 
@@ -45,7 +45,8 @@ impl Drop for BlockCode {
     }
 }
 
-/// The code of each block of a module over these channels. Each block must keep the limits that a schedule needs.
+/// The code of each block of a module over these channels. Each block must keep the limits that a schedule needs. `OutOfMemory` where
+/// memory ran out.
 pub fn codes_of(
     alloc: Global,
     channels: &[Channel],

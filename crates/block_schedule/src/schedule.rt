@@ -40,6 +40,7 @@ impl Drop for Schedule {
 
 impl Schedule {
     /// The schedule of a block. The block keeps the limits of II, LEN and its offsets, and that of its number of operations.
+    /// `OutOfMemory` where memory ran out.
     pub fn new(alloc: Global, block: &Block) -> Result<Schedule, OutOfMemory>
         requires { KeepsLimits block.now }
         ensures { IfOk result (λ schedule. IsScheduleOf block.now schedule) }

@@ -85,7 +85,7 @@ pub struct Asked {
 pub enum Command {
     /// Read a session, and do this with it.
     Of(Asked),
-    /// Simulate the session that this seed gives with so many modules.
+    /// Simulate the session with this many modules that the seed gives.
     Gen { seed: u64, modules: u64 },
 }
 

@@ -51,7 +51,8 @@ pub fn code_at<'a>(of: &Compiled<'a>, i: usize, state: &ModuleState) -> &'a Bloc
     &own.as_slice()[state.control.block as usize]
 }
 
-/// Fills in the notes of the due operations of module i, in this state, and the requests of the FIFO operations among them.
+/// Fills in the notes of the due operations of module i, in this state, and the requests of the FIFO operations among them. After
+/// `OutOfMemory` the lists may have only some of these.
 #[inline(always)]
 pub fn note_one(
     of: &Compiled<'_>,
@@ -80,7 +81,8 @@ pub fn note_one(
     Ok(())
 }
 
-/// Fills the seat of module i with the notes and requests of what is due, unless it has them already.
+/// Fills the seat of module i with the notes and requests of what is due, unless it has them already. After `OutOfMemory` the seat may
+/// have only some of these.
 #[inline(always)]
 pub fn note_seat(
     of: &Compiled<'_>,
@@ -106,7 +108,7 @@ pub fn note_seat(
     Ok(())
 }
 
-/// Whether module i would move in a clock if every element could be popped.
+/// Whether module i would move in a clock if every element could be popped. `OutOfMemory` where memory ran out.
 pub fn would_move(
     at: &Standing<'_>,
     i: usize,

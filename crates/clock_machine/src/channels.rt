@@ -166,8 +166,8 @@ fn flag(outcomes: &mut Flags, outcome: bool) -> Result<Option<Reply>, OutOfMemor
     Ok(Some(Reply::Flag(outcome)))
 }
 
-/// The reply to an operation. `None` where it blocks and cannot be done. The outcome of a query is added to `outcomes`, and what
-/// the operation pops or pushes to `traffic`.
+/// The reply to an operation. `None` where it blocks and cannot be done. The outcome of a query is added to `outcomes`, and what the
+/// operation pops or pushes to `traffic`. `OutOfMemory` where memory ran out.
 #[tactic(auto, unfolding(lockstep_defs::specs::Channels::reply))]
 #[inline(always)]
 pub fn answer_one(

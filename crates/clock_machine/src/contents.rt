@@ -46,7 +46,7 @@ pub fn pop_all(contents: &mut [Queue<Element>], pops: &[u32])
     }
 }
 
-/// Puts into the channels what is pushed in a clock.
+/// Puts into the channels what is pushed in a clock. After `OutOfMemory` some of it may be missing.
 pub fn push_all(
     plan: &Plan,
     clock: u64,

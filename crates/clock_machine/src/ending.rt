@@ -276,7 +276,7 @@ fn report_of(
     })
 }
 
-/// The report of a run that comes to a settled clock.
+/// The report of a run that comes to a settled clock. `OutOfMemory` where memory ran out.
 pub fn settled_report(
     alloc: Global,
     of: &Compiled<'_>,
@@ -295,7 +295,8 @@ pub fn settled_report(
     Ok(report)
 }
 
-/// The report of a run that comes to the cycle limit without a settled clock. No module counts as held then.
+/// The report of a run that comes to the cycle limit without a settled clock. No module counts as held then. `OutOfMemory` where memory
+/// ran out.
 pub fn limit_report(
     alloc: Global,
     plan: &Plan,

@@ -78,7 +78,7 @@ fn fill_channels(alloc: Global, plan: &Plan) -> Result<List<Queue<Element>>, Out
     Ok(contents)
 }
 
-/// The code of all blocks, module by module. It is the same after an edit of a depth.
+/// The code of all blocks, module by module. It is the same after an edit of a depth. `OutOfMemory` where memory ran out.
 pub fn codes_of_all(alloc: Global, plan: &Plan) -> Result<List<List<BlockCode>>, OutOfMemory>
     requires fits { FitsEngine plan.now }
     ensures { IfOk result (AreCodes plan.now) }
@@ -92,7 +92,7 @@ pub fn codes_of_all(alloc: Global, plan: &Plan) -> Result<List<List<BlockCode>>,
     Ok(codes)
 }
 
-/// The state at clock 0.
+/// The state at clock 0. `OutOfMemory` where memory ran out.
 pub fn open_all(alloc: Global, plan: &Plan) -> Result<ClockState, OutOfMemory>
     requires fits { FitsEngine plan.now }
     ensures state { IfOk result (λ state. state ≡ opening plan.now) }
@@ -103,7 +103,7 @@ pub fn open_all(alloc: Global, plan: &Plan) -> Result<ClockState, OutOfMemory>
     Ok(ClockState { modules, contents })
 }
 
-/// An empty list of answers for each of so many modules.
+/// One empty list of answers for each of `modules` modules. `OutOfMemory` where memory ran out.
 pub fn no_answers(alloc: Global, modules: u64) -> Result<List<Flags>, OutOfMemory>
     ensures { IfOk result (λ answers. answers ≡ replicate modules []) }
 {

@@ -49,7 +49,7 @@ fn open_run(alloc: Global, plan: &Plan) -> Result<Run, OutOfMemory>
 }
 
 /// Runs one clock: each module has its turn, then all that they pop is taken off the channels, and then all that they push is put
-/// in. Whether a module moves.
+/// in. Returns whether a module moves.
 fn step(
     alloc: Global,
     of: &Compiled<'_>,
@@ -183,8 +183,8 @@ fn give_up(alloc: Global, plan: &Plan, run: Run) -> Result<Report, OutOfMemory>
     Ok(report)
 }
 
-/// The report of a plan, by going through its clocks one at a time, on the code of its blocks. A plan and its edits share that
-/// code. With `keep` the report has its events. Else it has none: the events take most of the memory.
+/// The report of a plan, by going through its clocks one at a time, on the code of its blocks. A plan and its edits share that code.
+/// With `keep` the report has its events. Else it has none: the events take most of the memory. `OutOfMemory` where memory ran out.
 pub fn clock_run_by(
     alloc: Global,
     plan: &Plan,
@@ -213,7 +213,8 @@ pub fn clock_run_by(
 
 /// The report of a plan, by going through its clocks one at a time.
 ///
-/// It goes through as many clocks as its verdict says. A clock takes time for each module and for what is done in it.
+/// It goes through as many clocks as its verdict says. A clock takes time for each module and for what is done in it. `OutOfMemory`
+/// where memory ran out.
 pub fn clock_run(alloc: Global, plan: &Plan) -> Result<Report, OutOfMemory>
     requires fits { FitsEngine plan.now }
     ensures { IfOk result (λ r. r ≡ report plan.now) }

@@ -100,7 +100,7 @@ impl Round {
     }
 }
 
-/// A seat for each of so many modules, in which nothing is known.
+/// One seat for each of `modules` modules, in which nothing is known. `OutOfMemory` where memory ran out.
 pub fn seats_for(alloc: Global, modules: u64) -> Result<List<Seat>, OutOfMemory>
     ensures { IfOk result (λ seats. seats ≡ replicate modules no_seat) }
 {

@@ -26,7 +26,7 @@ fn tell_events(
     Ok(())
 }
 
-/// Adds the events of module i's operations in a clock, where events are kept.
+/// Adds the events of module i's operations in a clock, where events are kept. After `OutOfMemory` some of them may be missing.
 #[inline(always)]
 pub fn tell_kept_events(
     at: &Standing<'_>,

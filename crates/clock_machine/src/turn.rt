@@ -30,8 +30,9 @@ fn still_stalls(at: &Standing<'_>, seat: &Seat) -> bool
     seat.known && place < requests.len() && stalls(at, &requests[place])
 }
 
-/// Whether none of these operations blocks and cannot be done. Then their replies are filled in, the outcomes of the queries are
-/// added, and what they pop and push is added. Else `replies` holds those that could be given.
+/// Answers these operations, unless one of them blocks and cannot be done. Returns whether all are answered: then their replies are
+/// filled in, and the outcomes of the queries and what they pop and push are added. Otherwise `replies` holds those that could be
+/// given.
 #[inline(always)]
 fn answer(
     at: &Standing<'_>,
@@ -69,8 +70,8 @@ fn answer(
     Ok(true)
 }
 
-/// The turn of a module that is awake, with the notes and requests of what is due: it moves where it does not stall. Whether it
-/// moves.
+/// Takes the turn of a module that is awake, with the notes and requests of what is due. Returns whether the module moves, which it
+/// does where it does not stall.
 #[inline(always)]
 fn act(
     at: &Standing<'_>,
@@ -167,8 +168,8 @@ fn fall_asleep(
     Ok(true)
 }
 
-/// A module's turn in a clock. Whether it moves: it does not where it is over or stalls. What it pops and pushes, its events and
-/// its outcomes are added.
+/// Takes a module's turn in a clock, and adds what it pops and pushes, its events and its outcomes. Returns whether the module
+/// moves: it does not where it is over or stalls. After `OutOfMemory` the turn may be done in part.
 pub fn take_turn(
     at: &Standing<'_>,
     i: usize,

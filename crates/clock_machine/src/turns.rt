@@ -13,7 +13,8 @@ use crate::turn::take_turn;
 use flow_design::ModuleState;
 use flow_word::{Flags, OutOfMemory, Words};
 
-/// The turns of all modules in a clock, in order. Whether one of them moves.
+/// Takes the turns of all modules in a clock, in order. Returns whether a module moves. After `OutOfMemory` some turns may be done,
+/// and one in part.
 pub fn take_turns(
     at: &Standing<'_>,
     states: &mut [ModuleState],
@@ -42,7 +43,7 @@ pub fn take_turns(
     Ok(moving)
 }
 
-/// Whether no module moves in a clock, and none would if every element could be popped.
+/// Whether no module moves in a clock, and none would if every element could be popped. `OutOfMemory` where memory ran out.
 pub fn is_settled(
     at: &Standing<'_>,
     states: &[ModuleState],

@@ -61,7 +61,7 @@ lacks_reply {S} d x m k a done =
 abbrev pub first_lacking : {S : Type 0} → Design S → Core S → ℕ → ℕ → Option ℕ
 first_lacking {S} d x m k = position (λ p. lacks_reply d x m k p.0 p.1) (zip (core_accesses d x m k) (x.flags m k))
 
--- the cause that the last of module m's first so many steps lacks a reply
+-- the cause that the last of the first n steps of module m lacks a reply
 abbrev pub waiting : {S : Type 0} → Design S → Core S → ℕ → ℕ → Option Cause
 waiting {S} d x m zero = None
 waiting {S} d x m (suc k) = option_map (cause.Waiting (place_of m k)) (first_lacking d x m k)

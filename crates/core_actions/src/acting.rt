@@ -18,7 +18,6 @@ use std::sync::ledger::Ledger;
 /// the query is told, and nothing has changed.
 ///
 /// For a Run the module's run must not be lent. Only a Run takes memory. A fault leaves the core as it was.
-/// A Run takes the module's run, which is not lent, and takes memory; no other action takes any. A fault leaves the core as it was.
 pub fn act<L: Ledger>(
     core: &mut Core,
     action: Action,

@@ -20,7 +20,6 @@ pub enum Action {
 ///
 /// A `Place` is a step of the action's module: the newest one for a Run, else the first one without a cycle. The number beside it
 /// is that of an access of the step, counted from 0.
-/// is that of an access of the step.
 #[derive(Clone, Copy, Debug, PartialEq, Eq)]
 pub enum Cause {
     /// The reply to this access is not there.

@@ -7,18 +7,18 @@ use Rattle.cycle_changes.specs.Moved.{others_in}
 use Rattle.sim_core.specs.Costs.{kept_below}
 use Rattle.sim_core.specs.Views.{CoreView}
 
--- how many numbers differ, list by list, from those at their places in the lists beside them
+-- how many numbers differ in all, over lists that are compared place by place
 abbrev pub others_of : List (List ℕ) → List (List ℕ) → ℕ
 others_of [] new = 0
 others_of (c ∷ old) [] = 0
 others_of (c ∷ old) (d ∷ new) = others_in c d + others_of old new
 
--- the cycles from the first touched clock on were given anew, with a tick for each
+-- the edit has set all cycles from the first touched clock on again, with one tick for each
 pub record HasTickedFrom (old new : CoreView) (e : Edit) (before after : ℕ) : Type 0 where
   pub clock : ℕ
   pub from : IsEditFrom old.held.lanes old.held.channels e old.plan.cycles clock
   pub ticked : after + kept_below old clock ≡ before + cycles_in new.held.lanes
 
--- one tick for each of so many steps with another cycle, or for each cycle from the first touched clock on
+-- there is one tick for each of the `moved` steps with another cycle, or one for each cycle from the first touched clock on
 abbrev pub HasTicked : CoreView → CoreView → Edit → ℕ → ℕ → ℕ → Type 0
 HasTicked old new e before after moved = (after ≡ before + moved) ⊎ HasTickedFrom old new e before after

@@ -1,4 +1,4 @@
-//! Single actions of a core where they are not permitted. The causes were worked out from the rules of the actions.
+//! Single actions of a core that are not permitted. The expected causes were worked out from the rules of the actions.
 ghost use Rattle.std.specs.Prelude.{◌≡◌};
 ghost use Rattle.core_actions.specs.Causes.{module_of};
 ghost use Rattle.sim_core.specs.Drives.{AreOwn};
@@ -39,7 +39,7 @@ stop
 end
 ";
 
-/// The module of an action.
+/// The module that an action is of.
 pub fn owner_of(action: Action) -> u32
     ensures { result ≡ module_of action }
 {
@@ -61,7 +61,7 @@ pub fn act_same<L: Ledger, R: Abort>(rt: &R, core: &mut Core, action: Action, st
     assert_eq!(rt; answer, Ok(Guard::Same));
 }
 
-/// What the last of these actions answers, where the others are permitted.
+/// What a core answers to `tried` after it did the actions `done`, which are permitted.
 fn answer_behind<L: Ledger, R: AllocGlobal + Abort>(
     rt: &R,
     text: &[u8],
@@ -84,7 +84,7 @@ fn answer_behind<L: Ledger, R: AllocGlobal + Abort>(
     Ok(answer)
 }
 
-/// The cause of the last of these actions, where the others are permitted.
+/// Why `tried` is not permitted after the actions `done`, which are permitted.
 fn cause_behind<R: AllocGlobal + Abort>(
     rt: &R,
     text: &[u8],

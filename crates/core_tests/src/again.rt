@@ -1,4 +1,4 @@
-//! A core that begins again.
+//! Cores that begin again.
 use clock_machine::clock_run;
 use flow_design::Report;
 use sim_core::{Core, finish_alone, run_alone};
@@ -8,14 +8,14 @@ use worked_sessions::{
     BOTH_ENDS_IN_ONE_MODULE, LATER_STALL, POLLING_LOOP, TIE_ONE_LATER, TWO_LEAST_QUERIES, read_plan,
 };
 
-/// What is reported once a core has begun again and is finished.
+/// The report of a core after it has begun again and come to its end.
 fn report_again<R: AllocGlobal>(rt: &R, core: &mut Core) -> Result<Option<Report>, Fail> {
     let done = finish_alone(core.again(rt.alloc())?)?;
     Ok(done.final_report(rt.alloc(), true)?)
 }
 
-/// A session is reported as the lockstep machine reports it, by the core that takes over the runs of a final one, and by the next one,
-/// for which there is no run left.
+/// Asserts that a session is reported as the lockstep machine reports it, both by the core that takes over the runs of a final one,
+/// and by the core after it, for which no run is left.
 fn begins_again<R: AllocGlobal + Abort>(rt: &R, text: &[u8]) -> Result<(), Fail> {
     let plan = read_plan(rt.alloc(), text)?;
     let expected = Some(clock_run(rt.alloc(), &plan)?);

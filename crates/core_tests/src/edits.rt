@@ -1,4 +1,4 @@
-//! An edit of a core sets no more cycles than there are accesses at or after the first clock that it touches.
+//! An edit of a core sets no more cycles than there are accesses in or after the first clock that it touches.
 ghost use Rattle.std.specs.Prelude.{◌≡◌};
 ghost use Rattle.flow_design.specs.Plans.{EditFits};
 ghost use Rattle.event_timing.specs.Actions.{IsFinal};
@@ -18,7 +18,7 @@ use std::process::Abort;
 use std::sync::ledger::{Blank, Ledger};
 use std::test::Fail;
 
-/// Three values go through a FIFO, of depth two. In clock 1 it holds one element, and it never holds two.
+/// Three values go through a FIFO of depth two. It holds one element in clock 1, and never two.
 const THROUGH_DEPTH_TWO: &[u8] = b"\
 flow 1
 fifo b 8
@@ -44,7 +44,7 @@ depth b 5
 end
 ";
 
-/// A session that begins at depth one.
+/// Three values go through a FIFO of depth one.
 const THROUGH_DEPTH_ONE: &[u8] = b"\
 flow 1
 fifo b 8 1
@@ -69,7 +69,7 @@ depth b 1
 end
 ";
 
-/// The accesses before this clock, of a log in the order of clocks.
+/// The accesses of a log before this clock. The log is in order of clocks.
 fn accesses_before(log: &[LoggedAccess], clock: u64) -> &[LoggedAccess] {
     for i in 0..log.len() {
         if clock <= log[i].event.cycle {
@@ -79,7 +79,7 @@ fn accesses_before(log: &[LoggedAccess], clock: u64) -> &[LoggedAccess] {
     log
 }
 
-/// Does what is left to do in a core, where each outcome stays as it was.
+/// Does the actions that a core has left. No outcome may change.
 fn drive_on<L: Ledger, R: Abort>(rt: &R, core: &mut Core, steps: &mut Steps<L>)
     requires own { AreOwn core.old }
     ensures is_final { IsFinal (design core.new.plan) core.new.plan.cycles (theory_of core.new) }
@@ -90,7 +90,7 @@ fn drive_on<L: Ledger, R: Abort>(rt: &R, core: &mut Core, steps: &mut Steps<L>)
     }
 }
 
-/// Edits a final core, where each outcome stays as it was, and does what is left to do.
+/// Edits a final core and does the actions that are left then. No outcome may change.
 fn edit_on<L: Ledger, R: Abort>(rt: &R, core: &mut Core, edit: &Edit, blank: Blank)
     requires name { blank.name ≡ L.name }
     requires parts { blank.parts ≡ L.parts }
@@ -106,7 +106,7 @@ fn edit_on<L: Ledger, R: Abort>(rt: &R, core: &mut Core, edit: &Edit, blank: Bla
     drive_on(rt, core, &mut steps);
 }
 
-/// How many accesses there are after an edit of a session, but for those before this clock, which stay as they were.
+/// How many accesses there are in or after this clock once a session is edited. Asserts that those before it stay as they were.
 fn moved_from<R: AllocGlobal + Abort>(
     rt: &R,
     text: &[u8],

@@ -1,4 +1,4 @@
-//! Depths with which a plan is late, and what has to be deeper. The ends were worked out for each choice of depths.
+//! Depths with which a plan ends late, and what must be deeper. The ends were worked out for each choice of depths.
 ghost use Rattle.event_timing.specs.Actions.{IsFinal};
 ghost use Rattle.timing_bridge.specs.Designs.{design};
 ghost use Rattle.sim_core.specs.Views.{theory_of};
@@ -14,11 +14,11 @@ use std::process::Abort;
 use std::test::Fail;
 use worked_sessions::{TWO_LEAST_QUERIES, read_plan};
 
-/// The greatest depth of a FIFO.
+/// The greatest depth of a FIFO, in elements.
 const DEEPEST: u64 = 1_000_000;
 
-/// Four values go through two FIFOs, from a module that is ended last. It is done in clock 28 with depths of one, in 27 where the second
-/// FIFO is deeper, in 25 with a depth of two for the first, and in 24 from a depth of three on.
+/// Four values go through two FIFOs, from a module that ends last. The plan is done in clock 28 with depths of one, in 27 where
+/// only the second FIFO is deeper, in 25 with a depth of two for the first, and in 24 from a depth of three on.
 const TWO_FIFOS: &[u8] = b"\
 flow 1
 fifo first 8 1000000
@@ -53,7 +53,7 @@ stop
 end
 ";
 
-/// The last of four values comes before what the module that takes them waits for: it is never done with a depth below four.
+/// The last of four values is pushed before what their reader waits for. The plan is never done with a depth below four.
 const LAST_FIRST: &[u8] = b"\
 flow 1
 fifo values 8 1000000
@@ -78,7 +78,7 @@ stop
 end
 ";
 
-/// Compares the cut that is found for these depths and a clock.
+/// Asserts that the cut found for these depths and a clock is the expected one.
 fn compare_cut<R: AllocGlobal + Abort>(
     rt: &R,
     core: &Core,
@@ -95,7 +95,7 @@ fn compare_cut<R: AllocGlobal + Abort>(
     Ok(())
 }
 
-/// The need of a depth of a channel.
+/// The need that a channel has at least this depth.
 fn need(channel: u32, depth: u64) -> Need {
     Need { channel, depth }
 }

@@ -1,4 +1,4 @@
-//! Tests of a core: single actions, and edits. They stand in a crate of their own, since a crate is proved once more with its tests.
+//! Tests of a core: single actions, and edits. They have a crate of their own, since a crate is proved once more with its tests.
 #![tactic(auto)]
 
 #[cfg(test)]

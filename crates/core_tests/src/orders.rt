@@ -1,4 +1,4 @@
-//! Whole simulations by single actions, in several orders.
+//! Whole simulations by single actions, with the modules in several orders.
 ghost use Rattle.std.specs.Prelude.{◌≡◌, ◌<◌, length, IfSome};
 ghost use Rattle.flow_design.specs.StaticRules.{FitsEngine};
 ghost use Rattle.core_actions.specs.Causes.{module_of};
@@ -18,7 +18,7 @@ use worked_sessions::{
     BOTH_ENDS_IN_ONE_MODULE, LATER_STALL, POLLING_LOOP, TIE_ONE_LATER, TWO_LEAST_QUERIES, read_plan,
 };
 
-/// Which of the modules with a permitted action acts next.
+/// The order in which modules with a permitted action act.
 #[derive(Clone, Copy, Debug, PartialEq, Eq)]
 enum Order {
     Last,
@@ -27,7 +27,7 @@ enum Order {
 }
 
 impl Order {
-    /// The module that is asked at this place, where so many modules stand and this one has acted before.
+    /// The module that is asked at this place of the order, of so many modules, after the module `before` has acted.
     fn asked(self, place: u32, modules: u32, before: u32) -> u32
         requires { place < modules }
         ensures { result < modules }
@@ -40,7 +40,7 @@ impl Order {
     }
 }
 
-/// An action of this module that is permitted.
+/// A permitted action of this module. `None` where it has none.
 fn permitted_of(core: &Core, owner: u32) -> Option<Action>
     requires { owner < length core.now.plan.design.modules }
     ensures { IfSome result (λ action. module_of action ≡ owner) }
@@ -58,7 +58,7 @@ fn permitted_of(core: &Core, owner: u32) -> Option<Action>
     }
 }
 
-/// The permitted action that is next.
+/// The next permitted action in this order. `None` where no action is permitted.
 fn next_action(core: &Core, order: Order, before: u32) -> Option<Action>
     ensures { IfSome result (λ action. module_of action < length core.now.plan.design.modules) }
 {
@@ -72,7 +72,7 @@ fn next_action(core: &Core, order: Order, before: u32) -> Option<Action>
     None
 }
 
-/// Tries an action, where it is not permitted.
+/// Tries an action that is not permitted, and asserts that it is refused.
 fn try_refused<L: Ledger, R: Abort>(rt: &R, core: &mut Core, action: Action, steps: &mut Steps<L>)
     requires inside { module_of action < length core.old.plan.design.modules }
     requires own { AreOwn core.old }
@@ -85,7 +85,7 @@ fn try_refused<L: Ledger, R: Abort>(rt: &R, core: &mut Core, action: Action, ste
     }
 }
 
-/// Tries all actions that are not permitted.
+/// Tries all actions that are not permitted, and asserts that they are refused.
 fn try_all_refused<L: Ledger, R: Abort>(rt: &R, core: &mut Core, steps: &mut Steps<L>)
     requires own { AreOwn core.old }
     ensures same { core.new ≡ core.old }
@@ -98,7 +98,7 @@ fn try_all_refused<L: Ledger, R: Abort>(rt: &R, core: &mut Core, steps: &mut Ste
     }
 }
 
-/// Does the action that is next. The module that acted, if there is one.
+/// Does the next permitted action in this order. Returns the module that acted; `None` where no action is permitted.
 fn act_next<L: Ledger, R: Abort>(
     rt: &R,
     core: &mut Core,
@@ -115,7 +115,7 @@ fn act_next<L: Ledger, R: Abort>(
     Some(owner_of(action))
 }
 
-/// Acts up to the end, in this order.
+/// Does actions in this order until no action is permitted.
 fn act_all<L: Ledger, R: Abort>(rt: &R, core: &mut Core, order: Order, blank: Blank)
     requires name { blank.name ≡ L.name }
     requires parts { blank.parts ≡ L.parts }
@@ -132,7 +132,7 @@ fn act_all<L: Ledger, R: Abort>(rt: &R, core: &mut Core, order: Order, blank: Bl
     }
 }
 
-/// What a simulation in this order reports.
+/// The report of a simulation in this order.
 fn report_in<R: AllocGlobal + Abort>(
     rt: &R,
     order: Order,
@@ -145,7 +145,7 @@ fn report_in<R: AllocGlobal + Abort>(
     Ok(core.final_report(rt.alloc(), true)?)
 }
 
-/// Whether a session that is done in this order has the lockstep machine's report.
+/// Asserts that a session that is simulated in this order has the lockstep machine's report.
 fn is_reported<R: AllocGlobal + Abort>(rt: &R, order: Order, text: &[u8]) -> Result<(), Fail> {
     let plan = read_plan(rt.alloc(), text)?;
     let expected = clock_run(rt.alloc(), &plan)?;

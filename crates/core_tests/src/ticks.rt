@@ -1,4 +1,4 @@
-//! How often the counter of an edit ticks. Contracts tell it, beside numbers that are read off the core.
+//! How often the counter of an edit ticks: contracts tell it, and so do numbers that are read from the core.
 ghost use Rattle.std.specs.Prelude.{◌≡◌, length, map, IfOk};
 ghost use Rattle.flow_design.specs.Plans.{EditFits};
 ghost use Rattle.event_timing.specs.Actions.{IsFinal};
@@ -21,7 +21,7 @@ use std::process::Abort;
 use std::sync::ledger::{Blank, Ledger};
 use std::test::Fail;
 
-/// How many numbers of the one list differ from those at their places in the other; what one of them has more counts too.
+/// How many numbers of one list differ from those at the same places in the other. What one list has more counts too.
 fn count_others(old: &[u64], new: &[u64]) -> usize
     ensures { result ≡ others_in old.now new.now }
 {
@@ -35,7 +35,7 @@ fn count_others(old: &[u64], new: &[u64]) -> usize
     others + (old.len().max(new.len()) - shared)
 }
 
-/// How many numbers differ, list by list.
+/// How many numbers differ in all, over lists that are compared place by place.
 fn count_moved<R: Abort>(rt: &R, old: &[Vec<u64>], new: &[Vec<u64>]) -> usize
     requires { length old.now ≡ length new.now }
     ensures { result ≡ others_of (map (λ v. v.items) old.now) (map (λ v. v.items) new.now) }
@@ -51,7 +51,7 @@ fn count_moved<R: Abort>(rt: &R, old: &[Vec<u64>], new: &[Vec<u64>]) -> usize
     moved
 }
 
-/// The cycles of each module's steps.
+/// One entry per module: the cycles of its steps.
 #[tactic(auto, using(crate::proofs::Counting::cycles_more, crate::proofs::Counting::all_cycles))]
 fn cycles_of(alloc: Global, core: &Core) -> Result<Vec<Vec<u64>>, OutOfMemory>
     ensures { IfOk result (λ all. map (λ v. v.items) all.items ≡ map (λ l. l.cycles) core.now.held.lanes) }
@@ -66,8 +66,8 @@ fn cycles_of(alloc: Global, core: &Core) -> Result<Vec<Vec<u64>>, OutOfMemory>
     Ok(all)
 }
 
-/// Edits a final core, where each outcome stays as it was. It tells of how many steps the cycle is another then: so often the counter
-/// ticks, unless it ticks for each cycle from the first touched clock on. It never ticks where the depth stands.
+/// Edits a final core, and returns of how many steps the cycle has changed. No outcome may change. The counter ticks that often, or
+/// else once for each cycle from the first touched clock on. It never ticks where the edit leaves the depth as it is.
 fn edit_counted<L: Ledger, R: Abort>(
     rt: &R,
     alloc: Global,
@@ -90,7 +90,7 @@ fn edit_counted<L: Ledger, R: Abort>(
     Ok(count_moved(rt, before.as_slice(), after.as_slice()))
 }
 
-/// Edits a final core with a counter of its own, and tells of how many steps the cycle is another then.
+/// Edits a final core with a counter of its own, and returns of how many steps the cycle has changed.
 fn count_edit<L: Ledger, R: AllocGlobal + Abort>(
     rt: &R,
     core: &mut Core,
@@ -107,7 +107,7 @@ fn count_edit<L: Ledger, R: AllocGlobal + Abort>(
     edit_counted(rt, rt.alloc(), core, edit, &mut steps)
 }
 
-/// Of how many steps an edit of a session changes the cycle.
+/// Of how many steps the edit of a session with this number changes the cycle.
 fn moved_by<R: AllocGlobal + Abort>(rt: &R, text: &[u8], number: usize) -> Result<usize, Fail> {
     keeps_rules();
     let (session, lines) = read_session(rt.alloc(), Scale::Standard, text)?;
@@ -120,8 +120,7 @@ fn moved_by<R: AllocGlobal + Abort>(rt: &R, text: &[u8], number: usize) -> Resul
     Ok(moved)
 }
 
-/// Three values go through FIFO `b`, which never holds two elements and holds one in clock 1. Beside them 300 values go through
-/// FIFO `c`.
+/// Three values go through FIFO `b`, which holds one element in clock 1, and never two. Meanwhile 300 values go through FIFO `c`.
 const BESIDE_A_LONG_LOOP: &[u8] = b"\
 flow 1
 fifo b 8
@@ -168,11 +167,11 @@ end
 
 #[test]
 fn edits_tick_for_cycles_that_change(rt: HostRuntime) -> Result<(), Fail> {
-    // the depth stands
+    // the edit leaves the depth as it is
     assert_eq!(rt; moved_by(&rt, BESIDE_A_LONG_LOOP, 0)?, 0);
-    // b holds one element in clock 1: five steps are at or after it, and one of them, the first read, keeps its cycle
+    // b holds one element in clock 1: five steps are in or after it, and of these only the first read keeps its cycle
     assert_eq!(rt; moved_by(&rt, BESIDE_A_LONG_LOOP, 1)?, 4);
-    // c holds one in clock 1: all but the first write and the first read get other cycles
+    // c holds one element in clock 1: all steps but the first write and the first read get other cycles
     assert_eq!(rt; moved_by(&rt, BESIDE_A_LONG_LOOP, 2)?, 598);
     Ok(())
 }

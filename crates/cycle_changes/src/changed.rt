@@ -22,8 +22,8 @@ use flow_word::Steps;
 use std::marker::Brand;
 use std::sync::ledger::{Blank, Ledger};
 
-/// The part of the steps that a search may visit: of those from the first touched clock on, one in so many. A visit takes several
-/// times as long as giving a step its cycle in a retiming.
+/// A search may visit one in this many of the steps from the first touched clock on. A visit takes several times as long as giving
+/// a step its cycle in a retiming.
 const SEARCHED_PART: u64 = 16;
 
 /// How many steps a search may visit beside that part.
@@ -200,7 +200,7 @@ fn tick_each<L: Ledger>(count: u64, steps: &mut Steps<L>)
     }
 }
 
-/// How many steps have no cycle below the given one: a retiming from there gives at most so many cycles.
+/// How many steps have no cycle below the given one: a retiming from there gives at most this many cycles.
 fn count_left(graph: &Graph, from: u64) -> u64
     ensures { result + cycles_in (map (timed_below from) graph.now.lanes) ≤ steps_in graph.now.lanes }
 {

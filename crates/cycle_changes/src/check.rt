@@ -18,7 +18,6 @@ use time_engine::candidate;
 ///
 /// It is also false where there is no such step with a cycle, or where the step takes at a FIFO at whose other side no step takes.
 /// It takes no memory.
-/// step takes. It takes no memory.
 pub fn is_right_around(engine: &Engine, at: Place, limit: u64) -> bool
     requires core { IsSomeCore engine.now }
     ensures { result ≡ true → IsLookedAround (held_in engine.now []) limit at }

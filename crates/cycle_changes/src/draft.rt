@@ -52,7 +52,7 @@ impl Draft {
         }
     }
 
-    /// Copies the graph's cycles, unless the draft is fresh and has as many.
+    /// Copies the graph's cycles, unless the draft is fresh and has as many. `OutOfMemory` where memory ran out.
     pub fn refresh(&mut self, graph: &Graph) -> Result<(), OutOfMemory> {
         if self.fresh && self.fits(graph) {
             return Ok(());

@@ -34,7 +34,8 @@ impl Search {
 
     /// Changes cycles in the draft, from these steps on, until each step that was touched has the cycle that it must have.
     ///
-    /// It visits at most `most` steps. False where that is not enough, a cycle is not below the limit, or a step waits.
+    /// It visits at most `most` steps. False where that is not enough, a cycle is not below the limit, or a step waits. `OutOfMemory`
+    /// where memory ran out.
     pub fn run(
         &mut self,
         graph: &Graph,

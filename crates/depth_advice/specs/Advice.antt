@@ -44,6 +44,6 @@ HoldsLess p depths = (f clock : ℕ) → is_fifo (kind_at p f) ≡ true → cloc
 abbrev pub AreFastest : Plan → List ℕ → Type 0
 AreFastest p depths = (others : List ℕ) → AreDepths p others → IsNoSlower p others depths
 
--- with no depths does the plan end
+-- there are no depths with which the plan ends
 abbrev pub IsNeverDone : Plan → Type 0
 IsNeverDone p = (depths : List ℕ) → AreDepths p depths → (clock : ℕ) → verdict (with_depths p depths) ≢ Done clock

@@ -47,8 +47,9 @@ impl Advice {
     }
 }
 
-/// Advises depths with which no FIFO of the plan ever blocks. With each FIFO as deep as the language allows, it is the most
-/// elements that the FIFO holds in any clock up to the verdict's, plus one. No clause says that these are the least such depths.
+/// Advises depths with which no FIFO of the plan ever blocks: for each FIFO, one more than the most elements that it holds in any
+/// clock up to the verdict's, where all FIFOs are as deep as the language allows. No clause says that these are the least such
+/// depths.
 ///
 /// The plan with these depths has the report of the plan with the greatest ones. Where no operation is a query and some depths lead
 /// to an end, these lead to an end no later.

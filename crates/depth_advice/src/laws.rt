@@ -21,7 +21,7 @@ pub fn advised_depths_never_block()
 {}
 
 /// Where no operation is a query and some depths lead to an end, the advised depths lead to an end no later. So a plan that does
-/// not end with the advised depths ends with no depths.
+/// not end with the advised depths does not end with any depths.
 pub fn no_depths_are_faster()
     ensures fastest { (p : Plan) → FitsEngine p → AsksNothing p → AreFastest p (advised p) }
     ensures never_done { (p : Plan) → FitsEngine p → AsksNothing p → ((clock : ℕ) → verdict (with_depths p (advised p)) ≢ Done clock)

@@ -30,7 +30,6 @@ pub struct Target {
 /// The engine holds the end of the plan's run, `depths` are the plan's, and no operation is a query. The latest clocks may be those
 /// of the plan with deeper FIFOs: a result above 1 is shown by a path of steps, which is checked. It looks at each access to the
 /// FIFO and each step of the path a few times, and takes memory for the path. `OutOfMemory` where memory ran out.
-/// step of the path a few times, and takes memory for the path. An error leaves nothing.
 pub fn late_depth(
     alloc: Global,
     engine: &Engine,

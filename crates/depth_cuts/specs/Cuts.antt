@@ -50,7 +50,7 @@ AreCheapest demands (Some depths) = IsCheapest demands depths
 
 -- ---- limits of the demands
 
--- the need is of one of so many channels, and its depth is within the limit
+-- the need is of one of `channels` channels, and its depth is within the limit
 pub record IsNeed (channels : ℕ) (need : Need) : Type 0 where
   pub channel : need.channel < channels
   pub most : need.depth ≤ FIFO_DEPTH

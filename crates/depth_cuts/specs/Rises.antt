@@ -4,13 +4,13 @@ use Rattle.depth_cuts.specs.declared.cuts.Demands.{Demands}
 use Rattle.depth_cuts.specs.Met.{IsMet}
 use Rattle.depth_cuts.specs.Cuts.{AreAbove, bits_of}
 
--- all depths that are no less than these and meet the cuts take at least so many bits more
+-- all depths that are no less than these and meet the cuts take at least `rises` bits more
 abbrev pub AddsBits : Demands → List ℕ → ℕ → Type 0
 AddsBits demands depths rises =
     (es : List ℕ) → AreAbove depths es → All (λ cut. IsMet cut es) demands.cuts
     → bits_of demands.widths depths + rises ≤ bits_of demands.widths es
 
--- there are depths that differ from `depths` in used channels alone, are no greater than `es`, and take at least so many bits more
+-- there are depths that differ from `depths` in used channels alone, are no greater than `es`, and take at least `rises` bits more
 pub record IsBetween (widths used depths es : List ℕ) (rises : ℕ) : Type 0 where
   pub between : List ℕ
   pub count : length between ≡ length depths

@@ -8,7 +8,7 @@ use crate::order::Choice;
 use flow_word::{List, OutOfMemory, Words};
 use std::alloc::Global;
 
-/// A number of bits that all greater or equal depths which meet the cuts from a place on take at least beyond the depths at hand.
+/// A lower bound on the bits that it takes to raise the depths at hand so that they meet the cuts from a place on.
 ///
 /// The bits of cuts that share no channel add up: it goes through these cuts, and leaves out each that shares a channel with one
 /// counted before. It takes memory for a number of each channel. `OutOfMemory` where memory ran out.

@@ -42,8 +42,8 @@ stood_at p (suc c) m = stands_at p c m
 
 -- ---- the chain
 
--- the rest of the chain across a port: it goes on in the module at the other side, so many clocks earlier as the port sees that
--- side; an element was pushed the channel's delay before, and a place was freed one clock before
+-- the rest of the chain across a port: it goes on in the module at the other side, earlier by the port's lag, which is the
+-- channel's delay for a pop and one clock for a push
 abbrev pub goes_on : Plan → (ℕ → ℕ → List Link) → ℕ → Option Port → List Link
 goes_on p rest x None = []
 goes_on p rest x (Some a) =

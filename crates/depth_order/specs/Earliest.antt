@@ -24,7 +24,6 @@ waits_for ch (a ∷ xs) = pops_of ch a || waits_for ch xs
 --   this holds of the clock before, in which the module moves; or
 --   the module waits for an element of a channel, all that were pushed before clock b are popped, c is at most the channel's delay after b,
 --   and no depths let the pushing module make more local clocks before b
---   further than in clock b; no depths let that one get further before b; and the channel's delay lies between b and c
 pub data IsEarliest {S : Type 0} (d : Design S) (h : Trace S) : ℕ → ℕ → Type 0 where
   Start : (m : ℕ) → IsEarliest d h m zero
   Own : (m c : ℕ) → moves d h c m ≡ true → IsEarliest d h m c → IsEarliest d h m (suc c)

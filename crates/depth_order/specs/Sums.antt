@@ -13,7 +13,7 @@ abbrev pub spent : List Link → ℕ
 spent [] = 0
 spent (l ∷ ls) = (suc l.last - l.first) + spent ls
 
--- the clocks between two links: an element is under way for the channel's delay, of which the clock of its push belongs to a link
+-- the clocks between two links: an element is in flight for the channel's delay, of which the clock of its push belongs to a link
 abbrev pub clocks_across : Plan → Option Port → ℕ
 clocks_across p None = 0
 clocks_across p (Some a) = lag_in p a.side a.channel - 1
@@ -29,7 +29,7 @@ IsEnd (Deadlock clock) = ⊤
 IsEnd (Cycles clock) = ⊥
 IsEnd (Ops clock) = ⊤
 
--- the clocks that the chain back from a clock accounts for: those spent in modules, and those in which its elements are under way
+-- the clocks that the chain back from a clock accounts for: those spent in modules, and those in which its elements are in flight
 abbrev pub chain_clocks : Plan → ℕ → ℕ
 chain_clocks p clock = spent (path p clock) + under_way p (path p clock)
 

@@ -31,7 +31,7 @@ impl Drop for Asked {
 /// Something that simulates plans from the beginning, and counts how often: on the calling thread, or with a thread for each
 /// module.
 pub trait Runner {
-    /// How many runs the runner was asked for. The count stands still at the greatest u64.
+    /// How many runs the runner was asked for. At the greatest u64 the count stays.
     ghost made: { Self → ℕ };
 
     /// The type of its gate, which makes the bursts of its threads.
@@ -173,7 +173,7 @@ impl AloneRunner {
 impl Runner for AloneRunner {
     ghost made = { λ runner. runner.runs };
 
-    /// It has no threads, so its gate is never used.
+    /// The runner has no threads, so its gate is never used.
     type Gate = FreeGate;
 
     ghost gate_of = { λ runner. None };

@@ -35,7 +35,7 @@ pub(crate) fn shape_of(lo: u64, hi: u64, fifos: u64) -> Option<Shape>
     })
 }
 
-/// A power. `None` where it is greater than `MOST_POINTS`; it stops to multiply as soon as the product is.
+/// A power. `None` where it is greater than `MOST_POINTS`; it stops multiplying as soon as the product is.
 fn power(base: u64, exponent: u64) -> Option<u64>
     requires least { 1 ≤ base }
     requires most { base ≤ 64 }

@@ -7,7 +7,7 @@ use event_graph::Place;
 use flow_word::{Flags, List, OutOfMemory};
 use std::alloc::Global;
 
-/// For each module the outcomes of its queries in steps with a cycle, in order.
+/// For each module the outcomes of its queries in steps with a cycle, in order. `OutOfMemory` where memory ran out.
 #[tactic(auto, using(crate::proofs::Loops::mapped_more))]
 pub fn answers(alloc: Global, engine: &Engine) -> Result<List<Flags>, OutOfMemory>
     requires { length engine.now.log.logs ≡ length engine.now.graph.lanes }

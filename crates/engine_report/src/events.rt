@@ -19,7 +19,8 @@ pub struct TimedStep {
     pub step: u64,
 }
 
-/// The events of all steps with a cycle, in order of cycles, and within one cycle in order of modules.
+/// The events of all steps with a cycle, in order of cycles, and within one cycle in order of modules. `OutOfMemory` where memory ran
+/// out.
 pub fn events(alloc: Global, graph: &Graph) -> Result<List<EventLine>, OutOfMemory>
     ensures { IfOk result (AreEvents graph.now.lanes) }
 {
@@ -49,7 +50,7 @@ fn count_accesses(graph: &Graph, keys: &[TimedStep]) -> u64
 
 /// All steps with a cycle, in order of cycles, and within one cycle in order of modules.
 ///
-/// It takes memory for the answer only.
+/// It takes memory for the answer only. `OutOfMemory` where memory ran out.
 #[tactic(auto, using(crate::proofs::Loops::given_more))]
 pub fn sorted_steps(alloc: Global, graph: &Graph) -> Result<Vec<TimedStep>, OutOfMemory>
     ensures { IfOk result (λ keys. AreSortedKeys graph.now.lanes keys.items) }

@@ -11,8 +11,8 @@ use flow_word::{List, OutOfMemory, Side};
 use std::alloc::Global;
 use time_engine::{Known, known_of};
 
-/// The held modules of a report with this verdict, in order. There are none where all modules are ended or the cycle limit was
-/// reached.
+/// The held modules of a report with this verdict, in order. There are none where all modules are ended or the cycle limit was reached.
+/// `OutOfMemory` where memory ran out.
 pub fn held_with(
     alloc: Global,
     engine: &Engine,

@@ -10,7 +10,7 @@ use flow_design::{ChannelKind, Plan};
 use flow_word::{List, OutOfMemory, Words};
 use std::alloc::Global;
 
-/// The values that were pushed on each sink in steps with a cycle, in order of the sinks.
+/// The values that were pushed on each sink in steps with a cycle, in order of the sinks. `OutOfMemory` where memory ran out.
 #[tactic(auto, using(crate::proofs::Loops::passed_more))]
 pub fn outputs(alloc: Global, plan: &Plan, engine: &Engine) -> Result<List<Words>, OutOfMemory>
     requires channels { length engine.now.fifos.channels ≡ length plan.now.design.channels }

@@ -21,7 +21,8 @@ use timing_bridge::{every_report, steps_in_order};
 /// the pushes and pops, the outcomes of queries, and the end mark of each module whose own run has come to its end. It is the
 /// report of the lockstep machine, with its events if they are asked for, else with none.
 ///
-/// It takes memory for the report and, where events are asked for, for one key for each step: the keys are sorted.
+/// It takes memory for the report and, where events are asked for, for one key for each step: the keys are sorted. `OutOfMemory` where
+/// memory ran out.
 pub fn report_of(
     alloc: Global,
     plan: &Plan,

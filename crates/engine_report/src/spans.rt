@@ -26,7 +26,8 @@ use time_engine::{Known, known_of};
 /// cycles, the pushes and pops, and the end mark of each module whose own run has come to its end. With the clock of the plan's
 /// verdict, they are the spans of the lockstep machine below that clock.
 ///
-/// It looks once at each step of the module, and once at each of its accesses. It takes memory for the spans.
+/// It looks once at each step of the module, and once at each of its accesses. It takes memory for the spans. `OutOfMemory` where
+/// memory ran out.
 pub fn spans_of(
     alloc: Global,
     engine: &Engine,

@@ -32,6 +32,6 @@ with_answered h m k flags = record h {
   logs = with_outcomes h.logs m (outcomes_of (step_of h m k).accesses flags);
 }
 
--- what is held after an Answer has verified so many of module m's outcomes
+-- what is held after an Answer has verified this many of module m's outcomes
 abbrev pub with_confirmed : Held → ℕ → ℕ → Held
 with_confirmed h m verified = record h { logs = with_verified h.logs m verified }

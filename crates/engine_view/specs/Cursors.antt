@@ -1,4 +1,4 @@
--- A cursor goes round so many modules until it has passed them all without anything being done. It may jump to some modules first.
+-- A cursor goes round the modules until it has passed them all without anything being done. It may jump to some modules first.
 use Rattle.std.specs.Prelude.{◌≡◌, ℕ, ◌+◌, ◌-◌, ◌*◌, ◌<◌, ◌≤◌, ◌⊎◌}
 
 -- how many modules there are, at which one the cursor stands, how many it passed last, going round, and how often it may still jump

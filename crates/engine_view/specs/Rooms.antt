@@ -85,7 +85,7 @@ pub record HasRoom {S : Type 0} (d : Design S) (h : Held) (lanes : List ℕ) (ta
 abbrev pub IsRoomy : {S : Type 0} → Design S → Engine → List Bool → Type 0
 IsRoomy {S} d e over = HasRoom d (held_in e over) e.graph.rooms e.fifos e.log.rooms e.credits.items
 
--- the list has each port of module m on the first so many channels
+-- the list has each port of module m on the first `channels` channels
 abbrev pub AreAllPorts : {S : Type 0} → Design S → ℕ → ℕ → List Port → Type 0
 AreAllPorts {S} d m channels ports = (port : Port) → port.channel < channels → d.owner port.side port.channel ≡ m
     → (i : ℕ) × (slice_get ports i ≡ Some port)

@@ -102,7 +102,7 @@ impl Cursor {
         }
     }
 
-    /// Goes to the next hinted module. Whether there was one. No module counts as idle by this.
+    /// Goes to the next hinted module. Returns whether there was one. No module counts as idle by this.
     #[inline(always)]
     pub fn jump(&mut self, hints: &mut Hints) -> bool
         requires { 0 < self.old.count }

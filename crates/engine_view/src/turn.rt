@@ -25,7 +25,7 @@ use time_engine::{assign, candidate_and_queries};
 pub enum Timing {
     /// The step has this cycle.
     Assigned(u64),
-    /// Those of its queries that had no verified outcome were answered in this clock.
+    /// Those queries of the step that had no verified outcome were answered in this clock.
     Answered(u64),
     /// The outcome that is found for this query is not the assumed one. Nothing changed.
     Differs(Query),

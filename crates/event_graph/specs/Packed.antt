@@ -68,7 +68,7 @@ pub record IsKept (words : List ℕ) (others : List Step) (words' : List ℕ) (o
   pub inside : IsInside words' others' head
   pub before : KeepsInside words others words' others'
 
--- all words of each step are there, and there is room for so many further steps
+-- all words of each step are there, and there is room for `room` further steps
 pub record IsPacked (heads : Roomed Head) (words : Roomed ℕ) (others : Roomed Step) (room : ℕ) : Type 0 where
   pub inside : All (IsInside words.items others.items) heads.items
   pub words_few : length words.items ≤ 4 * length heads.items

@@ -47,7 +47,7 @@ impl Model for Graph {
 }
 
 impl Graph {
-    /// A graph of `modules` lanes without a step.
+    /// A graph of `modules` lanes without a step. `OutOfMemory` where memory ran out.
     pub fn new(alloc: Global, modules: u32) -> Result<Graph, OutOfMemory>
         ensures { IfOk result (λ graph. graph.lanes ≡ replicate modules no_lane) }
     {
@@ -87,8 +87,8 @@ impl Graph {
         self.lanes[owner as usize].push_step(step)
     }
 
-    /// Adds a copy of a step at the end of a module's lane. The step has one access or two, and its numbers fit 32 bits. It
-    /// succeeds where the lane has room.
+    /// Adds a copy of a step at the end of a module's lane. The step has one access or two, and its numbers fit 32 bits. It succeeds
+    /// where the lane has room. After `OutOfMemory` the lanes are as they were.
     #[inline(always)]
     pub fn push_few(&mut self, owner: u32, step: &StepView<'_>) -> Result<(), OutOfMemory>
         requires owner { owner < length self.old.lanes }

@@ -90,7 +90,8 @@ impl RoomyLane {
         self.cycles.as_slice()
     }
 
-    /// Reserves room for `more` further steps and their cycles. The room never falls.
+    /// Reserves room for `more` further steps and their cycles. The room never falls. The steps and cycles stay. `OutOfMemory` where
+    /// memory ran out.
     pub fn reserve(&mut self, more: u64) -> Result<(), OutOfMemory>
         ensures lane { self.new.lane ≡ self.old.lane }
         ensures room { OnOk result (more ≤ self.new.room) }
@@ -104,7 +105,8 @@ impl RoomyLane {
         Ok(())
     }
 
-    /// Adds a step at the end, and takes the room for its cycle.
+    /// Adds a step at the end, and takes the room for its cycle. It succeeds where there is room. After `OutOfMemory` the lane is as it
+    /// was.
     pub fn push_step(&mut self, step: Step) -> Result<(), OutOfMemory>
         requires sound { IsSoundStep step }
         requires apart { 0 < length self.old.lane.steps → 1 ≤ step.gap }
@@ -120,7 +122,8 @@ impl RoomyLane {
         Ok(())
     }
 
-    /// Adds a copy of a step at the end. The step has one access or two, and its numbers fit 32 bits.
+    /// Adds a copy of a step at the end. The step has one access or two, and its numbers fit 32 bits. It succeeds where there is room.
+    /// After `OutOfMemory` the lane is as it was.
     #[inline(always)]
     pub fn push_few(&mut self, step: &StepView<'_>) -> Result<(), OutOfMemory>
         requires few { IsFewStep (whole step.now) }

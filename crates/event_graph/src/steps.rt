@@ -105,7 +105,8 @@ impl StepList {
         }
     }
 
-    /// Reserves room for `more` further steps. The room never falls.
+    /// Reserves room for `more` further steps. The room never falls. The steps stay. It succeeds where there is that much room already.
+    /// `OutOfMemory` where memory ran out.
     #[inline(always)]
     pub fn reserve(&mut self, more: u64) -> Result<(), OutOfMemory>
         ensures items { self.new.items ≡ self.old.items }
@@ -126,7 +127,8 @@ impl StepList {
         Ok(())
     }
 
-    /// Adds a step at the end. It succeeds where there is room, and then uses one place of it.
+    /// Adds a step at the end. It succeeds where there is room, and then uses one place of it. After `OutOfMemory` the steps are as
+    /// they were.
     pub fn push(&mut self, step: Step) -> Result<(), OutOfMemory>
         ensures ok { OnOk result (self.new.items ≡ self.old.items ++ step ∷ []) }
         ensures err { OnErr result (self.new.items ≡ self.old.items) }
@@ -140,8 +142,8 @@ impl StepList {
         Ok(())
     }
 
-    /// Adds a copy of a step at the end. The step has one access or two, its numbers fit 32 bits, and its accesses fit a word each.
-    /// It succeeds where there is room, and then uses one place of it.
+    /// Adds a copy of a step at the end. The step has one access or two, its numbers fit 32 bits, and its accesses fit a word each. It
+    /// succeeds where there is room, and then uses one place of it. After `OutOfMemory` the steps are as they were.
     #[inline(always)]
     pub fn push_few(&mut self, step: &StepView<'_>) -> Result<(), OutOfMemory>
         requires few { IsFewStep (whole step.now) }

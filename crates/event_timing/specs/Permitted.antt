@@ -9,7 +9,7 @@ use Rattle.event_timing.specs.Core.{Core, values_there, view}
 abbrev pub IsInside : {S : Type 0} → Design S → Core S → Type 0
 IsInside {S} d x = (m : ℕ) → d.modules ≤ m → x.emitted m ≡ 0
 
--- the last of module m's first so many steps has every reply; true where there is none
+-- the last of the first n steps of module m has every reply; true where n is 0
 abbrev pub has_replies : {S : Type 0} → Design S → Core S → ℕ → ℕ → Bool
 has_replies {S} d x m zero = true
 has_replies {S} d x m (suc k) = x.answered m k && values_there d x m k

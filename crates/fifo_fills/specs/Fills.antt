@@ -25,7 +25,7 @@ fills p clock = map (λ f. fill p f clock) (fifos p)
 abbrev pub last_clock : Plan → ℕ
 last_clock p = clock_of (verdict p)
 
--- the i-th FIFO in order of declaration holds so many elements in this clock, which is at most the verdict's
+-- the i-th FIFO in order of declaration holds this many elements in this clock, which is at most the verdict's
 pub record HasFill (p : Plan) (i clock elements : ℕ) : Type 0 where
   pub inside : i < length (fifos p)
   pub within : clock ≤ last_clock p

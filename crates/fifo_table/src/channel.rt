@@ -16,7 +16,7 @@ pub enum TableChannel {
     /// An output stream, which is never full.
     Sink,
     /// A queue of this depth, in elements, and this delay, in clocks, both within the limits of the language. An element can be
-    /// popped so many clocks after its push.
+    /// popped this many clocks after its push.
     Fifo { depth: u64, delay: u64 },
 }
 
@@ -36,7 +36,7 @@ pub struct RoomyChannel {
 }
 
 impl RoomyChannel {
-    /// A channel of this kind without any push or pop.
+    /// A channel of this kind without any push or pop. `OutOfMemory` where memory ran out.
     pub fn new(alloc: Global, kind: &TableChannel) -> Result<RoomyChannel, OutOfMemory>
         ensures { IfOk result (λ channel. channel_of channel ≡ unused kind.now) }
     {
@@ -47,7 +47,8 @@ impl RoomyChannel {
         })
     }
 
-    /// Reserves room for so many further pushes and pops. Neither room falls.
+    /// Reserves room for `pushes` further pushes and `pops` further pops. Neither room falls. The pushes and pops stay.
+    /// `OutOfMemory` where memory ran out.
     pub fn reserve(&mut self, pushes: u64, pops: u64) -> Result<(), OutOfMemory>
         ensures channel { channel_of self.new ≡ channel_of self.old }
         ensures push_room { OnOk result (pushes ≤ self.new.pushes.room) }
@@ -59,7 +60,7 @@ impl RoomyChannel {
         self.pops.reserve(pops)
     }
 
-    /// The lag of a side, in clocks: a pop, or a push, is possible so many clocks after the event that it waits for.
+    /// The lag of a side, in clocks: a pop, or a push, is possible this many clocks after the event that it waits for.
     pub fn lag(&self, side: Side) -> u64
         ensures { result ≡ lag_of self.now.kind side }
     {

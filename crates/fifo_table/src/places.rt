@@ -36,7 +36,7 @@ impl Places {
         }
     }
 
-    /// Reserves room for `more` further places. The places stay, and the room never falls.
+    /// Reserves room for `more` further places. The places stay, and the room never falls. `OutOfMemory` where memory ran out.
     pub fn reserve(&mut self, more: u64) -> Result<(), OutOfMemory>
         ensures items { self.new.items ≡ self.old.items }
         ensures room { OnOk result (more ≤ self.new.room) }
@@ -45,7 +45,8 @@ impl Places {
         self.steps.reserve(more)
     }
 
-    /// Adds a place of the same module at the end. It succeeds where there is room, and then uses one place of it.
+    /// Adds a place of the same module at the end. It succeeds where there is room, and then uses one place of it. After `OutOfMemory`
+    /// the places are as they were.
     #[inline(always)]
     pub fn push(&mut self, at: Place) -> Result<(), OutOfMemory>
         requires own { AreAllOf at.module self.old.items }

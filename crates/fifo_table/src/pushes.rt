@@ -41,7 +41,7 @@ impl Pushes {
         }
     }
 
-    /// Reserves room for `more` further pushes. The pushes stay, and the room never falls.
+    /// Reserves room for `more` further pushes. The pushes stay, and the room never falls. `OutOfMemory` where memory ran out.
     pub fn reserve(&mut self, more: u64) -> Result<(), OutOfMemory>
         ensures items { self.new.items ≡ self.old.items }
         ensures room { OnOk result (more ≤ self.new.room) }
@@ -51,7 +51,8 @@ impl Pushes {
         self.values.reserve(more)
     }
 
-    /// Adds a push of the same module at the end. It succeeds where there is room, and then uses one place of it.
+    /// Adds a push of the same module at the end. It succeeds where there is room, and then uses one place of it. After `OutOfMemory`
+    /// the pushes are as they were.
     #[inline(always)]
     pub fn push(&mut self, at: Place, value: u64) -> Result<(), OutOfMemory>
         requires own { AreAllOf at.module (map (λ p. p.at) self.old.items) }

@@ -47,7 +47,7 @@ impl Model for FifoTable {
 }
 
 impl FifoTable {
-    /// A table of these channels without any push or pop.
+    /// A table of these channels without any push or pop. `OutOfMemory` where memory ran out.
     pub fn new(alloc: Global, channels: &[TableChannel]) -> Result<FifoTable, OutOfMemory>
         requires count { length channels.now < 2 ^ 32 }
         requires kinds { All IsSoundKind channels.now }
@@ -60,7 +60,7 @@ impl FifoTable {
         Ok(FifoTable { channels: made })
     }
 
-    /// Reserves room for so many further pushes and pops of a channel.
+    /// Reserves room for `pushes` further pushes and `pops` further pops of a channel.
     ///
     /// The channels stay as they are and no room falls, after `OutOfMemory` either.
     pub fn reserve(&mut self, channel: u32, pushes: u64, pops: u64) -> Result<(), OutOfMemory>
@@ -132,7 +132,7 @@ impl FifoTable {
     }
 
     /// How many pops, or pushes, of a channel wait for no event: the pops of a source's inputs, and the pushes on a FIFO's first
-    /// places. Each later one waits for an event of the other side: the one that comes after so many fewer.
+    /// places. Each later one waits for an event of the other side: the one whose ordinal is less by this number.
     pub fn free(&self, channel: u32, side: Side) -> u64
         requires { channel < length self.now.channels }
         ensures { result ≡ free_of (channel_at self.now.channels channel).kind side }
@@ -262,8 +262,8 @@ impl FifoTable {
         }
     }
 
-    /// The lag of a side of a channel, in clocks: a pop, or a push, is possible so many clocks after the event that it waits for.
-    /// It is the delay for a pop of a FIFO, and else 1. It takes no memory.
+    /// The lag of a side of a channel, in clocks: a pop, or a push, is possible this many clocks after the event that it waits for.
+    /// It is the delay for a pop of a FIFO, and otherwise 1. It takes no memory.
     pub fn lag(&self, channel: u32, side: Side) -> u64
         requires { channel < length self.now.channels }
         ensures lag { result ≡ lag_of (channel_at self.now.channels channel).kind side }

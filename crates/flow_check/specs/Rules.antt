@@ -83,7 +83,7 @@ takes_again kind before (Some s) = list_any (λ t. is_slot s (slot kind t)) befo
 abbrev pub clashes : BlockKind → List Timed → Timed → Bool
 clashes kind before t = takes_again kind before (slot kind t)
 
--- ---- a loop's LEN is at least II, and at most so many times II as iterations may be live at once
+-- ---- a loop's LEN is at least II, and at most II times the number of iterations that may be live at once
 
 abbrev pub is_bad_loop : Scale → ℕ → BlockKind → Bool
 is_bad_loop scale len Plain = false

@@ -12,7 +12,7 @@ port_at side c = record { side = side; channel = c }
 abbrev pub AreAlike : ℕ → ℕ → Type 0
 AreAlike a b = min a 2 ≡ min b 2
 
--- at each channel so many more users were counted
+-- for each channel f, `more f` more users were counted
 pub record AreCounted (more : ℕ → ℕ) (before after : List ℕ) : Type 0 where
   pub count : length after ≡ length before
   pub each : (c : ℕ) → c < length before → AreAlike (slice_index after c) (slice_index before c + more c)

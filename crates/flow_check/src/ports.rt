@@ -81,7 +81,7 @@ fn slot(kind: BlockKind, timed: &Timed) -> Option<Slot>
     }
 }
 
-/// Takes the slot of an operation. Whether an earlier operation has taken it.
+/// Takes the slot of an operation. Returns whether an earlier operation has taken it.
 fn take_slot(
     kind: BlockKind,
     timed: &Timed,

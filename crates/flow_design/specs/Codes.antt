@@ -1,4 +1,4 @@
--- The code of plans, for models whose values have one.
+-- The code of a plan as a value, for models whose values must have a code.
 use Rattle.std.specs.Coded.{Coded}
 use Rattle.flow_design.specs.declared.plan.Plan.{Plan}
 use Rattle.flow_design.specs.contracts.plan.Plan.{the_row}

@@ -59,7 +59,7 @@ pub record IsExpressionSound (places : ℕ) (e : Expr ℕ) : Type 0 where
   pub size : nodes e ≤ EXPRESSION_NODES
   pub height : depth e ≤ EXPRESSION_DEPTH
 
--- all that an operation names is there: in a design of so many channels, a module, and a body of so many temps
+-- all that an operation of module m names is there, in a design with this many channels and a body with this many temps
 pub record IsOperationSound (channels : ℕ) (m : Module) (temps : ℕ) (op : Op ℕ) : Type 0 where
   pub places : All (λ x. x < length m.registers + temps) (places_of op)
   pub expressions : All (IsExpressionSound (length m.registers + temps)) (expressions_of op)
@@ -76,7 +76,7 @@ pub record IsTimedSound (channels : ℕ) (m : Module) (b : Block) (t : Timed) : 
 
 -- ---- blocks and modules
 
--- II, LEN and the register of a loop are in range, where the module has so many registers
+-- II, LEN and the register of a loop are in range, where the module has this many registers
 pub record IsLoopSound (registers len ii again : ℕ) : Type 0 where
   pub interval : 1 ≤ ii
   pub least : ii ≤ len
@@ -137,7 +137,8 @@ pub record IsChannelSound (plan : Plan) (f : ℕ) : Type 0 where
   pub pushing : count_by (uses (record { side = Push; channel = f })) plan.design.modules ≡ users_wanted (kind_at plan f) Push
   pub entries : AreEntriesSound (kind_at plan f) (slice_index_or plan.inputs f []) (slice_index plan.depths f)
 
--- the most clocks of a block where each module may count so many operations: long blocks, or many operations, but not both
+-- the most clocks that a block may have, given how many operations each module may count: long blocks, or many operations, but not
+-- both
 abbrev pub longest_block : ℕ → ℕ
 longest_block operations = if nat_le operations LONG_BLOCK_OPERATIONS then BLOCK_CLOCKS else SHORT_BLOCK_CLOCKS
 

@@ -36,7 +36,7 @@ pub struct Limits {
     pub operations: u64,
     /// II and LEN, in clocks.
     pub block_clocks: u64,
-    /// The iterations of a loop that are live at once: LEN is at most so many times II.
+    /// How many iterations of a loop may be live at once: LEN is at most this many times II.
     pub live_iterations: u64,
     /// The input values of a session.
     pub input_values: u64,
@@ -128,7 +128,7 @@ pub const BLOCKS: u64 = 2_048;
 /// The most operations of a body.
 pub const OPERATIONS: u64 = 8_192;
 
-/// The most iterations of a loop that are live at once: LEN is at most so many times II.
+/// The most iterations of a loop that may be live at once: LEN is at most this many times II.
 pub const LIVE_ITERATIONS: u64 = 1_024;
 
 /// The greatest II and LEN, in clocks.

@@ -121,8 +121,8 @@ pub enum Effect {
 pub enum Advance {
     /// The next local clock with a due FIFO operation.
     Step(Step),
-    /// The module has ended, so many local clocks after its last step, or after its local clock 0 where it has no step.
+    /// The module has ended, this many local clocks after its last step, or after its local clock 0 where it has no step.
     Ended(u64),
-    /// The module is spent, so many local clocks after its last step, or after its local clock 0 where it has no step.
+    /// The module is spent, this many local clocks after its last step, or after its local clock 0 where it has no step.
     Spent(u64),
 }

@@ -77,7 +77,7 @@ unfoldable pub second_clock : Name → ℕ → List Statement
 second_clock output addend =
     At 1 None (Write output (Binary Add (Var (codes "x")) (Binary Add (Number addend) (Var (codes "e"))))) ∷ Stop ∷ []
 
--- the statements of module k, of so many modules
+-- the statements of module k of a session with this many modules
 abbrev pub module_of : ℕ → ℕ → Drawn → List Statement
 module_of modules k drawn =
     head_of (module_name k) drawn.interval
@@ -98,7 +98,7 @@ session_of draws modules =
     (Flow 1 ∷ Source (codes "a") 32 ∷ Sink (codes "y") 32 ∷ [])
     ++ (each fifo_behind draws (modules - 1) ++ (each (module_of modules) draws modules ++ Input (codes "a") values ∷ End ∷ []))
 
--- the session that a seed gives with so many modules; and then, its text
+-- the session with this many modules that a seed gives; and then, its text
 unfoldable pub session : ℕ → ℕ → List Statement
 session seed modules = session_of (drawn seed) modules
 

@@ -12,7 +12,7 @@ use std::alloc::Global;
 /// How many values the source has.
 const VALUES: u64 = 1000;
 
-/// The session that a seed gives with so many modules.
+/// The session with `modules` modules that a seed gives. `OutOfMemory` where memory ran out.
 #[tactic(auto, unfolding(crate::specs::Generated::session))]
 pub fn generate_session(alloc: Global, seed: u64, modules: u64) -> Result<Session, OutOfMemory>
     requires seed { seed ≤ 65_535 }

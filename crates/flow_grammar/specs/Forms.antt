@@ -111,7 +111,7 @@ unfoldable pub op_of : List Token → Option (Op Token)
 op_of [] = None
 op_of (v ∷ ts) = op_form_if (verb_of v) ts
 
--- the `at` that tokens write after its offset: an operation, perhaps with a guard in front of it
+-- the `at` that tokens write after its offset: an operation, perhaps with a guard before it
 abbrev pub guarded_of : ℕ → List Token → Option Statement
 guarded_of off (i ∷ r ∷ ts) =
     if is_word i (codes "if") then if_then (is_name r) (option_map (At off (Some r)) (op_of ts))

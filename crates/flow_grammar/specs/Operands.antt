@@ -28,7 +28,7 @@ earlier UnknownName BadNumber = BadNumber
 earlier UnknownName d = UnknownName
 earlier c d = d
 
--- a tree with so many nodes and levels, or the code for too many
+-- a tree with this many nodes and levels, or the code for too many
 abbrev pub sized : Expr (List ℕ) → ℕ → ℕ → Operand
 sized tree nodes depth = if nat_le nodes EXPRESSION_NODES && nat_le depth EXPRESSION_DEPTH then Whole tree nodes depth else Faulty TooMany
 

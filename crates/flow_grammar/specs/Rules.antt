@@ -95,7 +95,7 @@ has_small_trees (op.Write f e) = is_small e
 has_small_trees (op.TryWrite f ok e) = is_small e
 has_small_trees o = true
 
--- with this statement the limits of the scale allow as many of its kind
+-- after the earlier statements the limits of the scale allow one more statement like this
 abbrev pub has_room : Scale → List Statement → Statement → Bool
 has_room scale earlier (Source n w) = nat_lt (length (channels earlier)) (limits_at scale).channels
 has_room scale earlier (Sink n w) = nat_lt (length (channels earlier)) (limits_at scale).channels
@@ -152,7 +152,7 @@ pub record KeepsRules (scale : Scale) (before : List Statement) (s : Statement) 
   -- its numbers are in range, its new names are new, the names that it uses are declared, and it is not one too many
   pub faultless : statement_fault scale (reverse before) s ≡ None
 
--- each statement of a whole session keeps the rules; so it is with each session that a text stands for
+-- each statement of a whole session keeps the rules, as in each session that a text stands for
 pub record KeepsReadingRules (scale : Scale) (statements : List Statement) : Type 0 where
   pub each : (i : ℕ) (s : Statement) → slice_get statements i ≡ Some s → KeepsRules scale (take i statements) s
   pub over : is_over statements ≡ true

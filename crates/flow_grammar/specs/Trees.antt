@@ -29,7 +29,7 @@ abbrev pub applied_if : Option Operator → List Token → Trees → Option Tree
 applied_if None behind trees = None
 applied_if (Some o) behind trees = applied o behind trees
 
--- the trees with one more token in front
+-- the trees after one more token, which stands before the tokens taken so far
 unfoldable pub with_token : Token → List Token → Trees → Option Trees
 with_token token behind trees =
     if is_number token then Some (Number (number_of token) ∷ trees)

@@ -34,7 +34,7 @@ pub fn earlier_test(a: Code, b: Code) -> Code
     }
 }
 
-/// An expression with so many nodes and levels. Where one of these numbers is above its limit, it is the code for that.
+/// An expression with this many nodes and levels; where one of these numbers is above its limit, the code for that.
 fn sized(tree: Expr<Name>, nodes: u64, depth: u64) -> Operand
     ensures { result ≡ sized tree nodes depth }
 {
@@ -50,7 +50,7 @@ fn sized(tree: Expr<Name>, nodes: u64, depth: u64) -> Operand
     Operand::Faulty(Code::TooMany)
 }
 
-/// An operator on one operand.
+/// An operator on one operand. `OutOfMemory` where memory ran out.
 #[tactic(auto, unfolding(crate::specs::Operands::one))]
 pub fn apply_one(alloc: Global, op: UnOp, a: Operand) -> Result<Operand, OutOfMemory>
     ensures { IfOk result (λ operand. operand ≡ one op a) }
@@ -75,7 +75,7 @@ fn earlier_of(code: Code, operand: &Operand) -> Code
     }
 }
 
-/// An operator on two operands.
+/// An operator on two operands. `OutOfMemory` where memory ran out.
 #[tactic(auto, unfolding(crate::specs::Operands::two))]
 pub fn apply_two(alloc: Global, op: BinOp, a: Operand, b: Operand) -> Result<Operand, OutOfMemory>
     ensures { IfOk result (λ operand. operand ≡ two op a b) }
@@ -109,7 +109,7 @@ pub fn apply_two(alloc: Global, op: BinOp, a: Operand, b: Operand) -> Result<Ope
     }
 }
 
-/// `sext` on an operand, with a token for the number of bits.
+/// `sext` on an operand, with a token for the number of bits. `OutOfMemory` where memory ran out.
 #[tactic(auto, unfolding(crate::specs::Operands::extend), using(crate::proofs::Numbers::number_read))]
 pub fn apply_extend(alloc: Global, bits: &[u8], a: Operand) -> Result<Operand, OutOfMemory>
     requires { is_number bits.now ≡ true }
@@ -134,7 +134,7 @@ fn widen(alloc: Global, width: Width, a: Operand) -> Result<Operand, OutOfMemory
     }
 }
 
-/// `?:` on three operands.
+/// `?:` on three operands. `OutOfMemory` where memory ran out.
 #[tactic(auto, unfolding(crate::specs::Operands::choose))]
 pub fn apply_choose(
     alloc: Global,

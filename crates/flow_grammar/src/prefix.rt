@@ -53,7 +53,7 @@ fn name_operand<K: Known>(alloc: Global, known: &K, token: &[u8]) -> Result<Oper
     }
 }
 
-/// Applies an operator to the operand on top of the stack. Whether there is one.
+/// Applies an operator to the operand on top of the stack. Returns whether there is one.
 fn take_one(
     alloc: Global,
     op: UnOp,
@@ -71,7 +71,7 @@ fn take_one(
     }
 }
 
-/// Applies an operator to the two operands on top of the stack. Whether there are two.
+/// Applies an operator to the two operands on top of the stack. Returns whether there are two.
 fn take_two(
     alloc: Global,
     op: BinOp,
@@ -92,7 +92,7 @@ fn take_two(
     }
 }
 
-/// Applies `?:` to the three operands on top of the stack. Whether there are three.
+/// Applies `?:` to the three operands on top of the stack. Returns whether there are three.
 fn take_three(
     alloc: Global,
     behind: &[&[u8]],
@@ -115,7 +115,7 @@ fn take_three(
     }
 }
 
-/// Applies `sext` to the operand on top of the stack. The token after it is the number of bits. Whether there are both.
+/// Applies `sext` to the operand on top of the stack. The token after it is the number of bits. Returns whether there are both.
 fn take_extend(
     alloc: Global,
     behind: &[&[u8]],
@@ -141,7 +141,7 @@ fn take_extend(
     }
 }
 
-/// Takes one more token, which stands in front of those that were taken. Whether the tokens still write expressions.
+/// Takes one more token, which stands before those that were taken. Returns whether the tokens still write expressions.
 #[tactic(auto, unfolding(crate::specs::Operands::take_token))]
 fn take<K: Known>(
     alloc: Global,
@@ -192,8 +192,8 @@ fn read_back<K: Known>(
     Ok(Some(stack))
 }
 
-/// The expressions that tokens write one after the other, the first one on top of the stack. Each is whole, or is the first test
-/// that it fails. `None` where the tokens write no expressions.
+/// The expressions that tokens write one after the other, the first one on top of the stack. Each is whole, or is the first test that
+/// it fails. `None` where the tokens write no expressions. `OutOfMemory` where memory ran out.
 #[tactic(auto, using(crate::proofs::Kept::kept_all))]
 pub fn operands<K: Known>(
     alloc: Global,

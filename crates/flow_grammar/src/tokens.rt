@@ -58,7 +58,7 @@ fn first_token(line: &[u8]) -> Option<(&[u8], &[u8])>
     Some((token, rest))
 }
 
-/// The tokens of a line.
+/// The tokens of a line. `OutOfMemory` where memory ran out.
 pub fn tokens_in(alloc: Global, line: &[u8]) -> Result<Vec<&[u8]>, OutOfMemory>
     ensures { IfOk result (λ tokens. map (λ t. t.now) tokens.items ≡ tokens_of line.now) }
 {

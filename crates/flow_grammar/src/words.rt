@@ -59,7 +59,7 @@ pub fn number_in(token: &[u8], least: u64, most: u64) -> Option<u64>
     }
 }
 
-/// The width that a number is: `None` where it is none from 1 to 64.
+/// The width that a token writes, which is a number. `None` where it is not from 1 to 64.
 #[tactic(auto, using(crate::proofs::Numbers::number_read))]
 pub fn width_of(token: &[u8]) -> Option<Width>
     requires { is_number token.now ≡ true }

@@ -8,7 +8,7 @@ use flow_grammar::Operator;
 use flow_word::{List, OutOfMemory};
 use report_text::{push_token, push_value};
 
-/// Adds an expression: each operator comes before its operands.
+/// Adds an expression: each operator comes before its operands. After `OutOfMemory` the text may have part of it.
 #[tactic(auto, using(crate::proofs::Printed::spaced_expressions), unfolding(crate::specs::Canonical::spaced_parts))]
 pub fn print_expression(text: &mut List<u8>, expr: &Expr<Name>) -> Result<(), OutOfMemory>
     ensures { OnOk result (text.new ≡ text.old ++ spaced_parts (expr_parts expr.now)) }

@@ -9,7 +9,7 @@ use flow_grammar::Verb;
 use flow_word::{List, OutOfMemory};
 use report_text::push_token;
 
-/// Adds `if R` for a guard, and nothing where there is none.
+/// Adds `if R` for a guard, and nothing where there is none. After `OutOfMemory` the text may have part of it.
 #[tactic(auto, unfolding(crate::specs::Canonical::spaced_parts))]
 pub fn print_guard(text: &mut List<u8>, guard: &Option<Name>) -> Result<(), OutOfMemory>
     ensures { OnOk result (text.new ≡ text.old ++ spaced_parts (guard_parts guard.now)) }
@@ -20,7 +20,7 @@ pub fn print_guard(text: &mut List<u8>, guard: &Option<Name>) -> Result<(), OutO
     }
 }
 
-/// Adds an operation, as it is written after its offset and guard.
+/// Adds an operation, as it is written after its offset and guard. After `OutOfMemory` the text may have part of it.
 #[tactic(auto, using(crate::proofs::Printed::spaced_append), unfolding(crate::specs::Canonical::spaced_parts))]
 pub fn print_operation(text: &mut List<u8>, op: &Op<Name>) -> Result<(), OutOfMemory>
     ensures { OnOk result (text.new ≡ text.old ++ spaced_parts (op_parts op.now)) }

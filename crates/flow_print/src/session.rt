@@ -12,8 +12,8 @@ use flow_word::{List, OutOfMemory};
 use report_text::{print_numbers, push_token, push_value, push_values};
 use std::alloc::Global;
 
-/// The canonical text of a session: one statement on each line, one space between tokens, numbers without leading zeros, the depth
-/// of each FIFO written out, and its delay too in a version with delays.
+/// The canonical text of a session: one statement on each line, one space between tokens, numbers without leading zeros, the depth of
+/// each FIFO written out, and its delay too in a version with delays. `OutOfMemory` where memory ran out.
 #[tactic(auto, using(crate::proofs::Printed::next_line), unfolding(crate::specs::Canonical::canonical_text))]
 pub fn print_session(alloc: Global, session: &Session) -> Result<List<u8>, OutOfMemory>
     ensures { IfOk result (λ text. text ≡ canonical_text session.now.statements) }

@@ -59,7 +59,7 @@ fn read_on<'a>(alloc: Global, progress: &mut Progress<'a>, text: &'a [u8]) -> Re
     Ok(number)
 }
 
-/// The session, if its last statement is `end`; else the fault that it has none, after so many lines.
+/// The session, if its last statement is `end`; otherwise the fault of a text of `lines` lines without an `end`.
 #[tactic(auto, using(crate::proofs::ReadingLaws::closes, crate::proofs::ReadingLaws::is_cut))]
 fn closed(
     place: Place,
@@ -79,7 +79,7 @@ fn closed(
     Ok((Session { statements }, numbers))
 }
 
-/// The session that was read in so many lines, or the fault that it has no `end`.
+/// The session that was read from `lines` lines, or the fault that it has no `end`.
 #[tactic(auto, unfolding(name_tables::specs::TablesOf::tables_of, flow_grammar::specs::Gives::reading))]
 fn finished(progress: Progress<'_>, lines: u64) -> Result<(Session, Words), ReadFail>
     requires { IsKept progress }

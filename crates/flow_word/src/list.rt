@@ -47,7 +47,7 @@ impl<T> List<T> {
         }
     }
 
-    /// An empty list with memory reserved for `room` items.
+    /// An empty list with memory reserved for `room` items. `OutOfMemory` where memory ran out.
     pub fn with_room(alloc: Global, room: u64) -> Result<Self, OutOfMemory>
         ensures { IfOk result (λ list. list ≡ []) }
     {
@@ -80,7 +80,7 @@ impl<T> List<T> {
 }
 
 impl<T: Drop> List<T> {
-    /// Adds an item at the end. After want of memory the list is as it was, and the item is dropped.
+    /// Adds an item at the end. After `OutOfMemory` the list is as it was, and the item is dropped.
     pub fn push(&mut self, item: T) -> Result<(), OutOfMemory>
         ensures ok { OnOk result (self.new ≡ self.old ++ item ∷ []) }
         ensures err { OnErr result (self.new ≡ self.old) }
@@ -98,7 +98,7 @@ impl<T: Drop> List<T> {
 }
 
 impl<T: Copy> List<T> {
-    /// A list of these items.
+    /// A list of these items. `OutOfMemory` where memory ran out.
     pub fn from_slice(alloc: Global, items: &[T]) -> Result<List<T>, OutOfMemory>
         ensures { IfOk result (λ list. list ≡ items.now) }
     {
@@ -106,7 +106,7 @@ impl<T: Copy> List<T> {
         Ok(List { items })
     }
 
-    /// Adds these items at the end. After want of memory the list is as it was.
+    /// Adds these items at the end. After `OutOfMemory` the list is as it was.
     pub fn extend_from_slice(&mut self, items: &[T]) -> Result<(), OutOfMemory>
         ensures ok { OnOk result (self.new ≡ self.old ++ items.now) }
         ensures err { OnErr result (self.new ≡ self.old) }
@@ -117,7 +117,7 @@ impl<T: Copy> List<T> {
 }
 
 impl List<u64> {
-    /// A list of `len` zeros.
+    /// A list of `len` zeros. `OutOfMemory` where memory ran out.
     pub fn zeros(alloc: Global, len: u64) -> Result<List<u64>, OutOfMemory>
         ensures { IfOk result (λ list. list ≡ replicate len 0) }
     {

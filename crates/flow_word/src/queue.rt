@@ -47,7 +47,7 @@ impl<T> Queue<T> {
 }
 
 impl<T: Drop> Queue<T> {
-    /// Adds an item at the back. After want of memory the queue is as it was, and the item is dropped.
+    /// Adds an item at the back. After `OutOfMemory` the queue is as it was, and the item is dropped.
     pub fn push(&mut self, item: T) -> Result<(), OutOfMemory>
         ensures ok { OnOk result (self.new ≡ self.old ++ item ∷ []) }
         ensures err { OnErr result (self.new ≡ self.old) }

@@ -63,7 +63,8 @@ impl<T> RoomyList<T> {
 }
 
 impl<T: Drop> RoomyList<T> {
-    /// Adds an item at the end. It succeeds where there is room, and then uses one place of the room.
+    /// Adds an item at the end. It succeeds where there is room, and then uses one place of the room. After `OutOfMemory` the items are
+    /// as they were.
     #[inline(always)]
     pub fn push(&mut self, item: T) -> Result<(), OutOfMemory>
         ensures ok { OnOk result (self.new.items ≡ self.old.items ++ item ∷ []) }

@@ -1,10 +1,10 @@
-//! Every call once.
+//! Every call of a run count, at least once.
 use flow_word::{Flags, List, OutOfMemory};
 use outcome_guard::RunCount;
 use std::alloc::Global;
 use std::test::Fail;
 
-/// The answers of two modules.
+/// The answers to the queries of two modules.
 fn answers(alloc: Global, first: &[bool], second: &[bool]) -> Result<List<Flags>, OutOfMemory> {
     let mut all = List::new(alloc);
     all.push(List::from_slice(alloc, first)?)?;

@@ -1,4 +1,4 @@
-//! Every call of a graph once.
+//! Every call of an event graph, at least once.
 ghost use Rattle.std.specs.Prelude.{◌≡◌, [], length, IfOk};
 ghost use Rattle.event_graph.specs.Lanes.{HasStep};
 
@@ -10,7 +10,7 @@ use std::process::Abort;
 use std::sync::ledger::{Blank, Ledger};
 use std::test::Fail;
 
-/// A step without an access.
+/// A step without an access, this many local clocks after the step before it.
 pub(crate) fn step_after(alloc: Global, gap: u64) -> Step
     ensures gap { result.gap ≡ gap }
     ensures accesses { result.accesses ≡ [] }
@@ -22,7 +22,7 @@ pub(crate) fn step_after(alloc: Global, gap: u64) -> Step
     }
 }
 
-/// A graph of two modules, of which the second makes two steps, in clocks 3 and 9, and forgets the later clock.
+/// A graph of two modules. The second makes two steps, in clocks 3 and 9, and then forgets the later clock.
 fn grows_and_forgets<L: Ledger, R: Abort>(
     rt: &R,
     alloc: Global,
@@ -86,7 +86,7 @@ fn step_with(
     })
 }
 
-/// An access of channel 5.
+/// An access to channel 5.
 fn access(kind: Kind, ordinal: u64, value: u64) -> Access {
     Access {
         kind,
@@ -96,7 +96,7 @@ fn access(kind: Kind, ordinal: u64, value: u64) -> Access {
     }
 }
 
-/// The place of a step of module 0.
+/// The place of the step of module 0 with this number.
 fn step_of(step: u64) -> Place
     ensures module { result.«module» ≡ 0 }
     ensures step { result.step ≡ step }
@@ -104,7 +104,7 @@ fn step_of(step: u64) -> Place
     Place { module: 0, step }
 }
 
-/// The step at a place has these parts, however it is read.
+/// Asserts that each way to read the step at a place gives these parts.
 fn is_read<R: Abort>(
     rt: &R,
     graph: &Graph,

@@ -1,4 +1,4 @@
-//! Every call once.
+//! Every call of a guard, at least once.
 use flow_word::Kind;
 use outcome_guard::{Guard, Query, compare, one_is_prefix};
 

@@ -1,4 +1,5 @@
-//! Tests of the engine's leaves and of the turn lock. They stand in a crate of their own, since a crate is proved once more with its tests.
+//! Tests of the engine's leaves and of the turn lock. They have a crate of their own, since a crate is proved once more with its
+//! tests.
 #![tactic(auto)]
 
 #[cfg(test)]

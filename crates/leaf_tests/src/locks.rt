@@ -1,4 +1,4 @@
-//! Two passes put entries into a list, alone and in two threads.
+//! Two passes put entries into a list, on one thread and on two.
 ghost use Rattle.std.specs.Prelude.{◌≡◌, ◌+◌, ◌<◌, ◌^◌, ℕ, [], ◌∷◌, ◌++◌, length, Some, IfOk, IfSome};
 ghost use Rattle.turn_lock.specs.Passes.{lock_id, view_of, pass_lock, turn_view, turn_lock_of, begun_at};
 ghost use Rattle.turn_lock.specs.Turns.{IsSamePass, ShowsEach};
@@ -34,7 +34,7 @@ impl Kept for Log {
     }
 }
 
-// Puts an entry, or hands the turn back where there is no memory.
+// Puts an entry, or gives the turn back where memory ran out.
 fn put_entry(
     lock: &TurnLock<Log>,
     mut turn: Turn<Log>,
@@ -55,7 +55,7 @@ fn put_entry(
     Ok(lock.put(turn))
 }
 
-// Puts the entries with the numbers from `start` to below `end`.
+// Puts the entries with the numbers from `start` up to but not including `end`.
 fn put_many<R: Wait>(
     rt: &R,
     lock: &TurnLock<Log>,
@@ -101,7 +101,7 @@ fn put_in_threads<R: Threads + Wait + Sync>(
     Ok((first?, second?))
 }
 
-// The log of both passes.
+// Joins both passes, closes the lock, and returns its log.
 fn close_both(lock: TurnLock<Log>, first: Pass<Log>, second: Pass<Log>) -> Log
     requires own { (pass_lock first ≡ lock_id lock) × (pass_lock second ≡ lock_id lock) }
     requires first { ((view_of first).number ≡ 0) × ((view_of first).made ≡ 1) }
@@ -112,7 +112,7 @@ fn close_both(lock: TurnLock<Log>, first: Pass<Log>, second: Pass<Log>) -> Log
     lock.close(last)
 }
 
-// How many entries bear the number, where theirs are 0, 1 and so on in the order in which they stand.
+// How many entries the pass with this number has put; 0 where their numbers are not 0, 1 and so on, in the order of the log.
 fn count_in_order(log: &Log, by: u32) -> u64 {
     let mut count = 0;
     for entry in log.entries.as_slice() {
@@ -139,7 +139,8 @@ fn open_two(alloc: Global) -> Result<(TurnLock<Log>, Pass<Log>, Pass<Log>), OutO
     Ok((lock, first, second))
 }
 
-// While the first pass has the turn the second's try is lost. Then its try is won, and shows the entry that the first put.
+// While the first pass has the turn, a try of the second pass is lost. Then its try is won, and shows the entry that the first has
+// put.
 fn lost_then_won(
     lock: &TurnLock<Log>,
     first: Pass<Log>,

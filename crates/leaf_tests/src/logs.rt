@@ -1,4 +1,4 @@
-//! Every call of a log once.
+//! Every call of a query log, at least once.
 use query_log::QueryLog;
 use std::test::Fail;
 

@@ -1,4 +1,4 @@
-//! Every call once.
+//! Every call of the rules for queries, at least once.
 ghost use Rattle.std.specs.Prelude.{◌≡◌};
 
 use event_graph::{Access, Candidate, Graph, Kind};
@@ -7,7 +7,7 @@ use flow_word::List;
 use query_resolve::{Decision, decide, earliest, late};
 use std::test::Fail;
 
-/// Whether a source has the n-th input.
+/// An access that asks whether a source has the input with this ordinal, counted from 1.
 fn nth_input(ordinal: u64) -> Access
     ensures { result ≡ record { kind = Kind.TryRead; channel = 0; ordinal = ordinal; value = 0 } }
 {

@@ -1,4 +1,4 @@
-//! The first touched clock of a small graph.
+//! The first clock of a small graph that an edit touches.
 ghost use Rattle.std.specs.Prelude.{◌≡◌};
 
 use event_graph::{Accesses, Graph, Place, Step};
@@ -12,7 +12,7 @@ use std::process::Abort;
 use std::sync::ledger::{Blank, Ledger};
 use std::test::Fail;
 
-/// A FIFO with one place holds one element from the clock behind its first push on.
+/// A FIFO of depth one holds one element from the clock after its first push on.
 fn holds_one<L: Ledger, R: Abort>(rt: &R, alloc: Global, blank: Blank) -> Result<(), OutOfMemory>
     requires name { blank.name ≡ L.name }
     requires parts { blank.parts ≡ L.parts }

@@ -1,4 +1,4 @@
-//! Room for a module's steps.
+//! Tests of the room for a module's steps.
 use engine_view::Engine;
 use event_graph::Graph;
 use fifo_table::{FifoTable, TableChannel};

@@ -1,4 +1,4 @@
-//! Every call of a table once.
+//! Every call of a FIFO table, at least once.
 use fifo_table::{Enabler, FifoTable, TableChannel};
 use flow_word::{List, Place, Side};
 use std::test::Fail;

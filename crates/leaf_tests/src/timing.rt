@@ -1,4 +1,4 @@
-//! Every call once.
+//! Every call of the timing of steps, at least once.
 ghost use Rattle.std.specs.Prelude.{◌≡◌};
 
 use event_graph::{Access, Accesses, Graph, Kind, Step};
@@ -11,7 +11,7 @@ use std::sync::ledger::{Blank, Ledger};
 use std::test::Fail;
 use time_engine::{Candidate, assign, candidate};
 
-/// A step that reads a source's only input is done when its module comes to it, two clocks after the start.
+/// A step that reads the only input of a source is done when its module comes to it, two clocks after the start.
 fn reads_an_input<L: Ledger, R: Abort>(
     rt: &R,
     alloc: Global,

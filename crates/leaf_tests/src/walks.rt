@@ -12,7 +12,7 @@ use std::sync::ledger::{Blank, Ledger};
 use std::test::Fail;
 use step_walk::StepWalk;
 
-/// A step that is done in a clock.
+/// The step of a module with this number, done in this clock, as a walk gives it.
 fn done_in(cycle: u64, module: u32, step: u64) -> Option<TimedStep> {
     Some(TimedStep {
         cycle,
@@ -21,7 +21,7 @@ fn done_in(cycle: u64, module: u32, step: u64) -> Option<TimedStep> {
     })
 }
 
-/// A graph of two modules: the first makes steps in clocks 3 and 9, and the second one in clock 3 and one that has no cycle.
+/// A graph of two modules: the first makes steps in clocks 3 and 9, the second one step in clock 3 and one without a cycle.
 fn goes_in_order<L: Ledger, R: Abort>(
     rt: &R,
     alloc: Global,

@@ -48,7 +48,7 @@ lowered p clock zero = untouched p
 lowered p clock (suc n) =
     if is_fifo (kind_at p n) then with_found (lowered p clock n) n (least_for (lowered p clock n).plan clock n) else lowered p clock n
 
--- with no lower depths is the plan done in this clock or earlier
+-- there are no lower depths with which the plan is done in this clock or earlier
 abbrev pub AreLeast : Plan → ℕ → List ℕ → Type 0
 AreLeast p clock depths = (lower : List ℕ) → AreDepths p lower → AreDeeper p lower depths → IsDoneBy clock (verdict (with_depths p lower))
     → lower ≡ depths

@@ -23,7 +23,6 @@ use std::thread::Threads;
 /// It edits the plan only to depths of which it does not know already whether they are in time. The latest clocks are those of the
 /// plan with its depths from before. It calls the runner at most once for each depth that halving tries, and once more for each
 /// channel. After `OutOfMemory` some of the depths are lowered.
-/// session with some of the depths.
 pub(crate) fn lower_all<R: Threads + Wait + Sync, U: Runner>(
     rt: &R,
     alloc: Global,

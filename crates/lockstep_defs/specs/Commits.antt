@@ -14,7 +14,7 @@ abbrev pub writes_register : ℕ → Effect → Bool
 writes_register x (Variable i y v) = y == x
 writes_register x (Word n a v) = false
 
--- the effect writes temp t of iteration i, where the module has so many registers
+-- the effect writes temp t of iteration i, where the module has this many registers
 abbrev pub writes_temp : ℕ → ℕ → ℕ → Effect → Bool
 writes_temp registers i t (Variable j y v) = (j == i) && (y == registers + t)
 writes_temp registers i t (Word n a v) = false

@@ -9,7 +9,8 @@ use Rattle.flow_design.specs.Module.{block_of, is_loop, interval, live_count, te
 use Rattle.lockstep_defs.specs.Machine.{memory_of}
 use Rattle.lockstep_defs.specs.Quiet.{goes_on}
 
--- the state has a value for each of the module's registers and memory words, and for each temp of so many iterations of the block
+-- the state has a value for each of the module's registers and memory words, and for each temp of `iterations` iterations of the
+-- block
 pub record HasPlaces (m : Module) (b : Block) (iterations : ℕ) (s : ModuleState) : Type 0 where
   pub registers : length s.registers ≡ length m.registers
   pub memories : length s.memories ≡ length m.memories

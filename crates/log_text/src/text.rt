@@ -25,7 +25,6 @@ use step_walk::StepWalk;
 ///
 /// It takes memory for two numbers for each module, for what the accesses of one step gave, and for a piece of the text. After a
 /// fault a prefix of the text is written.
-/// prefix of the text is written.
 #[tactic(auto, using(sim_io::proofs::Pending::prefix_none))]
 pub fn log_text<K: Sink>(alloc: Global, core: &Core, sink: &mut K) -> Result<List<u8>, TellFault>
     requires { IsFinal (design_of core.now.plan) core.now.plan.cycles (theory_of core.now) }

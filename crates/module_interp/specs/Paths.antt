@@ -25,7 +25,8 @@ use Rattle.module_interp.specs.declared.tally.Tally.{Tally}
 
 -- ---- how long a module can run
 
--- a bound for how many local clocks a block can go on after its last iteration started, where a module may count so many operations
+-- a bound for how many local clocks a block can go on after its last iteration started, where a module may count this many
+-- operations
 abbrev pub block_bound : ℕ → ℕ
 block_bound operations = 2 * longest_block operations + 2
 
@@ -137,7 +138,7 @@ pub record IsAtEnd (x : Path) : Type 0 where
 
 -- ---- what was done
 
--- the tally has the counts of these operations, on so many channels
+-- the tally has the counts of these operations, on `channels` channels
 pub record IsTallyOf (channels : ℕ) (before : List Exchange) (t : Tally) : Type 0 where
   pub popped_count : length t.popped ≡ channels
   pub pushed_count : length t.pushed ≡ channels

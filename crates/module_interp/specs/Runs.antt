@@ -62,7 +62,7 @@ IsSmall (Step s) = IsSmallStep s
 IsSmall (Ended gap) = Unit {0}
 IsSmall (Spent gap) = Unit {0}
 
--- a mark after so many steps has numbers in range, and a gap that is short, and at least 1 where there was a step
+-- a mark after `steps` steps has numbers in range, and a gap that is short, and at least 1 where there was a step
 pub record IsSoundMark (steps : ℕ) (mark : Advance) : Type 0 where
   pub small : IsSmall mark
   pub short : gap_of mark < 10 ^ 18

@@ -13,7 +13,7 @@ use flow_word::{List, OutOfMemory, TryCopy};
 use module_move::open;
 use std::alloc::Global;
 
-/// The path of a module of a plan, at local clock 0 of the module's first block.
+/// The path of a module of a plan, at local clock 0 of the module's first block. `OutOfMemory` where memory ran out.
 pub fn first_path(alloc: Global, plan: &Plan, number: u32) -> Result<Path, OutOfMemory>
     requires fits { FitsEngine plan.now }
     requires owner { number < length plan.now.design.modules }
@@ -38,6 +38,7 @@ pub fn first_path(alloc: Global, plan: &Plan, number: u32) -> Result<Path, OutOf
 }
 
 /// Puts the path back to local clock 0 of the module's first block. Its code, and what else does not depend on the clock, stays.
+/// `OutOfMemory` where memory ran out.
 pub fn go_to_start(alloc: Global, path: &mut Path) -> Result<(), OutOfMemory>
     requires path { IsPath path.old }
     ensures leads { OnOk result ((p : PlanOf) (i : ℕ) → IsPathOf p i path.old → LeadsTo p i (first_rest p i) path.new) }

@@ -32,7 +32,7 @@ impl Path {
         Ok(())
     }
 
-    /// Does what is left of the move, and one part of the way to the rest. Whether the path is at the rest.
+    /// Does what is left of the move, and one part of the way to the rest. Returns whether the path is at the rest.
     #[inline(always)]
     fn go_a_way(&mut self) -> Result<bool, OutOfMemory>
         requires path { IsPath self.old }

@@ -28,7 +28,7 @@ const MOST: u64 = 0x1_0000_0000;
 /// Contracts see the rest at which the run stands, its next step or its end, and whether that step waits for replies. They do not
 /// see how much of the way to the rest is done.
 pub struct ModuleRun {
-    /// On the heap, since a run is moved out of its core and back at each turn.
+    /// The path of the run. It is on the heap, since a run is moved out of its core and back at each turn.
     path: Box<Path>,
     tally: Tally,
     /// The accesses of the step that was listed last.
@@ -46,7 +46,7 @@ impl Drop for ModuleRun {
 }
 
 impl ModuleRun {
-    /// The run of a module of a plan, at the module's first rest. It owns a copy of the module.
+    /// The run of a module of a plan, at the module's first rest. It owns a copy of the module. `OutOfMemory` where memory ran out.
     pub fn new(alloc: Global, plan: &Plan, number: u32) -> Result<ModuleRun, OutOfMemory>
         requires fits { FitsEngine plan.now }
         requires owner { number < length plan.now.design.modules }
@@ -169,7 +169,7 @@ impl ModuleRun {
 
     /// Runs to the next rest, and gives no mark. The answer is whether the rest is a step of one access or two whose numbers fit 32
     /// bits: that step then waits for replies, and `gap`, `listed` and `queries` tell it. Any other mark is still to be given, by
-    /// `give`.
+    /// `give`. `OutOfMemory` where memory ran out.
     #[inline(always)]
     pub fn advance_few(&mut self) -> Result<bool, OutOfMemory>
         requires stands { (p : PlanOf) × ((i : ℕ) × ((o : Own) × StandsAt p i o self.old)) }
@@ -218,7 +218,8 @@ impl ModuleRun {
             && self.path.since < MOST
     }
 
-    /// Gives the mark of the rest at which the run stands: a step, which then waits for replies, or the end.
+    /// Gives the mark of the rest at which the run stands: a step, which then waits for replies, or the end. `OutOfMemory` where memory
+    /// ran out.
     #[inline(never)]
     pub fn give(&mut self) -> Result<Advance, OutOfMemory>
         requires stands { (p : PlanOf) × ((i : ℕ) × ((o : Own) × StandsAt p i o self.old)) }

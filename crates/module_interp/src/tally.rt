@@ -23,7 +23,7 @@ pub struct Tally {
 }
 
 impl Tally {
-    /// The counts before any step, for a plan with so many channels.
+    /// The counts before any step, for a plan with `channels` channels. `OutOfMemory` where memory ran out.
     pub fn new(alloc: Global, channels: u64) -> Result<Tally, OutOfMemory>
         ensures { IfOk result (λ tally. IsTallyOf channels [] tally) }
     {

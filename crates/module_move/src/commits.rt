@@ -56,7 +56,7 @@ fn carry_out_next(
     answered_after(replies, answered)
 }
 
-/// The reply with this number. Where there are not so many, it is the reply to a write.
+/// The reply with this number. Where the list is too short, it is the reply to a write.
 #[inline(always)]
 fn reply_at(replies: &[Reply], at: usize) -> Reply
     ensures { result ≡ slice_index_or replies.now at Reply.Done }

@@ -32,7 +32,6 @@ pub fn commit(code: &BlockCode, state: &mut ModuleState, noted: &[Noted], replie
 /// decides, and the block may end.
 ///
 /// After `OutOfMemory` the state may be anything.
-/// After want of memory the state may be anything.
 #[inline(always)]
 pub fn make_move(
     alloc: Global,

@@ -16,9 +16,9 @@ use flow_design::{Due, Module, ModuleState, Request};
 use flow_expr::variable;
 use flow_word::{List, OutOfMemory, Words};
 
-/// Fills `noted` with the notes of the due operations, and `asked` with the requests of the FIFO operations among them, both in
-/// commit order. The code is that of the block in which the module stands. What the two lists held before is lost. `scratch` is
-/// memory that is used again: its words mean nothing.
+/// Fills `noted` with the notes of the due operations, and `asked` with the requests of the FIFO operations among them, both in commit
+/// order. The code is that of the block in which the module stands. What the two lists held before is lost. `scratch` is memory that is
+/// used again: its words mean nothing. After `OutOfMemory` the lists may have only some of these.
 pub fn note(
     of: &Module,
     code: &BlockCode,

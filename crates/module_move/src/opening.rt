@@ -9,7 +9,8 @@ use flow_design::{BlockKind, Control, LiveTemps, Memory, Module, ModuleState};
 use flow_word::{List, OutOfMemory, Words};
 use std::alloc::Global;
 
-/// The first state of a module: local clock 0 of its first block, with all registers and memory words 0.
+/// The first state of a module: local clock 0 of its first block, with all registers and memory words 0. `OutOfMemory` where memory ran
+/// out.
 pub fn open(alloc: Global, of: &Module) -> Result<ModuleState, OutOfMemory>
     requires { (channels : ℕ) × IsModuleSound channels of.now }
     ensures state { IfOk result (λ state. state ≡ opened of.now) }

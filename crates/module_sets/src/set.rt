@@ -25,7 +25,7 @@ impl Model for ModuleSet {
 }
 
 impl ModuleSet {
-    /// An empty set with room for `count` modules or more.
+    /// An empty set with room for `count` modules or more. `OutOfMemory` where memory ran out.
     pub fn new(alloc: Global, count: u32) -> Result<ModuleSet, OutOfMemory>
         ensures room { IfOk result (λ set. count ≤ capacity set) }
         ensures empty { IfOk result (λ set. (n : ℕ) → Has set n → ⊥) }
@@ -131,7 +131,7 @@ impl ModuleSet {
         None
     }
 
-    /// The modules of the set as masks, one for each word that is not empty, in order.
+    /// The modules of the set as masks, one for each word that is not empty, in order. `OutOfMemory` where memory ran out.
     pub fn masks(&self, alloc: Global) -> Result<List<Mask>, OutOfMemory>
         ensures { IfOk result (λ masks. (n : ℕ) → HasMask masks n ↔ Has self.now n) }
     {

@@ -49,7 +49,7 @@ abbrev pub is_known : Tables → Part → Bool
 is_known t (Use sort name) = is_among (named t sort) name
 is_known t part = true
 
--- with this statement the limits allow as many of its kind
+-- the limits allow one more statement like this
 abbrev pub has_room : Tables → Statement → Bool
 has_room t (Source n w) = nat_lt (length t.channels) t.limits.channels
 has_room t (Sink n w) = nat_lt (length t.channels) t.limits.channels

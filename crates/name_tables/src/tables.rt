@@ -186,7 +186,7 @@ impl<'a> Tables<'a> {
         Ok(())
     }
 
-    /// Adds a memory of so many words. After `OutOfMemory` the tables are as they were.
+    /// Adds a memory of `words` words. After `OutOfMemory` the tables are as they were.
     #[tactic(auto, using(crate::proofs::NameLemmas::absent_append))]
     pub fn add_memory(&mut self, name: &'a [u8], words: u64) -> Result<(), OutOfMemory>
         requires new { is_among (tests.taken self.old RegisterName) name.now ≡ false }
@@ -234,7 +234,7 @@ impl<'a> Tables<'a> {
         self.place = Place::AmongOperations;
     }
 
-    /// Adds an input of so many values. After `OutOfMemory` the tables are as they were.
+    /// Adds an input of `count` values. After `OutOfMemory` the tables are as they were.
     pub fn add_input(&mut self, name: &'a [u8], count: u64) -> Result<(), OutOfMemory>
         requires new { is_among self.old.inputs name.now ≡ false }
         requires room { self.old.input_values + count < 2 ^ 64 }

@@ -41,7 +41,7 @@ abbrev pub free_with : List Channel → List ℕ → Side → ℕ → ℕ
 free_with channels depths side c = if same_side side Push then slice_index depths c else free_of (channel_at channels c).kind side
 
 -- with these depths the access waits for a pop or a push in the step at this place, or in a later one of its module, and becomes
--- possible so many clocks after it
+-- possible `lag` clocks after it
 pub record WaitsFor (channels : List Channel) (depths : List ℕ) (a : Access) (place : Place) (lag : ℕ) : Type 0 where
   pub blocks : is_blocking a.kind ≡ true
   pub fifo : IsFifo (channel_at channels a.channel).kind
@@ -72,7 +72,7 @@ pub record IsTimed (lanes : List Lane) (place : Place) : Type 0 where
   pub step : place.step < length (lane_at lanes place.module).steps
   pub timed : place.step < length (lane_at lanes place.module).cycles
 
--- with these depths the step at `to` is done at least so many clocks after the step at `from`, or never
+-- with these depths the step at `to` is done at least `clocks` clocks after the step at `from`, or never
 pub record ComesAfter (p : Plan) (h : Held) (depths : List ℕ) (from to : Place) (clocks : ℕ) : Type 0 where
   pub path : ℕ
   pub long : clocks ≤ path
@@ -88,7 +88,7 @@ Adds p h depths before next more =
 abbrev pub place_at : List Place → ℕ → Place
 place_at path k = slice_index_or path k (record { «module» = 0; step = 0 })
 
--- the first n places of the path name steps, each of which waits for the one before it, so that the last comes at least so many
+-- the first n places of the path name steps, each of which waits for the one before it, so that the last comes at least `clocks`
 -- clocks after the first
 pub record IsAlong (engine : Engine) (depths : List ℕ) (path : List Place) (n clocks : ℕ) : Type 0 where
   pub some : 1 ≤ n

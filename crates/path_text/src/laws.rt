@@ -9,10 +9,10 @@ ghost use Rattle.depth_order.specs.Sums.{IsEnd, MovesLast, NoneMoves};
 ghost use Rattle.path_text.specs.PathText.{path_text};
 ghost use Rattle.path_text.specs.Sums.{crossed_clocks, spent_clocks, told_clocks};
 
-/// Three sums of clocks add up to the last clock in which a module moves, plus one, or to 0 where no module moves: the clocks of
-/// the lines `spend`; for each line `cross empty`, its number times the FIFO's delay less 1; and the clocks of waiting of the lines
-/// `poll empty`. This holds for each verdict. The sum is the verdict's clock, unless the verdict is the cycle limit. If polls are
-/// not asked for, nothing waits.
+/// The text accounts for each clock up to the last one in which a module moves, whatever the verdict is. Three sums make up that
+/// clock plus one, or 0 where no module moves: the clocks of the lines `spend`; over the lines `cross empty`, the number of each
+/// times its FIFO's delay less 1; and the clocks of waiting of the lines `poll empty`. They make up the verdict's clock, unless the
+/// verdict is the cycle limit. If polls are not asked for, nothing waits.
 pub fn numbers_add_up()
     ensures last_move { (p : Plan) → FitsEngine p → (polls : Bool) (t : ℕ) → MovesLast p (clock_of (verdict p)) t
         → told_clocks polls p ≡ suc t }

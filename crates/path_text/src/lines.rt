@@ -24,8 +24,8 @@ fn print_spent(text: &mut List<u8>, name: &[u8], clocks: u64) -> Result<(), OutO
     text.push(b'\n')
 }
 
-/// Adds the line of a channel that the chain crosses so many times at this side, if the number is not 0. After `OutOfMemory` the
-/// text may have part of it.
+/// Adds the line of a channel that the chain crosses at this side, with how often it does, if it does. After `OutOfMemory` the text
+/// may have part of it.
 fn print_crossed(
     text: &mut List<u8>,
     side: Side,
@@ -70,9 +70,9 @@ pub(crate) fn print_modules(
     Ok(())
 }
 
-/// Adds the lines of each channel, by four lists with one entry per channel: how often the chain crosses it where a module could
-/// not pop, and where one could not push; how often it goes back to a push there that was polled for; and how many clocks the
-/// elements polled for waited. After `OutOfMemory` the text may have some of them.
+/// Adds the lines of each channel. The lists have one entry per channel: how often the chain crosses it where a module could not
+/// pop, and where one could not push; how often the chain goes back to a push there that was polled for; and how many clocks the
+/// elements that were polled for waited. After `OutOfMemory` the text may have some of the lines.
 pub(crate) fn print_channels(
     text: &mut List<u8>,
     design: &Design,

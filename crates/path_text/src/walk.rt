@@ -38,7 +38,6 @@ pub struct At {
 /// It takes memory for the links, for two numbers of each channel, and with a log for the clocks in which each element moved and
 /// for the queries that found an element. It looks at each access once, at each such query at most once, and for each link at a few
 /// spans. `OutOfMemory` where memory ran out.
-/// error leaves nothing.
 pub fn find_path(
     alloc: Global,
     plan: &Plan,

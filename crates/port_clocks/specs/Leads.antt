@@ -6,7 +6,7 @@ use Rattle.std.specs.List.{range_with_len}
 abbrev pub before : List ℕ → ℕ → ℕ
 before xs c = count_by (λ x. nat_lt x c) xs
 
--- the first list is ahead of the second by at least `margin` in clock c: at least so many more of its clocks are before c
+-- the first list is ahead of the second by at least `margin` in clock c: at least that many more of its clocks are before c
 abbrev pub is_ahead : ℕ → List ℕ → List ℕ → ℕ → Bool
 is_ahead margin xs ys c = nat_le (before ys c + margin) (before xs c)
 

@@ -3,8 +3,8 @@ ghost use Rattle.std.specs.Prelude.{◌≡◌, ◌+◌, ◌-◌, ◌<◌, ◌≤
 ghost use Rattle.std.specs.Prelude.{AllPairs};
 ghost use Rattle.port_clocks.specs.Leads as counts;
 
-/// In how many clocks below `clock` the first list is ahead of the second by at least `margin`: at least so many more of its clocks
-/// are before that clock.
+/// In how many clocks below `clock` the first list is ahead of the second by at least `margin`: at least that many more of its
+/// clocks are before that clock.
 ///
 /// It looks at each clock of the second list once, and each time at one of the first. It takes no memory.
 pub fn ahead_clocks(first: &[u64], second: &[u64], margin: u64, clock: u64) -> u64
@@ -38,7 +38,7 @@ fn clocks_after(clocks: &[u64], at: u64, from: u64, until: u64) -> u64
     }
 }
 
-/// By how many the first list is ahead of the second at most: in some clock so many more of its clocks are before that clock, and
+/// By how many the first list is ahead of the second at most: in some clock that many more of its clocks are before that clock, and
 /// in no clock more.
 ///
 /// It looks at each clock of the first list once, and each time at one of the second. It takes no memory.

@@ -14,7 +14,7 @@ use std::alloc::Global;
 /// The clocks in which elements pass a port of a final core's plan, in order: one clock for each element that is popped, or pushed,
 /// there.
 ///
-/// It looks once at each step that uses the port, and takes memory for the clocks.
+/// It looks once at each step that uses the port, and takes memory for the clocks. `OutOfMemory` where memory ran out.
 pub fn clocks_at(alloc: Global, core: &Core, port: Port) -> Result<Words, OutOfMemory>
     requires is_final { IsFinal (design core.now.plan) core.now.plan.cycles (theory_of core.now) }
     requires channel { port.channel < length core.now.plan.design.channels }
@@ -26,7 +26,7 @@ pub fn clocks_at(alloc: Global, core: &Core, port: Port) -> Result<Words, OutOfM
 
 /// The clocks in which a module moves elements at a port of a final core's plan, in order; none where the port is another module's.
 ///
-/// It looks at most once at each step that uses the port, and takes memory for the clocks.
+/// It looks at most once at each step that uses the port, and takes memory for the clocks. `OutOfMemory` where memory ran out.
 pub fn own_clocks(alloc: Global, core: &Core, owner: u32, port: Port) -> Result<Words, OutOfMemory>
     requires is_final { IsFinal (design core.now.plan) core.now.plan.cycles (theory_of core.now) }
     requires channel { port.channel < length core.now.plan.design.channels }

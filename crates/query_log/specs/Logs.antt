@@ -44,7 +44,7 @@ all_answered log more = record { outcomes = log.outcomes ++ more; verified = len
 abbrev pub with_outcomes : List Log → ℕ → List Bool → List Log
 with_outcomes logs owner more = slice_set logs owner (all_answered (log_at logs owner) more)
 
--- the logs with so many verified outcomes of a module
+-- the logs with this many verified outcomes of a module
 abbrev pub with_verified : List Log → ℕ → ℕ → List Log
 with_verified logs owner verified = slice_set logs owner (record (log_at logs owner) { verified = verified })
 

@@ -32,7 +32,7 @@ impl Model for QueryLog {
 }
 
 impl QueryLog {
-    /// A log without an outcome for each of `modules` modules.
+    /// A log without an outcome for each of `modules` modules. `OutOfMemory` where memory ran out.
     pub fn new(alloc: Global, modules: u32) -> Result<QueryLog, OutOfMemory>
         ensures { IfOk result (λ log. log.logs ≡ replicate modules no_log) }
     {

@@ -26,7 +26,7 @@ timed_queries lanes m = queries_before (only_lanes lanes) m (length (lane_at lan
 abbrev pub assumed : List Lane → ℕ → Log → Log
 assumed lanes m log = record log { verified = min (timed_queries lanes m) log.verified }
 
--- the outcomes of steps without a cycle are assumed in the first so many modules, and the other logs are as they were
+-- in the first `many` modules the outcomes of steps without a cycle are assumed, and the other logs are as they were
 pub record AreAssumed (lanes : List Lane) (old now : List Log) (many : ℕ) : Type 0 where
   pub count : length now ≡ length old
   pub done : (m : ℕ) → m < many → log_at now m ≡ assumed lanes m (log_at old m)

@@ -24,8 +24,8 @@ values_on mail c = slice_index_or mail.values c []
 abbrev pub next_value : Mail → List ℕ → ℕ → Option ℕ
 next_value mail taken c = slice_get (values_on mail c) (slice_index_or taken c 0)
 
--- the replies to a step's accesses, from a mail of which so many outcomes and so many values of each channel were taken before the
--- step; none where one of them is not in the mail
+-- the replies to a step's accesses, after this many outcomes and this many values of each channel were taken from the mail; none
+-- where one of them is not in the mail
 abbrev pub replies_in : Mail → ℕ → List ℕ → List Access → Option (List Reply)
 replies_in mail told taken accesses = replies_from mail.outcomes (λ a. next_value mail taken a.channel) told accesses
 
@@ -43,7 +43,7 @@ taken_after taken (a ∷ as') (r ∷ rs) = taken_after (cond (has_value r) (one_
 abbrev pub none_taken : Mail → List ℕ
 none_taken mail = replicate (length mail.values) 0
 
--- what is left of a mail after so many values of each channel were taken: the values after these, and all its outcomes
+-- what is left of a mail after this many values of each channel were taken: the values after these, and all its outcomes
 pub record IsLeft (mail : Mail) (taken : List ℕ) (left : Mail) : Type 0 where
   pub outcomes : left.outcomes ≡ mail.outcomes
   pub count : length left.values ≡ length mail.values

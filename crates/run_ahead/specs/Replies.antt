@@ -21,13 +21,13 @@ reply_now TryWrite outcome value = option_map Flag outcome
 reply_now Empty outcome value = option_map Flag outcome
 reply_now Full outcome value = option_map Flag outcome
 
--- a reply in front of others, if all of them are there
+-- a reply and the others after it, if all of them are there
 abbrev pub put_first : Option Reply → Option (List Reply) → Option (List Reply)
 put_first None rest = None
 put_first (Some r) None = None
 put_first (Some r) (Some rs) = Some (r ∷ rs)
 
--- these replies in front of others, if the others are there
+-- these replies and the others after them, if the others are there
 abbrev pub put_before : List Reply → Option (List Reply) → Option (List Reply)
 put_before rs None = None
 put_before rs (Some qs) = Some (rs ++ qs)
@@ -36,8 +36,8 @@ put_before rs (Some qs) = Some (rs ++ qs)
 abbrev pub told_by : Kind → ℕ → ℕ
 told_by kind told = cond (is_blocking kind) told (suc told)
 
--- the replies to a step's accesses, where so many of the outcomes belong to earlier steps, and each pop has this value; none where
--- one of them is not there
+-- the replies to a step's accesses, given the outcomes, of which the first ones belong to earlier steps, and the value that each
+-- pop gives; none where one of them is not there
 abbrev pub replies_from : List Bool → (Access → Option ℕ) → ℕ → List Access → Option (List Reply)
 replies_from outcomes value told [] = Some []
 replies_from outcomes value told (a ∷ as') =

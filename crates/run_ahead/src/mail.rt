@@ -97,8 +97,8 @@ fn take_values(mail: &mut Mail, accesses: &[Access], replies: &[Reply])
     }
 }
 
-/// Gives the run the replies of its mail to the step that waits, and takes the values that they use off the mail. Whether all
-/// replies are in the mail: where one is missing, or after `OutOfMemory`, the run and the mail stay as they were.
+/// Gives the run the replies of its mail to the step that waits, and takes the values that they use off the mail. Returns whether
+/// all replies are in the mail. Where one is missing, or after `OutOfMemory`, the run and the mail stay as they were.
 fn answer(
     run: &mut ModuleRun,
     mail: &mut Mail,
@@ -145,8 +145,8 @@ fn put(marks: &mut List<Advance>, at: u64, mark: Advance)
     marks.as_mut_slice()[at as usize] = mark;
 }
 
-/// Adds the run's next mark to the list. Whether it is a step, which then waits for replies. The place in the list is made first,
-/// so that no mark is lost.
+/// Adds the run's next mark to the list. Returns whether it is a step, which then waits for replies. The place in the list is made
+/// first, so that no mark is lost.
 fn emit(run: &mut ModuleRun, marks: &mut List<Advance>) -> Result<bool, OutOfMemory>
     requires stands { StandsSomewhere run.old }
     requires goes { waits run.old ≡ false }
@@ -170,7 +170,8 @@ fn emit(run: &mut ModuleRun, marks: &mut List<Advance>) -> Result<bool, OutOfMem
     }
 }
 
-/// Runs on from a rest, as far as the mail goes. `told` counts the outcomes of the mail that were read. Whether memory ran out.
+/// Runs on from a rest, as far as the mail goes. `told` counts the outcomes of the mail that were read. Returns whether memory ran
+/// out.
 fn go_on(
     run: &mut ModuleRun,
     mail: &mut Mail,
@@ -201,8 +202,8 @@ fn go_on(
     true
 }
 
-/// Runs as far as the mail goes, from a rest or from a step that waits, and takes the values that it uses off the mail. Whether
-/// memory ran out.
+/// Runs as far as the mail goes, from a rest or from a step that waits, and takes the values that it uses off the mail. Returns
+/// whether memory ran out.
 fn begin(alloc: Global, run: &mut ModuleRun, mail: &mut Mail, marks: &mut List<Advance>) -> bool
     requires stands { StandsSomewhere run.old }
     requires none { marks.old ≡ [] }

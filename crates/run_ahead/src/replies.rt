@@ -65,7 +65,8 @@ fn reply_at<V: Values>(outcomes: &[bool], values: &V, number: u64, access: &Acce
 }
 
 /// Fills the list with the replies to a step's accesses, in place of what it held. The given number is how many outcomes belong to
-/// earlier steps; the answer is how many belong to these and this step. `None` where a reply is not there.
+/// earlier steps; the answer is how many belong to these and this step. `None` where a reply is not there. `OutOfMemory` where memory
+/// ran out.
 pub fn find_replies<V: Values>(
     outcomes: &[bool],
     values: &V,
@@ -92,7 +93,7 @@ pub fn find_replies<V: Values>(
     Ok(Some(next))
 }
 
-/// The number of the first of a step's accesses whose reply is not there, where so many outcomes belong to earlier steps.
+/// The number of the first of a step's accesses whose reply is not there. The first `told` outcomes belong to earlier steps.
 pub fn first_missing<V: Values>(
     outcomes: &[bool],
     values: &V,

@@ -74,8 +74,8 @@ impl Bell {
         }
     }
 
-    /// Waits until the bell has rung for news that its thread waits for. Whether it had to wait. At first it stays awake, so that
-    /// news that come at once cost no sleep.
+    /// Waits until the bell has rung for news that its thread waits for. Returns whether it had to wait. At first it stays awake,
+    /// so that news that come at once cost no sleep.
     fn wait<R: Wait>(&self, rt: &R, parker: &Parker) -> bool {
         if self.calls() {
             return false;
@@ -138,7 +138,8 @@ fn readers_of(alloc: Global, core: &Core, owner: u32) -> Result<Vec<u32>, OutOfM
 }
 
 impl Bells {
-    /// The caller's bell, with no bell of a module of the core's plan yet, and the parker on which the caller sleeps.
+    /// The caller's bell, with no bell of a module of the core's plan yet, and the parker on which the caller sleeps. `OutOfMemory`
+    /// where memory ran out.
     pub fn new(alloc: Global, core: &Core) -> Result<(Bells, Parker), OutOfMemory> {
         let (caller, parker) = Bell::new(alloc)?;
         let mut readers = Vec::new(alloc);
@@ -157,7 +158,7 @@ impl Bells {
         Ok((bells, parker))
     }
 
-    /// Adds the bell of the next module, and answers the parker on which its thread sleeps.
+    /// Adds the bell of the next module, and answers the parker on which its thread sleeps. `OutOfMemory` where memory ran out.
     pub fn add(&mut self, alloc: Global) -> Result<Parker, OutOfMemory> {
         let (bell, parker) = Bell::new(alloc)?;
         let place = Place {
@@ -218,7 +219,7 @@ impl Bells {
         }
     }
 
-    /// Lets a module's thread wait until its bell has rung. Whether it had to wait.
+    /// Lets a module's thread wait until its bell has rung. Returns whether it had to wait.
     pub fn wait<R: Wait>(&self, rt: &R, parker: &Parker, which: u32) -> bool {
         match self.modules.get(which as usize) {
             Some(place) => place.bell.wait(rt, parker),

@@ -15,10 +15,10 @@ use std::sync::Wait;
 /// A burst with fewer operations is light: it takes less time than waking a thread.
 const LIGHT_OPERATIONS: u64 = 1_000;
 
-/// After so many light bursts in a row, each of them after a wait, a thread hands its module over to the caller.
+/// How many light bursts in a row, each after a wait, a thread makes before it hands its module over to the caller.
 const LIGHT_BURSTS: u64 = 3;
 
-/// How many light bursts in a row a thread has made, each of them after a wait, once it has made one more burst of so many
+/// How many light bursts in a row, each after a wait, a thread has made once it has made one more burst, which had `operations`
 /// operations.
 fn light_bursts(before: u64, waited: bool, operations: u64) -> u64 {
     if waited && operations < LIGHT_OPERATIONS {
@@ -31,7 +31,7 @@ fn light_bursts(before: u64, waited: bool, operations: u64) -> u64 {
 /// What came of one try to drive a module.
 #[derive(Clone, Copy, Debug, PartialEq, Eq)]
 pub enum Went {
-    /// A desk was borrowed and returned. The module goes on after these news, and its burst had so many operations.
+    /// A desk was borrowed and returned. The module goes on after these news, and its burst had this many operations.
     Ran(Concern, u64),
     /// No Run of the module was permitted.
     Held,

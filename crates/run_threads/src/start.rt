@@ -39,7 +39,7 @@ pub enum Slot {
     Gone,
 }
 
-/// Makes a bell and a seat for each module.
+/// Makes a bell and a seat for each module. `OutOfMemory` where memory ran out.
 pub fn seat_all(
     alloc: Global,
     bells: &mut Bells,

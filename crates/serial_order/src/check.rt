@@ -97,9 +97,9 @@ fn first_fault(channels: u32, module: &Module) -> Option<Order>
 
 /// Whether a module is serial, or else the first rule that it breaks. It takes no memory.
 ///
-/// A module is serial where it has no query operation, where in each of its loops no operation with an offset of II or more
-/// writes the loop's register, and where in each of its loops for everything used the last offset of use minus the first is
-/// less than II, or equals II and no operation at the last offset writes it. Temps are not counted.
+/// A module is serial where it keeps three rules. It has no query operation. In each of its loops, no operation with an offset of
+/// II or more writes the loop's register. And in each of its loops, for everything that is used, the last offset of use minus the
+/// first is less than II; or it equals II, and no operation at the last offset writes the thing. Temps are not counted.
 ///
 /// A serial module does what it would do with the iterations of its loops one after another.
 pub fn check_order(design: &Design, module: u32) -> Order

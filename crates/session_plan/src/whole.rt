@@ -21,9 +21,10 @@ pub struct Checked {
     pub edits: List<Edit>,
 }
 
-/// The plan and the edits that these statements write. Channels, modules, blocks, registers and memories are numbered in order of
-/// their statements, and the temps of a body follow the module's registers. The number of a name that is not declared is the number
-/// of those that are, and so out of range. Where no statement limits the operations of a module, the scale does.
+/// The plan and the edits that these statements write. Channels, modules, blocks, registers and memories are numbered in order of their
+/// statements, and the temps of a body follow the module's registers. The number of a name that is not declared is the number of those
+/// that are, and so out of range. Where no statement limits the operations of a module, the scale does. `OutOfMemory` where memory ran
+/// out.
 #[tactic(auto, unfolding(crate::specs::Plans::edits_of))]
 pub fn elaborate(
     alloc: Global,

@@ -1,4 +1,4 @@
--- The blocks of the tests: each operation tests the one channel for empty.
+-- The blocks of the tests: each operation tests whether the only channel is empty.
 use Rattle.std.specs.Prelude.{ℕ, List, [], map, None}
 use Rattle.flow_design.specs.declared.expr.Op.TheVariants.{Empty}
 use Rattle.flow_design.specs.declared.design.BlockKind.{BlockKind}
@@ -6,7 +6,7 @@ use Rattle.flow_design.specs.declared.design.Next.TheVariants.{Stop}
 use Rattle.flow_design.specs.declared.design.Timed.{Timed}
 use Rattle.flow_design.specs.declared.design.Block.{Block}
 
--- the operation at an offset
+-- the operation at an offset, which tests the channel
 abbrev pub test_at : ℕ → Timed
 test_at offset = record { offset = offset; guard = None; op = Empty 0 0 }
 

@@ -1,4 +1,4 @@
-//! Lines of the command with their words.
+//! Command lines, and the commands that they are read as.
 use cli_words::{Asked, Command, Options, Simulator, Task, View, WordFault, read_words};
 use flow_design::limits::Scale;
 use std::alloc::Global;
@@ -11,24 +11,24 @@ const NOTHING: Options = Options {
     ops: None,
 };
 
-/// A task without `--large`.
+/// The command that asks for a task without `--large`.
 fn of(task: Task) -> Command {
     let scale = Scale::Standard;
     Command::Of(Asked { scale, task })
 }
 
-/// A task with `--large`.
+/// The command that asks for a task with `--large`.
 fn of_large(task: Task) -> Command {
     let scale = Scale::Large;
     Command::Of(Asked { scale, task })
 }
 
-/// `size` with so many clocks to spare.
+/// The command `size` with this slack, in clocks.
 fn size(slack: u64, options: Options) -> Command {
     of(Task::Size { slack, options })
 }
 
-/// Reads the words of a line, which stand between its single spaces.
+/// Reads a line as a command. Its words are separated by single spaces.
 fn read(alloc: Global, line: &str) -> Result<Result<Command, WordFault>, Fail> {
     let mut words = Vec::new(alloc);
     for word in line.split(' ') {

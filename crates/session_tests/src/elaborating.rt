@@ -1,4 +1,4 @@
-//! Inputs, depths and an edit; and a plan's copy.
+//! Inputs, depths and an edit in a plan, and a copy of a plan.
 use flow_design::limits::Scale;
 use flow_design::{Edit, copy_plan};
 use flow_text::read_session;

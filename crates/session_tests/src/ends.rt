@@ -1,4 +1,4 @@
-//! Sources and sinks, in memory and over std, and what reads and writes all.
+//! Sources and sinks, in memory and over std, and the functions that read and write all.
 use sim_io::{
     Failed, MemSink, MemSource, PutFault, Sink, Source, StdSink, StdSource, TakeFault, read_all,
     write_all_of,
@@ -56,7 +56,7 @@ fn writes_piece_after_piece(rt: HostRuntime) -> Result<(), Fail> {
     Ok(())
 }
 
-/// A line that has broken off: nothing comes from it, it takes nothing, and it cannot be flushed.
+/// A line that is broken: it gives no bytes, takes none, and cannot be flushed.
 #[derive(Drop)]
 struct Broken;
 

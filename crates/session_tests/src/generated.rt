@@ -2,7 +2,7 @@
 use flow_gen::generate;
 use std::test::Fail;
 
-/// The bytes from `input a` on: the numbers 0 to 999, each behind a space, and `end`.
+/// How many bytes a text has from `input a` on: the numbers 0 to 999, each after a space, and `end`.
 const END: u64 = 7 + (10 * 2 + 90 * 3 + 900 * 4) + 5;
 
 const ONE_MODULE: &[u8] = b"flow 1
@@ -52,7 +52,7 @@ at 1 write y + x + 233 e
 stop
 input a 0 1 2 3 4 5 6 7 8 9 10 11 ";
 
-/// How many of those bytes are of the input line.
+/// How many bytes of the input line, from `input a` on, the two texts above show.
 const SHOWN: u64 = 34;
 
 #[test]

@@ -1,5 +1,5 @@
-//! Tests of words, ends, command lines and schedules, and of the crates that read, print, check and run sessions. They stand in a
-//! crate of their own, since a crate is proved once more with its tests.
+//! Tests of words, ends, command lines and schedules, and of the crates that read, print, check and run sessions. They have a crate
+//! of their own, since a crate is proved once more with its tests.
 #![tactic(auto)]
 
 #[cfg(test)]

@@ -1,4 +1,4 @@
-//! A module of a session, run ahead of time on replies that are fed to it. What is expected was worked out from the clock rules.
+//! A module of a session, run ahead on replies that the test feeds to it. The expected steps were worked out from the clock rules.
 ghost use Rattle.std.specs.Prelude.{ℕ, ◌≡◌, ◌<◌, true, false, length, IfOk, OnOk};
 ghost use Rattle.flow_word.specs.declared.access.Kind.{Kind as KindOf};
 ghost use Rattle.module_interp.specs.OwnRests.{fits_kind, all_fit};
@@ -12,7 +12,7 @@ use std::process::Abort;
 use std::test::Fail;
 use worked_sessions::{LATER_STALL, POLLING_LOOP, read_plan};
 
-/// One operation in the last local clock of a block as long as a block can be.
+/// A session with one operation, in the last local clock of a block as long as a block can be.
 const LONG_BLOCK: &[u8] = b"\
 flow 1
 sink y 8
@@ -24,7 +24,7 @@ limits 1000000000000000 100000
 end
 ";
 
-/// Two iterations, each of which starts where the one before it ends. A temp counts from 0 in each.
+/// Two iterations, of which the second starts where the first ends. A temp counts from 0 in each.
 const ITERATIONS_IN_TURN: &[u8] = b"\
 flow 1
 sink y 8
@@ -41,8 +41,8 @@ stop
 end
 ";
 
-/// 65 iterations, of which 64 are live at a time, with an operation at each age. A temp takes the iteration's number and
-/// goes up by 1 at each of 62 ages. The channels are z and y.
+/// 65 iterations, of which up to 64 are live at a time, with an operation at each age. A temp takes the iteration's number and goes
+/// up by 1 at each of 62 ages. The channels are z and y.
 const MOST_ITERATIONS: &[u8] = b"\
 flow 1
 sink z 8
@@ -123,7 +123,7 @@ stop
 end
 ";
 
-/// Four iterations that overlap. Each has a guard of its own, which the first and the third leave at 0. The channels are a and y.
+/// Four iterations that overlap. Each has a guard of its own, which is 0 in the first and the third. The channels are a and y.
 const GUARDS_OF_THEIR_OWN: &[u8] = b"\
 flow 1
 source a 8
@@ -146,7 +146,7 @@ stop
 end
 ";
 
-/// A memory of three words, with addresses past them.
+/// A memory of three words, with addresses past its end.
 const ADDRESSES_PAST_THE_END: &[u8] = b"\
 flow 1
 sink y 8
@@ -192,7 +192,7 @@ stop
 end
 ";
 
-/// A word that is stored and loaded in one local clock: the load finds what was there before.
+/// A word that is stored and loaded in one local clock: the load gives the word from before.
 const STORED_AND_LOADED: &[u8] = b"\
 flow 1
 sink y 8
@@ -210,14 +210,14 @@ stop
 end
 ";
 
-/// Modules that write one word: after how many local clocks, and the word.
+/// Sessions whose module writes one word. Each has the local clocks before the write, and the word.
 const ONE_WORD: [(&[u8], u64, u64); 3] = [
     (EACH_OPERATOR, 1, 14613),
     (ALL_BITS, 1, u64::MAX),
     (STORED_AND_LOADED, 3, 89),
 ];
 
-/// A loop whose condition is read in its iteration's last local clock, and a block behind it. The channels are a and y.
+/// A loop whose condition is read in its iteration's last local clock, with a block after it. The channels are a and y.
 const DECIDED_AT_THE_END: &[u8] = b"\
 flow 1
 source a 8
@@ -244,8 +244,8 @@ fn first_run<R: AllocGlobal + Abort>(rt: &R, text: &[u8]) -> Result<ModuleRun, F
     Ok(run)
 }
 
-/// The next mark of a run is a step with this gap, number of earlier queries and accesses, which then wait. It is fed these
-/// replies.
+/// Asserts that the next mark of a run is a step with this gap, this number of earlier queries and these accesses, and that the
+/// accesses then wait. Feeds these replies to the run.
 fn step<R: Abort>(
     rt: &R,
     run: &mut ModuleRun,
@@ -274,7 +274,7 @@ fn step<R: Abort>(
     }
 }
 
-/// The next mark of a run is its end, so many local clocks after its last step. No step waits.
+/// Asserts that the next mark of a run is its end, this many local clocks after its last step, and that no step waits.
 fn is_ended<R: Abort>(rt: &R, run: &mut ModuleRun, gap: u64) -> Result<(), Fail>
     requires run { IsRun run.old }
     requires fed { waits run.old ≡ false }
@@ -291,7 +291,7 @@ fn is_ended<R: Abort>(rt: &R, run: &mut ModuleRun, gap: u64) -> Result<(), Fail>
     }
 }
 
-/// The run is ended so many local clocks after its last step, and stays so.
+/// Asserts that the run is ended this many local clocks after its last step, and stays ended.
 fn ends<R: Abort>(rt: &R, run: &mut ModuleRun, gap: u64) -> Result<(), Fail>
     requires run { IsRun run.old }
     requires fed { waits run.old ≡ false }
@@ -300,7 +300,7 @@ fn ends<R: Abort>(rt: &R, run: &mut ModuleRun, gap: u64) -> Result<(), Fail>
     is_ended(rt, run, gap)
 }
 
-/// The run is spent so many local clocks after its last step.
+/// Asserts that the run is spent this many local clocks after its last step.
 fn is_spent<R: Abort>(rt: &R, run: &mut ModuleRun, gap: u64) -> Result<(), Fail>
     requires run { IsRun run.old }
     requires fed { waits run.old ≡ false }
@@ -312,7 +312,7 @@ fn is_spent<R: Abort>(rt: &R, run: &mut ModuleRun, gap: u64) -> Result<(), Fail>
     Ok(())
 }
 
-/// Whether there is one reply for each access, each of which fits it.
+/// Whether there is one reply for each access, and each reply fits its access.
 fn all_fit(accesses: &[Access], replies: &[Reply]) -> bool
     ensures { result ≡ all_fit accesses.now replies.now }
 {
@@ -348,7 +348,7 @@ fn access(kind: Kind, channel: u32, ordinal: u64) -> Access {
     }
 }
 
-/// A write.
+/// An access that pushes a value.
 fn write(channel: u32, ordinal: u64, value: u64) -> Access {
     Access {
         kind: Kind::Write,
@@ -358,7 +358,7 @@ fn write(channel: u32, ordinal: u64, value: u64) -> Access {
     }
 }
 
-/// The next step has a read of the first channel alone, which gets this value.
+/// Asserts that the next step has only a read of the first channel. Feeds this value to it.
 fn read<R: Abort>(
     rt: &R,
     run: &mut ModuleRun,
@@ -381,7 +381,7 @@ fn read<R: Abort>(
     )
 }
 
-/// The next step has this write alone, behind so many queries.
+/// Asserts that the next step has only this write, after this many queries.
 fn writes<R: Abort>(
     rt: &R,
     run: &mut ModuleRun,
@@ -397,7 +397,7 @@ fn writes<R: Abort>(
     step(rt, run, gap, first_query, &[access], &[Reply::Done])
 }
 
-/// It jumps to the one operation.
+/// The run jumps to the only operation.
 fn jumps_over_a_long_block<R: Abort>(rt: &R, run: &mut ModuleRun) -> Result<(), Fail>
     requires run { IsRun run.old }
     requires fed { waits run.old ≡ false }
@@ -412,7 +412,7 @@ fn a_long_block_is_jumped_over(rt: HostRuntime) -> Result<(), Fail> {
     jumps_over_a_long_block(&rt, &mut run)
 }
 
-/// In the fourth step the older iteration's write comes first.
+/// In the fourth step the write of the older iteration comes first.
 fn commits_the_older_first<R: Abort>(rt: &R, run: &mut ModuleRun) -> Result<(), Fail>
     requires run { IsRun run.old }
     requires fed { waits run.old ≡ false }
@@ -467,7 +467,7 @@ fn iterations_in_turn(rt: HostRuntime) -> Result<(), Fail> {
     iterates_in_turn(&rt, &mut run)
 }
 
-/// The local clocks before the first iteration is 63 local clocks old: the newest iteration writes its number.
+/// The local clocks before the first iteration is 63 local clocks old. In each, the newest iteration writes its number.
 fn young_iterations<R: Abort>(rt: &R, run: &mut ModuleRun) -> Result<(), Fail>
     requires run { IsRun run.old }
     requires fed { waits run.old ≡ false }
@@ -518,7 +518,7 @@ fn old_iterations<R: Abort>(rt: &R, run: &mut ModuleRun) -> Result<(), Fail>
     Ok(())
 }
 
-/// One iteration begins in each of 65 local clocks, and ends 64 later.
+/// One iteration begins in each of 65 local clocks, and each ends 64 local clocks later.
 fn iterates_most<R: Abort>(rt: &R, run: &mut ModuleRun) -> Result<(), Fail>
     requires run { IsRun run.old }
     requires fed { waits run.old ≡ false }
@@ -561,7 +561,7 @@ fn guards_of_their_own(rt: HostRuntime) -> Result<(), Fail> {
     guards_by_temps(&rt, &mut run)
 }
 
-/// An address counts modulo the memory's length, and 300 is cut to 44.
+/// An address counts modulo the memory's length, and the value 300 is cut to 44.
 fn wraps_addresses<R: Abort>(rt: &R, run: &mut ModuleRun) -> Result<(), Fail>
     requires run { IsRun run.old }
     requires fed { waits run.old ≡ false }
@@ -577,7 +577,7 @@ fn addresses_past_the_end(rt: HostRuntime) -> Result<(), Fail> {
     wraps_addresses(&rt, &mut run)
 }
 
-/// The block behind the loop begins in the local clock of the decision.
+/// The block after the loop begins in the local clock of the decision.
 fn decides_at_the_end<R: Abort>(rt: &R, run: &mut ModuleRun) -> Result<(), Fail>
     requires run { IsRun run.old }
     requires fed { waits run.old ≡ false }
@@ -594,7 +594,7 @@ fn decided_at_the_end(rt: HostRuntime) -> Result<(), Fail> {
     decides_at_the_end(&rt, &mut run)
 }
 
-/// It writes the word, and ends.
+/// The run writes this word, and ends.
 fn writes_one<R: Abort>(rt: &R, run: &mut ModuleRun, gap: u64, word: u64) -> Result<(), Fail>
     requires run { IsRun run.old }
     requires fed { waits run.old ≡ false }
@@ -612,7 +612,7 @@ fn words_by_expressions_and_memories(rt: HostRuntime) -> Result<(), Fail> {
     Ok(())
 }
 
-/// The run comes in place to a write of this word, and then to its end, which it gives.
+/// The run comes, by advances in place, to a write of this word, and then to its end, whose local clocks it gives.
 fn comes_to_a_write<R: Abort>(rt: &R, run: &mut ModuleRun, gap: u64, word: u64) -> Result<(), Fail>
     requires run { IsRun run.old }
     requires fed { waits run.old ≡ false }

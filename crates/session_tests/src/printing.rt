@@ -1,4 +1,4 @@
-//! A small session, printed.
+//! Prints a small session.
 use flow_design::{Name, Session, Statement};
 use flow_print::print_session;
 use flow_word::{List, OutOfMemory, Width};

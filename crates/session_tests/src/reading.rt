@@ -8,7 +8,7 @@ use flow_text::{ReadFail, TextFault, read_session};
 use std::alloc::Global;
 use std::test::Fail;
 
-/// The line and the number of the code of a text's fault, or two zeros where it has none.
+/// The line of a text's fault and the number of its code; two zeros where the text has no fault.
 fn fault(alloc: Global, text: &[u8]) -> Result<(u64, u64), ReadFail> {
     match read_session(alloc, Scale::Standard, text) {
         Ok(_) => Ok((0, 0)),
@@ -17,7 +17,7 @@ fn fault(alloc: Global, text: &[u8]) -> Result<(u64, u64), ReadFail> {
     }
 }
 
-/// The fault of a text with these lines behind the first and in front of the last.
+/// The fault of a text that has these lines between its first and its last.
 fn fault_of(alloc: Global, lines: &str) -> Result<(u64, u64), Fail> {
     let text = format!(in alloc; "flow 1\n{lines}\nend")?;
     Ok(fault(alloc, text.as_bytes())?)
@@ -45,7 +45,7 @@ fn plain_case(rt: HostRuntime) -> Result<(), Fail> {
     Ok(())
 }
 
-/// The first line and the last.
+/// Tests of the first line and the last.
 #[test]
 fn ends_of_texts(rt: HostRuntime) -> Result<(), Fail> {
     let rows = [
@@ -69,7 +69,7 @@ fn ends_of_texts(rt: HostRuntime) -> Result<(), Fail> {
     Ok(())
 }
 
-/// Delays, which FIFOs have in version 2 alone.
+/// Tests of delays, which FIFOs have only in version 2.
 #[test]
 fn delays_of_fifos(rt: HostRuntime) -> Result<(), Fail> {
     let rows = [
@@ -85,7 +85,7 @@ fn delays_of_fifos(rt: HostRuntime) -> Result<(), Fail> {
     Ok(())
 }
 
-/// In a comment, the bytes that may stand in a line, and those beside them.
+/// Tests the bytes that may stand in a line, here in a comment, and those just outside their range.
 #[test]
 fn bytes_of_a_line(rt: HostRuntime) -> Result<(), Fail> {
     let rows = [

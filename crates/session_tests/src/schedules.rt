@@ -1,4 +1,4 @@
-//! Tables of two blocks, and their next local clocks with work.
+//! Schedules of two blocks, and their next local clocks with work.
 ghost use Rattle.std.specs.Prelude.{◌≡◌, IfOk};
 ghost use Rattle.session_tests.specs.Blocks.{tests_at};
 
@@ -8,7 +8,7 @@ use flow_word::{List, OutOfMemory};
 use std::alloc::Global;
 use std::test::Fail;
 
-/// A block whose operations, at these offsets, test the one channel.
+/// A block whose operations, at these offsets, each test whether the only channel is empty.
 fn block_of_tests(
     alloc: Global,
     kind: BlockKind,
@@ -37,7 +37,7 @@ fn block_of_tests(
     })
 }
 
-/// A module that stands at this clock of the block.
+/// The control of a module that is in this clock of the block.
 fn standing(clock: u64, newest: u64, looping: bool) -> Control
     ensures { result ≡ record { block = 0; clock = clock; newest = newest; looping = looping } }
 {

@@ -4,7 +4,7 @@ use flow_grammar::{
 use std::alloc::Global;
 use std::test::Fail;
 
-/// One name is known.
+/// Names of which only `x` is known.
 struct OneName;
 
 impl Known for OneName {
@@ -18,7 +18,7 @@ impl Known for OneName {
     }
 }
 
-/// The nodes of the one expression of a line, or 0 where it fails a test.
+/// How many nodes the only expression of a line has; 0 where the line breaks a rule.
 fn size(alloc: Global, line: &[u8]) -> Result<u32, Fail> {
     let tokens = tokens_in(alloc, line)?;
     match one_operand(alloc, &OneName, tokens.as_slice())? {
@@ -27,7 +27,7 @@ fn size(alloc: Global, line: &[u8]) -> Result<u32, Fail> {
     }
 }
 
-/// The number from 1 to 40 that a token is.
+/// The number from 1 to 40 that a token stands for. `None` where it stands for no such number.
 fn number(token: &[u8]) -> Option<u64> {
     if is_numeral(token) {
         number_in(token, 1, 40)

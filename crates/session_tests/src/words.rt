@@ -1,4 +1,4 @@
-//! Every call of lists, words and numbers once.
+//! Every call of lists, words and numbers, at least once.
 use flow_word::{
     Access, Accesses, Boxed, Flags, Kind, List, NumberFault, Queue, RoomyList, TryCopy, Words,
     read_number,

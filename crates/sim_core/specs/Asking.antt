@@ -19,7 +19,7 @@ Lacks set n = Has set n → ⊥
 abbrev pub HasRoom : Plan → List ℕ → Type 0
 HasRoom p set = length p.design.modules ≤ capacity set
 
--- the set has the modules at the other sides of the channels of the first so many ports
+-- the set has the modules at the other sides of the channels of the first n ports
 abbrev pub AreAcrossTo : Plan → List Port → ℕ → List ℕ → Type 0
 AreAcrossTo p ports many set = (i : ℕ) (port : Port) → i < many → slice_get ports i ≡ Some port → (n : ℕ)
     → n < length p.design.modules → (design p).owner (other_side port.side) port.channel ≡ n → Has set n
@@ -27,7 +27,7 @@ AreAcrossTo p ports many set = (i : ℕ) (port : Port) → i < many → slice_ge
 abbrev pub AreAcross : Plan → List Port → List ℕ → Type 0
 AreAcross p ports set = AreAcrossTo p ports (length ports) set
 
--- for each of the first so many modules there are masks that leave out only modules that share no channel with it
+-- for each of the first `many` modules there are masks that leave out only modules that share no channel with it
 pub record AreBesideTo (p : Plan) (many : ℕ) (beside : List (List Mask)) : Type 0 where
   pub count : length beside ≡ many
   pub apart : (m : ℕ) → m < many → (n : ℕ) → n < length p.design.modules → (HasMask (slice_index_or beside m []) n → ⊥)

@@ -6,7 +6,7 @@ use Rattle.event_graph.specs.declared.candidate.Candidate.TheVariants.{At, Nothi
 use Rattle.fifo_table.specs.Channels.{Channel}
 use Rattle.time_engine.specs.Cycles.{determined}
 
--- for each of the first so many modules the candidate is at a cycle exactly where that is determined, below the limit
+-- for each of the first `many` modules the candidate is at a cycle exactly where that cycle is determined and below the limit
 abbrev pub AreCandidates : List Lane → List Channel → ℕ → ℕ → List Candidate → Type 0
 AreCandidates lanes channels limit many candidates =
     (m cycle : ℕ) → m < many → (slice_index_or candidates m Nothing ≡ At cycle) ↔

@@ -42,7 +42,7 @@ pub record IsReadingPorts (channels : List Channel) (readers : List ℕ) (m : �
   pub read : (i c : ℕ) → i < at → c < length readers → slice_get ports i ≡ Some (record { side = Pop; channel = c })
       → slice_index_or values c [] ≡ mailed channels readers m popped c
 
--- the mail is that of a module that made so many queries and pops, and that waits for the replies to these accesses
+-- the mail is that of a module that made this many queries and pops, and that waits for the replies to these accesses
 pub record IsMade (outcomes : List Bool) (channels : List Channel) (readers : List ℕ) (m first : ℕ) (popped : List ℕ)
     (accesses : List Access) (mail : Mail) : Type 0 where
   pub told : mail.outcomes ≡ take (queries_in accesses) (drop first outcomes)

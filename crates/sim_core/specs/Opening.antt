@@ -36,7 +36,7 @@ kind_in p c = kind_by (kind_at p c) (source_values p c) (slice_index p.depths c)
 abbrev pub kinds_of : Plan → List TableChannel
 kinds_of p = map (kind_in p) (range_with_len 0 (length p.design.channels))
 
--- there are so many runs, each at its module's first rest
+-- there are `many` runs, each at its module's first rest
 pub record AreFirstRuns (p : Plan) (runs : List (Option ModuleRun)) (many : ℕ) : Type 0 where
   pub count : length runs ≡ many
   pub some : (m : ℕ) → m < many → is_none (slice_index_or runs m None) ≡ false
@@ -60,11 +60,11 @@ port_where false side c = []
 abbrev pub ports_at : Plan → ℕ → ℕ → List Port
 ports_at p m c = port_where (eqb ((design p).owner Pop c) m) Pop c ++ port_where (eqb ((design p).owner Push c) m) Push c
 
--- the ports that module m has at the first so many channels
+-- the ports that module m has at the first `channels` channels
 abbrev pub ports_to : Plan → ℕ → ℕ → List Port
 ports_to p m channels = flat_map (ports_at p m) (range_with_len 0 channels)
 
--- each of the first so many modules has its own ports in the list
+-- each of the first `many` modules has its own ports in the list
 pub record AreOwnPorts (p : Plan) (many : ℕ) (ports : List (List Port)) : Type 0 where
   pub count : length ports ≡ many
   pub each : (m : ℕ) → m < many → slice_index_or ports m [] ≡ ports_to p m (length p.design.channels)

@@ -23,7 +23,7 @@ use Rattle.sim_core.specs.Tasks.{IsTaskFor, rest_of}
 abbrev pub core_in : Plan → Engine → List (Option Advance) → Core ModuleState
 core_in p s ends = core_of (design p) (held_in s (over_of ends))
 
--- module m's run is out of the core, and there is room for so many of its marks
+-- module m's run is out of the core, and there is room for `count` of its marks
 pub record HasRoomForMarks (p : Plan) (s : Engine) (ends : List (Option Advance)) (runs : List (Option ModuleRun))
     (m count : ℕ) : Type 0 where
   pub core : IsCore p s ends runs

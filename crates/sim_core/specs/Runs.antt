@@ -95,7 +95,7 @@ AreUnreadIn p s ends unread = AreUnread (core_values (design p) (core_of (design
 abbrev pub HasBodiesWithin : Module → ℕ → Type 0
 HasBodiesWithin m most = All (λ b. length b.ops ≤ most) m.blocks
 
--- for each of so many modules the list has a bound for the operations of its bodies
+-- for each of the first `many` modules the list has a bound for the operations of its bodies
 pub record AreBodyLengths (p : Plan) (many : ℕ) (lengths : List ℕ) : Type 0 where
   pub count : length lengths ≡ many
   pub each : (m : ℕ) → m < many → HasBodiesWithin (module_at p m) (slice_index lengths m)

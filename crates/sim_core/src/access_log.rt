@@ -34,7 +34,8 @@ pub struct LoggedAccess {
 impl Core {
     /// What each access of a final core's plan gave, in the order of the report's events.
     ///
-    /// It takes memory for the answer, for one key for each step, which are sorted, and for the replies to a step.
+    /// It takes memory for the answer, for one key for each step, which are sorted, and for the replies to a step. `OutOfMemory` where
+    /// memory ran out.
     pub fn access_log(&self, alloc: Global) -> Result<List<LoggedAccess>, OutOfMemory>
         requires { IsFinal (design self.now.plan) self.now.plan.cycles (theory_of self.now) }
         ensures { IfOk result (λ log. log ≡ log_of self.now.plan) }

@@ -151,7 +151,7 @@ fn take_run(runs: &mut Vec<Option<ModuleRun>>, at: usize) -> Option<ModuleRun>
     }
 }
 
-/// A list without an end mark for each of so many modules.
+/// One entry for each of `modules` modules: no end mark yet. `OutOfMemory` where memory ran out.
 fn no_ends(alloc: Global, modules: u32) -> Result<Vec<Option<Advance>>, OutOfMemory>
     ensures { IfOk result (λ ends. ends.items ≡ replicate modules None) }
 {
@@ -162,7 +162,7 @@ fn no_ends(alloc: Global, modules: u32) -> Result<Vec<Option<Advance>>, OutOfMem
     Ok(ends)
 }
 
-/// A list with a candidate for each of so many modules that have no step.
+/// One candidate for each of `modules` modules, none of which has a step. `OutOfMemory` where memory ran out.
 fn no_candidates(alloc: Global, modules: u32) -> Result<Vec<Candidate>, OutOfMemory>
     ensures { IfOk result (λ candidates. length candidates.items ≡ modules) }
 {

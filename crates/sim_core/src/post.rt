@@ -88,7 +88,7 @@ fn has_values(values: &[Queue<u64>]) -> bool
     values.iter().any(|words| words.len() > 0)
 }
 
-/// Makes the list one of so many channels' queues, all empty.
+/// Makes the list one of empty queues, one for each of `channels` channels.
 fn make_places(
     alloc: Global,
     values: &mut List<Queue<u64>>,
@@ -107,7 +107,8 @@ fn make_places(
     Ok(())
 }
 
-/// Reads the values that a module's next pops of each channel give, after so many pops of each, into empty queues.
+/// Reads the values that a module's next pops of each channel give into empty queues. `popped` says how many pops of each channel
+/// come before.
 pub(crate) fn read_all(
     alloc: Global,
     fifos: &FifoTable,

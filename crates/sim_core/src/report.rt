@@ -32,7 +32,7 @@ impl Core {
 
     /// The report of a final core: it is the lockstep machine's, with its events if they are asked for, else with none.
     ///
-    /// It takes memory for the report and, where events are asked for, for one key for each step.
+    /// It takes memory for the report and, where events are asked for, for one key for each step. `OutOfMemory` where memory ran out.
     pub fn report(&self, alloc: Global, with_events: bool) -> Result<Report, OutOfMemory>
         requires { IsFinal (design self.now.plan) self.now.plan.cycles (theory_of self.now) }
         ensures { IfOk result (λ report. report ≡ report_with with_events self.now.plan) }
@@ -43,7 +43,7 @@ impl Core {
     /// The report of a core that is final, with its events if they are asked for, else with none. `None` where an action is
     /// permitted.
     ///
-    /// It takes memory for the report and, where events are asked for, for one key for each step.
+    /// It takes memory for the report and, where events are asked for, for one key for each step. `OutOfMemory` where memory ran out.
     pub fn final_report(
         &self,
         alloc: Global,

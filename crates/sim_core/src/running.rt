@@ -18,7 +18,7 @@ use run_ahead::{find_replies, first_missing};
 
 impl Core {
     /// Does a module's Run, if it is permitted: commits the replies to the module's newest step, and emits its next mark. The
-    /// module's run must not be lent. Whether the Run was permitted. Where it was not, and after `OutOfMemory`, nothing has
+    /// module's run must not be lent. Returns whether the Run was permitted. Where it was not, and after `OutOfMemory`, nothing has
     /// changed. It takes memory only where the Run is permitted.
     pub fn run(&mut self, owner: u32) -> Result<bool, OutOfMemory>
         requires owner { owner < length self.old.plan.design.modules }
@@ -62,7 +62,7 @@ impl Core {
         self.runs[owner as usize] = Some(run);
     }
 
-    /// Does a module's Run, if it is permitted, with its run, which is out of the core. Whether it was permitted.
+    /// Does a module's Run, if it is permitted, with its run, which is out of the core. Returns whether the Run was permitted.
     #[inline(always)]
     pub(crate) fn run_with(&mut self, owner: u32, run: &mut ModuleRun) -> Result<bool, OutOfMemory>
         requires out { IsOut self.old owner run.old }
@@ -147,8 +147,8 @@ impl Core {
         self.ends[owner as usize].is_some()
     }
 
-    /// Gives a module's run, if it waits, the replies to the module's newest step, if all of them are there. Whether the run does
-    /// not wait then.
+    /// Gives a module's run, if it waits, the replies to the module's newest step, if all of them are there. Returns whether the
+    /// run does not wait then.
     #[inline(always)]
     fn feed(&mut self, owner: u32, run: &mut ModuleRun) -> Result<bool, OutOfMemory>
         requires out { IsOut self.old owner run.old }

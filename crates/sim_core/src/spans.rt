@@ -17,7 +17,7 @@ impl Core {
     /// The spans of a module of a final core, in order, where `clock` is that of the plan's verdict. They are the lockstep
     /// machine's.
     ///
-    /// It looks once at each of the module's steps and accesses, and takes memory for the spans.
+    /// It looks once at each of the module's steps and accesses, and takes memory for the spans. `OutOfMemory` where memory ran out.
     pub fn spans(&self, alloc: Global, owner: u32, clock: u64) -> Result<List<Span>, OutOfMemory>
         requires is_final { IsFinal (design self.now.plan) self.now.plan.cycles (theory_of self.now) }
         requires owner { owner < length self.now.plan.design.modules }

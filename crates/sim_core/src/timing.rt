@@ -40,7 +40,7 @@ impl Core {
         done
     }
 
-    /// Does one Assign or Answer of a module, if one is permitted. Whether one was done.
+    /// Does one Assign or Answer of a module, if one is permitted. Returns whether one was done.
     fn time_one<L: Ledger>(&mut self, owner: u32, steps: &mut Steps<L>) -> bool
         requires owner { owner < length self.old.plan.design.modules }
         requires verified { AllVerified (theory_of self.old) }
@@ -60,7 +60,8 @@ impl Core {
     }
 
     /// Does the Earliest of the first module with the least cycle, if one is permitted: no Run is permitted, and a step is open.
-    /// Whether one was done. No Assign and no Answer may be permitted, and all outcomes must be verified. It takes no memory.
+    /// Returns whether one was done. No Assign and no Answer may be permitted, and all outcomes must be verified. It takes no
+    /// memory.
     pub fn answer_earliest(&mut self) -> bool
         requires verified { AllVerified (theory_of self.old) }
         requires none_left { NoTiming (design self.old.plan) self.old.plan.cycles (theory_of self.old) }

@@ -62,7 +62,7 @@ fn no_values(alloc: Global) -> Unread
     }
 }
 
-/// An entry without a value for each of so many channels.
+/// One entry without a value for each of `channels` channels. `OutOfMemory` where memory ran out.
 pub(crate) fn nothing_unread(alloc: Global, channels: u64) -> Result<List<Unread>, OutOfMemory>
     ensures { IfOk result (λ unread. (all : ℕ → Items ℕ) (n : ℕ) → AreUnread all n unread) }
 {

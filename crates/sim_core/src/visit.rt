@@ -150,7 +150,7 @@ impl Core {
                 .is_some_and(|access| !access.kind.is_blocking())
     }
 
-    /// Does one Run of a stretch, if it is permitted. Whether it was.
+    /// Does one Run of a stretch, if it is permitted. Returns whether it was permitted.
     fn run_once(&mut self, owner: u32, run: &mut ModuleRun) -> Result<bool, OutOfMemory>
         requires out { IsOut self.old owner run.old }
         ensures some { IfOk result (λ ran. ran ≡ true → (n : ℕ) → GoesOn self.old n self.new n) }

@@ -56,7 +56,7 @@ pub(crate) fn find_wiring(alloc: Global, plan: &Plan) -> Result<Wiring, OutOfMem
     })
 }
 
-/// An empty list of ports for each of so many modules.
+/// One empty list of ports for each of `modules` modules. `OutOfMemory` where memory ran out.
 fn no_ports(alloc: Global, modules: u64) -> Result<List<List<Port>>, OutOfMemory>
     ensures { IfOk result (λ ports. ports ≡ replicate modules []) }
 {

@@ -23,7 +23,7 @@ pub record IsPlace (n : ℕ) (v : View HubEntry) : Type 0 where
   pub own : v.own ≡ entries_of bearer n v.seen
   pub legal : IsLegal v.seen
 
--- the history is one of a plan with so many modules
+-- the history is one of a plan with this many modules
 abbrev pub HasModules : ℕ → List HubEntry → Type 0
 HasModules count seen = ∥ ((l : IsLegal seen) × (length l.plan.design.modules ≡ count)) ∥₁
 
@@ -36,7 +36,7 @@ pub record HasMadeAll (v : View HubEntry) : Type 0 where
   pub made : HasModules v.made v.seen
   pub joined : v.joined ≡ []
 
--- the first pass of a hub that was just opened with this history, after it has made so many passes
+-- the first pass of a hub that was just opened with this history, after it has made `made` passes
 pub record IsFirst (made : ℕ) (seen : List HubEntry) (v : View HubEntry) : Type 0 where
   pub number : v.number ≡ 0
   pub made_is : v.made ≡ made

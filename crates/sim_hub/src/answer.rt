@@ -7,7 +7,7 @@ use turn_history::HubTurn;
 pub enum Desk {
     /// The module's run, lent with its mail.
     Run(Task),
-    /// No Run of the module is permitted yet, in a history of so many entries.
+    /// No Run of the module is permitted yet, in a history of this many entries.
     Held(u64),
     /// The core is final.
     Over,
@@ -18,9 +18,9 @@ pub enum Desk {
 /// What the performance pass gets for a turn.
 #[derive(Clone, Copy, Debug, PartialEq, Eq)]
 pub enum PerfAnswer {
-    /// The turn did so many actions.
+    /// The turn did this many actions.
     Did(u64),
-    /// No action but a Run is permitted, in a history of so many entries.
+    /// No action but a Run is permitted, in a history of this many entries.
     Idle(u64),
     /// The core is final.
     Over,

@@ -43,8 +43,8 @@ impl Model for MemSink {
 }
 
 impl MemSink {
-    /// A sink that holds nothing yet, with room for `room` bytes, of which a call takes at most `piece`, and which fails
-    /// in the calls of these numbers.
+    /// A sink that holds nothing yet, with room for `room` bytes, of which a call takes at most `piece`, and which fails in the calls
+    /// of these numbers. `OutOfMemory` where memory ran out.
     pub fn new(alloc: Global, room: u64, piece: u64, fails: &[u64]) -> Result<MemSink, OutOfMemory>
         requires { 1 ≤ piece }
         ensures { IfOk result (λ sink. sink ≡ opened_sink room piece fails.now) }

@@ -33,7 +33,8 @@ impl Model for MemSource {
 }
 
 impl MemSource {
-    /// A source of these bytes, of which a call hands out at most `piece`, and which fails in the calls of these numbers.
+    /// A source of these bytes, of which a call hands out at most `piece`, and which fails in the calls of these numbers. `OutOfMemory`
+    /// where memory ran out.
     pub fn new(
         alloc: Global,
         bytes: &[u8],

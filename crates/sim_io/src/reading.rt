@@ -17,7 +17,7 @@ pub enum TakeFault {
     /// The input has more bytes than the limit.
     #[error("the input is too long")]
     TooLong,
-    /// There was no memory.
+    /// Memory ran out.
     #[error("out of memory")]
     OutOfMemory,
 }

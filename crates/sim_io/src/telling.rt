@@ -14,7 +14,7 @@ pub enum TellFault {
     /// The sink has failed.
     #[error("the sink has failed")]
     WriteFault,
-    /// There was no memory.
+    /// Memory ran out.
     #[error("out of memory")]
     OutOfMemory,
 }

@@ -17,7 +17,7 @@ pub trait Source {
     /// The bytes that are left in the source, where it tells them.
     ghost left: { Self → Option (List ℕ) };
 
-    /// How often the source has failed so far. The count never falls, and stands still at the greatest u64.
+    /// How often the source has failed so far. The count never falls, and stays at the greatest u64.
     ghost faults: { Self → ℕ };
 
     /// Moves the next bytes to the beginning of `into`, and answers how many they are. An answer of 0, where `into` has
@@ -33,7 +33,7 @@ pub trait Sink {
     /// The bytes that the sink holds, where it tells them.
     ghost held: { Self → Option (List ℕ) };
 
-    /// How often the sink has failed so far. The count never falls, and stands still at the greatest u64.
+    /// How often the sink has failed so far. The count never falls, and stays at the greatest u64.
     ghost faults: { Self → ℕ };
 
     /// Whether the sink has finished all that it holds.

@@ -9,7 +9,7 @@ use Rattle.stall_spans.specs.declared.span.Doing.{Doing}
 use Rattle.stall_spans.specs.declared.span.Doing.TheVariants.{Moves, Still}
 use Rattle.stall_text.specs.StallText.{cause_lines}
 
--- where a module stalls, its port is at one of so many channels
+-- where a module stalls, its port is at a channel whose number is below `channels`
 abbrev pub IsInside : ℕ → Doing → Type 0
 IsInside channels Moves = Unit {0}
 IsInside channels (Still port) = port.channel < channels

@@ -101,7 +101,7 @@ abbrev pub polling_lines : Design → ℕ → Option Polls → List (List Token)
 polling_lines design i None = []
 polling_lines design i (Some polls) = kept_lines design i polls
 
--- what is kept of queries has an entry for each of so many channels
+-- what is kept of queries has an entry for each of `channels` channels
 pub record HaveChannels (channels : ℕ) (all : AllQueries) : Type 0 where
   pub tryreads : length all.tryreads ≡ channels
   pub trywrites : length all.trywrites ≡ channels
@@ -121,7 +121,7 @@ pub record AreQueries (channels : ℕ) (log : List LoggedAccess) (all : AllQueri
   pub empties : AreAsked channels Empty log all.empties
   pub fulls : AreAsked channels Full log all.fulls
 
--- this is what is kept of each of so many modules, by their accesses in a log
+-- for each of `modules` modules this is what is kept of its accesses in a log
 pub record ArePollings (modules : ℕ) (log : List LoggedAccess) (pollings : List Polling) : Type 0 where
   pub count : length pollings ≡ modules
   pub each : (i : ℕ) → i < modules → slice_index_or pollings i unpolled ≡ polling_of (filter (is_of i) log)

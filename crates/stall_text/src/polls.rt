@@ -94,7 +94,7 @@ fn print_kept(
     print_queries(text, design, owner, &kept.queries)
 }
 
-/// How each of so many modules polls, given what each access gave.
+/// One entry for each of `modules` modules: how it polls, given what each access gave. `OutOfMemory` where memory ran out.
 fn pollings(alloc: Global, modules: u32, log: &[LoggedAccess]) -> Result<List<Polling>, OutOfMemory>
     requires inside { All (λ a. a.event.module < modules) log.now }
     ensures { IfOk result (ArePollings modules log.now) }
@@ -106,7 +106,7 @@ fn pollings(alloc: Global, modules: u32, log: &[LoggedAccess]) -> Result<List<Po
     Ok(pollings)
 }
 
-/// What is known of each of so many modules before any access.
+/// One entry for each of `modules` modules: what is known of its polls before any access. `OutOfMemory` where memory ran out.
 fn no_pollings(alloc: Global, modules: u32) -> Result<List<Polling>, OutOfMemory>
     ensures { IfOk result (λ pollings. pollings ≡ replicate modules unpolled) }
 {

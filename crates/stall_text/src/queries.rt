@@ -31,7 +31,7 @@ pub(crate) struct AllQueries {
     pub(crate) fulls: List<Queries>,
 }
 
-/// The queries of all kinds on so many channels, given what each access gave.
+/// The queries of all kinds on the first `channels` channels, given what each access gave. `OutOfMemory` where memory ran out.
 pub(crate) fn all_queries(
     alloc: Global,
     channels: usize,
@@ -48,7 +48,8 @@ pub(crate) fn all_queries(
     })
 }
 
-/// The queries of one kind on each of so many channels, given what each access gave.
+/// One entry for each of `channels` channels: its queries of one kind, given what each access gave. `OutOfMemory` where memory ran
+/// out.
 fn queries_at(
     alloc: Global,
     channels: usize,
@@ -67,7 +68,7 @@ fn queries_at(
     Ok(queries)
 }
 
-/// For each of so many channels that there is no query.
+/// One entry for each of `channels` channels: no query yet. `OutOfMemory` where memory ran out.
 fn no_queries(alloc: Global, channels: usize) -> Result<List<Queries>, OutOfMemory>
     ensures { IfOk result (λ queries. queries ≡ replicate channels unasked) }
 {

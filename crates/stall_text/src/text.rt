@@ -22,10 +22,9 @@ use std::alloc::Global;
 /// The text of `stalls` for a final core's plan: in how many clocks each module moves and stalls, the causes of its stalls, the
 /// elements at its ports, and how full each FIFO is; with `polls` also how each module polls.
 ///
-/// It takes memory for the spans of one module at a time, for the clocks of one FIFO's pushes and pops at a time, for two numbers
-/// for each channel, and for the text; with `polls` also for what each access gave, and for a few numbers for each module and each
-/// channel.
-/// error leaves nothing.
+/// It takes memory for the spans of one module at a time, for the clocks of one FIFO's pushes and pops at a time, for two numbers for
+/// each channel, and for the text; with `polls` also for what each access gave, and for a few numbers for each module and each channel.
+/// `OutOfMemory` where memory ran out.
 pub fn stalls_text(alloc: Global, core: &Core, polls: bool) -> Result<List<u8>, OutOfMemory>
     requires { IsFinal (design_of core.now.plan) core.now.plan.cycles (theory_of core.now) }
     ensures { IfOk result (λ text. text ≡ form.stalls_text polls core.now.plan) }

@@ -13,8 +13,8 @@ use Rattle.timing_bridge.specs.CoreReports.{core_step}
 abbrev pub IsEarly : ℕ → ℕ → HistoryStep → Type 0
 IsEarly clock next s = (s.clock < clock) ⊎ ((s.clock ≡ clock) × (s.«module» < next))
 
--- a walk has come to module `next` in a clock: the steps that it passed are in order, they are done before that point, and of each
--- module it passed the first so many
+-- a walk has come to module `next` in a clock: the steps that it passed are in order, they are done before that point, and they are
+-- the first ones of each module, as many as `passed` says
 pub record IsWalked (p : Plan) (x : Core ModuleState) (done : List HistoryStep) (passed : List ℕ) (clock next : ℕ) : Type 0 where
   pub rising : AllPairs IsBefore done
   pub each : (i : ℕ) → steps_of i done ≡ map (core_step p x i) (range_with_len 0 (slice_index passed i))

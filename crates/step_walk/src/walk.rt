@@ -38,7 +38,7 @@ pub struct StepWalk {
 }
 
 impl StepWalk {
-    /// A walk that has given no step. It takes memory for two numbers for each module.
+    /// A walk that has given no step. It takes memory for two numbers for each module. `OutOfMemory` where memory ran out.
     pub fn new(alloc: Global, graph: &Graph) -> Result<StepWalk, OutOfMemory>
         ensures walk { IfOk result (IsWalk graph.now.lanes) }
         ensures given { IfOk result (λ walk. HasGiven graph.now.lanes walk []) }

@@ -6,7 +6,7 @@ use Rattle.sim_hub.specs.declared.pass.ModulePass.{ModulePass}
 use Rattle.sim_hub.specs.Hubs.{perf_hub}
 use Rattle.sim_hub.specs.Closings.{AreOfHub, AllHome, HasEachModule}
 
--- the performance pass of this hub, and the passes of its modules, all of them, in some order, with no desk out
+-- the performance pass is of this hub, and so are the passes of all its modules, in some order, with no desk borrowed
 pub record AreResting (id : TableId) (perf : PerfPass) (modules : List ModulePass) : Type 0 where
   pub lead : perf_hub perf ≡ id
   pub each : HasEachModule perf modules

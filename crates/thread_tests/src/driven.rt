@@ -1,18 +1,18 @@
-//! Simulations of which each turn and its answer is given.
+//! Simulations of which the test gives each turn and its expected answer.
 use crate::passes::{Answer, closes_with, module_turns, open, perf_turn};
 use std::process::Abort;
 use std::sync::Wait;
 use std::test::Fail;
 use worked_sessions::{TWO_LEAST_QUERIES, TWO_MODULES};
 
-/// Whose turns are next.
+/// Which pass takes the next turns.
 #[derive(Clone, Copy, Debug, PartialEq, Eq)]
 enum Next {
     Module(usize),
     Perf,
 }
 
-/// The passes are answered so, one after the other, and then all is over.
+/// Asserts that the passes are answered so, one after the other, and that all is over then.
 fn is_driven<R: AllocGlobal + Wait + Abort>(
     rt: &R,
     text: &[u8],

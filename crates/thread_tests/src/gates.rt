@@ -1,4 +1,4 @@
-//! Gates that watch, delay or starve.
+//! Gates that watch or delay bursts, or let them run out of memory.
 ghost use Rattle.std.specs.Prelude.{◌<◌};
 ghost use Rattle.run_ahead.specs.Working.{StandsSomewhere};
 ghost use Rattle.sim_hub.specs.Hubs.{IsBurstOn};
@@ -9,15 +9,15 @@ use std::sync::atomic::{AtomicBool, AtomicU64, Ordering};
 use std::sync::{Mutex, Wait};
 use std::thread::yield_now;
 
-/// How often a burst yields at most while it waits for another.
+/// How often a burst yields at most while it waits for another one.
 const TURNS: u64 = 10_000_000;
 
-/// Notes the marks of each burst, with its module.
+/// A gate that notes the number of marks of each burst, with its module.
 #[derive(Drop)]
 pub struct Notes<'a, R: Wait> {
     pub rt: &'a R,
     pub marks: Mutex<Vec<(u32, u64)>>,
-    /// A note found no memory.
+    /// Whether memory for a note ran out.
     pub lost: AtomicBool,
 }
 
@@ -37,11 +37,11 @@ impl<'a, R: Wait> Gate for Notes<'a, R> {
     }
 }
 
-/// The first bursts of modules 0 and 1 wait for each other.
+/// A gate where the first bursts of modules 0 and 1 wait for each other.
 #[derive(Drop)]
 pub struct Meeting {
     pub begun: [AtomicBool; 2],
-    /// One waited in vain.
+    /// Whether one of the bursts waited in vain.
     pub missed: AtomicBool,
 }
 
@@ -71,12 +71,12 @@ impl Gate for Meeting {
     }
 }
 
-/// Each burst waits until so many have begun.
+/// A gate where each burst waits until this many have begun.
 #[derive(Drop)]
 pub struct Gathering {
     pub wanted: u64,
     pub begun: AtomicU64,
-    /// One waited in vain.
+    /// Whether one of the bursts waited in vain.
     pub missed: AtomicBool,
 }
 
@@ -94,14 +94,14 @@ impl Gate for Gathering {
     }
 }
 
-/// Each of the first bursts of module 0 and the burst of module 1 with its number wait for each other.
+/// A gate where each of the first bursts of module 0 and the burst of module 1 with the same number wait for each other.
 #[derive(Drop)]
 pub struct Pairing {
-    /// How many bursts of each are to meet.
+    /// How many bursts of each module are to meet.
     pub wanted: u64,
-    /// How many of each have begun.
+    /// How many bursts of each module have begun.
     pub begun: [AtomicU64; 2],
-    /// One waited in vain.
+    /// Whether one of the bursts waited in vain.
     pub missed: AtomicBool,
 }
 
@@ -134,7 +134,7 @@ impl Gate for Pairing {
     }
 }
 
-/// Yields a thousand times before each burst.
+/// A gate that yields a thousand times before each burst.
 #[derive(Clone, Copy)]
 pub struct Slow;
 

@@ -1,4 +1,4 @@
-//! Tests of the hub, whose passes take their turns on one thread, and of whole simulations with threads. They stand in a crate of their
+//! Tests of the hub, whose passes take their turns on one thread, and of whole simulations with threads. They have a crate of their
 //! own, since a crate is proved once more with its tests.
 #![tactic(auto)]
 

@@ -1,4 +1,4 @@
-//! The passes of a hub, which take turns when a test says so.
+//! The passes of a hub, which take their turns when a test says so.
 ghost use Rattle.std.specs.Prelude.{◌≡◌, IfOk};
 ghost use Rattle.sim_hub.specs.Places.{HasNoDeskOut};
 ghost use Rattle.sim_hub.specs.Hubs.{hub_id, module_of, module_view, IsOfHub};
@@ -14,29 +14,29 @@ use std::sync::Wait;
 use std::test::Fail;
 use worked_sessions::read_plan;
 
-/// All passes of a hub, between two turns.
+/// All passes of a hub, while none has a turn.
 #[derive(Drop)]
 pub struct Passes {
     pub perf: PerfPass,
     pub modules: Vec<ModulePass>,
 }
 
-/// What a pass is answered.
+/// The answer that a pass gets to its turns.
 #[derive(Clone, Copy, Debug, PartialEq, Eq)]
 pub enum Answer {
-    /// A desk was lent, and returned with so many marks.
+    /// A desk was borrowed, and returned with this many marks.
     Made(u64),
-    /// The visit did so many actions.
+    /// The performance pass did this many actions.
     Did(u64),
-    /// Nothing was permitted, after so many entries.
+    /// Nothing was permitted. The number is that of the entries so far.
     Waits(u64),
     /// The core is final.
     Over,
-    /// Memory was wanted.
+    /// Memory ran out.
     Short,
 }
 
-/// A hub of a session with its passes, and the lockstep machine's report of the session.
+/// The hub of a session with its passes, and the lockstep machine's report of the session.
 pub fn open<R: AllocGlobal>(rt: &R, text: &[u8]) -> Result<(Hub, Passes, Report), Fail>
     ensures resting { IfOk result (λ r. AreResting (hub_id r.0) r.1.perf r.1.modules.items) }
 {
@@ -47,7 +47,7 @@ pub fn open<R: AllocGlobal>(rt: &R, text: &[u8]) -> Result<(Hub, Passes, Report)
     Ok((hub, Passes { perf, modules }, expected))
 }
 
-/// A module's pass borrows a desk, makes its burst and returns it.
+/// The pass of a module borrows a desk, makes its burst, and returns the desk.
 fn drive_once<R: Wait>(rt: &R, alloc: Global, hub: &Hub, pass: ModulePass) -> (ModulePass, Answer)
     requires own { IsOfHub hub.now pass }
     requires home { HasNoDeskOut (module_of pass) (module_view pass) }
@@ -75,7 +75,7 @@ fn drive_once<R: Wait>(rt: &R, alloc: Global, hub: &Hub, pass: ModulePass) -> (M
     }
 }
 
-/// The turns of a module's pass, while the others rest.
+/// The pass of a module takes its turns, while the others rest.
 pub fn module_turns<R: AllocGlobal + Wait + Abort>(
     rt: &R,
     hub: &Hub,
@@ -93,7 +93,7 @@ pub fn module_turns<R: AllocGlobal + Wait + Abort>(
     Ok((Passes { perf, modules }, answer))
 }
 
-/// A turn of the performance pass, while the others rest.
+/// The performance pass takes a turn, while the others rest.
 pub fn perf_turn<R: Wait>(rt: &R, hub: &Hub, passes: Passes) -> (Passes, Answer)
     requires resting { AreResting (hub_id hub.now) passes.perf passes.modules.items }
     ensures resting { AreResting (hub_id hub.now) result.0.perf result.0.modules.items }
@@ -109,7 +109,7 @@ pub fn perf_turn<R: Wait>(rt: &R, hub: &Hub, passes: Passes) -> (Passes, Answer)
     (Passes { perf, modules }, answer)
 }
 
-/// The passes of the modules in the opposite order.
+/// The same passes, with those of the modules in the opposite order.
 pub fn turned_round(hub: &Hub, passes: Passes) -> Passes
     requires resting { AreResting (hub_id hub.now) passes.perf passes.modules.items }
     ensures resting { AreResting (hub_id hub.now) result.perf result.modules.items }
@@ -119,7 +119,7 @@ pub fn turned_round(hub: &Hub, passes: Passes) -> Passes
     Passes { perf, modules }
 }
 
-/// All is over, and the hub closes with this report.
+/// Asserts that all is over, and that the hub closes with this report.
 pub fn closes_with<R: AllocGlobal + Wait + Abort>(
     rt: &R,
     hub: Hub,

@@ -1,4 +1,4 @@
-//! Simulations round after round, which report as the lockstep machine does.
+//! Simulations in rounds, which report as the lockstep machine does.
 ghost use Rattle.std.specs.Prelude.{◌≡◌, IfOk};
 ghost use Rattle.sim_hub.specs.Hubs.{hub_id};
 ghost use Rattle.thread_tests.specs.Resting.{AreResting};
@@ -10,7 +10,8 @@ use std::sync::Wait;
 use std::test::Fail;
 use worked_sessions::{DEADLOCKS, DELAYS, DESIGNS, EDITS, LIMITS, QUERIES, Worked};
 
-/// Each module's pass takes its turns, in order, with the performance pass behind each of them if so asked. Whether all modules wait.
+/// A round: the pass of each module takes its turns, in order, and with `behind_each` the performance pass takes a turn after each.
+/// Returns whether all modules wait.
 fn round<R: AllocGlobal + Wait + Abort>(
     rt: &R,
     hub: &Hub,
@@ -36,7 +37,7 @@ fn round<R: AllocGlobal + Wait + Abort>(
     Ok((passes, all_wait))
 }
 
-/// A round, and behind it a turn of the performance pass where all modules wait. Whether all is over.
+/// A round, and after it a turn of the performance pass if all modules wait. Returns whether all is over.
 fn round_on<R: AllocGlobal + Wait + Abort>(
     rt: &R,
     hub: &Hub,
@@ -54,7 +55,7 @@ fn round_on<R: AllocGlobal + Wait + Abort>(
     Ok((back, answer == Answer::Over))
 }
 
-/// Rounds up to the end.
+/// Rounds until all is over.
 fn come_to_end<R: AllocGlobal + Wait + Abort>(
     rt: &R,
     hub: &Hub,
@@ -75,8 +76,9 @@ fn come_to_end<R: AllocGlobal + Wait + Abort>(
     panic!(rt; "it comes to no end")
 }
 
-/// Rounds up to the end, with the performance pass behind each module's turns, and a hub that closes with the passes of the modules in
-/// order; or with the performance pass only where all modules wait, and a hub that closes with them in the opposite order.
+/// Asserts that rounds to the end report as the lockstep machine does. With `behind_each` the performance pass takes a turn after
+/// each module's turns, and the hub closes with the passes in order. Without it the performance pass takes a turn only where all
+/// modules wait, and the hub closes with the passes in the opposite order.
 fn reports_as_lockstep<R: AllocGlobal + Wait + Abort>(
     rt: &R,
     text: &[u8],
@@ -92,7 +94,7 @@ fn reports_as_lockstep<R: AllocGlobal + Wait + Abort>(
     closes_with(rt, hub, passes, report)
 }
 
-/// Whether each of these sessions has the lockstep machine's report.
+/// Asserts that each of these sessions has the lockstep machine's report.
 fn report_as_lockstep<R: AllocGlobal + Wait + Abort>(
     rt: &R,
     table: &[Worked],

@@ -13,7 +13,7 @@ use std::test::Fail;
 use std::thread::Threads;
 use worked_sessions::{LATER_STALL, REALISTIC_LINE, TWO_MODULES, read_plan};
 
-/// Whether these turns returned desks of this module with the noted numbers of marks, in order, each with the module's pass.
+/// Whether the turns that returned desks of this module have the noted numbers of marks, in order, each with the module's pass.
 fn are_noted(turns: &[HubTurn], notes: &[(u32, u64)], owner: u32) -> bool {
     let mut rest = notes;
     for turn in turns {
@@ -30,7 +30,7 @@ fn are_noted(turns: &[HubTurn], notes: &[(u32, u64)], owner: u32) -> bool {
     next_note(rest, owner).0.is_none()
 }
 
-/// The first number of marks that is noted of this module, and the notes behind it.
+/// The first number of marks that is noted of this module, and the notes after it.
 fn next_note(notes: &[(u32, u64)], owner: u32) -> (Option<u64>, &[(u32, u64)]) {
     for (at, note) in notes.iter().enumerate() {
         if note.0 == owner {
@@ -108,7 +108,7 @@ fn each_module_has_a_thread(rt: HostRuntime) -> Result<(), Fail> {
     Ok(())
 }
 
-/// A module that reads 2,000 values of a source, one after the other.
+/// The text of a session whose module reads 2,000 values of a source, one after the other.
 fn many_values(alloc: Global) -> Result<Vec<u8>, Fail> {
     let mut text = Vec::new(alloc);
     text.extend_from_slice(
@@ -149,7 +149,7 @@ fn turns_are_bursts(rt: HostRuntime) -> Result<(), Fail> {
     Ok(())
 }
 
-/// With threads for so many of the first modules alone, a session is reported so, and the caller drives the others.
+/// Asserts that a session has this report where only the first `started` modules have threads and the caller drives the others.
 fn is_reported<R: Threads + Wait + Sync + AllocGlobal + Abort>(
     rt: &R,
     text: &[u8],
@@ -196,8 +196,8 @@ fn slow_bursts(rt: HostRuntime) -> Result<(), Fail> {
     Ok(())
 }
 
-/// Module m polls: in each clock it tries to take a value, and pushes one behind each try. Module w polls these. All values that m
-/// tries to take were pushed before, by module p, so that m and w learn the outcomes of their tries in the same turn of the caller.
+/// Module m polls: in each clock it tries to take a value, and pushes one after each try. Module w polls for these. Module p has
+/// pushed all values that m tries to take before, so that m and w learn the outcomes of their tries in the same turn of the caller.
 const POLLING: &[u8] = b"\
 flow 1
 fifo b 16 2000
@@ -250,7 +250,7 @@ fn light_bursts_are_handed_over(rt: HostRuntime) -> Result<(), Fail> {
     let mut light = Light::from_module(1);
     let core = Core::new(rt.alloc(), read_plan(rt.alloc(), POLLING)?)?;
     let threaded = run_core(&rt, rt.alloc(), core, &gate, &mut light)?;
-    // the caller was in a burst of the second module during each of the first three of the first
+    // during each of the first three bursts of the first module the caller made a burst of the second
     assert!(rt; !gate.missed.load(Ordering::SeqCst));
     assert!(rt; light.has(0));
     let report = threaded.core.final_report(rt.alloc(), true)?;

@@ -67,7 +67,7 @@ pub record MayTake (lanes : List Lane) (owner cycle : ℕ) : Type 0 where
   pub below : cycle < cycle_bound
   pub later : ForSome (last_cycle (lane_at lanes owner)) (λ last. last < cycle)
 
--- the module's first step without a cycle can be given this one, and so many of its accesses are queries
+-- the module's first step without a cycle can be given this one, and `queries` of its accesses are queries
 pub record MayTakeWith (lanes : List Lane) (owner cycle queries : ℕ) : Type 0 where
   pub may : MayTake lanes owner cycle
   pub count : ForSome (open_step (lane_at lanes owner)) (λ step. queries ≡ length (filter (λ a. not (is_blocking a.kind)) step.accesses))

@@ -42,7 +42,7 @@ abbrev pub AreOwnSteps : Plan → ℕ → (ℕ → List theory.Reply) → ℕ �
 AreOwnSteps p i r k [] = ⊤
 AreOwnSteps p i r k (s ∷ ss) = IsOwnStep p i r k s × AreOwnSteps p i r (suc k) ss
 
--- an own run is so many quiet clocks after its latest step
+-- an own run is `clocks` quiet clocks after its latest step
 pub record HasComeTo (p : Plan) (i : ℕ) (r : ℕ → List theory.Reply) (o : Own) (clocks : ℕ) : Type 0 where
   pub steps_are : AreOwnSteps p i r 0 o.steps
   pub state_is : o.state ≡ skip (design p) i clocks (own (design p) i r (length o.steps))

@@ -37,7 +37,7 @@ after_timing {S} d limit x m =
 unfoldable pub next_timing : {S : Type 0} → Design S → ℕ → Core S → ℕ → Option ℕ
 next_timing {S} d limit x at = first_round (may_time d limit x) d.modules at
 
--- the core after so many Assigns and Answers, module by module and round after round, if none is permitted then
+-- the core after this many Assigns and Answers, module by module and round after round, if none is permitted then
 abbrev pub timings : {S : Type 0} → Design S → ℕ → ℕ → ℕ → Core S → Option (Core S)
 timings {S} d limit zero at x = cond (is_none (next_timing d limit x at)) (Some x) None
 timings {S} d limit (suc n) at x = then_on (next_timing d limit x at) (λ m. timings d limit n m (after_timing d limit x m))
@@ -51,7 +51,7 @@ first_earliest {S} d limit x = first_from (may_earliest d limit x) 0 d.modules
 abbrev pub earliest_of : {S : Type 0} → Design S → ℕ → Core S → Option (Core S)
 earliest_of {S} d limit x = then_on (first_earliest d limit x) (λ m. Some (after_answer d x m (cycle_found d x m)))
 
--- the core after so many Runs of module m, if each is permitted
+-- the core after this many Runs of module m, if each is permitted
 abbrev pub runs_of : {S : Type 0} → Design S → ℕ → ℕ → Core S → Option (Core S)
 runs_of {S} d m zero x = Some x
 runs_of {S} d m (suc n) x = cond (may_run d x m) (runs_of d m n (after_run d x m)) None

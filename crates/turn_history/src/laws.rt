@@ -18,9 +18,9 @@ ghost use Rattle.turn_history.specs.Turns.{IsTurnOf, TurnsOf, AreOfOthers, taker
 ghost use Rattle.turn_history.specs.Replays.{turn_on, turns_on};
 ghost use Rattle.turn_history.specs.Histories.{IsHistoryOf, IsTurn, standing_of, turned_by};
 
-/// A turn that the computed test accepts is legal. The test accepts each legal lending, return and want of memory, the Assigns and
-/// Answers of a turn in the order of rounds, and a turn with the one Earliest. For the Earliest the core must have emitted steps of
-/// the design's modules alone, as each core that agrees has.
+/// A turn that the computed test accepts is legal. The test accepts each legal lending, each legal return, and each legal turn in
+/// which memory ran out; the Assigns and Answers of a turn in the order of rounds; and a turn with the one Earliest. For the
+/// Earliest the core must have emitted steps of the design's modules alone, as each core that agrees has.
 pub fn turns_fit<S>()
     ensures legal { (d : Design S) (h : Trace S) → IsDesign d → IsHistory d h → (limit : ℕ) (v w : Turned S)
         → IsAgreed d h limit v.core → AllVerified v.core → (turn : HubTurn) → turn_on d limit v turn ≡ Some w → IsTurnOf d limit v turn w }
@@ -37,8 +37,8 @@ pub fn turns_fit<S>()
         → turn_on d limit v (Short q) ≡ Some w }
 {}
 
-/// Histories only grow: turns lead where their first part leads, and from there the rest. After a final core the only turn is a
-/// want of memory, and the core stays.
+/// Histories only grow: turns lead where their first part leads, and from there the rest. After a final core the only legal turn is
+/// one in which memory ran out, and the core stays.
 pub fn histories_grow<S>()
     ensures joined { (d : Design S) (limit : ℕ) (v : Turned S) (turns more : List HubTurn)
         → turns_on d limit v (turns ++ more) ≡ then_on (turns_on d limit v turns) (λ u. turns_on d limit u more) }

@@ -5,9 +5,9 @@
 pub enum HubTurn {
     /// The run of this module was lent to the pass.
     Lent { pass: u32, module: u32 },
-    /// The pass made so many Runs of the module that it was lent, and gave the run back.
+    /// The pass made this many Runs of the module that it was lent, and gave the run back.
     Ran { pass: u32, module: u32, runs: u64 },
-    /// The pass made so many actions, none of them a Run.
+    /// The pass made this many actions, none of them a Run.
     Timed { pass: u32, actions: u64 },
     /// The pass found that memory ran out.
     Short(u32),

@@ -4,7 +4,7 @@ use Rattle.turn_lock.specs.declared.view.View.{View}
 use Rattle.turn_lock.specs.Views.{after_split, after_lost_tries, after_join}
 use Rattle.turn_lock.specs.Turns.{BeginsTurn, EndsTurn}
 
--- calls of the lock lead from pass v to pass w; in them so many turns were handed back, and so many tries were lost
+-- calls of the lock lead from pass v to pass w; in them this many turns were handed back, and this many tries were lost
 pub data IsLedBy {E : Type 0} (bearer : E → Option ℕ) (v : View E) : ℕ → ℕ → View E → Type 0 where
   -- no call yet
   Start : IsLedBy bearer v zero zero v

@@ -66,7 +66,7 @@ pub record Knows {E : Type 0} (bearer : E → Option ℕ) (passes : ℕ) (t : St
   pub own : v.own ≡ entries_of bearer v.number t.history
   pub own_seen : v.own ≡ entries_of bearer v.number v.seen
 
--- the rule for a pass that was joined, where the value has this history and so many passes were made
+-- the rule for a pass that was joined, where the value has this history and `made` passes were made
 pub record Past {E : Type 0} (bearer : E → Option ℕ) (log : List E) (made : ℕ) (m : Joined E) : Type 0 where
   -- its number is that of a pass that the first made
   pub positive : 0 < m.number

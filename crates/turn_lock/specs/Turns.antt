@@ -20,7 +20,7 @@ pub record Continues {E : Type 0} (bearer : E → Option ℕ) (v : View E) (log 
   pub owns : Owns bearer log v
   pub since : (later : List E) → v.seen ++ later ≡ log → entries_of bearer v.number later ≡ []
 
--- pass v got the turn after so many lost tries; in the turn it knows w, and the value has this history
+-- pass v got the turn after `tries` lost tries; in the turn it knows w, and the value has this history
 pub record BeginsTurn {E : Type 0} (bearer : E → Option ℕ) (tries : ℕ) (log : List E) (v w : View E) : Type 0 where
   pub same : IsSamePass v w
   pub seen : w.seen ≡ v.seen

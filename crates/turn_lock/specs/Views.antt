@@ -21,7 +21,7 @@ module _ {E : Type 0} where
     history = [];
   }
 
-  -- the first pass of a lock for so many passes, which has seen the value's entries
+  -- the first pass of a lock for this many passes, which has seen the value's entries
   abbrev pub first_view : ℕ → List E → View E
   first_view passes opening = new_view 0 passes opening true
 
@@ -50,7 +50,7 @@ module _ {E : Type 0} where
   abbrev pub split_off : View E → View E
   split_off v = new_view (v.made + 1) v.passes v.seen v.settled
 
-  -- a pass after so many tries that found the turn taken
+  -- a pass after this many tries that found the turn taken
   abbrev pub after_lost_tries : ℕ → View E → View E
   after_lost_tries k v = record v { lost = v.lost + k }
 

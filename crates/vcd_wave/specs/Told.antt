@@ -32,7 +32,7 @@ abbrev pub Varies : ℕ → List ℕ → Type 0
 Varies n [] = Unit {0}
 Varies n (m ∷ more) = (m ≢ n) × Varies m more
 
--- the change is of one of so many FIFOs, to a number of 32 bits
+-- the change is of one of `count` FIFOs, to a number of 32 bits
 pub record IsChange (count : ℕ) (c : Change) : Type 0 where
   pub declared : c.fifo < count
   pub fits : c.fill < 2 ^ 32
@@ -49,7 +49,7 @@ pub record IsWave (w : Wave) : Type 0 where
   pub in_order : All (λ i. AllPairs (λ a b. a.fifo < b.fifo) i.changes) w.later
   pub other : (fifo : ℕ) → fifo < length w.names → Varies 0 (told_in fifo w.later)
 
--- the text is that of a wave of FIFOs which says that this FIFO holds so many elements in this clock
+-- the text is that of a wave of FIFOs which says that this FIFO holds this many elements in this clock
 pub record TellsFill (text : List ℕ) (fifo clock fill : ℕ) : Type 0 where
   pub wave : Wave
   pub is_wave : IsWave wave

@@ -7,7 +7,7 @@ use Rattle.flow_design.specs.declared.plan.Plan.{Plan}
 use Rattle.flow_design.specs.Plans.{is_fifo}
 use Rattle.fifo_fills.specs.Fills.{fills, last_clock}
 
--- the FIFO with this number, counted from 0 in order of declaration, holds so many elements from now on
+-- the FIFO with this number, counted from 0 in order of declaration, holds this many elements from now on
 pub record Change : Type 0 where
   pub fifo : ℕ
   pub fill : ℕ

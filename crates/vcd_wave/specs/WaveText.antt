@@ -25,7 +25,7 @@ change_tokens change = (98 ∷ binary change.fill) ∷ code_of change.fifo ∷ [
 abbrev pub instant_lines : Instant → List (List Token)
 instant_lines i = time_tokens i.clock ∷ map change_tokens i.changes
 
--- clock 0, in which all of so many FIFOs are empty
+-- clock 0, in which each of this many FIFOs is empty
 abbrev pub opening : ℕ → Instant
 opening count = record { clock = 0; changes = map (λ i. record { fifo = i; fill = 0 }) (range_with_len 0 count) }
 

@@ -4,7 +4,7 @@ ghost use Rattle.vcd_wave.specs.Binary.{binary};
 
 use flow_word::{List, OutOfMemory};
 
-/// Adds a number in binary digits, without leading zeros.
+/// Adds a number in binary digits, without leading zeros. After `OutOfMemory` the text may have part of it.
 #[tactic(auto, using(crate::proofs::BinaryLemmas::binary_small, crate::proofs::BinaryLemmas::binary_step))]
 pub fn push_binary(text: &mut List<u8>, number: u64) -> Result<(), OutOfMemory>
     ensures { OnOk result (text.new ≡ text.old ++ binary number) }

@@ -50,7 +50,7 @@ fn print_vars(text: &mut List<u8>, channels: &[Channel]) -> Result<u64, OutOfMem
     Ok(count)
 }
 
-/// Adds all lines before the first time, and answers how many FIFOs there are.
+/// Adds all lines before the first time, and answers how many FIFOs there are. After `OutOfMemory` the text may have part of it.
 pub fn print_header(text: &mut List<u8>, channels: &[Channel]) -> Result<u64, OutOfMemory>
     ensures text { OnOk result (text.new ≡ text.old ++ text_of_lines (header_lines (fifo_names channels.now))) }
     ensures count { IfOk result (λ count. count ≡ length (fifo_names channels.now)) }
@@ -61,7 +61,7 @@ pub fn print_header(text: &mut List<u8>, channels: &[Channel]) -> Result<u64, Ou
     Ok(count)
 }
 
-/// Adds the line of a clock.
+/// Adds the line of a clock. After `OutOfMemory` the text may have part of it.
 pub fn print_time(text: &mut List<u8>, clock: u64) -> Result<(), OutOfMemory>
     ensures { OnOk result (text.new ≡ text.old ++ line (time_tokens clock)) }
 {
@@ -80,7 +80,7 @@ fn print_change(text: &mut List<u8>, fifo: u64, fill: u64) -> Result<(), OutOfMe
     text.push(b'\n')
 }
 
-/// Adds the lines of clock 0, in which all of these FIFOs are empty.
+/// Adds the lines of clock 0, in which all of these FIFOs are empty. After `OutOfMemory` the text may have part of it.
 pub fn print_opening(text: &mut List<u8>, count: u64) -> Result<(), OutOfMemory>
     ensures { OnOk result (text.new ≡ text.old ++ text_of_lines (instant_lines (opening count))) }
 {
@@ -91,7 +91,7 @@ pub fn print_opening(text: &mut List<u8>, count: u64) -> Result<(), OutOfMemory>
     Ok(())
 }
 
-/// Adds the lines of a clock and its changes, if there is a change. Whether there is one.
+/// Adds the lines of a clock and its changes, if there is a change. Returns whether there is one.
 fn print_instant(
     text: &mut List<u8>,
     clock: u64,
@@ -120,7 +120,7 @@ fn print_changes(text: &mut List<u8>, changes: &[FillChange]) -> Result<(), OutO
 }
 
 /// Adds the lines of a clock and its changes to the pending text, if there is a change, and writes the text once it is a piece.
-/// Whether there is a change.
+/// Returns whether there is a change.
 #[tactic(auto, using(sim_io::proofs::Pending::prefix_none))]
 pub(crate) fn write_instant<K: Sink>(
     pending: &mut List<u8>,

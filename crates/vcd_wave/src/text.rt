@@ -24,7 +24,6 @@ use std::alloc::Global;
 ///
 /// It takes memory for six numbers for each FIFO, for the changes of one clock, and for a piece of the text. After a fault a prefix
 /// of the text is written.
-/// text is written.
 pub fn wave_text<K: Sink>(
     alloc: Global,
     design: &Design,

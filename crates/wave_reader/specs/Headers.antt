@@ -18,7 +18,7 @@ pub record Names (n : ℕ) (text : List ℕ) (count : ℕ) (rest : List ℕ) : T
   pub counted : count ≡ n + length names
   pub is_text : text ≡ text_of_lines (map var_tokens (enumerate_from n names)) ++ 36 ∷ 117 ∷ rest
 
--- changes that say that so many FIFOs, from number n on, are empty
+-- changes that say that this many FIFOs, from number n on, are empty
 abbrev pub empty_from : ℕ → ℕ → List Change
 empty_from n zero = []
 empty_from n (suc more) = record { fifo = n; fill = 0 } ∷ empty_from (n + 1) more
@@ -26,7 +26,7 @@ empty_from n (suc more) = record { fifo = n; fill = 0 } ∷ empty_from (n + 1) m
 abbrev pub empty_text : ℕ → ℕ → List ℕ
 empty_text n more = text_of_lines (map change_tokens (empty_from n more))
 
--- the text declares so many FIFOs, then says that they are empty in clock 0, and then comes the rest
+-- the text declares `count` FIFOs, then says that they are empty in clock 0, and then comes the rest
 pub record Headed (text : List ℕ) (count : ℕ) (rest : List ℕ) : Type 0 where
   pub body : List ℕ
   pub is_text : text ≡ codes "$timescale 1 ns $end\n$scope module flow $end\n" ++ body

@@ -29,7 +29,6 @@ fn each_varies(asked: Asked, text: &[u8]) -> bool
 ///
 /// It takes no memory. It goes over the text once for each FIFO that is declared, and once more, since each change must be to
 /// another number than before it.
-/// before.
 pub fn wave_fill(text: &[u8], fifo: u32, clock: u64) -> Option<u64>
     ensures some { IfSome result (TellsFill text.now fifo clock) }
     ensures all { (v : ℕ) → TellsFill text.now fifo clock v → result ≡ Some v }

@@ -66,7 +66,7 @@ fn names_in(text: &[u8]) -> Option<(u64, &[u8])>
     }
 }
 
-/// The text after the lines that say that so many FIFOs are empty. `None` where it does not begin with these lines.
+/// The text after the lines that say that the first `count` FIFOs are empty. `None` where it does not begin with these lines.
 fn behind_empty(count: u64, text: &[u8]) -> Option<&[u8]>
     ensures some { IfSome result (λ rest. text.now ≡ empty_text 0 count ++ rest.now) }
     ensures all { (rest : List ℕ) → text.now ≡ empty_text 0 count ++ rest → MatchOption result ⊥ (λ found. found.now ≡ rest) }

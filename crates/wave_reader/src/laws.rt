@@ -13,7 +13,6 @@ ghost use Rattle.vcd_wave.specs.Told.{IsWave, TellsFill};
 ///
 /// `one_wave` speaks of waves with fewer than 2^64 names, as each wave in memory has. `decimal` writes the last 64 digits of a
 /// number, so it gives different numbers of FIFOs the same text from 10^64 on.
-/// number, so it does not tell all numbers of FIFOs apart from 10^64 on.
 pub fn waves_read_back()
     ensures one_wave { (v w : Wave) → IsWave v → IsWave w → length v.names < 2 ^ 64 → wave_text v ≡ wave_text w → v ≡ w }
     ensures one_fill { (text : List ℕ) → length text < 2 ^ 64 → (i c a b : ℕ) → TellsFill text i c a → TellsFill text i c b → a ≡ b }

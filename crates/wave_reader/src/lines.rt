@@ -11,7 +11,7 @@ use crate::numbers::number_before;
 pub enum Line {
     /// The lines that follow are of this clock.
     Time(u64),
-    /// The FIFO with this number holds so many elements from now on.
+    /// The FIFO with this number holds this many elements from now on.
     Change { fifo: u64, fill: u64 },
 }
 

@@ -1,7 +1,7 @@
-//! Designs that are done.
+//! Designs whose modules all end.
 use crate::worked::Worked;
 
-/// One source, one sink, and one module that adds one.
+/// A design with one source, one sink, and one module that adds one.
 pub const PLAIN_CASE: &[u8] = b"\
 flow 1
 source a 8
@@ -16,7 +16,7 @@ input a 7
 end
 ";
 
-/// What is answered to it.
+/// The answer to `PLAIN_CASE`.
 pub const PLAIN_ANSWER: &[u8] = b"\
 report 0
 verdict done 3
@@ -24,7 +24,7 @@ out y 8
 runs 1
 ";
 
-/// Two modules with a FIFO between them, whose element is seen one clock later.
+/// A design of two modules with a FIFO between them, whose element is seen one clock after its push.
 pub const TWO_MODULES: &[u8] = b"\
 flow 1
 source a 8
@@ -46,7 +46,7 @@ input a 5
 end
 ";
 
-/// What is answered to it.
+/// The answer to `TWO_MODULES`.
 pub const TWO_MODULES_ANSWER: &[u8] = b"\
 report 0
 verdict done 4
@@ -54,7 +54,7 @@ out y 5
 runs 1
 ";
 
-/// Three values go through a FIFO of depth two.
+/// A design in which three values go through a FIFO of depth two.
 pub const THREE_VALUES: &[u8] = b"\
 flow 1
 fifo b 8
@@ -78,7 +78,7 @@ stop
 end
 ";
 
-/// Designs that are done.
+/// Designs whose modules all end.
 pub const DESIGNS: &[Worked] = &[
     // plain case
     Worked {

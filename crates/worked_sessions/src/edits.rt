@@ -1,7 +1,8 @@
 //! Designs with depth edits.
 use crate::worked::Worked;
 
-/// A reader, a filter with four taps, a decimator that polls and a writer, with inputs and depth edits, in canonical form.
+/// A reader, a filter with four taps, a decimator that polls, and a writer, with inputs and depth edits. The text is in canonical
+/// form.
 pub const REALISTIC_LINE: &[u8] = b"\
 flow 1
 source a 16

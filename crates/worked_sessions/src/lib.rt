@@ -1,4 +1,4 @@
-//! Small sessions with their answers, worked out by hand: what the tests of several crates stand on.
+//! Small sessions with their answers, which were worked out by hand. Tests of several crates use them.
 #![tactic(auto)]
 
 mod deadlocks;

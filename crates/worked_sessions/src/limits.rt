@@ -1,8 +1,8 @@
-//! Designs that reach a limit, or just do not.
+//! Designs that reach a limit, and designs that just do not.
 use crate::designs::{PLAIN_ANSWER, PLAIN_CASE};
 use crate::worked::Worked;
 
-/// A loop without an end that tries a read in each local clock, with 10 as operation limit.
+/// A loop without end that tries a read in each local clock, with an operation limit of 10.
 pub const POLLING_LOOP: &[u8] = b"\
 flow 1
 fifo b 8
@@ -23,7 +23,7 @@ limits 1000 10
 end
 ";
 
-/// Designs that reach a limit, or just do not.
+/// Designs that reach a limit, and designs that just do not.
 pub const LIMITS: &[Worked] = &[
     // polling loop
     Worked {

@@ -9,7 +9,7 @@ use flow_grammar::{ReadFail, keeps_rules};
 use flow_text::read_session;
 use std::alloc::Global;
 
-/// The plan of a session text, without its edits. An error tells why the text is refused, or that there was no memory.
+/// The plan of a session text, without its edits. The error tells why the text is refused, or that memory ran out.
 pub fn read_plan(alloc: Global, text: &[u8]) -> Result<Plan, ReadFail>
     ensures fits { IfOk result (λ plan. FitsEngine plan) }
 {

@@ -1,7 +1,7 @@
 //! Designs whose modules ask whether an access is possible.
 use crate::worked::Worked;
 
-/// A tried pop in the clock behind the push.
+/// A pop that is tried in the clock after the push.
 pub const TIE_ONE_LATER: &[u8] = b"\
 flow 1
 fifo b 8
@@ -46,7 +46,7 @@ stop
 end
 ";
 
-/// Two iterations that overlap: a read, a test two local clocks later, and a write one later.
+/// Two iterations that overlap. Each has a read, a test two local clocks later, and a write one local clock after that.
 pub const LATER_STALL: &[u8] = b"\
 flow 1
 fifo b 8

@@ -1,14 +1,15 @@
-//! What stands of each session.
+//! The form of a worked session.
 
-/// A session with options, and what `run`, `alone` and `clock` are to answer. It was worked out by hand from the machine's rules.
+/// A session with options, and the answer that `run`, `alone` and `clock` must give. It was worked out by hand from the machine's
+/// rules.
 #[derive(Clone, Copy, Debug)]
 pub struct Worked {
-    /// The words behind the command.
+    /// The words after the command.
     pub options: &'static [&'static str],
     /// The session's text.
     pub text: &'static [u8],
-    /// What is written.
+    /// The text of the answer.
     pub told: &'static [u8],
-    /// The number that the program ends with.
+    /// The exit status of the program.
     pub status: u8,
 }

@@ -1,18 +1,18 @@
-//! The greatest that is read and the least that is refused, at each limit.
+//! At each limit, the greatest that is read and the least that is refused.
 use super::{fault, fault_of};
 use std::alloc::Global;
 use std::test::Fail;
 
-/// What stands before an operation in line 6.
+/// What comes before an operation in line 6.
 const BODY: &str = "module m\nreg x 8\nmem a 8 1\nblock k 1\nat 0 ";
 
-/// The fault of a text with these lines, in which a number stands for `@`.
+/// The fault of a text with these lines, after each `@` in them is replaced by a number.
 fn fault_with(alloc: Global, lines: &str, number: &str) -> Result<(u64, u64), Fail> {
     let lines = lines.replace(alloc, "@", number)?;
     fault_of(alloc, lines.as_str())
 }
 
-/// The faults with each of four numbers in turn.
+/// The faults of the same lines with each of four numbers for `@`.
 fn faults_with(
     alloc: Global,
     lines: &str,
@@ -26,7 +26,7 @@ fn faults_with(
     ])
 }
 
-/// The fault of a text with a line, or a part of one, that stands so many times, each time with its number, from 1 on.
+/// The fault of a text in which a line, or a part of one, is repeated `count` times, each time with its number, from 1 on.
 pub fn fault_repeated(
     alloc: Global,
     front: &str,
@@ -42,7 +42,7 @@ pub fn fault_repeated(
     fault_of(alloc, lines.as_str())
 }
 
-/// The faults with one number of lines and another.
+/// The faults of two texts, in which a line is repeated the first and the second number of times.
 fn faults_repeated(
     alloc: Global,
     front: &str,
@@ -56,7 +56,7 @@ fn faults_repeated(
     ])
 }
 
-/// A text of as many bytes as may be, and one of one more.
+/// Tests a text of as many bytes as a text may have, and one of one more.
 #[test]
 fn length_of_a_text(rt: HostRuntime) -> Result<(), Fail> {
     for (length, wanted) in [(4_194_304, (1, 12)), (4_194_305, (0, 1))] {
@@ -66,7 +66,7 @@ fn length_of_a_text(rt: HostRuntime) -> Result<(), Fail> {
     Ok(())
 }
 
-/// A number before its range, at its least, at its greatest, and behind it.
+/// Tests numbers just below their range, at its two ends, and just above it.
 #[test]
 fn ranges_of_numbers(rt: HostRuntime) -> Result<(), Fail> {
     let widths = ["0", "1", "64", "65"];
@@ -99,7 +99,7 @@ fn ranges_of_numbers(rt: HostRuntime) -> Result<(), Fail> {
     Ok(())
 }
 
-/// Numbers that have no other range are below 2^64. Zeros may stand in front.
+/// Tests numbers that have no other range, which are below 2^64. They may begin with zeros.
 #[test]
 fn words(rt: HostRuntime) -> Result<(), Fail> {
     let most = "18446744073709551615";
@@ -120,7 +120,7 @@ fn words(rt: HostRuntime) -> Result<(), Fail> {
     Ok(())
 }
 
-/// Lines of one kind, and input values: as many as may be, and one more.
+/// Tests as many lines of each kind, and as many input values, as a text may have, and one more.
 #[test]
 fn counts(rt: HostRuntime) -> Result<(), Fail> {
     let body = "module m\nreg x 8\nblock k 1\n";
@@ -166,7 +166,7 @@ fn counts(rt: HostRuntime) -> Result<(), Fail> {
     Ok(())
 }
 
-/// Operators one in the other, as deep as may be, and one more.
+/// Tests operators within operators as deep as they may be, and one deeper.
 #[test]
 fn depth_of_an_expression(rt: HostRuntime) -> Result<(), Fail> {
     let rows = [
@@ -184,7 +184,7 @@ fn depth_of_an_expression(rt: HostRuntime) -> Result<(), Fail> {
     Ok(())
 }
 
-/// An expression of as many nodes as may be, and of one more. Each of two expressions is counted for itself.
+/// Tests an expression of as many nodes as it may have, and of one more. Each of two expressions is counted by itself.
 #[test]
 fn nodes_of_an_expression(rt: HostRuntime) -> Result<(), Fail> {
     let alloc = rt.alloc();

@@ -1,4 +1,4 @@
-//! Names: what is one, which stand already, and which are declared before.
+//! Names: which tokens are names, which names are taken already, and which are declared before they are used.
 use super::fault_of;
 use std::test::Fail;
 
@@ -37,7 +37,7 @@ fn names_of_channels(rt: HostRuntime) -> Result<(), Fail> {
     Ok(())
 }
 
-/// Names of a module that are new where they are declared, and some that stand already.
+/// Tests names of a module that are new where they are declared, and some that are taken already.
 #[test]
 fn new_names_of_a_module(rt: HostRuntime) -> Result<(), Fail> {
     let rows = [
@@ -62,7 +62,7 @@ fn new_names_of_a_module(rt: HostRuntime) -> Result<(), Fail> {
     Ok(())
 }
 
-/// Names that are used where they are declared before and of the wanted sort, and some that are not.
+/// Tests names that are declared before they are used, and of the wanted sort, and some that are not.
 #[test]
 fn known_names_of_a_module(rt: HostRuntime) -> Result<(), Fail> {
     let rows = [

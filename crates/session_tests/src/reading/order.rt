@@ -1,9 +1,9 @@
-//! Lines that fail two tests: the first of them is told.
+//! Lines that break two rules: the fault is the one that is tested first.
 use super::fault_of;
 use super::limits::fault_repeated;
 use std::test::Fail;
 
-/// Bytes, then syntax, then ranges, then new names, then those that are used.
+/// Bytes are tested first, then syntax, ranges, new names, and names that are used.
 #[test]
 fn two_tests_at_once(rt: HostRuntime) -> Result<(), Fail> {
     let rows = [
@@ -25,7 +25,7 @@ fn two_tests_at_once(rt: HostRuntime) -> Result<(), Fail> {
     Ok(())
 }
 
-/// Two tests that an operation fails: the first one counts.
+/// An operation that breaks two rules: the fault is the one that is tested first.
 #[test]
 fn two_tests_of_an_operation(rt: HostRuntime) -> Result<(), Fail> {
     let rows = [
@@ -48,7 +48,7 @@ fn two_tests_of_an_operation(rt: HostRuntime) -> Result<(), Fail> {
     Ok(())
 }
 
-/// Counts come last.
+/// Counts of lines are tested last.
 #[test]
 fn counts_last(rt: HostRuntime) -> Result<(), Fail> {
     let fifos = ("fifo b", " 8\n");
@@ -75,7 +75,7 @@ fn counts_last(rt: HostRuntime) -> Result<(), Fail> {
     Ok(())
 }
 
-/// In operations sizes come last: one operation too many, and an expression that is too deep.
+/// In operations sizes are tested last: one operation too many, and an expression that is too deep.
 #[test]
 fn sizes_of_operations_last(rt: HostRuntime) -> Result<(), Fail> {
     let body = "module m\nreg x 8\nblock k 1\n";

@@ -75,7 +75,7 @@ impl Hub {
     }
 }
 
-/// Makes a pass for each of so many modules, in order, out of the first pass.
+/// Makes one pass for each of `count` modules, in order, out of the first pass.
 fn split_all(
     alloc: Global,
     lock: &TurnLock<Books>,
@@ -117,7 +117,7 @@ fn module_pass(pass: Pass<Books>, which: u32) -> ModulePass
     ModulePass { place, which }
 }
 
-/// The performance pass, from the first pass, which has just made a pass for each of so many modules.
+/// The performance pass, made from the first pass after that has made a pass for each of `count` modules.
 fn perf_pass(pass: Pass<Books>, count: u32) -> PerfPass
     requires first { IsFirst count (view_of pass).seen (view_of pass) }
     requires modules { HasModules count (view_of pass).seen }

@@ -28,8 +28,8 @@ impl Hub {
         (pass, desk)
     }
 
-    /// Takes a module's run back, with the marks of its burst, and does as many Runs. Whether they were done: not where memory ran
-    /// out in the burst, or for its marks. It takes one turn.
+    /// Takes a module's run back, with the marks of its burst, and does as many Runs. Returns whether they were done: they were not
+    /// where memory ran out in the burst, or for its marks. It takes one turn.
     pub fn return_desk<R: Wait>(&self, rt: &R, pass: ModulePass, burst: Burst) -> (ModulePass, bool)
         requires own { IsOfHub self.now pass }
         requires out { HasDeskOut (module_of pass) (module_view pass) }

@@ -77,7 +77,7 @@ impl Ledger {
         }
     }
 
-    /// Takes a module's run back from its pass, with the marks of its burst, and does as many Runs. Whether they were done.
+    /// Takes a module's run back from its pass, with the marks of its burst, and does as many Runs. Returns whether they were done.
     pub(crate) fn take_back(&mut self, pass: u32, owner: u32, burst: Burst) -> bool
         requires pass { pass ≡ owner + 1 }
         requires back { ComesBack owner burst (entries_in self.old) }

@@ -1,6 +1,7 @@
-pub mod Entries
+pub mod Ages
+pub mod Due
 pub mod Limits
 pub mod Live
-pub mod Making
-pub mod Search
 pub mod Next
+pub mod Ranks
+pub mod Slots

@@ -1,47 +1,44 @@
 -- What a schedule holds of its block.
-use Rattle.std.specs.Prelude.{
-  ℕ,
-  ◌≡◌,
-  ◌⊎◌,
-  ◌+◌,
-  ◌-◌,
-  ◌==◌,
-  ◌*◌,
-  ◌<◌,
-  ◌≤◌,
-  List,
-  map,
-  filter,
-  zip,
-  length,
-  slice_index,
-  slice_index_or,
-  All,
-  Contains,
-}
+use Rattle.std.specs.Prelude.{ℕ, ◌≡◌, ◌+◌, ◌-◌, ◌*◌, ◌/◌, ◌%◌, ◌==◌, ◌<◌, ◌≤◌, List, map, filter, flat_map, length, slice_index_or, All}
 use Rattle.std.specs.Prelude.{IsPermutation}
-use Rattle.std.specs.List.Sorted.{IsNonDecreasing}
+use Rattle.std.specs.List.{enumerate_from}
+use Rattle.std.specs.List.Sorted.{IsNonDecreasingBy}
 use Rattle.flow_design.specs.declared.limits.TheConstants.{BLOCK_CLOCKS, LIVE_ITERATIONS, OPERATIONS}
 use Rattle.flow_design.specs.declared.design.Block.{Block}
+use Rattle.flow_design.specs.declared.design.Timed.{Timed}
 use Rattle.flow_design.specs.Module.{interval, due_at}
 use Rattle.block_schedule.specs.declared.schedule.Schedule.{Schedule}
+use Rattle.block_schedule.specs.declared.tables.Slot.{Slot}
 
--- the numbers that stand at the same places as an offset
-abbrev pub beside : ℕ → List ℕ → List ℕ → List ℕ
-beside offset offsets numbers = map (λ e. e.1) (filter (λ e. e.0 == offset) (zip offsets numbers))
+-- ---- ranks
 
--- the places `from` up to `to`, without `to` itself, are those of an offset in a sorted list
-pub record IsSpan (offsets : List ℕ) (offset from to : ℕ) : Type 0 where
-  pub from_inside : from ≤ length offsets
-  pub to_inside : to ≤ length offsets
-  pub below : (k : ℕ) → k < from → slice_index offsets k < offset
-  pub not_below : (k : ℕ) → from ≤ k → k < length offsets → offset ≤ slice_index offsets k
-  pub not_above : (k : ℕ) → k < to → slice_index offsets k ≤ offset
-  pub above : (k : ℕ) → to ≤ k → k < length offsets → offset < slice_index offsets k
+-- the rank of an offset p + age * II: by its phase p first, and in a phase from the greatest age down
+abbrev pub rank : ℕ → ℕ → ℕ
+rank ii offset = offset % ii * LIVE_ITERATIONS + (LIVE_ITERATIONS - 1 - offset / ii)
 
--- the k-th of the spans is that of offset k
-abbrev pub AreSpans : List ℕ → List (ℕ × ℕ) → Type 0
-AreSpans offsets spans = (k : ℕ) (d : ℕ × ℕ) → k < length spans → IsSpan offsets k (slice_index_or spans k d).0 (slice_index_or spans k d).1
+-- the slot of an operation, which stands beside its number
+abbrev pub slot_of : ℕ → ℕ × Timed → Slot
+slot_of ii t = record { rank = rank ii (t.1).offset; op = t.0 }
+
+-- the operations of a rank
+abbrev pub of_rank : ℕ → List Slot → List ℕ
+of_rank r slots = map (λ s. s.op) (filter (λ s. s.rank == r) slots)
+
+-- from the first of the slots that is not below one rank up to the first that is not below another
+pub record IsRange (slots : List Slot) (first end from to : ℕ) : Type 0 where
+  pub rises : from ≤ to
+  pub to_inside : to ≤ length slots
+  pub below : (k : ℕ) (d : Slot) → k < from → (slice_index_or slots k d).rank < first
+  pub not_below : (k : ℕ) (d : Slot) → from ≤ k → k < length slots → first ≤ (slice_index_or slots k d).rank
+  pub before_end : (k : ℕ) (d : Slot) → k < to → (slice_index_or slots k d).rank < end
+  pub at_end : (k : ℕ) (d : Slot) → to ≤ k → k < length slots → end ≤ (slice_index_or slots k d).rank
+
+-- so many ranges, each of the phase of its own number among these slots
+abbrev pub ArePhases : List Slot → List (ℕ × ℕ) → Type 0
+ArePhases slots phases = (p : ℕ) (d : ℕ × ℕ) → p < length phases
+    → IsRange slots (p * LIVE_ITERATIONS) (p * LIVE_ITERATIONS + LIVE_ITERATIONS) (slice_index_or phases p d).0 (slice_index_or phases p d).1
+
+-- ---- schedules
 
 -- the limits that a schedule needs of its block: those of II and LEN, of the offsets, and of the number of operations
 pub record KeepsLimits (b : Block) : Type 0 where
@@ -52,21 +49,28 @@ pub record KeepsLimits (b : Block) : Type 0 where
   pub in_block : All (λ t. t.offset < b.len) b.ops
   pub count : length b.ops ≤ OPERATIONS
 
--- a block that keeps the limits has this schedule: its offsets in order, and at each offset the operations there, in text order
+-- the schedule of a block that keeps the limits: a slot of each operation, by rank, and those of a rank in text order
 pub record IsScheduleOf (b : Block) (s : Schedule) : Type 0 where
   pub same_interval : s.interval ≡ interval b
   pub same_len : s.len ≡ b.len
   pub limits : KeepsLimits b
-  pub pairs : length s.numbers.items ≡ length s.offsets.items
-  pub in_order : IsNonDecreasing s.offsets.items
-  pub offsets : IsPermutation (map (λ t. t.offset) b.ops) s.offsets.items
-  pub operations : (offset : ℕ) → beside offset s.offsets.items s.numbers.items ≡ due_at b offset
-  pub spans : AreSpans s.offsets.items s.spans.items
+  pub slots : IsPermutation (map (slot_of (interval b)) (enumerate_from 0 b.ops)) s.slots.items
+  pub in_order : IsNonDecreasingBy (λ t. t.rank) s.slots.items
+  pub operations : (offset : ℕ) → offset < b.len → of_rank (rank (interval b) offset) s.slots.items ≡ due_at b offset
+  pub phases : ArePhases s.slots.items s.phases.items
 
--- the clock is the first in which an iteration's age is one of these offsets, or `next` where that comes first; `age` is its age in
--- clock `now`
-pub record IsSooner (offsets : List ℕ) (now age next clock : ℕ) : Type 0 where
-  pub from : now ≤ clock
-  pub most : clock ≤ next
-  pub reached : (clock ≡ next) ⊎ Contains offsets (age + (clock - now))
-  pub idle_before : (c : ℕ) → now ≤ c → c < clock → ¬ Contains offsets (age + (c - now))
+-- ---- what is due
+
+-- the operations at these ages, each beside the place of its age among them
+abbrev pub due_at_ages : Block → List ℕ → List (ℕ × ℕ)
+due_at_ages b ages = flat_map (λ it. map (λ n. (it.0, n)) (due_at b it.1)) (enumerate_from 0 ages)
+
+-- a slot's place behind a rank, and its operation
+abbrev pub placed : ℕ → Slot → ℕ × ℕ
+placed oldest t = (t.rank - oldest, t.op)
+
+-- a slot of an operation of the block, and of one of so many ranks
+pub record IsSlotOf (b : Block) (oldest live : ℕ) (t : Slot) : Type 0 where
+  pub from : oldest ≤ t.rank
+  pub to : t.rank < oldest + live
+  pub op : t.op < length b.ops

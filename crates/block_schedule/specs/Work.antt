@@ -1,5 +1,5 @@
 -- The local clocks of a block in which there is work: an operation, a decision of the loop, or the block's end.
-use Rattle.std.specs.Prelude.{ℕ, ◌≡◌, ◌+◌, ◌^◌, ◌<◌, ◌≤◌, ◌⊎◌, IsTrue, IsFalse, map, Contains}
+use Rattle.std.specs.Prelude.{ℕ, ◌≡◌, ◌+◌, ◌*◌, ◌^◌, ◌<◌, ◌≤◌, ◌⊎◌, IsTrue, IsFalse, map, Contains}
 use Rattle.flow_design.specs.declared.design.Block.{Block}
 use Rattle.flow_design.specs.declared.state.Control.{Control}
 use Rattle.flow_design.specs.Module.{is_loop, interval, ages}
@@ -18,7 +18,22 @@ pub record HasOperation (b : Block) (k : Control) : Type 0 where
   pub is_live : Contains (ages b k) age
   pub operation : HasOperationAt b age
 
--- the loop decides: it goes on, and its newest iteration has been live for II local clocks
+-- so many live iterations, of which the newest has been live for so many whole II: one of them has an operation in this phase
+abbrev pub HasOperationIn : Block → ℕ → ℕ → ℕ → Type 0
+HasOperationIn b whole live phase = (older : ℕ) × ((older < live) × HasOperationAt b (phase + (whole + older) * interval b))
+
+-- the first phase, from this one on, in which one of them has an operation
+pub record IsNextPhase (b : Block) (whole live phase next : ℕ) : Type 0 where
+  pub from : phase ≤ next
+  pub inside : next < interval b
+  pub operation : HasOperationIn b whole live next
+  pub none_before : (p : ℕ) → phase ≤ p → p < next → ¬ HasOperationIn b whole live p
+
+-- there is none
+abbrev pub HasNoPhase : Block → ℕ → ℕ → ℕ → Type 0
+HasNoPhase b whole live phase = (p : ℕ) → phase ≤ p → p < interval b → ¬ HasOperationIn b whole live p
+
+-- an iteration is decided: the loop goes on, and its newest iteration has been live for II local clocks
 pub record IsDecided (b : Block) (k : Control) : Type 0 where
   pub goes_on : IsTrue k.looping
   pub is_old : k.clock ≡ k.newest + interval b

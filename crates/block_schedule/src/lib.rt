@@ -1,8 +1,8 @@
-//! Tables of a block's operations by their offsets, and the next local clock in which a block has work.
+//! Tables of a block's operations by phases, and the next local clock in which a block has work.
 #![tactic(auto)]
 
 mod schedule;
 mod tables;
 
 pub use schedule::Schedule;
-pub use tables::interval;
+pub use tables::{Slot, interval};

@@ -1,29 +1,31 @@
 //! The schedule of a block.
-ghost use Rattle.std.specs.Prelude.{ℕ, ◌≡◌, ◌+◌, ◌^◌, ◌≤◌, ◌<◌, if◌then◌else◌, length, slice_index, All, IfOk};
-ghost use Rattle.std.specs.List.Sorted.{IsNonDecreasing};
+ghost use Rattle.std.specs.Prelude.{ℕ, ◌≡◌, ◌+◌, ◌-◌, ◌*◌, ◌/◌, ◌^◌, ◌≤◌, ◌<◌, if◌then◌else◌, length, map, slice_index_or, All, IfOk, IfSome, None};
+ghost use Rattle.std.specs.List.Sorted.{IsNonDecreasingBy};
+ghost use Rattle.flow_design.specs.declared.limits.TheConstants.{BLOCK_CLOCKS, LIVE_ITERATIONS};
 ghost use Rattle.flow_design.specs.declared.design.Block.{Block as BlockOf};
-ghost use Rattle.flow_design.specs.Module.{due_at, interval, live_count};
-ghost use Rattle.block_schedule.specs.Schedules.{KeepsLimits, AreSpans, IsScheduleOf, IsSooner, IsSpan};
-ghost use Rattle.block_schedule.specs.Work.{StandsIn, IsNextDue};
+ghost use Rattle.flow_design.specs.Module.{ages_down, interval, live_count};
+ghost use Rattle.block_schedule.specs.Schedules.{rank, due_at_ages, placed, IsSlotOf};
+ghost use Rattle.block_schedule.specs.Schedules.{KeepsLimits, ArePhases, IsScheduleOf, IsRange};
+ghost use Rattle.block_schedule.specs.Work.{StandsIn, IsNextDue, IsNextPhase, HasNoPhase};
 
 use crate::tables::{
-    entries_of, first_from, interval, numbers_of, offsets_of, sort_entries, span_of, spans_of,
+    Slot, are_within, first_from, interval, phases_of, range_of, rank, slots_of, sort_slots,
 };
+use flow_design::limits::LIVE_ITERATIONS;
 use flow_design::{Block, Control};
 use flow_word::OutOfMemory;
 use std::alloc::Global;
 
-/// A block's operations, in order of their offsets. It takes memory for the operations, and none for clocks without any.
+/// A block's operations by phases: a local clock is of phase p where the newest iteration started p or more whole II before it.
+/// What is due in a clock stands together. Its size is that of the operations, however long the block is.
 #[derive(Debug)]
 pub struct Schedule {
     interval: u64,
     len: u64,
-    /// The offsets of all operations, in non-decreasing order.
-    offsets: Vec<u64>,
-    /// For each of the offsets, the number of the operation that has it.
-    numbers: Vec<u32>,
-    /// For each offset of a short block, the places in `offsets` at which its operations begin and end. Empty for a long block.
-    spans: Vec<(u32, u32)>,
+    /// All operations: by phase, in a phase from the greatest age down, and then in text order.
+    slots: Vec<Slot>,
+    /// For each phase of a short block, from which place on and up to which place its operations stand. Empty for a long block.
+    phases: Vec<(u32, u32)>,
 }
 
 impl Drop for Schedule {
@@ -31,9 +33,8 @@ impl Drop for Schedule {
         let Schedule {
             interval: _interval,
             len: _len,
-            offsets: _offsets,
-            numbers: _numbers,
-            spans: _spans,
+            slots: _slots,
+            phases: _phases,
         } = self;
     }
 }
@@ -45,64 +46,72 @@ impl Schedule {
         requires { KeepsLimits block.now }
         ensures { IfOk result (λ schedule. IsScheduleOf block.now schedule) }
     {
-        let mut entries = entries_of(alloc, block.ops.as_slice())?;
-        sort_entries(&mut entries)?;
-        let offsets = offsets_of(alloc, &entries)?;
-        let spans = spans_of(alloc, &offsets, block.len)?;
+        let interval = interval(block);
+        let mut slots = slots_of(alloc, interval, block.ops.as_slice())?;
+        sort_slots(&mut slots)?;
+        let phases = phases_of(alloc, &slots, interval)?;
         Ok(Schedule {
-            interval: interval(block),
+            interval,
             len: block.len,
-            offsets,
-            numbers: numbers_of(alloc, &entries)?,
-            spans,
+            slots,
+            phases,
         })
     }
 
-    /// The local clocks between the starts of two iterations.
+    /// The operations that stand at the ages of so many live iterations, of which the newest has this age: the oldest iteration
+    /// first, then in text order. Beside them the rank of the oldest age: a slot's iteration is its rank less that.
     #[inline(always)]
-    pub fn interval(&self) -> u64
-        ensures { (block : BlockOf) → IsScheduleOf block self.now → result ≡ interval block }
+    pub fn due(&self, age: u64, live: u64) -> (u64, &[Slot])
+        requires { (block : BlockOf) × (IsScheduleOf block self.now × (age + (live - 1) * interval block < block.len)) }
+        ensures places { (block : BlockOf) → IsScheduleOf block self.now
+            → map (placed result.0) result.1.now ≡ due_at_ages block (ages_down (interval block) age live) }
+        ensures inside { (block : BlockOf) → IsScheduleOf block self.now → All (IsSlotOf block result.0 live) result.1.now }
     {
-        self.interval
+        let end = rank(self.interval, age) + 1;
+        let (from, to) = self.range(end - live, end);
+        (end - live, &self.slots[from..to])
     }
 
-    /// The numbers of the block's operations at an offset, in text order.
+    /// From which place on and up to which place the slots stand whose ranks are at least the first, and below the end.
     #[inline(always)]
-    pub fn due(&self, offset: u64) -> &[u32]
-        requires { (block : BlockOf) × IsScheduleOf block self.now }
-        ensures { (block : BlockOf) → IsScheduleOf block self.now → result.now ≡ due_at block offset }
+    fn range(&self, first: u64, end: u64) -> (usize, usize)
+        requires in_order { IsNonDecreasingBy (λ s. s.rank) self.now.slots.items }
+        requires phases { ArePhases self.now.slots.items self.now.phases.items }
+        requires some { first ≤ end }
+        requires one { (phase : ℕ) × ((phase * LIVE_ITERATIONS ≤ first) × (end ≤ phase * LIVE_ITERATIONS + LIVE_ITERATIONS)) }
+        ensures { IsRange self.now.slots.items first end result.0 result.1 }
     {
-        let (from, to) = self.span(offset);
-        &self.numbers[from..to]
-    }
-
-    /// The places at which the operations of an offset begin and end: the first one, and the one after the last.
-    #[inline(always)]
-    fn span(&self, offset: u64) -> (usize, usize)
-        requires in_order { IsNonDecreasing self.now.offsets.items }
-        requires spans { AreSpans self.now.offsets.items self.now.spans.items }
-        ensures { IsSpan self.now.offsets.items offset result.0 result.1 }
-    {
-        match self.spans.get(offset as usize) {
-            Some(span) => (span.0 as usize, span.1 as usize),
-            None => span_of(self.offsets.as_slice(), offset),
+        if let Some(phase) = self.phases.get((first / LIVE_ITERATIONS) as usize) {
+            let (from, to) = (phase.0 as usize, phase.1 as usize);
+            if are_within(&self.slots, from, to, first, end) {
+                return (from, to);
+            }
         }
+        range_of(&self.slots, first, end)
     }
 
     /// The next local clock with work, from the control's own on: a live iteration has an operation at its age, the loop decides
     /// whether another iteration starts, or the block ends.
     ///
-    /// It searches the table once for each live iteration.
+    /// It goes through the operations at most once for each II local clocks up to there, whatever number of iterations is live.
     pub fn next_due(&self, control: &Control) -> u64
         requires { (block : BlockOf) × (IsScheduleOf block self.now × StandsIn block control.now) }
         ensures { (block : BlockOf) → IsScheduleOf block self.now → StandsIn block control.now → IsNextDue block control.now result }
     {
-        let mut next = self.turn(control);
-        let newest_age = control.clock - control.newest;
-        for older in 0..self.live_count(control) {
-            next = self.sooner(control.clock, newest_age + older * self.interval, next);
+        let turn = self.turn(control);
+        let live = self.live_count(control);
+        let mut whole = self.whole(control.clock - control.newest);
+        let mut start = control.newest + whole * self.interval;
+        let mut phase = control.clock - start;
+        while start < turn {
+            if let Some(next) = self.next_phase(phase, whole, live) {
+                return start + next;
+            }
+            whole += 1;
+            start += self.interval;
+            phase = 0;
         }
-        next
+        turn
     }
 
     /// The local clock at which the loop decides next, or at which the block ends where no further iteration starts.
@@ -137,36 +146,49 @@ impl Schedule {
         }
     }
 
-    /// The local clock in which an iteration has its next operation, or `next` where that comes first. `age` is its age in local
-    /// clock `now`.
-    fn sooner(&self, now: u64, age: u64, next: u64) -> u64
-        requires in_order { IsNonDecreasing self.now.offsets.items }
-        requires spans { AreSpans self.now.offsets.items self.now.spans.items }
-        requires small_offsets { All (λ offset. offset < 2 ^ 60) self.now.offsets.items }
-        requires small { now < 2 ^ 60 }
-        requires from { now ≤ next }
-        ensures { IsSooner self.now.offsets.items now age next result }
+    /// How many whole II an age has.
+    fn whole(&self, age: u64) -> u64
+        requires { 1 ≤ self.now.interval }
+        ensures { result ≡ age / self.now.interval }
     {
-        if next == now {
-            return next;
-        }
-        let at = self.place(age);
-        match self.offsets.get(at) {
-            Some(offset) => next.min(now + (*offset - age)),
-            None => next,
+        if age < self.interval {
+            0
+        } else {
+            age / self.interval
         }
     }
 
-    /// The place of the first operation whose offset is not below this one.
-    fn place(&self, offset: u64) -> usize
-        requires in_order { IsNonDecreasing self.now.offsets.items }
-        requires spans { AreSpans self.now.offsets.items self.now.spans.items }
-        ensures below { (k : ℕ) → k < result → slice_index self.now.offsets.items k < offset }
-        ensures rest { (k : ℕ) → result ≤ k → k < length self.now.offsets.items → offset ≤ slice_index self.now.offsets.items k }
+    /// The first phase, from this one on, in which one of so many live iterations has an operation, where the newest of them has
+    /// been live for so many whole II.
+    fn next_phase(&self, phase: u64, whole: u64, live: u64) -> Option<u64>
+        requires schedule { (block : BlockOf) × IsScheduleOf block self.now }
+        requires small { phase < 2 ^ 50 }
+        ensures some { (block : BlockOf) → IsScheduleOf block self.now
+            → IfSome result (λ next. IsNextPhase block whole live phase next) }
+        ensures none { (block : BlockOf) → IsScheduleOf block self.now → result ≡ None → HasNoPhase block whole live phase }
     {
-        match self.spans.get(offset as usize) {
-            Some(span) => span.0 as usize,
-            None => first_from(self.offsets.as_slice(), offset),
+        for slot in &self.slots[self.place(phase)..] {
+            let age = LIVE_ITERATIONS - 1 - slot.rank % LIVE_ITERATIONS;
+            if whole <= age && age - whole < live {
+                return Some(slot.rank / LIVE_ITERATIONS);
+            }
+        }
+        None
+    }
+
+    /// The place of the first operation whose phase is not before this one.
+    fn place(&self, phase: u64) -> usize
+        requires in_order { IsNonDecreasingBy (λ s. s.rank) self.now.slots.items }
+        requires phases { ArePhases self.now.slots.items self.now.phases.items }
+        requires small { phase < 2 ^ 50 }
+        ensures inside { result ≤ length self.now.slots.items }
+        ensures below { (k : ℕ) (d : Slot) → k < result → (slice_index_or self.now.slots.items k d).rank < phase * LIVE_ITERATIONS }
+        ensures rest { (k : ℕ) (d : Slot) → result ≤ k → k < length self.now.slots.items
+            → phase * LIVE_ITERATIONS ≤ (slice_index_or self.now.slots.items k d).rank }
+    {
+        match self.phases.get(phase as usize) {
+            Some(range) => range.0 as usize,
+            None => first_from(&self.slots, phase * LIVE_ITERATIONS),
         }
     }
 }

@@ -1,15 +1,25 @@
-//! The tables that a schedule is made of.
-ghost use Rattle.std.specs.Prelude.{ℕ, ◌≡◌, ◌<◌, ◌≤◌, length, map, slice_index, IfOk, OnOk, IsPermutation};
-ghost use Rattle.std.specs.List.Sorted.{IsNonDecreasing, IsNonDecreasingBy, IsStableByKey};
+//! What a schedule is made of.
+ghost use Rattle.std.specs.Prelude.{ℕ, ◌≡◌, ◌+◌, ◌-◌, ◌*◌, ◌<◌, ◌≤◌, length, map, slice_index_or, true, All, IfOk, OnOk, IsPermutation};
+ghost use Rattle.std.specs.List.Sorted.{IsNonDecreasingBy, IsStableByKey};
 ghost use Rattle.std.specs.List.{enumerate_from};
 ghost use Rattle.std.specs.Ordering.{nat_cmp};
-ghost use Rattle.flow_design.specs.declared.limits.TheConstants.{OPERATIONS};
+ghost use Rattle.flow_design.specs.declared.limits.TheConstants.{BLOCK_CLOCKS, LIVE_ITERATIONS, OPERATIONS};
 ghost use Rattle.flow_design.specs.Module.{interval};
-ghost use Rattle.block_schedule.specs.Schedules.{AreSpans, IsSpan};
+ghost use Rattle.block_schedule.specs.Schedules.{rank, slot_of, ArePhases, IsRange};
 
+use flow_design::limits::LIVE_ITERATIONS;
 use flow_design::{Block, BlockKind, Timed};
 use flow_word::OutOfMemory;
 use std::alloc::Global;
+
+/// An operation in the table of a block.
+#[derive(Clone, Copy, Debug, PartialEq)]
+pub struct Slot {
+    /// The rank of its offset: the offsets of a phase are together, and in a phase the greatest age comes first.
+    pub rank: u64,
+    /// The number of the operation in its block.
+    pub op: u32,
+}
 
 /// The local clocks between the starts of two iterations: II of a loop, and LEN of a plain block.
 #[inline(always)]
@@ -22,90 +32,103 @@ pub fn interval(block: &Block) -> u64
     }
 }
 
-/// The offset of each operation beside its number, in text order.
-pub(crate) fn entries_of(alloc: Global, ops: &[Timed]) -> Result<Vec<(u64, u32)>, OutOfMemory>
-    requires { length ops.now ≤ OPERATIONS }
-    ensures { IfOk result (λ entries. entries.items ≡ map (λ t. ((t.1).offset, t.0)) (enumerate_from 0 ops.now)) }
+/// The rank of an offset, or of an age.
+#[inline(always)]
+pub(crate) fn rank(interval: u64, offset: u64) -> u64
+    requires some { 1 ≤ interval }
+    requires most { interval ≤ BLOCK_CLOCKS }
+    requires live { offset < LIVE_ITERATIONS * interval }
+    ensures { result ≡ rank interval offset }
 {
-    let mut entries = Vec::with_capacity(alloc, ops.len())?;
-    for (number, timed) in ops.iter().enumerate() {
-        entries.push((timed.offset, number as u32))?;
+    if offset < interval {
+        offset * LIVE_ITERATIONS + (LIVE_ITERATIONS - 1)
+    } else {
+        offset % interval * LIVE_ITERATIONS + (LIVE_ITERATIONS - 1 - offset / interval)
     }
-    Ok(entries)
 }
 
-/// Sorts the entries by offset. Entries of the same offset stay in order.
-pub(crate) fn sort_entries(entries: &mut Vec<(u64, u32)>) -> Result<(), OutOfMemory>
-    ensures moved { OnOk result (IsPermutation entries.old.items entries.new.items) }
-    ensures sorted { OnOk result (IsNonDecreasingBy (λ e. e.0) entries.new.items) }
-    ensures stable { OnOk result (IsStableByKey (λ e. e.0) nat_cmp entries.old.items entries.new.items) }
+/// The slot of each operation, in text order.
+pub(crate) fn slots_of(
+    alloc: Global,
+    interval: u64,
+    ops: &[Timed],
+) -> Result<Vec<Slot>, OutOfMemory>
+    requires some { 1 ≤ interval }
+    requires most { interval ≤ BLOCK_CLOCKS }
+    requires live { All (λ t. t.offset < LIVE_ITERATIONS * interval) ops.now }
+    requires few { length ops.now ≤ OPERATIONS }
+    ensures { IfOk result (λ slots. slots.items ≡ map (slot_of interval) (enumerate_from 0 ops.now)) }
 {
-    entries.sort_by_key(|entry| entry.0)?;
+    let mut slots = Vec::with_capacity(alloc, ops.len())?;
+    for (number, timed) in ops.iter().enumerate() {
+        slots.push(Slot {
+            rank: rank(interval, timed.offset),
+            op: number as u32,
+        })?;
+    }
+    Ok(slots)
+}
+
+/// Sorts the slots by rank. Slots of the same rank stay in order.
+pub(crate) fn sort_slots(slots: &mut Vec<Slot>) -> Result<(), OutOfMemory>
+    ensures moved { OnOk result (IsPermutation slots.old.items slots.new.items) }
+    ensures sorted { OnOk result (IsNonDecreasingBy (λ s. s.rank) slots.new.items) }
+    ensures stable { OnOk result (IsStableByKey (λ s. s.rank) nat_cmp slots.old.items slots.new.items) }
+{
+    slots.sort_by_key(|slot| slot.rank)?;
     Ok(())
 }
 
-/// The offsets of the entries.
-pub(crate) fn offsets_of(alloc: Global, entries: &[(u64, u32)]) -> Result<Vec<u64>, OutOfMemory>
-    ensures { IfOk result (λ offsets. offsets.items ≡ map (λ e. e.0) entries.now) }
+/// The place of the first of the slots whose rank is not below this one.
+pub(crate) fn first_from(slots: &[Slot], rank: u64) -> usize
+    requires { IsNonDecreasingBy (λ s. s.rank) slots.now }
+    ensures bound { result ≤ length slots.now }
+    ensures below { (k : ℕ) (d : Slot) → k < result → (slice_index_or slots.now k d).rank < rank }
+    ensures rest { (k : ℕ) (d : Slot) → result ≤ k → k < length slots.now → rank ≤ (slice_index_or slots.now k d).rank }
 {
-    Ok(entries.iter().map(|entry| entry.0).collect(alloc)?)
+    slots.partition_point(|slot| slot.rank < rank)
 }
 
-/// The operation numbers of the entries.
-pub(crate) fn numbers_of(alloc: Global, entries: &[(u64, u32)]) -> Result<Vec<u32>, OutOfMemory>
-    ensures { IfOk result (λ numbers. numbers.items ≡ map (λ e. e.1) entries.now) }
-{
-    Ok(entries.iter().map(|entry| entry.1).collect(alloc)?)
-}
-
-/// The place of the first offset in the list that is not below the given one.
-pub(crate) fn first_from(offsets: &[u64], offset: u64) -> usize
-    requires { IsNonDecreasing offsets.now }
-    ensures bound { result ≤ length offsets.now }
-    ensures below { (k : ℕ) → k < result → slice_index offsets.now k < offset }
-    ensures rest { (k : ℕ) → result ≤ k → k < length offsets.now → offset ≤ slice_index offsets.now k }
-{
-    offsets.partition_point(|other| *other < offset)
-}
-
-/// The place of the first offset in the list that is above the given one.
-pub(crate) fn first_above(offsets: &[u64], offset: u64) -> usize
-    requires { IsNonDecreasing offsets.now }
-    ensures bound { result ≤ length offsets.now }
-    ensures below { (k : ℕ) → k < result → slice_index offsets.now k ≤ offset }
-    ensures rest { (k : ℕ) → result ≤ k → k < length offsets.now → offset < slice_index offsets.now k }
-{
-    offsets.partition_point(|other| *other <= offset)
-}
-
-/// The places at which the offsets equal to the given one begin and end: the first one, and the one after the last.
+/// From which of the slots on and up to which their ranks are at least the first, and below the end.
 #[inline(never)]
-pub(crate) fn span_of(offsets: &[u64], offset: u64) -> (usize, usize)
-    requires { IsNonDecreasing offsets.now }
-    ensures { IsSpan offsets.now offset result.0 result.1 }
+pub(crate) fn range_of(slots: &[Slot], first: u64, end: u64) -> (usize, usize)
+    requires in_order { IsNonDecreasingBy (λ s. s.rank) slots.now }
+    requires rises { first ≤ end }
+    ensures { IsRange slots.now first end result.0 result.1 }
 {
-    (first_from(offsets, offset), first_above(offsets, offset))
+    (first_from(slots, first), first_from(slots, end))
 }
 
-/// The span of each offset of a block with at most eight offsets for each operation. Empty for a longer block.
-pub(crate) fn spans_of(
-    alloc: Global,
-    offsets: &[u64],
-    len: u64,
-) -> Result<Vec<(u32, u32)>, OutOfMemory>
-    requires in_order { IsNonDecreasing offsets.now }
-    requires few { length offsets.now ≤ OPERATIONS }
-    ensures { IfOk result (λ spans. AreSpans offsets.now spans.items) }
+/// Whether the slots from one place on and up to another, which are in order, have ranks that are at least the first and below the end.
+#[inline(always)]
+pub(crate) fn are_within(slots: &[Slot], from: usize, to: usize, first: u64, end: u64) -> bool
+    requires { to ≤ length slots.now }
+    ensures first { result ≡ true → from < to → (d : Slot) → first ≤ (slice_index_or slots.now from d).rank }
+    ensures last { result ≡ true → from < to → (d : Slot) → (slice_index_or slots.now (to - 1) d).rank < end }
 {
-    let mut spans = Vec::new(alloc);
-    let count = if len <= 8 * offsets.len() as u64 {
-        len
+    from >= to || (first <= slots[from].rank && slots[to - 1].rank < end)
+}
+
+/// Where the slots of each phase stand, for a block with at most eight phases for each operation, and nothing for a longer one.
+pub(crate) fn phases_of(
+    alloc: Global,
+    slots: &[Slot],
+    interval: u64,
+) -> Result<Vec<(u32, u32)>, OutOfMemory>
+    requires in_order { IsNonDecreasingBy (λ s. s.rank) slots.now }
+    requires few { length slots.now ≤ OPERATIONS }
+    ensures { IfOk result (λ phases. ArePhases slots.now phases.items) }
+{
+    let mut phases = Vec::new(alloc);
+    let count = if interval <= 8 * slots.len() as u64 {
+        interval
     } else {
         0
     };
-    for offset in 0..count {
-        let (from, to) = span_of(offsets, offset);
-        spans.push((from as u32, to as u32))?;
+    for phase in 0..count {
+        let first = phase * LIVE_ITERATIONS;
+        let (from, to) = range_of(slots, first, first + LIVE_ITERATIONS);
+        phases.push((from as u32, to as u32))?;
     }
-    Ok(spans)
+    Ok(phases)
 }

@@ -1,5 +1,5 @@
 -- What the due operations ask, by the code of their block.
-use Rattle.std.proofs.Common.{◌≡◌, refl, sym, ◌∙◌, ap, subst, arith, ℕ, suc, ◌<◌, Bool, true, false, cond, List, []}
+use Rattle.std.proofs.Common.{◌≡◌, refl, sym, ◌∙◌, ap, subst, arith, suc, ◌<◌, Bool, true, false, cond, List, []}
 use Rattle.std.proofs.Common.{◌∷◌, length, get_or, Option}
 use Rattle.std.specs.List.{All, filter_map}
 use Rattle.std.proofs.lemmas.List.{get_or_default}
@@ -10,7 +10,6 @@ use Rattle.flow_design.specs.declared.state.ModuleState.{ModuleState}
 use Rattle.flow_design.specs.Module.{block_of, operation_at, due}
 use Rattle.lockstep_defs.specs.Machine.{request_for, requests}
 use Rattle.lockstep_defs.proofs.Standing.{due_in_range}
-use Rattle.block_code.specs.declared.action.Action.{Action}
 use Rattle.block_code.specs.declared.code.BlockCode.{BlockCode}
 use Rattle.block_code.specs.declared.code.Guarded.{Guarded}
 use Rattle.block_code.specs.Actions.{IsActionOf, action_request}

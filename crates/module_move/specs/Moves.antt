@@ -16,10 +16,10 @@ use Rattle.block_code.specs.declared.target.Target.TheVariants.{Register}
 use Rattle.block_code.specs.Actions.{action_request}
 use Rattle.block_code.specs.Notes.{noted_for}
 
--- which of these operations of a live iteration are due: their guard lets them be done
-abbrev pub passing : Block → ModuleState → ℕ → List ℕ → List Due
-passing b s place ns = map (λ n. record { iteration = place; op = n })
-    (filter (λ n. passes s.registers (temps_of s place) (operation_at b n).guard) ns)
+-- those of these operations, each beside the place of its live iteration, that have no guard, or one that is not 0
+abbrev pub passing : Block → ModuleState → List (ℕ × ℕ) → List Due
+passing b s its = map (λ it. record { iteration = it.0; op = it.1 })
+    (filter (λ it. passes s.registers (temps_of s it.0) (operation_at b it.1).guard) its)
 
 -- the notes of the due operations, in commit order
 abbrev pub notes_of : Module → ModuleState → List Noted

@@ -5,6 +5,7 @@ ghost use Rattle.flow_design.specs.declared.limits.TheConstants.{LIVE_ITERATIONS
 ghost use Rattle.flow_design.specs.declared.design.Channel.{Channel as ChannelOf};
 ghost use Rattle.flow_design.specs.Module.{block_of, due, passes, temps_of};
 ghost use Rattle.lockstep_defs.specs.Machine.{requests};
+ghost use Rattle.block_schedule.specs.Schedules.{placed, IsSlotOf};
 ghost use Rattle.block_code.specs.Actions.{action_request, action_room};
 ghost use Rattle.block_code.specs.Codes.{IsBlockCodeOf};
 ghost use Rattle.block_code.specs.Notes.{noted_for};
@@ -12,6 +13,7 @@ ghost use Rattle.module_move.specs.Moves.{asked_by, passing, notes_of};
 ghost use Rattle.module_move.specs.Sound.{HasCode, IsActionAt, IsStateSound};
 
 use block_code::{Action, BlockCode, Noted, Prepared, prepare, temps_of};
+use block_schedule::Slot;
 use flow_design::{Due, Module, ModuleState, Request};
 use flow_expr::variable;
 use flow_word::{List, OutOfMemory, Words};
@@ -68,56 +70,49 @@ fn note_due(
     ensures noted { OnOk result (noted.new ≡ notes_of of.now state.now) }
     ensures asked { OnOk result (asked.new ≡ filter_map (asked_by code.now state.now) (due of.now state.now)) }
 {
-    let step = code.schedule.interval();
-    let newest_age = state.control.clock - state.control.newest;
-    let mut left = state.temps.len();
-    let mut place = 0u32;
+    let age = state.control.clock - state.control.newest;
+    let (oldest, slots) = code.schedule.due(age, state.temps.len());
     noted.truncate(0);
     asked.truncate(0);
-    while left > 0 {
-        left -= 1;
-        let numbers = code.schedule.due(newest_age + left * step);
-        note_iteration(of, code, state, place, numbers, scratch, noted, asked)?;
-        place += 1;
-    }
+    note_slots(of, code, state, oldest, slots, scratch, noted, asked)?;
     Ok(())
 }
 
-/// Adds the notes and the requests of those operations of a live iteration whose guard lets them be done.
+/// Adds what is noted of those of these operations that have no guard, or one that is not 0, and their requests. The iteration of
+/// an operation is its rank less that of the oldest.
 #[inline(always)]
-fn note_iteration(
+fn note_slots(
     of: &Module,
     code: &BlockCode,
     state: &ModuleState,
-    place: u32,
-    numbers: &[u32],
+    oldest: u64,
+    slots: &[Slot],
     scratch: &mut [u64],
     noted: &mut List<Noted>,
     asked: &mut List<Request>,
 ) -> Result<(), OutOfMemory>
     requires sound { IsStateSound of.now state.now }
     requires code { (channels : Items ChannelOf) × HasCode channels of.now state.now code.now }
-    requires place { place < length state.now.temps }
-    requires numbers { All (λ n. n < length (block_of of.now state.now).ops) numbers.now }
+    requires slots { All (IsSlotOf (block_of of.now state.now) oldest (length state.now.temps)) slots.now }
+    requires few { length state.now.temps ≤ LIVE_ITERATIONS }
     requires room { code.now.room ≤ length scratch.old }
     ensures noted { OnOk result (noted.new
         ≡ noted.old ++ map (noted_for (block_of of.now state.now) state.now)
-        (passing (block_of of.now state.now) state.now place numbers.now)) }
+        (passing (block_of of.now state.now) state.now (map (placed oldest) slots.now))) }
     ensures asked { OnOk result (asked.new
         ≡ asked.old ++ filter_map (asked_by code.now state.now)
-        (passing (block_of of.now state.now) state.now place numbers.now)) }
-    ensures room { OnOk result (length scratch.new ≡ length scratch.old) }
+        (passing (block_of of.now state.now) state.now (map (placed oldest) slots.now))) }
 {
-    if numbers.is_empty() {
-        return Ok(());
-    }
-    let temps = temps_of(state, place);
-    for number in numbers {
+    let mut iteration = 0u32;
+    let mut temps = temps_of(state, iteration);
+    for slot in slots {
         let due = Due {
-            iteration: place,
-            op: *number,
+            iteration: (slot.rank - oldest) as u32,
+            op: slot.op,
         };
-        let guarded = &code.actions.as_slice()[*number as usize];
+        temps = temps_after(state, temps, iteration, due.iteration);
+        iteration = due.iteration;
+        let guarded = &code.actions.as_slice()[due.op as usize];
         let passes = passes(guarded.guard, state.registers.as_slice(), temps);
         note_if(
             passes,
@@ -134,7 +129,25 @@ fn note_iteration(
     Ok(())
 }
 
-/// Whether a guard lets its operation be done: there is none, or it is not 0.
+/// The temps of a live iteration, where those of another, or of the same, were looked up before.
+#[inline(always)]
+fn temps_after<'a>(
+    state: &'a ModuleState,
+    temps: &'a [u64],
+    before: u32,
+    iteration: u32,
+) -> &'a [u64]
+    requires { temps.now ≡ temps_of state.now before }
+    ensures { result.now ≡ temps_of state.now iteration }
+{
+    if iteration == before {
+        temps
+    } else {
+        temps_of(state, iteration)
+    }
+}
+
+/// Whether there is no guard, or one that is not 0.
 #[inline(always)]
 fn passes(guard: Option<u32>, registers: &[u64], temps: &[u64]) -> bool
     requires { IfSome guard (λ at. at < length registers.now + length temps.now) }

@@ -1,97 +1,57 @@
-use Rattle.std.proofs.Common.{◌≡◌, ◌∙◌, ◌+◌, ◌-◌, ◌++◌, ◌*◌, ◌<◌, ap, sym, subst, arith, zero-add, List, ℕ, map, length}
-use Rattle.std.specs.Prelude.{All}
+use Rattle.std.proofs.Common.{◌≡◌, ◌∙◌, ◌-◌, ◌++◌, ◌<◌, ap, sym, arith, List, [], ℕ, map, length}
 use Rattle.std.specs.List.{filter_map}
-use Rattle.std.proofs.lemmas.List.{map-append}
-use Rattle.std.proofs.lemmas.List.Elements.{filter_map-append}
-use Rattle.flow_design.specs.Module.{block_of, interval}
-use Rattle.lockstep_defs.proofs.Blocks.{block_sound}
+use Rattle.flow_design.specs.declared.design.Module.{Module}
+use Rattle.flow_design.specs.declared.state.Due.{Due}
+use Rattle.flow_design.specs.declared.state.ModuleState.{ModuleState}
+use Rattle.flow_design.specs.Module.{block_of, interval, live_count, ages_down, due}
+use Rattle.block_schedule.specs.Schedules.{due_at_ages}
 use Rattle.block_code.specs.Notes.{noted_for}
 use Rattle.module_move.specs.Moves.{asked_by, passing}
-use Rattle.module_move.proofs.Ages.{due_is, adding_more, older_age}
+use Rattle.module_move.proofs.Ages.{oldest_age}
 use Rattle.module_move.proofs.Readiness.{few_are_live}
-use Rattle.module_move.proofs.Looking.{numbers_inside}
+use Rattle.module_move.proofs.Looking.{due_by_phase}
 use Rattle.module_move.proofs.noting.note_due.Goals as goal
 
-pub loop-left-init : goal.loop-left-init
-loop-left-init c =
-    let m = c.args.of.now in
-    let s = c.args.state.now in
-    let step : c.interval-step.result ≡ interval (block_of m s) =
-    c.interval-step.ensures (block_of m s) c.requires.code.1.code_is.schedule in
-    record {
-      noted = rw (c.truncate.ensures, step, c.len-left.ensures, c.requires.sound.state.places.temps)
-          (ap (map (noted_for (block_of m s) s)) (sym (due_is m s)));
-      asked = rw (c.truncate-2.ensures, step, c.len-left.ensures, c.requires.sound.state.places.temps)
-          (ap (filter_map (asked_by c.args.code.now s)) (sym (due_is m s)));
-      places = rw c.len-left.ensures (zero-add (length s.temps) ∙ c.requires.sound.state.places.temps);
-      room = c.requires.room;
-    }
+-- what was noted of those that pass is of all that are due
+all_due : {X : Type 0} (h : List Due → List X) (m : Module) (s : ModuleState) (live : ℕ) (its : List (ℕ × ℕ)) (none now : List X) → none ≡ []
+    → live ≡ live_count (block_of m s) s.control
+    → its ≡ due_at_ages (block_of m s) (ages_down (interval (block_of m s)) (s.control.clock - s.control.newest) live)
+    → now ≡ none ++ h (passing (block_of m s) s its) → now ≡ h (due m s)
+all_due {X} h m s live its none now empty count stand added =
+    let b = block_of m s in
+    let age : ℕ = s.control.clock - s.control.newest in
+    added ∙ (ap (λ (xs : List X). xs ++ h (passing b s its)) empty
+    ∙ ap h (ap (passing b s) (stand ∙ ap (λ (n : ℕ). due_at_ages b (ages_down (interval b) age n)) count) ∙ sym (due_by_phase m s)))
 
-pub overflow_add-newest_age : goal.overflow_add-newest_age
-overflow_add-newest_age c =
+pub due-oldest-requires : goal.due-oldest-requires
+due-oldest-requires c =
     let m = c.args.of.now in
     let s = c.args.state.now in
     let b = block_of m s in
     let sound = c.requires.sound in
-    let block = block_sound (length c.requires.code.0) m s.control.block c.requires.code.1.of sound.state.block in
-    let live : s.control.clock - s.control.newest < b.len =
+    let young : s.control.clock - s.control.newest < b.len =
     omega (arith, sound.state.control.has_started, sound.state.young sound.running) in
-    let step : c.interval-step.result ≡ interval b = c.interval-step.ensures b c.requires.code.1.code_is.schedule in
-    let age = older_age b s.control (c.loop-left.left - 1) live (omega (arith, c.loop-left.invariant.places)) in
-    let product : (c.loop-left.left - 1) * c.interval-step.result ≡ (c.loop-left.left - 1) * interval b =
-    ap (λ (n : ℕ). (c.loop-left.left - 1) * n) step in
-    omega (arith, age, product, block.most)
+    (b, (c.requires.code.1.code_is.schedule, oldest_age b s.control _ young (c.len.ensures ∙ sound.state.places.temps)))
 
-pub overflow_mul-left : goal.overflow_mul-left
-overflow_mul-left c =
-    let m = c.args.of.now in
-    let s = c.args.state.now in
-    let b = block_of m s in
-    let sound = c.requires.sound in
-    let block = block_sound (length c.requires.code.0) m s.control.block c.requires.code.1.of sound.state.block in
-    let live : s.control.clock - s.control.newest < b.len =
-    omega (arith, sound.state.control.has_started, sound.state.young sound.running) in
-    let step : c.interval-step.result ≡ interval b = c.interval-step.ensures b c.requires.code.1.code_is.schedule in
-    let age = older_age b s.control (c.loop-left.left - 1) live (omega (arith, c.loop-left.invariant.places)) in
-    let product : (c.loop-left.left - 1) * c.interval-step.result ≡ (c.loop-left.left - 1) * interval b =
-    ap (λ (n : ℕ). (c.loop-left.left - 1) * n) step in
-    omega (arith, age, product, block.most)
-
-pub overflow_add-place : goal.overflow_add-place
-overflow_add-place c =
+pub note_slots-requires-clause-few : goal.note_slots-requires-clause-few
+note_slots-requires-clause-few c =
     let few = few_are_live (length c.requires.code.0) c.args.of.now c.args.state.now c.requires.code.1.of c.requires.sound in
-    omega (arith, few, c.loop-left.invariant.places)
+    omega (arith, few, c.requires.sound.state.places.temps)
 
-pub note_iteration-requires-clause-place : goal.note_iteration-requires-clause-place
-note_iteration-requires-clause-place c = omega (arith, c.loop-left.invariant.places, c.requires.sound.state.places.temps)
-
-pub note_iteration-requires-clause-numbers : goal.note_iteration-requires-clause-numbers
-note_iteration-requires-clause-numbers c =
-    let b = block_of c.args.of.now c.args.state.now in
-    let age = (c.args.state.now.control.clock - c.args.state.now.control.newest) + (c.loop-left.left - 1) * c.interval-step.result in
-    subst (λ (ns : List ℕ). All (λ n. n < length b.ops) ns) (sym (c.due-numbers.ensures b c.requires.code.1.code_is.schedule))
-    (numbers_inside b age)
-
-pub loop-left-preserved : goal.loop-left-preserved
-loop-left-preserved c =
+pub returns-clause-noted : goal.returns-clause-noted
+returns-clause-noted c =
     let m = c.args.of.now in
     let s = c.args.state.now in
     let b = block_of m s in
-    let request = asked_by c.args.code.now s in
-    let numbers = c.due-numbers.ensures b c.requires.code.1.code_is.schedule in
-    record {
-      noted = adding_more (map (noted_for b s)) (λ xs ys. map-append (noted_for b s) xs ys) b s c.interval-step.result
-          (s.control.clock - s.control.newest) c.loop-left.left (c.loop-left.left - 1) c.loop-left.place c.loop-left.noted
-          c.note_iteration.new.noted _ (omega arith)
-          (c.in_ok-note_iteration.ensures.noted
-          ∙ ap (λ (ns : List ℕ). c.loop-left.noted ++ map (noted_for b s) (passing b s c.loop-left.place ns)) numbers)
-          c.loop-left.invariant.noted;
-      asked = adding_more (filter_map request) (λ xs ys. filter_map-append request xs ys) b s c.interval-step.result
-          (s.control.clock - s.control.newest) c.loop-left.left (c.loop-left.left - 1) c.loop-left.place c.loop-left.asked
-          c.note_iteration.new.asked _ (omega arith)
-          (c.in_ok-note_iteration.ensures.asked
-          ∙ ap (λ (ns : List ℕ). c.loop-left.asked ++ filter_map request (passing b s c.loop-left.place ns)) numbers)
-          c.loop-left.invariant.asked;
-      places = omega (arith, c.loop-left.invariant.places);
-      room = omega (arith, c.in_ok-note_iteration.ensures.room, c.loop-left.invariant.room);
-    }
+    all_due (map (noted_for b s)) m s c.len.result _ c.truncate.new.self c.note_slots.new.noted c.truncate.ensures
+    (c.len.ensures ∙ c.requires.sound.state.places.temps) (c.due-oldest.ensures.places b c.requires.code.1.code_is.schedule)
+    c.in_ok-note_slots.ensures.noted
+
+pub returns-clause-asked : goal.returns-clause-asked
+returns-clause-asked c =
+    let m = c.args.of.now in
+    let s = c.args.state.now in
+    let b = block_of m s in
+    all_due (filter_map (asked_by c.args.code.now s)) m s c.len.result _ c.truncate-2.new.self c.note_slots.new.asked c.truncate-2.ensures
+    (c.len.ensures ∙ c.requires.sound.state.places.temps) (c.due-oldest.ensures.places b c.requires.code.1.code_is.schedule)
+    c.in_ok-note_slots.ensures.asked

@@ -1,65 +1,33 @@
-use Rattle.std.proofs.Common.{◌≡◌, ◌<◌, ◌+◌, ◌-◌, ◌*◌, arith, ap, ℕ}
-use Rattle.flow_design.specs.Module.{live_count, interval}
-use Rattle.block_schedule.proofs.Next.{age_of, first_next, next_more, all_next, small_offsets, small_age}
+use Rattle.std.proofs.Common.{◌≡◌, sym, arith, subst, ◌+◌, ℕ}
+use Rattle.flow_design.specs.Module.{live_count}
+use Rattle.block_schedule.specs.Work.{IsNextPhase, HasNoPhase, IsNextDue}
+use Rattle.block_schedule.proofs.Next.{IsRound, turn_of, next_round, found_next, turn_next}
 use Rattle.block_schedule.proofs.schedule.Schedule.next_due.Goals as goal
 
-pub turn-next-requires : goal.turn-next-requires
-turn-next-requires c =
-    let (b, (is_schedule, stands)) = c.requires in
-    omega (
-      arith,
-      is_schedule.same_interval,
-      is_schedule.same_len,
-      is_schedule.limits.most,
-      is_schedule.limits.short,
-      stands.small,
-      stands.has_started,
-    )
-
-pub loop-older-init : goal.loop-older-init
-loop-older-init c b is_schedule stands =
-    first_next b c.args.control.now c.turn-next.result stands (rw (is_schedule.same_interval, is_schedule.same_len) at c.turn-next.ensures)
-
-pub overflow_mul-older : goal.overflow_mul-older
-overflow_mul-older c =
-    let (b, (is_schedule, stands)) = c.requires in
+pub loop-start-preserved : goal.loop-start-preserved
+loop-start-preserved c b is stands =
     let k = c.args.control.now in
-    let live : c.loop-older.older < live_count b k = omega (arith, c.live_count-older-end.ensures b is_schedule, c.loop-older-test.true) in
-    let young = small_age b k c.loop-older.older is_schedule.limits.some live in
-    let same : c.loop-older.older * c.args.self.now.interval ≡ c.loop-older.older * interval b =
-    ap (λ (i : ℕ). c.loop-older.older * i) is_schedule.same_interval in
-    omega (arith, is_schedule.limits.most)
+    let none : HasNoPhase b c.loop-start.whole (live_count b k) c.loop-start.phase =
+    subst (λ (n : ℕ). HasNoPhase b c.loop-start.whole n c.loop-start.phase) (c.live_count-live.ensures b is)
+    (c.next_phase.ensures.none b is c.in_default.is) in
+    subst (λ (ii : ℕ). IsRound b k (c.loop-start.whole + 1) (c.loop-start.start + ii) 0) (sym is.same_interval)
+    (next_round b k c.loop-start.whole c.loop-start.start c.loop-start.phase is.limits.some stands.has_started
+    (c.loop-start.invariant b is stands) none)
 
-pub overflow_add-newest_age : goal.overflow_add-newest_age
-overflow_add-newest_age c =
-    let (b, (is_schedule, stands)) = c.requires in
+pub returns-in-Some : goal.returns-in-Some
+returns-in-Some c b is stands =
     let k = c.args.control.now in
-    let live : c.loop-older.older < live_count b k = omega (arith, c.live_count-older-end.ensures b is_schedule, c.loop-older-test.true) in
-    let young = small_age b k c.loop-older.older is_schedule.limits.some live in
-    let same : c.loop-older.older * c.args.self.now.interval
-    ≡ c.loop-older.older * interval b = ap (λ (i : ℕ). c.loop-older.older * i) is_schedule.same_interval in
-    omega (arith, is_schedule.limits.most)
-
-pub sooner-next-requires-clause-small_offsets : goal.sooner-next-requires-clause-small_offsets
-sooner-next-requires-clause-small_offsets c = small_offsets c.requires.0 c.args.self.now c.requires.1.0
-
-pub sooner-next-requires-clause-from : goal.sooner-next-requires-clause-from
-sooner-next-requires-clause-from c = (c.loop-older.invariant c.requires.0 c.requires.1.0 c.requires.1.1).from
-
-pub loop-older-preserved : goal.loop-older-preserved
-loop-older-preserved c b is_schedule stands =
-    let k = c.args.control.now in
-    let live : c.loop-older.older < live_count b k = omega (arith, c.live_count-older-end.ensures b is_schedule, c.loop-older-test.true) in
-    let age = (k.clock - k.newest) + c.loop-older.older * c.args.self.now.interval in
-    let aged : age ≡ age_of b k c.loop-older.older =
-    ap (λ (i : ℕ). (k.clock - k.newest) + c.loop-older.older * i) is_schedule.same_interval in
-    next_more b c.args.self.now k c.loop-older.older c.loop-older.next age c.sooner-next.result is_schedule stands live aged
-    c.sooner-next.ensures
-    (c.loop-older.invariant b is_schedule stands)
+    let found : IsNextPhase b c.loop-start.whole (live_count b k) c.loop-start.phase c.in-Some.next =
+    subst (λ (n : ℕ). IsNextPhase b c.loop-start.whole n c.loop-start.phase c.in-Some.next) (c.live_count-live.ensures b is)
+    (c.in-Some.ensures.some b is) in
+    let turn : c.turn-turn.result ≡ turn_of b k = rw (is.same_interval, is.same_len) at c.turn-turn.ensures in
+    found_next b k c.loop-start.whole c.loop-start.start c.loop-start.phase c.in-Some.next is.limits stands
+    (c.loop-start.invariant b is stands) (omega (arith, c.loop-start-test.true)) found
 
 pub returns : goal.returns
-returns c b is_schedule stands =
+returns c b is stands =
     let k = c.args.control.now in
-    let all : c.loop-older.older ≡ live_count b k =
-    omega (arith, c.live_count-older-end.ensures b is_schedule, c.loop-older-test.false, c.loop-older.auto.older-end) in
-    all_next b k c.loop-older.older c.loop-older.next is_schedule.limits.some stands all (c.loop-older.invariant b is_schedule stands)
+    let turn : c.turn-turn.result ≡ turn_of b k = rw (is.same_interval, is.same_len) at c.turn-turn.ensures in
+    subst (λ (n : ℕ). IsNextDue b k n) (sym turn)
+    (turn_next b k c.loop-start.whole c.loop-start.start c.loop-start.phase stands (c.loop-start.invariant b is stands)
+    (omega (arith, c.loop-start-test.false)))

@@ -16,9 +16,10 @@ use cycle_changes::Changes;
 use engine_view::Engine;
 use event_graph::Candidate;
 use flow_design::{Advance, Plan, Reply};
-use flow_word::{List, Port, Queue};
+use flow_word::{List, Port};
 use module_interp::ModuleRun;
 use module_sets::ModuleSet;
+use run_ahead::Mail;
 use std::alloc::Global;
 use std::marker::Model;
 
@@ -46,8 +47,8 @@ pub struct Core {
 
 /// Room that is used again. What is in it doesn't matter.
 pub(crate) struct Scratch {
-    /// For the values of a mail: the lists of the last one that came back.
-    pub(crate) values: List<Queue<u64>>,
+    /// For a mail: the last one that came back.
+    pub(crate) mail: Mail,
     /// For the replies to a step.
     pub(crate) replies: List<Reply>,
     /// For the few cycles that an edit changes.
@@ -58,7 +59,7 @@ impl Scratch {
     /// No room yet.
     pub(crate) fn new(alloc: Global) -> Scratch {
         Scratch {
-            values: List::new(alloc),
+            mail: Mail::none(alloc),
             replies: List::new(alloc),
             changes: Changes::new(alloc),
         }
@@ -68,7 +69,7 @@ impl Scratch {
 impl Drop for Scratch {
     fn drop(self) {
         let Scratch {
-            values: _values,
+            mail: _mail,
             replies: _replies,
             changes: _changes,
         } = self;

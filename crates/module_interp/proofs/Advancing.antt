@@ -1,15 +1,11 @@
 -- A run at its rest.
 use Rattle.std.specs.Box.{with_value}
-use Rattle.std.proofs.Common.{◌≡◌, ◌≢◌, ℕ, ◌^◌, ◌<◌, ◌⊎◌, inl, inr, false, List, map, length, sym, ap, subst, arith, ◌∙◌}
-use Rattle.std.specs.Prelude.{All}
+use Rattle.std.proofs.Common.{◌≡◌, ◌≢◌, ℕ, ◌^◌, ◌<◌, ◌⊎◌, inl, inr, false, List, map, length, ap, subst, arith}
 use Rattle.std.proofs.lemmas.Bool.{both_ways}
 use Rattle.flow_word.specs.declared.access.Access.{Access}
 use Rattle.flow_design.specs.declared.plan.Plan.{Plan}
-use Rattle.flow_design.specs.declared.state.Request.{Request}
 use Rattle.lockstep_defs.specs.Machine.{is_over}
-use Rattle.lockstep_defs.specs.Lockstep.{requests_of}
 use Rattle.lockstep_defs.specs.OwnRun.{Own, access_of}
-use Rattle.lockstep_defs.proofs.Standing.{requests_stand}
 use Rattle.module_interp.specs.declared.path.Stage.TheVariants.{Asked}
 use Rattle.module_interp.specs.declared.path.Path.{Path}
 use Rattle.module_interp.specs.declared.run.ModuleRun.{ModuleRun}
@@ -18,7 +14,6 @@ use Rattle.module_interp.specs.Paths.{LeadsTo, KeepsRest, IsAtStep, IsAtEnd}
 use Rattle.module_interp.specs.Runs.{StandsAt}
 use Rattle.module_interp.proofs.Ways.{has_begun}
 use Rattle.module_interp.proofs.Standing.{IsAtRest, step_rest, end_rest, accesses_are, asked_leads}
-use Rattle.module_interp.proofs.Keeping.{asked_same}
 
 -- the way that was kept began at the path in the box
 pub kept_on : (x z y : Path) → z ≡ x → KeepsRest z y → KeepsRest x y
@@ -32,6 +27,7 @@ pub stands_on : (p : Plan) (i : ℕ) (o : Own) (r : ModuleRun) (y : Path) (acces
 stands_on p i o r y accesses keeps unasked s = record {
   leads = keeps p i o s.leads;
   tally = s.tally;
+  ports = s.ports;
   few = s.few;
   accesses = λ e. absurd (unasked e);
   in_time = s.in_time;
@@ -49,7 +45,6 @@ at_step y (inr h) alive = absurd (both_ways (is_over y.limit y.state) alive h.ov
 -- what is needed to list the accesses
 pub record CanList (p : Plan) (o : Own) (y : Path) : Type 0 where
   pub few : length (done_in o.steps) < 2 ^ 40
-  pub all : All (λ (r : Request). r.channel < length p.design.channels) y.asked
 
 pub can_list : (p : Plan) (i : ℕ) (o : Own) (r : ModuleRun) (y : Path) → KeepsRest r.path.value y → StandsAt p i o r → IsAtStep y
     → CanList p o y
@@ -61,12 +56,7 @@ can_list p i o r y keeps s h =
     let count : o.state.count ≡ y.state.count = ap (λ z. z.count) rest.state in
     let small = began.count in
     let few = s.few in
-    let asked : y.asked ≡ requests_of p (i, y.state) = asked_same p i y b h.asked in
-    record {
-      few = omega arith;
-      all = subst (All (λ (r : Request). r.channel < length p.design.channels)) (sym asked)
-          (λ k d inside. (requests_stand p b.fits i b.owner y.state k d inside).in_range);
-    }
+    record { few = omega arith }
 
 -- the step was given
 pub stands_asked : (p : Plan) (i : ℕ) (o : Own) (r : ModuleRun) (y : Path) (accesses : List Access)
@@ -78,6 +68,7 @@ stands_asked p i o r y accesses keeps s h given =
     record {
       leads = asked_leads p i o y l h;
       tally = s.tally;
+      ports = s.ports;
       few = s.few;
       accesses = λ e. accesses_are p i o y accesses l (step_rest p i o y l h) h.asked given;
       in_time = s.in_time;

@@ -1,11 +1,14 @@
 -- A run goes on from its rest on replies.
 use Rattle.std.specs.Box.{with_value}
 use Rattle.std.proofs.Common.{◌≡◌, ℕ, zero, suc, ◌+◌, ◌^◌, ◌<◌, ◌≤◌, true, false, List, [], ◌∷◌, ◌++◌, length, refl, sym, ap, subst, arith}
-use Rattle.std.proofs.Common.{◌∙◌, length-append, append_assoc}
+use Rattle.std.proofs.Common.{◌∙◌, length-append, append_assoc, get_or}
 use Rattle.std.specs.Prelude.{All, filter_map, Option, Some, None}
+use Rattle.std.proofs.lemmas.List.Sums.{passes_at_first}
 use Rattle.std.proofs.lemmas.Bool.{or_right, and_parts}
 use Rattle.std.proofs.lemmas.List.{length-map, append-nil}
 use Rattle.flow_word.specs.declared.access.Access.{Access}
+use Rattle.flow_word.specs.declared.access.Port.{Port}
+use Rattle.flow_word.specs.Kinds.{side_of}
 use Rattle.flow_design.specs.declared.design.Channel.{Channel}
 use Rattle.flow_design.specs.declared.design.Module.{Module}
 use Rattle.flow_design.specs.declared.plan.Plan.{Plan}
@@ -13,8 +16,11 @@ use Rattle.flow_design.specs.declared.state.Reply.{Reply}
 use Rattle.flow_design.specs.declared.state.Request.{Request}
 use Rattle.flow_design.specs.declared.state.ModuleState.{ModuleState}
 use Rattle.flow_design.specs.Module.{due}
+use Rattle.flow_design.specs.Operations.{port}
+use Rattle.flow_design.specs.StaticRules.{uses}
 use Rattle.lockstep_defs.specs.Machine.{move, requests, request_for, is_over}
-use Rattle.lockstep_defs.specs.Lockstep.{module_at, requests_of}
+use Rattle.lockstep_defs.specs.Lockstep.{no_module, module_at, requests_of}
+use Rattle.lockstep_defs.specs.Ports.{owner}
 use Rattle.lockstep_defs.specs.Channels.{Exchange}
 use Rattle.lockstep_defs.specs.OwnRun.{OwnStep, Own, own_after, paired}
 use Rattle.lockstep_defs.specs.Quiet.{quiet, skip, is_some_request}
@@ -29,7 +35,7 @@ use Rattle.module_interp.specs.declared.path.Path.{Path}
 use Rattle.module_interp.specs.declared.tally.Tally.{Tally}
 use Rattle.module_interp.specs.declared.run.ModuleRun.{ModuleRun}
 use Rattle.module_interp.specs.OwnRests.{requests_at, next_rest, done_in, accesses_at, fits_kind, all_fit}
-use Rattle.module_interp.specs.Paths.{after_move, CanAsk, IsStageSoundBy, IsInTime, LeadsTo, IsTallyOf}
+use Rattle.module_interp.specs.Paths.{after_move, CanAsk, IsStageSoundBy, IsInTime, LeadsTo, IsTallyOf, HasPort, KnowsPorts}
 use Rattle.module_interp.specs.Runs.{is_asked, StandsAt}
 use Rattle.module_interp.proofs.Gaps.{IsOwnInTime, next_in_time, least_gap}
 use Rattle.module_interp.proofs.Counting.{move_up}
@@ -201,17 +207,18 @@ unasked g ticked asked = cc
 
 pub fed_stands : (p : Plan) (i : ℕ) (o : Own) (r : ModuleRun) (y : Path) (qs : List Reply) (t : Tally) → StandsAt p i o r
     → r.path.value.stage ≡ Asked → HasCommitted r.path.value y qs
-    → IsTallyOf (length p.design.channels) (done_in o.steps ++ paired r.path.value.asked qs) t
+    → IsTallyOf (done_in o.steps ++ paired r.path.value.asked qs) t → KnowsPorts (module_at p i) t
     → StandsAt p i (next_rest p i o qs) (record { path = with_value r.path (record y { since = 1 }); tally = t; accesses = r.accesses })
-fed_stands p i o r y qs t s asked h tally =
+fed_stands p i o r y qs t s asked h tally ports =
     let w = waits_at p i o r.path.value s.leads asked in
     let m = module_at p i in
     let same : r.path.value.asked ≡ requests_at p i o = w.asked ∙ ap (λ (s : ModuleState). requests_of p (i, s)) (sym w.rest.state) in
     let some : 0 < length (requests_at p i o) = subst (λ (rs : List Request). 0 < length rs) same w.can.some in
     record {
       leads = fed_leads p i o r.path.value y qs s.leads asked h;
-      tally = subst (λ (xs : List Exchange). IsTallyOf (length p.design.channels) xs t)
+      tally = subst (λ (xs : List Exchange). IsTallyOf xs t)
           (ap (λ (rs : List Request). done_in o.steps ++ paired rs qs) same ∙ sym (after_done m o (requests_at p i o) qs some)) tally;
+      ports = ports;
       few = fed_few p i o qs some s.few;
       accesses = λ e. unasked y.stage (ap (λ (z : Path). z.stage) h.frame) e;
       in_time = fed_in_time p i o r qs s asked some;
@@ -219,14 +226,21 @@ fed_stands p i o r y qs t s asked h tally =
     }
 
 -- what is needed to count a step
-pub record CanCount (p : Plan) (o : Own) (x : Path) (qs : List Reply) : Type 0 where
+pub record CanCount (o : Own) (t : Tally) (x : Path) (qs : List Reply) : Type 0 where
   pub few : length (done_in o.steps) + length x.asked < 2 ^ 40
-  pub all : All (λ (r : Request). r.channel < length p.design.channels) x.asked
+  pub ports : All (λ (r : Request). HasPort (side_of r.kind) r.channel t) x.asked
   pub one_each : length qs ≡ length x.asked
+
+-- the module at a port uses it
+pub owner_uses : (p : Plan) (i : ℕ) → i < length p.design.modules → (a : Port) → owner p a ≡ i → uses a (module_at p i) ≡ true
+unfolding owner
+owner_uses p i inside a is =
+    subst (λ (n : ℕ). uses a (module_at p n) ≡ true) is
+    (passes_at_first (uses a) p.design.modules no_module (let e = is in omega arith))
 
 pub can_count : (p : Plan) (i : ℕ) (o : Own) (r : ModuleRun) (qs : List Reply) → StandsAt p i o r → r.path.value.stage ≡ Asked
     → all_fit (accesses_at p i o) qs ≡ true
-    → CanCount p o r.path.value qs
+    → CanCount o r.tally r.path.value qs
 can_count p i o r qs s asked fit =
     let w = waits_at p i o r.path.value s.leads asked in
     let b = s.leads.path in
@@ -248,15 +262,10 @@ can_count p i o r qs s asked fit =
     let alive_few = w.few in
     record {
       few = omega arith;
-      all = subst (All (λ (r : Request). r.channel < length p.design.channels)) (sym w.asked)
-          (λ k d inside. (requests_stand p b.fits i b.owner r.path.value.state k d inside).in_range);
+      ports = subst (All (λ (q : Request). HasPort (side_of q.kind) q.channel r.tally)) (sym w.asked)
+          (λ k d inside.
+          let stands = requests_stand p b.fits i b.owner r.path.value.state k d inside in
+          let q = get_or (requests_of p (i, r.path.value.state)) k d in
+          s.ports (port q.kind q.channel) (owner_uses p i b.owner (port q.kind q.channel) stands.owned));
       one_each = each;
     }
-
-pub waits_channels : (p : Plan) (i : ℕ) (o : Own) (r : ModuleRun) → StandsAt p i o r → r.path.value.stage ≡ Asked
-    → All (λ (q : Request). q.channel < length p.design.channels) r.path.value.asked
-waits_channels p i o r s asked =
-    let w = waits_at p i o r.path.value s.leads asked in
-    let b = s.leads.path in
-    subst (All (λ (q : Request). q.channel < length p.design.channels)) (sym w.asked)
-    (λ k d inside. (requests_stand p b.fits i b.owner r.path.value.state k d inside).in_range)

@@ -1,5 +1,5 @@
 -- What leads to a rest still leads there.
-use Rattle.std.proofs.Common.{◌≡◌, ℕ, zero, suc, ◌+◌, ◌-◌, ◌*◌, ◌^◌, ◌<◌, ◌≤◌, ◌⊎◌, inl, inr, true, false, cond, [], length, refl, sym, ap}
+use Rattle.std.proofs.Common.{◌≡◌, ℕ, zero, suc, ◌+◌, ◌*◌, ◌^◌, ◌<◌, ◌≤◌, ◌⊎◌, inl, inr, true, false, cond, [], length, refl, sym, ap}
 use Rattle.std.proofs.Common.{subst, arith, ◌∙◌, add-zero}
 use Rattle.std.proofs.lemmas.Bool.{or_from, cond-true, cond-false, cases_Bool, both_ways}
 use Rattle.flow_design.specs.declared.limits.TheConstants.{OPERATIONS, LIVE_ITERATIONS, COUNTED_OPERATIONS}

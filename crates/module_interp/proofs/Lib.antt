@@ -4,10 +4,12 @@ pub mod Gaps
 pub mod Sound
 pub mod Counting
 pub mod Feeding
+pub mod Gathered
 pub mod Idle
 pub mod Keeping
 pub mod Listing
 pub mod Opening
+pub mod Places
 pub mod Rests
 pub mod Standing
 pub mod Tallies

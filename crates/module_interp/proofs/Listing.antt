@@ -1,6 +1,5 @@
 -- The accesses of the step at which a run rests, listed.
 use Rattle.std.specs.Box.{with_value}
-use Rattle.std.specs.Prelude.{All}
 use Rattle.std.proofs.Common.{◌≡◌, ◌⊎◌, inl, inr, true, false, ℕ, ◌^◌, ◌<◌, ◌∙◌, List, map, length, refl, sym, ap, subst, arith}
 use Rattle.std.proofs.Common.{Result, Ok, Err, OnErr}
 use Rattle.flow_word.specs.declared.access.Access.{Access}
@@ -24,8 +23,7 @@ use Rattle.module_interp.proofs.Tallies.{queries_few}
 
 -- what lists the accesses of these requests
 abbrev pub Lists : List Access → Tally → List Request → Type 0
-Lists accesses tally asked = (channels : ℕ) (before : List Exchange) → IsTallyOf channels before tally
-    → All (λ (r : Request). r.channel < channels) asked → accesses ≡ map (access_of before) asked
+Lists accesses tally asked = (before : List Exchange) → IsTallyOf before tally → accesses ≡ map (access_of before) asked
 
 pub on_err : {A E : Type 0} {P : Type 0} (r : Result A E) → P → OnErr r P
 on_err {A} {E} {P} (Ok a) h = tt
@@ -83,12 +81,9 @@ module _ (p : Plan) (i : ℕ) (o : Own) (r : ModuleRun) (s : StandsAt p i o r) (
   pub few_before : length (done_in o.steps) < 2 ^ 40
   few_before = can.few
 
-  pub all_inside : All (λ (q : Request). q.channel < length p.design.channels) asked
-  all_inside = subst (All (λ (q : Request). q.channel < length p.design.channels)) (sym are) can.all
-
   module _ (accesses : List Access) (lists : Lists accesses r.tally asked) where
     made : accesses ≡ map (access_of (done_in o.steps)) y.asked
-    made = lists (length p.design.channels) (done_in o.steps) s.tally all_inside ∙ ap (map (access_of (done_in o.steps))) are
+    made = lists (done_in o.steps) s.tally ∙ ap (map (access_of (done_in o.steps))) are
 
     abbrev new : ModuleRun
     new = record { path = with_value r.path (record y { stage = Asked }); tally = r.tally; accesses = accesses }

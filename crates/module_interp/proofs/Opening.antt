@@ -20,7 +20,7 @@ use Rattle.module_interp.specs.declared.path.Stage.TheVariants.{Begun, Asked}
 use Rattle.module_interp.specs.declared.path.Path.{Path}
 use Rattle.module_interp.specs.declared.run.ModuleRun.{ModuleRun}
 use Rattle.module_interp.specs.OwnRests.{first_rest}
-use Rattle.module_interp.specs.Paths.{after_move, IsStageSoundBy, LeadsTo, IsTallyOf}
+use Rattle.module_interp.specs.Paths.{after_move, IsStageSoundBy, LeadsTo, IsTallyOf, KnowsPorts}
 use Rattle.module_interp.specs.Runs.{StandsAt}
 use Rattle.module_interp.proofs.Gaps.{first_in_time}
 use Rattle.module_interp.proofs.Keeping.{at_stage}
@@ -57,10 +57,11 @@ unasked stage begun asked = cc
 
 -- a run on such a path, in which nothing is counted yet, stands at the first rest
 pub first_stands : (p : Plan) (i : ℕ) (r : ModuleRun) → LeadsTo p i (first_rest p i) r.path.value → r.path.value.stage ≡ Begun
-    → IsTallyOf (length p.design.channels) [] r.tally → StandsAt p i (first_rest p i) r
-first_stands p i r leads begun tally = record {
+    → IsTallyOf [] r.tally → KnowsPorts (module_at p i) r.tally → StandsAt p i (first_rest p i) r
+first_stands p i r leads begun tally ports = record {
   leads = leads;
   tally = tally;
+  ports = ports;
   few = omega arith;
   accesses = λ asked. unasked r.path.value.stage begun asked;
   in_time = first_in_time p leads.path.fits i leads.path.owner;

@@ -1,26 +1,31 @@
 -- The counts of what a module has done.
 use Rattle.std.proofs.Common.{◌≡◌, ℕ, zero, suc, ◌+◌, ◌<◌, ◌≤◌, inl, inr, Bool, true, false, not, cond, List, [], ◌∷◌, ◌++◌, length, take}
-use Rattle.std.proofs.Common.{drop, add-one, get_or, set, refl, sym, ap, arith, ◌∙◌, ◌==◌, length-append}
-use Rattle.std.specs.Prelude.{flat_map, replicate}
+use Rattle.std.proofs.Common.{drop, add-one, get_or, set, eqb, refl, sym, ap, arith, ◌∙◌, ◌==◌, length-append}
+use Rattle.std.specs.Prelude.{flat_map}
 use Rattle.std.specs.Int.{from_bool}
 use Rattle.std.proofs.lemmas.Bool.{cond_both, eq-eqb, ne_eqb, cases_eq}
-use Rattle.std.proofs.lemmas.List.{length-set, get_or-set_same, get_or-set_other, set-get_or, flat_map_more}
-use Rattle.std.proofs.lemmas.List.{length-replicate, get_or-replicate}
+use Rattle.std.proofs.lemmas.List.{length-set, flat_map_more}
 use Rattle.std.proofs.lemmas.List.Elements.{filter-append}
 use Rattle.flow_word.specs.Kinds.{is_blocking, side_of}
 use Rattle.flow_word.specs.declared.access.Side.{Side}
 use Rattle.flow_word.specs.declared.access.Side.TheVariants.{Pop, Push}
 use Rattle.flow_word.specs.declared.access.Kind.{Kind}
 use Rattle.flow_word.specs.declared.access.Kind.TheVariants.{Read, Write, TryRead, TryWrite, Empty, Full}
+use Rattle.flow_design.specs.declared.design.Module.{Module}
 use Rattle.flow_design.specs.declared.state.Request.{Request}
 use Rattle.flow_design.specs.declared.state.Reply.{Reply}
+use Rattle.flow_design.specs.StaticRules.{uses}
 use Rattle.lockstep_defs.specs.Machine.{is_yes, value_in}
 use Rattle.lockstep_defs.specs.Channels.{Exchange, popped_value, pushed_value, moved_value, moved_by}
 use Rattle.lockstep_defs.specs.Report.{queries}
 use Rattle.lockstep_defs.specs.OwnRun.{paired}
 use Rattle.module_move.proofs.Readiness.{fewer_pass}
 use Rattle.module_interp.specs.declared.tally.Tally.{Tally}
-use Rattle.module_interp.specs.Paths.{IsTallyOf}
+use Rattle.module_interp.specs.declared.counts.Counts.{Counts}
+use Rattle.module_interp.specs.OwnChannels.{place_in}
+use Rattle.module_interp.specs.Counts.{AreCounts, HasCount, count_at}
+use Rattle.module_interp.specs.Paths.{IsTallyOf, IsCounted, HasPort, KnowsPorts}
+use Rattle.module_interp.proofs.Places.{place_set}
 
 -- ---- one operation more
 
@@ -32,34 +37,11 @@ moved_push side f before x =
     let g = λ (y : Exchange). cond (y.request.channel == f) (moved_value side y) [] in
     ap length (sym (flat_map_more g [] before x)) ∙ length-append (flat_map g before) (g x)
 
-counts_more : (side : Side) (n : ℕ) (before : List Exchange) (x : Exchange) (counts now : List ℕ) → length counts ≡ n
-    → x.request.channel < n
-    → ((f : ℕ) → f < n → get_or counts f 0 ≡ length (moved_by side f before))
-    → now ≡ set counts x.request.channel (get_or counts x.request.channel 0 + length (moved_value side x))
-    → (f : ℕ) → f < n → get_or now f 0 ≡ length (moved_by side f (before ++ x ∷ []))
-counts_more side n before x counts now size inside are is f l = elim (cases_eq f x.request.channel) [
-  | inl same ↦
-      let c = x.request.channel in
-      let here : get_or now f 0 ≡ get_or counts c 0 + length (moved_value side x) =
-      ap (λ (xs : List ℕ). get_or xs f 0) is
-      ∙ (ap (λ (k : ℕ). get_or (set counts c (get_or counts c 0 + length (moved_value side x))) k 0) same
-      ∙ get_or-set_same counts c (get_or counts c 0 + length (moved_value side x)) 0 (omega arith)) in
-      let test : (c == f) ≡ true = eq-eqb c f (sym same) in
-      let more = moved_push side f before x in
-      let added : length (cond (c == f) (moved_value side x) [])
-      ≡ length (moved_value side x) = ap (λ (t : Bool). length (cond t (moved_value side x) [])) test in
-      let old : get_or counts c 0 ≡ length (moved_by side f before) = ap (λ (k : ℕ). get_or counts k 0) (sym same) ∙ are f l in
-      omega arith
-  | inr other ↦
-      let c = x.request.channel in
-      let here : get_or now f 0 ≡ get_or counts f 0 =
-      ap (λ (xs : List ℕ). get_or xs f 0) is ∙ get_or-set_other counts c f (get_or counts c 0 + length (moved_value side x)) 0 other in
-      let test : (c == f) ≡ false = ne_eqb c f (λ e. other (sym e)) in
-      let more = moved_push side f before x in
-      let added : length (cond (c == f) (moved_value side x) []) ≡ 0 = ap (λ (t : Bool). length (cond t (moved_value side x) [])) test in
-      let old = are f l in
-      omega arith
-]
+counts_more : (side : Side) (before : List Exchange) (x : Exchange) (t u : Counts) → IsCounted side x t u
+    → ((f : ℕ) → count_at t f ≡ length (moved_by side f before))
+    → (f : ℕ) → count_at u f ≡ length (moved_by side f (before ++ x ∷ []))
+counts_more side before x t u k are f =
+    let more = moved_push side f before x in let each = k.each f in let old = are f in omega arith
 
 queries_push : (before : List Exchange) (x : Exchange)
     → length (queries (before ++ x ∷ [])) ≡ length (queries before) + from_bool (not (is_blocking x.request.kind))
@@ -72,15 +54,14 @@ queries_push before x =
     one true e = rw e refl
     one false e = rw e refl
 
-pub tally_more : (n : ℕ) (before : List Exchange) (x : Exchange) (t u : Tally) → IsTallyOf n before t → x.request.channel < n
-    → u.popped ≡ set t.popped x.request.channel (get_or t.popped x.request.channel 0 + length (moved_value Pop x))
-    → u.pushed ≡ set t.pushed x.request.channel (get_or t.pushed x.request.channel 0 + length (moved_value Push x))
-    → u.queries ≡ t.queries + from_bool (not (is_blocking x.request.kind)) → IsTallyOf n (before ++ x ∷ []) u
-tally_more n before x t u h inside popped pushed asks = record {
-  popped_count = ap (λ (xs : List ℕ). length xs) popped ∙ (length-set t.popped x.request.channel _ ∙ h.popped_count);
-  pushed_count = ap (λ (xs : List ℕ). length xs) pushed ∙ (length-set t.pushed x.request.channel _ ∙ h.pushed_count);
-  popped_are = counts_more Pop n before x t.popped u.popped h.popped_count inside h.popped_are popped;
-  pushed_are = counts_more Push n before x t.pushed u.pushed h.pushed_count inside h.pushed_are pushed;
+pub tally_more : (before : List Exchange) (x : Exchange) (t u : Tally) → IsTallyOf before t → IsCounted Pop x t.popped u.popped
+    → IsCounted Push x t.pushed u.pushed → u.queries ≡ t.queries + from_bool (not (is_blocking x.request.kind))
+    → IsTallyOf (before ++ x ∷ []) u
+tally_more before x t u h popped pushed asks = record {
+  popped_sound = popped.sound;
+  pushed_sound = pushed.sound;
+  popped_are = counts_more Pop before x t.popped u.popped popped h.popped_are;
+  pushed_are = counts_more Push before x t.pushed u.pushed pushed h.pushed_are;
   queries_are = asks ∙ (ap (λ (k : ℕ). k + from_bool (not (is_blocking x.request.kind))) h.queries_are ∙ sym (queries_push before x));
 }
 
@@ -101,20 +82,53 @@ none_pushed TryWrite done v e = cc
 none_pushed Empty done v e = refl
 none_pushed Full done v e = cc
 
-same_count : (counts : List ℕ) (at more : ℕ) → more ≡ 0 → counts ≡ set counts at (get_or counts at 0 + more)
-same_count counts at more none =
-    let e : get_or counts at 0 + more ≡ get_or counts at 0 = omega arith in
-    sym (ap (λ (n : ℕ). set counts at n) e ∙ set-get_or counts at 0)
+-- it is counted where it stands
+pub counted_here : (side : Side) (x : Exchange) (t u : Counts) → AreCounts t → HasCount t x.request.channel → u.channels ≡ t.channels
+    → u.counts ≡ set t.counts (place_in t.channels x.request.channel) (count_at t x.request.channel + length (moved_value side x))
+    → IsCounted side x t u
+counted_here side x t u sound there same counts = record {
+  sound = rw (same, counts) (length-set t.counts (place_in t.channels x.request.channel) _ ∙ sound);
+  same = same;
+  each = each;
+}
+  where
+    each : (f : ℕ) → count_at u f ≡ count_at t f + length (cond (eqb x.request.channel f) (moved_value side x) [])
+    each f =
+        let c = x.request.channel in
+        let v = count_at t c + length (moved_value side x) in
+        let now : count_at u f ≡ get_or (set t.counts (place_in t.channels c) v) (place_in t.channels f) 0 = rw (same, counts) refl in
+        let (here, aside) = place_set t.channels t.counts sound c f v 0 there in
+        elim (cases_eq c f) [
+          | inl e ↦
+              let set_is = here e in
+              let old : count_at t c ≡ count_at t f = ap (count_at t) e in
+              let added : length (cond (eqb c f) (moved_value side x) [])
+              ≡ length (moved_value side x) = ap (λ (b : Bool). length (cond b (moved_value side x) [])) (eq-eqb c f e) in
+              omega arith
+          | inr n ↦
+              let set_is = aside n in
+              let added : length (cond (eqb c f) (moved_value side x) [])
+              ≡ 0 = ap (λ (b : Bool). length (cond b (moved_value side x) [])) (ne_eqb c f n) in
+              omega arith
+        ]
 
-pub popped_same : (x : Exchange) (counts : List ℕ) → side_of x.request.kind ≡ Push
-    → counts ≡ set counts x.request.channel (get_or counts x.request.channel 0 + length (moved_value Pop x))
-popped_same x counts push =
-    same_count counts x.request.channel _ (none_popped x.request.kind (is_yes x.reply) (value_in x.reply) push)
+-- what moves nothing is not counted
+counted_aside : (side : Side) (x : Exchange) (t : Counts) → AreCounts t → length (moved_value side x) ≡ 0 → IsCounted side x t t
+counted_aside side x t sound none = record {
+  sound = sound;
+  same = refl;
+  each = λ f. let nothing = by (eqb x.request.channel f) (moved_value side x) none in omega arith;
+}
+  where
+    by : (b : Bool) (xs : List ℕ) → length xs ≡ 0 → length (cond b xs []) ≡ 0
+    by true xs e = e
+    by false xs e = refl
 
-pub pushed_same : (x : Exchange) (counts : List ℕ) → side_of x.request.kind ≡ Pop
-    → counts ≡ set counts x.request.channel (get_or counts x.request.channel 0 + length (moved_value Push x))
-pushed_same x counts pop =
-    same_count counts x.request.channel _ (none_pushed x.request.kind (is_yes x.reply) x.request.value pop)
+pub popped_same : (x : Exchange) (t : Counts) → AreCounts t → side_of x.request.kind ≡ Push → IsCounted Pop x t t
+popped_same x t sound push = counted_aside Pop x t sound (none_popped x.request.kind (is_yes x.reply) (value_in x.reply) push)
+
+pub pushed_same : (x : Exchange) (t : Counts) → AreCounts t → side_of x.request.kind ≡ Pop → IsCounted Push x t t
+pushed_same x t sound pop = counted_aside Push x t sound (none_pushed x.request.kind (is_yes x.reply) x.request.value pop)
 
 -- ---- bounds
 
@@ -174,12 +188,35 @@ length-paired [] qs = refl
 length-paired (r ∷ rs) qs = ap suc (length-paired rs (drop 1 qs))
 
 -- nothing was done
-pub tally_none : (n : ℕ) (t : Tally) → t.popped ≡ replicate n 0 → t.pushed ≡ replicate n 0 → t.queries ≡ 0 → IsTallyOf n [] t
+pub tally_none : (t : Tally) → AreCounts t.popped → AreCounts t.pushed → ((f : ℕ) → count_at t.popped f ≡ 0)
+    → ((f : ℕ) → count_at t.pushed f ≡ 0) → t.queries ≡ 0 → IsTallyOf [] t
 unfolding moved_by
-tally_none n t popped pushed asks = record {
-  popped_count = ap (λ (xs : List ℕ). length xs) popped ∙ length-replicate n 0;
-  pushed_count = ap (λ (xs : List ℕ). length xs) pushed ∙ length-replicate n 0;
-  popped_are = λ f l. ap (λ (xs : List ℕ). get_or xs f 0) popped ∙ get_or-replicate n f 0 0 l;
-  pushed_are = λ f l. ap (λ (xs : List ℕ). get_or xs f 0) pushed ∙ get_or-replicate n f 0 0 l;
+tally_none t popped pushed none_popped none_pushed asks = record {
+  popped_sound = popped;
+  pushed_sound = pushed;
+  popped_are = none_popped;
+  pushed_are = none_pushed;
   queries_are = asks;
 }
+
+-- ---- ports
+
+pub knows_ports : (m : Module) (t : Tally)
+    → ((f : ℕ) → uses (record { side = Pop; channel = f }) m ≡ true → HasPort Pop f t)
+    → ((f : ℕ) → uses (record { side = Push; channel = f }) m ≡ true → HasPort Push f t) → KnowsPorts m t
+knows_ports m t pops pushes a used = by a.side a.channel used
+  where
+    by : (side : Side) (f : ℕ) → uses (record { side = side; channel = f }) m ≡ true → HasPort side f t
+    by Pop f u = pops f u
+    by Push f u = pushes f u
+
+-- the ports stay where the channels do
+pub same_ports : (m : Module) (t u : Tally) → u.popped.channels ≡ t.popped.channels → u.pushed.channels ≡ t.pushed.channels
+    → KnowsPorts m t → KnowsPorts m u
+same_ports m t u popped pushed h = knows_ports m u (λ f used. rw popped (h (record { side = Pop; channel = f }) used))
+    (λ f used. rw pushed (h (record { side = Push; channel = f }) used))
+
+pub same_port : (t u : Tally) → u.popped.channels ≡ t.popped.channels → u.pushed.channels ≡ t.pushed.channels → (side : Side) (f : ℕ)
+    → HasPort side f t → HasPort side f u
+same_port t u popped pushed Pop f h = rw popped h
+same_port t u popped pushed Push f h = rw pushed h

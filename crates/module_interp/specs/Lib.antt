@@ -1,4 +1,6 @@
 pub mod Chains
+pub mod Counts
+pub mod OwnChannels
 pub mod OwnRests
 pub mod Paths
 pub mod Runs

@@ -1,15 +1,17 @@
--- Where the program's run is in a module's own run.
-use Rattle.std.specs.Prelude.{ℕ, ◌≡◌, ◌+◌, ◌-◌, ◌*◌, ◌^◌, ◌<◌, ◌≤◌, if◌then◌else◌, true, false, List, [], length, slice_index}
+-- How the program's run stands in a module's own run.
+use Rattle.std.specs.Prelude.{ℕ, ◌≡◌, ◌+◌, ◌-◌, ◌*◌, ◌^◌, ◌<◌, ◌≤◌, if◌then◌else◌, nat_eq, true, false, List, [], length}
+use Rattle.flow_word.specs.declared.access.Port.{Port}
+use Rattle.flow_word.specs.declared.access.Side.{Side}
 use Rattle.flow_word.specs.declared.access.Side.TheVariants.{Pop, Push}
 use Rattle.flow_design.specs.declared.limits.TheConstants.{BLOCK_CLOCKS, LONG_BLOCK_OPERATIONS}
 use Rattle.flow_design.specs.declared.design.Channel.{Channel}
 use Rattle.flow_design.specs.declared.design.Module.{Module}
 use Rattle.flow_design.specs.declared.plan.Plan.{Plan}
 use Rattle.flow_design.specs.declared.state.ModuleState.{ModuleState}
-use Rattle.flow_design.specs.StaticRules.{FitsEngine, longest_block}
+use Rattle.flow_design.specs.StaticRules.{FitsEngine, longest_block, uses}
 use Rattle.flow_design.specs.Module.{block_of}
 use Rattle.lockstep_defs.specs.Machine.{requests, is_over}
-use Rattle.lockstep_defs.specs.Channels.{Exchange, moved_by}
+use Rattle.lockstep_defs.specs.Channels.{Exchange, moved_by, moved_value}
 use Rattle.lockstep_defs.specs.Report.{queries}
 use Rattle.lockstep_defs.specs.Lockstep.{module_at}
 use Rattle.lockstep_defs.specs.OwnRun.{Own}
@@ -21,7 +23,9 @@ use Rattle.block_code.specs.Codes.{AreCodesOf}
 use Rattle.module_interp.specs.declared.path.Stage.{Stage}
 use Rattle.module_interp.specs.declared.path.Stage.TheVariants.{Begun, Asked, Ticked}
 use Rattle.module_interp.specs.declared.path.Path.{Path}
+use Rattle.module_interp.specs.declared.counts.Counts.{Counts}
 use Rattle.module_interp.specs.declared.tally.Tally.{Tally}
+use Rattle.module_interp.specs.Counts.{AreCounts, HasCount, count_at}
 
 -- ---- how long a module can run
 
@@ -138,10 +142,29 @@ pub record IsAtEnd (x : Path) : Type 0 where
 
 -- ---- what was done
 
--- the tally has the counts of these operations, on `channels` channels
-pub record IsTallyOf (channels : ℕ) (before : List Exchange) (t : Tally) : Type 0 where
-  pub popped_count : length t.popped ≡ channels
-  pub pushed_count : length t.pushed ≡ channels
-  pub popped_are : (f : ℕ) → f < channels → slice_index t.popped f ≡ length (moved_by Pop f before)
-  pub pushed_are : (f : ℕ) → f < channels → slice_index t.pushed f ≡ length (moved_by Push f before)
+-- the counts of what was done
+pub record IsTallyOf (before : List Exchange) (t : Tally) : Type 0 where
+  pub popped_sound : AreCounts t.popped
+  pub pushed_sound : AreCounts t.pushed
+  pub popped_are : (f : ℕ) → count_at t.popped f ≡ length (moved_by Pop f before)
+  pub pushed_are : (f : ℕ) → count_at t.pushed f ≡ length (moved_by Push f before)
   pub queries_are : t.queries ≡ length (queries before)
+
+-- what is counted at a side of the channels
+abbrev pub counts_of : Side → Tally → Counts
+counts_of Pop t = t.popped
+counts_of Push t = t.pushed
+
+-- there is a count at this side of the channel
+abbrev pub HasPort : Side → ℕ → Tally → Type 0
+HasPort side f t = HasCount (counts_of side t) f
+
+-- there is one at each side of a channel where the module pops or pushes
+abbrev pub KnowsPorts : Module → Tally → Type 0
+KnowsPorts m t = (a : Port) → uses a m ≡ true → HasPort a.side a.channel t
+
+-- one operation more was counted at a side of the channels
+pub record IsCounted (side : Side) (x : Exchange) (t u : Counts) : Type 0 where
+  pub sound : AreCounts u
+  pub same : u.channels ≡ t.channels
+  pub each : (f : ℕ) → count_at u f ≡ count_at t f + length (if nat_eq x.request.channel f then moved_value side x else [])

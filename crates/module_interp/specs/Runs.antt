@@ -1,5 +1,5 @@
 -- A run as callers see it: it stands at a rest of the module's own run, and waits for replies or not.
-use Rattle.std.specs.Prelude.{ℕ, ◌≡◌, ◌*◌, ◌^◌, ◌<◌, ◌≤◌, Bool, true, false, length, All}
+use Rattle.std.specs.Prelude.{ℕ, ◌≡◌, ◌*◌, ◌^◌, ◌<◌, ◌≤◌, Bool, true, false, List, length, All}
 use Rattle.flow_word.specs.declared.access.Access.{Access}
 use Rattle.flow_word.specs.declared.access.Step.{Step as StepOf}
 use Rattle.flow_design.specs.declared.limits.TheConstants.{LIVE_ITERATIONS, OPERATIONS}
@@ -11,8 +11,9 @@ use Rattle.lockstep_defs.specs.OwnRun.{Own}
 use Rattle.module_interp.specs.declared.path.Stage.{Stage}
 use Rattle.module_interp.specs.declared.path.Stage.TheVariants.{Begun, Asked, Ticked}
 use Rattle.module_interp.specs.declared.run.ModuleRun.{ModuleRun}
+use Rattle.module_interp.specs.Counts.{count_at}
 use Rattle.module_interp.specs.OwnRests.{clocks_in, done_in, accesses_at}
-use Rattle.module_interp.specs.Paths.{IsInTime, LeadsTo, IsTallyOf}
+use Rattle.module_interp.specs.Paths.{IsInTime, LeadsTo, IsTallyOf, KnowsPorts}
 
 abbrev pub is_asked : Stage → Bool
 is_asked Begun = false
@@ -68,10 +69,19 @@ pub record IsSoundMark (steps : ℕ) (mark : Advance) : Type 0 where
   pub short : gap_of mark < 10 ^ 18
   pub behind : 0 < steps → 1 ≤ gap_of mark
 
+-- the channels that its module pops
+abbrev pub inlets_of : ModuleRun → List ℕ
+inlets_of run = run.tally.popped.channels
+
+-- how many elements of a channel the run has popped, in the steps that have their replies
+abbrev pub popped_in : ModuleRun → ℕ → ℕ
+popped_in run f = count_at run.tally.popped f
+
 -- the run stands at this rest of module i's own run
 pub record StandsAt (p : Plan) (i : ℕ) (o : Own) (r : ModuleRun) : Type 0 where
   pub leads : LeadsTo p i o r.path.value
-  pub tally : IsTallyOf (length p.design.channels) (done_in o.steps) r.tally
+  pub tally : IsTallyOf (done_in o.steps) r.tally
+  pub ports : KnowsPorts (module_at p i) r.tally
   pub few : length (done_in o.steps) ≤ o.state.count
   pub accesses : r.path.value.stage ≡ Asked → r.accesses ≡ accesses_at p i o
   pub in_time : IsInTime p (module_at p i) o.state (clocks_in o)

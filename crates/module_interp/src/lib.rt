@@ -1,8 +1,10 @@
 //! A module's own run, ahead of time, on the replies that it is fed. Local clocks without work are jumped over.
 #![tactic(auto)]
 
+mod counts;
 mod laws;
 mod making;
+mod own_channels;
 mod path;
 mod quiet;
 mod run;
@@ -10,4 +12,5 @@ mod tally;
 
 pub use flow_design::{Advance, Reply};
 pub use laws::{gaps_are_short, queries_are_few, rests_are_own_runs};
+pub use own_channels::OwnChannels;
 pub use run::ModuleRun;

@@ -1,6 +1,6 @@
 //! The run of a module.
-ghost use Rattle.std.specs.Prelude.{◌≡◌, ℕ, ◌<◌, ◌^◌, true, false, if◌then◌else◌, [], map, List as Items, length, slice_index, IsFalse};
-ghost use Rattle.std.specs.Prelude.{◌≤◌, ◌↔◌, ◌⊎◌, All, IfOk, OnErr, OnOk};
+ghost use Rattle.std.specs.Prelude.{◌≡◌, ℕ, ◌<◌, ◌^◌, true, false, if◌then◌else◌, [], map, List as Items, length, IsFalse};
+ghost use Rattle.std.specs.Prelude.{◌≤◌, ◌↔◌, ◌⊎◌, IfOk, OnErr, OnOk};
 ghost use Rattle.flow_word.specs.declared.access.Side.TheVariants.{Pop};
 ghost use Rattle.flow_design.specs.StaticRules.{FitsEngine};
 ghost use Rattle.flow_design.specs.declared.plan.Plan.{Plan as PlanOf};
@@ -10,9 +10,10 @@ ghost use Rattle.lockstep_defs.specs.OwnRun.{Own, access_of};
 ghost use Rattle.module_interp.specs.OwnRests.{done_in, first_rest, next_rest, accesses_at, mark_at, all_fit};
 ghost use Rattle.lockstep_defs.specs.Machine.{is_over as over_by};
 ghost use Rattle.module_interp.specs.Paths.{IsAtStep, IsAtEnd, IsTallyOf};
-ghost use Rattle.module_interp.specs.Runs.{waits, is_step, listed, IsFew, IsSoundMark, StandsAt};
+ghost use Rattle.module_interp.specs.Runs.{waits, is_step, listed, inlets_of, popped_in, IsFew, IsSoundMark, StandsAt};
 
 use crate::making::{first_path, go_to_start};
+use crate::own_channels::OwnChannels;
 use crate::path::{Path, Stage};
 use crate::tally::Tally;
 use flow_design::{Advance, Plan, Reply, Request};
@@ -54,8 +55,8 @@ impl ModuleRun {
         ensures waits { IfOk result (λ run. waits run ≡ false) }
     {
         let first = first_path(alloc, plan, number)?;
+        let tally = Tally::new(alloc, &first.of)?;
         let path = Box::new(alloc, first)?;
-        let tally = Tally::new(alloc, plan.design.channels.len())?;
         Ok(ModuleRun {
             path,
             tally,
@@ -108,13 +109,19 @@ impl ModuleRun {
         }
     }
 
-    /// How many elements of each channel the run has popped, in the steps that have their replies.
-    pub fn popped(&self) -> &[u64]
-        ensures count { (p : PlanOf) (i : ℕ) (o : Own) → StandsAt p i o self.now → length result.now ≡ length p.design.channels }
-        ensures each { (p : PlanOf) (i : ℕ) (o : Own) → StandsAt p i o self.now → (f : ℕ) → f < length p.design.channels
-            → slice_index result.now f ≡ length (moved_by Pop f (done_in o.steps)) }
+    /// The channels that its module pops, in order.
+    pub fn inlets(&self) -> &OwnChannels
+        ensures { result.now ≡ inlets_of self.now }
     {
-        self.tally.popped.as_slice()
+        &self.tally.popped.channels
+    }
+
+    /// How many elements of a channel the run has popped, in the steps that have their replies.
+    pub fn popped(&self, channel: u32) -> u64
+        ensures made { (p : PlanOf) (i : ℕ) (o : Own) → StandsAt p i o self.now → result ≡ length (moved_by Pop channel (done_in o.steps)) }
+        ensures counted { result ≡ popped_in self.now channel }
+    {
+        self.tally.popped.of(channel)
     }
 
     /// How many queries the run has made, in the steps that have their replies.
@@ -297,11 +304,9 @@ fn list_accesses(
     asked: &[Request],
     kept: &mut List<Access>,
 ) -> Result<Accesses, OutOfMemory>
-    requires tally { (channels : ℕ)
-        × ((before : Items Exchange) × (IsTallyOf channels before tally.now
-        × ((length before < 2 ^ 40) × All (λ r. r.channel < channels) asked.now))) }
-    ensures given { IfOk result (λ accesses. (channels : ℕ) (before : Items Exchange) → IsTallyOf channels before tally.now
-        → All (λ r. r.channel < channels) asked.now → accesses ≡ map (access_of before) asked.now) }
+    requires tally { (before : Items Exchange) × (IsTallyOf before tally.now × (length before < 2 ^ 40)) }
+    ensures given { IfOk result (λ accesses. (before : Items Exchange) → IsTallyOf before tally.now
+        → accesses ≡ map (access_of before) asked.now) }
     ensures kept { IfOk result (λ accesses. kept.new ≡ accesses) }
 {
     let mut accesses = Accesses::new(alloc);
@@ -321,11 +326,9 @@ fn keep_accesses(
     asked: &[Request],
     kept: &mut List<Access>,
 ) -> Result<(), OutOfMemory>
-    requires tally { (channels : ℕ)
-        × ((before : Items Exchange) × (IsTallyOf channels before tally.now
-        × ((length before < 2 ^ 40) × All (λ r. r.channel < channels) asked.now))) }
-    ensures kept { OnOk result ((channels : ℕ) (before : Items Exchange) → IsTallyOf channels before tally.now
-        → All (λ r. r.channel < channels) asked.now → kept.new ≡ map (access_of before) asked.now) }
+    requires tally { (before : Items Exchange) × (IsTallyOf before tally.now × (length before < 2 ^ 40)) }
+    ensures kept { OnOk result ((before : Items Exchange) → IsTallyOf before tally.now
+        → kept.new ≡ map (access_of before) asked.now) }
     ensures count { OnOk result (length kept.new ≡ length asked.now) }
 {
     kept.truncate(0);

@@ -1,14 +1,13 @@
 -- Reading a mail, access by access.
-use Rattle.std.proofs.Common.{◌≡◌, refl, sym, ap, ◌∙◌, ℕ, zero, suc, ◌+◌, ◌<◌, ◌≤◌, Bool, true, false, List, [], ◌∷◌, ◌++◌}
-use Rattle.std.proofs.Common.{length, drop, get_or, set, replicate, Option, Some, is_some, not}
+use Rattle.std.proofs.Common.{◌≡◌, refl, sym, ap, subst, ◌∙◌, ℕ, zero, suc, ◌+◌, ◌<◌, ◌≤◌, Bool, true, false, List, [], ◌∷◌, ◌++◌}
+use Rattle.std.proofs.Common.{length, drop, Option, Some, is_some, not}
 use Rattle.std.specs.Prelude.{option_map}
 use Rattle.std.proofs.Common.{slice_get, inl, inr, arith, append_assoc}
-use Rattle.std.proofs.lemmas.Bool.{cases_lt}
+use Rattle.std.proofs.lemmas.Bool.{eq-eqb}
 use Rattle.std.proofs.lemmas.Bool.Decides.{eqb_tells}
 use Rattle.std.proofs.Math.Seq.{drop-nil}
-use Rattle.engine_view.proofs.Opened.{copy_at}
 use Rattle.engine_view.proofs.Adding.{get_drop}
-use Rattle.std.proofs.lemmas.List.{drop_all, drop-drop, length-replicate, length-set, get_or-set_same, get_or-set_other, get_or_past}
+use Rattle.std.proofs.lemmas.List.{drop_all, drop-drop}
 use Rattle.flow_word.specs.declared.access.Access.{Access}
 use Rattle.flow_word.specs.declared.access.Kind.{Kind}
 use Rattle.flow_design.specs.declared.state.Reply.{Reply}
@@ -65,9 +64,6 @@ module _ (outs : List Bool) (value : Access → Option ℕ) where
 
 -- ---- what is left
 
-pub none_at : (n c : ℕ) → ◌≡◌ {A = ℕ} (get_or (replicate n 0) c 0) 0
-none_at n c = copy_at n c 0
-
 drop_more : (xs : List ℕ) (n : ℕ) → drop 1 (drop n xs) ≡ drop (suc n) xs
 drop_more xs n = let next : n + 1 ≡ suc n = omega arith in rw next at (drop-drop 1 n xs)
 
@@ -75,78 +71,51 @@ pub drop_none : (n : ℕ) → ◌≡◌ {A = List ℕ} (drop n []) []
 drop_none n = drop-nil n
 
 -- nothing was taken
-pub left_none : (mail : Mail) → IsLeft mail (none_taken mail) mail
-left_none mail = record {
-  outcomes = refl;
-  count = refl;
-  room = length-replicate (length mail.values) 0;
-  values = λ c. rw (none_at (length mail.values) c) refl;
-}
+pub left_none : (mail : Mail) → IsLeft mail none_taken mail
+left_none mail = record { outcomes = refl; values = λ c. refl }
 
 -- the next value of what is left is that of the whole
-next_left : (whole left : Mail) (taken : List ℕ) (c : ℕ) → IsLeft whole taken left
-    → next_value whole taken c ≡ next_value left (none_taken left) c
-next_left whole left taken c k =
-    rw (none_at (length left.values) c, k.values c) (sym (get_drop (get_or taken c 0) (values_on whole c)))
+next_left : (whole left : Mail) (taken : ℕ → ℕ) (c : ℕ) → IsLeft whole taken left
+    → next_value whole taken c ≡ next_value left none_taken c
+next_left whole left taken c k = rw (k.values c) (sym (get_drop (taken c) (values_on whole c)))
 
 -- so are the replies
-pub replies_left : (whole left : Mail) (taken : List ℕ) → IsLeft whole taken left → (told : ℕ) (xs : List Access)
-    → replies_in whole told taken xs ≡ replies_in left told (none_taken left) xs
+pub replies_left : (whole left : Mail) (taken : ℕ → ℕ) → IsLeft whole taken left → (told : ℕ) (xs : List Access)
+    → replies_in whole told taken xs ≡ replies_in left told none_taken xs
 replies_left whole left taken k told [] = refl
 replies_left whole left taken k told (a ∷ xs) =
     rw (next_left whole left taken a.channel k, replies_left whole left taken k (told_by a.kind told) xs, ← k.outcomes) refl
 
 -- one value of a channel was taken
-pub left_more : (whole left more : Mail) (taken : List ℕ) (c : ℕ) → IsLeft whole taken left → more.outcomes ≡ left.outcomes
-    → more.values ≡ set left.values c (drop 1 (values_on left c)) → IsLeft whole (one_more taken c) more
-left_more whole left more taken c k os vs = record {
+pub left_more : (whole left more : Mail) (taken : ℕ → ℕ) (c : ℕ) → IsLeft whole taken left → more.outcomes ≡ left.outcomes
+    → values_on more c ≡ drop 1 (values_on left c) → ((f : ℕ) → (f ≡ c → ⊥) → values_on more f ≡ values_on left f)
+    → IsLeft whole (one_more taken c) more
+left_more whole left more taken c k os here others = record {
   outcomes = os ∙ k.outcomes;
-  count = ap length vs ∙ (length-set left.values c (drop 1 (values_on left c)) ∙ k.count);
-  room = length-set taken c (suc (get_or taken c 0)) ∙ k.room;
-  values = λ n.
-      elim (eqb_tells n c) [
-        | inl e ↦ rw e.1 here
-        | inr e ↦ rw (
-          vs,
-          get_or-set_other left.values c n (drop 1 (values_on left c)) [] e.1,
-          get_or-set_other taken c n (suc (get_or taken c 0)) 0 e.1,
-        ) (k.values n)
+  values = λ f.
+      elim (eqb_tells c f) [
+        | inl e ↦ subst (λ (n : ℕ). values_on more n ≡ drop (one_more taken c n) (values_on whole n)) e.1 next
+        | inr e ↦ rw e.0 (others f (λ z. e.1 (sym z)) ∙ k.values f)
       ];
 }
   where
-    here : values_on more c ≡ drop (get_or (one_more taken c) c 0) (values_on whole c)
-    here =
-        let room = k.room in
-        let count = k.count in
-        elim (cases_lt c (length left.values)) [
-          | inl l ↦ rw (
-            vs,
-            get_or-set_same left.values c (drop 1 (values_on left c)) [] l,
-            k.values c,
-            get_or-set_same taken c (suc (get_or taken c 0)) 0 (omega arith),
-          ) (drop_more (values_on whole c) (get_or taken c 0))
-          | inr l ↦
-              let longer = length-set left.values c (drop 1 (values_on left c)) in
-              rw (
-                vs,
-                get_or_past (set left.values c (drop 1 (values_on left c))) c [] (omega arith),
-                get_or_past whole.values c [] (omega arith),
-              ) (sym (drop_none (get_or (one_more taken c) c 0)))
-        ]
+    next : values_on more c ≡ drop (one_more taken c c) (values_on whole c)
+    next = rw (eq-eqb c c refl) (here ∙ (ap (λ (xs : List ℕ). drop 1 xs) (k.values c) ∙ drop_more (values_on whole c) (taken c)))
 
 -- a loop has taken the values of the first replies
 pub record IsTaking (first : Mail) (xs : List Access) (qs : List Reply) (left : Mail) (i : ℕ) : Type 0 where
-  pub before : (whole : Mail) (taken : List ℕ) → IsLeft whole taken first → (now : List ℕ)
+  pub before : (whole : Mail) (taken : ℕ → ℕ) → IsLeft whole taken first → (now : ℕ → ℕ)
       × (IsLeft whole now left × (taken_after now (drop i xs) (drop i qs) ≡ taken_after taken xs qs))
 
 pub taking_more : (first : Mail) (xs : List Access) (qs : List Reply) (left more : Mail) (i : ℕ) (a : Access) (q : Reply)
     → IsTaking first xs qs left i → drop i xs ≡ a ∷ drop (suc i) xs → drop i qs ≡ q ∷ drop (suc i) qs
     → has_value q ≡ true → more.outcomes ≡ left.outcomes
-    → more.values ≡ set left.values a.channel (drop 1 (values_on left a.channel)) → IsTaking first xs qs more (suc i)
-taking_more first xs qs left more i a q k d e h os vs = record {
+    → values_on more a.channel ≡ drop 1 (values_on left a.channel)
+    → ((f : ℕ) → (f ≡ a.channel → ⊥) → values_on more f ≡ values_on left f) → IsTaking first xs qs more (suc i)
+taking_more first xs qs left more i a q k d e h os here others = record {
   before = λ whole taken l.
       let (now, (is, same)) = k.before whole taken l in
-      (one_more now a.channel, (left_more whole left more now a.channel is os vs, grind arith));
+      (one_more now a.channel, (left_more whole left more now a.channel is os here others, grind arith));
 }
 
 pub taking_on : (first : Mail) (xs : List Access) (qs : List Reply) (left more : Mail) (i : ℕ) (a : Access) (q : Reply)
@@ -159,6 +128,6 @@ taking_on first xs qs left more i a q k d e h same_mail = record {
 }
 
 pub taking_all : (first : Mail) (xs : List Access) (qs : List Reply) (left : Mail) (i : ℕ) → IsTaking first xs qs left i → length xs ≤ i
-    → (whole : Mail) (taken : List ℕ) → IsLeft whole taken first → IsLeft whole (taken_after taken xs qs) left
+    → (whole : Mail) (taken : ℕ → ℕ) → IsLeft whole taken first → IsLeft whole (taken_after taken xs qs) left
 taking_all first xs qs left i k l whole taken m =
     let (now, (is, same)) = k.before whole taken m in rw (rw (drop_all i xs l) at same) at is

@@ -12,7 +12,7 @@ use Rattle.run_ahead.specs.Mails.{replies_in, taken_after, none_taken, IsLeft, I
 use Rattle.run_ahead.specs.Working.{IsFed, IsEmitted, IsSoFar, burst_of, task_of}
 use Rattle.run_ahead.proofs.Finding.{left_none}
 
-pub so_far_none : (p : Plan) (i : ℕ) (mail : Mail) (o : Own) (told : ℕ) (taken : List ℕ) (run : ModuleRun) (left : Mail)
+pub so_far_none : (p : Plan) (i : ℕ) (mail : Mail) (o : Own) (told : ℕ) (taken : ℕ → ℕ) (run : ModuleRun) (left : Mail)
     → StandsAt p i o run → IsLeft mail taken left → IsSoFar p i mail o told taken [] run told left
 so_far_none p i mail o told taken run left s k = record {
   at = o;
@@ -22,7 +22,7 @@ so_far_none p i mail o told taken run left s k = record {
   follows = λ short last more g. g;
 }
 
-module _ (p : Plan) (i : ℕ) (mail : Mail) (o : Own) (told₀ : ℕ) (taken₀ : List ℕ) (told : ℕ) (left : Mail) (marks : List Advance)
+module _ (p : Plan) (i : ℕ) (mail : Mail) (o : Own) (told₀ : ℕ) (taken₀ : ℕ → ℕ) (told : ℕ) (left : Mail) (marks : List Advance)
     (run : ModuleRun) (s : IsSoFar p i mail o told₀ taken₀ marks run told left) where
   -- no memory for the next mark
   pub stop_short : (marks' : List Advance) (run' : ModuleRun) → StandsAt p i s.at run' → waits run' ≡ false → marks' ≡ marks
@@ -71,7 +71,7 @@ module _ (p : Plan) (i : ℕ) (mail : Mail) (o : Own) (told₀ : ℕ) (taken₀ 
 -- it waits from the start
 pub begin_waiting : (p : Plan) (i : ℕ) (o : Own) (mail : Mail) (short : Bool) (run : ModuleRun) (last : Task) → StandsAt p i o run
     → waits run ≡ true → last.run ≡ run → last.mail ≡ mail
-    → (short ≡ false → replies_in mail 0 (none_taken mail) (accesses_at p i o) ≡ None)
+    → (short ≡ false → replies_in mail 0 none_taken (accesses_at p i o) ≡ None)
     → IsBurstFrom (waits run) p i o mail (burst_of last [] short)
 begin_waiting p i o mail short run last s w l m missing =
     rw w (inl (refl, record { stands = rw l s; waits = rw l w; missing = missing; left = rw m (left_none mail) }))
@@ -79,12 +79,12 @@ begin_waiting p i o mail short run last s w l m missing =
 -- it has its replies, and goes on
 pub begin_fed : (p : Plan) (i : ℕ) (o : Own) (mail : Mail) (short : Bool) (run fed : ModuleRun) (last : Task) (now : ℕ) (left : Mail)
     (marks : List Advance) → waits run ≡ true
-    → (f : IsFed p i o mail 0 (none_taken mail) fed now left)
-    → GoesOn p i mail short last (next_rest p i o f.replies) now (taken_after (none_taken mail) (accesses_at p i o) f.replies) marks
+    → (f : IsFed p i o mail 0 none_taken fed now left)
+    → GoesOn p i mail short last (next_rest p i o f.replies) now (taken_after none_taken (accesses_at p i o) f.replies) marks
     → IsBurstFrom (waits run) p i o mail (burst_of last marks short)
 begin_fed p i o mail short run fed last now left marks w f g = rw w (inr (f.replies, (f.found, rw f.number at g)))
 
 pub begin_going : (p : Plan) (i : ℕ) (o : Own) (mail : Mail) (short : Bool) (run : ModuleRun) (last : Task) (marks : List Advance)
-    → waits run ≡ false → GoesOn p i mail short last o 0 (none_taken mail) marks
+    → waits run ≡ false → GoesOn p i mail short last o 0 none_taken marks
     → IsBurstFrom (waits run) p i o mail (burst_of last marks short)
 begin_going p i o mail short run last marks w g = rw w g

@@ -1,3 +1,4 @@
 pub mod Parts
+pub mod Placed
 pub mod Finding
 pub mod Going

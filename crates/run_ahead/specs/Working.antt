@@ -17,8 +17,8 @@ use Rattle.run_ahead.specs.Mails.{replies_in, taken_after, IsLeft, GoesOn}
 abbrev pub StandsSomewhere : ModuleRun → Type 0
 StandsSomewhere run = (p : Plan) × ((i : ℕ) × ((o : Own) × StandsAt p i o run))
 
--- a run that waited at a rest was given the replies of its mail, and stands at the next rest; `rest` is what is left of the mail
-pub record IsFed (p : Plan) (i : ℕ) (o : Own) (mail : Mail) (told : ℕ) (taken : List ℕ) (run : ModuleRun) (now : ℕ) (rest : Mail) : Type 0
+-- a run that waited at a rest was fed with the replies of its mail, and stands at the next; this is left of the mail
+pub record IsFed (p : Plan) (i : ℕ) (o : Own) (mail : Mail) (told : ℕ) (taken : ℕ → ℕ) (run : ModuleRun) (now : ℕ) (rest : Mail) : Type 0
   where
     pub replies : List Reply
     pub found : replies_in mail told taken (accesses_at p i o) ≡ Some replies
@@ -35,11 +35,11 @@ pub record IsEmitted (before after : ModuleRun) (marks more : List Advance) (ste
   pub kind : is_step mark ≡ step
   pub waits : waits after ≡ step
 
--- the run has given these marks since the rest o, and is at a rest from which all further marks follow on them
-pub record IsSoFar (p : Plan) (i : ℕ) (mail : Mail) (o : Own) (told : ℕ) (taken : List ℕ) (marks : List Advance) (run : ModuleRun) (now : ℕ)
+-- whatever marks follow from where it stands now, follow those that it gave so far
+pub record IsSoFar (p : Plan) (i : ℕ) (mail : Mail) (o : Own) (told : ℕ) (taken : ℕ → ℕ) (marks : List Advance) (run : ModuleRun) (now : ℕ)
     (left : Mail) : Type 0 where
   pub at : Own
-  pub taken_now : List ℕ
+  pub taken_now : ℕ → ℕ
   pub stands : StandsAt p i at run
   pub is_left : IsLeft mail taken_now left
   pub follows : (short : Bool) (last : Task) (more : List Advance) → GoesOn p i mail short last at now taken_now more
@@ -56,6 +56,6 @@ burst_of last marks short = record { run = last.run; emitted = marks; short = sh
 -- what the loop of a burst keeps: how far it has come from each rest at which its run may have begun
 pub record IsGoingOn (first : Mail) (from : ModuleRun) (told : ℕ) (marks : List Advance) (run : ModuleRun) (now : ℕ) (left : Mail) : Type 0
   where
-    pub so_far : (p : Plan) (i : ℕ) (o : Own) → StandsAt p i o from → (mail : Mail) (taken : List ℕ) → IsLeft mail taken first
+    pub so_far : (p : Plan) (i : ℕ) (o : Own) → StandsAt p i o from → (mail : Mail) (taken : ℕ → ℕ) → IsLeft mail taken first
         → IsSoFar p i mail o told taken marks run now left
     pub goes : waits run ≡ false

@@ -1,8 +1,9 @@
-//! A module's run with its mail, and how far it goes on the mail alone.
-ghost use Rattle.std.specs.Prelude.{◌≡◌, ℕ, ◌<◌, [], length, drop, slice_set};
-ghost use Rattle.std.specs.Prelude.{List as Items, Some, None, true, false, IsTrue, IsFalse, IfOk, OnErr};
+//! A module's run with its mail, and how far it goes on that alone.
+ghost use Rattle.std.specs.Prelude.{◌≡◌, ◌≢◌, ℕ, ◌<◌, [], length, drop, slice_set};
+ghost use Rattle.std.specs.Prelude.{List as Items, Some, None, true, false, IsTrue, IsFalse, IsNone, IfOk, IfSome, OnErr};
 ghost use Rattle.flow_design.specs.declared.plan.Plan.{Plan as PlanOf};
 ghost use Rattle.lockstep_defs.specs.OwnRun.{Own};
+ghost use Rattle.module_interp.specs.OwnChannels.{place_in};
 ghost use Rattle.module_interp.specs.OwnRests.{accesses_at};
 ghost use Rattle.module_interp.specs.Runs.{StandsAt, waits};
 ghost use Rattle.module_interp.specs.Runs.{is_step as is_step_of};
@@ -13,12 +14,15 @@ ghost use Rattle.run_ahead.specs.Working.{StandsSomewhere, IsFed, IsEmitted, bur
 
 use crate::replies::{Values, find_replies};
 use flow_word::{Access, Flags, List, OutOfMemory, Queue};
-use module_interp::{Advance, ModuleRun, Reply};
+use module_interp::{Advance, ModuleRun, OwnChannels, Reply};
 use std::alloc::Global;
 
-/// What a module's run is given ahead: outcomes of its queries, and for each channel the values from its next pop on.
+/// What a module's run has not taken yet: outcomes of its queries, and of each channel that it pops the values from its next pop on.
 pub struct Mail {
     pub outcomes: Flags,
+    /// The channels that the module pops.
+    pub channels: OwnChannels,
+    /// The values of each of them.
     pub values: List<Queue<u64>>,
 }
 
@@ -26,8 +30,38 @@ impl Drop for Mail {
     fn drop(self) {
         let Mail {
             outcomes: _outcomes,
+            channels: _channels,
             values: _values,
         } = self;
+    }
+}
+
+impl Mail {
+    /// A mail with nothing, which takes no memory.
+    pub fn none(alloc: Global) -> Mail
+        ensures { result ≡ record { outcomes = []; channels = []; values = [] } }
+    {
+        Mail {
+            outcomes: Flags::new(alloc),
+            channels: OwnChannels::none(alloc),
+            values: List::new(alloc),
+        }
+    }
+
+    /// The place of a channel's values; none where there are none.
+    #[inline(always)]
+    fn place(&self, channel: u32) -> Option<usize>
+        ensures place { IfSome result (λ at. at ≡ place_in self.now.channels channel) }
+        ensures channel { IfSome result (λ at. at < length self.now.channels) }
+        ensures inside { IfSome result (λ at. at < length self.now.values) }
+        ensures none { IsNone result → values_on self.now channel ≡ [] }
+    {
+        let place = self.channels.place(channel);
+        if place < self.channels.as_slice().len() && place < self.values.as_slice().len() {
+            Some(place)
+        } else {
+            None
+        }
     }
 }
 
@@ -52,12 +86,12 @@ pub struct Burst {
 impl Values for Mail {
     ghost knows = { λ mail a. Unit {0} };
 
-    ghost value = { λ mail a. next_value mail (none_taken mail) a.channel };
+    ghost value = { λ mail a. next_value mail none_taken a.channel };
 
     /// The next value of the access's channel. `None` where the mail has no further one.
     fn value(&self, access: &Access) -> Option<u64> {
-        match self.values.as_slice().get(access.channel as usize) {
-            Some(values) => values.front(),
+        match self.place(access.channel) {
+            Some(place) => self.values.as_slice()[place].front(),
             None => None,
         }
     }
@@ -76,18 +110,18 @@ fn takes(reply: Reply) -> bool
 /// Takes the next value of a channel off the mail.
 fn take_value(mail: &mut Mail, channel: u32)
     ensures outcomes { mail.new.outcomes ≡ mail.old.outcomes }
-    ensures values { mail.new.values ≡ slice_set mail.old.values channel (drop 1 (values_on mail.old channel)) }
+    ensures taken { values_on mail.new channel ≡ drop 1 (values_on mail.old channel) }
+    ensures others { (c : ℕ) → c ≢ channel → values_on mail.new c ≡ values_on mail.old c }
 {
-    let at = channel as usize;
-    if at < mail.values.as_slice().len() {
-        let _value = mail.values.as_mut_slice()[at].pop();
+    if let Some(place) = mail.place(channel) {
+        let _value = mail.values.as_mut_slice()[place].pop();
     }
 }
 
 /// Takes the values that a step's replies use off the mail.
 fn take_values(mail: &mut Mail, accesses: &[Access], replies: &[Reply])
     requires each { length replies.now ≡ length accesses.now }
-    ensures left { (whole : MailOf) (taken : Items ℕ) → IsLeft whole taken mail.old
+    ensures left { (whole : MailOf) (taken : ℕ → ℕ) → IsLeft whole taken mail.old
         → IsLeft whole (taken_after taken accesses.now replies.now) mail.new }
 {
     for (at, access) in accesses.iter().enumerate() {
@@ -108,11 +142,11 @@ fn answer(
     requires stands { StandsSomewhere run.old }
     requires waits { waits run.old ≡ true }
     ensures fed { IfOk result (λ yes. IsTrue yes → (p : PlanOf) (i : ℕ) (o : Own) → StandsAt p i o run.old
-        → (whole : MailOf) (taken : Items ℕ) → IsLeft whole taken mail.old
+        → (whole : MailOf) (taken : ℕ → ℕ) → IsLeft whole taken mail.old
         → IsFed p i o whole told.old taken run.new told.new mail.new) }
     ensures goes { IfOk result (λ yes. IsTrue yes → waits run.new ≡ false) }
     ensures missing { IfOk result (λ yes. IsFalse yes → (p : PlanOf) (i : ℕ) (o : Own) → StandsAt p i o run.old
-        → (whole : MailOf) (taken : Items ℕ) → IsLeft whole taken mail.old
+        → (whole : MailOf) (taken : ℕ → ℕ) → IsLeft whole taken mail.old
         → replies_in whole told.old taken (accesses_at p i o) ≡ None) }
     ensures waiting { IfOk result (λ yes. IsFalse yes → (run.new ≡ run.old) × (mail.new ≡ mail.old)) }
     ensures err { OnErr result ((run.new ≡ run.old) × (mail.new ≡ mail.old)) }
@@ -182,7 +216,7 @@ fn go_on(
     requires stands { StandsSomewhere run.old }
     requires goes { waits run.old ≡ false }
     requires none { marks.old ≡ [] }
-    ensures { (p : PlanOf) (i : ℕ) (o : Own) → StandsAt p i o run.old → (whole : MailOf) (taken : Items ℕ) → IsLeft whole taken mail.old
+    ensures { (p : PlanOf) (i : ℕ) (o : Own) → StandsAt p i o run.old → (whole : MailOf) (taken : ℕ → ℕ) → IsLeft whole taken mail.old
         → GoesOn p i whole result (task_of run.new mail.new) o told.old taken marks.new }
 {
     let mut left = u64::MAX;

@@ -1,6 +1,6 @@
 -- A burst on a mail is a list of permitted Runs.
 use Rattle.std.proofs.Common.{◌≡◌, refl, sym, ap, ap₂, subst, ◌∙◌, ℕ, suc, ◌+◌, ◌<◌, Bool, true, false, not, cond, ◌||◌, List, [], ◌∷◌}
-use Rattle.std.proofs.Common.{length, map, drop, Some, slice_get, slice_index_or, inl, inr, arith}
+use Rattle.std.proofs.Common.{length, map, drop, Some, slice_get, inl, inr, arith}
 use Rattle.std.proofs.lemmas.Bool.{cases_Bool, cond-true, cond-false}
 use Rattle.std.proofs.lemmas.Option.{slice_get_within, get_or_from_slice_get, slice_get-get_or}
 use Rattle.flow_word.specs.declared.access.Access.{Access}
@@ -39,28 +39,26 @@ use Rattle.run_ahead.specs.Mails.{values_on, next_value, replies_in, taken_after
 use Rattle.sim_core.specs.Tasks.{outcomes_in, values_behind, committed, IsTaskLeft}
 use Rattle.sim_core.proofs.Beginnings.{get_drop, begins_places}
 use Rattle.sim_core.proofs.Committed.{committed_waits, committed_goes}
-use Rattle.sim_core.proofs.Mailed.{AreFound, read_is, no_query, no_outcomes_of, value_inside}
-use Rattle.run_ahead.proofs.Parts.{after_length}
+use Rattle.sim_core.proofs.Mailed.{AreFound, read_is, no_query, no_outcomes_of}
 use Rattle.sim_core.proofs.Resting.{rest_is}
 use Rattle.sim_core.proofs.Staying.{fed_is, behind_same}
 
 -- ---- where a burst has come to, beside a core
 
 -- what is left of the mail's values are the next ones of the core, behind the module's first n steps
-pub record IsWindow (p : Plan) (z : Core ModuleState) (m n : ℕ) (mail : Mail) (taken : List ℕ) : Type 0 where
-  pub values : (c i v : ℕ) → slice_get (values_on mail c) (slice_index_or taken c 0 + i) ≡ Some v
+pub record IsWindow (p : Plan) (z : Core ModuleState) (m n : ℕ) (mail : Mail) (taken : ℕ → ℕ) : Type 0 where
+  pub values : (c i v : ℕ) → slice_get (values_on mail c) (taken c + i) ≡ Some v
       → slice_get (core_values (design p) z c) (core_tally (design p) z m Pop c n + i) ≡ Some v
-  pub room : length taken ≡ length mail.values
 
 -- it goes on to a rest whose mark is the module's next
-pub record Goes (p : Plan) (z : Core ModuleState) (m : ℕ) (mail : Mail) (o : Own) (told : ℕ) (taken : List ℕ) : Type 0 where
+pub record Goes (p : Plan) (z : Core ModuleState) (m : ℕ) (mail : Mail) (o : Own) (told : ℕ) (taken : ℕ → ℕ) : Type 0 where
   pub may : MayRun (design p) z m
   pub stands : o ≡ rest_behind p z m (z.emitted m)
   pub outcomes : drop told mail.outcomes ≡ []
   pub window : IsWindow p z m (z.emitted m) mail taken
 
 -- it waits at the module's newest step
-pub record Waits (p : Plan) (z : Core ModuleState) (m : ℕ) (mail : Mail) (o : Own) (told : ℕ) (taken : List ℕ) : Type 0 where
+pub record Waits (p : Plan) (z : Core ModuleState) (m : ℕ) (mail : Mail) (o : Own) (told : ℕ) (taken : ℕ → ℕ) : Type 0 where
   pub at : ℕ
   pub newest : suc at ≡ z.emitted m
   pub inside : m < length p.design.modules
@@ -73,7 +71,7 @@ pub record Waits (p : Plan) (z : Core ModuleState) (m : ℕ) (mail : Mail) (o : 
 -- ---- from a step to the next rest
 
 module _ (p : Plan) (f : FitsEngine p) (z : Core ModuleState) (b : AreOwnMarks (design p) z) (m : ℕ) (mail : Mail) (o : Own) (told : ℕ)
-    (taken : List ℕ) (w : Waits p z m mail o told taken) (qs : List Reply) (e : replies_in mail told taken (accesses_at p m o) ≡ Some qs)
+    (taken : ℕ → ℕ) (w : Waits p z m mail o told taken) (qs : List Reply) (e : replies_in mail told taken (accesses_at p m o) ≡ Some qs)
   where
     abbrev k : ℕ
     k = w.at
@@ -104,19 +102,16 @@ module _ (p : Plan) (f : FitsEngine p) (z : Core ModuleState) (b : AreOwnMarks (
     found : AreFound mail told taken (done_in o.steps) (core_values (design p) z) (λ c. core_tally (design p) z m Pop c k) rs
         (z.flags m k) qs
     found =
-        read_is mail taken (done_in o.steps) (core_values (design p) z) (λ c. core_tally (design p) z m Pop c k) window room told rs
+        read_is mail taken (done_in o.steps) (core_values (design p) z) (λ c. core_tally (design p) z m Pop c k) window told rs
         (z.flags m k) (b.fit m k below)
         (w.outcomes ∙ cond-true (z.answered m k) (outcomes_in rs (z.flags m k)) [] answered) qs read
       where
         window : (c v : ℕ) → next_value mail taken c ≡ Some v → slice_get (core_values (design p) z c)
             (core_tally (design p) z m Pop c k) ≡ Some v
         window c v y =
-            let z1 : slice_index_or taken c 0 + 0 ≡ slice_index_or taken c 0 = omega arith in
+            let z1 : taken c + 0 ≡ taken c = omega arith in
             let z2 : core_tally (design p) z m Pop c k + 0 ≡ core_tally (design p) z m Pop c k = omega arith in
             sym (ap (slice_get (core_values (design p) z c)) z2) ∙ w.window.values c 0 v (ap (slice_get (values_on mail c)) z1 ∙ y)
-
-        room : (c v : ℕ) → next_value mail taken c ≡ Some v → c < length taken
-        room c v y = let l = value_inside mail.values c (slice_index_or taken c 0) v y in let r = w.window.room in omega arith
 
     pub goes_on : Goes p z m mail (next_rest p m o qs) (told + queries_in (accesses_at p m o)) (taken_after taken (accesses_at p m o) qs)
     goes_on = record {
@@ -130,14 +125,13 @@ module _ (p : Plan) (f : FitsEngine p) (z : Core ModuleState) (b : AreOwnMarks (
       outcomes = ap (λ (xs : List Access). drop (told + queries_in xs) mail.outcomes) asked ∙ found.all_told;
       window = subst (λ (n : ℕ). IsWindow p z m n mail (taken_after taken (accesses_at p m o) qs)) w.newest (record {
         values = λ c i v y.
-            let count = ap (λ (xs : List Access). slice_index_or (taken_after taken xs qs) c 0) asked ∙ found.counts taken refl c in
+            let count = ap (λ (xs : List Access). taken_after taken xs qs c) asked ∙ found.counts taken c in
             let more = tally_more (core_accesses (design p) z m) (λ j. bare_replies (z.flags m j)) Pop c k in
             let t = takes_in Pop c (core_accesses (design p) z m k) (bare_replies (z.flags m k)) in
-            let from : slice_index_or (taken_after taken (accesses_at p m o) qs) c 0 + i ≡ slice_index_or taken c 0 + (t + i) =
+            let from : taken_after taken (accesses_at p m o) qs c + i ≡ taken c + (t + i) =
             omega arith in
             let to : core_tally (design p) z m Pop c (suc k) + i ≡ core_tally (design p) z m Pop c k + (t + i) = omega arith in
             ap (slice_get (core_values (design p) z c)) to ∙ w.window.values c (t + i) v (sym (ap (slice_get (values_on mail c)) from) ∙ y);
-        room = after_length (accesses_at p m o) qs taken ∙ w.window.room;
       });
     }
 
@@ -167,7 +161,7 @@ get_begins xs ys i v g e =
     slice_get-get_or xs i 0 (omega arith) ∙ ap Some (begins_get xs ys i g l ∙ get_or_from_slice_get ys i v 0 e)
 
 module _ (p : Plan) (f : FitsEngine p) (z : Core ModuleState) (b : AreOwnMarks (design p) z) (m : ℕ) (mail : Mail) (o : Own) (told : ℕ)
-    (taken : List ℕ) (g : Goes p z m mail o told taken) where
+    (taken : ℕ → ℕ) (g : Goes p z m mail o told taken) where
   -- the core behind the Run
   abbrev after : Core ModuleState
   after = after_run (design p) z m
@@ -211,7 +205,6 @@ module _ (p : Plan) (f : FitsEngine p) (z : Core ModuleState) (b : AreOwnMarks (
               ap (λ (t : ℕ). slice_get (core_values d y c) (t + i)) same
               ∙ get_begins (core_values d y c) (core_values d z c) (core_tally d z m Pop c n + i) v (grow.values_up c)
               (g.window.values c i v e);
-          room = g.window.room;
         };
       }
     where
@@ -237,16 +230,16 @@ module _ (p : Plan) (f : FitsEngine p) (z : Core ModuleState) (b : AreOwnMarks (
 -- ---- where a run stands
 
 -- what is left of a mail are the next values of the core
-left_values : (p : Plan) (z : Core ModuleState) (m n : ℕ) (mail left : Mail) (taken : List ℕ) → IsWindow p z m n mail taken
+left_values : (p : Plan) (z : Core ModuleState) (m n : ℕ) (mail left : Mail) (taken : ℕ → ℕ) → IsWindow p z m n mail taken
     → IsLeft mail taken left → (k c : ℕ) → k ≡ n → Begins (values_behind p z m k c) (values_on left c)
 left_values p z m n mail left taken w l k c e =
     subst (λ (i : ℕ). Begins (values_behind p z m i c) (values_on left c)) (sym e)
     (begins_places (values_behind p z m n c) (values_on left c) (λ i v g.
     get_drop (core_values (design p) z c) (core_tally (design p) z m Pop c n) i
-    ∙ w.values c i v (sym (get_drop (values_on mail c) (slice_index_or taken c 0) i) ∙ (ap (λ (xs : List ℕ). slice_get xs i)
+    ∙ w.values c i v (sym (get_drop (values_on mail c) (taken c) i) ∙ (ap (λ (xs : List ℕ). slice_get xs i)
     (sym (l.values c)) ∙ g))))
 
-going_run : (p : Plan) (z : Core ModuleState) (m : ℕ) (mail : Mail) (o : Own) (told : ℕ) (taken : List ℕ) (last : Task)
+going_run : (p : Plan) (z : Core ModuleState) (m : ℕ) (mail : Mail) (o : Own) (told : ℕ) (taken : ℕ → ℕ) (last : Task)
     → Goes p z m mail o told taken → IsGoing p m mail last o taken → IsRunOf p z m last.run
 going_run p z m mail o told taken last g s = record {
   waiting = λ w. let e = sym w ∙ s.goes in cc;
@@ -254,7 +247,7 @@ going_run p z m mail o told taken last g s = record {
   over = λ e. s.goes;
 }
 
-pub going_stands : (p : Plan) (z : Core ModuleState) (m : ℕ) (mail : Mail) (o : Own) (told : ℕ) (taken : List ℕ) (last : Task)
+pub going_stands : (p : Plan) (z : Core ModuleState) (m : ℕ) (mail : Mail) (o : Own) (told : ℕ) (taken : ℕ → ℕ) (last : Task)
     → Goes p z m mail o told taken → IsGoing p m mail last o taken → IsTaskLeft p z m last
 going_stands p z m mail o told taken last g s = record {
   run = going_run p z m mail o told taken last g s;
@@ -262,7 +255,7 @@ going_stands p z m mail o told taken last g s = record {
       (committed_goes z m last.run s.goes);
 }
 
-pub waiting_stands : (p : Plan) (z : Core ModuleState) (m : ℕ) (mail : Mail) (o : Own) (told : ℕ) (taken : List ℕ) (short : Bool)
+pub waiting_stands : (p : Plan) (z : Core ModuleState) (m : ℕ) (mail : Mail) (o : Own) (told : ℕ) (taken : ℕ → ℕ) (short : Bool)
     (last : Task) → Waits p z m mail o told taken → IsWaiting p m mail short last o told taken → IsTaskLeft p z m last
 waiting_stands p z m mail o told taken short last w s = record {
   run = record {
@@ -274,7 +267,7 @@ waiting_stands p z m mail o told taken short last w s = record {
       (committed_waits z m last.run s.waits ∙ (let n = w.newest in omega arith));
 }
 
-pub over_stands : (p : Plan) (z : Core ModuleState) (m : ℕ) (mail : Mail) (o : Own) (told : ℕ) (taken : List ℕ) (last : Task)
+pub over_stands : (p : Plan) (z : Core ModuleState) (m : ℕ) (mail : Mail) (o : Own) (told : ℕ) (taken : ℕ → ℕ) (last : Task)
     → Goes p z m mail o told taken → IsGoing p m mail last o taken → IsTaskLeft p (emit_over z m) m last
 over_stands p z m mail o told taken last g s =
     let r = going_run p z m mail o told taken last g s in
@@ -310,7 +303,7 @@ pub ran_none : (p : Plan) (z : Core ModuleState) (m : ℕ) (last : Task) → IsT
 ran_none p z m last s = record { core = z; acts = refl; grows = grows_self (design p) z; stands = s }
 
 pub run_on : (p : Plan) → FitsEngine p → (z : Core ModuleState) → AreOwnMarks (design p) z
-    → (m : ℕ) (mail : Mail) (short : Bool) (last : Task) (o : Own) (told : ℕ) (taken : List ℕ) (marks : List Advance)
+    → (m : ℕ) (mail : Mail) (short : Bool) (last : Task) (o : Own) (told : ℕ) (taken : ℕ → ℕ) (marks : List Advance)
     → Goes p z m mail o told taken → GoesOn p m mail short last o told taken marks → Ran p z m (length marks) last
 run_on p f z b m mail short last o told taken [] g (s, e) = ran_none p z m last (going_stands p z m mail o told taken last g s)
 run_on p f z b m mail short last o told taken (mark ∷ more) g (e, sound, past) =
@@ -330,7 +323,7 @@ run_on p f z b m mail short last o told taken (mark ∷ more) g (e, sound, past)
         → Ran p (after_run (design p) z m) m (length more) last
     ended e (n, s) = rw (e, n) (ran_none p (emit_over z m) m last (over_stands p z m mail o told taken last g s))
 
-    behind : ((o' : Own) (told' : ℕ) (taken' : List ℕ) → Goes p (after_run (design p) z m) m mail o' told' taken'
+    behind : ((o' : Own) (told' : ℕ) (taken' : ℕ → ℕ) → Goes p (after_run (design p) z m) m mail o' told' taken'
         → GoesOn p m mail short last o' told' taken' more → Ran p (after_run (design p) z m) m (length more) last)
         → Waits p (after_run (design p) z m) m mail o told taken → IsAtStep p m mail short last o told taken more
         (λ o' told' taken'. GoesOn p m mail short last o' told' taken' more)

@@ -63,6 +63,7 @@ module _ (p : Plan) (fits : FitsEngine p) (e : Edit) (fit : EditFits p e) (i : â
   stands_edited o run s = record {
     leads = record { path = path_edited run.path.value s.leads.path; rest = s.leads.rest; since = s.leads.since };
     tally = s.tally;
+    ports = s.ports;
     few = s.few;
     accesses = s.accesses;
     in_time = record { since = s.in_time.since; left = s.in_time.left; clock = s.in_time.clock };

@@ -1,13 +1,19 @@
 -- What came back unread stays the next values of its channel, whatever acts.
-use Rattle.std.proofs.Common.{◌≡◌, refl, ap, subst, ℕ, zero, suc, ◌<◌, List}
+use Rattle.std.proofs.Common.{◌≡◌, refl, ap, subst, ℕ, zero, suc, ◌+◌, ◌<◌, ◌≤◌, List}
 use Rattle.std.proofs.Common.{[], ◌∷◌, ◌++◌, length, drop, get_or, set, inl, inr, arith, sym}
-use Rattle.std.proofs.Common.{Option, ◌∙◌, ◌⊎◌}
+use Rattle.std.proofs.Common.{Option, ◌∙◌}
 use Rattle.std.proofs.lemmas.Bool.{cases_lt}
 use Rattle.std.proofs.lemmas.Bool.Decides.{eqb_tells}
 use Rattle.std.proofs.lemmas.List.{get_or-set_same, get_or-set_other, get_or_past, length-set}
 use Rattle.flow_design.specs.declared.plan.Plan.{Plan}
 use Rattle.flow_design.specs.declared.state.Advance.{Advance}
 use Rattle.flow_design.specs.declared.state.ModuleState.{ModuleState}
+use Rattle.std.specs.List.Sorted.{IsStrictlyIncreasing}
+use Rattle.module_interp.specs.OwnChannels.{place_in}
+use Rattle.module_interp.proofs.Places.{position_at}
+use Rattle.run_ahead.specs.declared.mail.Mail.{Mail}
+use Rattle.run_ahead.specs.Mails.{values_on}
+use Rattle.run_ahead.proofs.Placed.{values_there}
 use Rattle.module_interp.specs.declared.run.ModuleRun.{ModuleRun}
 use Rattle.event_timing.specs.Core.{Core, core_values}
 use Rattle.event_timing.specs.Actions.{Action, Acts, ActsAll, IsNoRunOf, runs}
@@ -70,41 +76,45 @@ unread_grow all more n unread grows are c l =
 
 -- ---- what a mail has left
 
--- a loop over ports has kept what is left of some channels, and taken it out
-pub record IsKeeping (first : List Unread) (readers : List ℕ) (m : ℕ) (popped : List ℕ) (values : List (List ℕ)) (unread : List Unread)
-    (now : List (List ℕ)) : Type 0 where
-  pub same : (c : ℕ) → (get_or now c [] ≡ get_or values c []) ⊎ (get_or now c [] ≡ [])
+-- a loop has kept what is left of the first channels, and taken it out
+pub record IsKeeping (first : List Unread) (readers : List ℕ) (m : ℕ) (popped : ℕ → ℕ) (mail : Mail) (unread : List Unread) (now : Mail)
+    (at : ℕ) : Type 0 where
+  pub pops : now.channels ≡ mail.channels
+  pub still : (i : ℕ) → at ≤ i → get_or now.values i [] ≡ get_or mail.values i []
   pub left : (all : ℕ → List ℕ) (n : ℕ) → AreUnread all n first
-      → ((c : ℕ) → c < n → get_or readers c 0 ≡ m → Begins (drop (get_or popped c 0) (all c)) (get_or values c []))
-      → AreUnread all n unread
+      → ((c : ℕ) → c < n → get_or readers c 0 ≡ m → Begins (drop (popped c) (all c)) (values_on mail c)) → AreUnread all n unread
 
-pub keeping_more : (first : List Unread) (readers : List ℕ) (m : ℕ) (popped : List ℕ) (values : List (List ℕ)) (unread : List Unread)
-    (now : List (List ℕ)) (at : ℕ) → IsKeeping first readers m popped values unread now → get_or readers at 0 ≡ m
-    → (more : List Unread) (rest : List (List ℕ)) → more ≡ set unread at (record { behind = get_or popped at 0; values = get_or now at [] })
-    → rest ≡ set now at [] → IsKeeping first readers m popped values more rest
-keeping_more first readers m popped values unread now at k mine more rest e f = record {
-  same = λ c.
-      elim (eqb_tells c at) [
-        | inl y ↦ inr (ap (λ (vs : List (List ℕ)). get_or vs c []) f
-            ∙ subst (λ (i : ℕ). get_or (set now at []) i [] ≡ []) (sym y.1) (emptied now at))
-        | inr y ↦ subst (λ (vs : List ℕ). (vs ≡ get_or values c []) ⊎ (vs ≡ []))
-            (sym (ap (λ (vs : List (List ℕ)). get_or vs c []) f ∙ get_or-set_other now at c [] [] y.1)) (k.same c)
-      ];
+pub keeping_more : (first : List Unread) (readers : List ℕ) (m : ℕ) (popped : ℕ → ℕ) (mail : Mail) (unread more : List Unread)
+    (now rest : Mail) (at c : ℕ) → IsKeeping first readers m popped mail unread now at → IsStrictlyIncreasing now.channels
+    → at < length now.channels → get_or now.channels at 0 ≡ c → get_or readers c 0 ≡ m
+    → more ≡ set unread c (record { behind = popped c; values = get_or now.values at [] }) → rest.channels ≡ now.channels
+    → rest.values ≡ set now.values at [] → IsKeeping first readers m popped mail more rest (at + 1)
+keeping_more first readers m popped mail unread more now rest at c k rise inside is mine e same taken = record {
+  pops = same ∙ k.pops;
+  still = λ i l.
+      ap (λ (vs : List (List ℕ)). get_or vs i []) taken ∙ (get_or-set_other now.values at i [] [] (λ z. absurd (omega arith))
+      ∙ k.still i (omega arith));
   left = λ all n are next.
       subst (AreUnread all n) (sym e)
-      (unread_set all n unread at _ (k.left all n are next)
-      (λ inside. begin_or_none (drop (get_or popped at 0) (all at)) (next at inside mine) (k.same at)));
+      (unread_set all n unread c _ (k.left all n are next)
+      (λ within. subst (Begins (drop (popped c) (all c))) here (next c within mine)));
 }
   where
-    emptied : (vs : List (List ℕ)) (i : ℕ) → get_or (set vs i []) i [] ≡ []
-    emptied [] i = get_or_past [] i [] (omega arith)
-    emptied (v ∷ vs) zero = refl
-    emptied (v ∷ vs) (suc i) = emptied vs i
+    place : place_in mail.channels c ≡ at
+    place = rw (← k.pops) (position_at now.channels rise at c inside is)
 
-    begin_or_none : (all : List ℕ) → Begins all (get_or values at [])
-        → (get_or now at [] ≡ get_or values at []) ⊎ (get_or now at [] ≡ []) → Begins all (get_or now at [])
-    begin_or_none all begins (inl y) = subst (Begins all) (sym y) begins
-    begin_or_none all begins (inr y) = subst (Begins all) (sym y) (all, refl)
+    here : values_on mail c ≡ get_or now.values at []
+    here =
+        values_there mail c (rw (place, ← k.pops) inside)
+        ∙ (ap (λ (i : ℕ). get_or mail.values i []) place ∙ sym (k.still at (omega arith)))
+
+pub keeping_on : (first : List Unread) (readers : List ℕ) (m : ℕ) (popped : ℕ → ℕ) (mail : Mail) (unread : List Unread) (now : Mail)
+    (at : ℕ) → IsKeeping first readers m popped mail unread now at → IsKeeping first readers m popped mail unread now (at + 1)
+keeping_on first readers m popped mail unread now at k = record {
+  pops = k.pops;
+  still = λ i l. k.still i (omega arith);
+  left = k.left;
+}
 
 -- ---- cores
 

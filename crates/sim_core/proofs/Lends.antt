@@ -1,18 +1,17 @@
 -- A core that lends a run.
 use Rattle.std.proofs.Common.{◌≡◌, refl, sym, ap, subst, ◌∙◌, ℕ, zero, suc, ◌<◌, ◌≤◌, true, false, cond, inl, inr, List, [], ◌∷◌}
-use Rattle.std.proofs.Common.{arith, drop, length, get_or, set, slice_index, Option, Some, None, is_none}
+use Rattle.std.proofs.Common.{arith, drop, length, get_or, set, Option, Some, None, is_none}
 use Rattle.std.proofs.lemmas.Bool.{cases_Bool, cond-true, cond-false}
 use Rattle.std.proofs.lemmas.List.{map-set}
 use Rattle.flow_word.specs.declared.access.Access.{Access}
 use Rattle.flow_word.specs.declared.access.Side.TheVariants.{Pop}
 use Rattle.flow_design.specs.declared.plan.Plan.{Plan}
 use Rattle.flow_design.specs.declared.state.Advance.{Advance}
-use Rattle.lockstep_defs.specs.Channels.{moved_by}
 use Rattle.lockstep_defs.specs.OwnRun.{Own}
 use Rattle.lockstep_defs.specs.Report.{queries}
 use Rattle.module_interp.specs.declared.run.ModuleRun.{ModuleRun}
 use Rattle.module_interp.specs.OwnRests.{done_in, accesses_at}
-use Rattle.module_interp.specs.Runs.{StandsAt, waits}
+use Rattle.module_interp.specs.Runs.{StandsAt, popped_in, waits}
 use Rattle.query_log.specs.Logs.{log_at}
 use Rattle.event_timing.specs.Actions.{MayRun}
 use Rattle.timing_bridge.specs.Designs.{design}
@@ -29,7 +28,6 @@ use Rattle.sim_core.specs.Tasks.{committed, IsTaskOf, IsTaskLeft}
 use Rattle.event_timing.specs.Core.{Core, core_tally, core_values}
 use Rattle.event_timing.specs.Views.{Begins}
 use Rattle.flow_design.specs.declared.state.ModuleState.{ModuleState}
-use Rattle.sim_core.proofs.Marking.{table_count}
 use Rattle.sim_core.proofs.Posted.{going_posted, waiting_posted}
 use Rattle.sim_core.proofs.Sending.{popped_is}
 use Rattle.sim_core.proofs.Committed.{committed_waits, committed_goes}
@@ -53,24 +51,22 @@ is_lent (r ∷ rs) (suc m) e = is_lent rs m e
 
 -- where a run is at hand, what it counted, and what it waits for
 pub record IsAtHand (p : Plan) (s : Engine) (ends : List (Option Advance)) (runs : List (Option ModuleRun)) (m : ℕ)
-    (run : ModuleRun) (readers : List ℕ) (first : ℕ) (popped : List ℕ) (accesses : List Access) : Type 0 where
+    (run : ModuleRun) (readers : List ℕ) (first : ℕ) (accesses : List Access) : Type 0 where
   pub core : IsCore p s ends runs
   pub inside : m < length p.design.modules
   pub may : MayRun (design p) (core_of (design p) (held_in s (over_of ends))) m
   pub run_is : IsRunOf p (core_of (design p) (held_in s (over_of ends))) m run
   pub readers_are : AreReaders p readers
   pub first_is : (q : Plan) (i : ℕ) (o : Own) → StandsAt q i o run → first ≡ length (queries (done_in o.steps))
-  pub popped_are : (q : Plan) (i : ℕ) (o : Own) → StandsAt q i o run → (f : ℕ) → f < length q.design.channels
-      → slice_index popped f ≡ length (moved_by Pop f (done_in o.steps))
   pub accesses_are : (q : Plan) (i : ℕ) (o : Own) → StandsAt q i o run → accesses ≡ cond (waits run) (accesses_at q i o) []
 
 module _ {p : Plan} {s : Engine} {ends : List (Option Advance)} {runs : List (Option ModuleRun)} {m : ℕ}
-    {run : ModuleRun} {readers : List ℕ} {first : ℕ} {popped : List ℕ} {xs : List Access}
-    (k : IsAtHand p s ends runs m run readers first popped xs) where
+    {run : ModuleRun} {readers : List ℕ} {first : ℕ} {xs : List Access}
+    (k : IsAtHand p s ends runs m run readers first xs) where
   abbrev h : Held
   h = held_in s (over_of ends)
 
-  pub task_lent : (mail : Mail) → IsMade (log_at h.logs m).outcomes h.channels readers m first popped xs mail
+  pub task_lent : (mail : Mail) → IsMade (log_at h.logs m).outcomes h.channels readers m first run xs mail
       → IsTaskOf p (core_of (design p) h) m (record { run = run; mail = mail })
   task_lent mail made =
       elim (cases_Bool (waits run)) [
@@ -78,61 +74,34 @@ module _ {p : Plan} {s : Engine} {ends : List (Option Advance)} {runs : List (Op
             let (j, ej, st) = k.run_is.waiting w in
             let o = rest_behind p (core_of (design p) h) m j in
             waiting_posted p k.core.fits h k.core.table k.core.sound k.core.agreed.marks m k.inside run k.run_is readers k.readers_are first
-            popped xs mail made w j ej (k.accesses_are p m o st ∙ cond-true (waits run) (accesses_at p m o) [] w) (k.first_is p m o st)
-            (k.popped_are p m o st) k.may
+            xs mail made w j ej (k.accesses_are p m o st ∙ cond-true (waits run) (accesses_at p m o) [] w) (k.first_is p m o st) st k.may
         | inr w ↦
             let (answered, st) = k.run_is.going w in
             let o = rest_behind p (core_of (design p) h) m (emitted_of h m) in
             going_posted p k.core.fits h k.core.table k.core.sound k.core.agreed.marks m k.inside run k.run_is readers k.readers_are first
-            popped xs mail made w (k.accesses_are p m o st ∙ cond-false (waits run) (accesses_at p m o) [] w) (k.popped_are p m o st) k.may
+            xs mail made w (k.accesses_are p m o st ∙ cond-false (waits run) (accesses_at p m o) [] w) st k.may
       ]
-
--- the run's counts are one for each channel of the table
-pub popped_count : {p : Plan} {s : Engine} {ends : List (Option Advance)} {runs : List (Option ModuleRun)} → IsCore p s ends runs
-    → {m : ℕ} {run : ModuleRun} → IsRunOf p (core_of (design p) (held_in s (over_of ends))) m run → (popped : List ℕ)
-    → ((q : Plan) (i : ℕ) (o : Own) → StandsAt q i o run → length popped ≡ length q.design.channels)
-    → length popped ≡ length s.fifos.channels
-popped_count {p} {s} {ends} k {m} {run} r popped count =
-    let x = core_of (design p) (held_in s (over_of ends)) in
-    elim (cases_Bool (waits run)) [
-      | inl w ↦ let (j, ej, st) = r.waiting w in
-          count p m (rest_behind p x m j) st ∙ sym (table_count p s.fifos.channels k.table)
-      | inr w ↦ let (answered, st) = r.going w in
-          count p m (rest_behind p x m (x.emitted m)) st ∙ sym (table_count p s.fifos.channels k.table)
-    ]
 
 -- ---- what is left of a mail
 
 module _ {p : Plan} {s : Engine} {ends : List (Option Advance)} {runs : List (Option ModuleRun)}
     (k : IsCore p s ends runs) {m : ℕ} (inside : m < length p.design.modules) {last : Task}
-    (t : IsTaskLeft p (core_of (design p) (held_in s (over_of ends))) m last) (popped : List ℕ) where
+    (t : IsTaskLeft p (core_of (design p) (held_in s (over_of ends))) m last) (c : ℕ) where
   abbrev x : Core ModuleState
   x = core_of (design p) (held_in s (over_of ends))
 
-  pub left_count : ((q : Plan) (i : ℕ) (o : Own) → StandsAt q i o last.run → length popped ≡ length q.design.channels)
-      → length popped ≡ length p.design.channels
-  left_count count =
-      elim (cases_Bool (waits last.run)) [
-        | inl w ↦ let (j, ej, st) = t.run.waiting w in count p m (rest_behind p x m j) st
-        | inr w ↦ let (answered, st) = t.run.going w in count p m (rest_behind p x m (x.emitted m)) st
-      ]
+  count_at : (n : ℕ) → n ≤ x.emitted m → StandsAt p m (rest_behind p x m n) last.run → committed x m last.run ≡ n
+      → popped_in last.run c ≡ core_tally (design p) x m Pop c (committed x m last.run)
+  count_at n most st e =
+      st.tally.popped_are c
+      ∙ (popped_is p k.fits (held_in s (over_of ends)) k.table k.sound k.agreed.marks m inside n most c
+      ∙ ap (core_tally (design p) x m Pop c) (sym e))
 
-  module _ (each : (q : Plan) (i : ℕ) (o : Own) → StandsAt q i o last.run → (f : ℕ) → f < length q.design.channels
-      → slice_index popped f ≡ length (moved_by Pop f (done_in o.steps))) (c : ℕ) (l : c < length p.design.channels) where
-    count_at : (n : ℕ) → n ≤ x.emitted m → StandsAt p m (rest_behind p x m n) last.run → committed x m last.run ≡ n
-        → slice_index popped c ≡ core_tally (design p) x m Pop c (committed x m last.run)
-    count_at n most st e =
-        each p m (rest_behind p x m n) st c l
-        ∙ (popped_is p k.fits (held_in s (over_of ends)) k.table k.sound k.agreed.marks m inside n most c
-        ∙ ap (core_tally (design p) x m Pop c) (sym e))
-
-    -- the values that are left are the next ones behind those that were popped
-    pub left_next : Begins (drop (slice_index popped c) (core_values (design p) x c)) (values_on last.mail c)
-    left_next =
-        subst (λ (n : ℕ). Begins (drop n (core_values (design p) x c)) (values_on last.mail c)) (sym (elim (cases_Bool (waits last.run)) [
-          | inl w ↦ let (j, ej, st) = t.run.waiting w in
-              count_at j (omega arith) st (committed_waits x m last.run w ∙ (omega arith))
-          | inr w ↦ let (answered, st) = t.run.going w in count_at (x.emitted m) (omega arith) st (committed_goes x m last.run w)
-        ])) (t.values c)
-
--- ---- answers
+  -- the values that are left are the next ones behind those that were popped
+  pub left_next : Begins (drop (popped_in last.run c) (core_values (design p) x c)) (values_on last.mail c)
+  left_next =
+      subst (λ (n : ℕ). Begins (drop n (core_values (design p) x c)) (values_on last.mail c)) (sym (elim (cases_Bool (waits last.run)) [
+        | inl w ↦ let (j, ej, st) = t.run.waiting w in
+            count_at j (omega arith) st (committed_waits x m last.run w ∙ (omega arith))
+        | inr w ↦ let (answered, st) = t.run.going w in count_at (x.emitted m) (omega arith) st (committed_goes x m last.run w)
+      ])) (t.values c)

@@ -1,11 +1,10 @@
 -- The replies that are read off a mail are those that the core tells.
-use Rattle.std.proofs.Common.{◌≡◌, refl, sym, ap, ap₂, subst, ◌∙◌, ℕ, zero, suc, ◌+◌, ◌<◌, Bool, true, false, not, cond, eqb, ltb, ◌&&◌}
-use Rattle.std.proofs.Common.{◌||◌, List, [], ◌∷◌, length, map, drop, get_or, Option, Some, None, slice_get, slice_index_or, inl, inr}
+use Rattle.std.proofs.Common.{◌≡◌, refl, sym, ap, ap₂, subst, ◌∙◌, ℕ, zero, suc, ◌+◌, Bool, true, false, not, cond, eqb, ltb, ◌&&◌}
+use Rattle.std.proofs.Common.{◌||◌, List, [], ◌∷◌, length, map, drop, get_or, Option, Some, None, slice_get, inl, inr}
 use Rattle.std.proofs.Common.{arith, length-drop}
 use Rattle.std.proofs.lemmas.Bool.Decides.{nat_tests}
 use Rattle.std.proofs.lemmas.Bool.{cases_Bool, and_from}
 use Rattle.std.proofs.lemmas.Bool.Decides.{eqb_tells}
-use Rattle.std.proofs.lemmas.List.{get_or-set_same, get_or-set_other}
 use Rattle.std.proofs.lemmas.Option.{slice_get_within, slice_get_past, get_or_from_slice_get}
 use Rattle.flow_word.specs.declared.access.Kind.{Kind}
 use Rattle.flow_word.specs.declared.access.Kind.TheVariants.{Read, Write, TryRead, TryWrite, Empty, Full}
@@ -26,7 +25,7 @@ use Rattle.run_ahead.specs.declared.mail.Mail.{Mail}
 use Rattle.run_ahead.specs.Replies.{reply_now, put_first, has_value, told_by}
 use Rattle.run_ahead.specs.Mails.{next_value, replies_in, one_more, taken_after}
 use Rattle.flow_word.proofs.Ranges.{some_is}
-use Rattle.run_ahead.proofs.Parts.{first_parts, more_length}
+use Rattle.run_ahead.proofs.Parts.{first_parts}
 use Rattle.sim_core.specs.Tasks.{outcomes_in}
 
 -- the access takes a value
@@ -63,25 +62,19 @@ drop_none {X} xs n e = slice_get_past xs n (let none = ap (λ (ys : List X). len
 took_is : (k : Kind) (b e : Bool) → (is_taking k && (b && (same_side (side_of k) Pop && e))) ≡ (pops_one k b && e)
 took_is k b e = grind arith
 
-more_at : (u : List ℕ) (c f : ℕ) (h : Bool) → (h ≡ true → c < length u)
-    → slice_index_or (cond h (one_more u c) u) f 0 ≡ slice_index_or u f 0 + cond {A = ℕ} (h && eqb c f) 1 0
-more_at u c f false l = omega arith
-more_at u c f true l =
-    elim (eqb_tells c f) [
-      | inl e ↦ rw (e.0, sym e.1, get_or-set_same u c (suc (slice_index_or u c 0)) 0 (l refl)) (omega arith)
-      | inr e ↦ rw (e.0, get_or-set_other u c f (suc (slice_index_or u c 0)) 0 (λ z. e.1 (sym z))) (omega arith)
-    ]
+more_at : (u : ℕ → ℕ) (c f : ℕ) (h : Bool) → (cond h (one_more u c) u) f ≡ u f + cond {A = ℕ} (h && eqb c f) 1 0
+more_at u c f false = omega arith
+more_at u c f true = elim (eqb_tells c f) [ inl e ↦ rw e.0 (omega arith) | inr e ↦ rw e.0 (omega arith) ]
 
 -- ---- a step's accesses
 
-pub record AreFound (mail : Mail) (told : ℕ) (taken : List ℕ) (before : List Exchange) (V : ℕ → List ℕ) (t : ℕ → ℕ) (rs : List Request)
+pub record AreFound (mail : Mail) (told : ℕ) (taken : ℕ → ℕ) (before : List Exchange) (V : ℕ → List ℕ) (t : ℕ → ℕ) (rs : List Request)
     (bs : List Bool) (qs : List Reply) : Type 0 where
   pub are : qs ≡ told_all rs (replies_of V t (map seen rs) bs)
   pub there : all_below (λ (c : ℕ). length (V c)) t (map seen rs) bs ≡ true
   pub all_told : drop (told + queries_in (map (access_of before) rs)) mail.outcomes ≡ []
-  pub counts : (u : List ℕ) → length u ≡ length taken → (f : ℕ)
-      → slice_index_or (taken_after u (map (access_of before) rs) qs) f 0 ≡ slice_index_or u f 0 + takes_in Pop f (map seen rs)
-      (bare_replies bs)
+  pub counts : (u : ℕ → ℕ) (f : ℕ)
+      → taken_after u (map (access_of before) rs) qs f ≡ u f + takes_in Pop f (map seen rs) (bare_replies bs)
 
 -- behind one access, of a query or not
 go_on : (mail : Mail) (before : List Exchange) (told : ℕ) (r : Request) (rs : List Request) (b : Bool) (bs : List Bool)
@@ -97,66 +90,65 @@ go_on mail before told r rs b bs e =
           (λ z. h1, (grind arith, grind arith))
     ]
 
-module _ (mail : Mail) (taken : List ℕ) (before : List Exchange) (V : ℕ → List ℕ) (t : ℕ → ℕ)
+module _ (mail : Mail) (taken : ℕ → ℕ) (before : List Exchange) (V : ℕ → List ℕ) (t : ℕ → ℕ)
     (window : (c v : ℕ) → next_value mail taken c ≡ Some v → slice_get (V c) (t c) ≡ Some v)
-    (room : (c v : ℕ) → next_value mail taken c ≡ Some v → c < length taken) where
-  front_is : (c v : ℕ) → next_value mail taken c ≡ Some v → get_or (V c) (t c) 0 ≡ v
-  front_is c v e = get_or_from_slice_get (V c) (t c) v 0 (window c v e)
+  where
+    front_is : (c v : ℕ) → next_value mail taken c ≡ Some v → get_or (V c) (t c) 0 ≡ v
+    front_is c v e = get_or_from_slice_get (V c) (t c) v 0 (window c v e)
 
-  pub read_is : (told : ℕ) (rs : List Request) (bs : List Bool) → FlagsFit (map seen rs) bs → drop told mail.outcomes ≡ outcomes_in rs bs
-      → (qs : List Reply)
-      → replies_in mail told taken (map (access_of before) rs) ≡ Some qs → AreFound mail told taken before V t rs bs qs
-  read_is told [] [] f o qs e = record {
-    are = sym (some_is [] qs e);
-    there = refl;
-    all_told = let z : told + 0 ≡ told = omega arith in rw z o;
-    counts = λ u l c. omega arith;
-  }
-  read_is told [] (b ∷ bs) f o qs e = absurd f
-  read_is told (r ∷ rs) [] f o qs e = absurd f
-  read_is told (r ∷ rs) (b ∷ bs) (f, fs) o qs e =
-      let (q, (qs', (e1, (e2, e3)))) = first_parts (reply_now r.kind (slice_get mail.outcomes told) (next_value mail taken r.channel))
-      (replies_in mail (told_by r.kind told) taken (map (access_of before) rs)) qs e in
-      let (h1, (h2, h3)) = go_on mail before told r rs b bs o in
-      let one = found_one r.kind b (slice_get mail.outcomes told) (next_value mail taken r.channel) (get_or (V r.channel) (t r.channel) 0) q
-      f h1 (front_is r.channel) e1 in
-      let more = read_is (told_by r.kind told) rs bs fs h2 qs' e2 in
-      record {
-        are = e3 ∙ ap₂ (λ (x : Reply) (xs : List Reply). x ∷ xs) one.is more.are;
-        there = and_from (not (pops_one r.kind b) || ltb (t r.channel) (length (V r.channel)))
-            (all_below (λ (c : ℕ). length (V c)) t (map seen rs) bs) (below one.there) more.there;
-        all_told = ap (λ (n : ℕ). drop n mail.outcomes) h3 ∙ more.all_told;
-        counts = λ u l c. subst (λ (z : List Reply). slice_index_or (taken_after u (map (access_of before) (r ∷ rs)) z) c 0 ≡ slice_index_or
-            u c 0 + takes_in Pop c (map seen (r ∷ rs)) (bare_replies (b ∷ bs))) (sym e3)
-            (counted q qs' one.took one.there more.counts u l c);
-      }
-    where
-      below : (pops_one r.kind b ≡ true → (v : ℕ) × (next_value mail taken r.channel ≡ Some v))
-          → (not (pops_one r.kind b) || ltb (t r.channel) (length (V r.channel))) ≡ true
-      below g =
-          elim (cases_Bool (pops_one r.kind b)) [
-            | inr k ↦ rw k refl
-            | inl k ↦ let (v, y) = g k in
-                let within = slice_get_within (V r.channel) (t r.channel) v (window r.channel v y) in grind (arith, nat_tests)
-          ]
+    pub read_is : (told : ℕ) (rs : List Request) (bs : List Bool) → FlagsFit (map seen rs) bs → drop told mail.outcomes ≡ outcomes_in rs bs
+        → (qs : List Reply)
+        → replies_in mail told taken (map (access_of before) rs) ≡ Some qs → AreFound mail told taken before V t rs bs qs
+    read_is told [] [] f o qs e = record {
+      are = sym (some_is [] qs e);
+      there = refl;
+      all_told = let z : told + 0 ≡ told = omega arith in rw z o;
+      counts = λ u c. omega arith;
+    }
+    read_is told [] (b ∷ bs) f o qs e = absurd f
+    read_is told (r ∷ rs) [] f o qs e = absurd f
+    read_is told (r ∷ rs) (b ∷ bs) (f, fs) o qs e =
+        let (q, (qs', (e1, (e2, e3)))) = first_parts (reply_now r.kind (slice_get mail.outcomes told) (next_value mail taken r.channel))
+        (replies_in mail (told_by r.kind told) taken (map (access_of before) rs)) qs e in
+        let (h1, (h2, h3)) = go_on mail before told r rs b bs o in
+        let one = found_one r.kind b (slice_get mail.outcomes told) (next_value mail taken r.channel)
+        (get_or (V r.channel) (t r.channel) 0) q
+        f h1 (front_is r.channel) e1 in
+        let more = read_is (told_by r.kind told) rs bs fs h2 qs' e2 in
+        record {
+          are = e3 ∙ ap₂ (λ (x : Reply) (xs : List Reply). x ∷ xs) one.is more.are;
+          there = and_from (not (pops_one r.kind b) || ltb (t r.channel) (length (V r.channel)))
+              (all_below (λ (c : ℕ). length (V c)) t (map seen rs) bs) (below one.there) more.there;
+          all_told = ap (λ (n : ℕ). drop n mail.outcomes) h3 ∙ more.all_told;
+          counts = λ u c. subst (λ (z : List Reply). taken_after u (map (access_of before) (r ∷ rs)) z c
+              ≡ u c + takes_in Pop c (map seen (r ∷ rs)) (bare_replies (b ∷ bs))) (sym e3) (counted q qs' one.took more.counts u c);
+        }
+      where
+        below : (pops_one r.kind b ≡ true → (v : ℕ) × (next_value mail taken r.channel ≡ Some v))
+            → (not (pops_one r.kind b) || ltb (t r.channel) (length (V r.channel))) ≡ true
+        below g =
+            elim (cases_Bool (pops_one r.kind b)) [
+              | inr k ↦ rw k refl
+              | inl k ↦ let (v, y) = g k in
+                  let within = slice_get_within (V r.channel) (t r.channel) v (window r.channel v y) in grind (arith, nat_tests)
+            ]
 
-      counted : (q : Reply) (qs' : List Reply) → has_value q ≡ pops_one r.kind b
-          → (pops_one r.kind b ≡ true → (v : ℕ) × (next_value mail taken r.channel ≡ Some v))
-          → ((u : List ℕ) → length u ≡ length taken → (c : ℕ) → slice_index_or (taken_after u (map (access_of before) rs) qs') c
-          0 ≡ slice_index_or u c 0 + takes_in Pop c (map seen rs) (bare_replies bs))
-          → (u : List ℕ) → length u ≡ length taken → (c : ℕ)
-          → slice_index_or (taken_after (cond (has_value q) (one_more u r.channel) u) (map (access_of before) rs) qs') c 0
-          ≡ slice_index_or u c 0 + (cond {A = ℕ} (is_taking r.kind && (b && (same_side (side_of r.kind) Pop && eqb r.channel c))) 1
-          0 + takes_in Pop c (map seen rs) (bare_replies bs))
-      counted q qs' took there more u l c =
-          let u' = cond (has_value q) (one_more u r.channel) u in
-          let m1 = more u' (more_length u r.channel (has_value q) ∙ l) c in
-          let m2 = more_at u r.channel c (has_value q) (λ h. let (v, y) = there (sym took ∙ h) in let z = room r.channel v y in omega
-          arith) in
-          let m3 : cond {A = ℕ} (has_value q && eqb r.channel c) 1 0 ≡ cond {A = ℕ}
-          (is_taking r.kind && (b && (same_side (side_of r.kind) Pop && eqb r.channel c))) 1 0 =
-          ap (λ (z : Bool). cond {A = ℕ} z 1 0) (ap (λ (z : Bool). z && eqb r.channel c) took ∙ sym (took_is r.kind b (eqb r.channel c))) in
-          omega arith
+        counted : (q : Reply) (qs' : List Reply) → has_value q ≡ pops_one r.kind b
+            → ((u : ℕ → ℕ) (c : ℕ) → taken_after u (map (access_of before) rs) qs' c
+            ≡ u c + takes_in Pop c (map seen rs) (bare_replies bs))
+            → (u : ℕ → ℕ) (c : ℕ)
+            → taken_after (cond (has_value q) (one_more u r.channel) u) (map (access_of before) rs) qs' c
+            ≡ u c + (cond {A = ℕ} (is_taking r.kind && (b && (same_side (side_of r.kind) Pop && eqb r.channel c))) 1
+            0 + takes_in Pop c (map seen rs) (bare_replies bs))
+        counted q qs' took more u c =
+            let u' = cond (has_value q) (one_more u r.channel) u in
+            let m1 = more u' c in
+            let m2 = more_at u r.channel c (has_value q) in
+            let m3 : cond {A = ℕ} (has_value q && eqb r.channel c) 1 0 ≡ cond {A = ℕ}
+            (is_taking r.kind && (b && (same_side (side_of r.kind) Pop && eqb r.channel c))) 1 0 =
+            ap (λ (z : Bool). cond {A = ℕ} z 1 0)
+            (ap (λ (z : Bool). z && eqb r.channel c) took ∙ sym (took_is r.kind b (eqb r.channel c))) in
+            omega arith
 
 -- ---- steps without outcomes
 
@@ -164,7 +156,7 @@ none_found : (k : Kind) (value : Option ℕ) → is_blocking k ≡ false → rep
 none_found k value e = grind arith
 
 -- where no outcome is left and all replies are found, there is no query
-pub no_query : (mail : Mail) (told : ℕ) (taken : List ℕ) (before : List Exchange) (rs : List Request) (qs : List Reply)
+pub no_query : (mail : Mail) (told : ℕ) (taken : ℕ → ℕ) (before : List Exchange) (rs : List Request) (qs : List Reply)
     → drop told mail.outcomes ≡ []
     → replies_in mail told taken (map (access_of before) rs) ≡ Some qs → has_query (map seen rs) ≡ false
 no_query mail told taken before [] qs o e = refl
@@ -183,13 +175,6 @@ no_outcomes_of [] bs e = refl
 no_outcomes_of (r ∷ rs) [] e = refl
 no_outcomes_of (r ∷ rs) (b ∷ bs) e = let later = no_outcomes_of rs bs in grind arith
 
--- a value is there of channels of the mail alone
-pub value_inside : (xs : List (List ℕ)) (c i v : ℕ) → slice_get (get_or xs c []) i ≡ Some v → c < length xs
-value_inside [] zero i v e = cc
-value_inside [] (suc c) i v e = cc
-value_inside (x ∷ xs) zero i v e = omega arith
-value_inside (x ∷ xs) (suc c) i v e = let l = value_inside xs c i v e in omega arith
-
 -- ---- a mail that has all replies
 
 some_one : (k : Kind) (b : Bool) (outcome : Option Bool) (value : Option ℕ) → (is_blocking k ≡ true → b ≡ true)
@@ -205,13 +190,13 @@ some_one Empty b outcome value f o w = (Flag (not b), rw (o refl) refl)
 some_one Full b outcome value f o w = (Flag (not b), rw (o refl) refl)
 
 -- each value that is taken is in the mail
-abbrev pub HasValues : Mail → List ℕ → List Request → List Bool → Type 0
+abbrev pub HasValues : Mail → (ℕ → ℕ) → List Request → List Bool → Type 0
 HasValues mail taken [] bs = Unit {0}
 HasValues mail taken (r ∷ rs) [] = Unit {0}
 HasValues mail taken (r ∷ rs) (b ∷ bs) = (pops_one r.kind b ≡ true → (v : ℕ) × (next_value mail taken r.channel ≡ Some v))
     × HasValues mail taken rs bs
 
-pub all_found : (mail : Mail) (taken : List ℕ) (before : List Exchange) (told : ℕ) (rs : List Request) (bs : List Bool)
+pub all_found : (mail : Mail) (taken : ℕ → ℕ) (before : List Exchange) (told : ℕ) (rs : List Request) (bs : List Bool)
     → FlagsFit (map seen rs) bs → drop told mail.outcomes ≡ outcomes_in rs bs
     → HasValues mail taken rs bs → (qs : List Reply) × (replies_in mail told taken (map (access_of before) rs) ≡ Some qs)
 all_found mail taken before told [] bs f o h = ([], refl)

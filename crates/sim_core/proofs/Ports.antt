@@ -1,6 +1,6 @@
 -- A module's own ports are all of those at which it stands, and are within the channels.
 use Rattle.std.proofs.Common.{◌≡◌, ℕ, zero, suc, ◌+◌, ◌<◌, ◌≤◌, Bool, true, false, eqb, inl, inr, List, ◌++◌, Some, refl, subst, sym}
-use Rattle.std.proofs.Common.{◌∙◌, arith, append_assoc, length}
+use Rattle.std.proofs.Common.{arith, append_assoc, length}
 use Rattle.std.specs.Prelude.{All, flat_map, slice_get}
 use Rattle.std.specs.List.{range_with_len}
 use Rattle.std.proofs.lemmas.Bool.Decides.{eqb_tells}
@@ -12,9 +12,7 @@ use Rattle.flow_word.specs.declared.access.Side.TheVariants.{Pop, Push}
 use Rattle.flow_design.specs.declared.plan.Plan.{Plan}
 use Rattle.timing_bridge.specs.Designs.{design}
 use Rattle.engine_view.specs.Rooms.{AreAllPorts}
-use Rattle.sim_core.specs.Lent.{HasAllPops}
 use Rattle.sim_core.specs.Opening.{port_where, ports_at, ports_to}
-use Rattle.sim_core.specs.Readers.{AreReaders}
 use Rattle.std.proofs.lemmas.Bool.{eq-eqb}
 
 abbrev Has : List Port → Port → Type 0
@@ -90,10 +88,3 @@ module _ (p : Plan) (m : ℕ) where
   all_within n ports count e =
       subst (All (λ (port : Port). port.channel < n)) (sym e) (All-from_recursion (λ (port : Port). port.channel < n)
       (ports_to p m (length p.design.channels)) (each_within 0 (length p.design.channels) n (omega arith)))
-
-  -- so each channel that the module pops has its port there
-  pub all_pops : (readers : List ℕ) → AreReaders p readers → (ports : List Port) → ports ≡ ports_to p m (length p.design.channels)
-      → HasAllPops readers m ports
-  all_pops readers are ports e c within mine =
-      all_there (length p.design.channels) ports refl e (record { side = Pop; channel = c }) (let n = are.count in omega arith)
-      (sym (are.each c (let n = are.count in omega arith)) ∙ mine)

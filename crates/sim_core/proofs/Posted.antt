@@ -1,21 +1,19 @@
 -- A mail that was made for a run that may go on is one of a task of the core.
 use Rattle.std.proofs.Common.{length-drop, ◌≡◌, sym, ap, ap₂, ◌∙◌, ℕ, suc, ◌+◌, ◌<◌, ◌≤◌, Bool, true, false, eqb}
-use Rattle.std.proofs.Common.{leb, ltb, ◌&&◌, ◌||◌, inl, inr, List, [], length, map, take, drop, slice_index}
+use Rattle.std.proofs.Common.{leb, ltb, ◌&&◌, ◌||◌, inl, inr, List, [], length, map, take, drop}
 use Rattle.std.proofs.Common.{arith}
 use Rattle.std.proofs.lemmas.Bool.{cond-true, cond-false, lt-ltb, leb-true, le-ltb}
 use Rattle.std.proofs.lemmas.Bool.Decides.{eqb_tells}
 use Rattle.flow_word.specs.declared.access.Access.{Access}
-use Rattle.flow_word.specs.declared.access.Side.TheVariants.{Pop}
 use Rattle.flow_design.specs.declared.plan.Plan.{Plan}
 use Rattle.flow_design.specs.declared.state.ModuleState.{ModuleState}
 use Rattle.flow_design.specs.StaticRules.{FitsEngine}
-use Rattle.lockstep_defs.specs.Channels.{moved_by}
 use Rattle.lockstep_defs.specs.Lockstep.{requests_of}
 use Rattle.lockstep_defs.specs.OwnRun.{access_of}
 use Rattle.lockstep_defs.specs.Report.{queries}
 use Rattle.module_interp.specs.declared.run.ModuleRun.{ModuleRun}
 use Rattle.module_interp.specs.OwnRests.{done_in, accesses_at}
-use Rattle.module_interp.specs.Runs.{waits}
+use Rattle.module_interp.specs.Runs.{StandsAt, waits}
 use Rattle.query_log.specs.Logs.{log_at}
 use Rattle.event_timing.specs.Core.{Core}
 use Rattle.event_timing.specs.Actions.{MayRun}
@@ -32,7 +30,7 @@ use Rattle.sim_core.specs.Opening.{kinds_of}
 use Rattle.sim_core.specs.Tasks.{outcomes_at, outcomes_in, values_behind, committed, IsTaskOf}
 use Rattle.sim_core.proofs.Committed.{committed_waits, committed_goes}
 use Rattle.sim_core.proofs.Resting.{rest_is}
-use Rattle.sim_core.proofs.Sending.{outcomes_read, asked_same, queries_are, mine, others}
+use Rattle.sim_core.proofs.Sending.{outcomes_read, asked_same, queries_are, mine, others, outside}
 
 -- ---- the outcomes that are needed are there
 
@@ -51,8 +49,8 @@ room_left e j q f os t =
 module _ (p : Plan) (f : FitsEngine p) (h : Held) (table : kinds_in h.channels ≡ kinds_of p) (s : IsSound (design p) h)
     (b : AreOwnMarks (design p) (core_of (design p) h)) (m : ℕ) (inside : m < length p.design.modules)
     (run : ModuleRun) (r : IsRunOf p (core_of (design p) h) m run) (readers : List ℕ)
-    (rd : AreReaders p readers) (first : ℕ) (popped : List ℕ) (xs : List Access) (mail : Mail)
-    (made : IsMade (log_at h.logs m).outcomes h.channels readers m first popped xs mail) where
+    (rd : AreReaders p readers) (first : ℕ) (xs : List Access) (mail : Mail)
+    (made : IsMade (log_at h.logs m).outcomes h.channels readers m first run xs mail) where
   abbrev x : Core ModuleState
   x = core_of (design p) h
 
@@ -60,25 +58,22 @@ module _ (p : Plan) (f : FitsEngine p) (h : Held) (table : kinds_in h.channels �
   IsPosted = IsTaskOf p x m (record { run = run; mail = mail })
 
   -- what is left to say where it is known how many steps are committed
-  posted_at : (n : ℕ) → n ≤ emitted_of h m → committed x m run ≡ n → ((c : ℕ) → c < length p.design.channels
-      → slice_index popped c ≡ length (moved_by Pop c (done_in (rest_behind p x m n).steps))) → MayRun (design p) x m
+  posted_at : (n : ℕ) → n ≤ emitted_of h m → committed x m run ≡ n → StandsAt p m (rest_behind p x m n) run → MayRun (design p) x m
       → mail.outcomes ≡ outcomes_at p x m n → IsPosted
-  posted_at n l e counts may outs = record {
+  posted_at n l e st may outs = record {
     may = may;
     run = r;
     outcomes = outs ∙ sym (ap (outcomes_at p x m) e);
-    count = made.values.count ∙ rd.count;
-    popped = λ c k y. mine p f h table s b m inside n l readers rd popped counts mail made.values c k y
+    popped = λ c k y. mine p f h table s b m inside n l readers rd run st (log_at h.logs m).outcomes first xs mail made c k y
         ∙ sym (ap (λ (k : ℕ). values_behind p x m k c) e);
-    others = λ c y. others p f h table s b m inside n l readers rd popped counts mail made.values c y;
+    others = λ c y. others p f h table s b m inside n l readers rd run st (log_at h.logs m).outcomes first xs mail made c y;
+    outside = λ c k. outside p f h table s b m inside n l readers rd run st (log_at h.logs m).outcomes first xs mail made c k;
   }
 
   -- a run that waits for nothing
-  pub going_posted : waits run ≡ false → xs ≡ [] → ((c : ℕ) → c < length p.design.channels
-      → slice_index popped c ≡ length (moved_by Pop c (done_in (rest_behind p x m (x.emitted m)).steps))) → MayRun (design p) x m
-      → IsPosted
-  going_posted w none counts may =
-      posted_at (x.emitted m) (omega arith) (committed_goes x m run w) counts may
+  pub going_posted : waits run ≡ false → xs ≡ [] → StandsAt p m (rest_behind p x m (x.emitted m)) run → MayRun (design p) x m → IsPosted
+  going_posted w none st may =
+      posted_at (x.emitted m) (omega arith) (committed_goes x m run w) st may
       (made.told ∙ (ap (λ (as' : List Access). take (queries_in as') (drop first (log_at h.logs m).outcomes)) none
       ∙ sym (cond-false (ltb (x.emitted m) (x.emitted m)) (outcomes_in (requests_of p (m, x.state m (x.emitted m)))
       (x.flags m (x.emitted m))) [] (le-ltb (x.emitted m) (x.emitted m) (omega arith)))))
@@ -86,8 +81,7 @@ module _ (p : Plan) (f : FitsEngine p) (h : Held) (table : kinds_in h.channels �
   -- a run that waits at the newest step
   module _ (w : waits run ≡ true) (j : ℕ) (ej : suc j ≡ emitted_of h m) (asked : xs ≡ accesses_at p m (rest_behind p x m j))
       (fe : first ≡ length (queries (done_in (rest_behind p x m j).steps)))
-      (counts : (c : ℕ) → c < length p.design.channels → slice_index popped c ≡ length
-      (moved_by Pop c (done_in (rest_behind p x m j).steps))) where
+      (st : StandsAt p m (rest_behind p x m j) run) where
     here : committed x m run ≡ j
     here = committed_waits x m run w ∙ (omega arith)
 
@@ -115,4 +109,4 @@ module _ (p : Plan) (f : FitsEngine p) (h : Held) (table : kinds_in h.channels �
         ∙ sym (cond-true (ltb j (x.emitted m)) (outcomes_in rs (x.flags m j)) [] (lt-ltb j (x.emitted m) (omega arith)))))
 
     pub waiting_posted : MayRun (design p) x m → IsPosted
-    waiting_posted may = posted_at j (omega arith) here counts may (outcomes_are (may.answered j ej))
+    waiting_posted may = posted_at j (omega arith) here st may (outcomes_are (may.answered j ej))

@@ -1,92 +1,64 @@
--- The values of a mail are read at the ports of its module.
-use Rattle.std.proofs.Common.{◌≡◌, sym, ap, subst, ◌∙◌, ℕ, ◌+◌, ◌<◌, ◌≤◌, ◌⊎◌, inl, inr, false, List, [], length, drop, set, eqb}
-use Rattle.std.proofs.Common.{slice_get, slice_index, slice_index_or, Some, arith}
-use Rattle.std.proofs.lemmas.Bool.{cond-true, cond-false, eq-eqb}
-use Rattle.std.proofs.lemmas.Bool.Decides.{eqb_tells}
-use Rattle.std.proofs.lemmas.List.{get_or-set_same, get_or-set_other, length-set}
-use Rattle.std.proofs.lemmas.Option.{slice_get_within}
-use Rattle.flow_word.specs.declared.access.Port.{Port}
-use Rattle.flow_word.specs.declared.access.Side.TheVariants.{Pop}
-use Rattle.fifo_table.specs.Channels.{Channel}
+-- The values of a mail are those of the channels that its module pops.
+use Rattle.std.proofs.Common.{◌≡◌, refl, sym, ap, ap₂, ◌∙◌, ℕ, ◌+◌, ◌<◌, ◌≤◌, inl, inr, Bool, true, false, cond, List, [], ◌∷◌, ◌++◌}
+use Rattle.std.proofs.Common.{length, map, take, drop, eqb}
+use Rattle.std.proofs.Common.{get_or, slice_index, arith}
+use Rattle.std.proofs.lemmas.Bool.{cond-true, cond-false, eq-eqb, ne_eqb, cases_lt}
+use Rattle.std.proofs.lemmas.List.{get_or_past, get_or-map, map_more}
+use Rattle.fifo_table.specs.Channels.{Channel, unused, values_of}
+use Rattle.fifo_table.specs.declared.channel.TableChannel.TheVariants.{Sink}
+use Rattle.module_interp.specs.OwnChannels.{place_in}
+use Rattle.module_interp.proofs.Places.{found_at}
 use Rattle.engine_view.specs.Held.{values_at}
-use Rattle.flow_word.proofs.Ranges.{some_is}
-use Rattle.sim_core.specs.Lent.{mailed, AreEmpty, AreMailed, HasAllPops, IsReadingPorts}
+use Rattle.run_ahead.specs.declared.mail.Mail.{Mail}
+use Rattle.run_ahead.specs.Mails.{values_on}
+use Rattle.run_ahead.proofs.Placed.{values_there, no_channel}
+use Rattle.run_ahead.proofs.Finding.{drop_none}
+use Rattle.sim_core.specs.Lent.{mailed}
 
-module _ (channels : List Channel) (readers : List ℕ) (m : ℕ) (popped : List ℕ) (ports : List Port) where
-  abbrev IsReading : List (List ℕ) → ℕ → Type 0
-  IsReading values at = IsReadingPorts channels readers m popped ports values at
+module _ (channels : List Channel) (readers : List ℕ) (m : ℕ) (popped : ℕ → ℕ) where
+  abbrev values_in : ℕ → List ℕ
+  values_in c = mailed channels readers m popped c
 
-  pub reads_none : (values : List (List ℕ)) → length values ≡ length readers → AreEmpty values → IsReading values 0
-  reads_none values count empty = record { count = count; some = λ c. inl (empty c); read = λ i c l. absurd (omega arith) }
-
-  -- the values of a channel that the module pops are put in their place
-  pub reads_more : (values more : List (List ℕ)) (at : ℕ) (port : Port) (words : List ℕ) → IsReading values at
-      → slice_get ports at ≡ Some port → port.channel < length readers → slice_index readers port.channel ≡ m
-      → words ≡ drop (slice_index popped port.channel) (values_at channels port.channel) → more ≡ set values port.channel words
-      → IsReading more (at + 1)
-  reads_more values more at port words k here inside mine read e = record {
-    count = ap (λ (vs : List (List ℕ)). length vs) e ∙ (length-set values port.channel words ∙ k.count);
-    some = λ c.
-        elim (eqb_tells c port.channel) [
-          | inl y ↦ inr (now c y.1)
-          | inr n ↦ subst (λ (ws : List ℕ). (ws ≡ []) ⊎ (ws ≡ mailed channels readers m popped c)) (sym (other c n.1)) (k.some c)
-        ];
-    read = λ i c l within there.
-        elim (eqb_tells c port.channel) [
-          | inl y ↦ now c y.1
-          | inr n ↦
-              elim (eqb_tells i at) [
-                | inl y ↦
-                    let same : port ≡ record { side = Pop; channel = c } =
-                    some_is port (record { side = Pop; channel = c }) (sym here ∙ (ap (slice_get ports) (sym y.1) ∙ there)) in
-                    absurd (n.1 (sym (ap (λ (p : Port). p.channel) same)))
-                | inr z ↦ other c n.1 ∙ k.read i c (let ne = z.1 in omega arith) within there
-              ]
-        ];
-  }
+  -- what is no channel has no value
+  pub past : (c : ℕ) → length channels ≤ c → values_in c ≡ []
+  past c l = by (eqb (slice_index readers c) m)
     where
-      now : (c : ℕ) → c ≡ port.channel → slice_index_or more c [] ≡ mailed channels readers m popped c
-      now c y = subst (λ (i : ℕ). slice_index_or more i [] ≡ mailed channels readers m popped i) (sym y)
-          (ap (λ (vs : List (List ℕ)). slice_index_or vs port.channel []) e
-          ∙ (get_or-set_same values port.channel words [] (let n = k.count in omega arith)
-          ∙ (read ∙ sym (cond-true _ _ [] (eq-eqb (slice_index readers port.channel) m mine)))))
+      none : values_at channels c ≡ []
+      none = ap (λ (k : Channel). values_of k.kind k.pushes) (get_or_past channels c (unused Sink) l)
 
-      other : (c : ℕ) → (c ≡ port.channel → ⊥) → slice_index_or more c [] ≡ slice_index_or values c []
-      other c n = ap (λ (vs : List (List ℕ)). slice_index_or vs c []) e ∙ get_or-set_other values port.channel c words [] n
+      by : (b : Bool) → cond b (drop (popped c) (values_at channels c)) [] ≡ []
+      by true = ap (drop (popped c)) none ∙ drop_none (popped c)
+      by false = refl
 
-  -- a port at which the module does not pop
-  pub reads_on : (values : List (List ℕ)) (at : ℕ) (port : Port) → IsReading values at → slice_get ports at ≡ Some port
-      → (port.side ≡ Pop → port.channel < length readers → slice_index readers port.channel ≡ m → ⊥) → IsReading values (at + 1)
-  reads_on values at port k here not_mine = record {
-    count = k.count;
-    some = k.some;
-    read = λ i c l within there.
-        elim (eqb_tells i at) [
-          | inr z ↦ k.read i c (let ne = z.1 in omega arith) within there
-          | inl y ↦
-              let same : port ≡ record { side = Pop; channel = c } =
-              some_is port (record { side = Pop; channel = c }) (sym here ∙ (ap (slice_get ports) (sym y.1) ∙ there)) in
-              let channel : port.channel ≡ c = ap (λ (p : Port). p.channel) same in
-              elim (eqb_tells (slice_index readers c) m) [
-                | inl z ↦ absurd (not_mine (ap (λ (p : Port). p.side) same) (omega arith) (ap (slice_index readers) channel ∙ z.1))
-                | inr z ↦ none c z.0
-              ]
-        ];
-  }
-    where
-      none : (c : ℕ) → eqb (slice_index readers c) m ≡ false → slice_index_or values c [] ≡ mailed channels readers m popped c
-      none c z = elim (k.some c) [ inl e ↦ e ∙ sym (cond-false _ _ [] z) | inr e ↦ e ]
+  -- those of the module's own channels
+  pub own_values : (c : ℕ) → c < length readers → slice_index readers c ≡ m → values_in c ≡ drop (popped c) (values_at channels c)
+  own_values c l mine = cond-true _ _ [] (eq-eqb (slice_index readers c) m mine)
 
-  -- all ports are passed
-  pub reads_all : (values : List (List ℕ)) (at : ℕ) → IsReading values at → length ports ≤ at → HasAllPops readers m ports
-      → AreMailed channels readers m popped values (length readers)
-  reads_all values at k past all = record {
-    count = k.count;
-    each = λ c l.
-        elim (eqb_tells (slice_index readers c) m) [
-          | inl y ↦
-              let (i, there) = all c l y.1 in
-              k.read i c (let within = slice_get_within ports i (record { side = Pop; channel = c }) there in omega arith) l there
-          | inr n ↦ elim (k.some c) [ inl e ↦ e ∙ sym (cond-false _ _ [] n.0) | inr e ↦ e ]
-        ];
-  }
+  -- those of others
+  pub others_values : (c : ℕ) → length readers ≡ length channels → (c < length readers → slice_index readers c ≡ m → ⊥) → values_in c ≡ []
+  others_values c count other = elim (cases_lt c (length readers)) [
+    | inl l ↦ cond-false _ (drop (popped c) (values_at channels c)) [] (ne_eqb (slice_index readers c) m (other l))
+    | inr l ↦ past c (omega arith)
+  ]
+
+  -- a channel more was read
+  pub reads_more : (own : List ℕ) (values more : List (List ℕ)) (at c : ℕ) (words : List ℕ) → values ≡ map values_in (take at own)
+      → at < length own → get_or own at 0 ≡ c → words ≡ values_in c → more ≡ values ++ words ∷ [] → more ≡ map values_in (take (at + 1) own)
+  reads_more own values more at c words so l is read e =
+      e
+      ∙ (ap₂ (λ (vs : List (List ℕ)) (ws : List ℕ). vs ++ ws ∷ []) so (read ∙ ap values_in (sym is))
+      ∙ sym (map_more values_in own at 0 l))
+
+  -- where all are read, they are the mail's
+  module _ (mail : Mail) (read : mail.values ≡ map values_in mail.channels) where
+    pub read_on : (c : ℕ) → place_in mail.channels c < length mail.channels → values_on mail c ≡ values_in c
+    read_on c there =
+        values_there mail c there
+        ∙ (ap (λ (vs : List (List ℕ)). get_or vs (place_in mail.channels c) []) read
+        ∙ (get_or-map values_in mail.channels (place_in mail.channels c) 0 [] there ∙ ap values_in (found_at mail.channels c there)))
+
+    pub read_none : (c : ℕ) → values_in c ≡ [] → values_on mail c ≡ []
+    read_none c none = elim (cases_lt (place_in mail.channels c) (length mail.channels)) [
+      | inl there ↦ read_on c there ∙ none
+      | inr away ↦ no_channel mail c away
+    ]

@@ -84,7 +84,7 @@ module _ {p : Plan} {s : Engine} {ends : List (Option Advance)} {runs : List (Op
 -- these marks of a burst are still to come: from a rest on, or none of them
 abbrev pub IsOnWay : Plan → Core ModuleState → ℕ → Mail → Bool → Task → List Advance → Type 0
 IsOnWay p x m mail short last marks =
-    ((o : Own) × ((told : ℕ) × ((taken : List ℕ) × (Goes p x m mail o told taken × GoesOn p m mail short last o told taken marks))))
+    ((o : Own) × ((told : ℕ) × ((taken : ℕ → ℕ) × (Goes p x m mail o told taken × GoesOn p m mail short last o told taken marks))))
     ⊎ ((marks ≡ []) × IsTaskLeft p x m last)
 
 -- the first of them is the module's next, and the others are to come behind it
@@ -97,7 +97,7 @@ pub record IsFarther (p : Plan) (x : Core ModuleState) (m : ℕ) (mail : Mail) (
 
 -- behind a step it waits, or goes on
 from_step : (p : Plan) → FitsEngine p → (x : Core ModuleState) → AreOwnMarks (design p) x → (m : ℕ) (mail : Mail) (short : Bool)
-    (last : Task) (o : Own) (told : ℕ) (taken : List ℕ) (marks : List Advance) → Waits p x m mail o told taken
+    (last : Task) (o : Own) (told : ℕ) (taken : ℕ → ℕ) (marks : List Advance) → Waits p x m mail o told taken
     → IsAtStep p m mail short last o told taken marks (λ o' told' taken'. GoesOn p m mail short last o' told' taken' marks)
     → IsOnWay p x m mail short last marks
 from_step p f x b m mail short last o told taken marks w (inl (n, s)) =
@@ -138,7 +138,7 @@ on_way_more p f x b m mail short last mark more (inl (o, (told, (taken, (g, (e, 
   ];
 }
   where
-    next : Own → ℕ → List ℕ → Type 0
+    next : Own → ℕ → (ℕ → ℕ) → Type 0
     next o' told' taken' = GoesOn p m mail short last o' told' taken' more
 
 pub on_way_all : (p : Plan) (x : Core ModuleState) (m : ℕ) (mail : Mail) (short : Bool) (last : Task)
@@ -153,7 +153,7 @@ pub on_way_first : (p : Plan) → FitsEngine p → (x : Core ModuleState) → Ar
 on_way_first p f x b m task burst t i =
     elim (cases_Bool (waits task.run)) [
       | inl w ↦
-          from_step p f x b m task.mail burst.short (task_left burst) (rest_of p x m task) 0 (none_taken task.mail) burst.emitted
+          from_step p f x b m task.mail burst.short (task_left burst) (rest_of p x m task) 0 none_taken burst.emitted
           (waits_first p x m task t w) (subst (λ (c : Bool). IsBurstFrom c p m (rest_of p x m task) task.mail burst) w i)
       | inr w ↦
           inl (
@@ -161,7 +161,7 @@ on_way_first p f x b m task burst t i =
             (
               0,
               (
-                none_taken task.mail,
+                none_taken,
                 (
                   goes_first p x m task t w,
                   subst (λ (c : Bool). IsBurstFrom c p m (rest_of p x m task) task.mail burst) w i,

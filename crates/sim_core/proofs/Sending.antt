@@ -1,9 +1,7 @@
 -- What a run's counts, the log and the table tell of its mail is what the core tells.
-use Rattle.std.proofs.Common.{◌≡◌, refl, sym, ap, ap₂, ◌∙◌, ℕ, suc, ◌<◌, ◌≤◌, Bool, false, not, cond, eqb, inl, inr}
-use Rattle.std.proofs.Common.{List, [], ◌∷◌, length, map, take, drop, slice_index, arith}
-use Rattle.std.proofs.lemmas.List.{get_or_past}
-use Rattle.std.proofs.lemmas.Bool.Decides.{nat_tests}
-use Rattle.std.proofs.lemmas.Bool.{cases_Bool, cond-true, cond-false, cases_lt, eq-eqb}
+use Rattle.std.proofs.Common.{◌≡◌, refl, sym, ap, ap₂, subst, ◌∙◌, ℕ, suc, ◌<◌, ◌≤◌, Bool, false, not, cond, inl, inr}
+use Rattle.std.proofs.Common.{List, [], ◌∷◌, length, map, take, drop, arith}
+use Rattle.std.proofs.lemmas.Bool.{cases_Bool}
 use Rattle.flow_word.specs.declared.access.Access.{Access}
 use Rattle.flow_word.specs.declared.access.Side.TheVariants.{Pop}
 use Rattle.flow_design.specs.declared.plan.Plan.{Plan}
@@ -12,7 +10,11 @@ use Rattle.flow_design.specs.StaticRules.{FitsEngine}
 use Rattle.lockstep_defs.specs.Channels.{Exchange, moved_by}
 use Rattle.lockstep_defs.specs.OwnRun.{access_of}
 use Rattle.lockstep_defs.specs.Report.{queries}
+use Rattle.module_interp.specs.declared.run.ModuleRun.{ModuleRun}
+use Rattle.module_interp.specs.OwnChannels.{place_in}
 use Rattle.module_interp.specs.OwnRests.{done_in}
+use Rattle.module_interp.specs.Runs.{StandsAt, popped_in}
+use Rattle.module_interp.proofs.Feeding.{owner_uses}
 use Rattle.query_resolve.specs.Decisions.{late_outcome}
 use Rattle.flow_word.specs.Kinds.{is_blocking}
 use Rattle.event_timing.specs.Core.{core_tally}
@@ -20,10 +22,10 @@ use Rattle.event_timing.specs.Agreement.{AreOwnMarks}
 use Rattle.timing_bridge.specs.Designs.{design}
 use Rattle.timing_bridge.specs.Designs as bridge
 use Rattle.timing_bridge.proofs.Ordinals.{ordinals}
-use Rattle.engine_view.specs.Held.{Held, emitted_of, seen, queries_in, flags_by, core_of, values_at}
+use Rattle.engine_view.specs.Held.{Held, emitted_of, seen, queries_in, flags_by, core_of}
 use Rattle.engine_view.specs.Shown.{IsSound, queries_before}
 use Rattle.run_ahead.specs.declared.mail.Mail.{Mail}
-use Rattle.sim_core.specs.Lent.{AreMailed}
+use Rattle.sim_core.specs.Lent.{IsMade}
 use Rattle.sim_core.specs.Readers.{AreReaders}
 use Rattle.run_ahead.specs.Mails.{values_on}
 use Rattle.sim_core.specs.Marks.{IsRestBehind}
@@ -32,6 +34,7 @@ use Rattle.engine_view.specs.Taking.{kinds_in}
 use Rattle.sim_core.specs.Opening.{kinds_of}
 use Rattle.sim_core.specs.Tasks.{outcomes_in, values_behind}
 use Rattle.sim_core.proofs.Marking.{moved_before, queries_done, table_count}
+use Rattle.sim_core.proofs.Reading.{past, own_values, others_values, read_on, read_none}
 use Rattle.sim_core.proofs.Resting.{rest_is}
 use Rattle.engine_report.proofs.Asking.{same_kind}
 
@@ -74,9 +77,6 @@ asked_same before (r ∷ rs) (a ∷ xs) e =
     let kind = same_kind r a cc in
     let more = asked_same before rs xs cc in grind arith
 
-eqb_not : (a b : ℕ) → (a ≡ b → ⊥) → eqb a b ≡ false
-eqb_not a b n = grind (arith, nat_tests)
-
 -- behind n steps of a core
 module _ (p : Plan) (f : FitsEngine p) (h : Held) (table : kinds_in h.channels ≡ kinds_of p) (s : IsSound (design p) h)
     (b : AreOwnMarks (design p) (core_of (design p) h)) (m : ℕ) (inside : m < length p.design.modules) (n : ℕ) (l : n ≤ emitted_of h m)
@@ -94,25 +94,32 @@ module _ (p : Plan) (f : FitsEngine p) (h : Held) (table : kinds_in h.channels �
     pub queries_are : length (queries (done_in (rest_behind p (core_of (design p) h) m n).steps)) ≡ queries_before h m n
     queries_are = ap (λ (e : List Exchange). length (queries e)) rest.done ∙ queries_done p h s m n l
 
-    module _ (readers : List ℕ) (r : AreReaders p readers) (popped : List ℕ)
-        (counts : (c : ℕ) → c < length p.design.channels → slice_index popped c ≡ length
-        (moved_by Pop c (done_in (rest_behind p (core_of (design p) h) m n).steps))) (mail : Mail)
-        (made : AreMailed h.channels readers m popped mail.values (length readers)) where
+    module _ (readers : List ℕ) (r : AreReaders p readers) (run : ModuleRun)
+        (st : StandsAt p m (rest_behind p (core_of (design p) h) m n) run) (outcomes : List Bool) (first : ℕ) (xs : List Access)
+        (mail : Mail) (made : IsMade outcomes h.channels readers m first run xs mail) where
+      -- the mail has the channels that the module pops
+      there : (c : ℕ) → (design p).owner Pop c ≡ m → place_in mail.channels c < length mail.channels
+      there c e =
+          subst (λ (cs : List ℕ). place_in cs c < length cs) (sym made.pops)
+          (st.ports (record { side = Pop; channel = c }) (owner_uses p m inside (record { side = Pop; channel = c }) e))
+
       pub mine : (c : ℕ) → c < length p.design.channels → (design p).owner Pop c ≡ m
           → values_on mail c ≡ values_behind p (core_of (design p) h) m n c
       mine c l e =
           let same = r.count in
           let all = table_count p h.channels table in
           let k : c < length readers = omega arith in
-          made.each c k
-          ∙ (cond-true (eqb (slice_index readers c) m) (drop (slice_index popped c) (values_at h.channels c)) []
-          (eq-eqb (slice_index readers c) m (r.each c k ∙ e))
-          ∙ ap₂ (λ (i : ℕ) (vs : List ℕ). drop i vs) (counts c l ∙ popped_is c) (s.values c (omega arith)))
+          read_on h.channels readers m (popped_in run) mail made.values c (there c e)
+          ∙ (own_values h.channels readers m (popped_in run) c k (r.each c k ∙ e)
+          ∙ ap₂ (λ (i : ℕ) (vs : List ℕ). drop i vs) (st.tally.popped_are c ∙ popped_is c) (s.values c (omega arith)))
 
       pub others : (c : ℕ) → ((design p).owner Pop c ≡ m → ⊥) → values_on mail c ≡ []
       others c e =
-          elim (cases_lt c (length readers)) [
-            | inl k ↦ made.each c k ∙ cond-false (eqb (slice_index readers c) m) (drop (slice_index popped c) (values_at h.channels c)) []
-                (eqb_not (slice_index readers c) m (λ y. e (sym (r.each c k) ∙ y)))
-            | inr k ↦ get_or_past mail.values c [] (let y = made.count in omega arith)
-          ]
+          read_none h.channels readers m (popped_in run) mail made.values c
+          (others_values h.channels readers m (popped_in run) c (r.count ∙ sym (table_count p h.channels table))
+          (λ k y. e (sym (r.each c k) ∙ y)))
+
+      pub outside : (c : ℕ) → length p.design.channels ≤ c → values_on mail c ≡ []
+      outside c l =
+          read_none h.channels readers m (popped_in run) mail made.values c
+          (past h.channels readers m (popped_in run) c (let all = table_count p h.channels table in omega arith))

@@ -1,10 +1,9 @@
 -- A task of a core stays a task of it while others act; its burst is a list of permitted Runs, and has a mark where memory was there.
-use Rattle.std.proofs.Common.{◌≡◌, refl, sym, ap, ap₂, subst, ◌∙◌, ℕ, ◌+◌, ◌-◌, ◌<◌, Bool, true, false, not, cond, ltb}
-use Rattle.std.proofs.Common.{◌&&◌, ◌||◌, List, [], ◌∷◌, length, map, drop, get_or, Some, slice_get, slice_index_or, inl}
+use Rattle.std.proofs.Common.{◌≡◌, refl, sym, ap, subst, ◌∙◌, ℕ, ◌+◌, ◌-◌, ◌<◌, Bool, true, false, not, cond, ltb}
+use Rattle.std.proofs.Common.{◌&&◌, ◌||◌, List, [], ◌∷◌, length, map, drop, get_or, Some, slice_get, inl}
 use Rattle.std.proofs.Common.{inr, arith}
 use Rattle.std.proofs.lemmas.Bool.Decides.{nat_tests}
 use Rattle.std.proofs.lemmas.Bool.{cases_Bool, cond-true, cond-false, lt-ltb, le-ltb, cases_lt, cases_eq, and_parts, ltb-true}
-use Rattle.std.proofs.lemmas.List.{length-replicate, get_or_past}
 use Rattle.std.specs.List.{AllByRecursion}
 use Rattle.std.proofs.lemmas.Option.{slice_get-get_or}
 use Rattle.flow_word.specs.declared.access.Side.{Side}
@@ -45,7 +44,6 @@ use Rattle.sim_core.proofs.Resting.{rest_is}
 use Rattle.sim_core.proofs.Beginnings.{get_drop, begins_drop}
 use Rattle.sim_core.proofs.Committed.{committed_waits, committed_goes, committed_below}
 use Rattle.sim_core.proofs.Staying.{run_stays}
-use Rattle.run_ahead.proofs.Finding.{none_at}
 
 -- ---- lists
 
@@ -71,7 +69,7 @@ task_for p x m task t = record {
         let all = values_behind p x m (committed x m task.run) c in
         elim (cases_lt c (length p.design.channels)) [
           | inl l ↦ rw (t.popped c l e) (begins_self all)
-          | inr l ↦ rw (get_or_past task.mail.values c [] (let n = t.count in omega arith)) (all, refl)
+          | inr l ↦ rw (t.outside c l) (all, refl)
         ]
 
 -- it stays one while others act
@@ -120,17 +118,16 @@ task_stays p x z b m beside task t =
 -- ---- where its burst begins
 
 pub window_first : (p : Plan) (x : Core ModuleState) (m n : ℕ) (mail : Mail) → IsMailFor p x m n mail
-    → IsWindow p x m n mail (none_taken mail)
+    → IsWindow p x m n mail none_taken
 window_first p x m n mail k = record {
   values = λ c i v e.
-      let z : slice_index_or (none_taken mail) c 0 + i ≡ i = let y = none_at (length mail.values) c in omega arith in
+      let z : none_taken c + i ≡ i = omega arith in
       sym (get_drop (core_values (design p) x c) (core_tally (design p) x m Pop c n) i)
       ∙ get_begins (values_behind p x m n c) (values_on mail c) i v (k.values c) (sym (ap (slice_get (values_on mail c)) z) ∙ e);
-  room = length-replicate (length mail.values) 0;
 }
 
 pub waits_first : (p : Plan) (x : Core ModuleState) (m : ℕ) (task : Task) → IsTaskFor p x m task → waits task.run ≡ true
-    → Waits p x m task.mail (rest_of p x m task) 0 (none_taken task.mail)
+    → Waits p x m task.mail (rest_of p x m task) 0 none_taken
 waits_first p x m task t w =
     let (k, e, stands) = t.run.waiting w in
     let n : committed x m task.run ≡ k = committed_waits x m task.run w ∙ (omega arith) in
@@ -150,7 +147,7 @@ waits_first p x m task t w =
     }
 
 pub goes_first : (p : Plan) (x : Core ModuleState) (m : ℕ) (task : Task) → IsTaskFor p x m task → waits task.run ≡ false
-    → Goes p x m task.mail (rest_of p x m task) 0 (none_taken task.mail)
+    → Goes p x m task.mail (rest_of p x m task) 0 none_taken
 goes_first p x m task t w =
     let n : committed x m task.run ≡ x.emitted m = committed_goes x m task.run w in
     record {
@@ -170,25 +167,25 @@ pub burst_runs : (p : Plan) → FitsEngine p → (x : Core ModuleState) → AreO
 burst_runs p f x b m task burst t i =
     elim (cases_Bool (waits task.run)) [
       | inl w ↦ from_step (waits_first p x m task t w) (subst (λ (c : Bool). IsBurstFrom c p m (rest_of p x m task) task.mail burst) w i)
-      | inr w ↦ run_on p f x b m task.mail burst.short (task_left burst) (rest_of p x m task) 0 (none_taken task.mail) burst.emitted
+      | inr w ↦ run_on p f x b m task.mail burst.short (task_left burst) (rest_of p x m task) 0 none_taken burst.emitted
           (goes_first p x m task t w) (subst (λ (c : Bool). IsBurstFrom c p m (rest_of p x m task) task.mail burst) w i)
     ]
   where
-    from_step : Waits p x m task.mail (rest_of p x m task) 0 (none_taken task.mail)
+    from_step : Waits p x m task.mail (rest_of p x m task) 0 none_taken
         → IsBurstFrom true p m (rest_of p x m task) task.mail burst → Ran p x m (length burst.emitted) (task_left burst)
     from_step w (inl (n, s)) =
-        rw n (ran_none p x m (task_left burst) (waiting_stands p x m task.mail (rest_of p x m task) 0 (none_taken task.mail) burst.short
+        rw n (ran_none p x m (task_left burst) (waiting_stands p x m task.mail (rest_of p x m task) 0 none_taken burst.short
         (task_left burst) w s))
     from_step w (inr (qs, (e, next))) =
         run_on p f x b m task.mail burst.short (task_left burst) (next_rest p m (rest_of p x m task) qs)
-        (0 + queries_in (accesses_at p m (rest_of p x m task))) (taken_after (none_taken task.mail)
+        (0 + queries_in (accesses_at p m (rest_of p x m task))) (taken_after none_taken
         (accesses_at p m (rest_of p x m task)) qs) burst.emitted
-        (goes_on p f x b m task.mail (rest_of p x m task) 0 (none_taken task.mail) w qs e) next
+        (goes_on p f x b m task.mail (rest_of p x m task) 0 none_taken w qs e) next
 
 -- ---- it has a mark where memory was there
 
 -- each value that the step takes is in the mail
-values_there_in : (p : Plan) (x : Core ModuleState) (m k : ℕ) (mail : Mail) (taken : List ℕ) (t : ℕ → ℕ) (rs : List Request)
+values_there_in : (p : Plan) (x : Core ModuleState) (m k : ℕ) (mail : Mail) (taken : ℕ → ℕ) (t : ℕ → ℕ) (rs : List Request)
     (bs : List Bool) → Each (λ a. (design p).owner a.side a.channel ≡ m) (map seen rs)
     → all_below (λ (c : ℕ). length (core_values (design p) x c)) t (map seen rs) bs ≡ true
     → AllByRecursion (StandsAtPort p m) rs
@@ -215,7 +212,7 @@ values_there_in p x m k mail taken t (r ∷ rs) (b ∷ bs) (o, os) e (s, ss) h =
 -- all replies to the step that waits are in the mail of a task
 pub task_answers : (p : Plan) → FitsEngine p → (x : Core ModuleState) → AreOwnMarks (design p) x → (m : ℕ) (task : Task)
     → IsTaskOf p x m task → waits task.run ≡ true
-    → (qs : List Reply) × (replies_in task.mail 0 (none_taken task.mail) (accesses_at p m (rest_of p x m task)) ≡ Some qs)
+    → (qs : List Reply) × (replies_in task.mail 0 none_taken (accesses_at p m (rest_of p x m task)) ≡ Some qs)
 task_answers p f x b m task t w =
     let (k, e, stands) = t.run.waiting w in
     let n : committed x m task.run ≡ k = committed_waits x m task.run w ∙ (omega arith) in
@@ -226,22 +223,22 @@ task_answers p f x b m task t w =
     let outs : task.mail.outcomes ≡ outcomes_in rs (x.flags m k) =
     t.outcomes ∙ (ap (outcomes_at p x m) n ∙ cond-true (ltb k (x.emitted m)) (outcomes_in rs (x.flags m k)) []
     (lt-ltb k (x.emitted m) (omega arith))) in
-    let has = values_there_in p x m k task.mail (none_taken task.mail) (λ c. core_tally (design p) x m Pop c k) rs (x.flags m k)
+    let has = values_there_in p x m k task.mail none_taken (λ c. core_tally (design p) x m Pop c k) rs (x.flags m k)
     ((plan_is_design p f).owned m (x.state m k)) (t.may.there k e) (stand p f m (x.state m k))
     (λ c within own l. next c (core_tally (design p) x m Pop c k) (t.popped c within own ∙ ap (λ (j : ℕ). values_behind p x m j c) n) l) in
     let fit = b.fit m k (omega arith) in
-    let (qs, found) = all_found task.mail (none_taken task.mail) (done_in o.steps) 0 rs (x.flags m k) fit outs has in (
+    let (qs, found) = all_found task.mail none_taken (done_in o.steps) 0 rs (x.flags m k) fit outs has in (
       qs,
-      ap (λ (s : ModuleState). replies_in task.mail 0 (none_taken task.mail) (map (access_of (done_in o.steps)) (requests_of p (m, s))))
+      ap (λ (s : ModuleState). replies_in task.mail 0 none_taken (map (access_of (done_in o.steps)) (requests_of p (m, s))))
           state ∙ found,
     )
   where
     next : (c a : ℕ) → values_on task.mail c ≡ drop a (core_values (design p) x c) → a < length (core_values (design p) x c) → (v : ℕ)
-        × (next_value task.mail (none_taken task.mail) c ≡ Some v)
+        × (next_value task.mail none_taken c ≡ Some v)
     next c a e l =
         let z : a + 0 ≡ a = omega arith in (
           get_or (core_values (design p) x c) a 0,
-          ap₂ (λ (xs : List ℕ) (i : ℕ). slice_get xs i) e (none_at (length task.mail.values) c)
+          ap (λ (xs : List ℕ). slice_get xs 0) e
               ∙ (get_drop (core_values (design p) x c) a 0 ∙ (ap (slice_get (core_values (design p) x c)) z
               ∙ slice_get-get_or (core_values (design p) x c) a 0 l)),
         )
@@ -253,18 +250,18 @@ burst_has_marks p f x b m task burst t i s =
     elim (cases_Bool (waits task.run)) [
       | inl w ↦ from_step (task_answers p f x b m task t w) (subst (λ (c : Bool). IsBurstFrom c p m (rest_of p x m task) task.mail burst) w
           i)
-      | inr w ↦ some_marks (rest_of p x m task) 0 (none_taken task.mail) burst.emitted
+      | inr w ↦ some_marks (rest_of p x m task) 0 none_taken burst.emitted
           (subst (λ (c : Bool). IsBurstFrom c p m (rest_of p x m task) task.mail burst) w i)
     ]
   where
-    some_marks : (o : Own) (told : ℕ) (taken : List ℕ) (marks : List Advance)
+    some_marks : (o : Own) (told : ℕ) (taken : ℕ → ℕ) (marks : List Advance)
         → GoesOn p m task.mail burst.short (task_left burst) o told taken marks → 0 < length marks
     some_marks o told taken [] (g, e) = let z = sym e ∙ s in cc
     some_marks o told taken (mark ∷ more) g = omega arith
 
-    from_step : (qs : List Reply) × (replies_in task.mail 0 (none_taken task.mail) (accesses_at p m (rest_of p x m task)) ≡ Some qs)
+    from_step : (qs : List Reply) × (replies_in task.mail 0 none_taken (accesses_at p m (rest_of p x m task)) ≡ Some qs)
         → IsBurstFrom true p m (rest_of p x m task) task.mail burst → 0 < length burst.emitted
     from_step (qs, e) (inl (n, q)) = let z = sym (q.missing s) ∙ e in cc
     from_step (qs, e) (inr (rs, (e', next))) =
         some_marks (next_rest p m (rest_of p x m task) rs) (0 + queries_in (accesses_at p m (rest_of p x m task)))
-        (taken_after (none_taken task.mail) (accesses_at p m (rest_of p x m task)) rs) burst.emitted next
+        (taken_after none_taken (accesses_at p m (rest_of p x m task)) rs) burst.emitted next

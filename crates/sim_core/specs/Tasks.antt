@@ -1,5 +1,5 @@
 -- What is lent of a core: a module's run with its mail.
-use Rattle.std.specs.Prelude.{◌≡◌, ℕ, ◌-◌, ◌<◌, Bool, cond, ltb, List, [], ◌∷◌, length, drop}
+use Rattle.std.specs.Prelude.{◌≡◌, ℕ, ◌-◌, ◌<◌, ◌≤◌, Bool, cond, ltb, List, [], ◌∷◌, length, drop}
 use Rattle.flow_design.specs.declared.plan.Plan.{Plan}
 use Rattle.flow_design.specs.declared.state.ModuleState.{ModuleState}
 use Rattle.flow_design.specs.declared.state.Request.{Request}
@@ -50,15 +50,15 @@ pub record IsTaskFor (p : Plan) (x : Core ModuleState) (m : ℕ) (task : Task) :
   pub run : IsRunOf p x m task.run
   pub mail : IsMailFor p x m (committed x m task.run) task.mail
 
--- the task is what the core lends: besides, the mail has all outcomes, and all values of the channels that module m pops
+-- and the mail has all of it: all values of the channels that the module pops
 pub record IsTaskOf (p : Plan) (x : Core ModuleState) (m : ℕ) (task : Task) : Type 0 where
   pub may : MayRun (design p) x m
   pub run : IsRunOf p x m task.run
   pub outcomes : task.mail.outcomes ≡ outcomes_at p x m (committed x m task.run)
-  pub count : length task.mail.values ≡ length p.design.channels
   pub popped : (c : ℕ) → c < length p.design.channels → (design p).owner Pop c ≡ m
       → values_on task.mail c ≡ values_behind p x m (committed x m task.run) c
   pub others : (c : ℕ) → ((design p).owner Pop c ≡ m → ⊥) → values_on task.mail c ≡ []
+  pub outside : (c : ℕ) → length p.design.channels ≤ c → values_on task.mail c ≡ []
 
 -- a run with what is left of its mail: it is module m's, and for each channel the values are some of its next values
 pub record IsTaskLeft (p : Plan) (x : Core ModuleState) (m : ℕ) (task : Task) : Type 0 where

@@ -13,7 +13,7 @@ use crate::machine::Core;
 use crate::post::{Wants, make_mail};
 use crate::unread::{Inlets, keep_unread};
 use crate::wiring::ports_of;
-use flow_word::{List, OutOfMemory};
+use flow_word::OutOfMemory;
 use module_interp::ModuleRun;
 use run_ahead::{Burst, Mail, Task};
 use std::alloc::Global;
@@ -75,25 +75,18 @@ impl Core {
         ensures task { MayRun (design self.old.plan) (theory_of self.old) owner → IfOk result (λ mail.
             IsTaskOf self.old.plan (theory_of self.old) owner (record { run = run.now; mail = mail })) }
     {
-        let spare = mem::replace(&mut self.scratch.values, List::new(alloc));
+        let spare = mem::replace(&mut self.scratch.mail, Mail::none(alloc));
         let inlets = Inlets {
+            alloc,
             owner,
-            ports: ports_of(&self.wiring.ports, owner),
             readers: &self.wiring.readers,
         };
         let wants = Wants {
+            run,
             first: run.queries(),
-            popped: run.popped(),
             accesses: run.waiting(),
         };
-        make_mail(
-            alloc,
-            &self.engine,
-            &mut self.unread,
-            &inlets,
-            &wants,
-            spare,
-        )
+        make_mail(&self.engine, &mut self.unread, &inlets, &wants, spare)
     }
 
     /// Takes a module's run back, with the marks that it gave: they are as many Runs of the module, one after the other. What is
@@ -126,20 +119,13 @@ impl Core {
             places,
         )?;
         record_all(&mut self.engine, &mut self.ends, owner, &mut emitted);
-        let alloc = *self.engine.credits.allocator();
         let inlets = Inlets {
+            alloc: *self.engine.credits.allocator(),
             owner,
-            ports: ports_of(&self.wiring.ports, owner),
             readers: &self.wiring.readers,
         };
-        keep_unread(
-            alloc,
-            &mut self.unread,
-            &inlets,
-            run.popped(),
-            &mut mail.values,
-        );
-        self.scratch.values = mem::replace(&mut mail.values, List::new(alloc));
+        keep_unread(&mut self.unread, &inlets, &run, &mut mail);
+        self.scratch.mail = mail;
         self.put_back(owner, run);
         Ok(())
     }

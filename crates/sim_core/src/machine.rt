@@ -16,9 +16,10 @@ use cycle_changes::Changes;
 use engine_view::Engine;
 use event_graph::Candidate;
 use flow_design::{Advance, Plan, Reply};
-use flow_word::{List, Port, Queue};
+use flow_word::{List, Port};
 use module_interp::ModuleRun;
 use module_sets::ModuleSet;
+use run_ahead::Mail;
 use std::alloc::Global;
 use std::marker::Model;
 
@@ -46,9 +47,9 @@ pub struct Core {
 
 /// Memory that is used again and again. What it holds does not matter.
 pub(crate) struct Scratch {
-    /// Memory for the values of a mail: the lists of the last mail that came back.
-    pub(crate) values: List<Queue<u64>>,
-    /// Memory for the replies to a step.
+    /// For a mail: the last one that came back.
+    pub(crate) mail: Mail,
+    /// For the replies to a step.
     pub(crate) replies: List<Reply>,
     /// Memory for the few cycles that an edit changes.
     pub(crate) changes: Changes,
@@ -58,7 +59,7 @@ impl Scratch {
     /// Empty lists. They take no memory.
     pub(crate) fn new(alloc: Global) -> Scratch {
         Scratch {
-            values: List::new(alloc),
+            mail: Mail::none(alloc),
             replies: List::new(alloc),
             changes: Changes::new(alloc),
         }
@@ -68,7 +69,7 @@ impl Scratch {
 impl Drop for Scratch {
     fn drop(self) {
         let Scratch {
-            values: _values,
+            mail: _mail,
             replies: _replies,
             changes: _changes,
         } = self;

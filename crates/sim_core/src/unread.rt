@@ -1,11 +1,14 @@
 //! Values that were copied for a run's mail and came back unread.
 ghost use Rattle.std.specs.Prelude.{◌≡◌, ◌≢◌, ℕ, ◌<◌, [], length, drop, slice_index, slice_index_or, slice_set, true, false, IfOk};
 ghost use Rattle.std.specs.Prelude.{List as Items};
-ghost use Rattle.flow_word.specs.declared.access.Side.TheVariants.{Pop};
+ghost use Rattle.module_interp.specs.Runs.{popped_in};
 ghost use Rattle.event_timing.specs.Views.{Begins};
+ghost use Rattle.run_ahead.specs.Mails.{values_on};
 ghost use Rattle.sim_core.specs.Unread.{none_unread, unread_at, IsUnread, AreUnread};
 
-use flow_word::{List, OutOfMemory, Port, Queue, Side};
+use flow_word::{List, OutOfMemory, Queue};
+use module_interp::ModuleRun;
+use run_ahead::Mail;
 use std::alloc::Global;
 use std::mem;
 
@@ -25,12 +28,11 @@ impl Drop for Unread {
     }
 }
 
-/// The channels that a module pops.
+/// A module among those that pop channels.
 #[derive(Drop)]
 pub(crate) struct Inlets<'a> {
+    pub(crate) alloc: Global,
     pub(crate) owner: u32,
-    /// The ports of the module.
-    pub(crate) ports: &'a [Port],
     /// For each channel the module that pops it.
     pub(crate) readers: &'a [u32],
 }
@@ -120,35 +122,29 @@ fn put(unread: &mut List<Unread>, at: usize, behind: u64, values: Queue<u64>)
 
 /// Keeps what a run has left of its mail: for each channel that its module pops the values after those that it popped.
 pub(crate) fn keep_unread(
-    alloc: Global,
     unread: &mut List<Unread>,
     inlets: &Inlets<'_>,
-    popped: &[u64],
-    values: &mut List<Queue<u64>>,
+    run: &ModuleRun,
+    mail: &mut Mail,
 )
-    requires readers { length inlets.now.readers.now ≡ length popped.now }
     ensures { (all : ℕ → Items ℕ) (n : ℕ) → AreUnread all n unread.old
-        → ((c : ℕ) → c < n → slice_index inlets.now.readers.now c ≡ inlets.now.owner → Begins (drop (slice_index popped.now c) (all c))
-        (slice_index_or values.old c [])) → AreUnread all n unread.new }
+        → ((c : ℕ) → c < n → slice_index inlets.now.readers.now c ≡ inlets.now.owner → Begins (drop (popped_in run.now c) (all c))
+        (values_on mail.old c)) → AreUnread all n unread.new }
 {
-    for port in inlets.ports {
-        let at = port.channel as usize;
-        if pops(port, inlets.readers, inlets.owner) && at < values.as_slice().len() {
-            let left = take_values(alloc, values, at);
-            put(unread, at, popped[at], left);
+    for place in 0..mail.channels.as_slice().len() {
+        let channel = mail.channels.as_slice()[place];
+        if pops(channel, inlets.readers, inlets.owner) && place < mail.values.as_slice().len() {
+            let left = take_values(inlets.alloc, &mut mail.values, place);
+            put(unread, channel as usize, run.popped(channel), left);
         }
     }
 }
 
-/// Whether the module pops this port's channel.
-pub(crate) fn pops(port: &Port, readers: &[u32], owner: u32) -> bool
-    ensures inside { result ≡ true → port.now.channel < length readers.now }
-    ensures mine { result ≡ true → slice_index readers.now port.now.channel ≡ owner }
-    ensures other { result ≡ false → port.now.side ≡ Pop → port.now.channel < length readers.now
-        → slice_index readers.now port.now.channel ≢ owner }
+/// Whether the module pops the channel.
+pub(crate) fn pops(channel: u32, readers: &[u32], owner: u32) -> bool
+    ensures inside { result ≡ true → channel < length readers.now }
+    ensures mine { result ≡ true → slice_index readers.now channel ≡ owner }
+    ensures other { result ≡ false → channel < length readers.now → slice_index readers.now channel ≢ owner }
 {
-    match port.side {
-        Side::Pop => readers.get(port.channel as usize) == Some(&owner),
-        Side::Push => false,
-    }
+    readers.get(channel as usize) == Some(&owner)
 }

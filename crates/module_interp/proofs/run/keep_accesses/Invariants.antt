@@ -1,5 +1,4 @@
-use Rattle.std.proofs.Common.{◌≡◌, ◌<◌, ℕ, List, map, take, length}
-use Rattle.std.specs.Prelude.{All}
+use Rattle.std.proofs.Common.{◌≡◌, List, map, take, length}
 use Rattle.lockstep_defs.specs.Channels.{Exchange}
 use Rattle.lockstep_defs.specs.OwnRun.{access_of}
 use Rattle.module_interp.specs.Paths.{IsTallyOf}
@@ -8,7 +7,6 @@ use Rattle.module_interp.proofs.run.keep_accesses.Given as goal
 -- the accesses so far
 abbrev pub invariant-loop-request : goal.invariant-loop-request
 invariant-loop-request l = record {
-  given : (channels : ℕ) (before : List Exchange) → IsTallyOf channels before l.tally → All (λ r. r.channel < channels) l.asked
-      → l.kept ≡ map (access_of before) (take l.request-index l.asked);
+  given : (before : List Exchange) → IsTallyOf before l.tally → l.kept ≡ map (access_of before) (take l.request-index l.asked);
   count : length l.kept ≡ l.request-index;
 }

@@ -12,7 +12,7 @@ take_values-requires c =
     let found = rw (c.in-Some.is, c.as_slice.ensures) at c.in_ok-next.ensures.found in
     record {
       each = ap (λ (xs : List Reply). length xs) c.as_slice-2.ensures
-          ∙ replies_length mail.outcomes (λ a. next_value mail (none_taken mail) a.channel) c.args.told.now
+          ∙ replies_length mail.outcomes (λ a. next_value mail none_taken a.channel) c.args.told.now
           c.waiting-accesses.result.now c.find_replies.new.replies found;
     }
 
@@ -22,7 +22,7 @@ feed-requires-clause-stands c =
     let found = rw (c.in-Some.is, c.as_slice.ensures) at c.in_ok-next.ensures.found in
     let (p, (i, (o, s))) = c.requires.stands in
     let asked = c.waiting-accesses.ensures.accesses p i o s ∙ cond-true _ (accesses_at p i o) _ c.requires.waits in
-    let fit = replies_fit mail.outcomes (λ a. next_value mail (none_taken mail) a.channel) c.args.told.now
+    let fit = replies_fit mail.outcomes (λ a. next_value mail none_taken a.channel) c.args.told.now
     c.waiting-accesses.result.now c.find_replies.new.replies found in (
       p,
       (
@@ -41,7 +41,7 @@ pub returns-in_default-clause-missing : goal.returns-in_default-clause-missing
 returns-in_default-clause-missing c = λ no p i o s whole taken k.
     let mail = c.args.mail.now in
     let asked = c.waiting-accesses.ensures.accesses p i o s ∙ cond-true _ (accesses_at p i o) _ c.requires.waits in
-    let missing : replies_in mail c.args.told.now (none_taken mail) c.waiting-accesses.result.now ≡ None = search rules in
+    let missing : replies_in mail c.args.told.now none_taken c.waiting-accesses.result.now ≡ None = search rules in
     ap (replies_in whole c.args.told.now taken) (sym asked)
     ∙ (replies_left whole mail taken k c.args.told.now c.waiting-accesses.result.now ∙ missing)
 

@@ -29,7 +29,7 @@ go_on-requires-clause-goes c =
 pub returns : goal.returns
 returns c = λ p i o s.
     let whole = c.args.mail.now in
-    let none = none_taken whole in
+    let none = none_taken in
     elim c.if-is_waiting.branch [
       | then-is_waiting+in-Ok-true w ↦
           let f = w.in-Ok-true.ensures.fed w.in-Ok-true.field-0-test p i o s whole none (left_none whole) in

@@ -1,5 +1,6 @@
 use Rattle.std.proofs.Common.{◌≡◌, ap, subst, suc, ℕ, ◌+◌, sym, ◌∙◌, ◌<◌, length, arith}
 use Rattle.run_ahead.specs.declared.mail.Mail.{Mail}
+use Rattle.run_ahead.specs.Mails.{values_on}
 use Rattle.run_ahead.proofs.Finding.{IsTaking, taking_more, taking_on, taking_all, drop_next}
 use Rattle.std.proofs.Math.Seq.{drop-cons}
 use Rattle.run_ahead.proofs.mail.take_values.Goals.{then-takes, else-takes}
@@ -19,7 +20,8 @@ loop-at-preserved c =
           taking_more first xs qs c.loop-at.mail c.if-takes.mail i _ _ c.loop-at.invariant (drop-cons xs i _ c.loop-at-test.true)
           (drop-cons qs i _ l) (sym c.takes.ensures ∙ w.if-takes.true)
           (ap (λ (m : Mail). m.outcomes) w.mail-is ∙ w.take_value.ensures.outcomes)
-          (ap (λ (m : Mail). m.values) w.mail-is ∙ w.take_value.ensures.values)
+          (ap (λ (m : Mail). values_on m _) w.mail-is ∙ w.take_value.ensures.taken)
+          (λ f other. ap (λ (m : Mail). values_on m f) w.mail-is ∙ w.take_value.ensures.others f other)
       | else-takes w ↦
           let (a, here) = drop_next xs i c.loop-at-test.true in
           taking_on first xs qs c.loop-at.mail c.if-takes.mail i a _ c.loop-at.invariant here (drop-cons qs i _ l) (sym c.takes.ensures

@@ -1,10 +1,11 @@
-use Rattle.std.proofs.Common.{ℕ, List}
-use Rattle.sim_core.specs.Lent.{IsReadingPorts}
+use Rattle.std.proofs.Common.{◌≡◌, ℕ, List, map, take}
+use Rattle.module_interp.specs.Runs.{popped_in}
+use Rattle.sim_core.specs.Lent.{mailed}
 use Rattle.sim_core.specs.Unread.{AreUnread}
 use Rattle.sim_core.proofs.post.read_all.Given as goal
 
-abbrev pub invariant-loop-port : goal.invariant-loop-port
-invariant-loop-port l = record {
-  reading : IsReadingPorts l.fifos.channels l.inlets.readers.now l.inlets.owner l.popped l.inlets.ports.now l.values l.port-index;
+abbrev pub invariant-loop-channel : goal.invariant-loop-channel
+invariant-loop-channel l = record {
+  read : l.values ≡ map (mailed l.fifos.channels l.inlets.readers.now l.inlets.owner (popped_in l.run)) (take l.channel-index l.channels);
   left : (all : ℕ → List ℕ) (n : ℕ) → AreUnread all n l.initial.unread → AreUnread all n l.unread;
 }

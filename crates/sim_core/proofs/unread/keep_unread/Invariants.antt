@@ -1,5 +1,7 @@
+use Rattle.module_interp.specs.Runs.{popped_in}
 use Rattle.sim_core.proofs.Leaving.{IsKeeping}
 use Rattle.sim_core.proofs.unread.keep_unread.Given as goal
 
-abbrev pub invariant-loop-port : goal.invariant-loop-port
-invariant-loop-port l = IsKeeping l.initial.unread l.inlets.readers.now l.inlets.owner l.popped l.initial.values l.unread l.values
+abbrev pub invariant-loop-place : goal.invariant-loop-place
+invariant-loop-place l =
+    IsKeeping l.initial.unread l.inlets.readers.now l.inlets.owner (popped_in l.run) l.initial.mail l.unread l.mail l.place

@@ -1,11 +1,14 @@
 use Rattle.std.proofs.Common.{◌≡◌, ◌+◌, ◌^◌, ◌<◌, ◌++◌, ◌∙◌, List, length, ap, sym, subst}
 use Rattle.std.specs.Prelude.{All}
 use Rattle.flow_design.specs.declared.state.Request.{Request}
+use Rattle.flow_word.specs.Kinds.{side_of}
+use Rattle.lockstep_defs.specs.Lockstep.{module_at}
 use Rattle.lockstep_defs.specs.OwnRun.{paired}
 use Rattle.module_interp.specs.OwnRests.{done_in}
-use Rattle.module_interp.specs.Paths.{CanAnswer, IsPathOf, IsTallyOf}
+use Rattle.module_interp.specs.Paths.{CanAnswer, IsPathOf, IsTallyOf, HasPort}
 use Rattle.module_interp.specs.declared.path.Path.{Path}
-use Rattle.module_interp.proofs.Feeding.{HasCommitted, asked_stage, waits_at, waits_channels, can_count, fed_stands}
+use Rattle.module_interp.proofs.Tallies.{same_ports}
+use Rattle.module_interp.proofs.Feeding.{HasCommitted, asked_stage, waits_at, can_count, fed_stands}
 use Rattle.module_interp.proofs.run.ModuleRun.feed.Goals as goal
 
 -- the requests are those of the path in the box
@@ -20,18 +23,10 @@ count_step-requires c =
     let asked = asked_in r.path.value _ _ c.as_mut-path.ensures.value c.as_slice.ensures in
     record {
       tally = (
-        length p.design.channels,
-        (
-          done_in o.steps,
-          (
-            s.tally,
-            (
-              subst (λ (rs : List Request). length (done_in o.steps) + length rs < 2 ^ 40) (sym asked) can.few,
-              subst (All (λ (q : Request). q.channel < length p.design.channels)) (sym asked) can.all,
-            ),
-          ),
-        ),
+        done_in o.steps,
+        (s.tally, subst (λ (rs : List Request). length (done_in o.steps) + length rs < 2 ^ 40) (sym asked) can.few),
       );
+      ports = subst (All (λ (q : Request). HasPort (side_of q.kind) q.channel r.tally)) (sym asked) can.ports;
       one_each = can.one_each ∙ ap (λ (rs : List Request). length rs) (sym asked);
     }
 
@@ -52,12 +47,10 @@ returns-clause-stands c p i o s =
     let stage = asked_stage r.path.value.stage c.requires.waits in
     let qs = c.args.replies.now in
     let asked = asked_in r.path.value _ _ c.as_mut-path.ensures.value c.as_slice.ensures in
-    let all = subst (All (λ (q : Request). q.channel < length p.design.channels)) (sym asked) (waits_channels p i o r s stage) in
-    let counted = c.count_step.ensures (length p.design.channels) (done_in o.steps) s.tally all in
-    let tally =
-    subst (λ (rs : List Request). IsTallyOf (length p.design.channels) (done_in o.steps ++ paired rs qs) c.count_step.new.self)
-    asked counted in
+    let counted = c.count_step.ensures.tally (done_in o.steps) s.tally in
+    let tally = subst (λ (rs : List Request). IsTallyOf (done_in o.steps ++ paired rs qs) c.count_step.new.self) asked counted in
+    let ports = same_ports (module_at p i) r.tally c.count_step.new.self c.count_step.ensures.popped c.count_step.ensures.pushed s.ports in
     let h = c.commit_due.ensures in
     let committed = subst (λ (x : Path). HasCommitted x c.commit_due.new.self qs) c.as_mut-path.ensures.value
     (record { frame = h.frame; moved = h.moved; block = h.block; has_started = h.started }) in
-    fed_stands p i o r c.commit_due.new.self qs c.count_step.new.self s stage committed tally
+    fed_stands p i o r c.commit_due.new.self qs c.count_step.new.self s stage committed tally ports

@@ -1,6 +1,6 @@
-use Rattle.std.proofs.Common.{length, sym, ◌∙◌}
+use Rattle.std.proofs.Common.{sym, ◌∙◌}
 use Rattle.module_interp.specs.OwnRests.{done_in}
-use Rattle.module_interp.proofs.Listing.{few_before, all_inside, listed_stands, listed_mark, listed_sound}
+use Rattle.module_interp.proofs.Listing.{few_before, listed_stands, listed_mark, listed_sound}
 use Rattle.module_interp.proofs.Listing as listing
 use Rattle.module_interp.proofs.Sound.{sound_mark}
 use Rattle.module_interp.proofs.run.ModuleRun.give.Goals as goal
@@ -40,8 +40,7 @@ list_accesses-requires c =
     let step = listing.alive_step c.args.self.now.path.value _ c.as_mut-path.ensures.value c.requires.rests
     (sym c.is_over.ensures ∙ c.if-is_over.false) in
     let few = few_before p i o c.args.self.now s _ c.as_mut-path.ensures.value step _ c.as_slice.ensures in
-    let all = all_inside p i o c.args.self.now s _ c.as_mut-path.ensures.value step _ c.as_slice.ensures in
-    record { tally = (length p.design.channels, (done_in o.steps, (s.tally, (few, all)))) }
+    record { tally = (done_in o.steps, (s.tally, few)) }
 
 pub returns-in_err-accesses-clause-stands : goal.returns-in_err-accesses-clause-stands
 returns-in_err-accesses-clause-stands c p i o s =
@@ -56,7 +55,7 @@ returns-clause-stands c p i o s =
     let step = listing.alive_step c.args.self.now.path.value _ c.as_mut-path.ensures.value c.requires.rests
     (sym c.is_over.ensures ∙ c.if-is_over.false) in
     listed_stands p i o c.args.self.now s _ c.as_mut-path.ensures.value step _ c.as_slice.ensures c.list_accesses.new.kept
-    (λ n before tally all. c.in_ok-accesses.ensures.kept ∙ c.in_ok-accesses.ensures.given n before tally all)
+    (λ before tally. c.in_ok-accesses.ensures.kept ∙ c.in_ok-accesses.ensures.given before tally)
 
 pub returns-clause-mark : goal.returns-clause-mark
 returns-clause-mark c p i o s =

@@ -1,14 +1,12 @@
-use Rattle.std.proofs.Common.{length}
 use Rattle.module_interp.specs.OwnRests.{done_in}
-use Rattle.module_interp.proofs.Listing.{few_before, all_inside, listed_stands, listed_mark, listed_sound}
+use Rattle.module_interp.proofs.Listing.{few_before, listed_stands, listed_mark, listed_sound}
 use Rattle.module_interp.proofs.run.ModuleRun.list.Goals as goal
 
 pub keep_accesses-requires : goal.keep_accesses-requires
 keep_accesses-requires c =
     let (p, (i, (o, s))) = c.requires.stands in
     let few = few_before p i o c.args.self.now s _ c.as_mut-path.ensures.value c.requires.step _ c.as_slice.ensures in
-    let all = all_inside p i o c.args.self.now s _ c.as_mut-path.ensures.value c.requires.step _ c.as_slice.ensures in
-    record { tally = (length p.design.channels, (done_in o.steps, (s.tally, (few, all)))) }
+    record { tally = (done_in o.steps, (s.tally, few)) }
 
 pub returns-clause-stands : goal.returns-clause-stands
 returns-clause-stands c p i o s =

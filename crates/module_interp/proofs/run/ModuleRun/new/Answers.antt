@@ -1,7 +1,8 @@
 use Rattle.std.proofs.Common.{◌∙◌, ap, subst, sym}
+use Rattle.flow_design.specs.declared.design.Module.{Module}
 use Rattle.module_interp.specs.declared.path.Path.{Path}
 use Rattle.module_interp.specs.OwnRests.{first_rest}
-use Rattle.module_interp.specs.Paths.{LeadsTo}
+use Rattle.module_interp.specs.Paths.{LeadsTo, KnowsPorts}
 use Rattle.module_interp.proofs.Opening.{first_stands}
 use Rattle.module_interp.proofs.run.ModuleRun.new.Goals as goal
 
@@ -11,4 +12,5 @@ returns-clause-stands c =
     let i = c.args.number in
     let is = c.in_ok-path.ensures.ok in
     first_stands p i _ (subst (λ (x : Path). LeadsTo p i (first_rest p i) x) (sym is) c.in_ok-first.ensures.leads)
-    (ap (λ (x : Path). x.stage) is ∙ c.in_ok-first.ensures.begun) (rw c.len.ensures at c.in_ok-tally.ensures)
+    (ap (λ (x : Path). x.stage) is ∙ c.in_ok-first.ensures.begun) c.in_ok-tally.ensures.tally
+    (subst (λ (m : Module). KnowsPorts m c.in_ok-tally.tally) c.in_ok-first.ensures.leads.path.of c.in_ok-tally.ensures.ports)

@@ -1,8 +1,9 @@
-use Rattle.std.proofs.Common.{◌∙◌, ℕ, ap, refl, replicate}
+use Rattle.std.proofs.Common.{refl}
 use Rattle.module_interp.proofs.Tallies.{tally_none}
 use Rattle.module_interp.proofs.tally.Tally.clear.Goals as goal
 
-pub returns : goal.returns
-returns c channels before h =
-    tally_none channels _ (c.zero.ensures ∙ ap (λ (n : ℕ). replicate n 0) h.popped_count)
-    (c.zero-2.ensures ∙ ap (λ (n : ℕ). replicate n 0) h.pushed_count) refl
+pub returns-clause-tally : goal.returns-clause-tally
+returns-clause-tally c =
+    let (before, h) = c.requires.tally in
+    tally_none _ (c.clear.ensures.sound h.popped_sound) (c.clear-2.ensures.sound h.pushed_sound) c.clear.ensures.none
+    c.clear-2.ensures.none refl

@@ -1,11 +1,10 @@
-use Rattle.std.proofs.Common.{ℕ, sym, ap, subst, ◌∙◌, List, length, arith}
+use Rattle.std.proofs.Common.{ℕ, sym, ap, subst, ◌∙◌, List, length}
 use Rattle.std.proofs.lemmas.Result.{IfOk-weaker}
 use Rattle.engine_view.specs.Engines.{held_in}
 use Rattle.sim_core.specs.Readers.{AreReaders}
 use Rattle.sim_core.specs.Runs.{over_of}
 use Rattle.sim_core.proofs.Marking.{table_count}
 use Rattle.sim_core.proofs.Leaving.{unread_here}
-use Rattle.sim_core.proofs.Ports.{all_pops}
 use Rattle.sim_core.proofs.Lends as lends
 use Rattle.sim_core.proofs.machine.Core.mail_of.Goals as goal
 
@@ -13,20 +12,6 @@ pub make_mail-requires-clause-readers : goal.make_mail-requires-clause-readers
 make_mail-requires-clause-readers c =
     ap (λ (xs : List ℕ). length xs) c.deref.ensures.value ∙ (c.self.invariant.wired.readers_are.count
     ∙ sym (table_count c.self.inside.plan c.self.inside.engine.fifos.channels c.self.invariant.core.table))
-
-pub make_mail-requires-clause-popped : goal.make_mail-requires-clause-popped
-make_mail-requires-clause-popped c =
-    lends.popped_count c.self.invariant.core (rw (← c.self.view_is) at c.requires.out.run_is) c.popped.result.now c.popped.ensures.count
-
-pub ports_of-requires : goal.ports_of-requires
-ports_of-requires c =
-    let a = rw (← c.self.view_is) at c.requires.out.inside in let n = c.self.invariant.wired.ports_are.count in omega arith
-
-pub make_mail-requires-clause-ports : goal.make_mail-requires-clause-ports
-make_mail-requires-clause-ports c =
-    all_pops c.self.inside.plan c.args.owner c.deref.result.now
-    (subst (AreReaders c.self.inside.plan) (sym c.deref.ensures.value) c.self.invariant.wired.readers_are) c.ports_of.result.now
-    (c.ports_of.ensures ∙ c.self.invariant.wired.ports_are.each c.args.owner (rw (← c.self.view_is) at c.requires.out.inside))
 
 pub make_mail-requires-clause-unread : goal.make_mail-requires-clause-unread
 make_mail-requires-clause-unread c =
@@ -48,14 +33,13 @@ pub returns-clause-task : goal.returns-clause-task
 returns-clause-task c = λ may.
     let p = c.self.inside.plan in
     let hand : lends.IsAtHand p c.self.inside.engine c.self.inside.ends.items c.self.inside.runs.items c.args.owner c.args.run.now
-    c.deref.result.now c.queries.result c.popped.result.now c.waiting.result.now = record {
+    c.deref.result.now c.queries.result c.waiting.result.now = record {
       core = c.self.invariant.core;
       inside = rw (← c.self.view_is) at c.requires.out.inside;
       may = rw (← c.self.view_is) at may;
       run_is = rw (← c.self.view_is) at c.requires.out.run_is;
       readers_are = subst (AreReaders p) (sym c.deref.ensures.value) c.self.invariant.wired.readers_are;
       first_is = c.queries.ensures.made;
-      popped_are = c.popped.ensures.each;
       accesses_are = c.waiting.ensures.accesses;
     } in
     rw (← c.self.view_is) (IfOk-weaker c.make_mail.result _ _ (λ mail made. lends.task_lent hand mail made) c.make_mail.ensures.made)

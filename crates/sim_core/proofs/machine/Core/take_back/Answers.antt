@@ -1,4 +1,4 @@
-use Rattle.std.proofs.Common.{◌≡◌, ℕ, List, sym, ap, subst, ◌∙◌, ◌<◌, false, length, slice_set, Option, arith}
+use Rattle.std.proofs.Common.{◌≡◌, List, ap, subst, ◌<◌, false, length, slice_set, Option, arith}
 use Rattle.flow_design.specs.declared.plan.Plan.{Plan}
 use Rattle.flow_design.specs.declared.state.Advance.{Advance}
 use Rattle.module_interp.specs.declared.run.ModuleRun.{ModuleRun}
@@ -94,17 +94,6 @@ record_all-requires-clause-returned c =
     let there = (goal.at.record_all-requires-clause-returned c).In_ok-make_room_for in
     (p there, (runs there, (task_left c.args.burst, returned there)))
 
-pub keep_unread-requires : goal.keep_unread-requires
-keep_unread-requires c =
-    let there = (goal.at.keep_unread-requires c).In_ok-make_room_for in
-    let back = returned there in
-    record {
-      readers = ap (λ (xs : List ℕ). length xs) c.deref.ensures.value ∙ (c.self.invariant.wired.readers_are.count
-          ∙ sym (lends.left_count (c.record_all.ensures.core (p there) (runs there) (task_left c.args.burst) back) (inside there)
-          (c.record_all.ensures.left (p there) (runs there) (task_left c.args.burst) back) c.popped.result.now
-          c.popped.ensures.count));
-    }
-
 pub invariant_of-self-2 : goal.invariant_of-self-2
 invariant_of-self-2 c =
     let there = (goal.at.invariant_of-self-2 c).In_ok-make_room_for in
@@ -120,7 +109,7 @@ invariant_of-self-2 c =
     c.make_room_for.ensures.room u ends2 (length c.args.burst.emitted) acts (runs there) core2 c.keep_unread.new.unread
     (c.keep_unread.ensures (core_values (design (p there)) (core_in (p there) u ends2)) (length (p there).design.channels) unread
     (λ channel within mine. lends.left_next core2 (inside there)
-    (c.record_all.ensures.left (p there) (runs there) last back) c.popped.result.now c.popped.ensures.each channel within))
+    (c.record_all.ensures.left (p there) (runs there) last back) channel))
     c.add.new.self c.add.ensures
 
 pub put_back-requires : goal.put_back-requires

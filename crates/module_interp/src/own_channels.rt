@@ -1,0 +1,136 @@
+//! The channels of a module.
+ghost use Rattle.std.specs.Prelude.{◌≡◌, ℕ, ◌<◌, [], true, false, length, slice_index, All, Contains, IfOk, OnErr, OnOk};
+ghost use Rattle.flow_design.specs.StaticRules.{uses};
+ghost use Rattle.module_interp.specs.OwnChannels.{IsGathered, IsPlaceOf, place_in};
+ghost use Rattle.std.specs.List.Sorted.{IsStrictlyIncreasing};
+
+use flow_design::{Module, Op, Timed};
+use flow_word::{OutOfMemory, Side};
+use std::alloc::Global;
+use std::marker::Model;
+
+/// Channels of a module, in order, so that one of them is soon found.
+#[derive(Drop)]
+pub struct OwnChannels {
+    items: Vec<u32>,
+}
+
+impl Model for OwnChannels {
+    ghost use Rattle.std.specs.Prelude.{List, ℕ};
+    ghost use Rattle.std.specs.List.Sorted.{IsStrictlyIncreasing};
+
+    ghost Value = { List ℕ };
+
+    ghost view = { λ channels. channels.items.items };
+
+    ghost invariant = { λ channels. IsStrictlyIncreasing channels.items.items };
+}
+
+impl OwnChannels {
+    /// No channel, which takes no memory.
+    pub fn none(alloc: Global) -> OwnChannels
+        ensures { result ≡ [] }
+    {
+        OwnChannels {
+            items: Vec::new(alloc),
+        }
+    }
+
+    /// The channels that a module pops, or pushes.
+    pub fn new(alloc: Global, of: &Module, side: Side) -> Result<OwnChannels, OutOfMemory>
+        ensures { IfOk result (λ channels. (f : ℕ) → uses (record { side = side; channel = f }) of.now ≡ true
+            → place_in channels f < length channels) }
+    {
+        let mut items = Vec::new(alloc);
+        for block in of.blocks.as_slice() {
+            gather(block.ops.as_slice(), side, &mut items)?;
+        }
+        items.sort()?;
+        items.dedup();
+        Ok(OwnChannels { items })
+    }
+
+    /// The channels, in order.
+    #[inline(always)]
+    pub fn as_slice(&self) -> &[u32]
+        ensures items { result.now ≡ self.now }
+        ensures rise { IsStrictlyIncreasing self.now }
+    {
+        self.items.as_slice()
+    }
+
+    /// Becomes a copy of others. After want of memory it has none.
+    pub fn copy_from(&mut self, others: &OwnChannels) -> Result<(), OutOfMemory>
+        ensures copy { OnOk result (self.new ≡ others.now) }
+        ensures none { OnErr result (self.new ≡ []) }
+    {
+        self.items.truncate(0);
+        self.items.extend_from_slice(others.items.as_slice())?;
+        Ok(())
+    }
+
+    /// The place of a channel; their number where it is none of them.
+    #[inline(always)]
+    pub fn place(&self, channel: u32) -> usize
+        ensures { result ≡ place_in self.now channel }
+    {
+        let place = place_of(self.items.as_slice(), channel);
+        if stands_at(self.items.as_slice(), channel, place) {
+            place
+        } else {
+            self.items.len()
+        }
+    }
+}
+
+/// Adds the channel that an operation pops, or pushes.
+fn gather_one(op: &Op<u32>, side: Side, channels: &mut Vec<u32>) -> Result<(), OutOfMemory>
+    ensures kept { OnOk result ((f : ℕ) → Contains channels.old.items f → Contains channels.new.items f) }
+    ensures gathered { OnOk result (IsGathered side channels.new.items op.now) }
+{
+    match op.used_port() {
+        Some(port) if port.side == side => channels.push(port.channel)?,
+        Some(_) | None => {}
+    }
+    Ok(())
+}
+
+/// Adds the channels that these operations pop, or push.
+fn gather(ops: &[Timed], side: Side, channels: &mut Vec<u32>) -> Result<(), OutOfMemory>
+    ensures kept { OnOk result ((f : ℕ) → Contains channels.old.items f → Contains channels.new.items f) }
+    ensures gathered { OnOk result (All (λ timed. IsGathered side channels.new.items timed.op) ops.now) }
+{
+    for timed in ops {
+        gather_one(&timed.op, side, channels)?;
+    }
+    Ok(())
+}
+
+/// Whether the channel stands at this place of the list.
+#[inline(always)]
+fn stands_at(channels: &[u32], channel: u32, place: usize) -> bool
+    ensures inside { result ≡ true → place < length channels.now }
+    ensures there { result ≡ true → slice_index channels.now place ≡ channel }
+    ensures none { result ≡ false → place < length channels.now → slice_index channels.now place ≡ channel → ⊥ }
+{
+    channels.get(place) == Some(&channel)
+}
+
+/// The place of a channel in a list in order, if it stands there.
+#[inline(always)]
+fn place_of(channels: &[u32], channel: u32) -> usize
+    requires rise { IsStrictlyIncreasing channels.now }
+    ensures { IsPlaceOf channels.now channel result }
+{
+    let mut from = 0usize;
+    let mut behind = channels.len();
+    while behind > from + 1 {
+        let middle = from + (behind - from) / 2;
+        if channels[middle] <= channel {
+            from = middle;
+        } else {
+            behind = middle;
+        }
+    }
+    from
+}

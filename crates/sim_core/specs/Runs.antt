@@ -94,10 +94,15 @@ AreUnreadIn p s ends unread = AreUnread (core_values (design p) (core_of (design
 abbrev pub HasBodiesWithin : Module → ℕ → Type 0
 HasBodiesWithin m most = All (λ b. length b.ops ≤ most) m.blocks
 
--- for so many modules it is told how long their bodies are at most
+-- so many operations has the longest body of the module: none has more, and no lesser number will do
+pub record IsLongestBody (m : Module) (most : ℕ) : Type 0 where
+  pub within : HasBodiesWithin m most
+  pub least : (n : ℕ) → HasBodiesWithin m n → most ≤ n
+
+-- for so many modules it is told how long their longest bodies are
 pub record AreBodyLengths (p : Plan) (many : ℕ) (lengths : List ℕ) : Type 0 where
   pub count : length lengths ≡ many
-  pub each : (m : ℕ) → m < many → HasBodiesWithin (module_at p m) (slice_index lengths m)
+  pub each : (m : ℕ) → m < many → IsLongestBody (module_at p m) (slice_index lengths m)
 
 -- each module has its own ports, it is told who pops each channel, who shares a channel with whom, and how long the bodies are
 pub record IsWired (p : Plan) (w : Wiring) : Type 0 where

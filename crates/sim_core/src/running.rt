@@ -8,6 +8,7 @@ ghost use Rattle.sim_core.specs.Views.{theory_of};
 ghost use Rattle.sim_core.specs.Runs.{IsAnswered, IsOut};
 
 use crate::back::emit_mark;
+use crate::beside::spread;
 use crate::bodies::body_length;
 use crate::machine::Core;
 use crate::wiring::ports_of;
@@ -77,11 +78,24 @@ impl Core {
         ensures lent { self.new.lent ≡ self.old.lent }
     {
         match self.try_with(owner, run) {
-            Ok(ran) => Ok(ran),
+            Ok(true) => Ok(true),
+            Ok(false) => {
+                self.rest(owner);
+                Ok(false)
+            }
             // The list of replies wanted memory, though not all of them are there.
             Err(OutOfMemory) if !self.may_run(owner) => Ok(false),
             Err(OutOfMemory) => Err(OutOfMemory),
         }
+    }
+
+    /// Notes that no Run of a module is permitted.
+    #[inline(always)]
+    fn rest(&mut self, owner: u32)
+        requires { MayRun (design self.old.plan) (theory_of self.old) owner → ⊥ }
+        ensures { self.new ≡ self.old }
+    {
+        self.due.running.remove(owner);
     }
 
     /// Runs a module by its own run; memory may be wanted even where no Run is permitted.
@@ -186,7 +200,9 @@ impl Core {
         ensures plan { self.new.plan ≡ self.old.plan }
         ensures lent { self.new.lent ≡ self.old.lent }
     {
-        self.asking.add(owner);
+        self.due.asking.add(owner);
+        let beside = self.wiring.hints.beside(owner);
+        spread(&mut self.due.running, beside, owner);
         // Each operation of a body makes one query of a step at most.
         self.engine.make_room(
             owner,

@@ -45,6 +45,7 @@ use Rattle.engine_view.specs.Taking.{kinds_in}
 use Rattle.engine_view.proofs.Opened.{opening_core_is, copy_at}
 use Rattle.engine_view.proofs.Roomy.{room_opening}
 use Rattle.sim_core.specs.Runs.{IsCore, IsStoredCore, IsRunOf, rest_behind, lent_of, over_of}
+use Rattle.sim_core.specs.declared.due.Due.{Due}
 use Rattle.sim_core.specs.declared.unread.Unread.{Unread}
 use Rattle.sim_core.specs.declared.wiring.Wiring.{Wiring}
 use Rattle.event_graph.specs.declared.candidate.Candidate.{Candidate}
@@ -133,10 +134,10 @@ core_runs p s ends runs c m run there =
 
 -- a core whose runs are lent, or go over to another
 pub stored_left : {p : Plan} {s : Engine} {ends : List (Option Advance)} {runs : List (Option ModuleRun)} {wiring : Wiring}
-    {unread : List Unread} {asking : List ℕ} {candidates : List Candidate}
-    → IsStoredCore p s ends runs wiring unread asking candidates → (left : List (Option ModuleRun)) → AreLeft runs left
-    → IsStoredCore p s ends left wiring unread asking candidates
-stored_left {p} {s} {ends} {runs} {wiring} {unread} {asking} {candidates} k left l = record {
+    {unread : List Unread} {due : Due} {candidates : List Candidate}
+    → IsStoredCore p s ends runs wiring unread due candidates → (left : List (Option ModuleRun)) → AreLeft runs left
+    → IsStoredCore p s ends left wiring unread due candidates
+stored_left {p} {s} {ends} {runs} {wiring} {unread} {due} {candidates} k left l = record {
   core = record {
     fits = k.core.fits;
     sound = k.core.sound;
@@ -150,7 +151,7 @@ stored_left {p} {s} {ends} {runs} {wiring} {unread} {asking} {candidates} k left
   };
   wired = k.wired;
   unread_are = k.unread_are;
-  asking_are = k.asking_are;
+  due_are = k.due_are;
   candidate_count = k.candidate_count;
 }
 

@@ -57,11 +57,13 @@ use Rattle.retime.proofs.Otherwise.{other_in_history}
 use Rattle.retime.proofs.Tallied.{places_in_order}
 use Rattle.sim_core.specs.Edits.{IsEdited, IsTrueGuard, StayBelow}
 use Rattle.sim_core.specs.Runs.{IsCore, IsStoredCore, IsWired, over_of}
+use Rattle.sim_core.specs.declared.due.Due.{Due}
 use Rattle.sim_core.specs.declared.unread.Unread.{Unread}
+use Rattle.sim_core.specs.Waking.{IsFull}
 use Rattle.sim_core.specs.declared.wiring.Wiring.{Wiring}
 use Rattle.event_graph.specs.declared.candidate.Candidate.{Candidate}
-use Rattle.module_sets.specs.Sets.{Has, capacity}
-use Rattle.sim_core.proofs.Asking.{asking_all, beside_edited, still_room}
+use Rattle.sim_core.proofs.Asking.{beside_edited, still_room}
+use Rattle.sim_core.proofs.Waking.{due_all}
 use Rattle.sim_core.proofs.Leaving.{unread_none}
 use Rattle.sim_core.proofs.Cut.{final_of, history_of, cut_of}
 use Rattle.sim_core.proofs.EditedRuns.{run_edited, end_edited, channel_inside, fifo_there, depth_there, kinds_edited}
@@ -319,17 +321,18 @@ wired_edited {p} {w} k channel depth = record {
   bodies_are = record { count = k.bodies_are.count; each = k.bodies_are.each };
 }
 
--- so a core is stored after an edit, with nothing unread, and each module may be asked
+-- so a core is stored after an edit, with nothing unread, and each module in the sets
 pub stored_edited : {p : Plan} {s : Engine} {ends : List (Option Advance)} {runs : List (Option ModuleRun)} {wiring : Wiring}
-    {unread : List Unread} {asking : List ℕ} {candidates : List Candidate}
-    → IsStoredCore p s ends runs wiring unread asking candidates → (e : Edit) (t : Engine)
+    {unread : List Unread} {due : Due} {candidates : List Candidate}
+    → IsStoredCore p s ends runs wiring unread due candidates → (e : Edit) (t : Engine)
     → IsCore (with_depth p e.channel e.depth) t ends runs
-    → (now : List ℕ) → length now ≡ length asking → ((n : ℕ) → n < capacity now → Has now n)
-    → IsStoredCore (with_depth p e.channel e.depth) t ends runs wiring [] now candidates
-stored_edited {p} {s} {ends} {runs} {wiring} {unread} {asking} {candidates} k e t core now same all = record {
+    → (now : Due) → length now.asking ≡ length due.asking → IsFull now.asking → length now.running ≡ length due.running
+    → IsFull now.running → IsStoredCore (with_depth p e.channel e.depth) t ends runs wiring [] now candidates
+stored_edited {p} {s} {ends} {runs} {wiring} {unread} {due} {candidates} k e t core now same all same' all' = record {
   core = core;
   wired = wired_edited k.wired e.channel e.depth;
   unread_are = unread_none _ _;
-  asking_are = asking_all (with_depth p e.channel e.depth) _ now (still_room p asking now same k.asking_are.room) all;
+  due_are = due_all (with_depth p e.channel e.depth) _ now (still_room p due.asking now.asking same k.due_are.asking_are.room) all
+      (still_room p due.running now.running same' k.due_are.running_are.room) all';
   candidate_count = k.candidate_count;
 }

@@ -44,4 +44,5 @@ pub mod Given
 pub mod SetFew
 pub mod SameSteps
 pub mod Asking
+pub mod Waking
 pub mod OwnMarks

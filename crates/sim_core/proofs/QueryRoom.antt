@@ -1,13 +1,11 @@
 -- A step has no more queries than its body has operations.
-use Rattle.std.proofs.Common.{◌≡◌, inl, inr, ap, sym, arith, ℕ, ◌<◌, ◌≤◌, not, length, List, get_or}
+use Rattle.std.proofs.Common.{◌≡◌, inl, inr, ap, arith, ℕ, ◌<◌, ◌≤◌, not, length, List, get_or}
 use Rattle.std.proofs.lemmas.Bool.{cases_lt}
 use Rattle.std.proofs.lemmas.List.{get_or_past}
-use Rattle.std.proofs.lemmas.List.Elements.{All-weaker}
 use Rattle.std.proofs.lemmas.List.Sums.{length-filter, count_by-le-length}
 use Rattle.flow_word.specs.Kinds.{is_blocking}
 use Rattle.flow_word.specs.declared.access.Access.{Access}
 use Rattle.flow_word.specs.declared.access.Step.{Step as StepOf}
-use Rattle.flow_design.specs.declared.design.Block.{Block}
 use Rattle.flow_design.specs.declared.design.Module.{Module}
 use Rattle.flow_design.specs.declared.plan.Plan.{Plan}
 use Rattle.flow_design.specs.declared.state.Advance.TheVariants.{Step}
@@ -30,7 +28,7 @@ bodies_within m a b l h k d inside = let fits = h k d inside in omega arith
 pub bodies_told : (p : Plan) {lengths : List ℕ} → AreBodyLengths p (length p.design.modules) lengths → (m : ℕ) → m < length p.design.modules
     → {told room : ℕ} → told ≡ get_or lengths m 0 → told ≤ room → HasBodiesWithin (module_at p m) room
 bodies_told p {lengths} are m inside {told} {room} is l =
-    bodies_within (module_at p m) (get_or lengths m 0) room (omega arith) (are.each m inside)
+    bodies_within (module_at p m) (get_or lengths m 0) room (omega arith) (are.each m inside).within
 
 body_within : (m : Module) (n most : ℕ) → HasBodiesWithin m most → length (block_at m n).ops ≤ most
 body_within m n most h = elim (cases_lt n (length m.blocks)) [

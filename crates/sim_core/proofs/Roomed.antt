@@ -1,6 +1,6 @@
 -- A core as it is stored: a module's run is taken out or put back; room is made for a module's marks, and Runs of that module follow.
-use Rattle.std.proofs.Common.{◌≡◌, ◌∙◌, ℕ, ◌<◌, List, [], length, get_or, set, Bool, Option, None, Some, arith}
-use Rattle.std.specs.Prelude.{All, IfSome}
+use Rattle.std.proofs.Common.{◌≡◌, sym, subst, ◌∙◌, ℕ, ◌<◌, List, [], length, get_or, set, Bool, Option, None, Some, arith}
+use Rattle.std.specs.Prelude.{All, IfSome, slice_index_or}
 use Rattle.flow_word.specs.declared.access.Port.{Port}
 use Rattle.flow_design.specs.declared.plan.Plan.{Plan}
 use Rattle.flow_design.specs.declared.state.Advance.{Advance}
@@ -15,14 +15,18 @@ use Rattle.event_timing.specs.Actions as actions
 use Rattle.timing_bridge.specs.Designs.{design}
 use Rattle.engine_view.specs.declared.engine.Engine.{Engine}
 use Rattle.engine_view.specs.Engines.{held_in}
+use Rattle.engine_view.specs.Held.{Held, core_of}
 use Rattle.engine_view.specs.Rooms.{HasModule, IsSameButRoom, IsRoomy, AreAllPorts}
+use Rattle.sim_core.specs.declared.due.Due.{Due}
 use Rattle.sim_core.specs.declared.unread.Unread.{Unread}
 use Rattle.sim_core.specs.declared.wiring.Wiring.{Wiring}
+use Rattle.sim_core.specs.Waking.{AreWaking, IsSpread}
 use Rattle.sim_core.specs.Opening.{ports_to}
 use Rattle.sim_core.specs.Returned.{core_in}
 use Rattle.sim_core.specs.Runs.{IsRunOf, IsOut, IsCore, IsStoredCore, lent_of, over_of}
 use Rattle.sim_core.specs.Unread.{AreUnread}
 use Rattle.sim_core.proofs.Asking.{asking_kept, asking_returned}
+use Rattle.sim_core.proofs.Waking.{waking_more, waking_ran}
 use Rattle.sim_core.proofs.Leaving as leaving
 use Rattle.sim_core.proofs.Lending as lending
 use Rattle.sim_core.proofs.Marking.{table_count}
@@ -31,15 +35,15 @@ use Rattle.sim_core.proofs.Ports as ports
 -- ---- a run that is taken out or put back
 
 module _ {p : Plan} {s : Engine} {ends : List (Option Advance)} {runs : List (Option ModuleRun)} {wiring : Wiring}
-    {unread : List Unread} {asking : List ℕ} {candidates : List Candidate}
-    (k : IsStoredCore p s ends runs wiring unread asking candidates) (m : ℕ) (inside : m < length p.design.modules) where
+    {unread : List Unread} {due : Due} {candidates : List Candidate}
+    (k : IsStoredCore p s ends runs wiring unread due candidates) (m : ℕ) (inside : m < length p.design.modules) where
   pub stored_lent : (o : Option ModuleRun) → ((run : ModuleRun) → o ≡ Some run → IsRunOf p (core_in p s ends) m run)
-      → IsStoredCore p s ends (set runs m o) wiring unread asking candidates
+      → IsStoredCore p s ends (set runs m o) wiring unread due candidates
   stored_lent o f = record {
     core = lending.core_lent p s ends runs m o k.core (let n = k.core.sound.lanes in omega arith) f;
     wired = k.wired;
     unread_are = k.unread_are;
-    asking_are = k.asking_are;
+    due_are = k.due_are;
     candidate_count = k.candidate_count;
   }
 
@@ -52,8 +56,8 @@ module _ {p : Plan} {s : Engine} {ends : List (Option Advance)} {runs : List (Op
 -- ---- room for a module's marks
 
 module _ {p : Plan} {s : Engine} {ends : List (Option Advance)} {runs : List (Option ModuleRun)} {wiring : Wiring}
-    {unread : List Unread} {asking : List ℕ} {candidates : List Candidate}
-    (k : IsStoredCore p s ends runs wiring unread asking candidates) (m : ℕ) (inside : m < length p.design.modules)
+    {unread : List Unread} {due : Due} {candidates : List Candidate}
+    (k : IsStoredCore p s ends runs wiring unread due candidates) (m : ℕ) (inside : m < length p.design.modules)
     (own : List Port) (own_is : own ≡ get_or wiring.ports m []) where
   own_ports : own ≡ ports_to p m (length p.design.channels)
   own_ports = own_is ∙ k.wired.ports_are.each m inside
@@ -87,13 +91,22 @@ module _ {p : Plan} {s : Engine} {ends : List (Option Advance)} {runs : List (Op
     unread_are : AreUnread (core_values (design p) (core_in p t ends)) (length p.design.channels) unread
     unread_are = leaving.unread_same p (held_in s (over_of ends)) (held_in t (over_of ends)) unread held_same k.unread_are
 
-    pub stored_roomed : (now : List ℕ) → IsAdded asking m now → IsStoredCore p t ends runs wiring unread now candidates
-    stored_roomed now added = record {
+    running_roomed : AreWaking p (core_in p t ends) due.running
+    running_roomed =
+        subst (λ (h : Held). AreWaking p (core_of (design p) h) due.running) (sym held_same) k.due_are.running_are
+
+    pub stored_roomed : (now : Due) → IsAdded due.asking m now.asking
+        → IsSpread due.running (slice_index_or wiring.hints m []) m now.running → IsStoredCore p t ends runs wiring unread now candidates
+    stored_roomed now added spread = record {
       core = core;
       wired = k.wired;
       unread_are = unread_are;
-      asking_are = asking_kept p (held_in s (over_of ends)) (held_in t (over_of ends)) held_same k.core.fits asking k.asking_are now m
-          added;
+      due_are = record {
+        asking_are = asking_kept p (held_in s (over_of ends)) (held_in t (over_of ends)) held_same k.core.fits due.asking
+            k.due_are.asking_are now.asking m added;
+        running_are = waking_more p (core_in p t ends) due.running running_roomed
+            (slice_index_or wiring.hints m []) m now.running spread;
+      };
       candidate_count = k.candidate_count;
     }
 
@@ -106,12 +119,17 @@ module _ {p : Plan} {s : Engine} {ends : List (Option Advance)} {runs : List (Op
 
       pub stored_ran : (runs' : List (Option ModuleRun)) → IsCore p f ends' runs' → (unread' : List Unread)
           → AreUnread (core_values (design p) (core_in p f ends')) (length p.design.channels) unread'
-          → (now : List ℕ) → IsAdded asking m now → IsStoredCore p f ends' runs' wiring unread' now candidates
-      stored_ran runs' core' unread' are now added = record {
+          → (now : Due) → IsAdded due.asking m now.asking → IsSpread due.running (slice_index_or wiring.hints m []) m now.running
+          → IsStoredCore p f ends' runs' wiring unread' now candidates
+      stored_ran runs' core' unread' are now added spread = record {
         core = core';
         wired = k.wired;
         unread_are = are;
-        asking_are = asking_returned p (held_in s (over_of ends)) (held_in t (over_of ends)) held_same k.core.fits core.agreed asking
-            k.asking_are now m added count (core_in p f ends') acts;
+        due_are = record {
+          asking_are = asking_returned p (held_in s (over_of ends)) (held_in t (over_of ends)) held_same k.core.fits core.agreed due.asking
+              k.due_are.asking_are now.asking m added count (core_in p f ends') acts;
+          running_are = waking_ran p (core_in p t ends) due.running running_roomed wiring.hints k.wired.beside_are m
+              inside now.running spread count (core_in p f ends') acts;
+        };
         candidate_count = k.candidate_count;
       }

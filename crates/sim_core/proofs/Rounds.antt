@@ -1,8 +1,8 @@
 -- Going round the modules as long as something is permitted.
 use Rattle.std.proofs.Common.{◌≡◌, refl, sym, ap, subst, ◌∙◌, ℕ, suc, ◌+◌, ◌-◌, ◌*◌, ◌<◌, ◌≤◌, ◌⊎◌, inl, inr, true, false, Bool, Some}
-use Rattle.std.proofs.Common.{get_or, List, [], ◌∷◌, ◌++◌, length, arith}
+use Rattle.std.proofs.Common.{get_or, List, [], ◌∷◌, ◌++◌, length, arith, mul-le-mul_right}
 use Rattle.std.specs.Prelude.{slice_get, slice_index_or}
-use Rattle.std.proofs.lemmas.Bool.{both_ways}
+use Rattle.std.proofs.lemmas.Bool.{both_ways, cases_lt}
 use Rattle.flow_design.specs.declared.plan.Plan.{Plan}
 use Rattle.flow_design.specs.StaticRules.{FitsEngine}
 use Rattle.query_log.specs.declared.query.Query.{Query}
@@ -25,8 +25,7 @@ use Rattle.timing_bridge.proofs.History.{plan_is_design, run_is_history}
 use Rattle.module_interp.specs.declared.run.ModuleRun.{ModuleRun}
 use Rattle.engine_view.specs.declared.turn.Timing.{Timing}
 use Rattle.engine_view.specs.declared.turn.Timing.TheVariants as turn
-use Rattle.engine_view.specs.Cursors.{CursorView, IsNext, IsPassed}
-use Rattle.engine_view.proofs.Cursors.{idle_more}
+use Rattle.engine_view.specs.Cursors.{CursorView}
 use Rattle.engine_view.specs.Turns.{IsDifferent, IsFoundOther}
 use Rattle.outcome_guard.specs.declared.guard.Guard.TheVariants as guard
 use Rattle.sim_core.specs.Runs.{IsOut, IsRunOf}
@@ -179,80 +178,81 @@ module _ (v : CoreView) (f : AllVerified (theory_of v)) where
 -- ---- a round
 
 pub begun : {v : CoreView} {ticks : ℕ} {cursor : CursorView} → IsAgreed (design v.plan) (lockstep_run v.plan) v.plan.cycles (theory_of v)
-    → FitsEngine v.plan → AreOwn v → cursor.count ≡ length v.plan.design.modules → ((m : ℕ) → IsPassed cursor m → ⊥)
-    → IsGoingRound v v ticks ticks cursor
-begun {v} {ticks} {cursor} agreed fits own counted none = record {
+    → FitsEngine v.plan → AreOwn v → cursor.count ≡ length v.plan.design.modules → IsGoingRound v v ticks ticks cursor 0
+begun {v} {ticks} {cursor} agreed fits own counted = record {
   goes = goes_same v ticks;
   agreed = agreed;
   fits = fits;
   own = own;
   counted = counted;
-  idle = λ m passed. absurd (none m passed);
+  still = λ n l. absurd (omega (arith, l));
 }
 
-module _ {first now : CoreView} {before ticks : ℕ} {cursor : CursorView} (r : IsGoingRound first now before ticks cursor) where
-  pub agreed_now : IsAgreed (design now.plan) (lockstep_run now.plan) now.plan.cycles (theory_of now)
-  agreed_now = goes_agreed first now before ticks r.agreed r.fits r.goes
+module _ {first now : CoreView} {before ticks : ℕ} {cursor : CursorView} {from : ℕ} (r : IsGoingRound first now before ticks cursor from)
+  where
+    pub agreed_now : IsAgreed (design now.plan) (lockstep_run now.plan) now.plan.cycles (theory_of now)
+    agreed_now = goes_agreed first now before ticks r.agreed r.fits r.goes
 
-  pub fits_now : FitsEngine now.plan
-  fits_now = subst FitsEngine (sym r.goes.plan) r.fits
+    pub fits_now : FitsEngine now.plan
+    fits_now = subst FitsEngine (sym r.goes.plan) r.fits
 
-  -- an Earliest is of a module that the cursor counts
-  pub some_counted : (next : CoreView) {m : ℕ} → HasAnsweredLeast (Some (m, guard.Same)) now next → 0 < cursor.count
-  some_counted next {m} ((c, may, answered), changed) =
-      let inside = determined_inside (design now.plan) (theory_of now) agreed_now.marks.inside m c may.open_step.determined.at in
-      let counted = r.counted in
-      omega arith
+    -- something was done
+    pub went : {next : CoreView} {later : ℕ} {cursor' : CursorView} → GoesOn now ticks next later → cursor'.count ≡ cursor.count
+        → IsGoingRound first next before later cursor' 0
+    went {next} {later} {cursor'} o count = record {
+      goes = goes_join first now next before ticks later r.goes o.goes;
+      agreed = r.agreed;
+      fits = r.fits;
+      own = λ m l.
+          ap (λ bs. get_or bs m true) o.goes.lent ∙ r.own m (let e = ap (λ (q : Plan). length q.design.modules) o.goes.plan in omega arith);
+      counted = count ∙ r.counted ∙ ap (λ (q : Plan). length q.design.modules) (sym o.goes.plan);
+      still = λ n l. absurd (omega (arith, l));
+    }
 
-  -- something was done
-  pub went : {next : CoreView} {later : ℕ} {cursor' : CursorView} → GoesOn now ticks next later → cursor'.count ≡ cursor.count
-      → ((m : ℕ) → IsPassed cursor' m → ⊥) → IsGoingRound first next before later cursor'
-  went {next} {later} {cursor'} o count none = record {
-    goes = goes_join first now next before ticks later r.goes o.goes;
-    agreed = r.agreed;
-    fits = r.fits;
-    own = λ m l.
-        ap (λ bs. get_or bs m true) o.goes.lent ∙ r.own m (let e = ap (λ (q : Plan). length q.design.modules) o.goes.plan in omega arith);
-    counted = count ∙ r.counted ∙ ap (λ (q : Plan). length q.design.modules) (sym o.goes.plan);
-    idle = λ m passed. absurd (none m passed);
-  }
+    -- nothing was to be done at the module whose turn it was
+    pub passed : {next : CoreView} {later m to : ℕ} {cursor' : CursorView} → next ≡ now → later ≡ ticks → IsStill now m
+        → cursor'.count ≡ cursor.count → ((n : ℕ) → n < to → (n < from) ⊎ ((n ≡ m) ⊎ IsStill now n))
+        → IsGoingRound first next before later cursor' to
+    passed {next} {later} {m} {to} {cursor'} same ticked none count more =
+        rw (same, ticked) (record {
+          goes = r.goes;
+          agreed = r.agreed;
+          fits = r.fits;
+          own = r.own;
+          counted = count ∙ r.counted;
+          still = λ n l.
+              elim (more n l) [
+                | inl u ↦ r.still n u
+                | inr (inl e) ↦ subst (IsStill now) (sym e) none
+                | inr (inr s) ↦ s
+              ];
+        })
 
-  -- nothing was to be done at the module whose turn it was
-  pub passed : {next : CoreView} {later m : ℕ} {cursor' : CursorView} → IsNext cursor m → next ≡ now → later ≡ ticks → IsStill now m
-      → cursor'.count ≡ cursor.count → ((k : ℕ) → IsPassed cursor' k → (k ≡ cursor.at) ⊎ IsPassed cursor k)
-      → IsGoingRound first next before later cursor'
-  passed {next} {later} {m} {cursor'} n same ticked none count more =
-      rw (same, ticked) (record {
-        goes = r.goes;
-        agreed = r.agreed;
-        fits = r.fits;
-        own = r.own;
-        counted = count ∙ r.counted;
-        idle = idle_more (IsStill now) cursor cursor' more (rw n.is at none) r.idle;
-      })
+    -- where nothing is left from there on, nothing is but an Earliest
+    pub all_quiet : ((n : ℕ) → from ≤ n → n < length now.plan.design.modules → IsStill now n)
+        → IsQuiet (design now.plan) now.plan.cycles (theory_of now)
+    all_quiet rest = record {
+      no_run = λ n may. (still n may.inside).no_run may;
+      no_assign = λ n c may. (still n (there n c may.determined.at)).idle.no_assign c may;
+      no_answer = λ n c may. (still n (there n c may.determined.at)).idle.no_answer c may;
+    }
+      where
+        still : (n : ℕ) → n < length now.plan.design.modules → IsStill now n
+        still n u = elim (cases_lt n from) [
+          | inl l ↦ r.still n l
+          | inr l ↦ rest n l u
+        ]
 
-  -- where all were passed nothing is left but an Earliest
-  pub all_quiet : ((m : ℕ) → m < cursor.count → IsPassed cursor m) → IsQuiet (design now.plan) now.plan.cycles (theory_of now)
-  all_quiet all = record {
-    no_run = λ n may. (still n (let e = r.counted in let i = may.inside in omega arith)).no_run may;
-    no_assign = λ n c may. (still n (there n c may.determined.at)).idle.no_assign c may;
-    no_answer = λ n c may. (still n (there n c may.determined.at)).idle.no_answer c may;
-  }
-    where
-      still : (n : ℕ) → n < cursor.count → IsStill now n
-      still n u = r.idle n (all n u)
+        there : (n c : ℕ) → candidate (design now.plan) (view (design now.plan) (theory_of now)) n ≡ Some c
+            → n < length now.plan.design.modules
+        there n c e = determined_inside (design now.plan) (theory_of now) agreed_now.marks.inside n c e
 
-      there : (n c : ℕ) → candidate (design now.plan) (view (design now.plan) (theory_of now)) n ≡ Some c → n < cursor.count
-      there n c e =
-          let l = determined_inside (design now.plan) (theory_of now) agreed_now.marks.inside n c e in
-          let same = r.counted in omega arith
+    -- where no outcome is assumed, none is found to be another
+    pub never_differs : AllVerified (theory_of first) → (m : ℕ) (q : Query) → IsDifferent (design now.plan) now.plan.cycles now.held m q → ⊥
+    never_differs f = none_differs now (goes_verified first now before ticks r.agreed r.fits r.goes f)
 
-  -- where no outcome is assumed, none is found to be another
-  pub never_differs : AllVerified (theory_of first) → (m : ℕ) (q : Query) → IsDifferent (design now.plan) now.plan.cycles now.held m q → ⊥
-  never_differs f = none_differs now (goes_verified first now before ticks r.agreed r.fits r.goes f)
-
-  pub never_least : AllVerified (theory_of first) → (m : ℕ) (q : Query) → IsEarliestOther now m q → ⊥
-  never_least f = no_least_differs now (goes_verified first now before ticks r.agreed r.fits r.goes f)
+    pub never_least : AllVerified (theory_of first) → (m : ℕ) (q : Query) → IsEarliestOther now m q → ⊥
+    never_least f = no_least_differs now (goes_verified first now before ticks r.agreed r.fits r.goes f)
 
 -- ---- it ends
 
@@ -270,10 +270,24 @@ to_do_less now next ticks later o agreed fits =
     let rise = o.risen in grind arith
 
 -- something that was done is a turn less
-pub went_on : {first now next : CoreView} {before ticks later : ℕ} {cursor : CursorView} → IsGoingRound first now before ticks cursor
-    → GoesOn now ticks next later → to_do next < to_do now
-went_on {first} {now} {next} {before} {ticks} {later} {cursor} r o =
+pub went_on : {first now next : CoreView} {before ticks later : ℕ} {cursor : CursorView} {from : ℕ}
+    → IsGoingRound first now before ticks cursor from → GoesOn now ticks next later → to_do next < to_do now
+went_on {first} {now} {next} {before} {ticks} {later} {cursor} {from} r o =
     let fits = fits_now r in
     let agreed = goes_agreed now next ticks later (agreed_now r) fits o.goes in
     let less = to_do_less now next ticks later o agreed (subst FitsEngine (sym o.goes.plan) fits) in
     omega arith
+
+-- fewer turns are fewer visits, wherever modules are looked for
+pub visits_fall : (fewer many count count' from to : ℕ) → count' ≡ count → fewer < many
+    → fewer * (count' + 1) + (count' - to) < many * (count + 1) + (count - from)
+visits_fall fewer many count count' from to same l =
+    let more : (fewer + 1) * (count + 1) ≤ many * (count + 1) = mul-le-mul_right (count + 1) (omega arith) in
+    rw same (omega arith)
+
+-- and no more turns are fewer visits where they are looked for further on
+pub visits_pass : (fewer many count count' from to : ℕ) → count' ≡ count → fewer ≤ many → from < to → from < count
+    → fewer * (count' + 1) + (count' - to) < many * (count + 1) + (count - from)
+visits_pass fewer many count count' from to same l on below =
+    let more : fewer * (count + 1) ≤ many * (count + 1) = mul-le-mul_right (count + 1) l in
+    rw same (omega arith)

@@ -17,25 +17,28 @@ use Rattle.engine_view.specs.Engines.{held_in}
 use Rattle.engine_view.specs.Taking.{kinds_in}
 use Rattle.engine_view.specs.Turns.{MayTakeIn, HasTimed, KeepsRoom, is_progress, left}
 use Rattle.sim_core.specs.Asking.{Lacks}
+use Rattle.sim_core.specs.Waking.{IsWoken}
 use Rattle.sim_core.specs.Runs.{IsStoredCore, lent_of, over_of}
 use Rattle.sim_core.specs.Turns.{HasTurned}
 use Rattle.sim_core.specs.Views.{CoreView}
+use Rattle.sim_core.specs.declared.due.Due.{Due}
 use Rattle.sim_core.specs.declared.unread.Unread.{Unread}
 use Rattle.sim_core.specs.declared.wiring.Wiring.{Wiring}
 use Rattle.sim_core.proofs.Asking.{asking_turned}
+use Rattle.sim_core.proofs.Waking.{waking_turned}
 use Rattle.sim_core.proofs.Keeping.{kept_of}
 use Rattle.sim_core.proofs.Turning as turning
 
 -- the step that may be given its cycle is so in the engine
 pub may_take : {p : Plan} {s : Engine} {ends : List (Option Advance)} {runs : List (Option ModuleRun)} {wiring : Wiring}
-    {unread : List Unread} {asking : List ℕ} {candidates : List Candidate} → IsStoredCore p s ends runs wiring unread asking candidates
+    {unread : List Unread} {due : Due} {candidates : List Candidate} → IsStoredCore p s ends runs wiring unread due candidates
     → (m c : ℕ) → MayAssign (design p) p.cycles (core_of (design p) (held_in s (over_of ends))) m c → MayTakeIn s m c
 may_take {p} {s} {ends} k m c may =
     (design p, over_of ends, p.cycles, k.core.fits.cycles, plan_is_design p k.core.fits, kept_of k.core, may)
 
--- the engine behind the turn, and who may be given a cycle or an answer then
+-- the engine behind the turn, and of whom something may be permitted then
 module _ {p : Plan} {s : Engine} {ends : List (Option Advance)} {runs : List (Option ModuleRun)} {wiring : Wiring} {unread : List Unread}
-    {asking : List ℕ} {candidates : List Candidate} (k : IsStoredCore p s ends runs wiring unread asking candidates) (m : ℕ)
+    {due : Due} {candidates : List Candidate} (k : IsStoredCore p s ends runs wiring unread due candidates) (m : ℕ)
     (inside : m < length p.design.modules) (t : Engine) (r : Timing) (done : HasTimed r p.cycles m s t) (room : KeepsRoom s t)
     (kinds : kinds_in t.fifos.channels ≡ kinds_in s.fifos.channels) (less : is_progress r ≡ true → left t < left s) where
   abbrev seen : Engine → CoreView
@@ -47,17 +50,22 @@ module _ {p : Plan} {s : Engine} {ends : List (Option Advance)} {runs : List (Op
       turning.turned k.core t m r (lent_of runs) done (λ cycle e.
       turning.changed (design p) s t (over_of ends) (core.sound.lanes ∙ sym k.core.sound.lanes) (less (ap is_progress e)))
 
-  pub stored : (now : List ℕ) → length now ≡ length asking → ((n : ℕ) → n ≢ m → Lacks now n → Lacks asking n)
-      → (r ≢ Nothing → Lacks now m → Lacks asking m) → (is_progress r ≡ true → m < capacity asking → Has now m)
-      → (is_progress r ≡ true → (n : ℕ) → n < capacity asking → Lacks now n → HasMask (slice_index_or wiring.hints m []) n → ⊥)
+  pub stored : (now : Due) → length now.asking ≡ length due.asking → ((n : ℕ) → n ≢ m → Lacks now.asking n → Lacks due.asking n)
+      → (r ≢ Nothing → Lacks now.asking m → Lacks due.asking m) → (is_progress r ≡ true → m < capacity due.asking → Has now.asking m)
+      → (is_progress r ≡ true → (n : ℕ) → n < capacity due.asking → Lacks now.asking n → HasMask (slice_index_or wiring.hints m []) n → ⊥)
+      → IsWoken r due.running (slice_index_or wiring.hints m []) m now.running
       → IsStoredCore p t ends runs wiring unread now candidates
-  stored now roomed others own acted beside = record {
+  stored now roomed others own acted beside woken = record {
     core = turning.core_timed k.core t m r done room kinds;
     wired = k.wired;
     unread_are = turning.unread_timed k.core t m r unread done k.unread_are;
-    asking_are =
-        let room = k.asking_are.room in
-        asking_turned (seen s) (seen t) k.core.fits asking k.asking_are wiring.hints k.wired.beside_are m inside now roomed others r turned
-        own (λ e. acted e (omega arith)) (λ e n l. beside e n (omega arith));
+    due_are = record {
+      asking_are =
+          let room = k.due_are.asking_are.room in
+          asking_turned (seen s) (seen t) k.core.fits due.asking k.due_are.asking_are wiring.hints k.wired.beside_are m inside now.asking
+          roomed others r turned own (λ e. acted e (omega arith)) (λ e n l. beside e n (omega arith));
+      running_are = waking_turned (seen s) (seen t) due.running k.due_are.running_are wiring.hints k.wired.beside_are m inside now.running r
+          turned woken;
+    };
     candidate_count = k.candidate_count;
   }

@@ -1,5 +1,5 @@
--- What rounds over the modules make of a core.
-use Rattle.std.specs.Prelude.{◌≡◌, ℕ, suc, ◌+◌, ◌<◌, ◌⊎◌, List, [], ◌∷◌, length, slice_index_or, true, false}
+-- What rounds over the modules leave of a core.
+use Rattle.std.specs.Prelude.{◌≡◌, ℕ, suc, ◌+◌, ◌-◌, ◌*◌, ◌<◌, ◌⊎◌, List, [], ◌∷◌, length, slice_index_or, true, false}
 use Rattle.flow_design.specs.StaticRules.{FitsEngine}
 use Rattle.query_log.specs.declared.query.Query.{Query}
 use Rattle.outcome_guard.specs.declared.guard.Guard.{Guard}
@@ -8,7 +8,7 @@ use Rattle.event_timing.specs.Actions.{Action, ActsAll, IsFinal}
 use Rattle.event_timing.specs.Actions.Action.{Run, Assign, Answer, Earliest}
 use Rattle.event_timing.specs.Agreement.{IsAgreed}
 use Rattle.event_timing.specs.Work.{work}
-use Rattle.engine_view.specs.Cursors.{CursorView, AreIdle}
+use Rattle.engine_view.specs.Cursors.{CursorView, turns_left}
 use Rattle.engine_view.specs.Turns.{IsDifferent, IsIdle}
 use Rattle.timing_bridge.specs.Designs.{design, lockstep_run}
 use Rattle.sim_core.specs.declared.visit.Visit.{Visit}
@@ -64,11 +64,16 @@ HasDriven (guard.Differs q) w = IsDiffering w q
 abbrev pub AreOwn : CoreView → Type 0
 AreOwn v = (m : ℕ) → m < length v.plan.design.modules → slice_index_or v.lent m true ≡ false
 
--- what the rounds keep: how they led from `first` to `now`, with a counter that had `before` ticks and now has `ticks`
-pub record IsGoingRound (first now : CoreView) (before ticks : ℕ) (cursor : CursorView) : Type 0 where
+-- more visits than are left, where modules are looked for from this one on: a jump counts more than all modules
+abbrev pub visits_left : ℕ → CursorView → ℕ → ℕ
+visits_left actions c from = turns_left actions c * (c.count + 1) + (c.count - from)
+
+-- what the rounds keep: from `first` to `now`, with so many ticks before and by now; of the modules below `from` nothing is permitted, but
+-- perhaps an Earliest
+pub record IsGoingRound (first now : CoreView) (before ticks : ℕ) (cursor : CursorView) (from : ℕ) : Type 0 where
   pub goes : Goes first before now ticks
   pub agreed : IsAgreed (design first.plan) (lockstep_run first.plan) first.plan.cycles (theory_of first)
   pub fits : FitsEngine first.plan
   pub own : AreOwn now
   pub counted : cursor.count ≡ length now.plan.design.modules
-  pub idle : AreIdle (IsStill now) cursor
+  pub still : (n : ℕ) → n < from → IsStill now n

@@ -18,3 +18,4 @@ pub mod AccessLog
 pub mod Costs
 pub mod Asking
 pub mod OwnMarks
+pub mod Waking

@@ -27,8 +27,10 @@ use Rattle.engine_view.specs.Taking.{kinds_in}
 use Rattle.sim_core.specs.Views.{CoreView, theory_of}
 use Rattle.sim_core.specs.Opening.{kinds_of, AreOwnPorts}
 use Rattle.sim_core.specs.Readers.{AreReaders}
-use Rattle.sim_core.specs.Asking.{AreBeside, AreAsking}
+use Rattle.sim_core.specs.Asking.{AreBeside}
+use Rattle.sim_core.specs.Waking.{AreDue}
 use Rattle.sim_core.specs.Unread.{AreUnread}
+use Rattle.sim_core.specs.declared.due.Due.{Due}
 use Rattle.sim_core.specs.declared.unread.Unread.{Unread}
 use Rattle.sim_core.specs.declared.wiring.Wiring.{Wiring}
 
@@ -95,10 +97,15 @@ AreUnreadIn p s ends unread = AreUnread (core_values (design p) (core_of (design
 abbrev pub HasBodiesWithin : Module → ℕ → Type 0
 HasBodiesWithin m most = All (λ b. length b.ops ≤ most) m.blocks
 
--- for each of the first `many` modules the list has a bound for the operations of its bodies
+-- so many operations has the longest body of the module: none has more, and no lesser number will do
+pub record IsLongestBody (m : Module) (most : ℕ) : Type 0 where
+  pub within : HasBodiesWithin m most
+  pub least : (n : ℕ) → HasBodiesWithin m n → most ≤ n
+
+-- for so many modules it is told how long their longest bodies are
 pub record AreBodyLengths (p : Plan) (many : ℕ) (lengths : List ℕ) : Type 0 where
   pub count : length lengths ≡ many
-  pub each : (m : ℕ) → m < many → HasBodiesWithin (module_at p m) (slice_index lengths m)
+  pub each : (m : ℕ) → m < many → IsLongestBody (module_at p m) (slice_index lengths m)
 
 -- what is found once for the plan is right: each module's ports, the module that pops each channel, those that share a channel, and
 -- the lengths of bodies
@@ -108,12 +115,11 @@ pub record IsWired (p : Plan) (w : Wiring) : Type 0 where
   pub beside_are : AreBeside p w.hints
   pub bodies_are : AreBodyLengths p (length p.design.modules) w.bodies
 
--- the parts of a stored core fit each other: the core, what is found once for the plan, the unread values, the modules for which an
--- Assign or an Answer may be permitted, and a candidate for each module
+-- and it is told who stands where, what came back unread, and of whom something may be permitted, and there is a candidate for each module
 pub record IsStoredCore (p : Plan) (s : Engine) (ends : List (Option Advance)) (runs : List (Option ModuleRun)) (wiring : Wiring)
-    (unread : List Unread) (asking : List ℕ) (candidates : List Candidate) : Type 0 where
+    (unread : List Unread) (due : Due) (candidates : List Candidate) : Type 0 where
   pub core : IsCore p s ends runs
   pub wired : IsWired p wiring
   pub unread_are : AreUnreadIn p s ends unread
-  pub asking_are : AreAsking p (core_of (design p) (held_in s (over_of ends))) asking
+  pub due_are : AreDue p (core_of (design p) (held_in s (over_of ends))) due
   pub candidate_count : length candidates ≡ length p.design.modules

@@ -8,6 +8,7 @@ ghost use Rattle.timing_bridge.specs.Designs.{design};
 ghost use Rattle.engine_view.specs.Turns.{is_progress};
 ghost use Rattle.engine_view.specs.declared.turn.Timing.TheVariants.{Nothing};
 ghost use Rattle.sim_core.specs.Asking.{Lacks, HasRoom, AreAcross, AreBeside};
+ghost use Rattle.sim_core.specs.Waking.{IsSpread, IsWoken};
 ghost use Rattle.sim_core.specs.Opening.{AreOwnPorts};
 ghost use Rattle.sim_core.specs.Readers.{AreReaders, AreUsers};
 
@@ -89,4 +90,24 @@ pub(crate) fn ask_after(asking: &mut ModuleSet, beside: &[Mask], owner: u32, tim
         Timing::Differs(_) => {}
         Timing::Nothing => asking.remove(owner),
     }
+}
+
+/// Which modules may run after this was done of one. Outcomes may be all that it waits for, or bring values to those beside it.
+#[inline(always)]
+pub(crate) fn wake_after(running: &mut ModuleSet, beside: &[Mask], owner: u32, timing: &Timing)
+    ensures { IsWoken timing.now running.old beside.now owner running.new }
+{
+    match timing {
+        Timing::Answered(_) => spread(running, beside, owner),
+        Timing::Assigned(_) | Timing::Differs(_) | Timing::Nothing => {}
+    }
+}
+
+/// Adds a module to a set, with those beside it.
+#[inline(always)]
+pub(crate) fn spread(set: &mut ModuleSet, beside: &[Mask], owner: u32)
+    ensures { IsSpread set.old beside.now owner set.new }
+{
+    set.add_masks(beside);
+    set.add(owner);
 }

@@ -1,6 +1,6 @@
 //! How many operations the bodies of the modules have.
 ghost use Rattle.std.specs.Prelude.{◌≡◌, ◌<◌, length, slice_index, IfOk};
-ghost use Rattle.sim_core.specs.Runs.{HasBodiesWithin, AreBodyLengths};
+ghost use Rattle.sim_core.specs.Runs.{IsLongestBody, AreBodyLengths};
 
 use flow_design::{Module, Plan};
 use flow_word::{OutOfMemory, Words};
@@ -19,7 +19,7 @@ pub(crate) fn find_body_lengths(alloc: Global, plan: &Plan) -> Result<Words, Out
 
 /// The most operations that a body of the module has.
 fn longest_body(of: &Module) -> u64
-    ensures { HasBodiesWithin of.now result }
+    ensures { IsLongestBody of.now result }
 {
     let mut longest = 0;
     for block in of.blocks.as_slice() {

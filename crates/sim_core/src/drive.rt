@@ -1,11 +1,12 @@
-//! Doing all that is left to do.
-ghost use Rattle.std.specs.Prelude.{◌≡◌, ℕ, ◌<◌, ◌≤◌, ◌⊎◌, true, false, length, slice_index_or, IfOk, OnErr};
+//! All that is left to do.
+ghost use Rattle.std.specs.Prelude.{◌≡◌, ℕ, ◌<◌, ◌≤◌, ◌⊎◌, true, false, length, slice_index_or, IfOk, IfSome, IsNone, OnErr};
 ghost use Rattle.event_timing.specs.Actions.{MayRun};
 ghost use Rattle.event_timing.specs.Agreement.{AllVerified};
-ghost use Rattle.engine_view.specs.Cursors.{IsPassed, turns_left};
+ghost use Rattle.engine_view.specs.Cursors.{turns_left};
 ghost use Rattle.timing_bridge.specs.Designs.{design};
 ghost use Rattle.sim_core.specs.Views.{theory_of};
-ghost use Rattle.sim_core.specs.Drives.{Goes, HasDriven};
+ghost use Rattle.sim_core.specs.Turns.{IsStill};
+ghost use Rattle.sim_core.specs.Drives.{Goes, HasDriven, visits_left};
 
 use crate::machine::Core;
 use crate::visit::Visit;
@@ -14,13 +15,20 @@ use flow_word::{OutOfMemory, Steps};
 use outcome_guard::Guard;
 use std::sync::ledger::Ledger;
 
+/// A module that is visited next, and from which one on others are looked for where nothing is permitted of it.
+#[derive(Clone, Copy)]
+struct Next {
+    owner: u32,
+    from: u32,
+}
+
 impl Core {
     /// Does permitted actions until the core is final, or until the outcome that is found for a query is not the assumed one. No
     /// run may be lent.
     ///
-    /// It visits the hinted modules, at which something may have changed, and else goes round all modules. An Earliest comes only
-    /// after a whole round that found nothing to do. After `OutOfMemory` the actions that were done stay, and some Run is
-    /// permitted: only a Run takes memory.
+    /// It visits the modules of which something may have changed, and where there is none such, those of which something may be
+    /// permitted. An Earliest comes only where there is none of these either. After want of memory the actions so far stay, and a Run is
+    /// permitted, of which it comes.
     pub fn drive<L: Ledger>(&mut self, steps: &mut Steps<L>) -> Result<Guard, OutOfMemory>
         requires { (m : ℕ) → m < length self.old.plan.design.modules → slice_index_or self.old.lent m true ≡ false }
         ensures goes { Goes self.old steps.old self.new steps.new }
@@ -29,22 +37,23 @@ impl Core {
         ensures same { AllVerified (theory_of self.old) → IfOk result (λ guard. guard ≡ Guard.Same) }
     {
         let mut cursor = Cursor::new(self.modules());
+        let mut from = 0;
         loop {
-            match cursor.at() {
-                Some(at) => match self.visit(at, steps)? {
+            match self.next_visit(&mut cursor, from) {
+                Some(next) => match self.visit(next.owner, steps)? {
                     Visit::Acted { again } => {
                         cursor.acted();
-                        self.hint_around(at, again);
-                        self.jump(&mut cursor);
+                        self.hint_around(next.owner, again);
+                        from = 0;
                     }
-                    Visit::Idle => self.pass(&mut cursor),
+                    Visit::Idle => from = next.from,
                     Visit::Differs(query) => return Ok(Guard::Differs(query)),
                 },
                 None => match self.answer_least() {
                     Some((owner, Guard::Same)) => {
                         cursor.acted();
                         self.hint(owner);
-                        self.jump(&mut cursor);
+                        from = 0;
                     }
                     Some((_, Guard::Differs(query))) => return Ok(Guard::Differs(query)),
                     None => return Ok(Guard::Same),
@@ -70,25 +79,55 @@ impl Core {
         }
     }
 
-    /// Sends a cursor to the next hinted module, if there is one.
-    fn jump(&mut self, cursor: &mut Cursor)
-        requires { 0 < cursor.old.count }
+    /// The next hinted module; where there is none, the first from this one on of which something may be permitted. None where
+    /// nothing is permitted of those, but perhaps an Earliest.
+    fn next_visit(&mut self, cursor: &mut Cursor, from: u32) -> Option<Next>
+        requires counted { cursor.old.count ≡ length self.old.plan.design.modules }
         ensures same { self.new ≡ self.old }
         ensures count { cursor.new.count ≡ cursor.old.count }
-        ensures idle { (m : ℕ) → IsPassed cursor.new m → IsPassed cursor.old m }
         ensures no_more { (actions : ℕ) → turns_left actions cursor.new ≤ turns_left actions cursor.old }
+        ensures inside { IfSome result (λ next. next.owner < length self.old.plan.design.modules) }
+        ensures less { IfSome result (λ next. (actions : ℕ)
+            → visits_left actions cursor.new next.from < visits_left actions cursor.old from) }
+        ensures still { IfSome result (λ next. (n : ℕ) → n < next.from → (n < from) ⊎ ((n ≡ next.owner) ⊎ IsStill self.old n)) }
+        ensures none { IsNone result → (n : ℕ) → from ≤ n → n < length self.old.plan.design.modules → IsStill self.old n }
     {
-        let _ = cursor.jump(&mut self.wiring.hints);
+        if let Some(owner) = self.next_hinted(cursor) {
+            return Some(Next { owner, from });
+        }
+        // The core agrees with its plan.
+        let _count = self.modules();
+        let owner = self.next_due(from)?;
+        Some(Next {
+            owner,
+            from: owner + 1,
+        })
     }
 
-    /// Sends a cursor on from a module at which nothing was to be done.
-    fn pass(&mut self, cursor: &mut Cursor)
-        requires { cursor.old.idle < cursor.old.count }
+    /// The next hinted module. It is not hinted any more. None where there is none.
+    fn next_hinted(&mut self, cursor: &mut Cursor) -> Option<u32>
         ensures same { self.new ≡ self.old }
         ensures count { cursor.new.count ≡ cursor.old.count }
-        ensures idle { (m : ℕ) → IsPassed cursor.new m → (m ≡ cursor.old.at) ⊎ IsPassed cursor.old m }
-        ensures less { (actions : ℕ) → turns_left actions cursor.new < turns_left actions cursor.old }
+        ensures no_more { (actions : ℕ) → turns_left actions cursor.new ≤ turns_left actions cursor.old }
+        ensures inside { IfSome result (λ m. m < cursor.old.count) }
+        ensures less { IfSome result (λ m. (actions : ℕ) → turns_left actions cursor.new < turns_left actions cursor.old) }
     {
-        cursor.passed_by(&mut self.wiring.hints);
+        let _at = cursor.at()?;
+        if cursor.jump(&mut self.wiring.hints) {
+            cursor.at()
+        } else {
+            None
+        }
+    }
+
+    /// The first module from this one on of which something may be permitted. Of those before it nothing is, but perhaps an Earliest.
+    fn next_due(&self, from: u32) -> Option<u32>
+        ensures behind { IfSome result (λ m. from ≤ m) }
+        ensures inside { IfSome result (λ m. m < length self.now.plan.design.modules) }
+        ensures before { IfSome result (λ m. (n : ℕ) → from ≤ n → n < m → IsStill self.now n) }
+        ensures none { IsNone result → (n : ℕ) → from ≤ n → n < length self.now.plan.design.modules → IsStill self.now n }
+    {
+        let count = self.modules();
+        self.due.first_from(from, count)
     }
 }

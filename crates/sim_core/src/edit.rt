@@ -44,7 +44,7 @@ impl Core {
         }
         let limit = self.plan.cycles;
         self.unread.truncate(0);
-        self.asking.fill();
+        self.due.fill();
         let from = first_touched(&self.engine.graph, &self.engine.fifos, edit);
         edit_plan(&mut self.plan, edit);
         if change_few(

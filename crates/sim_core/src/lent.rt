@@ -8,6 +8,7 @@ ghost use Rattle.sim_core.specs.Tasks.{IsBurstOf, IsTaskOf};
 ghost use Rattle.sim_core.specs.Views.{theory_of};
 
 use crate::back::record_all;
+use crate::beside::spread;
 use crate::bodies::body_length;
 use crate::machine::Core;
 use crate::post::{Wants, make_mail};
@@ -107,7 +108,9 @@ impl Core {
             short: _,
             mut mail,
         } = burst;
-        self.asking.add(owner);
+        self.due.asking.add(owner);
+        let beside = self.wiring.hints.beside(owner);
+        spread(&mut self.due.running, beside, owner);
         let Some(wanted) = emitted.len().checked_mul(2) else {
             return Err(OutOfMemory);
         };

@@ -8,6 +8,7 @@ mod beside;
 mod bodies;
 mod bursts;
 mod drive;
+mod due;
 mod edit;
 mod laws;
 mod lent;

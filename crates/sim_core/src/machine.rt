@@ -10,6 +10,7 @@ ghost use Rattle.sim_core.specs.Opening.{ports_to};
 ghost use Rattle.sim_core.specs.Readers.{AreReaders};
 ghost use Rattle.sim_core.specs.Views.{theory_of};
 
+use crate::due::Due;
 use crate::unread::Unread;
 use crate::wiring::{Wiring, ports_of};
 use cycle_changes::Changes;
@@ -18,7 +19,6 @@ use event_graph::Candidate;
 use flow_design::{Advance, Plan, Reply};
 use flow_word::{List, Port};
 use module_interp::ModuleRun;
-use module_sets::ModuleSet;
 use run_ahead::Mail;
 use std::alloc::Global;
 use std::marker::Model;
@@ -38,9 +38,9 @@ pub struct Core {
     pub(crate) wiring: Wiring,
     /// For each channel the values that came back unread with the run that pops it.
     pub(crate) unread: List<Unread>,
-    /// The modules for which an Assign or an Answer may be permitted.
-    pub(crate) asking: ModuleSet,
-    /// Memory for a candidate of each module.
+    /// The modules of which something may be permitted.
+    pub(crate) due: Due,
+    /// Room for a candidate of each module.
     pub(crate) candidates: Vec<Candidate>,
     pub(crate) scratch: Scratch,
 }
@@ -85,7 +85,7 @@ impl Drop for Core {
             runs: _runs,
             wiring: _wiring,
             unread: _unread,
-            asking: _asking,
+            due: _due,
             candidates: _candidates,
             scratch: _scratch,
         } = self;
@@ -109,7 +109,7 @@ impl Model for Core {
       lent = lent_of c.runs.items;
     } };
 
-    ghost invariant = { λ c. IsStoredCore c.plan c.engine c.ends.items c.runs.items c.wiring c.unread c.asking c.candidates.items };
+    ghost invariant = { λ c. IsStoredCore c.plan c.engine c.ends.items c.runs.items c.wiring c.unread c.due c.candidates.items };
 }
 
 impl Core {

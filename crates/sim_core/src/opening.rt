@@ -13,6 +13,7 @@ ghost use Rattle.sim_core.specs.Opening.{kind_in, kinds_of};
 ghost use Rattle.sim_core.specs.Opening.{AreFirstRuns, AreLeft, AreOlderRuns};
 ghost use Rattle.sim_core.specs.Views.{theory_of};
 
+use crate::due::Due;
 use crate::machine::{Core, Scratch};
 use crate::unread::nothing_unread;
 use crate::wiring::find_wiring;
@@ -22,7 +23,6 @@ use fifo_table::{FifoTable, TableChannel};
 use flow_design::{Advance, ChannelKind, Plan, copy_plan};
 use flow_word::{List, OutOfMemory, Width, Words, cut};
 use module_interp::ModuleRun;
-use module_sets::ModuleSet;
 use query_log::QueryLog;
 use std::alloc::Global;
 
@@ -84,8 +84,7 @@ fn begin(alloc: Global, plan: Plan, runs: Vec<Option<ModuleRun>>) -> Result<Core
     };
     let wiring = find_wiring(alloc, &plan)?;
     let unread = nothing_unread(alloc, plan.design.channels.len())?;
-    let mut asking = ModuleSet::new(alloc, modules)?;
-    asking.fill();
+    let due = Due::all(alloc, modules)?;
     let candidates = no_candidates(alloc, modules)?;
     Ok(Core {
         plan,
@@ -94,7 +93,7 @@ fn begin(alloc: Global, plan: Plan, runs: Vec<Option<ModuleRun>>) -> Result<Core
         runs,
         wiring,
         unread,
-        asking,
+        due,
         candidates,
         scratch: Scratch::new(alloc),
     })

@@ -8,6 +8,7 @@ ghost use Rattle.sim_core.specs.Views.{theory_of};
 ghost use Rattle.sim_core.specs.Runs.{IsAnswered, IsOut};
 
 use crate::back::emit_mark;
+use crate::beside::spread;
 use crate::bodies::body_length;
 use crate::machine::Core;
 use crate::wiring::ports_of;
@@ -77,15 +78,27 @@ impl Core {
         ensures lent { self.new.lent ≡ self.old.lent }
     {
         match self.try_with(owner, run) {
-            Ok(ran) => Ok(ran),
-            // Memory ran out for the list of replies, though not all replies are there.
+            Ok(true) => Ok(true),
+            Ok(false) => {
+                self.rest(owner);
+                Ok(false)
+            }
+            // The list of replies wanted memory, though not all of them are there.
             Err(OutOfMemory) if !self.may_run(owner) => Ok(false),
             Err(OutOfMemory) => Err(OutOfMemory),
         }
     }
 
-    /// Does a module's Run, if it is permitted, with its run, which is out of the core. Memory may run out even where it is not
-    /// permitted.
+    /// Notes that no Run of a module is permitted.
+    #[inline(always)]
+    fn rest(&mut self, owner: u32)
+        requires { MayRun (design self.old.plan) (theory_of self.old) owner → ⊥ }
+        ensures { self.new ≡ self.old }
+    {
+        self.due.running.remove(owner);
+    }
+
+    /// Runs a module by its own run; memory may be wanted even where no Run is permitted.
     #[inline(always)]
     fn try_with(&mut self, owner: u32, run: &mut ModuleRun) -> Result<bool, OutOfMemory>
         requires out { IsOut self.old owner run.old }
@@ -187,8 +200,10 @@ impl Core {
         ensures plan { self.new.plan ≡ self.old.plan }
         ensures lent { self.new.lent ≡ self.old.lent }
     {
-        self.asking.add(owner);
-        // Each operation of a body makes at most one query in a step.
+        self.due.asking.add(owner);
+        let beside = self.wiring.hints.beside(owner);
+        spread(&mut self.due.running, beside, owner);
+        // Each operation of a body makes one query of a step at most.
         self.engine.make_room(
             owner,
             ports_of(&self.wiring.ports, owner),

@@ -50,7 +50,7 @@ impl Core {
     {
         // This brings in what a core always keeps: it agrees with its plan.
         let _count = self.modules();
-        if !self.asking.has(owner) {
+        if !self.due.asking.has(owner) {
             return false;
         }
         match self.time(owner, steps) {

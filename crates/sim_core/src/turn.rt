@@ -9,7 +9,7 @@ ghost use Rattle.sim_core.specs.Views.{theory_of};
 ghost use Rattle.sim_core.specs.Turns.{HasTurned, HasAnsweredLeast, IsFirstEarliest};
 ghost use Rattle.sim_core.specs.Candidates.{AreCandidates};
 
-use crate::beside::ask_after;
+use crate::beside::{ask_after, spread, wake_after};
 use crate::machine::Core;
 use engine_view::Timing;
 use event_graph::{Candidate, Graph};
@@ -33,7 +33,8 @@ impl Core {
         let limit = self.plan.cycles;
         let timing = self.engine.time_first(owner, limit, steps);
         let beside = self.wiring.hints.beside(owner);
-        ask_after(&mut self.asking, beside, owner, &timing);
+        ask_after(&mut self.due.asking, beside, owner, &timing);
+        wake_after(&mut self.due.running, beside, owner, &timing);
         timing
     }
 
@@ -49,7 +50,12 @@ impl Core {
     {
         self.engine.assign_first(owner, cycle, steps);
         let beside = self.wiring.hints.beside(owner);
-        ask_after(&mut self.asking, beside, owner, &Timing::Assigned(cycle));
+        ask_after(
+            &mut self.due.asking,
+            beside,
+            owner,
+            &Timing::Assigned(cycle),
+        );
     }
 
     /// Does the Earliest of the first module with the least cycle, and answers that module and what was found. `None` where no step
@@ -81,9 +87,15 @@ impl Core {
         ensures plan { self.new.plan ≡ self.old.plan }
         ensures lent { self.new.lent ≡ self.old.lent }
     {
-        self.asking.clear();
+        self.due.asking.clear();
         let beside = self.wiring.hints.beside(owner);
-        ask_after(&mut self.asking, beside, owner, &Timing::Answered(cycle));
+        ask_after(
+            &mut self.due.asking,
+            beside,
+            owner,
+            &Timing::Answered(cycle),
+        );
+        spread(&mut self.due.running, beside, owner);
         self.engine.answer_first(owner, cycle)
     }
 }

@@ -69,7 +69,9 @@ impl Core {
         ensures no_memory { OnErr result (Goes self.old steps.old self.new steps.new) }
         ensures permitted { OnErr result (MayRun (design self.new.plan) (theory_of self.new) owner) }
     {
-        if self.is_over(owner) {
+        // The core agrees with its plan.
+        let _count = self.modules();
+        if !self.due.running.has(owner) {
             return Ok(None);
         }
         let Some(mut run) = self.take_out(owner) else {
@@ -207,7 +209,7 @@ impl Core {
     {
         // This brings in what a core always keeps: it agrees with its plan.
         let _count = self.modules();
-        if !self.asking.has(owner) {
+        if !self.due.asking.has(owner) {
             return Visit::Idle;
         }
         match self.time(owner, steps) {

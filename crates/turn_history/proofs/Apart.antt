@@ -1,5 +1,5 @@
 -- What is done at one module changes nothing for another that shares no channel with it.
-use Rattle.std.proofs.Common.{◌≡◌, refl, sym, ap, ap₂, ◌∙◌, ℕ, zero, suc, ◌+◌, ◌-◌, ◌<◌, ◌≤◌, arith}
+use Rattle.std.proofs.Common.{◌≡◌, refl, sym, ap, ap₂, subst, ◌∙◌, ℕ, zero, suc, ◌+◌, ◌-◌, ◌<◌, ◌≤◌, arith}
 use Rattle.std.proofs.Common.{Bool, true, cond, ◌||◌, inl, inr, List, [], ◌∷◌, Option, Some, None}
 use Rattle.std.specs.Prelude.{ltb}
 use Rattle.std.proofs.lemmas.Bool.{cases_Bool, cond-true, cond-false}
@@ -228,20 +228,23 @@ answered_assigns {S} d limit x m c there = record {
 -- ---- what another module may do
 
 module _ {S : Type 0} (d : Design S) (limit : ℕ) (x : Core S) (m n : ℕ) (other : n ≡ m → ⊥) where
-  -- an Assign or an Answer of the one changes nothing for another with which it shares no channel
-  pub timing_apart : AreApart d m n → may_time d limit (after_timing d limit x m) n ≡ may_time d limit x n
-  unfolding after_timing
-  timing_apart apart =
+  -- what is said of a core with the same first step of another module, and the same steps at the other ends of its channels
+  IsAlike : (Core S → Type 0) → Type 0
+  IsAlike P = (y : Core S) → SameFirst d x y n
+      → Each (λ a. SameSteps d x y (d.owner (other_side a.side) a.channel)) (d.accesses n (x.state n (x.timed n)))
+      → y.verified n (x.timed n) ≡ x.verified n (x.timed n) → P y
+
+  after_apart : (P : Core S → Type 0) → IsAlike P → AreApart d m n → P (after_timing d limit x m)
+  unfolding after_timing IsAlike
+  after_apart P alike apart =
       elim (cases_Bool (may_assign d limit x m)) [
-        | inl t ↦
-            ap (λ (y : Core S). may_time d limit y n) (cond-true (may_assign d limit x m) _ _ t)
-            ∙ timing_same d x (after_assign x m (cycle_found d x m)) n (assign_first d x m (cycle_found d x m) n other)
-            (opposite (after_assign x m (cycle_found d x m)) (assign_steps d x m (cycle_found d x m))) refl limit
-        | inr f ↦
-            ap (λ (y : Core S). may_time d limit y n) (cond-false (may_assign d limit x m) _ _ f)
-            ∙ timing_same d x (after_answer d x m (cycle_found d x m)) n (answer_first d x m (cycle_found d x m) n)
+        | inl t ↦ subst P (sym (cond-true (may_assign d limit x m) _ _ t))
+            (alike (after_assign x m (cycle_found d x m)) (assign_first d x m (cycle_found d x m) n other)
+            (opposite (after_assign x m (cycle_found d x m)) (assign_steps d x m (cycle_found d x m))) refl)
+        | inr f ↦ subst P (sym (cond-false (may_assign d limit x m) _ _ f))
+            (alike (after_answer d x m (cycle_found d x m)) (answer_first d x m (cycle_found d x m) n)
             (opposite (after_answer d x m (cycle_found d x m)) (λ w o. answer_steps d x m (cycle_found d x m) w))
-            (put_at_other x.verified m (x.timed m) true n (x.timed n) (λ e f. other e)) limit
+            (put_at_other x.verified m (x.timed m) true n (x.timed n) (λ e f. other e)))
       ]
     where
       opposite : (y : Core S) → ((w : ℕ) → (w ≡ m → ⊥) → SameSteps d x y w)
@@ -250,12 +253,34 @@ module _ {S : Type 0} (d : Design S) (limit : ℕ) (x : Core S) (m n : ℕ) (oth
           each_of _ _ (d.accesses n (x.state n (x.timed n)))
           (λ a other. same (d.owner (other_side a.side) a.channel) other) (apart (x.state n (x.timed n)))
 
-  -- nor does its Run, whatever they share
-  pub run_apart : ((w : ℕ) → x.timed w ≤ x.emitted w) → may_time d limit (after_run d x m) n ≡ may_time d limit x n
-  run_apart within =
-      timing_same d x (after_run d x m) n (run_first d x m within n other)
+  after_run_alike : (P : Core S → Type 0) → IsAlike P → ((w : ℕ) → x.timed w ≤ x.emitted w) → P (after_run d x m)
+  unfolding IsAlike
+  after_run_alike P alike within =
+      alike (after_run d x m) (run_first d x m within n other)
       (each_all _ (d.accesses n (x.state n (x.timed n)))
-      (λ a. run_steps d x m within (d.owner (other_side a.side) a.channel))) (run_verified d x m n (x.timed n) other) limit
+      (λ a. run_steps d x m within (d.owner (other_side a.side) a.channel))) (run_verified d x m n (x.timed n) other)
+
+  same_timing : IsAlike (λ y. may_time d limit y n ≡ may_time d limit x n)
+  unfolding IsAlike
+  same_timing y f others same = timing_same d x y n f others same limit
+
+  same_candidate : IsAlike (λ y. candidate d (view d y) n ≡ candidate d (view d x) n)
+  unfolding IsAlike
+  same_candidate y f others same = candidate_same d x y n f others
+
+  -- an Assign or an Answer of the one changes nothing for another with which it shares no channel
+  pub timing_apart : AreApart d m n → may_time d limit (after_timing d limit x m) n ≡ may_time d limit x n
+  timing_apart apart = after_apart (λ y. may_time d limit y n ≡ may_time d limit x n) same_timing apart
+
+  pub candidate_apart : AreApart d m n → candidate d (view d (after_timing d limit x m)) n ≡ candidate d (view d x) n
+  candidate_apart apart = after_apart (λ y. candidate d (view d y) n ≡ candidate d (view d x) n) same_candidate apart
+
+  -- nor does its Run, whatever they share
+  run_apart : ((w : ℕ) → x.timed w ≤ x.emitted w) → may_time d limit (after_run d x m) n ≡ may_time d limit x n
+  run_apart within = after_run_alike (λ y. may_time d limit y n ≡ may_time d limit x n) same_timing within
+
+  candidate_run_apart : ((w : ℕ) → x.timed w ≤ x.emitted w) → candidate d (view d (after_run d x m)) n ≡ candidate d (view d x) n
+  candidate_run_apart within = after_run_alike (λ y. candidate d (view d y) n ≡ candidate d (view d x) n) same_candidate within
 
 module _ {S : Type 0} (d : Design S) (h : Trace S) (i : IsDesign d) (history : IsHistory d h) (limit m n : ℕ) (other : n ≡ m → ⊥) where
   -- nor do any number of them
@@ -266,3 +291,11 @@ module _ {S : Type 0} (d : Design S) (h : Trace S) (i : IsDesign d) (history : I
       let there = acts_agree d h i history limit x agreed (Run m) z (may, is) in
       runs_apart z there count y more
       ∙ ap (λ (q : Core S). may_time d limit q n) is ∙ run_apart d limit x m n other agreed.time.within
+
+  pub candidates_apart : (x : Core S) → IsAgreed d h limit x → (count : ℕ) (y : Core S) → ActsAll d limit x (runs count m) y
+      → candidate d (view d y) n ≡ candidate d (view d x) n
+  candidates_apart x agreed zero y is = ap (λ (z : Core S). candidate d (view d z) n) is
+  candidates_apart x agreed (suc count) y (z, (may, is), more) =
+      let there = acts_agree d h i history limit x agreed (Run m) z (may, is) in
+      candidates_apart z there count y more
+      ∙ ap (λ (q : Core S). candidate d (view d q) n) is ∙ candidate_run_apart d limit x m n other agreed.time.within

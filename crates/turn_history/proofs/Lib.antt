@@ -6,3 +6,4 @@ pub mod Lending
 pub mod Legal
 pub mod Plans
 pub mod Apart
+pub mod RunApart

@@ -10,7 +10,7 @@ use Rattle.engine_view.specs.declared.engine.Engine.{Engine}
 use Rattle.engine_view.specs.Engines.{held_in}
 use Rattle.sim_core.specs.Opening.{kinds_of, AreFirstRuns}
 use Rattle.sim_core.specs.Runs.{over_of}
-use Rattle.sim_core.proofs.Asking.{asking_all}
+use Rattle.sim_core.proofs.Waking.{due_all}
 use Rattle.sim_core.proofs.Beginning as beginning
 use Rattle.sim_core.proofs.opening.begin.Goals as goal
 
@@ -44,8 +44,8 @@ invariant_of-result c =
           (c.in_ok-credits.ensures.items_if_clones_equal (λ x e. e));
       wired = c.in_ok-wiring.ensures;
       unread_are = c.in_ok-unread.ensures _ _;
-      asking_are = asking_all c.args.plan _ _ (let a = c.in_ok-asking.ensures.room in let e = c.fill.ensures.room in omega arith)
-          c.fill.ensures.full;
+      due_are = due_all c.args.plan _ c.in_ok-due.due (let a = c.in_ok-due.ensures.asking_room in omega arith)
+          c.in_ok-due.ensures.asking (let a = c.in_ok-due.ensures.running_room in omega arith) c.in_ok-due.ensures.running;
       candidate_count = c.in_ok-candidates.ensures ∙ count;
     }
 

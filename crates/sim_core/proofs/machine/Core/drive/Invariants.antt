@@ -1,10 +1,9 @@
-use Rattle.engine_view.specs.Cursors.{turns_left}
-use Rattle.sim_core.specs.Drives.{IsGoingRound}
+use Rattle.sim_core.specs.Drives.{IsGoingRound, visits_left}
 use Rattle.sim_core.proofs.Rounds.{to_do}
 use Rattle.sim_core.proofs.machine.Core.drive.Given as goal
 
-abbrev pub invariant-loop-at : goal.invariant-loop-at
-invariant-loop-at g l = IsGoingRound l.initial.self l.self l.initial.steps l.steps l.cursor
+abbrev pub invariant-loop-next : goal.invariant-loop-next
+invariant-loop-next g l = IsGoingRound l.initial.self l.self l.initial.steps l.steps l.cursor l.from
 
-abbrev pub decreases-loop-at : goal.decreases-loop-at
-decreases-loop-at g l = turns_left (to_do l.self) l.cursor
+abbrev pub decreases-loop-next : goal.decreases-loop-next
+decreases-loop-next g l = visits_left (to_do l.self) l.cursor l.from

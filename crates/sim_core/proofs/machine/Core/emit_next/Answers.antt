@@ -61,6 +61,10 @@ pub ports_of-requires : goal.ports_of-requires
 ports_of-requires c =
     let a = rw (← c.self.view_is) at c.requires.out.inside in let n = c.self.invariant.wired.ports_are.count in omega arith
 
+pub beside-beside-requires : goal.beside-beside-requires
+beside-beside-requires c =
+    let a = rw (← c.self.view_is) at c.requires.out.inside in let n = c.self.invariant.wired.beside_are.count in omega arith
+
 pub body_length-requires : goal.body_length-requires
 body_length-requires c =
     let a = rw (← c.self.view_is) at c.requires.out.inside in let n = c.self.invariant.wired.bodies_are.count in omega arith
@@ -76,7 +80,8 @@ make_room-requires c =
 pub invariant_of-self : goal.invariant_of-self
 invariant_of-self c =
     roomed.stored_roomed c.self.invariant c.args.owner (rw (← c.self.view_is) at c.requires.out.inside) _ c.ports_of.ensures
-    c.make_room.new.self c.make_room.ensures.same c.make_room.ensures.room c.add.new.self c.add.ensures
+    c.make_room.new.self c.make_room.ensures.same c.make_room.ensures.room
+    (record { asking = c.add.new.self; running = c.spread.new.set }) c.add.ensures (rw c.beside-beside.ensures at c.spread.ensures)
 
 pub emit_mark-requires : goal.emit_mark-requires
 emit_mark-requires c =
@@ -86,7 +91,8 @@ pub invariant_of-self-in_err-emit_mark : goal.invariant_of-self-in_err-emit_mark
 invariant_of-self-in_err-emit_mark c =
     rw (c.in_err-emit_mark.ensures.unchanged, c.in_err-emit_mark.ensures.no_end)
     (roomed.stored_roomed c.self.invariant c.args.owner (rw (← c.self.view_is) at c.requires.out.inside) _ c.ports_of.ensures
-    c.make_room.new.self c.make_room.ensures.same c.make_room.ensures.room c.add.new.self c.add.ensures)
+    c.make_room.new.self c.make_room.ensures.same c.make_room.ensures.room
+    (record { asking = c.add.new.self; running = c.spread.new.set }) c.add.ensures (rw c.beside-beside.ensures at c.spread.ensures))
 
 -- what the core is where the run had no memory
 pub returns-in_err-emit_mark-clause-out : goal.returns-in_err-emit_mark-clause-out
@@ -119,7 +125,8 @@ invariant_of-self-2 c =
     c.make_room.ensures.room c.emit_mark.new.engine c.emit_mark.new.ends.items 1 acts in
     roomed.stored_ran c.self.invariant c.args.owner (inside at) _ c.ports_of.ensures (t at) c.make_room.ensures.same
     c.make_room.ensures.room c.emit_mark.new.engine c.emit_mark.new.ends.items 1 acts (runs at)
-    (c.emit_mark.ensures.core (p at) (runs at) (ready at)) c.self.inside.unread unread c.add.new.self c.add.ensures
+    (c.emit_mark.ensures.core (p at) (runs at) (ready at)) c.self.inside.unread unread
+    (record { asking = c.add.new.self; running = c.spread.new.set }) c.add.ensures (rw c.beside-beside.ensures at c.spread.ensures)
 
 pub returns-clause-acts : goal.returns-clause-acts
 returns-clause-acts c =

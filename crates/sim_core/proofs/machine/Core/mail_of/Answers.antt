@@ -25,7 +25,7 @@ invariant_of-self c = record {
   core = c.self.invariant.core;
   wired = c.self.invariant.wired;
   unread_are = c.make_mail.ensures.left _ _ c.self.invariant.unread_are;
-  asking_are = c.self.invariant.asking_are;
+  due_are = c.self.invariant.due_are;
   candidate_count = c.self.invariant.candidate_count;
 }
 

@@ -1,5 +1,3 @@
-use Rattle.std.proofs.Common.{sym, ◌∙◌}
-use Rattle.std.proofs.lemmas.Bool.{both_ways}
 use Rattle.std.proofs.lemmas.Result.{IfOk-weaker, on_err_weaker}
 use Rattle.sim_core.proofs.Lending.{IsRoundTrip}
 use Rattle.sim_core.proofs.Lending as lending
@@ -11,8 +9,10 @@ trip : (g : Over) (c : After-put_back g) → IsRoundTrip c.args.self.now c.take_
     c.put_back.new.self c.args.owner
 trip g c = record { out = c.in-Some.ensures.lent; here = c.in-Some.ensures.here; home = c.put_back.ensures }
 
-pub returns-then-is_over-clause-none : goal.returns-then-is_over-clause-none
-returns-then-is_over-clause-none g c = λ e may. both_ways _ may.lives (sym c.is_over.ensures ∙ c.if-is_over.true)
+pub returns-then-not-has-clause-none : goal.returns-then-not-has-clause-none
+returns-then-not-has-clause-none g c = λ e may.
+    c.self.invariant.due_are.running_are.none c.args.owner (rw (← c.self.view_is) at c.requires.owner)
+    (c.has.ensures.none c.if-not-has.true) (rw (← c.self.view_is) at may)
 
 pub returns-clause-some : goal.returns-clause-some
 returns-clause-some g c =

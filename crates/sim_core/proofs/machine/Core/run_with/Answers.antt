@@ -13,3 +13,9 @@ pub returns-in-Err-2-clause-permitted : goal.returns-in-Err-2-clause-permitted
 returns-in-Err-2-clause-permitted c =
     subst (λ (v : CoreView). MayRun (design v.plan) (theory_of v) c.args.owner) c.in-Err-2.ensures.no_memory
     (c.may_run.ensures.some c.if-not-may_run.false)
+
+pub rest-requires : goal.rest-requires
+rest-requires c =
+    let none = c.in-Ok-false.field-0-test in
+    subst (λ (v : CoreView). MayRun (design v.plan) (theory_of v) c.args.owner → ⊥) (sym (c.in-Ok-false.ensures.unchanged none))
+    (c.in-Ok-false.ensures.not_permitted none)

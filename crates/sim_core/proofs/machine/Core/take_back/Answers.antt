@@ -14,6 +14,7 @@ use Rattle.sim_core.specs.Returned.{AreReturned, core_in}
 use Rattle.sim_core.specs.Runs.{over_of, IsCore}
 use Rattle.sim_core.specs.Views.{CoreView, theory_of}
 use Rattle.sim_core.proofs.Asking.{asking_more}
+use Rattle.sim_core.proofs.Waking.{waking_more}
 use Rattle.sim_core.proofs.Lends as lends
 use Rattle.sim_core.proofs.QueryRoom.{bodies_told}
 use Rattle.sim_core.proofs.Returning as returning
@@ -62,6 +63,10 @@ pub ports_of-requires : goal.ports_of-requires
 ports_of-requires c =
     let a = rw (← c.self.view_is) at c.requires.owner in let n = c.self.invariant.wired.ports_are.count in omega arith
 
+pub beside-beside-requires : goal.beside-beside-requires
+beside-beside-requires c =
+    let a = rw (← c.self.view_is) at c.requires.owner in let n = c.self.invariant.wired.beside_are.count in omega arith
+
 pub body_length-requires : goal.body_length-requires
 body_length-requires c =
     let a = rw (← c.self.view_is) at c.requires.owner in let n = c.self.invariant.wired.bodies_are.count in omega arith
@@ -79,15 +84,20 @@ invariant_of-self c = record {
   core = c.self.invariant.core;
   wired = c.self.invariant.wired;
   unread_are = c.self.invariant.unread_are;
-  asking_are = asking_more c.self.inside.plan c.self.invariant.core.fits _ c.self.inside.asking c.self.invariant.asking_are
-      c.add.new.self c.args.owner c.add.ensures;
+  due_are = record {
+    asking_are = asking_more c.self.inside.plan c.self.invariant.core.fits _ c.self.inside.due.asking
+        c.self.invariant.due_are.asking_are c.add.new.self c.args.owner c.add.ensures;
+    running_are = waking_more c.self.inside.plan _ c.self.inside.due.running c.self.invariant.due_are.running_are
+        c.beside-beside.result.now c.args.owner c.spread.new.set c.spread.ensures;
+  };
   candidate_count = c.self.invariant.candidate_count;
 }
 
 pub invariant_of-self-in_err-make_room_for : goal.invariant_of-self-in_err-make_room_for
 invariant_of-self-in_err-make_room_for c =
     roomed.stored_roomed c.self.invariant c.args.owner (rw (← c.self.view_is) at c.requires.owner) _ c.ports_of.ensures
-    c.make_room_for.new.self c.make_room_for.ensures.same c.make_room_for.ensures.room c.add.new.self c.add.ensures
+    c.make_room_for.new.self c.make_room_for.ensures.same c.make_room_for.ensures.room
+    (record { asking = c.add.new.self; running = c.spread.new.set }) c.add.ensures (rw c.beside-beside.ensures at c.spread.ensures)
 
 pub record_all-requires-clause-returned : goal.record_all-requires-clause-returned
 record_all-requires-clause-returned c =
@@ -110,7 +120,7 @@ invariant_of-self-2 c =
     (c.keep_unread.ensures (core_values (design (p there)) (core_in (p there) u ends2)) (length (p there).design.channels) unread
     (λ channel within mine. lends.left_next core2 (inside there)
     (c.record_all.ensures.left (p there) (runs there) last back) channel))
-    c.add.new.self c.add.ensures
+    (record { asking = c.add.new.self; running = c.spread.new.set }) c.add.ensures (rw c.beside-beside.ensures at c.spread.ensures)
 
 pub put_back-requires : goal.put_back-requires
 put_back-requires c =

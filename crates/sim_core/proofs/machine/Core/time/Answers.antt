@@ -14,8 +14,9 @@ pub invariant_of-self : goal.invariant_of-self
 invariant_of-self g c =
     timed.stored c.self.invariant c.args.owner (rw (← c.self.view_is) at c.requires.owner) c.time_first-timing.new.self
     c.time_first-timing.result c.time_first-timing.ensures.done c.time_first-timing.ensures.room c.time_first-timing.ensures.kinds
-    c.time_first-timing.ensures.less c.ask_after.new.asking c.ask_after.ensures.room c.ask_after.ensures.others c.ask_after.ensures.own
-    c.ask_after.ensures.acted (rw c.beside-beside.ensures at c.ask_after.ensures.beside)
+    c.time_first-timing.ensures.less (record { asking = c.ask_after.new.asking; running = c.wake_after.new.running })
+    c.ask_after.ensures.room c.ask_after.ensures.others c.ask_after.ensures.own c.ask_after.ensures.acted
+    (rw c.beside-beside.ensures at c.ask_after.ensures.beside) (rw c.beside-beside.ensures at c.wake_after.ensures)
 
 pub beside-beside-requires : goal.beside-beside-requires
 beside-beside-requires g c =

@@ -17,7 +17,7 @@ use Rattle.sim_core.proofs.machine.Core.time_once.Goals as goal
 pub returns-then-not-has-clause-timed : goal.returns-then-not-has-clause-timed
 returns-then-not-has-clause-timed g c =
     let inside = rw (← c.self.view_is) at c.requires in
-    let none = c.self.invariant.asking_are.idle c.args.owner inside (c.has.ensures.none c.if-not-has.true) in (
+    let none = c.self.invariant.due_are.asking_are.idle c.args.owner inside (c.has.ensures.none c.if-not-has.true) in (
       refl,
       refl,
       subst (λ (v : CoreView). IsIdle (design v.plan) v.plan.cycles (theory_of v) c.args.owner) c.self.view_is

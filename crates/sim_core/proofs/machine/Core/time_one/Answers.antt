@@ -20,4 +20,4 @@ pub returns-then-not-has-clause-none : goal.returns-then-not-has-clause-none
 returns-then-not-has-clause-none g c = λ e.
     let inside = rw (← c.self.view_is) at c.requires.owner in
     subst (λ (v : CoreView). IsUntimable v c.args.owner) c.self.view_is
-    (c.self.invariant.asking_are.idle c.args.owner inside (c.has.ensures.none c.if-not-has.true))
+    (c.self.invariant.due_are.asking_are.idle c.args.owner inside (c.has.ensures.none c.if-not-has.true))

@@ -1,0 +1,71 @@
+//! Of which modules something may be permitted.
+ghost use Rattle.std.specs.Prelude.{◌≡◌, ℕ, ◌<◌, ◌≤◌, ◌⊎◌, length, IfOk, IfSome, IsNone};
+ghost use Rattle.module_sets.specs.Sets.{capacity};
+ghost use Rattle.sim_core.specs.Asking.{Lacks};
+
+use flow_word::OutOfMemory;
+use module_sets::ModuleSet;
+use std::alloc::Global;
+
+/// The modules of which something may be permitted: of the others nothing is, but perhaps an Earliest.
+#[derive(Drop)]
+pub(crate) struct Due {
+    /// Those of which an Assign or an Answer may be permitted.
+    pub(crate) asking: ModuleSet,
+    /// Those of which a Run may be permitted.
+    pub(crate) running: ModuleSet,
+}
+
+impl Due {
+    ghost use Rattle.sim_core.specs.Waking.{IsFull, IsOutside};
+
+    /// All of so many modules.
+    pub(crate) fn all(alloc: Global, count: u32) -> Result<Due, OutOfMemory>
+        ensures asking_room { IfOk result (λ due. count ≤ capacity due.asking) }
+        ensures asking { IfOk result (λ due. IsFull due.asking) }
+        ensures running_room { IfOk result (λ due. count ≤ capacity due.running) }
+        ensures running { IfOk result (λ due. IsFull due.running) }
+    {
+        let mut due = Due {
+            asking: ModuleSet::new(alloc, count)?,
+            running: ModuleSet::new(alloc, count)?,
+        };
+        due.fill();
+        Ok(due)
+    }
+
+    /// All modules for which there is room.
+    pub(crate) fn fill(&mut self)
+        ensures asking_room { length self.new.asking ≡ length self.old.asking }
+        ensures asking { IsFull self.new.asking }
+        ensures running_room { length self.new.running ≡ length self.old.running }
+        ensures running { IsFull self.new.running }
+    {
+        self.asking.fill();
+        self.running.fill();
+    }
+
+    /// The first of them from this one on, below a count. None where there is none.
+    pub(crate) fn first_from(&self, from: u32, count: u32) -> Option<u32>
+        ensures first { IfSome result (λ m. from ≤ m) }
+        ensures below { IfSome result (λ m. m < count) }
+        ensures before { IfSome result (λ m. (n : ℕ) → from ≤ n → n < m → IsOutside self.now n) }
+        ensures none { IsNone result → (n : ℕ) → from ≤ n → n < count → IsOutside self.now n }
+    {
+        let asked = first_or(&self.asking, from, count);
+        let ran = first_or(&self.running, from, count);
+        let first = if asked < ran { asked } else { ran };
+        if first < count { Some(first) } else { None }
+    }
+}
+
+/// The first module of a set from this one on, and this number where there is none.
+fn first_or(set: &ModuleSet, from: u32, none: u32) -> u32
+    ensures behind { (result ≡ none) ⊎ (from ≤ result) }
+    ensures before { (n : ℕ) → from ≤ n → n < result → Lacks set.now n }
+{
+    match set.first_from(from) {
+        Some(first) => first,
+        None => none,
+    }
+}

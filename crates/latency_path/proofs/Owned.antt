@@ -1,19 +1,17 @@
 -- The modules at the ends of channels.
-use Rattle.std.proofs.Common.{◌≡◌, ℕ, ◌+◌, ◌-◌, ◌<◌, Option, Some, List, [], ◌∷◌, length, get_or, sym, ◌∙◌, ap, arith, zero-add, map, ◌++◌}
+use Rattle.std.proofs.Common.{◌≡◌, ℕ, ◌-◌, ◌<◌, Option, Some, List, length, get_or, sym, ◌∙◌, ap, arith, zero-add}
 use Rattle.std.specs.Prelude.{slice_index}
-use Rattle.std.specs.List.{range_with_len, position_or_len}
-use Rattle.std.proofs.lemmas.List.FromFn.{length-map-range_with_len, get_or-map-range_with_len, map-range_with_len_more}
+use Rattle.std.proofs.lemmas.List.FromFn.{length-map-range_with_len, get_or-map-range_with_len}
 use Rattle.flow_word.specs.declared.access.Port.{Port}
 use Rattle.flow_word.specs.declared.access.Side.{Side}
 use Rattle.flow_word.specs.declared.access.Side.TheVariants.{Pop, Push}
 use Rattle.flow_design.specs.declared.plan.Plan.{Plan}
 use Rattle.flow_design.specs.declared.design.Channel.{Channel}
-use Rattle.flow_design.specs.declared.design.Module.{Module}
-use Rattle.flow_design.specs.StaticRules.{uses}
 use Rattle.flow_design.specs.Plans.{kind_at, delay_of, no_channel}
-use Rattle.std.proofs.lemmas.List.{get_or_default}
+use Rattle.std.proofs.lemmas.List.{ext_get_or, get_or_default}
 use Rattle.lockstep_defs.specs.Ports.{owner}
 use Rattle.depth_order.specs.declared.link.Link.{Link}
+use Rattle.sim_core.specs.Readers.{AreUsers}
 use Rattle.latency_path.specs.Owners.{owners}
 use Rattle.latency_path.specs.Walks.{before_link}
 
@@ -51,20 +49,13 @@ before_push p l a poppers e s inside known =
 
 -- ---- the table
 
--- one channel more
-pub owners_more : (p : Plan) (side : Side) (n : ℕ) (found new : List ℕ) (o : ℕ)
-    → found ≡ map (λ f. owner p (record { side = side; channel = f })) (range_with_len 0 n) → new ≡ found ++ o ∷ []
-    → o ≡ owner p (record { side = side; channel = n })
-    → new ≡ map (λ f. owner p (record { side = side; channel = f })) (range_with_len 0 (n + 1))
-owners_more p side n found new o so_far added is =
-    added ∙ (ap (λ (k : ℕ). found ++ k ∷ []) is ∙ (ap (λ (xs : List ℕ). xs ++ owner p (record { side = side; channel = n }) ∷ []) so_far
-    ∙ sym (map-range_with_len_more (λ f. owner p (record { side = side; channel = f })) 0 n n (omega arith))))
+-- where each channel has its module, they are these
+pub owned : (p : Plan) (side : Side) (users : List ℕ) → AreUsers p side users → users ≡ owners p side
+owned p side users are =
+    ext_get_or 0 users (owners p side) (are.count ∙ sym (owners_count p side))
+    (λ f l. are.each f l ∙ sym (owner_at p side f (let n = are.count in omega arith)))
 
 -- the channel at a place
 pub channel_is : (all slice : List Channel) (f : ℕ) (d : Channel) → f < length all → slice ≡ all → get_or slice f d
     ≡ get_or all f no_channel
 channel_is all slice f d l same = ap (λ (cs : List Channel). get_or cs f d) same ∙ get_or_default all f d no_channel l
-
-pub owner_is : (p : Plan) (a : Port) (modules : List Module) → modules ≡ p.design.modules → position_or_len (uses a) modules ≡ owner p a
-unfolding owner
-owner_is p a modules e = ap (position_or_len (uses a)) e

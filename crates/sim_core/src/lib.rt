@@ -33,5 +33,6 @@ pub use flow_design::Plan;
 pub use laws::{every_order, steps_are_own_marks};
 pub use machine::Core;
 pub use outcome_guard::{Guard, Query};
+pub use readers::find_users;
 pub use records::{edits_set_few, records_are_answers};
 pub use run_ahead::{Burst, Mail, Task, work};

@@ -49,8 +49,10 @@ fn note_module(of: &Module, side: Side, none: u32, owner: u32, users: &mut [u32]
     }
 }
 
-/// The module that pops, or pushes, each channel of a plan; the number of modules where none does.
-pub(crate) fn find_users(alloc: Global, plan: &Plan, side: Side) -> Result<Vec<u32>, OutOfMemory>
+/// The module that pops, or pushes, each channel of a plan, the first if there were more; the number of modules where none does.
+///
+/// It goes once through the operations of all modules, and takes memory for a number of each channel. An error leaves nothing.
+pub fn find_users(alloc: Global, plan: &Plan, side: Side) -> Result<Vec<u32>, OutOfMemory>
     requires { FitsEngine plan.now }
     ensures { IfOk result (λ users. AreUsers plan.now side users.items) }
 {

@@ -66,7 +66,8 @@ module _ (candidates leasts : List Candidate) (h : HasLeasts candidates leasts) 
       → cycle_of (get_or candidates k d) ≡ None
   none_at_all none k d l =
       ap cycle_of (get_or_default candidates k d Nothing l)
-      ∙ by (get_or candidates k Nothing) (λ other at. let (e, (is, (least, there))) = least_at k other at in none (k / 32) e (omega arith) there is)
+      ∙ by (get_or candidates k Nothing) (λ other at.
+      let (e, (is, (least, there))) = least_at k other at in none (k / 32) e (omega arith) there is)
     where
       by : (a : Candidate) → ((other : ℕ) → a ≡ At other → ⊥) → cycle_of a ≡ None
       by (At other) f = absurd (f other refl)

@@ -46,6 +46,9 @@ impl CandidateList {
         ensures { self.new ≡ slice_set self.old owner candidate }
     {
         let at = owner as usize;
+        if self.candidates[at] == candidate {
+            return;
+        }
         self.candidates[at] = candidate;
         let block = at / BLOCK;
         let cycle = least_of(&self.candidates, block);

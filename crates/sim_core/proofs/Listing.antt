@@ -98,7 +98,8 @@ module _ (v w : CoreView) (due : Due) (candidates : List Candidate) (are : AreLi
     (fewer : (n : ℕ) → n < length v.plan.design.modules → IsListed now n → IsListed due n) where
   module _ (own : Has now.asking m)
       (spread : (n : ℕ) → n < length v.plan.design.modules → Lacks now.asking n → HasMask (slice_index_or beside m []) n → ⊥) where
-    listed_timed : (y : Core ModuleState) → y ≡ after_timing (design v.plan) v.plan.cycles (theory_of v) m → AreListed v.plan y now candidates
+    listed_timed : (y : Core ModuleState) → y ≡ after_timing (design v.plan) v.plan.cycles (theory_of v) m
+        → AreListed v.plan y now candidates
     unfolding IsStaying
     listed_timed y is =
         listed_by v.plan (theory_of v) due candidates are y now roomed (λ n l listed. (

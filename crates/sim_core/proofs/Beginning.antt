@@ -152,7 +152,7 @@ stored_left {p} {s} {ends} {runs} {wiring} {unread} {due} {candidates} k left l 
   wired = k.wired;
   unread_are = k.unread_are;
   due_are = k.due_are;
-  candidate_count = k.candidate_count;
+  listed_are = k.listed_are;
 }
 
 -- ---- the channels

@@ -63,6 +63,7 @@ use Rattle.sim_core.specs.Waking.{IsFull}
 use Rattle.sim_core.specs.declared.wiring.Wiring.{Wiring}
 use Rattle.event_graph.specs.declared.candidate.Candidate.{Candidate}
 use Rattle.sim_core.proofs.Asking.{beside_edited, still_room}
+use Rattle.sim_core.proofs.Listing.{listed_all}
 use Rattle.sim_core.proofs.Waking.{due_all}
 use Rattle.sim_core.proofs.Leaving.{unread_none}
 use Rattle.sim_core.proofs.Cut.{final_of, history_of, cut_of}
@@ -327,12 +328,14 @@ pub stored_edited : {p : Plan} {s : Engine} {ends : List (Option Advance)} {runs
     → IsStoredCore p s ends runs wiring unread due candidates → (e : Edit) (t : Engine)
     → IsCore (with_depth p e.channel e.depth) t ends runs
     → (now : Due) → length now.asking ≡ length due.asking → IsFull now.asking → length now.running ≡ length due.running
-    → IsFull now.running → IsStoredCore (with_depth p e.channel e.depth) t ends runs wiring [] now candidates
-stored_edited {p} {s} {ends} {runs} {wiring} {unread} {due} {candidates} k e t core now same all same' all' = record {
+    → IsFull now.running → now.unlisted ≡ due.unlisted → IsStoredCore (with_depth p e.channel e.depth) t ends runs wiring [] now candidates
+stored_edited {p} {s} {ends} {runs} {wiring} {unread} {due} {candidates} k e t core now same all same' all' unlisted = record {
   core = core;
   wired = wired_edited k.wired e.channel e.depth;
   unread_are = unread_none _ _;
   due_are = due_all (with_depth p e.channel e.depth) _ now (still_room p due.asking now.asking same k.due_are.asking_are.room) all
       (still_room p due.running now.running same' k.due_are.running_are.room) all';
-  candidate_count = k.candidate_count;
+  listed_are = listed_all (with_depth p e.channel e.depth) _ now candidates k.listed_are.count
+      (still_room p due.unlisted now.unlisted (ap (λ (set : List ℕ). length set) unlisted) k.listed_are.room)
+      (still_room p due.asking now.asking same k.due_are.asking_are.room) all;
 }

@@ -45,4 +45,5 @@ pub mod SetFew
 pub mod SameSteps
 pub mod Asking
 pub mod Waking
+pub mod Listing
 pub mod OwnMarks

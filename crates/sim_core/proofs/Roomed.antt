@@ -20,12 +20,14 @@ use Rattle.engine_view.specs.Rooms.{HasModule, IsSameButRoom, IsRoomy, AreAllPor
 use Rattle.sim_core.specs.declared.due.Due.{Due}
 use Rattle.sim_core.specs.declared.unread.Unread.{Unread}
 use Rattle.sim_core.specs.declared.wiring.Wiring.{Wiring}
+use Rattle.sim_core.specs.Candidates.{AreListed}
 use Rattle.sim_core.specs.Waking.{AreWaking, IsSpread}
 use Rattle.sim_core.specs.Opening.{ports_to}
 use Rattle.sim_core.specs.Returned.{core_in}
 use Rattle.sim_core.specs.Runs.{IsRunOf, IsOut, IsCore, IsStoredCore, lent_of, over_of}
 use Rattle.sim_core.specs.Unread.{AreUnread}
 use Rattle.sim_core.proofs.Asking.{asking_kept, asking_returned}
+use Rattle.sim_core.proofs.Listing.{listed_ran, listed_roomed}
 use Rattle.sim_core.proofs.Waking.{waking_more, waking_ran}
 use Rattle.sim_core.proofs.Leaving as leaving
 use Rattle.sim_core.proofs.Lending as lending
@@ -44,7 +46,7 @@ module _ {p : Plan} {s : Engine} {ends : List (Option Advance)} {runs : List (Op
     wired = k.wired;
     unread_are = k.unread_are;
     due_are = k.due_are;
-    candidate_count = k.candidate_count;
+    listed_are = k.listed_are;
   }
 
   -- a run that was there is out
@@ -95,9 +97,13 @@ module _ {p : Plan} {s : Engine} {ends : List (Option Advance)} {runs : List (Op
     running_roomed =
         subst (λ (h : Held). AreWaking p (core_of (design p) h) due.running) (sym held_same) k.due_are.running_are
 
+    listed_same : AreListed p (core_in p t ends) due candidates
+    listed_same = subst (λ (h : Held). AreListed p (core_of (design p) h) due candidates) (sym held_same) k.listed_are
+
     pub stored_roomed : (now : Due) → IsAdded due.asking m now.asking
-        → IsSpread due.running (slice_index_or wiring.hints m []) m now.running → IsStoredCore p t ends runs wiring unread now candidates
-    stored_roomed now added spread = record {
+        → IsSpread due.running (slice_index_or wiring.hints m []) m now.running → now.unlisted ≡ due.unlisted
+        → IsStoredCore p t ends runs wiring unread now candidates
+    stored_roomed now added spread same_unlisted = record {
       core = core;
       wired = k.wired;
       unread_are = unread_are;
@@ -107,7 +113,8 @@ module _ {p : Plan} {s : Engine} {ends : List (Option Advance)} {runs : List (Op
         running_are = waking_more p (core_in p t ends) due.running running_roomed
             (slice_index_or wiring.hints m []) m now.running spread;
       };
-      candidate_count = k.candidate_count;
+      listed_are = listed_roomed p (core_in p t ends) due candidates listed_same m now k.due_are.asking_are.room added
+          same_unlisted;
     }
 
     -- ---- behind Runs of the module
@@ -120,8 +127,8 @@ module _ {p : Plan} {s : Engine} {ends : List (Option Advance)} {runs : List (Op
       pub stored_ran : (runs' : List (Option ModuleRun)) → IsCore p f ends' runs' → (unread' : List Unread)
           → AreUnread (core_values (design p) (core_in p f ends')) (length p.design.channels) unread'
           → (now : Due) → IsAdded due.asking m now.asking → IsSpread due.running (slice_index_or wiring.hints m []) m now.running
-          → IsStoredCore p f ends' runs' wiring unread' now candidates
-      stored_ran runs' core' unread' are now added spread = record {
+          → now.unlisted ≡ due.unlisted → IsStoredCore p f ends' runs' wiring unread' now candidates
+      stored_ran runs' core' unread' are now added spread same_unlisted = record {
         core = core';
         wired = k.wired;
         unread_are = are;
@@ -131,5 +138,6 @@ module _ {p : Plan} {s : Engine} {ends : List (Option Advance)} {runs : List (Op
           running_are = waking_ran p (core_in p t ends) due.running running_roomed wiring.hints k.wired.beside_are m
               inside now.running spread count (core_in p f ends') acts;
         };
-        candidate_count = k.candidate_count;
+        listed_are = listed_ran p (core_in p t ends) due candidates listed_same m now k.due_are.asking_are.room added
+            same_unlisted k.core.fits core.agreed count (core_in p f ends') acts;
       }

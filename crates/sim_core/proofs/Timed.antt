@@ -6,7 +6,7 @@ use Rattle.flow_design.specs.declared.state.Advance.{Advance}
 use Rattle.module_interp.specs.declared.run.ModuleRun.{ModuleRun}
 use Rattle.module_sets.specs.Sets.{Has, HasMask, capacity}
 use Rattle.event_graph.specs.declared.candidate.Candidate.{Candidate}
-use Rattle.event_timing.specs.Actions.{MayAssign}
+use Rattle.event_timing.specs.Actions.{IsQuiet, MayAssign}
 use Rattle.timing_bridge.specs.Designs.{design}
 use Rattle.timing_bridge.proofs.History.{plan_is_design}
 use Rattle.engine_view.specs.declared.engine.Engine.{Engine}
@@ -17,6 +17,7 @@ use Rattle.engine_view.specs.Engines.{held_in}
 use Rattle.engine_view.specs.Taking.{kinds_in}
 use Rattle.engine_view.specs.Turns.{MayTakeIn, HasTimed, KeepsRoom, is_progress, left}
 use Rattle.sim_core.specs.Asking.{Lacks}
+use Rattle.sim_core.specs.Candidates.{AreCandidates}
 use Rattle.sim_core.specs.Waking.{IsWoken}
 use Rattle.sim_core.specs.Runs.{IsStoredCore, lent_of, over_of}
 use Rattle.sim_core.specs.Turns.{HasTurned}
@@ -24,7 +25,8 @@ use Rattle.sim_core.specs.Views.{CoreView}
 use Rattle.sim_core.specs.declared.due.Due.{Due}
 use Rattle.sim_core.specs.declared.unread.Unread.{Unread}
 use Rattle.sim_core.specs.declared.wiring.Wiring.{Wiring}
-use Rattle.sim_core.proofs.Asking.{asking_turned}
+use Rattle.sim_core.proofs.Asking.{asking_turned, still_room}
+use Rattle.sim_core.proofs.Listing.{asking_none, listed_turned}
 use Rattle.sim_core.proofs.Waking.{waking_turned}
 use Rattle.sim_core.proofs.Keeping.{kept_of}
 use Rattle.sim_core.proofs.Turning as turning
@@ -53,9 +55,10 @@ module _ {p : Plan} {s : Engine} {ends : List (Option Advance)} {runs : List (Op
   pub stored : (now : Due) → length now.asking ≡ length due.asking → ((n : ℕ) → n ≢ m → Lacks now.asking n → Lacks due.asking n)
       → (r ≢ Nothing → Lacks now.asking m → Lacks due.asking m) → (is_progress r ≡ true → m < capacity due.asking → Has now.asking m)
       → (is_progress r ≡ true → (n : ℕ) → n < capacity due.asking → Lacks now.asking n → HasMask (slice_index_or wiring.hints m []) n → ⊥)
-      → IsWoken r due.running (slice_index_or wiring.hints m []) m now.running
+      → IsWoken r due.running (slice_index_or wiring.hints m []) m now.running → length now.unlisted ≡ length due.unlisted
+      → ((n : ℕ) → n < capacity due.unlisted → Lacks now.asking n → Lacks now.unlisted n → Lacks due.asking n × Lacks due.unlisted n)
       → IsStoredCore p t ends runs wiring unread now candidates
-  stored now roomed others own acted beside woken = record {
+  stored now roomed others own acted beside woken roomed' listed = record {
     core = turning.core_timed k.core t m r done room kinds;
     wired = k.wired;
     unread_are = turning.unread_timed k.core t m r unread done k.unread_are;
@@ -67,5 +70,27 @@ module _ {p : Plan} {s : Engine} {ends : List (Option Advance)} {runs : List (Op
       running_are = waking_turned (seen s) (seen t) due.running k.due_are.running_are wiring.hints k.wired.beside_are m inside now.running r
           turned woken;
     };
-    candidate_count = k.candidate_count;
+    listed_are =
+        let room = k.due_are.asking_are.room in
+        let room' = k.listed_are.room in
+        listed_turned (seen s) (seen t) due candidates k.listed_are wiring.hints k.wired.beside_are m inside now roomed'
+        (λ n l (asks, rest). listed n (omega arith) asks rest) r turned (λ e. acted e (omega arith)) (λ e n l. beside e n (omega arith));
   }
+
+-- where nothing is permitted and each candidate is right, none is asking and each is listed
+pub relisted : {p : Plan} {s : Engine} {ends : List (Option Advance)} {runs : List (Option ModuleRun)} {wiring : Wiring}
+    {unread : List Unread} {due : Due} {candidates : List Candidate} → IsStoredCore p s ends runs wiring unread due candidates
+    → IsQuiet (design p) p.cycles (core_of (design p) (held_in s (over_of ends))) → (now : Due) (anew : List Candidate)
+    → length now.asking ≡ length due.asking → now.running ≡ due.running → length now.unlisted ≡ length due.unlisted
+    → length anew ≡ length s.graph.lanes → AreCandidates s.graph.lanes s.fifos.channels p.cycles (length s.graph.lanes) anew
+    → IsStoredCore p s ends runs wiring unread now anew
+relisted {p} {s} {ends} {runs} {wiring} {unread} {due} {candidates} k quiet now anew roomed same roomed' count all = record {
+  core = k.core;
+  wired = k.wired;
+  unread_are = k.unread_are;
+  due_are = record {
+    asking_are = asking_none p _ quiet now.asking (still_room p due.asking now.asking roomed k.due_are.asking_are.room);
+    running_are = rw same k.due_are.running_are;
+  };
+  listed_are = turning.listed_anew k.core quiet anew count all now (still_room p due.unlisted now.unlisted roomed' k.listed_are.room);
+}

@@ -1,17 +1,16 @@
 -- What the calls of an engine do to a core: cycles and answers.
 use Rattle.std.proofs.Common.{◌≡◌, refl, sym, ap, ap₂, subst, ◌∙◌, ℕ, zero, suc, ◌+◌, ◌-◌, ◌*◌, ◌<◌, inl, inr, Bool, true, false, cond}
-use Rattle.std.proofs.Common.{ltb, ◌&&◌, List, [], length, get_or, set, Option, None, Some, arith}
+use Rattle.std.proofs.Common.{ltb, ◌&&◌, List, [], length, get_or, Option, None, Some, arith}
 use Rattle.std.proofs.lemmas.Bool.{cases_Bool, both_ways, lt-ltb}
-use Rattle.std.proofs.lemmas.List.{get_or_past, get_or-set_same, get_or-set_other}
-use Rattle.std.proofs.lemmas.Bool.Decides.{eqb_tells, nat_tests}
-use Rattle.fifo_table.specs.Channels.{Channel}
+use Rattle.std.proofs.lemmas.List.{get_or_past}
+use Rattle.std.proofs.lemmas.Bool.Decides.{nat_tests}
 use Rattle.std.proofs.lemmas.Option.{get_or_from_slice_get, slice_get-get_or, slice_get_within}
-use Rattle.std.specs.Prelude.{slice_get, ◌↔◌}
+use Rattle.std.specs.Prelude.{slice_get}
 use Rattle.flow_design.specs.declared.plan.Plan.{Plan}
 use Rattle.flow_design.specs.declared.state.Advance.{Advance}
 use Rattle.flow_design.specs.declared.state.ModuleState.{ModuleState}
 use Rattle.module_interp.specs.declared.run.ModuleRun.{ModuleRun}
-use Rattle.event_graph.specs.Lanes.{Lane, lane_at}
+use Rattle.event_graph.specs.Lanes.{lane_at}
 use Rattle.event_graph.specs.declared.candidate.Candidate.{Candidate}
 use Rattle.event_graph.specs.declared.candidate.Candidate.TheVariants.{At, Nothing}
 use Rattle.query_log.specs.Logs.{log_at}
@@ -44,7 +43,9 @@ use Rattle.engine_view.proofs.Bounds.{candidate_is}
 use Rattle.sim_core.specs.Views.{CoreView}
 use Rattle.sim_core.specs.Runs.{AreUnreadIn, IsCore, over_of}
 use Rattle.sim_core.specs.Turns.{HasTurned, HasAnsweredLeast}
-use Rattle.sim_core.specs.Candidates.{AreCandidates}
+use Rattle.sim_core.specs.declared.due.Due.{Due}
+use Rattle.sim_core.specs.Asking.{HasRoom}
+use Rattle.sim_core.specs.Candidates.{AreCandidates, AreListed, IsCandidate, IsListed}
 use Rattle.event_timing.proofs.Deciding.{determined_inside}
 use Rattle.sim_core.proofs.Keeping.{core_acted, kept_of}
 use Rattle.sim_core.specs.declared.unread.Unread.{Unread}
@@ -163,6 +164,16 @@ module _ {p : Plan} {s : Engine} {ends : List (Option Advance)} {runs : List (Op
   determined_is : (m c : ℕ) → determined h.lanes h.channels m ≡ Some c → candidate d (view d x) m ≡ Some c
   determined_is m c e = sym (candidate_is d is_design h k.sound m) ∙ e
 
+  -- a candidate that is listed is what the engine would find
+  pub listed_found : (due : Due) (candidates : List Candidate) → AreListed p x due candidates → (n : ℕ) → n < length h.lanes
+      → IsListed due n → IsCandidate h.lanes h.channels p.cycles n (get_or candidates n Nothing)
+  listed_found due candidates are n l listed cycle =
+      let lanes = k.sound.lanes in
+      let (to, from) = are.right n (omega arith) listed cycle in (
+        λ e. let there = to e in (candidate_is d is_design h k.sound n ∙ there.at, there.below),
+        λ (at, below). from (record { at = determined_is n cycle at; below = below }),
+      )
+
   emitted_there : (m c : ℕ) → candidate d (view d x) m ≡ Some c → m < length h.lanes
   emitted_there m c e =
       let inside = determined_inside d x k.agreed.marks.inside m c e in
@@ -198,6 +209,19 @@ module _ {p : Plan} {s : Engine} {ends : List (Option Advance)} {runs : List (Op
 
       pub final_if : ((m : ℕ) (c : Candidate) → m < length candidates → cycle_of (get_or candidates m c) ≡ None) → IsFinal d p.cycles x
       final_if none = record { quiet = quiet; no_earliest = λ n e may. none_open none n e may.open_step }
+
+      -- so each candidate that stands for its module is right
+      pub listed_anew : (due : Due) → HasRoom p due.unlisted → AreListed p x due candidates
+      listed_anew due room = record {
+        count = count ∙ k.sound.lanes;
+        room = room;
+        right = λ n l listed cycle.
+            let lanes = k.sound.lanes in
+            let (to, from) = all n cycle (omega arith) in (
+              λ e. let there = to e in record { at = determined_is n cycle there.0; below = there.1 },
+              λ there. from (candidate_is d is_design h k.sound n ∙ there.at, there.below),
+            );
+      }
 
       -- the candidate of an open step
       open_there : (n e : ℕ) → IsOpen d p.cycles x n e → slice_get candidates n ≡ Some (At e)
@@ -272,15 +296,3 @@ module _ {p : Plan} {s : Engine} {ends : List (Option Advance)} {runs : List (Op
           )
       open_answered (guard.Differs q) lent (e, f) =
           (ap (λ (u : Engine). seen u lent) e, record { cycle = c; may = may; found = f d over is_design kept })
-
--- ---- the list of candidates
-
-pub candidates_more : (lanes : List Lane) (channels : List Channel) (limit n : ℕ) (candidates : List Candidate) (a : Candidate)
-    → n < length candidates → AreCandidates lanes channels limit n candidates
-    → ((cycle : ℕ) → (a ≡ At cycle) ↔ ((determined lanes channels n ≡ Some cycle) × (cycle < limit)))
-    → AreCandidates lanes channels limit (n + 1) (set candidates n a)
-candidates_more lanes channels limit n candidates a inside all now m cycle l =
-    elim (eqb_tells m n) [
-      | inl e ↦ rw (e.1, get_or-set_same candidates n a Nothing inside) (now cycle)
-      | inr e ↦ let f = e.1 in rw (get_or-set_other candidates n m a Nothing e.1) (all m cycle (omega arith))
-    ]

@@ -28,6 +28,7 @@ use Rattle.sim_core.specs.Views.{CoreView, theory_of}
 use Rattle.sim_core.specs.Opening.{kinds_of, AreOwnPorts}
 use Rattle.sim_core.specs.Readers.{AreReaders}
 use Rattle.sim_core.specs.Asking.{AreBeside}
+use Rattle.sim_core.specs.Candidates.{AreListed}
 use Rattle.sim_core.specs.Waking.{AreDue}
 use Rattle.sim_core.specs.Unread.{AreUnread}
 use Rattle.sim_core.specs.declared.due.Due.{Due}
@@ -115,11 +116,11 @@ pub record IsWired (p : Plan) (w : Wiring) : Type 0 where
   pub beside_are : AreBeside p w.hints
   pub bodies_are : AreBodyLengths p (length p.design.modules) w.bodies
 
--- and it is told who stands where, what came back unread, and of whom something may be permitted, and there is a candidate for each module
+-- and it is told who stands where, what came back unread, of whom something may be permitted, and of whom the candidate is right
 pub record IsStoredCore (p : Plan) (s : Engine) (ends : List (Option Advance)) (runs : List (Option ModuleRun)) (wiring : Wiring)
     (unread : List Unread) (due : Due) (candidates : List Candidate) : Type 0 where
   pub core : IsCore p s ends runs
   pub wired : IsWired p wiring
   pub unread_are : AreUnreadIn p s ends unread
   pub due_are : AreDue p (core_of (design p) (held_in s (over_of ends))) due
-  pub candidate_count : length candidates ≡ length p.design.modules
+  pub listed_are : AreListed p (core_of (design p) (held_in s (over_of ends))) due candidates

@@ -72,15 +72,24 @@ pub(crate) fn find_beside(
     Ok(beside)
 }
 
-/// Notes which modules may be given a cycle or an answer after a turn at a module. Where the turn did something, that module and
-/// those that share a channel with it are added. Where nothing was permitted, the module is removed.
+/// Which modules may be given a cycle or an answer after this was done of one: itself and those that share a channel with it, beside those
+/// that might before. Where nothing was permitted, all but itself; its candidate is then not listed.
 #[inline(always)]
-pub(crate) fn ask_after(asking: &mut ModuleSet, beside: &[Mask], owner: u32, timing: &Timing)
+pub(crate) fn ask_after(
+    asking: &mut ModuleSet,
+    unlisted: &mut ModuleSet,
+    beside: &[Mask],
+    owner: u32,
+    timing: &Timing,
+)
     ensures room { length asking.new ≡ length asking.old }
     ensures others { (n : ℕ) → n ≢ owner → Lacks asking.new n → Lacks asking.old n }
     ensures own { timing.now ≢ Nothing → Lacks asking.new owner → Lacks asking.old owner }
     ensures acted { is_progress timing.now ≡ true → owner < capacity asking.old → Has asking.new owner }
     ensures beside { is_progress timing.now ≡ true → (n : ℕ) → n < capacity asking.old → Lacks asking.new n → HasMask beside.now n → ⊥ }
+    ensures unlisted_room { length unlisted.new ≡ length unlisted.old }
+    ensures listed { (n : ℕ) → n < capacity unlisted.old → Lacks asking.new n → Lacks unlisted.new n
+        → Lacks asking.old n × Lacks unlisted.old n }
 {
     match timing {
         Timing::Assigned(_) | Timing::Answered(_) => {
@@ -88,7 +97,10 @@ pub(crate) fn ask_after(asking: &mut ModuleSet, beside: &[Mask], owner: u32, tim
             asking.add(owner);
         }
         Timing::Differs(_) => {}
-        Timing::Nothing => asking.remove(owner),
+        Timing::Nothing => {
+            asking.remove(owner);
+            unlisted.add(owner);
+        }
     }
 }
 

@@ -13,9 +13,9 @@ ghost use Rattle.sim_core.specs.Views.{theory_of};
 use crate::due::Due;
 use crate::unread::Unread;
 use crate::wiring::{Wiring, ports_of};
+use candidate_list::CandidateList;
 use cycle_changes::Changes;
 use engine_view::Engine;
-use event_graph::Candidate;
 use flow_design::{Advance, Plan, Reply};
 use flow_word::{List, Port};
 use module_interp::ModuleRun;
@@ -40,8 +40,8 @@ pub struct Core {
     pub(crate) unread: List<Unread>,
     /// The modules of which something may be permitted.
     pub(crate) due: Due,
-    /// Room for a candidate of each module.
-    pub(crate) candidates: Vec<Candidate>,
+    /// What is known of the cycle of each module's first step without one, where it was listed.
+    pub(crate) candidates: CandidateList,
     pub(crate) scratch: Scratch,
 }
 
@@ -109,7 +109,7 @@ impl Model for Core {
       lent = lent_of c.runs.items;
     } };
 
-    ghost invariant = { λ c. IsStoredCore c.plan c.engine c.ends.items c.runs.items c.wiring c.unread c.due c.candidates.items };
+    ghost invariant = { λ c. IsStoredCore c.plan c.engine c.ends.items c.runs.items c.wiring c.unread c.due c.candidates };
 }
 
 impl Core {

@@ -17,8 +17,9 @@ use crate::due::Due;
 use crate::machine::{Core, Scratch};
 use crate::unread::nothing_unread;
 use crate::wiring::find_wiring;
+use candidate_list::CandidateList;
 use engine_view::Engine;
-use event_graph::{Candidate, Graph};
+use event_graph::Graph;
 use fifo_table::{FifoTable, TableChannel};
 use flow_design::{Advance, ChannelKind, Plan, copy_plan};
 use flow_word::{List, OutOfMemory, Width, Words, cut};
@@ -85,7 +86,7 @@ fn begin(alloc: Global, plan: Plan, runs: Vec<Option<ModuleRun>>) -> Result<Core
     let wiring = find_wiring(alloc, &plan)?;
     let unread = nothing_unread(alloc, plan.design.channels.len())?;
     let due = Due::all(alloc, modules)?;
-    let candidates = no_candidates(alloc, modules)?;
+    let candidates = CandidateList::new(alloc, modules)?;
     Ok(Core {
         plan,
         engine,
@@ -161,18 +162,7 @@ fn no_ends(alloc: Global, modules: u32) -> Result<Vec<Option<Advance>>, OutOfMem
     Ok(ends)
 }
 
-/// One candidate for each of `modules` modules, none of which has a step. `OutOfMemory` where memory ran out.
-fn no_candidates(alloc: Global, modules: u32) -> Result<Vec<Candidate>, OutOfMemory>
-    ensures { IfOk result (λ candidates. length candidates.items ≡ modules) }
-{
-    let mut candidates = Vec::with_capacity(alloc, modules as usize)?;
-    for _ in 0..modules {
-        candidates.push(Candidate::Nothing)?;
-    }
-    Ok(candidates)
-}
-
-/// The kinds of the plan's channels, in the form that the table needs.
+/// The plan's channels as the table has them.
 fn make_kinds(alloc: Global, plan: &Plan) -> Result<List<TableChannel>, OutOfMemory>
     requires fits { FitsEngine plan.now }
     ensures { IfOk result (λ kinds. kinds ≡ kinds_of plan.now) }

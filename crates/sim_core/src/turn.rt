@@ -1,5 +1,5 @@
-//! The actions that give steps cycles and queries answers.
-ghost use Rattle.std.specs.Prelude.{◌≡◌, ◌+◌, ◌<◌, ◌≤◌, length, IfSome, Some};
+//! The cycles of the modules' steps, and the answers to their queries.
+ghost use Rattle.std.specs.Prelude.{◌≡◌, ◌+◌, ◌<◌, ◌≤◌, ℕ, length, slice_index_or, IfSome, Some};
 ghost use Rattle.event_graph.specs.Lanes.{cycle_bound};
 ghost use Rattle.time_engine.specs.Conditions.{HasAccesses, HasPlaces};
 ghost use Rattle.event_timing.specs.Actions.{IsQuiet, MayAssign, MayEarliest};
@@ -7,16 +7,17 @@ ghost use Rattle.engine_view.specs.Turns.{ticks_of};
 ghost use Rattle.timing_bridge.specs.Designs.{design};
 ghost use Rattle.sim_core.specs.Views.{theory_of};
 ghost use Rattle.sim_core.specs.Turns.{HasTurned, HasAnsweredLeast, IsFirstEarliest};
-ghost use Rattle.sim_core.specs.Candidates.{AreCandidates};
+ghost use Rattle.sim_core.specs.Candidates.{AreCandidates, IsCandidate, IsListed};
 
 use crate::beside::{ask_after, spread, wake_after};
+use crate::due::Due;
 use crate::machine::Core;
+use candidate_list::CandidateList;
 use engine_view::Timing;
 use event_graph::{Candidate, Graph};
 use fifo_table::FifoTable;
 use flow_word::Steps;
 use outcome_guard::Guard;
-use query_resolve::earliest;
 use std::sync::ledger::Ledger;
 use time_engine::candidate;
 
@@ -33,7 +34,13 @@ impl Core {
         let limit = self.plan.cycles;
         let timing = self.engine.time_first(owner, limit, steps);
         let beside = self.wiring.hints.beside(owner);
-        ask_after(&mut self.due.asking, beside, owner, &timing);
+        ask_after(
+            &mut self.due.asking,
+            &mut self.due.unlisted,
+            beside,
+            owner,
+            &timing,
+        );
         wake_after(&mut self.due.running, beside, owner, &timing);
         timing
     }
@@ -52,6 +59,7 @@ impl Core {
         let beside = self.wiring.hints.beside(owner);
         ask_after(
             &mut self.due.asking,
+            &mut self.due.unlisted,
             beside,
             owner,
             &Timing::Assigned(cycle),
@@ -72,9 +80,11 @@ impl Core {
             &self.engine.graph,
             &self.engine.fifos,
             limit,
+            &self.due,
             &mut self.candidates,
         );
-        match earliest(&self.candidates) {
+        self.due.list();
+        match self.candidates.earliest() {
             None => None,
             Some((owner, cycle)) => Some((owner, self.answer_open(owner, cycle))),
         }
@@ -87,10 +97,10 @@ impl Core {
         ensures plan { self.new.plan ≡ self.old.plan }
         ensures lent { self.new.lent ≡ self.old.lent }
     {
-        self.due.asking.clear();
         let beside = self.wiring.hints.beside(owner);
         ask_after(
             &mut self.due.asking,
+            &mut self.due.unlisted,
             beside,
             owner,
             &Timing::Answered(cycle),
@@ -100,16 +110,27 @@ impl Core {
     }
 }
 
-/// Fills the list with what is known of the cycle of each module's first step without a cycle.
-fn list_candidates(graph: &Graph, fifos: &FifoTable, limit: u64, candidates: &mut Vec<Candidate>)
+/// Writes what is known of the cycle of each module's first step without one into the list, where it may have changed.
+fn list_candidates(
+    graph: &Graph,
+    fifos: &FifoTable,
+    limit: u64,
+    due: &Due,
+    candidates: &mut CandidateList,
+)
     requires accesses { HasAccesses graph.now.lanes fifos.now.channels }
     requires places { HasPlaces graph.now.lanes fifos.now.channels }
     requires limit { limit ≤ cycle_bound }
-    requires count { length candidates.old.items ≡ length graph.now.lanes }
-    ensures count { length candidates.new.items ≡ length graph.now.lanes }
-    ensures all { AreCandidates graph.now.lanes fifos.now.channels limit (length graph.now.lanes) candidates.new.items }
+    requires count { length candidates.old ≡ length graph.now.lanes }
+    requires listed { (n : ℕ) → n < length graph.now.lanes → IsListed due.now n
+        → IsCandidate graph.now.lanes fifos.now.channels limit n (slice_index_or candidates.old n Candidate.Nothing) }
+    ensures count { length candidates.new ≡ length graph.now.lanes }
+    ensures all { AreCandidates graph.now.lanes fifos.now.channels limit (length graph.now.lanes) candidates.new }
 {
-    for owner in 0..graph.modules() {
-        candidates[owner as usize] = candidate(graph, fifos, owner, limit);
+    let count = graph.modules();
+    let mut from = 0;
+    while let Some(owner) = due.first_unlisted(from, count) {
+        candidates.set(owner, candidate(graph, fifos, owner, limit));
+        from = owner + 1;
     }
 }

@@ -10,6 +10,7 @@ use Rattle.engine_view.specs.declared.engine.Engine.{Engine}
 use Rattle.engine_view.specs.Engines.{held_in}
 use Rattle.sim_core.specs.Opening.{kinds_of, AreFirstRuns}
 use Rattle.sim_core.specs.Runs.{over_of}
+use Rattle.sim_core.proofs.Listing.{listed_all}
 use Rattle.sim_core.proofs.Waking.{due_all}
 use Rattle.sim_core.proofs.Beginning as beginning
 use Rattle.sim_core.proofs.opening.begin.Goals as goal
@@ -46,7 +47,9 @@ invariant_of-result c =
       unread_are = c.in_ok-unread.ensures _ _;
       due_are = due_all c.args.plan _ c.in_ok-due.due (let a = c.in_ok-due.ensures.asking_room in omega arith)
           c.in_ok-due.ensures.asking (let a = c.in_ok-due.ensures.running_room in omega arith) c.in_ok-due.ensures.running;
-      candidate_count = c.in_ok-candidates.ensures ∙ count;
+      listed_are = listed_all c.args.plan _ c.in_ok-due.due c.in_ok-candidates.candidates (c.in_ok-candidates.ensures ∙ count)
+          (let a = c.in_ok-due.ensures.unlisted_room in omega arith) (let a = c.in_ok-due.ensures.asking_room in omega arith)
+          c.in_ok-due.ensures.asking;
     }
 
 pub returns-clause-opening : goal.returns-clause-opening

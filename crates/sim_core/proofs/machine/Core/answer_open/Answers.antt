@@ -1,7 +1,11 @@
-use Rattle.std.proofs.Common.{◌<◌, ◌∙◌, refl, length, arith}
+use Rattle.std.proofs.Common.{◌<◌, ℕ, [], refl, length, arith}
+use Rattle.std.specs.Prelude.{slice_index_or}
+use Rattle.module_sets.specs.Sets.{Has, HasMask}
 use Rattle.engine_view.specs.Engines.{held_in}
+use Rattle.sim_core.specs.Asking.{Lacks}
 use Rattle.sim_core.specs.Runs.{lent_of, over_of}
 use Rattle.sim_core.proofs.Asking.{asking_least, still_room}
+use Rattle.sim_core.proofs.Listing.{listed_least}
 use Rattle.sim_core.proofs.Waking.{waking_least}
 use Rattle.sim_core.proofs.Turning as turning
 use Rattle.sim_core.proofs.machine.Core.answer_open.Goals as goal
@@ -33,6 +37,11 @@ invariant_of-self c =
     let inside : c.args.owner < length c.self.inside.plan.design.modules =
     let u = (turning.open_unsure k may).inside in let lanes = k.sound.lanes in omega arith in
     let answered = turning.open_answered k may t c.answer_first.result lent c.answer_first.ensures.answered in
+    let asks = c.self.invariant.due_are.asking_are.room in
+    let own : Has c.ask_after.new.asking c.args.owner = c.ask_after.ensures.acted refl (omega arith) in
+    let spread : (n : ℕ) → n < length c.self.inside.plan.design.modules → Lacks c.ask_after.new.asking n
+    → HasMask (slice_index_or c.self.inside.wiring.hints c.args.owner []) n → ⊥ =
+    λ n l. (rw c.beside-beside.ensures at c.ask_after.ensures.beside) refl n (omega arith) in
     record {
       core = turning.core_answered k may t c.answer_first.result c.answer_first.ensures.answered c.answer_first.ensures.room
           c.answer_first.ensures.kinds;
@@ -42,21 +51,25 @@ invariant_of-self c =
       due_are = record {
         asking_are =
             let before = c.self.invariant.due_are.asking_are.room in
-            let same = c.ask_after.ensures.room ∙ c.clear.ensures.room in
             asking_least (record { plan = c.self.inside.plan; held = held_in s over; lent = lent })
             (record { plan = c.self.inside.plan; held = held_in t over; lent = lent }) k.fits c.self.inside.wiring.hints
             c.self.invariant.wired.beside_are c.args.owner inside c.ask_after.new.asking
-            (still_room c.self.inside.plan c.self.inside.due.asking c.ask_after.new.asking same before)
-            (c.ask_after.ensures.acted refl (let e = c.clear.ensures.room in omega arith))
-            (λ n l. (rw c.beside-beside.ensures at c.ask_after.ensures.beside) refl n (let e = c.clear.ensures.room in omega arith))
-            c.args.cycle may c.answer_first.result answered;
+            (still_room c.self.inside.plan c.self.inside.due.asking c.ask_after.new.asking c.ask_after.ensures.room before) own
+            spread c.args.cycle may c.answer_first.result answered;
         running_are =
             waking_least (record { plan = c.self.inside.plan; held = held_in s over; lent = lent })
             (record { plan = c.self.inside.plan; held = held_in t over; lent = lent }) c.self.inside.due.running
             c.self.invariant.due_are.running_are c.self.inside.wiring.hints c.self.invariant.wired.beside_are c.args.owner inside
             c.spread.new.set c.answer_first.result answered (rw c.beside-beside.ensures at c.spread.ensures);
       };
-      candidate_count = c.self.invariant.candidate_count;
+      listed_are =
+          let listed = c.self.invariant.listed_are.room in
+          listed_least (record { plan = c.self.inside.plan; held = held_in s over; lent = lent })
+          (record { plan = c.self.inside.plan; held = held_in t over; lent = lent }) c.self.inside.due c.self.inside.candidates
+          c.self.invariant.listed_are c.self.inside.wiring.hints c.self.invariant.wired.beside_are c.args.owner inside
+          (record { asking = c.ask_after.new.asking; running = c.spread.new.set; unlisted = c.ask_after.new.unlisted })
+          c.ask_after.ensures.unlisted_room (λ n l (none, rest). c.ask_after.ensures.listed n (omega arith) none rest)
+          c.answer_first.result answered own spread;
     }
 
 pub returns-clause-done : goal.returns-clause-done

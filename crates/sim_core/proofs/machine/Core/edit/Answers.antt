@@ -58,7 +58,8 @@ invariant_of-self g c =
     let final = rw (← c.self.view_is) at c.requires.is_final in
     let core = editing.core_changed c.self.invariant.core fit final (c.change_few.ensures.changed c.if-change_few.true) in
     rw (c.edit_plan.ensures, c.truncate.ensures) (editing.stored_edited c.self.invariant c.args.edit.now c.change_few.new.engine core _
-    c.fill.ensures.asking_room c.fill.ensures.asking c.fill.ensures.running_room c.fill.ensures.running)
+    c.fill.ensures.asking_room c.fill.ensures.asking c.fill.ensures.running_room c.fill.ensures.running
+    c.fill.ensures.unlisted)
 
 pub returns-then-change_few-clause-edited : goal.returns-then-change_few-clause-edited
 returns-then-change_few-clause-edited g c =
@@ -121,7 +122,8 @@ pub invariant_of-self-2 : goal.invariant_of-self-2
 invariant_of-self-2 g c =
     let core = editing.core_edited c.self.invariant.core (fit g c) (final g c) (from g c) (retiming g c) in
     rw (c.edit_plan.ensures, c.truncate.ensures, c.retime.ensures.hints) (editing.stored_edited c.self.invariant c.args.edit.now (after g c)
-    core _ c.fill.ensures.asking_room c.fill.ensures.asking c.fill.ensures.running_room c.fill.ensures.running)
+    core _ c.fill.ensures.asking_room c.fill.ensures.asking c.fill.ensures.running_room c.fill.ensures.running
+    c.fill.ensures.unlisted)
 
 pub returns-clause-edited : goal.returns-clause-edited
 returns-clause-edited g c =

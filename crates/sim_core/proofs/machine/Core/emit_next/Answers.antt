@@ -81,7 +81,8 @@ pub invariant_of-self : goal.invariant_of-self
 invariant_of-self c =
     roomed.stored_roomed c.self.invariant c.args.owner (rw (← c.self.view_is) at c.requires.out.inside) _ c.ports_of.ensures
     c.make_room.new.self c.make_room.ensures.same c.make_room.ensures.room
-    (record { asking = c.add.new.self; running = c.spread.new.set }) c.add.ensures (rw c.beside-beside.ensures at c.spread.ensures)
+    (record { asking = c.add.new.self; running = c.spread.new.set; unlisted = c.self.inside.due.unlisted }) c.add.ensures
+    (rw c.beside-beside.ensures at c.spread.ensures) refl
 
 pub emit_mark-requires : goal.emit_mark-requires
 emit_mark-requires c =
@@ -92,7 +93,8 @@ invariant_of-self-in_err-emit_mark c =
     rw (c.in_err-emit_mark.ensures.unchanged, c.in_err-emit_mark.ensures.no_end)
     (roomed.stored_roomed c.self.invariant c.args.owner (rw (← c.self.view_is) at c.requires.out.inside) _ c.ports_of.ensures
     c.make_room.new.self c.make_room.ensures.same c.make_room.ensures.room
-    (record { asking = c.add.new.self; running = c.spread.new.set }) c.add.ensures (rw c.beside-beside.ensures at c.spread.ensures))
+    (record { asking = c.add.new.self; running = c.spread.new.set; unlisted = c.self.inside.due.unlisted }) c.add.ensures
+    (rw c.beside-beside.ensures at c.spread.ensures) refl)
 
 -- what the core is where the run had no memory
 pub returns-in_err-emit_mark-clause-out : goal.returns-in_err-emit_mark-clause-out
@@ -126,7 +128,8 @@ invariant_of-self-2 c =
     roomed.stored_ran c.self.invariant c.args.owner (inside at) _ c.ports_of.ensures (t at) c.make_room.ensures.same
     c.make_room.ensures.room c.emit_mark.new.engine c.emit_mark.new.ends.items 1 acts (runs at)
     (c.emit_mark.ensures.core (p at) (runs at) (ready at)) c.self.inside.unread unread
-    (record { asking = c.add.new.self; running = c.spread.new.set }) c.add.ensures (rw c.beside-beside.ensures at c.spread.ensures)
+    (record { asking = c.add.new.self; running = c.spread.new.set; unlisted = c.self.inside.due.unlisted }) c.add.ensures
+    (rw c.beside-beside.ensures at c.spread.ensures) refl
 
 pub returns-clause-acts : goal.returns-clause-acts
 returns-clause-acts c =

@@ -26,7 +26,7 @@ invariant_of-self c = record {
   wired = c.self.invariant.wired;
   unread_are = c.make_mail.ensures.left _ _ c.self.invariant.unread_are;
   due_are = c.self.invariant.due_are;
-  candidate_count = c.self.invariant.candidate_count;
+  listed_are = c.self.invariant.listed_are;
 }
 
 pub returns-clause-task : goal.returns-clause-task

@@ -1,3 +1,5 @@
+use Rattle.std.proofs.Common.{refl}
+use Rattle.sim_core.proofs.Listing.{listed_fewer}
 use Rattle.sim_core.proofs.Waking.{waking_less}
 use Rattle.sim_core.proofs.machine.Core.rest.Goals as goal
 
@@ -11,5 +13,6 @@ invariant_of-self c = record {
     running_are = waking_less c.self.inside.plan _ c.self.inside.due.running c.self.invariant.due_are.running_are c.args.owner
         (rw (← c.self.view_is) at c.requires) c.remove.new.self c.remove.ensures;
   };
-  candidate_count = c.self.invariant.candidate_count;
+  listed_are = listed_fewer c.self.inside.plan _ c.self.inside.due c.self.inside.candidates c.self.invariant.listed_are
+      (record c.self.inside.due { running = c.remove.new.self }) refl (λ n l listed. listed);
 }

@@ -1,4 +1,4 @@
-use Rattle.std.proofs.Common.{◌≡◌, List, ap, subst, ◌<◌, false, length, slice_set, Option, arith}
+use Rattle.std.proofs.Common.{◌≡◌, List, refl, ap, subst, ◌<◌, false, length, slice_set, Option, arith}
 use Rattle.flow_design.specs.declared.plan.Plan.{Plan}
 use Rattle.flow_design.specs.declared.state.Advance.{Advance}
 use Rattle.module_interp.specs.declared.run.ModuleRun.{ModuleRun}
@@ -16,6 +16,7 @@ use Rattle.sim_core.specs.Views.{CoreView, theory_of}
 use Rattle.sim_core.proofs.Asking.{asking_more}
 use Rattle.sim_core.proofs.Waking.{waking_more}
 use Rattle.sim_core.proofs.Lends as lends
+use Rattle.sim_core.proofs.Listing.{listed_roomed}
 use Rattle.sim_core.proofs.QueryRoom.{bodies_told}
 use Rattle.sim_core.proofs.Returning as returning
 use Rattle.sim_core.proofs.Roomed as roomed
@@ -90,14 +91,17 @@ invariant_of-self c = record {
     running_are = waking_more c.self.inside.plan _ c.self.inside.due.running c.self.invariant.due_are.running_are
         c.beside-beside.result.now c.args.owner c.spread.new.set c.spread.ensures;
   };
-  candidate_count = c.self.invariant.candidate_count;
+  listed_are = listed_roomed c.self.inside.plan _ c.self.inside.due c.self.inside.candidates c.self.invariant.listed_are c.args.owner
+      (record { asking = c.add.new.self; running = c.spread.new.set; unlisted = c.self.inside.due.unlisted })
+      c.self.invariant.due_are.asking_are.room c.add.ensures refl;
 }
 
 pub invariant_of-self-in_err-make_room_for : goal.invariant_of-self-in_err-make_room_for
 invariant_of-self-in_err-make_room_for c =
     roomed.stored_roomed c.self.invariant c.args.owner (rw (← c.self.view_is) at c.requires.owner) _ c.ports_of.ensures
     c.make_room_for.new.self c.make_room_for.ensures.same c.make_room_for.ensures.room
-    (record { asking = c.add.new.self; running = c.spread.new.set }) c.add.ensures (rw c.beside-beside.ensures at c.spread.ensures)
+    (record { asking = c.add.new.self; running = c.spread.new.set; unlisted = c.self.inside.due.unlisted }) c.add.ensures
+    (rw c.beside-beside.ensures at c.spread.ensures) refl
 
 pub record_all-requires-clause-returned : goal.record_all-requires-clause-returned
 record_all-requires-clause-returned c =
@@ -120,7 +124,8 @@ invariant_of-self-2 c =
     (c.keep_unread.ensures (core_values (design (p there)) (core_in (p there) u ends2)) (length (p there).design.channels) unread
     (λ channel within mine. lends.left_next core2 (inside there)
     (c.record_all.ensures.left (p there) (runs there) last back) channel))
-    (record { asking = c.add.new.self; running = c.spread.new.set }) c.add.ensures (rw c.beside-beside.ensures at c.spread.ensures)
+    (record { asking = c.add.new.self; running = c.spread.new.set; unlisted = c.self.inside.due.unlisted }) c.add.ensures
+    (rw c.beside-beside.ensures at c.spread.ensures) refl
 
 pub put_back-requires : goal.put_back-requires
 put_back-requires c =

@@ -14,9 +14,11 @@ pub invariant_of-self : goal.invariant_of-self
 invariant_of-self g c =
     timed.stored c.self.invariant c.args.owner (rw (← c.self.view_is) at c.requires.owner) c.time_first-timing.new.self
     c.time_first-timing.result c.time_first-timing.ensures.done c.time_first-timing.ensures.room c.time_first-timing.ensures.kinds
-    c.time_first-timing.ensures.less (record { asking = c.ask_after.new.asking; running = c.wake_after.new.running })
+    c.time_first-timing.ensures.less
+    (record { asking = c.ask_after.new.asking; running = c.wake_after.new.running; unlisted = c.ask_after.new.unlisted })
     c.ask_after.ensures.room c.ask_after.ensures.others c.ask_after.ensures.own c.ask_after.ensures.acted
     (rw c.beside-beside.ensures at c.ask_after.ensures.beside) (rw c.beside-beside.ensures at c.wake_after.ensures)
+    c.ask_after.ensures.unlisted_room c.ask_after.ensures.listed
 
 pub beside-beside-requires : goal.beside-beside-requires
 beside-beside-requires g c =

@@ -1,5 +1,6 @@
 -- The next local clock with work.
-use Rattle.std.proofs.Common.{◌≡◌, refl, sym, ◌∙◌, ap, ap₂, subst, arith, zero-add, ℕ, zero, suc, ◌+◌, ◌-◌, ◌*◌, ◌/◌, ◌%◌, ◌<◌, ◌≤◌, inl, inr, length, map, get_or, Bool}
+use Rattle.std.proofs.Common.{◌≡◌, refl, sym, ◌∙◌, ap, ap₂, subst, arith, zero-add, ℕ, zero, suc}
+use Rattle.std.proofs.Common.{◌+◌, ◌-◌, ◌*◌, ◌/◌, ◌%◌, ◌<◌, ◌≤◌, inl, inr, length, map, get_or, Bool}
 use Rattle.std.proofs.Common.{true, false, cond}
 use Rattle.std.specs.Prelude.{Contains, All}
 use Rattle.std.specs.List.{enumerate_from}

@@ -36,7 +36,8 @@ pub record IsRange (slots : List Slot) (first end from to : ℕ) : Type 0 where
 -- so many ranges, each of the phase of its own number among these slots
 abbrev pub ArePhases : List Slot → List (ℕ × ℕ) → Type 0
 ArePhases slots phases = (p : ℕ) (d : ℕ × ℕ) → p < length phases
-    → IsRange slots (p * LIVE_ITERATIONS) (p * LIVE_ITERATIONS + LIVE_ITERATIONS) (slice_index_or phases p d).0 (slice_index_or phases p d).1
+    → IsRange slots (p * LIVE_ITERATIONS) (p * LIVE_ITERATIONS + LIVE_ITERATIONS)
+    (slice_index_or phases p d).0 (slice_index_or phases p d).1
 
 -- ---- schedules
 

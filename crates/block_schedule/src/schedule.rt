@@ -1,7 +1,8 @@
 //! The schedule of a block.
-ghost use Rattle.std.specs.Prelude.{ℕ, ◌≡◌, ◌+◌, ◌-◌, ◌*◌, ◌/◌, ◌^◌, ◌≤◌, ◌<◌, if◌then◌else◌, length, map, slice_index_or, All, IfOk, IfSome, None};
+ghost use Rattle.std.specs.Prelude.{ℕ, ◌≡◌, ◌+◌, ◌-◌, ◌*◌, ◌/◌, ◌^◌, ◌≤◌, ◌<◌, if◌then◌else◌, length, map, slice_index_or};
+ghost use Rattle.std.specs.Prelude.{None, All, IfOk, IfSome};
 ghost use Rattle.std.specs.List.Sorted.{IsNonDecreasingBy};
-ghost use Rattle.flow_design.specs.declared.limits.TheConstants.{BLOCK_CLOCKS, LIVE_ITERATIONS};
+ghost use Rattle.flow_design.specs.declared.limits.TheConstants.{LIVE_ITERATIONS};
 ghost use Rattle.flow_design.specs.declared.design.Block.{Block as BlockOf};
 ghost use Rattle.flow_design.specs.Module.{ages_down, interval, live_count};
 ghost use Rattle.block_schedule.specs.Schedules.{rank, due_at_ages, placed, IsSlotOf};
@@ -16,8 +17,9 @@ use flow_design::{Block, Control};
 use flow_word::OutOfMemory;
 use std::alloc::Global;
 
-/// A block's operations by phases: a local clock is of phase p where the newest iteration started p or more whole II before it.
-/// What is due in a clock stands together. Its size is that of the operations, however long the block is.
+/// A block's operations by phase. A local clock has phase p, which is below II, where the newest iteration started p clocks
+/// before it, or p and some whole II. What is due in a clock stands together here. The size is that of the operations, however
+/// long the block is.
 #[derive(Debug)]
 pub struct Schedule {
     interval: u64,

@@ -13,7 +13,8 @@ use Rattle.module_move.proofs.Looking.{due_by_phase}
 use Rattle.module_move.proofs.noting.note_due.Goals as goal
 
 -- what was noted of those that pass is of all that are due
-all_due : {X : Type 0} (h : List Due → List X) (m : Module) (s : ModuleState) (live : ℕ) (its : List (ℕ × ℕ)) (none now : List X) → none ≡ []
+all_due : {X : Type 0} (h : List Due → List X) (m : Module) (s : ModuleState) (live : ℕ) (its : List (ℕ × ℕ)) (none now : List X)
+    → none ≡ []
     → live ≡ live_count (block_of m s) s.control
     → its ≡ due_at_ages (block_of m s) (ages_down (interval (block_of m s)) (s.control.clock - s.control.newest) live)
     → now ≡ none ++ h (passing (block_of m s) s its) → now ≡ h (due m s)

@@ -13,7 +13,8 @@ returns-then-age-whole-clause-some c b is =
     let within : place + i < length s.slots.items =
     omega (arith, c.loop-slot-test.true, c.deref.ensures.len, ap (λ (ts : List Slot). length ts) items, length-drop place s.slots.items) in
     let t : Slot = get_or _ i d in
-    let read : t ≡ get_or s.slots.items (place + i) d = ap (λ (ts : List Slot). get_or ts i d) items ∙ get_or-drop place s.slots.items i d in
+    let read : t ≡ get_or s.slots.items (place + i) d =
+    ap (λ (ts : List Slot). get_or ts i d) items ∙ get_or-drop place s.slots.items i d in
     next_phase b s c.args.whole c.args.live c.args.phase place (place + i) t is at none (omega arith) within
     (read ∙ get_or_default s.slots.items (place + i) d t within)
     (record { from = c.if-whole-age.true; to = c.if-age-whole.true })

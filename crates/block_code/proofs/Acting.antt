@@ -1,30 +1,16 @@
 -- The action of each operation.
 use Rattle.std.proofs.Common.{◌≡◌, refl, ◌∙◌, ap, ℕ, List, Bool, true, false, cond, [], ◌∷◌, ◌++◌, Option, Some}
-use Rattle.std.specs.Prelude.{slice_index, fold, map}
-use Rattle.std.specs.Int.{from_bool}
-use Rattle.std.specs.Int.Bits.{bit_and}
+use Rattle.std.specs.{Prelude.slice_index, Prelude.fold, Prelude.map, Int.from_bool, Int.Bits.bit_and}
 use Rattle.flow_word.specs.declared.access.Kind.TheVariants as kind
-use Rattle.flow_design.specs.declared.design.Block.{Block}
-use Rattle.flow_design.specs.declared.design.Channel.{Channel}
-use Rattle.flow_design.specs.declared.design.Module.{Module}
-use Rattle.flow_design.specs.declared.expr.Expr.{Expr}
+use Rattle.flow_design.specs.{declared.design.Block.Block, declared.design.Channel.Channel, declared.design.Module.Module}
+use Rattle.flow_design.specs.{declared.expr.Expr.Expr, declared.state.Effect.TheVariants.Variable, declared.state.ModuleState.ModuleState}
+use Rattle.flow_design.specs.{declared.state.Reply.Reply, declared.state.Request.Request, Words.cut_to, Module.temps_of}
 use Rattle.flow_design.specs.declared.expr.Op.TheVariants as op
-use Rattle.flow_design.specs.declared.state.Effect.TheVariants.{Variable}
-use Rattle.flow_design.specs.declared.state.ModuleState.{ModuleState}
-use Rattle.flow_design.specs.declared.state.Reply.{Reply}
-use Rattle.flow_design.specs.declared.state.Request.{Request}
 use Rattle.flow_word.specs.declared.access.Kind.{Kind}
-use Rattle.flow_design.specs.Words.{cut_to}
-use Rattle.flow_design.specs.Module.{temps_of}
 use Rattle.lockstep_defs.specs.Machine.{memory_of, address_in, width_of, value_of, value_in, is_yes, stored}
-use Rattle.block_code.specs.declared.operand.Operand.{Operand}
-use Rattle.block_code.specs.declared.target.Target.{Target}
+use Rattle.block_code.specs.{declared.operand.Operand.Operand, declared.target.Target.Target, Masks.IsMaskOf, Operands.IsOperandOf}
+use Rattle.block_code.specs.{Ready.places_in, Targets.put, Targets.put_word, Targets.IsTargetOf, Actions.held, Actions.IsActionOf}
 use Rattle.block_code.specs.declared.action.Action.TheVariants as action
-use Rattle.block_code.specs.Masks.{IsMaskOf}
-use Rattle.block_code.specs.Operands.{IsOperandOf}
-use Rattle.block_code.specs.Ready.{places_in}
-use Rattle.block_code.specs.Targets.{put, put_word, IsTargetOf}
-use Rattle.block_code.specs.Actions.{held, IsActionOf}
 use Rattle.block_code.proofs.Masking.{masked_is}
 
 -- what a write asks

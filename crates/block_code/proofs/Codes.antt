@@ -1,7 +1,6 @@
 -- A block more, and an operation more.
 use Rattle.std.proofs.Common.{◌≡◌, ◌∙◌, ℕ, ◌+◌, ◌<◌, ◌++◌, [], ◌∷◌, List, length, get_or, sym, ap, subst, arith, inl, inr}
-use Rattle.std.proofs.lemmas.Bool.{cases_lt}
-use Rattle.std.proofs.lemmas.List.{get_or_push, get_or_append_left}
+use Rattle.std.proofs.{lemmas.Bool.cases_lt, lemmas.List.get_or_push, lemmas.List.get_or_append_left}
 
 -- what holds of each item up to the n-th still does, and of one item more
 pub each_more : {X : Type 0} (P : ℕ → X → Type 0) (before now : List X) (i : ℕ) (x : X) → length before ≡ i → now ≡ before ++ x ∷ [] → P i x

@@ -1,11 +1,10 @@
 -- Running flat code.
-use Rattle.std.proofs.Common.{◌≡◌, refl, sym, ◌∙◌, ap, arith, ℕ, suc, ◌+◌, ◌<◌, ◌≤◌, List, [], ◌∷◌, ◌++◌, length, take, drop, get_or}
-use Rattle.std.proofs.Common.{set, subst}
+use Rattle.std.proofs.Common.{◌≡◌, refl, sym, ◌∙◌, ap, arith, ℕ, suc, ◌+◌, ◌<◌, ◌≤◌, List, [], ◌∷◌, ◌++◌, length, take, drop, get_or, set}
+use Rattle.std.proofs.Common.{subst}
 use Rattle.std.proofs.lemmas.List.{drop_more, take_more_set, length-append, get_or_append_left}
 use Rattle.std.proofs.Math.Seq.{get_or-append_seam}
-use Rattle.block_code.specs.declared.flat.Argument.{Argument}
+use Rattle.block_code.specs.{declared.flat.Argument.Argument, declared.flat.Instruction.Instruction}
 use Rattle.block_code.specs.declared.flat.Argument.TheVariants.{Number, Var, VarNumber, VarVar, Result}
-use Rattle.block_code.specs.declared.flat.Instruction.{Instruction}
 use Rattle.block_code.specs.Flat.{argument_value, result_of, ran, IsArgumentSound, IsInstructionSound, AreSound}
 
 -- an instruction more

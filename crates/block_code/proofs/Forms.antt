@@ -1,13 +1,10 @@
 -- The forms of operands.
 use Rattle.std.proofs.Common.{◌≡◌, sym, ◌∙◌, ap, subst, arith, ℕ, List, [], ◌∷◌, length, get_or}
-use Rattle.flow_design.specs.declared.expr.Expr.{Expr}
-use Rattle.flow_design.specs.declared.expr.BinOp.{BinOp}
-use Rattle.block_code.specs.declared.flat.Argument.{Argument}
-use Rattle.block_code.specs.declared.flat.Argument.TheVariants as arg
-use Rattle.block_code.specs.declared.flat.Instruction.{Instruction}
+use Rattle.flow_design.specs.{declared.expr.Expr.Expr, declared.expr.BinOp.BinOp}
+use Rattle.block_code.specs.{declared.flat.Argument.Argument, declared.flat.Instruction.Instruction, Operands.IsOperandOf}
 use Rattle.block_code.specs.declared.operand.Operand.TheVariants.{Number, Var, VarNumber, VarVar, Single, Long}
 use Rattle.block_code.specs.Flat.{result_of, IsCodeOf, AreSound}
-use Rattle.block_code.specs.Operands.{IsOperandOf}
+use Rattle.block_code.specs.declared.flat.Argument.TheVariants as arg
 use Rattle.block_code.proofs.Flats.{last_result, ran_none, sound_first}
 
 none_sound : (places : ℕ) → AreSound places 0 []

@@ -1,15 +1,10 @@
 -- Cutting by a mask, and putting into a target.
 use Rattle.std.proofs.Common.{◌≡◌, ap, ◌∙◌, arith, ℕ, ◌-◌, ◌<◌, ◌≤◌, ◌%◌, ◌^◌, length}
-use Rattle.std.specs.Prelude.{slice_index, slice_set}
-use Rattle.std.specs.Int.Bits.{bit_and}
-use Rattle.std.proofs.lemmas.Nat.{and_mask}
-use Rattle.std.proofs.lemmas.Bool.{lt-ltb, le-ltb}
-use Rattle.flow_design.specs.declared.design.Block.{Block}
-use Rattle.flow_design.specs.declared.design.Module.{Module}
-use Rattle.flow_design.specs.Module.{temps_of}
+use Rattle.std.proofs.{lemmas.Nat.and_mask, lemmas.Bool.lt-ltb, lemmas.Bool.le-ltb}
+use Rattle.std.specs.{Prelude.slice_index, Prelude.slice_set, Int.Bits.bit_and}
+use Rattle.flow_design.specs.{declared.design.Block.Block, declared.design.Module.Module, Module.temps_of}
 use Rattle.block_code.specs.declared.target.Target.TheVariants.{Register, Temp}
-use Rattle.block_code.specs.Masks.{IsMaskOf}
-use Rattle.block_code.specs.Targets.{IsTargetOf}
+use Rattle.block_code.specs.{Masks.IsMaskOf, Targets.IsTargetOf}
 
 pub masked_is : (n width mask : ℕ) → IsMaskOf width mask → bit_and n mask ≡ n % 2 ^ width
 masked_is n width mask ones =

@@ -1,14 +1,9 @@
 -- What was noted, and the replies, give what the operations write.
 use Rattle.std.proofs.Common.{◌≡◌, refl, ◌∙◌, ap, ℕ, List, [], ◌∷◌, ◌++◌, map, drop, cond, get_or}
-use Rattle.flow_design.specs.declared.design.Block.{Block}
-use Rattle.flow_design.specs.declared.expr.Op.{Op}
+use Rattle.flow_design.specs.{declared.design.Block.Block, declared.expr.Op.Op, declared.state.Due.Due, declared.state.Effect.Effect}
+use Rattle.flow_design.specs.{declared.state.Reply.Reply, declared.state.Reply.TheVariants.Done, Module.operation_at}
 use Rattle.flow_design.specs.declared.expr.Op.TheVariants.{Set, Load, Store, Read, Write, TryRead, TryWrite, Empty, Full}
-use Rattle.flow_design.specs.declared.state.Due.{Due}
-use Rattle.flow_design.specs.declared.state.Effect.{Effect}
 use Rattle.flow_design.specs.declared.state.ModuleState.{ModuleState}
-use Rattle.flow_design.specs.declared.state.Reply.{Reply}
-use Rattle.flow_design.specs.declared.state.Reply.TheVariants.{Done}
-use Rattle.flow_design.specs.Module.{operation_at}
 use Rattle.lockstep_defs.specs.Machine.{effects_of, effects, is_fifo_operation}
 use Rattle.block_code.specs.Notes.{noted_value, noted_address, noted_for, effects_from, effects_by}
 

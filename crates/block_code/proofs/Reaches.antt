@@ -1,12 +1,9 @@
 -- The reach of an expression, variant by variant.
 use Rattle.std.proofs.Common.{◌≡◌, sym, ◌∙◌, ap, arith, ℕ, ◌+◌, ◌<◌, ◌≤◌, max}
-use Rattle.flow_design.specs.declared.expr.Expr.{Expr, fold-roll-Expr}
-use Rattle.flow_design.specs.declared.expr.Expr.TheOpen.{Expr-F}
-use Rattle.flow_design.specs.declared.expr.Expr.TheVariants.{Var, Unary, Binary, Sext, Pick, rolls-Var, rolls-Unary}
-use Rattle.flow_design.specs.declared.expr.Expr.TheVariants.{rolls-Binary, rolls-Sext, rolls-Pick}
-use Rattle.flow_design.specs.declared.expr.UnOp.{UnOp}
-use Rattle.flow_design.specs.declared.expr.BinOp.{BinOp}
-use Rattle.flow_design.specs.Words.{reach, layer_reach}
+use Rattle.flow_design.specs.{declared.expr.Expr.Expr, declared.expr.Expr.fold-roll-Expr, declared.expr.Expr.TheOpen.Expr-F}
+use Rattle.flow_design.specs.{declared.expr.UnOp.UnOp, declared.expr.BinOp.BinOp, Words.reach, Words.layer_reach}
+use Rattle.flow_design.specs.declared.expr.Expr.TheVariants.{Var, Unary, Binary, Sext, Pick, rolls-Var, rolls-Unary, rolls-Binary}
+use Rattle.flow_design.specs.declared.expr.Expr.TheVariants.{rolls-Sext, rolls-Pick}
 
 pub reach_var : (x : ℕ) → reach (Var x) ≡ x + 1
 unfolding reach

@@ -1,25 +1,15 @@
 -- What an action takes from the state before the replies, what it writes on its reply, and that it does what its operation does.
 use Rattle.std.specs.Prelude.{ℕ, ◌≡◌, ◌<◌, Bool, true, false, List, fold, max, length, Option, Some, None, slice_index, if◌then◌else◌}
-use Rattle.std.specs.Int.{from_bool}
-use Rattle.std.specs.Int.Bits.{bit_and}
+use Rattle.std.specs.{Int.from_bool, Int.Bits.bit_and}
 use Rattle.flow_word.specs.declared.access.Kind.TheVariants as kind
-use Rattle.flow_design.specs.declared.design.Block.{Block}
-use Rattle.flow_design.specs.declared.design.Channel.{Channel}
-use Rattle.flow_design.specs.declared.design.Module.{Module}
-use Rattle.flow_design.specs.declared.expr.Op.{Op}
+use Rattle.flow_design.specs.{declared.design.Block.Block, declared.design.Channel.Channel, declared.design.Module.Module}
+use Rattle.flow_design.specs.{declared.expr.Op.Op, declared.state.Reply.Reply, declared.state.Request.Request, Module.temps_of}
 use Rattle.flow_design.specs.declared.state.ModuleState.{ModuleState}
-use Rattle.flow_design.specs.declared.state.Reply.{Reply}
-use Rattle.flow_design.specs.declared.state.Request.{Request}
-use Rattle.flow_design.specs.Module.{temps_of}
 use Rattle.lockstep_defs.specs.Machine.{memory_of, address_in, value_in, is_yes, request_of, is_fifo_operation, stored}
-use Rattle.block_code.specs.declared.noted.Noted.{Noted}
-use Rattle.block_code.specs.declared.operand.Operand.{Operand}
-use Rattle.block_code.specs.declared.action.Action.{Action}
+use Rattle.block_code.specs.{declared.noted.Noted.Noted, declared.operand.Operand.Operand, declared.action.Action.Action, Notes.noted_value}
+use Rattle.block_code.specs.{Notes.noted_address, Notes.effects_from, Ready.places_in, Ready.IsReady, Targets.put, Targets.put_word}
 use Rattle.block_code.specs.declared.action.Action.TheVariants.{Set, Load, Store, Read, Write, TryRead, TryWrite, Empty, Full}
 use Rattle.block_code.specs.Operands.{operand_value, IsOperandSound, room_of}
-use Rattle.block_code.specs.Notes.{noted_value, noted_address, effects_from}
-use Rattle.block_code.specs.Ready.{places_in, IsReady}
-use Rattle.block_code.specs.Targets.{put, put_word}
 
 -- ---- before the replies
 

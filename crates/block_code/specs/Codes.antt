@@ -1,13 +1,9 @@
 -- The code of blocks.
 use Rattle.std.specs.Prelude.{ℕ, ◌≡◌, ◌<◌, ◌≤◌, List, length, slice_index_or}
-use Rattle.flow_design.specs.declared.design.Block.{Block}
-use Rattle.flow_design.specs.declared.design.Channel.{Channel}
-use Rattle.flow_design.specs.declared.design.Module.{Module}
+use Rattle.flow_design.specs.{declared.design.Block.Block, declared.design.Channel.Channel, declared.design.Module.Module}
 use Rattle.flow_design.specs.Module.{block_at, operation_at}
 use Rattle.block_schedule.specs.Schedules.{IsScheduleOf}
-use Rattle.block_code.specs.declared.code.BlockCode.{BlockCode}
-use Rattle.block_code.specs.declared.code.Guarded.{Guarded}
-use Rattle.block_code.specs.Actions.{IsActionOf, action_room}
+use Rattle.block_code.specs.{declared.code.BlockCode.BlockCode, declared.code.Guarded.Guarded, Actions.IsActionOf, Actions.action_room}
 
 -- these are the actions of a block's operations, each with its guard; none needs room for more results than `room`
 pub record AreActionsOf (channels : List Channel) (m : Module) (b : Block) (room : ℕ) (actions : List Guarded) : Type 0 where

@@ -1,10 +1,7 @@
 -- What an operation of a live iteration looks up is there.
 use Rattle.std.specs.Prelude.{ℕ, ◌+◌, ◌<◌, ◌≤◌, length}
-use Rattle.flow_design.specs.declared.expr.Op.{Op}
+use Rattle.flow_design.specs.{declared.expr.Op.Op, declared.state.ModuleState.ModuleState, Words.reach, Module.temps_of}
 use Rattle.flow_design.specs.declared.expr.Op.TheVariants.{Set, Load, Store, Read, Write, TryRead, TryWrite, Empty, Full}
-use Rattle.flow_design.specs.declared.state.ModuleState.{ModuleState}
-use Rattle.flow_design.specs.Words.{reach}
-use Rattle.flow_design.specs.Module.{temps_of}
 use Rattle.lockstep_defs.specs.Machine.{memory_of}
 
 -- how many registers a module and temps a live iteration has, together

@@ -1,11 +1,7 @@
 -- Where an operation's value goes.
-use Rattle.std.specs.Prelude.{ℕ, ◌≡◌, slice_set}
-use Rattle.std.specs.Int.Bits.{bit_and}
-use Rattle.flow_design.specs.declared.design.Block.{Block}
-use Rattle.flow_design.specs.declared.design.Module.{Module}
-use Rattle.flow_design.specs.declared.state.Effect.TheVariants.{Variable}
-use Rattle.flow_design.specs.declared.state.ModuleState.{ModuleState}
-use Rattle.flow_design.specs.Module.{temps_of}
+use Rattle.std.specs.{Prelude.ℕ, Prelude.◌≡◌, Prelude.slice_set, Int.Bits.bit_and}
+use Rattle.flow_design.specs.{declared.design.Block.Block, declared.design.Module.Module, declared.state.Effect.TheVariants.Variable}
+use Rattle.flow_design.specs.{declared.state.ModuleState.ModuleState, Module.temps_of}
 use Rattle.lockstep_defs.specs.Machine.{memory_of, stored}
 use Rattle.block_code.specs.declared.target.Target.{Target}
 use Rattle.block_code.specs.declared.target.Target.TheVariants.{Register, Temp}

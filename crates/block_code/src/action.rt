@@ -1,8 +1,7 @@
 //! Operations as actions: their expressions are operands, and the places that they write have masks.
 ghost use Rattle.std.specs.Prelude.{◌≡◌, IfOk, slice_index, map};
 ghost use Rattle.lockstep_defs.specs.Machine.{width_of};
-ghost use Rattle.block_code.specs.Masks.{IsMaskOf};
-ghost use Rattle.block_code.specs.Actions.{IsActionOf, action_room, takes_reply};
+ghost use Rattle.block_code.specs.{Masks.IsMaskOf, Actions.IsActionOf, Actions.action_room, Actions.takes_reply};
 
 use crate::operand::{Operand, operand_of};
 use crate::target::{Target, mask_of, target_of};

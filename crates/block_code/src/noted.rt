@@ -1,9 +1,7 @@
 //! What is noted of a due operation before the replies.
 ghost use Rattle.std.specs.Prelude.{◌≡◌, ℕ, List as Items, map};
-ghost use Rattle.flow_design.specs.declared.design.Block.{Block as BlockOf};
-ghost use Rattle.flow_design.specs.declared.state.Due.{Due as DueOf};
-ghost use Rattle.flow_design.specs.declared.state.ModuleState.{ModuleState as StateOf};
-ghost use Rattle.flow_design.specs.declared.state.Reply.{Reply as ReplyOf};
+ghost use Rattle.flow_design.specs.{declared.design.Block.Block as BlockOf, declared.state.Due.Due as DueOf};
+ghost use Rattle.flow_design.specs.{declared.state.ModuleState.ModuleState as StateOf, declared.state.Reply.Reply as ReplyOf};
 ghost use Rattle.lockstep_defs.specs.Machine.{effects};
 ghost use Rattle.block_code.specs.Notes.{noted_for, effects_by};
 

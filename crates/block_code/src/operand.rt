@@ -1,7 +1,6 @@
 //! The operands of actions: expressions, of which short ones need no list of instructions.
 ghost use Rattle.std.specs.Prelude.{◌≡◌, ℕ, ◌+◌, ◌≤◌, [], List as Items, length, IfOk};
-ghost use Rattle.flow_design.specs.declared.expr.Expr.{Expr as ExprOf};
-ghost use Rattle.flow_design.specs.Words.{value, reach};
+ghost use Rattle.flow_design.specs.{declared.expr.Expr.Expr as ExprOf, Words.value, Words.reach};
 ghost use Rattle.block_code.specs.Flat.{IsCodeOf, IsInstructionSound, result_of};
 ghost use Rattle.block_code.specs.Operands.{operand_value, IsOperandSound, room_of, IsOperandOf};
 

@@ -2,11 +2,8 @@
 ghost use Rattle.std.specs.Prelude.{◌≡◌, ◌<◌, ◌≤◌, ℕ, length, slice_index};
 ghost use Rattle.flow_design.specs.Module.{temps_of};
 ghost use Rattle.lockstep_defs.specs.Machine.{memory_of, address_in};
-ghost use Rattle.block_code.specs.Operands.{IsOperandSound, room_of};
-ghost use Rattle.block_code.specs.Ready.{places_in};
-ghost use Rattle.block_code.specs.Actions.{held, action_value, action_address, action_request, action_room};
-ghost use Rattle.block_code.specs.Actions.{IsActionReady, carried_out};
-ghost use Rattle.block_code.specs.declared.running.Prepared.TheVariants.{Asks};
+ghost use Rattle.block_code.specs.{Operands.IsOperandSound, Operands.room_of, Ready.places_in, declared.running.Prepared.TheVariants.Asks};
+ghost use Rattle.block_code.specs.Actions.{held, action_value, action_address, action_request, action_room, IsActionReady, carried_out};
 ghost use Rattle.block_code.specs.Prepared.{written_value, written_address, request_in};
 
 use crate::action::Action;

@@ -1,7 +1,6 @@
 //! Where operations write: a register or a temp, with the mask of its width.
 ghost use Rattle.std.specs.Prelude.{◌≡◌, ℕ, ◌+◌, ◌^◌, slice_index};
-ghost use Rattle.block_code.specs.Masks.{IsMaskOf};
-ghost use Rattle.block_code.specs.Targets.{IsTargetOf, put, put_word};
+ghost use Rattle.block_code.specs.{Masks.IsMaskOf, Targets.IsTargetOf, Targets.put, Targets.put_word};
 
 use flow_design::{Block, Module, ModuleState, put_at, set_at};
 use flow_word::Width;

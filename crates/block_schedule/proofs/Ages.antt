@@ -1,15 +1,11 @@
 -- The slots of a range of ranks are those of the ages of live iterations.
 use Rattle.std.proofs.Common.{◌≡◌, refl, sym, ◌∙◌, ap, ap₂, arith, ℕ, zero, suc, ◌+◌, ◌-◌, ◌*◌, ◌<◌, ◌≤◌, ◌⊎◌, inl, inr, List, [], ◌∷◌}
 use Rattle.std.proofs.Common.{◌++◌, length, map, take, get_or, Bool, true, false, cond, ◌&&◌, ◌==◌, nat_le, nat_lt}
-use Rattle.std.specs.Prelude.{filter, slice_range, flat_map}
-use Rattle.std.specs.List.{enumerate_from}
-use Rattle.std.specs.List.Sorted.{IsNonDecreasingBy}
 use Rattle.std.proofs.lemmas.Bool.{lt-ltb, le-ltb, le-leb, lt-leb, eq-eqb, ne_eqb, eqb-true, cases_order, cases_lt}
 use Rattle.std.proofs.lemmas.List.{map-append, take_all, drop_all}
-use Rattle.flow_design.specs.declared.design.Block.{Block}
-use Rattle.flow_design.specs.Module.{due_at, ages_down}
-use Rattle.block_schedule.specs.declared.tables.Slot.{Slot}
-use Rattle.block_schedule.specs.Schedules.{of_rank, placed, IsRange}
+use Rattle.std.specs.{Prelude.filter, Prelude.slice_range, Prelude.flat_map, List.enumerate_from, List.Sorted.IsNonDecreasingBy}
+use Rattle.flow_design.specs.{declared.design.Block.Block, Module.due_at, Module.ages_down}
+use Rattle.block_schedule.specs.{declared.tables.Slot.Slot, Schedules.of_rank, Schedules.placed, Schedules.IsRange}
 
 -- the slots whose ranks are at least the first and below the end
 abbrev pub between : ℕ → ℕ → List Slot → List Slot

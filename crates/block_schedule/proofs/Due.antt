@@ -1,19 +1,14 @@
 -- What a schedule gives of the ages of live iterations.
 use Rattle.std.proofs.Common.{◌≡◌, sym, ◌∙◌, ap, arith, add-zero, ℕ, ◌+◌, ◌-◌, ◌*◌, ◌%◌, ◌<◌, ◌≤◌, length, map, drop, get_or}
-use Rattle.std.specs.Prelude.{All, slice_range}
-use Rattle.std.specs.List.{enumerate_from}
 use Rattle.std.proofs.lemmas.List.{length-map, length-take, get_or-map, get_or-take, get_or-drop}
 use Rattle.std.proofs.lemmas.List.FromFn.{get_or-enumerate_from, length-enumerate_from}
 use Rattle.std.proofs.lemmas.List.Sorted.{All-permutation}
-use Rattle.flow_design.specs.declared.limits.TheConstants.{LIVE_ITERATIONS}
-use Rattle.flow_design.specs.declared.design.Block.{Block}
-use Rattle.flow_design.specs.declared.design.Timed.{Timed}
+use Rattle.std.specs.{Prelude.All, Prelude.slice_range, List.enumerate_from}
+use Rattle.flow_design.specs.{declared.limits.TheConstants.LIVE_ITERATIONS, declared.design.Block.Block, declared.design.Timed.Timed}
 use Rattle.flow_design.specs.Module.{interval, ages_down, due_at, no_operation}
-use Rattle.block_schedule.specs.declared.schedule.Schedule.{Schedule}
-use Rattle.block_schedule.specs.declared.tables.Slot.{Slot}
+use Rattle.block_schedule.specs.{declared.schedule.Schedule.Schedule, declared.tables.Slot.Slot}
 use Rattle.block_schedule.specs.Schedules.{rank, slot_of, of_rank, placed, due_at_ages, IsRange, IsScheduleOf, IsSlotOf}
-use Rattle.block_schedule.proofs.Ranks.{few_older, rank_older}
-use Rattle.block_schedule.proofs.Ages.{between, range_is, range_of_ages}
+use Rattle.block_schedule.proofs.{Ranks.few_older, Ranks.rank_older, Ages.between, Ages.range_is, Ages.range_of_ages}
 
 -- an age is within each block of the schedule where it is within one
 pub same_bound : (b c : Block) (s : Schedule) (age live : ℕ) → IsScheduleOf b s → IsScheduleOf c s → age + (live - 1) * interval b < b.len

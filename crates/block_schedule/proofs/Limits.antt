@@ -1,8 +1,7 @@
 -- A sound block keeps the limits that a schedule needs.
 use Rattle.std.proofs.Common.{ℕ}
 use Rattle.std.specs.Prelude.{All}
-use Rattle.flow_design.specs.declared.design.Module.{Module}
-use Rattle.flow_design.specs.declared.design.Block.{Block}
+use Rattle.flow_design.specs.{declared.design.Module.Module, declared.design.Block.Block}
 use Rattle.flow_design.specs.StaticRules.{IsBlockSound, IsModuleSound}
 use Rattle.lockstep_defs.proofs.Blocks.{some_interval, short_interval, span}
 use Rattle.block_schedule.specs.Schedules.{KeepsLimits}

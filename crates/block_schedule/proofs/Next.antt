@@ -1,27 +1,18 @@
 -- The next local clock with work.
-use Rattle.std.proofs.Common.{◌≡◌, refl, sym, ◌∙◌, ap, ap₂, subst, arith, zero-add, ℕ, zero, suc}
-use Rattle.std.proofs.Common.{◌+◌, ◌-◌, ◌*◌, ◌/◌, ◌%◌, ◌<◌, ◌≤◌, inl, inr, length, map, get_or, Bool}
-use Rattle.std.proofs.Common.{true, false, cond}
-use Rattle.std.specs.Prelude.{Contains, All}
-use Rattle.std.specs.List.{enumerate_from}
-use Rattle.std.proofs.Math.Nat.{div-mul-le_self}
-use Rattle.std.proofs.lemmas.Bool.{cases_lt}
+use Rattle.std.proofs.Common.{◌≡◌, refl, sym, ◌∙◌, ap, ap₂, subst, arith, zero-add, ℕ, zero, suc, ◌+◌, ◌-◌, ◌*◌, ◌/◌, ◌%◌, ◌<◌, ◌≤◌, inl}
+use Rattle.std.proofs.Common.{inr, length, map, get_or, Bool, true, false, cond}
+use Rattle.std.proofs.{Math.Nat.div-mul-le_self, lemmas.Bool.cases_lt, lemmas.List.length-map, lemmas.List.get_or-map}
+use Rattle.std.proofs.{lemmas.List.get_or_default, lemmas.List.Sorted.Contains-permutation, lemmas.List.Sorted.IsPermutation-sym}
 use Rattle.std.proofs.lemmas.Nat.{div-add-mod', mod_below, div-mul-add, mod-mul-add, le-div}
-use Rattle.std.proofs.lemmas.List.{length-map, get_or-map, get_or_default}
 use Rattle.std.proofs.lemmas.List.FromFn.{get_or-enumerate_from, length-enumerate_from}
-use Rattle.std.proofs.lemmas.List.Sorted.{Contains-permutation, IsPermutation-sym}
-use Rattle.flow_design.specs.declared.limits.TheConstants.{LIVE_ITERATIONS}
-use Rattle.flow_design.specs.declared.design.Timed.{Timed}
-use Rattle.flow_design.specs.declared.design.Block.{Block}
-use Rattle.flow_design.specs.declared.state.Control.{Control}
-use Rattle.flow_design.specs.Module.{no_operation, interval, live_count, ages}
+use Rattle.std.specs.{Prelude.Contains, Prelude.All, List.enumerate_from}
+use Rattle.flow_design.specs.{declared.limits.TheConstants.LIVE_ITERATIONS, declared.design.Timed.Timed, declared.design.Block.Block}
+use Rattle.flow_design.specs.{declared.state.Control.Control, Module.no_operation, Module.interval, Module.live_count, Module.ages}
 use Rattle.lockstep_defs.specs.Laws.{IsLive}
 use Rattle.lockstep_defs.proofs.Live.{live_iff, are_ages}
-use Rattle.block_schedule.specs.declared.schedule.Schedule.{Schedule}
-use Rattle.block_schedule.specs.declared.tables.Slot.{Slot}
-use Rattle.block_schedule.specs.Schedules.{rank, slot_of, KeepsLimits, IsScheduleOf}
-use Rattle.block_schedule.specs.Work.{at_clock, HasOperationAt, HasOperation, HasWork, IsNextDue, StandsIn}
-use Rattle.block_schedule.specs.Work.{HasOperationIn, IsNextPhase, HasNoPhase}
+use Rattle.block_schedule.specs.{declared.schedule.Schedule.Schedule, declared.tables.Slot.Slot, Schedules.rank, Schedules.slot_of}
+use Rattle.block_schedule.specs.{Schedules.KeepsLimits, Schedules.IsScheduleOf, Work.at_clock, Work.HasOperationAt, Work.HasOperation}
+use Rattle.block_schedule.specs.{Work.HasWork, Work.IsNextDue, Work.StandsIn, Work.HasOperationIn, Work.IsNextPhase, Work.HasNoPhase}
 use Rattle.block_schedule.proofs.Ranks.{few_whole, rank_is, rank_parts}
 
 -- the age of the iteration that started so many intervals before the newest one

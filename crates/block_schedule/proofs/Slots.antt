@@ -1,21 +1,15 @@
 -- Slots by rank, and what stands at a rank.
-use Rattle.std.proofs.Common.{◌≡◌, refl, sym, ◌∙◌, ap, arith, ℕ, suc, zero-add, ◌+◌, ◌*◌, ◌<◌, ◌≤◌, ◌⊎◌, inl, inr, List, [], ◌∷◌}
-use Rattle.std.proofs.Common.{◌++◌, length, map, take, get_or, not, ◌&&◌, ◌==◌}
-use Rattle.std.specs.Prelude.{filter, IsPermutation, All}
-use Rattle.std.specs.List.{enumerate_from}
-use Rattle.std.specs.List.Sorted.{IsStableByKey}
-use Rattle.std.specs.Ordering.{nat_cmp, is_lt}
+use Rattle.std.proofs.Common.{◌≡◌, refl, sym, ◌∙◌, ap, arith, ℕ, suc, zero-add, ◌+◌, ◌*◌, ◌<◌, ◌≤◌, ◌⊎◌, inl, inr, List, [], ◌∷◌, ◌++◌}
+use Rattle.std.proofs.Common.{length, map, take, get_or, not, ◌&&◌, ◌==◌}
 use Rattle.std.proofs.lemmas.Bool.{lt-ltb, le-ltb, eq-eqb, ne_eqb, cases_order}
 use Rattle.std.proofs.lemmas.List.{length-map, take_more, take_all, map_push}
 use Rattle.std.proofs.lemmas.List.FromFn.{get_or-enumerate_from, length-enumerate_from}
-use Rattle.std.proofs.lemmas.List.Elements.{filter_agree}
-use Rattle.std.proofs.lemmas.List.Sorted.{length_permutation}
+use Rattle.std.proofs.{lemmas.List.Elements.filter_agree, lemmas.List.Sorted.length_permutation}
+use Rattle.std.specs.Prelude.{filter, IsPermutation, All}
+use Rattle.std.specs.{List.enumerate_from, List.Sorted.IsStableByKey, Ordering.nat_cmp, Ordering.is_lt}
 use Rattle.flow_design.specs.declared.limits.TheConstants.{LIVE_ITERATIONS}
-use Rattle.flow_design.specs.declared.design.Timed.{Timed}
-use Rattle.flow_design.specs.declared.design.Block.{Block}
-use Rattle.flow_design.specs.Module.{interval, due_at}
-use Rattle.block_schedule.specs.declared.tables.Slot.{Slot}
-use Rattle.block_schedule.specs.Schedules.{rank, slot_of, of_rank, KeepsLimits}
+use Rattle.flow_design.specs.{declared.design.Timed.Timed, declared.design.Block.Block, Module.interval, Module.due_at}
+use Rattle.block_schedule.specs.{declared.tables.Slot.Slot, Schedules.rank, Schedules.slot_of, Schedules.of_rank, Schedules.KeepsLimits}
 use Rattle.block_schedule.proofs.Ranks.{same_rank}
 
 -- ---- making

@@ -1,14 +1,10 @@
 -- What a schedule holds of its block.
 use Rattle.std.specs.Prelude.{ℕ, ◌≡◌, ◌+◌, ◌-◌, ◌*◌, ◌/◌, ◌%◌, ◌==◌, ◌<◌, ◌≤◌, List, map, filter, flat_map, length, slice_index_or, All}
 use Rattle.std.specs.Prelude.{IsPermutation}
-use Rattle.std.specs.List.{enumerate_from}
-use Rattle.std.specs.List.Sorted.{IsNonDecreasingBy}
+use Rattle.std.specs.{List.enumerate_from, List.Sorted.IsNonDecreasingBy}
 use Rattle.flow_design.specs.declared.limits.TheConstants.{BLOCK_CLOCKS, LIVE_ITERATIONS, OPERATIONS}
-use Rattle.flow_design.specs.declared.design.Block.{Block}
-use Rattle.flow_design.specs.declared.design.Timed.{Timed}
-use Rattle.flow_design.specs.Module.{interval, due_at}
-use Rattle.block_schedule.specs.declared.schedule.Schedule.{Schedule}
-use Rattle.block_schedule.specs.declared.tables.Slot.{Slot}
+use Rattle.flow_design.specs.{declared.design.Block.Block, declared.design.Timed.Timed, Module.interval, Module.due_at}
+use Rattle.block_schedule.specs.{declared.schedule.Schedule.Schedule, declared.tables.Slot.Slot}
 
 -- ---- ranks
 

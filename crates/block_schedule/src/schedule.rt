@@ -1,12 +1,10 @@
 //! The schedule of a block.
-ghost use Rattle.std.specs.Prelude.{ℕ, ◌≡◌, ◌+◌, ◌-◌, ◌*◌, ◌/◌, ◌^◌, ◌≤◌, ◌<◌, if◌then◌else◌, length, map, slice_index_or};
-ghost use Rattle.std.specs.Prelude.{None, All, IfOk, IfSome};
+ghost use Rattle.std.specs.Prelude.{ℕ, ◌≡◌, ◌+◌, ◌-◌, ◌*◌, ◌/◌, ◌^◌, ◌≤◌, ◌<◌, if◌then◌else◌, length, map, slice_index_or, None, All, IfOk};
+ghost use Rattle.std.specs.Prelude.{IfSome};
 ghost use Rattle.std.specs.List.Sorted.{IsNonDecreasingBy};
-ghost use Rattle.flow_design.specs.declared.limits.TheConstants.{LIVE_ITERATIONS};
-ghost use Rattle.flow_design.specs.declared.design.Block.{Block as BlockOf};
+ghost use Rattle.flow_design.specs.{declared.limits.TheConstants.LIVE_ITERATIONS, declared.design.Block.Block as BlockOf};
 ghost use Rattle.flow_design.specs.Module.{ages_down, interval, live_count};
-ghost use Rattle.block_schedule.specs.Schedules.{rank, due_at_ages, placed, IsSlotOf};
-ghost use Rattle.block_schedule.specs.Schedules.{KeepsLimits, ArePhases, IsScheduleOf, IsRange};
+ghost use Rattle.block_schedule.specs.Schedules.{rank, due_at_ages, placed, IsSlotOf, KeepsLimits, ArePhases, IsScheduleOf, IsRange};
 ghost use Rattle.block_schedule.specs.Work.{StandsIn, IsNextDue, IsNextPhase, HasNoPhase};
 
 use crate::tables::{

@@ -1,8 +1,6 @@
 //! What a schedule is made of.
 ghost use Rattle.std.specs.Prelude.{ℕ, ◌≡◌, ◌+◌, ◌-◌, ◌*◌, ◌<◌, ◌≤◌, length, map, slice_index_or, true, All, IfOk, OnOk, IsPermutation};
-ghost use Rattle.std.specs.List.Sorted.{IsNonDecreasingBy, IsStableByKey};
-ghost use Rattle.std.specs.List.{enumerate_from};
-ghost use Rattle.std.specs.Ordering.{nat_cmp};
+ghost use Rattle.std.specs.{List.Sorted.IsNonDecreasingBy, List.Sorted.IsStableByKey, List.enumerate_from, Ordering.nat_cmp};
 ghost use Rattle.flow_design.specs.declared.limits.TheConstants.{BLOCK_CLOCKS, LIVE_ITERATIONS, OPERATIONS};
 ghost use Rattle.flow_design.specs.Module.{interval};
 ghost use Rattle.block_schedule.specs.Schedules.{rank, slot_of, ArePhases, IsRange};

@@ -1,18 +1,15 @@
 -- What can give no command, whatever words follow.
-use Rattle.std.proofs.Common.{◌≡◌, List, [], ◌∷◌, ◌&&◌, ◌||◌, Option, Some, None, refl, true, false, subst, Bool, cond, length}
-use Rattle.std.proofs.Common.{arith, length-append, is_some}
-use Rattle.std.specs.Prelude.{ℕ, ◌^◌, option_and_then, nat_lt, not, Result, Ok, Err}
+use Rattle.std.proofs.Common.{◌≡◌, List, [], ◌∷◌, ◌&&◌, ◌||◌, Option, Some, None, refl, true, false, subst, Bool, cond, length, arith}
+use Rattle.std.proofs.Common.{length-append, is_some}
 use Rattle.std.proofs.lemmas.Bool.Decides.{nat_tests}
+use Rattle.std.specs.Prelude.{ℕ, ◌^◌, option_and_then, nat_lt, not, Result, Ok, Err}
 use Rattle.flow_design.specs.Limits.{limits_at}
-use Rattle.flow_word.specs.Number.{number_of}
-use Rattle.flow_word.specs.declared.number.NumberFault.{NumberFault}
-use Rattle.cli_words.specs.declared.Command.{Command}
-use Rattle.cli_words.specs.declared.rules.CommandName.{CommandName}
-use Rattle.cli_words.specs.declared.rules.CommandName.TheVariants as name
+use Rattle.flow_word.specs.{Number.number_of, declared.number.NumberFault.NumberFault}
+use Rattle.cli_words.specs.{declared.Command.Command, declared.rules.CommandName.CommandName}
 use Rattle.cli_words.specs.CommandWords.{Key, Cycles, Ops, Slack, Said, Text, Word, End, Events, Polls, Large, Lone, Takes, Has, Positional}
-use Rattle.cli_words.specs.CommandWords.{Unknown, after_word}
-use Rattle.cli_words.specs.CommandWords.{command_by, command_named, command_of, limit_in, name_of, said_from, scale_of, slack_in}
-use Rattle.cli_words.specs.CommandWords.{with_option, with_positionals, word_of}
+use Rattle.cli_words.specs.CommandWords.{Unknown, after_word, command_by, command_named, command_of, limit_in, name_of, said_from, scale_of}
+use Rattle.cli_words.specs.CommandWords.{slack_in, with_option, with_positionals, word_of}
+use Rattle.cli_words.specs.declared.rules.CommandName.TheVariants as name
 
 -- the digits write a number
 abbrev is_written : Result ℕ NumberFault → Bool

@@ -1,33 +1,20 @@
 -- What the parser's clauses say of one command, carried over to its literal form.
 use Rattle.std.proofs.Common.{◌≡◌, ◌∙◌, ◌≤◌, refl, sym, ap, subst, List, [], ◌∷◌, Result, Ok, Err, Bool, true, false, Option, Some, None}
 use Rattle.std.proofs.Common.{map, length, codes, arith, inl, inr}
-use Rattle.std.specs.Prelude.{slice_get, string_bytes, String}
-use Rattle.std.specs.List.{AllByRecursion}
-use Rattle.std.specs.Str.{IsUtf8}
 use Rattle.std.proofs.lemmas.Str.{IsUtf8-string_bytes}
-use Rattle.clap.specs.Walk.{first_of, one_of}
-use Rattle.clap.specs.Values.{bool_text, kind_of}
-use Rattle.clap.specs.Matches.{first_value, one_text}
-use Rattle.clap.specs.Kinds.{HasKind, IsAmong, Kinds}
-use Rattle.clap.specs.Faults.{fault_of}
-use Rattle.clap.specs.declared.parser.matches.Found.{Found}
+use Rattle.std.specs.{Prelude.slice_get, Prelude.string_bytes, Prelude.String, Prelude.IfOk, List.AllByRecursion, Str.IsUtf8}
+use Rattle.clap.specs.{Walk.first_of, Walk.one_of, Walk.Text, Walk.rows_of, Values.bool_text, Values.kind_of, Matches.first_value}
+use Rattle.clap.specs.{Matches.one_text, Matches.found_of, Kinds.HasKind, Kinds.IsAmong, Kinds.Kinds, Faults.fault_of}
+use Rattle.clap.specs.{declared.parser.matches.Found.Found, declared.error.Error.Error, declared.parser.matches.ArgMatches.ArgMatches}
+use Rattle.clap.specs.Simple.{App, HasMatchesOf, is_simple, matches_of}
 use Rattle.clap.specs.declared.error.kind.ErrorKind.TheVariants as kind
 use Rattle.clap.proofs.WalkLemmas.{first_value-rows, one_text-rows}
-use Rattle.cli_words.specs.Parser.{parser}
+use Rattle.cli_words.specs.{Parser.parser, declared.parser.Given.Given, declared.WordFault.WordFault}
 use Rattle.cli_words.specs.CommandWords.{Events, Large, Polls, Said, accepted, command_of}
 use Rattle.cli_words.specs.Given.{IsGivenBy, positionals_of, said_of, text_of}
-use Rattle.cli_words.specs.declared.parser.Given.{Given}
-use Rattle.cli_words.specs.declared.WordFault.{WordFault}
 use Rattle.cli_words.specs.declared.WordFault.TheVariants as fault
 use Rattle.cli_words.proofs.RowLemmas.{AtCommand, AtCycles, AtOps, AtSlack, AtSecond, AtThird}
-use Rattle.cli_words.proofs.WalkSteps.{some_kind}
-use Rattle.cli_words.proofs.ParserLemmas.{Agrees, agrees, refuses, takes}
-use Rattle.std.specs.Prelude.{IfOk}
-use Rattle.clap.specs.Simple.{App, HasMatchesOf, is_simple, matches_of}
-use Rattle.clap.specs.Walk.{Text, rows_of}
-use Rattle.clap.specs.Matches.{found_of}
-use Rattle.clap.specs.declared.error.Error.{Error}
-use Rattle.clap.specs.declared.parser.matches.ArgMatches.{ArgMatches}
+use Rattle.cli_words.proofs.{WalkSteps.some_kind, ParserLemmas.Agrees, ParserLemmas.agrees, ParserLemmas.refuses, ParserLemmas.takes}
 
 pub rows_by : (a b : App) (words : List Text) (r : Result ArgMatches Error) → a ≡ b → is_simple b ≡ true
     → IfOk r (HasMatchesOf a words) → IfOk r (λ m. rows_of (found_of m) ≡ matches_of b words)

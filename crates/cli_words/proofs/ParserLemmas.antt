@@ -1,26 +1,18 @@
 -- The parser refuses what is not accepted, and has what was said of the words that it takes.
-use Rattle.std.proofs.Common.{◌≡◌, ◌∙◌, List, [], ◌∷◌, ◌++◌, Option, Some, None, refl, sym, ap, subst, codes, true, false, Bool, cond}
-use Rattle.std.proofs.Common.{drop, fold, is_some, arith}
-use Rattle.std.specs.Prelude.{option_and_then}
-use Rattle.std.specs.List.{AllByRecursion, list_all}
-use Rattle.std.specs.Str.{IsUtf8, bytes_eq}
-use Rattle.clap.specs.Values.{bool_text}
-use Rattle.clap.specs.Walk.{Row, Rule, with_values, first_of, has_row, idle, is_empty, more_values}
-use Rattle.clap.specs.Walk.{nothing_held, one_of, row_text, with_default}
-use Rattle.clap.specs.Simple.{built, matches_of}
-use Rattle.clap.specs.Kinds.{or_else}
-use Rattle.clap.specs.Faults.{default_fault, defaults_fault, fault_of}
-use Rattle.clap.specs.declared.parser.matches.ValueSource.TheVariants.{DefaultValue}
-use Rattle.clap.specs.declared.builder.value_parser.Reading.TheVariants.{AsWritten}
-use Rattle.clap.proofs.FaultLemmas.{leaf_fault}
-use Rattle.clap.proofs.SimpleLemmas.{is_nil}
+use Rattle.std.proofs.Common.{◌≡◌, ◌∙◌, List, [], ◌∷◌, ◌++◌, Option, Some, None, refl, sym, ap, subst, codes, true, false, Bool, cond, drop}
+use Rattle.std.proofs.Common.{fold, is_some, arith}
+use Rattle.std.specs.{Prelude.option_and_then, List.AllByRecursion, List.list_all, Str.IsUtf8, Str.bytes_eq}
+use Rattle.clap.specs.{Values.bool_text, Simple.built, Simple.matches_of, Kinds.or_else, Faults.default_fault, Faults.defaults_fault}
+use Rattle.clap.specs.{Faults.fault_of, declared.builder.value_parser.Reading.TheVariants.AsWritten, Walk.Row, Walk.Rule, Walk.with_values}
+use Rattle.clap.specs.{Walk.first_of, Walk.has_row, Walk.idle, Walk.is_empty, Walk.more_values, Walk.nothing_held, Walk.one_of}
+use Rattle.clap.specs.{Walk.row_text, Walk.with_default, declared.parser.matches.ValueSource.TheVariants.DefaultValue}
+use Rattle.clap.proofs.{FaultLemmas.leaf_fault, SimpleLemmas.is_nil}
 use Rattle.cli_words.specs.Parser.{parser}
 use Rattle.cli_words.specs.CommandWords.{Events, Flag, Large, Polls, Said, Text, accepted, command_of, nothing, said_from}
 use Rattle.cli_words.proofs.RowLemmas.{AtEvents, AtLarge, AtPolls, Rows, Slot, has_row-row_at, id_of, missing, other, own, row_at, rules}
-use Rattle.cli_words.proofs.RowLemmas.{text_said}
-use Rattle.cli_words.proofs.RowLemmas.{value_row}
-use Rattle.cli_words.proofs.WalkSteps.{AtMostThree, Ends, Holds, at, clear, end_of, fails, fault_at, first_clear, flag_at, passes}
-use Rattle.cli_words.proofs.WalkSteps.{rows_in, second_clear, settle_at}
+use Rattle.cli_words.proofs.RowLemmas.{text_said, value_row}
+use Rattle.cli_words.proofs.WalkSteps.{AtMostThree, Ends, Holds, at, clear, end_of, fails, fault_at, first_clear, flag_at, passes, rows_in}
+use Rattle.cli_words.proofs.WalkSteps.{second_clear, settle_at}
 use Rattle.cli_words.proofs.ReadLemmas.{both_read}
 
 -- ---- defaults

@@ -1,22 +1,18 @@
 -- The parser's walk over all the words says what the words say.
 use Rattle.std.proofs.Common.{◌≡◌, ◌∙◌, ℕ, List, [], ◌∷◌, ◌++◌, ◌≤◌, Option, Some, None, refl, sym, ap, subst, true, false, cond, length}
 use Rattle.std.proofs.Common.{arith, append-nil, append_assoc, length-append, suc}
-use Rattle.std.specs.Prelude.{option_and_then}
-use Rattle.std.specs.List.{AllByRecursion}
-use Rattle.std.specs.Str.{IsUtf8}
+use Rattle.std.proofs.lemmas.Bool.{or_right, lt-ltb}
+use Rattle.std.specs.{Prelude.option_and_then, List.AllByRecursion, Str.IsUtf8}
 use Rattle.clap.specs.Walk.{Held, Row, Rule, Walk, arg_by_long, idle, option, reacted, used, walked}
-use Rattle.clap.specs.Kinds.{or_else}
-use Rattle.clap.specs.Faults.{turn_fault, use_fault, walk_fault}
+use Rattle.clap.specs.{Kinds.or_else, Faults.turn_fault, Faults.use_fault, Faults.walk_fault}
 use Rattle.clap.specs.declared.error.kind.ErrorKind.TheVariants as kind
 use Rattle.cli_words.specs.CommandWords.{Cycles, Events, Key, Large, Ops, Polls, Positional, Said, Slack, Text, Word, after_word}
-use Rattle.cli_words.specs.CommandWords.{command_of, option_named, said_from}
-use Rattle.cli_words.specs.CommandWords.{Flag, with_flag, with_option, with_positionals}
+use Rattle.cli_words.specs.CommandWords.{command_of, option_named, said_from, Flag, with_flag, with_option, with_positionals}
 use Rattle.cli_words.proofs.RowLemmas.{Rows, rules, top}
 use Rattle.cli_words.proofs.AcceptedLemmas.{given, doomed_none, doomed_stays, hyphen, hyphen_dooms}
-use Rattle.std.proofs.lemmas.Bool.{or_right, lt-ltb}
-use Rattle.cli_words.proofs.WalkSteps.{AtMostThree, Ends, fails, passes, Holds, Named, flag, keyed, unnamed, Placed, placed, stray}
-use Rattle.cli_words.proofs.WalkSteps.{Used, repeated, unused, at, clear, first_clear, flag_at, flagging, named, placing}
-use Rattle.cli_words.proofs.WalkSteps.{rows_in, rule_at, second_clear, settle_at, some_kind, step_fails, step_passes, using}
+use Rattle.cli_words.proofs.WalkSteps.{AtMostThree, Ends, fails, passes, Holds, Named, flag, keyed, unnamed, Placed, placed, stray, Used}
+use Rattle.cli_words.proofs.WalkSteps.{repeated, unused, at, clear, first_clear, flag_at, flagging, named, placing, rows_in, rule_at}
+use Rattle.cli_words.proofs.WalkSteps.{second_clear, settle_at, some_kind, step_fails, step_passes, using}
 use Rattle.cli_words.proofs.WordLemmas.{IsPlain, View, after_ends, as_plain, awaiting, behind_end, between, dash, ends, has_flags}
 use Rattle.cli_words.proofs.WordLemmas.{hyphen_plain, long, long_refused, long_turn, long_turn_is, long_walk, long_walk_is, long_word_of}
 use Rattle.cli_words.proofs.WordLemmas.{name_in, own_value, short, short_refused, short_unknown, stuck_idle, stuck_trailing, turn_plain}

@@ -1,14 +1,11 @@
 -- What the rows of a parse are after each use of an option or a positional.
-use Rattle.std.proofs.Common.{◌≡◌, ◌∙◌, List, [], ◌∷◌, ◌++◌, Option, Some, None, refl, ap, codes, true, false, Bool}
-use Rattle.std.proofs.Common.{append-nil, cond, is_some, option_map, arith}
-use Rattle.std.specs.Prelude.{slice_get, find}
-use Rattle.std.specs.Str.{bytes_eq}
+use Rattle.std.proofs.Common.{◌≡◌, ◌∙◌, List, [], ◌∷◌, ◌++◌, Option, Some, None, refl, ap, codes, true, false, Bool, append-nil, cond}
+use Rattle.std.proofs.Common.{is_some, option_map, arith}
+use Rattle.std.specs.{Prelude.slice_get, Prelude.find, Str.bytes_eq}
 use Rattle.clap.specs.Walk.{Rule, Row, Text, at_row, has_row, more_values, with_values, without}
-use Rattle.clap.specs.Simple.{Shape, built}
-use Rattle.clap.specs.declared.builder.value_parser.Reading.TheVariants.{AsWritten}
+use Rattle.clap.specs.{Simple.Shape, Simple.built, declared.builder.value_parser.Reading.TheVariants.AsWritten}
 use Rattle.clap.specs.declared.parser.matches.ValueSource.TheVariants.{CommandLine}
-use Rattle.cli_words.specs.Parser.{parser}
-use Rattle.cli_words.specs.CommandWords.{Said}
+use Rattle.cli_words.specs.{Parser.parser, CommandWords.Said}
 
 abbrev pub top : Shape
 top = (built parser).top

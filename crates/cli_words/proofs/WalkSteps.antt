@@ -4,21 +4,18 @@ use Rattle.std.proofs.Common.{true, false, Bool, cond, length, arith, fold, suc,
 use Rattle.std.specs.Str.{bytes_eq}
 use Rattle.clap.specs.Walk.{Held, Rule, Row, Waiting, Walk, arg_by_index, arg_by_long, idle, is_pending, positional_held, pushed, settled}
 use Rattle.clap.specs.Walk.{settled_rows, takes_several, to_positional, used, value, walked, has_row, with_values, without}
-use Rattle.clap.specs.declared.builder.value_parser.Reading.TheVariants.{AsWritten}
+use Rattle.clap.specs.{declared.builder.value_parser.Reading.TheVariants.AsWritten, Simple.filled, Simple.new_rule, Simple.with_index}
+use Rattle.clap.specs.{Kinds.Kinds, Kinds.or_else, declared.error.kind.ErrorKind.ErrorKind}
 use Rattle.clap.specs.declared.parser.matches.ValueSource.TheVariants.{CommandLine}
-use Rattle.clap.specs.Simple.{filled, new_rule, with_index}
-use Rattle.clap.specs.Kinds.{Kinds, or_else}
 use Rattle.clap.specs.Faults.{positional_fault, settle_fault, step_fault, turn_fault, use_fault, walk_fault}
-use Rattle.clap.specs.declared.error.kind.ErrorKind.{ErrorKind}
 use Rattle.clap.specs.declared.error.kind.ErrorKind.TheVariants as kind
 use Rattle.cli_words.specs.Parser.{cycles_rule, events_rule, large_rule, ops_rule, polls_rule, slack_rule}
-use Rattle.cli_words.specs.CommandWords.{Cycles, Events, Flag, Key, Large, Ops, Polls, Said, Slack, Text, Unknown, Word}
-use Rattle.cli_words.specs.CommandWords.{command_of, option_named, with_flag, with_option}
-use Rattle.cli_words.specs.CommandWords.{with_positionals, with_value, without_value}
+use Rattle.cli_words.specs.CommandWords.{Cycles, Events, Flag, Key, Large, Ops, Polls, Said, Slack, Text, Unknown, Word, command_of}
+use Rattle.cli_words.specs.CommandWords.{option_named, with_flag, with_option, with_positionals, with_value, without_value}
 use Rattle.cli_words.proofs.RowLemmas.{AtCommand, AtCycles, AtEvents, AtLarge, AtOps, AtPolls, AtSecond, AtSlack, AtThird, Rows, added}
-use Rattle.cli_words.proofs.RowLemmas.{cycles_same, events_same, large_same, polls_same}
-use Rattle.cli_words.proofs.RowLemmas.{first_same, has_row-row_at, having as said_with, ops_same, row_at, rows_more, rules, second_same}
-use Rattle.cli_words.proofs.RowLemmas.{slack_same, SameBut, Slot, id_of, row, text_said, third_same, top, value_row}
+use Rattle.cli_words.proofs.RowLemmas.{cycles_same, events_same, large_same, polls_same, first_same, has_row-row_at, having as said_with}
+use Rattle.cli_words.proofs.RowLemmas.{ops_same, row_at, rows_more, rules, second_same, slack_same, SameBut, Slot, id_of, row, text_said}
+use Rattle.cli_words.proofs.RowLemmas.{third_same, top, value_row}
 use Rattle.cli_words.proofs.AcceptedLemmas.{given}
 
 -- ---- kinds of fault

@@ -1,26 +1,18 @@
 -- One word of the parser's walk, by what it looks like, and what is refused whatever follows.
-use Rattle.std.proofs.Common.{◌≡◌, ◌∙◌, ℕ, List, [], ◌∷◌, ◌+◌, ◌&&◌, ◌==◌, Option, Some, None, refl, sym, ap, ap₂, subst, true}
-use Rattle.std.proofs.Common.{false, Bool, cond, length, arith, suc, not, is_some, eqb-true}
-use Rattle.std.specs.Prelude.{slice_get, option_and_then, encode_utf8_all}
-use Rattle.std.specs.List.{AllByRecursion, after_first, before_first}
-use Rattle.std.specs.Option.{option_map_or}
-use Rattle.std.specs.List.{prefix_len}
-use Rattle.std.specs.Char.{encode_utf8}
-use Rattle.std.proofs.lemmas.Str.{chars-encodes}
-use Rattle.std.proofs.lemmas.Bool.Decides.{nat_tests}
-use Rattle.std.specs.Str.{bytes_eq, chars, IsUtf8}
-use Rattle.clap.specs.Lexer.{has_byte, long_of, long_of_rest, short_of}
-use Rattle.clap.specs.Walk.{subcommand_met, Held, Rule, Step, Waiting, Walk, after_flag, after_step, arg_by_index, arg_by_long}
-use Rattle.clap.specs.Walk.{idle, long_met, next, option, takes_values, Row, plain_word}
-use Rattle.clap.specs.Walk.{to_positional, value, walked, word_met}
-use Rattle.clap.specs.Kinds.{Kinds, or_else}
-use Rattle.clap.specs.Faults.{bundle_fault, bundle_step_fault, option_fault, flag_word_fault, flags_fault, long_fault}
-use Rattle.clap.specs.Faults.{react_fault, step_fault, turn_fault, walk_fault, word_fault}
+use Rattle.std.proofs.Common.{◌≡◌, ◌∙◌, ℕ, List, [], ◌∷◌, ◌+◌, ◌&&◌, ◌==◌, Option, Some, None, refl, sym, ap, ap₂, subst, true, false, Bool}
+use Rattle.std.proofs.Common.{cond, length, arith, suc, not, is_some, eqb-true}
+use Rattle.std.proofs.{lemmas.Str.chars-encodes, lemmas.Bool.Decides.nat_tests}
+use Rattle.std.specs.{Prelude.slice_get, Prelude.option_and_then, Prelude.encode_utf8_all, List.AllByRecursion, List.after_first}
+use Rattle.std.specs.{List.before_first, List.prefix_len, Option.option_map_or, Char.encode_utf8, Str.bytes_eq, Str.chars, Str.IsUtf8}
+use Rattle.clap.specs.{Lexer.has_byte, Lexer.long_of, Lexer.long_of_rest, Lexer.short_of, Kinds.Kinds, Kinds.or_else}
+use Rattle.clap.specs.Walk.{subcommand_met, Held, Rule, Step, Waiting, Walk, after_flag, after_step, arg_by_index, arg_by_long, idle}
+use Rattle.clap.specs.Walk.{long_met, next, option, takes_values, Row, plain_word, to_positional, value, walked, word_met}
+use Rattle.clap.specs.Faults.{bundle_fault, bundle_step_fault, option_fault, flag_word_fault, flags_fault, long_fault, react_fault}
+use Rattle.clap.specs.Faults.{step_fault, turn_fault, walk_fault, word_fault}
 use Rattle.clap.specs.declared.error.kind.ErrorKind.TheVariants as kind
 use Rattle.cli_words.specs.CommandWords.{Cycles, Key, Ops, Positional, Said, Slack, Text, Unknown, begins_with_hyphen, is_equals}
 use Rattle.cli_words.specs.CommandWords.{option_named, value_in, word_of}
-use Rattle.cli_words.proofs.RowLemmas.{rules, top}
-use Rattle.cli_words.proofs.AcceptedLemmas.{hyphen}
+use Rattle.cli_words.proofs.{RowLemmas.rules, RowLemmas.top, AcceptedLemmas.hyphen}
 use Rattle.cli_words.proofs.WalkSteps.{Fails, at, first_clear, and_false, rule_at, settle_at, some_kind}
 
 -- ---- where the walk stands between two words

@@ -1,23 +1,15 @@
 -- Which lists of words are accepted, and the command that each of them is.
-use Rattle.std.specs.Prelude.{◌≤◌, ◌==◌, ◌&&◌, ◌||◌, ◌^◌, ◌++◌, ◌∷◌, ℕ, Bool, true, false, not, List, []}
-use Rattle.std.specs.Prelude.{Option, Some, None, Result, Ok, Err, codes, if◌then◌else◌}
-use Rattle.std.specs.Prelude.{IfSome, is_some, nat_le, option_and_then, option_map}
-use Rattle.std.specs.List.{after_first, before_first, list_any}
-use Rattle.std.specs.Str.{bytes_eq}
-use Rattle.flow_design.specs.Limits.{limits_at}
-use Rattle.flow_design.specs.declared.limits.Scale.{Scale}
+use Rattle.std.specs.Prelude.{◌≤◌, ◌==◌, ◌&&◌, ◌||◌, ◌^◌, ◌++◌, ◌∷◌, ℕ, Bool, true, false, not, List, [], Option, Some, None, Result, Ok}
+use Rattle.std.specs.Prelude.{Err, codes, if◌then◌else◌, IfSome, is_some, nat_le, option_and_then, option_map}
+use Rattle.std.specs.{List.after_first, List.before_first, List.list_any, Str.bytes_eq}
+use Rattle.flow_design.specs.{Limits.limits_at, declared.limits.Scale.Scale}
 use Rattle.flow_design.specs.declared.limits.Scale.TheVariants as scales
-use Rattle.flow_word.specs.Number.{number_of}
-use Rattle.flow_word.specs.declared.number.NumberFault.{NumberFault}
-use Rattle.cli_words.specs.declared.Command.{Command}
-use Rattle.cli_words.specs.declared.Command.TheVariants.{Of, Gen}
-use Rattle.cli_words.specs.declared.Options.{Options}
+use Rattle.flow_word.specs.{Number.number_of, declared.number.NumberFault.NumberFault}
+use Rattle.cli_words.specs.{declared.Command.Command, declared.Command.TheVariants.Of, declared.Command.TheVariants.Gen}
+use Rattle.cli_words.specs.{declared.Options.Options, declared.Task.Task, declared.View.View, declared.rules.CommandName.CommandName}
 use Rattle.cli_words.specs.declared.Simulator.TheVariants.{Threads, Alone, Clock}
-use Rattle.cli_words.specs.declared.Task.{Task}
 use Rattle.cli_words.specs.declared.Task.TheVariants.{Simulate, Check, Advise, Show, Order, Sweep, Size, Least}
-use Rattle.cli_words.specs.declared.View.{View}
 use Rattle.cli_words.specs.declared.View.TheVariants.{Wave, Log, Stalls, Path, Trace}
-use Rattle.cli_words.specs.declared.rules.CommandName.{CommandName}
 use Rattle.cli_words.specs.declared.rules.CommandName.TheVariants as name
 
 -- a word, as its bytes

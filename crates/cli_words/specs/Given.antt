@@ -1,10 +1,9 @@
 -- What the parser gives, in terms of what the words say.
 use Rattle.std.specs.Prelude.{◌≡◌, ◌∷◌, List, [], Option, Some, None, Result, Ok, Err, option_map, ⊤}
 use Rattle.std.specs.Borrow.{Bor}
-use Rattle.cli_words.specs.declared.parser.Given.{Given}
-use Rattle.cli_words.specs.declared.WordFault.{WordFault}
-use Rattle.cli_words.specs.declared.WordFault.TheVariants as fault
+use Rattle.cli_words.specs.{declared.parser.Given.Given, declared.WordFault.WordFault}
 use Rattle.cli_words.specs.CommandWords.{Said, Text, accepted, command_of}
+use Rattle.cli_words.specs.declared.WordFault.TheVariants as fault
 
 -- the bytes of a text, if there is one
 abbrev pub text_of : Option (Bor Text) → Option Text

@@ -1,36 +1,20 @@
 -- A run at its clock, and at its end.
-use Rattle.std.proofs.Common.{◌≡◌, ℕ, ◌+◌, ◌<◌, ◌≤◌, ◌++◌, List, [], Bool, true, false, length, map, get_or}
-use Rattle.std.proofs.Common.{refl, sym, ◌∙◌, ap, subst, arith}
-use Rattle.std.proofs.Common.{add-one, below_more, inl, inr}
-use Rattle.std.specs.Prelude.{replicate}
-use Rattle.std.specs.List.{enumerate_from}
-use Rattle.std.proofs.lemmas.Bool.{cases_lt, false≢true}
-use Rattle.std.proofs.lemmas.List.Concat.{flat_map-append}
+use Rattle.std.proofs.Common.{◌≡◌, ℕ, ◌+◌, ◌<◌, ◌≤◌, ◌++◌, List, [], Bool, true, false, length, map, get_or, refl, sym, ◌∙◌, ap, subst}
+use Rattle.std.proofs.Common.{arith, add-one, below_more, inl, inr}
+use Rattle.std.proofs.{lemmas.Bool.cases_lt, lemmas.Bool.false≢true, lemmas.List.Concat.flat_map-append}
 use Rattle.std.proofs.lemmas.List.{ext_get_or, get_or-replicate, length-replicate}
-use Rattle.flow_design.specs.declared.plan.Plan.{Plan}
-use Rattle.flow_design.specs.declared.report.EventLine.{EventLine}
+use Rattle.std.specs.{Prelude.replicate, List.enumerate_from}
+use Rattle.flow_design.specs.{declared.plan.Plan.Plan, declared.report.EventLine.EventLine, StaticRules.FitsEngine}
 use Rattle.flow_design.specs.declared.state.ClockState.{ClockState}
-use Rattle.flow_design.specs.StaticRules.{FitsEngine}
-use Rattle.lockstep_defs.specs.Channels.{HistoryStep}
-use Rattle.lockstep_defs.specs.Laws.{NoneBefore}
-use Rattle.lockstep_defs.specs.Machine.{nobody}
+use Rattle.lockstep_defs.specs.{Channels.HistoryStep, Laws.NoneBefore, Machine.nobody, Verdict.some_moves, Verdict.is_settled}
 use Rattle.lockstep_defs.specs.Lockstep.{moves, steps_in, contents_after, clock_step, opening, moment, state, history}
 use Rattle.lockstep_defs.specs.Report.{steps_of, outcomes, events_of}
-use Rattle.lockstep_defs.specs.Verdict.{some_moves, is_settled}
-use Rattle.lockstep_defs.proofs.Agrees.{all_modules, steps_of-suc}
-use Rattle.lockstep_defs.proofs.Exits.{IsAt}
-use Rattle.lockstep_defs.proofs.Settled.{state-suc, history-zero, history-suc, still_step}
-use Rattle.lockstep_defs.proofs.Settled.{settled_at, settled_none, settled_stays, history_stays}
-use Rattle.clock_machine.specs.declared.run.Run.{Run}
-use Rattle.clock_machine.specs.declared.seat.Seat.{Seat}
-use Rattle.clock_machine.specs.declared.seat.Traffic.{Traffic}
-use Rattle.clock_machine.specs.Clocks.{step_at, does_move}
-use Rattle.clock_machine.specs.Parts.{kept, AreFit, AreFitInTime}
-use Rattle.clock_machine.specs.Runs.{HasCome}
-use Rattle.clock_machine.specs.Seats.{IsSeated, no_seat}
-use Rattle.clock_machine.proofs.Fronts.{some_at}
-use Rattle.clock_machine.proofs.Kept.{kept-append}
-use Rattle.clock_machine.proofs.Sleeping.{awake, sleeping, seated_state}
+use Rattle.lockstep_defs.proofs.{Agrees.all_modules, Agrees.steps_of-suc, Exits.IsAt}
+use Rattle.lockstep_defs.proofs.Settled.{state-suc, history-zero, history-suc, still_step, settled_at, settled_none, settled_stays}
+use Rattle.lockstep_defs.proofs.Settled.{history_stays}
+use Rattle.clock_machine.specs.{declared.run.Run.Run, declared.seat.Seat.Seat, declared.seat.Traffic.Traffic, Clocks.step_at}
+use Rattle.clock_machine.specs.{Clocks.does_move, Parts.kept, Parts.AreFit, Parts.AreFitInTime, Runs.HasCome, Seats.IsSeated, Seats.no_seat}
+use Rattle.clock_machine.proofs.{Fronts.some_at, Kept.kept-append, Sleeping.awake, Sleeping.sleeping, Sleeping.seated_state}
 
 -- ---- the next clock
 

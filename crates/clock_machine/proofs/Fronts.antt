@@ -1,14 +1,12 @@
 -- Loops that go over a list with the place of each item.
 use Rattle.std.proofs.Common.{◌≡◌, ℕ, ◌+◌, ◌<◌, ◌≤◌, List, [], ◌∷◌, ◌++◌, map, length, take, drop, get_or, refl, sym, ◌∙◌, ap, subst, arith}
 use Rattle.std.proofs.Common.{⊎_elim, ◌⊎◌, inl, inr, Option, Bool, true, false, cond, zero-add}
-use Rattle.std.specs.List.{list_any, enumerate_from, filter, filter_map, range_with_len, refill}
-use Rattle.std.proofs.Math.ListN.{set}
-use Rattle.std.proofs.lemmas.Bool.{cases_lt}
-use Rattle.std.proofs.lemmas.List.{take_more, take_all, take_at, map-append, length-map}
-use Rattle.std.proofs.lemmas.List.{get_or-set_other, get_or-set_same, get_or_append_left, get_or_push}
-use Rattle.std.proofs.lemmas.List.Folds.{list_any-append, list_any_at}
+use Rattle.std.proofs.{Math.ListN.set, lemmas.Bool.cases_lt, lemmas.List.Folds.list_any-append, lemmas.List.Folds.list_any_at}
+use Rattle.std.proofs.lemmas.List.{take_more, take_all, take_at, map-append, length-map, get_or-set_other, get_or-set_same}
+use Rattle.std.proofs.lemmas.List.{get_or_append_left, get_or_push}
 use Rattle.std.proofs.lemmas.List.Elements.{filter-append, filter_map-append}
 use Rattle.std.proofs.lemmas.List.FromFn.{length-enumerate_from, get_or-enumerate_from}
+use Rattle.std.specs.List.{list_any, enumerate_from, filter, filter_map, range_with_len, refill}
 use Rattle.flow_word.proofs.Ranges.{range_last}
 
 -- one item more, with its place

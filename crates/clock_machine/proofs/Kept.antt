@@ -1,10 +1,7 @@
 -- A report with its events, or without them.
 use Rattle.std.proofs.Common.{◌≡◌, ◌++◌, List, Bool, true, false, refl, sym, ap}
-use Rattle.flow_design.specs.declared.plan.Plan.{Plan}
-use Rattle.flow_design.specs.declared.report.EventLine.{EventLine}
-use Rattle.flow_design.specs.declared.report.Report.{Report}
-use Rattle.flow_design.specs.declared.report.Verdict.{Verdict}
-use Rattle.flow_design.specs.declared.state.ClockState.{ClockState}
+use Rattle.flow_design.specs.{declared.plan.Plan.Plan, declared.report.EventLine.EventLine, declared.report.Report.Report}
+use Rattle.flow_design.specs.{declared.report.Verdict.Verdict, declared.state.ClockState.ClockState}
 use Rattle.lockstep_defs.specs.Report.{report}
 use Rattle.clock_machine.specs.Parts.{kept, report_from}
 

@@ -1,15 +1,11 @@
 -- What operations pop, push and tell, as lists.
 use Rattle.std.proofs.Common.{◌≡◌, ℕ, List, [], ◌∷◌, ◌++◌, map, length, eqb, cond, Bool, true, false, refl, sym, ◌∙◌, ap, append_assoc}
-use Rattle.std.specs.List.{filter}
 use Rattle.std.proofs.lemmas.List.{map-append, length-append}
-use Rattle.std.proofs.lemmas.List.Concat.{flat_map-append}
-use Rattle.std.proofs.lemmas.List.Elements.{filter-append}
+use Rattle.std.proofs.{lemmas.List.Concat.flat_map-append, lemmas.List.Elements.filter-append}
+use Rattle.std.specs.List.{filter}
 use Rattle.flow_word.specs.declared.access.Side.TheVariants.{Pop, Push}
-use Rattle.lockstep_defs.specs.Machine.{is_yes}
-use Rattle.lockstep_defs.specs.Channels.{Exchange, moved_by, moved_value}
-use Rattle.lockstep_defs.specs.Report.{queries}
-use Rattle.clock_machine.specs.declared.seat.Pushed.{Pushed}
-use Rattle.clock_machine.specs.Parts.{outcomes_in, popped, pushed}
+use Rattle.lockstep_defs.specs.{Machine.is_yes, Channels.Exchange, Channels.moved_by, Channels.moved_value, Report.queries}
+use Rattle.clock_machine.specs.{declared.seat.Pushed.Pushed, Parts.outcomes_in, Parts.popped, Parts.pushed}
 
 -- what some operations give, and then others, is what all of them give
 abbrev pub Adds : {Y : Type 0} → (List Exchange → List Y) → Type 0

@@ -1,21 +1,13 @@
 -- When a module moves.
-use Rattle.flow_design.specs.declared.state.Element.{Element}
-use Rattle.std.proofs.Common.{◌≡◌, ℕ, ◌<◌, List, [], ◌∷◌, length, get_or, Bool, true, false, not, cond, refl, sym, ◌∙◌, ap}
-use Rattle.std.proofs.Common.{subst, arith, zero, suc}
+use Rattle.flow_design.specs.{declared.state.Element.Element, declared.design.Module.Module, declared.plan.Plan.Plan}
+use Rattle.flow_design.specs.{declared.state.ClockState.ClockState, declared.state.ModuleState.ModuleState, declared.state.Request.Request}
+use Rattle.std.proofs.Common.{◌≡◌, ℕ, ◌<◌, List, [], ◌∷◌, length, get_or, Bool, true, false, not, cond, refl, sym, ◌∙◌, ap, subst, arith}
+use Rattle.std.proofs.Common.{zero, suc}
 use Rattle.std.proofs.lemmas.Bool.{lt-ltb}
-use Rattle.std.specs.Prelude.{find, option_map, nat_lt, None}
-use Rattle.std.specs.List.{list_any, filter_map}
-use Rattle.flow_design.specs.declared.design.Module.{Module}
-use Rattle.flow_design.specs.declared.plan.Plan.{Plan}
-use Rattle.flow_design.specs.declared.state.ClockState.{ClockState}
-use Rattle.flow_design.specs.declared.state.ModuleState.{ModuleState}
-use Rattle.flow_design.specs.declared.state.Request.{Request}
-use Rattle.lockstep_defs.specs.Machine.{is_over, nobody}
-use Rattle.lockstep_defs.specs.Channels.{is_empty, contents_of, all_ready, stalls}
-use Rattle.lockstep_defs.specs.Lockstep.{requests_of, moves, module_at}
-use Rattle.lockstep_defs.specs.Verdict.{held_at, held_by}
-use Rattle.lockstep_defs.proofs.Agrees.{not_ended}
-use Rattle.lockstep_defs.proofs.Settled.{same_stalls}
+use Rattle.std.specs.{Prelude.find, Prelude.option_map, Prelude.nat_lt, Prelude.None, List.list_any, List.filter_map}
+use Rattle.lockstep_defs.specs.{Machine.is_over, Machine.nobody, Channels.is_empty, Channels.contents_of, Channels.all_ready}
+use Rattle.lockstep_defs.specs.{Channels.stalls, Lockstep.requests_of, Lockstep.moves, Lockstep.module_at, Verdict.held_at, Verdict.held_by}
+use Rattle.lockstep_defs.proofs.{Agrees.not_ended, Settled.same_stalls}
 use Rattle.module_move.specs.Sound.{IsStateSound}
 use Rattle.clock_machine.specs.Parts.{AreFit}
 

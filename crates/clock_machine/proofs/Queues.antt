@@ -1,22 +1,15 @@
 -- What operations leave in the channels, one after another.
-use Rattle.flow_design.specs.declared.plan.Plan.{Plan}
-use Rattle.flow_design.specs.declared.design.ChannelKind.{ChannelKind}
+use Rattle.flow_design.specs.{declared.plan.Plan.Plan, declared.design.ChannelKind.ChannelKind, declared.limits.TheConstants.FIFO_DELAY}
+use Rattle.flow_design.specs.{StaticRules.AreEntriesSound, Plans.delay_of, Plans.delay_at, declared.state.Element.Element}
 use Rattle.flow_design.specs.declared.design.ChannelKind.TheVariants.{Source, Sink, Fifo}
-use Rattle.flow_design.specs.declared.limits.TheConstants.{FIFO_DELAY}
-use Rattle.flow_design.specs.StaticRules.{AreEntriesSound}
-use Rattle.flow_design.specs.Plans.{delay_of, delay_at}
-use Rattle.flow_design.specs.declared.state.Element.{Element}
 use Rattle.std.proofs.Common.{◌≡◌, ℕ, suc, ◌+◌, ◌<◌, ◌≤◌, List, [], ◌∷◌, ◌++◌, map, length, take, drop, get_or, eqb, cond, Bool, true}
 use Rattle.std.proofs.Common.{false, refl, sym, ◌∙◌, ap, arith, append_assoc, add-zero, zero-add, zero, ◌≢◌, ⊎_elim}
-use Rattle.std.specs.List.{enumerate_from, filter}
-use Rattle.std.proofs.Math.ListN.{set}
-use Rattle.std.proofs.lemmas.Bool.Decides.{eqb_tells}
+use Rattle.std.proofs.{Math.ListN.set, lemmas.Bool.Decides.eqb_tells, lemmas.List.Elements.filter-append}
 use Rattle.std.proofs.lemmas.Bool.{eqb-true, eq-eqb}
 use Rattle.std.proofs.lemmas.List.{map-append, append-nil, length-append, drop-drop, take_more, get_or_default}
-use Rattle.std.proofs.lemmas.List.Elements.{filter-append}
+use Rattle.std.specs.List.{enumerate_from, filter}
 use Rattle.lockstep_defs.specs.Channels.{element_from}
-use Rattle.clock_machine.specs.declared.seat.Pushed.{Pushed}
-use Rattle.clock_machine.specs.Parts.{after_pops, after_pushes}
+use Rattle.clock_machine.specs.{declared.seat.Pushed.Pushed, Parts.after_pops, Parts.after_pushes}
 
 -- ---- a change of one channel
 

@@ -1,34 +1,21 @@
 -- A module in its seat, from one clock to the next.
-use Rattle.std.proofs.Common.{◌≡◌, ℕ, zero, suc, ◌+◌, ◌-◌, ◌<◌, ◌≤◌, List, [], ◌∷◌, Bool, true, false, ◌&&◌, not, refl, sym, ◌∙◌}
-use Rattle.std.proofs.Common.{ap, subst, arith, map, inl, inr, add-one, nat_lt, ◌||◌}
-use Rattle.std.specs.List.{list_any}
-use Rattle.std.proofs.Common.{◌^◌, length}
+use Rattle.std.proofs.Common.{◌≡◌, ℕ, zero, suc, ◌+◌, ◌-◌, ◌<◌, ◌≤◌, List, [], ◌∷◌, Bool, true, false, ◌&&◌, not, refl, sym, ◌∙◌, ap, subst}
+use Rattle.std.proofs.Common.{arith, map, inl, inr, add-one, nat_lt, ◌||◌, ◌^◌, length}
 use Rattle.std.proofs.lemmas.Bool.{or_parts, and_parts, ltb-true, cases_lt}
-use Rattle.flow_design.specs.declared.design.Block.{Block}
-use Rattle.flow_design.specs.declared.plan.Plan.{Plan}
-use Rattle.flow_design.specs.declared.state.Control.{Control}
-use Rattle.flow_design.specs.declared.state.Element.{Element}
-use Rattle.flow_design.specs.declared.state.ModuleState.{ModuleState}
-use Rattle.flow_design.specs.declared.state.Request.{Request}
-use Rattle.flow_design.specs.StaticRules.{FitsEngine}
-use Rattle.flow_design.specs.Module.{block_of, interval}
-use Rattle.lockstep_defs.specs.Machine.{is_over, move}
-use Rattle.lockstep_defs.specs.Channels.{stalls, reply}
+use Rattle.std.specs.List.{list_any}
+use Rattle.flow_design.specs.{declared.design.Block.Block, declared.plan.Plan.Plan, declared.state.Control.Control}
+use Rattle.flow_design.specs.{declared.state.Element.Element, declared.state.ModuleState.ModuleState, declared.state.Request.Request}
+use Rattle.flow_design.specs.{StaticRules.FitsEngine, Module.block_of, Module.interval}
+use Rattle.lockstep_defs.specs.{Machine.is_over, Machine.move, Channels.stalls, Channels.reply, States.IsStateOf}
 use Rattle.lockstep_defs.specs.Lockstep.{no_module, module_at, requests_of, moves, state, state_at}
 use Rattle.lockstep_defs.specs.Quiet.{rests, skip, is_some_request}
-use Rattle.lockstep_defs.specs.States.{IsStateOf}
-use Rattle.lockstep_defs.proofs.Agrees.{state_at-suc, not_ended}
-use Rattle.lockstep_defs.proofs.Resting.{skip_front}
-use Rattle.lockstep_defs.proofs.States.{move_state, history_state}
-use Rattle.block_schedule.specs.Schedules.{KeepsLimits}
-use Rattle.block_schedule.specs.Work.{StandsIn, IsNextDue}
-use Rattle.module_move.specs.Moves.{ticked_to, gone_on}
-use Rattle.module_move.specs.Sound.{IsStateSound}
+use Rattle.lockstep_defs.proofs.{Agrees.state_at-suc, Agrees.not_ended, Resting.skip_front, States.move_state, States.history_state}
+use Rattle.block_schedule.specs.{Schedules.KeepsLimits, Work.StandsIn, Work.IsNextDue}
+use Rattle.module_move.specs.{Moves.ticked_to, Moves.gone_on, Sound.IsStateSound}
 use Rattle.module_interp.proofs.Idle.{IsIdle, skip_on, never_rests}
-use Rattle.clock_machine.specs.declared.seat.Seat.{Seat}
-use Rattle.clock_machine.proofs.Moving.{moves_by_stalls}
-use Rattle.clock_machine.specs.Clocks.{does_move}
+use Rattle.clock_machine.specs.{declared.seat.Seat.Seat, Clocks.does_move}
 use Rattle.clock_machine.specs.Seats.{asleep, IsKnown, IsSeated, IsQuiet, FallsAsleep}
+use Rattle.clock_machine.proofs.Moving.{moves_by_stalls}
 
 -- ---- what a module does in a clock
 

@@ -1,28 +1,19 @@
 -- The steps of a clock: what they pop, push and tell, and what they leave in the channels.
-use Rattle.std.proofs.Common.{◌≡◌, ℕ, ◌+◌, List, [], ◌∷◌, ◌++◌, map, length, Bool, true, false, cond}
-use Rattle.std.proofs.Common.{drop, eqb, refl, sym, ◌∙◌, ap, append_assoc}
+use Rattle.std.proofs.Common.{◌≡◌, ℕ, ◌+◌, List, [], ◌∷◌, ◌++◌, map, length, Bool, true, false, cond, drop, eqb, refl, sym, ◌∙◌, ap}
+use Rattle.std.proofs.Common.{append_assoc}
+use Rattle.std.proofs.{lemmas.List.append-nil, lemmas.List.Concat.flat_map-append}
 use Rattle.std.specs.List.{enumerate_from, filter}
-use Rattle.std.proofs.lemmas.List.{append-nil}
-use Rattle.std.proofs.lemmas.List.Concat.{flat_map-append}
-use Rattle.flow_design.specs.declared.plan.Plan.{Plan}
+use Rattle.flow_design.specs.{declared.plan.Plan.Plan, declared.state.Element.Element, declared.state.Request.Request, Plans.delay_at}
 use Rattle.flow_design.specs.declared.report.EventLine.{EventLine}
-use Rattle.flow_design.specs.declared.state.Element.{Element}
-use Rattle.flow_design.specs.declared.state.Request.{Request}
-use Rattle.flow_design.specs.Plans.{delay_at}
-use Rattle.flow_word.specs.declared.access.Side.{Side}
-use Rattle.flow_word.specs.declared.access.Side.TheVariants.{Pop, Push}
+use Rattle.flow_word.specs.{declared.access.Side.Side, declared.access.Side.TheVariants.Pop, declared.access.Side.TheVariants.Push}
 use Rattle.lockstep_defs.proofs.Queue.{moved_by-append}
 use Rattle.lockstep_defs.specs.Channels.{HistoryStep, Exchange, element_from, moved_by, moved}
 use Rattle.lockstep_defs.specs.Lockstep.{requests_of, answered, step_with, contents_after, state, state_at}
 use Rattle.lockstep_defs.specs.Report.{outcomes, event_of, events_of}
-use Rattle.clock_machine.specs.declared.seat.Pushed.{Pushed}
-use Rattle.clock_machine.specs.declared.seat.Round.{Round}
-use Rattle.clock_machine.specs.declared.seat.Traffic.{Traffic}
+use Rattle.clock_machine.specs.{declared.seat.Pushed.Pushed, declared.seat.Round.Round, declared.seat.Traffic.Traffic}
 use Rattle.clock_machine.specs.Clocks.{does_move, step_at, HasMoved, HasDone}
 use Rattle.clock_machine.specs.Parts.{exchanges_in, event_by, kept, outcomes_in, popped, pushed, after_pops, after_pushes}
-use Rattle.clock_machine.proofs.Kept.{kept-append}
-use Rattle.clock_machine.proofs.Listed.{popped_adds, pushed_adds, popped_at, pushed_at}
-use Rattle.clock_machine.proofs.Queues.{twice}
+use Rattle.clock_machine.proofs.{Kept.kept-append, Listed.popped_adds, Listed.pushed_adds, Listed.popped_at, Listed.pushed_at, Queues.twice}
 
 -- ---- one step
 

@@ -1,15 +1,10 @@
 -- What the program holds of a plan in a clock, and what the plan's modules do in it.
 use Rattle.std.specs.Prelude.{◌≡◌, ℕ, ◌≤◌, Bool, List, ◌++◌}
-use Rattle.flow_design.specs.declared.plan.Plan.{Plan}
-use Rattle.flow_design.specs.declared.state.Element.{Element}
+use Rattle.flow_design.specs.{declared.plan.Plan.Plan, declared.state.Element.Element, StaticRules.FitsEngine}
 use Rattle.flow_design.specs.declared.state.ModuleState.{ModuleState}
-use Rattle.flow_design.specs.StaticRules.{FitsEngine}
-use Rattle.lockstep_defs.specs.Channels.{HistoryStep}
-use Rattle.lockstep_defs.specs.Lockstep.{state, state_at, moves, step_of}
-use Rattle.lockstep_defs.specs.Report.{events_of}
+use Rattle.lockstep_defs.specs.{Channels.HistoryStep, Lockstep.state, Lockstep.state_at, Lockstep.moves, Lockstep.step_of, Report.events_of}
 use Rattle.block_code.specs.declared.code.BlockCode.{BlockCode}
-use Rattle.clock_machine.specs.declared.seat.Round.{Round}
-use Rattle.clock_machine.specs.declared.seat.Traffic.{Traffic}
+use Rattle.clock_machine.specs.{declared.seat.Round.Round, declared.seat.Traffic.Traffic}
 use Rattle.clock_machine.specs.Parts.{exchanges_in, popped, pushed, kept, AreFitInTime, AreCodes}
 
 -- the engine takes the plan, this is the plan's code, and its modules can come to these states

@@ -1,24 +1,14 @@
 -- What the modules do in a clock, as the program holds it.
-use Rattle.std.specs.Prelude.{◌+◌, ◌≡◌, ℕ, ◌≤◌, ◌<◌, Bool, if◌then◌else◌, List, [], ◌++◌, map, filter, flat_map, drop}
-use Rattle.std.specs.Prelude.{◌==◌, length, slice_index_or}
-use Rattle.flow_design.specs.declared.plan.Plan.{Plan}
-use Rattle.flow_design.specs.declared.state.Element.{Element}
-use Rattle.flow_design.specs.Plans.{delay_at}
-use Rattle.flow_design.specs.declared.report.EventLine.{EventLine}
-use Rattle.flow_design.specs.declared.report.Report.{Report}
-use Rattle.flow_design.specs.declared.report.Verdict.{Verdict}
-use Rattle.flow_design.specs.declared.state.ClockState.{ClockState}
-use Rattle.flow_design.specs.declared.state.ModuleState.{ModuleState}
-use Rattle.flow_design.specs.declared.state.Request.{Request}
-use Rattle.lockstep_defs.specs.Machine.{is_yes, nobody}
-use Rattle.flow_word.specs.declared.access.Side.TheVariants.{Pop, Push}
+use Rattle.std.specs.Prelude.{◌+◌, ◌≡◌, ℕ, ◌≤◌, ◌<◌, Bool, if◌then◌else◌, List, [], ◌++◌, map, filter, flat_map, drop, ◌==◌, length}
+use Rattle.std.specs.Prelude.{slice_index_or}
+use Rattle.flow_design.specs.{declared.plan.Plan.Plan, declared.state.Element.Element, Plans.delay_at, declared.report.EventLine.EventLine}
+use Rattle.flow_design.specs.{declared.report.Report.Report, declared.report.Verdict.Verdict, declared.state.ClockState.ClockState}
+use Rattle.flow_design.specs.{declared.state.ModuleState.ModuleState, declared.state.Request.Request}
+use Rattle.lockstep_defs.specs.{Machine.is_yes, Machine.nobody, Lockstep.module_at, Verdict.held, Report.queries, Report.outputs_in}
 use Rattle.lockstep_defs.specs.Channels.{element_from, HistoryStep, Exchange, moved_value}
-use Rattle.lockstep_defs.specs.Lockstep.{module_at}
-use Rattle.lockstep_defs.specs.Verdict.{held}
-use Rattle.lockstep_defs.specs.Report.{queries, outputs_in}
+use Rattle.flow_word.specs.declared.access.Side.TheVariants.{Pop, Push}
 use Rattle.module_move.specs.Sound.{IsRunnable}
-use Rattle.block_code.specs.declared.code.BlockCode.{BlockCode}
-use Rattle.block_code.specs.Codes.{AreCodesOf}
+use Rattle.block_code.specs.{declared.code.BlockCode.BlockCode, Codes.AreCodesOf}
 use Rattle.clock_machine.specs.declared.seat.Pushed.{Pushed}
 
 -- ---- what a clock adds

@@ -1,11 +1,8 @@
 -- How far a run has come.
 use Rattle.std.specs.Prelude.{◌≡◌, ◌<◌, ℕ, Bool, [], length, slice_index_or}
 use Rattle.flow_design.specs.declared.plan.Plan.{Plan}
-use Rattle.lockstep_defs.specs.Lockstep.{state, history}
-use Rattle.lockstep_defs.specs.Report.{steps_of, outcomes, events_of}
-use Rattle.clock_machine.specs.declared.run.Run.{Run}
-use Rattle.clock_machine.specs.Parts.{kept}
-use Rattle.clock_machine.specs.Seats.{AreSeated}
+use Rattle.lockstep_defs.specs.{Lockstep.state, Lockstep.history, Report.steps_of, Report.outcomes, Report.events_of}
+use Rattle.clock_machine.specs.{declared.run.Run.Run, Parts.kept, Seats.AreSeated}
 
 -- a run is at a clock: its modules are kept as of that clock, the channels hold what they hold then, and all that was done before
 -- is collected

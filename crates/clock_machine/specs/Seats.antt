@@ -1,13 +1,10 @@
 -- What the machine keeps of a module from clock to clock.
 use Rattle.std.specs.Prelude.{◌≡◌, ◌+◌, ◌-◌, ◌<◌, ◌≤◌, ℕ, true, false, List, [], length, slice_index_or}
-use Rattle.flow_design.specs.declared.plan.Plan.{Plan}
-use Rattle.flow_design.specs.declared.state.ModuleState.{ModuleState}
-use Rattle.lockstep_defs.specs.Machine.{nobody, move}
+use Rattle.flow_design.specs.{declared.plan.Plan.Plan, declared.state.ModuleState.ModuleState}
+use Rattle.lockstep_defs.specs.{Machine.nobody, Machine.move, Quiet.rests, Quiet.skip}
 use Rattle.lockstep_defs.specs.Lockstep.{module_at, requests_of, state_at}
-use Rattle.lockstep_defs.specs.Quiet.{rests, skip}
 use Rattle.module_move.specs.Moves.{notes_of}
-use Rattle.clock_machine.specs.declared.seat.Seat.{Seat}
-use Rattle.clock_machine.specs.Clocks.{does_move, step_at}
+use Rattle.clock_machine.specs.{declared.seat.Seat.Seat, Clocks.does_move, Clocks.step_at}
 
 -- a seat in which nothing is known
 abbrev pub no_seat : Seat

@@ -1,16 +1,11 @@
 //! What a module asks of the channels.
 ghost use Rattle.std.specs.Prelude.{◌≡◌, ◌<◌, ◌≤◌, ◌^◌, IfOk, OnOk, true, length, slice_index_or};
-ghost use Rattle.flow_design.specs.StaticRules.{FitsEngine};
-ghost use Rattle.flow_design.specs.Module.{block_of};
-ghost use Rattle.lockstep_defs.specs.Machine.{is_over, nobody, requests};
-ghost use Rattle.lockstep_defs.specs.Channels.{all_ready};
+ghost use Rattle.flow_design.specs.{StaticRules.FitsEngine, Module.block_of};
+ghost use Rattle.lockstep_defs.specs.{Machine.is_over, Machine.nobody, Machine.requests, Channels.all_ready};
 ghost use Rattle.lockstep_defs.specs.Lockstep.{module_at, moves, state_at};
 ghost use Rattle.block_code.specs.Codes.{IsBlockCodeOf};
-ghost use Rattle.module_move.specs.Sound.{IsStateSound};
-ghost use Rattle.module_move.specs.Moves.{notes_of};
-ghost use Rattle.clock_machine.specs.Parts.{AreCodes};
-ghost use Rattle.clock_machine.specs.Seats.{IsKnown, IsSeated};
-ghost use Rattle.clock_machine.specs.Clocks.{Runs};
+ghost use Rattle.module_move.specs.{Sound.IsStateSound, Moves.notes_of};
+ghost use Rattle.clock_machine.specs.{Parts.AreCodes, Seats.IsKnown, Seats.IsSeated, Clocks.Runs};
 
 use crate::channels::any_stalls_ever;
 use crate::seat::Seat;

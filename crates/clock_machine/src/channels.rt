@@ -1,10 +1,9 @@
 //! What is possible on the contents of the channels, and the replies.
-ghost use Rattle.std.specs.Prelude.{◌≡◌, ◌++◌, ◌∷◌, true, false, length, slice_index, slice_index_or, []};
-ghost use Rattle.std.specs.Prelude.{if◌then◌else◌, Some, None, is_some, IfOk, OnOk};
+ghost use Rattle.std.specs.Prelude.{◌≡◌, ◌++◌, ◌∷◌, true, false, length, slice_index, slice_index_or, [], if◌then◌else◌, Some, None};
+ghost use Rattle.std.specs.Prelude.{is_some, IfOk, OnOk};
 ghost use Rattle.std.specs.List.{list_any};
-ghost use Rattle.flow_design.specs.Plans.{is_fifo, kind_at, delay_at};
+ghost use Rattle.flow_design.specs.{Plans.is_fifo, Plans.kind_at, Plans.delay_at, declared.state.Reply.TheVariants.Flag};
 ghost use Rattle.lockstep_defs.specs.Channels.{contents_of, front, is_empty, all_ready, is_full, is_possible, stalls, reply};
-ghost use Rattle.flow_design.specs.declared.state.Reply.TheVariants.{Flag};
 ghost use Rattle.lockstep_defs.specs.Lockstep.{answered};
 ghost use Rattle.clock_machine.specs.Parts.{outcomes_in, popped, pushed};
 

@@ -1,7 +1,6 @@
 //! The contents of the channels after a clock.
-ghost use Rattle.std.specs.Prelude.{◌≡◌, ◌==◌, if◌then◌else◌, [], ◌∷◌, ◌++◌, map, drop, length, OnOk};
+ghost use Rattle.std.specs.Prelude.{◌≡◌, ◌==◌, if◌then◌else◌, [], ◌∷◌, ◌++◌, map, drop, length, OnOk, ◌≤◌};
 ghost use Rattle.std.specs.List.{enumerate_from};
-ghost use Rattle.std.specs.Prelude.{◌≤◌};
 ghost use Rattle.flow_design.specs.StaticRules.{FitsEngine};
 ghost use Rattle.clock_machine.specs.Parts.{after_pops, after_pushes};
 

@@ -1,11 +1,8 @@
 //! The state at clock 0.
 ghost use Rattle.std.specs.Prelude.{◌≡◌, ◌<◌, ◌++◌, ℕ, [], map, length, replicate, IfOk};
 ghost use Rattle.std.specs.List.{range_with_len};
-ghost use Rattle.flow_design.specs.StaticRules.{FitsEngine};
-ghost use Rattle.flow_design.specs.Words.{cut_to};
-ghost use Rattle.lockstep_defs.specs.Machine.{opened};
-ghost use Rattle.lockstep_defs.specs.Channels.{element_from};
-ghost use Rattle.lockstep_defs.specs.Lockstep.{module_at, inputs_of, opening};
+ghost use Rattle.flow_design.specs.{StaticRules.FitsEngine, Words.cut_to};
+ghost use Rattle.lockstep_defs.specs.{Machine.opened, Channels.element_from, Lockstep.module_at, Lockstep.inputs_of, Lockstep.opening};
 ghost use Rattle.clock_machine.specs.Parts.{IsFit, AreFit, AreCodes};
 
 use crate::asking::module_at;

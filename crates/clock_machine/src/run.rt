@@ -1,14 +1,9 @@
 //! The whole run, clock by clock.
 ghost use Rattle.std.specs.Prelude.{◌≡◌, ◌+◌, ◌<◌, ◌≤◌, Bool, IfOk, OnOk};
-ghost use Rattle.flow_design.specs.StaticRules.{FitsEngine};
-ghost use Rattle.flow_design.specs.declared.report.Verdict.TheVariants.{Cycles};
+ghost use Rattle.flow_design.specs.{StaticRules.FitsEngine, declared.report.Verdict.TheVariants.Cycles};
 ghost use Rattle.flow_design.specs.declared.state.ClockState.{ClockState as StateOf};
-ghost use Rattle.lockstep_defs.specs.Lockstep.{state};
-ghost use Rattle.lockstep_defs.specs.Verdict.{some_moves, is_settled, settled_verdict};
-ghost use Rattle.lockstep_defs.specs.Report.{report};
-ghost use Rattle.clock_machine.specs.Parts.{kept, report_from, AreCodes};
-ghost use Rattle.clock_machine.specs.Clocks.{Stands};
-ghost use Rattle.clock_machine.specs.Runs.{HasCome};
+ghost use Rattle.lockstep_defs.specs.{Lockstep.state, Verdict.some_moves, Verdict.is_settled, Verdict.settled_verdict, Report.report};
+ghost use Rattle.clock_machine.specs.{Parts.kept, Parts.report_from, Parts.AreCodes, Clocks.Stands, Runs.HasCome};
 
 use crate::contents::{pop_all, push_all};
 use crate::ending::{Told, limit_report, settled_report};

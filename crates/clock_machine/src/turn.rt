@@ -1,12 +1,8 @@
 //! One module's turn in a clock: its requests, their replies, and its move, all on the contents from before the clock.
 ghost use Rattle.std.specs.Prelude.{◌≡◌, ◌+◌, ◌<◌, ◌≤◌, IfOk, OnOk, not, true, false, [], ◌++◌, if◌then◌else◌, length, map};
 ghost use Rattle.std.specs.List.{list_any};
-ghost use Rattle.lockstep_defs.specs.Machine.{is_over};
-ghost use Rattle.lockstep_defs.specs.Channels.{stalls, reply};
-ghost use Rattle.lockstep_defs.specs.Lockstep.{answered};
-ghost use Rattle.lockstep_defs.specs.Report.{outcomes};
-ghost use Rattle.clock_machine.specs.Parts.{outcomes_in, popped, pushed};
-ghost use Rattle.clock_machine.specs.Seats.{IsSeated, FallsAsleep};
+ghost use Rattle.lockstep_defs.specs.{Machine.is_over, Channels.stalls, Channels.reply, Lockstep.answered, Report.outcomes};
+ghost use Rattle.clock_machine.specs.{Parts.outcomes_in, Parts.popped, Parts.pushed, Seats.IsSeated, Seats.FallsAsleep};
 ghost use Rattle.clock_machine.specs.Clocks.{Runs, HasDone, does_move, step_at};
 
 use crate::asking::{code_at, module_at, note_seat};

@@ -1,10 +1,7 @@
 //! The turns of all modules in a clock.
 ghost use Rattle.std.specs.Prelude.{◌≡◌, ℕ, ◌+◌, ◌<◌, [], ◌++◌, IfOk, OnOk, length, slice_index_or};
-ghost use Rattle.lockstep_defs.specs.Lockstep.{state, steps_in};
-ghost use Rattle.lockstep_defs.specs.Report.{outcomes};
-ghost use Rattle.lockstep_defs.specs.Verdict.{some_moves, is_settled};
-ghost use Rattle.clock_machine.specs.Seats.{AreSeated};
-ghost use Rattle.clock_machine.specs.Clocks.{Runs, HasDone, step_at};
+ghost use Rattle.lockstep_defs.specs.{Lockstep.state, Lockstep.steps_in, Report.outcomes, Verdict.some_moves, Verdict.is_settled};
+ghost use Rattle.clock_machine.specs.{Seats.AreSeated, Clocks.Runs, Clocks.HasDone, Clocks.step_at};
 
 use crate::asking::would_move;
 use crate::seat::{Round, Seat};

@@ -1,24 +1,20 @@
 -- An action has no cause exactly where the theory permits it.
-use Rattle.std.proofs.Common.{◌≡◌, refl, ap, ◌∙◌, ℕ, zero, suc, ◌<◌, inl, inr, Bool, true, false, ltb, not, ◌&&◌, ◌||◌}
-use Rattle.std.proofs.Common.{List, [], ◌∷◌, length, None, Some, is_none, arith}
-use Rattle.std.specs.Prelude.{position}
-use Rattle.std.specs.List.{range_with_len, zip}
-use Rattle.std.proofs.lemmas.Bool.Decides.{nat_tests}
-use Rattle.std.proofs.lemmas.Bool.{cases_eq, cases_lt}
+use Rattle.std.proofs.Common.{◌≡◌, refl, ap, ◌∙◌, ℕ, zero, suc, ◌<◌, inl, inr, Bool, true, false, ltb, not, ◌&&◌, ◌||◌, List, [], ◌∷◌}
+use Rattle.std.proofs.Common.{length, None, Some, is_none, arith}
+use Rattle.std.proofs.{lemmas.Bool.Decides.nat_tests, lemmas.Bool.cases_eq, lemmas.Bool.cases_lt}
+use Rattle.std.specs.{Prelude.position, List.range_with_len, List.zip}
 use Rattle.flow_word.specs.declared.access.Side.TheVariants.{Pop}
-use Rattle.event_timing.specs.Machines.{Access, Design}
-use Rattle.event_timing.specs.Views.{first_accesses}
+use Rattle.event_timing.specs.{Machines.Access, Machines.Design, Views.first_accesses, Agreement.FlagsFit}
 use Rattle.event_timing.specs.Enablers.{Known, all_decided, both, bound, candidate, known_of}
 use Rattle.event_timing.specs.Core.{Core, all_below, core_accesses, core_tally, core_values, has_query, pops_now, view}
-use Rattle.event_timing.specs.Agreement.{FlagsFit}
 use Rattle.event_timing.specs.Permitted.{decides, has_replies, is_determined, is_open, is_quiet, is_open_before, may_answer, may_assign}
 use Rattle.event_timing.specs.Permitted.{may_earliest, may_run, no_module}
 use Rattle.event_timing.proofs.Candidate.{candidate_parts}
 use Rattle.core_actions.specs.declared.actions.Action.TheVariants.{Run, Assign, Answer, Earliest}
 use Rattle.core_actions.specs.declared.actions.Cause.{Cause}
-use Rattle.core_actions.specs.declared.actions.Cause.TheVariants as cause
 use Rattle.core_actions.specs.Causes.{cause_of, cycle_causes, first_module, first_some, has_clock, is_busy, is_earlier, is_held}
 use Rattle.core_actions.specs.Causes.{is_undecided, is_unverified, later, open_causes, waiting}
+use Rattle.core_actions.specs.declared.actions.Cause.TheVariants as cause
 use Rattle.core_actions.proofs.Firsts as firsts
 
 -- ---- lists of accesses

@@ -1,36 +1,23 @@
 -- What the code finds of a module's steps is what the theory says of them.
-use Rattle.std.proofs.Common.{◌≡◌, refl, sym, ap, ap₂, subst, ◌∙◌, ℕ, zero, suc, ◌+◌, ◌-◌, ◌<◌, ◌≤◌, inl, inr, Bool, true, false, cond}
-use Rattle.std.proofs.Common.{ltb, not}
-use Rattle.std.proofs.Common.{◌&&◌, ◌||◌, List, [], ◌∷◌, length, map, drop, get_or, Option, None, Some, is_none, is_some, arith}
-use Rattle.std.specs.Prelude.{All, position, option_map, slice_get}
-use Rattle.std.specs.List.{zip}
+use Rattle.std.proofs.Common.{◌≡◌, refl, sym, ap, ap₂, subst, ◌∙◌, ℕ, zero, suc, ◌+◌, ◌-◌, ◌<◌, ◌≤◌, inl, inr, Bool, true, false, cond, ltb}
+use Rattle.std.proofs.Common.{not, ◌&&◌, ◌||◌, List, [], ◌∷◌, length, map, drop, get_or, Option, None, Some, is_none, is_some, arith}
 use Rattle.std.proofs.lemmas.Bool.{cases_lt, both_ways, and_from, and_parts, lt-ltb, le-ltb}
-use Rattle.std.proofs.lemmas.Option.{get_or_from_slice_get}
-use Rattle.std.proofs.lemmas.Bool.Decides.{eqb_tells}
+use Rattle.std.proofs.{lemmas.Option.get_or_from_slice_get, lemmas.Bool.Decides.eqb_tells}
 use Rattle.std.proofs.lemmas.List.Elements.{All-head, All-tail}
-use Rattle.flow_word.specs.Kinds.{side_of, is_blocking, is_taking, same_side}
-use Rattle.flow_word.specs.declared.access.Access.{Access}
-use Rattle.flow_word.specs.declared.access.Kind.{Kind}
-use Rattle.flow_word.specs.declared.access.Kind.TheVariants.{Read, Write}
-use Rattle.flow_word.specs.declared.access.Side.{Side}
-use Rattle.flow_word.specs.declared.access.Side.TheVariants.{Pop}
-use Rattle.flow_word.specs.declared.access.Step.{Step}
+use Rattle.std.specs.{Prelude.All, Prelude.position, Prelude.option_map, Prelude.slice_get, List.zip}
+use Rattle.flow_word.specs.{Kinds.side_of, Kinds.is_blocking, Kinds.is_taking, Kinds.same_side, declared.access.Access.Access}
+use Rattle.flow_word.specs.{declared.access.Kind.Kind, declared.access.Kind.TheVariants.Read, declared.access.Kind.TheVariants.Write}
+use Rattle.flow_word.specs.{declared.access.Side.Side, declared.access.Side.TheVariants.Pop, declared.access.Step.Step}
 use Rattle.event_graph.specs.Lanes.{lane_at, no_lane}
 use Rattle.fifo_table.specs.Channels.{Channel}
 use Rattle.query_log.specs.Logs.{log_at}
-use Rattle.time_engine.specs.Possible.{when_possible}
-use Rattle.time_engine.specs.Cycles.{is_waiting}
+use Rattle.time_engine.specs.{Possible.when_possible, Cycles.is_waiting}
 use Rattle.event_timing.specs.Machines as theory
-use Rattle.event_timing.specs.Machines.{Design, IsDesign}
-use Rattle.event_timing.specs.Views.{first_accesses}
-use Rattle.event_timing.specs.Enablers.{Known, known_of}
+use Rattle.event_timing.specs.{Machines.Design, Machines.IsDesign, Views.first_accesses, Enablers.Known, Enablers.known_of}
 use Rattle.event_timing.specs.Core.{Core, core_accesses, core_tally, core_values, has_query, view}
 use Rattle.engine_view.specs.Held.{Held, no_step, step_of, emitted_of, seen, queries_in, flags_by, flag_now, are_among, core_of}
-use Rattle.engine_view.specs.Known.{as_known}
-use Rattle.engine_view.specs.Shown.{AreWhole, IsSound, queries_before}
-use Rattle.engine_view.specs.Turns.{first_of}
-use Rattle.engine_view.proofs.Knowing.{access_known}
-use Rattle.engine_view.proofs.Emitted.{queries_mono}
+use Rattle.engine_view.specs.{Known.as_known, Shown.AreWhole, Shown.IsSound, Shown.queries_before, Turns.first_of}
+use Rattle.engine_view.proofs.{Knowing.access_known, Emitted.queries_mono, Comparing.queries_cons as queries_first}
 use Rattle.engine_view.proofs.Answered.{queries_step, among_is, among_if}
 use Rattle.run_ahead.specs.Replies.{reply_now, told_by, first_missing, value_now}
 use Rattle.core_actions.specs.Missing.{asks, is_open_query}
@@ -38,7 +25,6 @@ use Rattle.core_actions.specs.Causes.{first_lacking, is_held, is_undecided, is_u
 use Rattle.core_actions.proofs.Causing.{ArePlain, lacks}
 use Rattle.sim_core.proofs.Finding.{flags_from, some_there}
 use Rattle.core_actions.proofs.Firsts as firsts
-use Rattle.engine_view.proofs.Comparing.{queries_cons as queries_first}
 
 -- ---- the first step without a cycle
 

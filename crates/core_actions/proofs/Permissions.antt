@@ -1,39 +1,27 @@
 -- What the calls that ask for a cause find, of a core of a plan.
-use Rattle.std.proofs.Common.{◌≡◌, sym, ap, ◌∙◌, ◌↔◌, ℕ, suc, ◌-◌, ◌<◌, ◌≤◌, inl, inr, true}
-use Rattle.std.proofs.Common.{length, Option, None, Some, is_none, arith}
+use Rattle.std.proofs.Common.{◌≡◌, sym, ap, ◌∙◌, ◌↔◌, ℕ, suc, ◌-◌, ◌<◌, ◌≤◌, inl, inr, true, length, Option, None, Some, is_none, arith}
+use Rattle.std.proofs.{lemmas.Bool.Decides.nat_tests, lemmas.Bool.cases_lt}
+use Rattle.std.proofs.lemmas.Option.{slice_get-get_or, slice_get_past, slice_get_within, get_or_from_slice_get}
 use Rattle.std.specs.Prelude.{position, option_map, option_and_then, slice_get, IsSomeAnd, Result, Ok, Err, OnOk, IfErr, is_ok}
 use Rattle.std.specs.Result.{result_err}
-use Rattle.std.proofs.lemmas.Bool.Decides.{nat_tests}
-use Rattle.std.proofs.lemmas.Bool.{cases_lt}
-use Rattle.std.proofs.lemmas.Option.{slice_get-get_or, slice_get_past, slice_get_within, get_or_from_slice_get}
 use Rattle.flow_word.specs.declared.access.Step.{Step}
-use Rattle.flow_design.specs.StaticRules.{FitsEngine}
-use Rattle.flow_design.specs.declared.state.ModuleState.{ModuleState}
+use Rattle.flow_design.specs.{StaticRules.FitsEngine, declared.state.ModuleState.ModuleState}
 use Rattle.event_graph.specs.Lanes.{lane_at}
 use Rattle.query_log.specs.Logs.{log_at}
 use Rattle.time_engine.specs.Cycles.{first_waiting, determined, is_waiting}
-use Rattle.event_timing.specs.Machines.{Design, IsDesign}
-use Rattle.event_timing.specs.Views.{first_accesses}
-use Rattle.event_timing.specs.Enablers.{candidate}
-use Rattle.event_timing.specs.Core.{Core, view}
-use Rattle.event_timing.specs.Actions.{IsDetermined}
-use Rattle.event_timing.specs.Agreement.{IsAgreed}
-use Rattle.event_timing.specs.Permitted.{may_run, may_assign}
+use Rattle.event_timing.specs.{Machines.Design, Machines.IsDesign, Views.first_accesses, Enablers.candidate, Core.Core, Core.view}
+use Rattle.event_timing.specs.{Actions.IsDetermined, Agreement.IsAgreed, Permitted.may_run, Permitted.may_assign}
 use Rattle.event_timing.proofs.Deciding.{run_decided, assign_decided, answer_decided, earliest_decided}
 use Rattle.event_timing.proofs.Answering.{first_emitted}
 use Rattle.timing_bridge.specs.Designs.{design, lockstep_run}
 use Rattle.timing_bridge.proofs.History.{plan_is_design}
-use Rattle.engine_view.specs.Emitted.{place_of}
+use Rattle.engine_view.specs.{Emitted.place_of, Shown.IsSound, Turns.first_of}
 use Rattle.engine_view.specs.Held.{Held, no_step as empty_step, step_of, emitted_of}
-use Rattle.engine_view.specs.Shown.{IsSound}
-use Rattle.engine_view.specs.Turns.{first_of}
 use Rattle.engine_view.proofs.Bounds.{candidate_is}
-use Rattle.core_actions.specs.declared.actions.Action.{Action}
+use Rattle.core_actions.specs.{declared.actions.Action.Action, declared.actions.Cause.Cause}
 use Rattle.core_actions.specs.declared.actions.Action.TheVariants.{Run, Assign, Answer, Earliest}
-use Rattle.core_actions.specs.declared.actions.Cause.{Cause}
+use Rattle.core_actions.specs.Causes.{IsPermitted, cause_of, cycle_causes, first_place, first_some, is_unverified, module_of, waiting}
 use Rattle.core_actions.specs.declared.actions.Cause.TheVariants as cause
-use Rattle.core_actions.specs.Causes.{IsPermitted, cause_of, cycle_causes, first_place, first_some}
-use Rattle.core_actions.specs.Causes.{is_unverified, module_of, waiting}
 use Rattle.run_ahead.specs.Replies.{first_missing, value_now}
 use Rattle.sim_core.specs.Views.{CoreView, theory_of}
 use Rattle.core_actions.proofs.Causing as causing

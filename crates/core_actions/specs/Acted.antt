@@ -4,15 +4,12 @@ use Rattle.query_log.specs.declared.query.Query.{Query}
 use Rattle.outcome_guard.specs.declared.guard.Guard.{Guard}
 use Rattle.outcome_guard.specs.declared.guard.Guard.TheVariants as guard
 use Rattle.event_timing.specs.Actions.{Acts}
-use Rattle.engine_view.specs.declared.turn.Timing.{Timing}
+use Rattle.engine_view.specs.{declared.turn.Timing.Timing, Turns.IsDifferent}
 use Rattle.engine_view.specs.declared.turn.Timing.TheVariants.{Assigned, Answered, Differs, Nothing}
-use Rattle.engine_view.specs.Turns.{IsDifferent}
 use Rattle.timing_bridge.specs.Designs.{design}
-use Rattle.core_actions.specs.declared.actions.Action.{Action}
+use Rattle.core_actions.specs.{declared.actions.Action.Action, Causes.as_theory}
 use Rattle.core_actions.specs.declared.actions.Action.TheVariants.{Run, Assign, Answer, Earliest}
-use Rattle.core_actions.specs.Causes.{as_theory}
-use Rattle.sim_core.specs.Turns.{IsEarliestOther}
-use Rattle.sim_core.specs.Views.{CoreView, theory_of}
+use Rattle.sim_core.specs.{Turns.IsEarliestOther, Views.CoreView, Views.theory_of}
 
 -- the run that the action needs, if it is a Run, is not lent
 abbrev pub HasRun : CoreView → Action → Type 0

@@ -1,22 +1,17 @@
 -- Why an action is not permitted: the first of its conditions that fails.
-use Rattle.std.specs.Prelude.{Bool, List, None, Option, Some, [], false, leb, length, ltb, not, option_map, position, suc, true}
-use Rattle.std.specs.Prelude.{unwrap_or, zero, ℕ}
-use Rattle.std.specs.Prelude.{◌&&◌, ◌++◌, ◌||◌, ◌∷◌}
+use Rattle.std.specs.Prelude.{Bool, List, None, Option, Some, [], false, leb, length, ltb, not, option_map, position, suc, true, unwrap_or}
+use Rattle.std.specs.Prelude.{zero, ℕ, ◌&&◌, ◌++◌, ◌||◌, ◌∷◌}
 use Rattle.std.specs.List.{range_with_len, zip}
-use Rattle.flow_word.specs.declared.access.Place.{Place}
-use Rattle.flow_word.specs.declared.access.Side.TheVariants.{Pop}
+use Rattle.flow_word.specs.{declared.access.Place.Place, declared.access.Side.TheVariants.Pop}
 use Rattle.engine_view.specs.Emitted.{place_of}
-use Rattle.event_timing.specs.Machines.{Access, Design}
-use Rattle.event_timing.specs.Views.{first_accesses}
+use Rattle.event_timing.specs.{Machines.Access, Machines.Design, Views.first_accesses, Enablers.Known.From, Enablers.Known.Never}
+use Rattle.event_timing.specs.{Enablers.Known.Unknown, Actions.MayRun, Actions.MayAssign, Actions.MayAnswer, Actions.MayEarliest}
 use Rattle.event_timing.specs.Enablers.{Known, candidate, is_decided, known_of}
-use Rattle.event_timing.specs.Enablers.Known.{From, Never, Unknown}
 use Rattle.event_timing.specs.Core.{Core, core_accesses, core_tally, core_values, pops_now, view}
-use Rattle.event_timing.specs.Actions.{MayRun, MayAssign, MayAnswer, MayEarliest}
-use Rattle.event_timing.specs.Actions as theory
 use Rattle.event_timing.specs.Permitted.{decides, is_open_before, may_answer, may_assign, may_run}
-use Rattle.core_actions.specs.declared.actions.Action.{Action}
+use Rattle.event_timing.specs.Actions as theory
+use Rattle.core_actions.specs.{declared.actions.Action.Action, declared.actions.Cause.Cause}
 use Rattle.core_actions.specs.declared.actions.Action.TheVariants.{Run, Assign, Answer, Earliest}
-use Rattle.core_actions.specs.declared.actions.Cause.{Cause}
 use Rattle.core_actions.specs.declared.actions.Cause.TheVariants as cause
 
 -- ---- actions

@@ -4,8 +4,7 @@ use Rattle.event_graph.specs.Lanes.{Lane}
 use Rattle.time_engine.specs.Possible.{when_possible}
 use Rattle.event_timing.specs.Enablers.{is_decided}
 use Rattle.engine_view.specs.Known.{as_known}
-use Rattle.flow_word.specs.declared.access.Access.{Access}
-use Rattle.flow_word.specs.Kinds.{is_blocking}
+use Rattle.flow_word.specs.{declared.access.Access.Access, Kinds.is_blocking}
 use Rattle.fifo_table.specs.Channels.{Channel}
 
 abbrev pub asks : Access → Bool

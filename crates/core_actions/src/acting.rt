@@ -2,8 +2,7 @@
 ghost use Rattle.std.specs.Prelude.{◌≡◌, ◌↔◌, ◌+◌, ◌<◌, length, IfOk, IsErrOf, OnErr, OnOk, Some};
 ghost use Rattle.timing_bridge.specs.Designs.{design};
 ghost use Rattle.sim_core.specs.Views.{theory_of};
-ghost use Rattle.core_actions.specs.Acted.{HasActed, HasRun, IsRun, gives};
-ghost use Rattle.core_actions.specs.Acted.{guard_of as guard_by};
+ghost use Rattle.core_actions.specs.Acted.{HasActed, HasRun, IsRun, gives, guard_of as guard_by};
 ghost use Rattle.core_actions.specs.Causes.{IsPermitted, cause_of, module_of};
 
 use crate::actions::{ActFault, Action, Cause};

@@ -1,20 +1,13 @@
 //! Which actions are permitted, and why others are not.
 ghost use Rattle.std.specs.Prelude.{◌≡◌, ◌<◌, length, IfErr, IfOk, IfSome, None, OnOk, Some, is_none, is_some, position};
 ghost use Rattle.std.specs.Result.{result_err};
-ghost use Rattle.event_timing.specs.Actions.{IsDetermined};
-ghost use Rattle.event_timing.specs.Core.{view};
-ghost use Rattle.event_timing.specs.Enablers.{candidate as candidate_of};
-ghost use Rattle.event_timing.specs.Enablers.{known_of as known_by};
-ghost use Rattle.event_timing.specs.Permitted.{is_open_before};
-ghost use Rattle.event_timing.specs.Views.{first_accesses};
+ghost use Rattle.event_timing.specs.{Actions.IsDetermined, Core.view, Permitted.is_open_before, Views.first_accesses};
+ghost use Rattle.event_timing.specs.Enablers.{candidate as candidate_of, known_of as known_by};
 ghost use Rattle.timing_bridge.specs.Designs.{design};
-ghost use Rattle.engine_view.specs.Held.{emitted_of};
-ghost use Rattle.engine_view.specs.Turns.{first_of};
+ghost use Rattle.engine_view.specs.{Held.emitted_of, Turns.first_of};
 ghost use Rattle.sim_core.specs.Views.{theory_of};
 ghost use Rattle.core_actions.specs.Causes.{IsPermitted, module_of, cause_of, cycle_causes, first_some, is_undecided, is_unverified};
-ghost use Rattle.core_actions.specs.Causes.{first_module, first_place, open_causes, waiting};
-ghost use Rattle.core_actions.specs.Causes.{is_busy as busy_by};
-ghost use Rattle.core_actions.specs.Causes.{later as later_cause};
+ghost use Rattle.core_actions.specs.Causes.{first_module, first_place, open_causes, waiting, is_busy as busy_by, later as later_cause};
 
 use crate::actions::{Action, Cause};
 use crate::searching::{number_of, query_in, undecided_in};

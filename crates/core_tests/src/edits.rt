@@ -3,8 +3,7 @@ ghost use Rattle.std.specs.Prelude.{◌≡◌};
 ghost use Rattle.flow_design.specs.Plans.{EditFits};
 ghost use Rattle.event_timing.specs.Actions.{IsFinal};
 ghost use Rattle.timing_bridge.specs.Designs.{design};
-ghost use Rattle.sim_core.specs.Views.{theory_of};
-ghost use Rattle.sim_core.specs.Drives.{AreOwn};
+ghost use Rattle.sim_core.specs.{Views.theory_of, Drives.AreOwn};
 
 use flow_check::check;
 use flow_design::Edit;

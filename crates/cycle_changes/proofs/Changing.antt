@@ -1,32 +1,22 @@
 -- Lanes with other cycles, as puts leave them.
-use Rattle.std.proofs.Common.{◌≡◌, refl, sym, ap, ap₂, subst, ◌∙◌, ℕ, suc, ◌<◌, ◌≤◌, ◌⊎◌, inl, inr, List, [], ◌∷◌, length}
-use Rattle.std.proofs.Common.{get_or, Vec, Global, arith}
-use Rattle.std.specs.Prelude.{All, Contains}
-use Rattle.std.proofs.Math.ListN.{set}
-use Rattle.std.proofs.Math.Seq.{map-set_same, drop-length}
-use Rattle.std.proofs.lemmas.Bool.Decides.{eqb_tells}
+use Rattle.std.proofs.Common.{◌≡◌, refl, sym, ap, ap₂, subst, ◌∙◌, ℕ, suc, ◌<◌, ◌≤◌, ◌⊎◌, inl, inr, List, [], ◌∷◌, length, get_or, Vec}
+use Rattle.std.proofs.Common.{Global, arith}
+use Rattle.std.proofs.{Math.ListN.set, Math.Seq.map-set_same, Math.Seq.drop-length, lemmas.Bool.Decides.eqb_tells}
 use Rattle.std.proofs.lemmas.List.{get_or-set_same, set-set, set-get_or}
-use Rattle.flow_word.specs.declared.access.Place.{Place}
-use Rattle.flow_word.specs.declared.access.Side.{Side}
+use Rattle.std.specs.Prelude.{All, Contains}
+use Rattle.flow_word.specs.{declared.access.Place.Place, declared.access.Side.Side}
 use Rattle.flow_word.specs.declared.access.Side.TheVariants.{Pop, Push}
 use Rattle.event_graph.specs.Lanes.{Lane, IsSoundLane, lane_at, no_lane, put_in}
-use Rattle.fifo_table.specs.declared.channel.TableChannel.{TableChannel}
+use Rattle.fifo_table.specs.{declared.channel.TableChannel.TableChannel, Roomed.RoomedChannels}
 use Rattle.fifo_table.specs.declared.channel.TableChannel.TheVariants.{Source, Sink, Fifo}
 use Rattle.fifo_table.specs.Channels.{Channel, channel_at, deepened, depth_of, unused, with_depth}
-use Rattle.engine_view.specs.Emitted.{place_of}
-use Rattle.engine_view.specs.Rooms.{room_of}
-use Rattle.engine_view.specs.declared.engine.Engine.{Engine}
-use Rattle.engine_view.specs.Engines.{held_in}
-use Rattle.fifo_table.specs.Roomed.{RoomedChannels}
+use Rattle.engine_view.specs.{Emitted.place_of, Rooms.room_of, declared.engine.Engine.Engine, Engines.held_in}
 use Rattle.flow_design.specs.declared.plan.Edit.{Edit}
 use Rattle.query_log.specs.Logs.{RoomedLogs}
 use Rattle.retime.specs.Rounds.{only_steps}
 use Rattle.retime.proofs.Counts.{same_length, same_steps}
-use Rattle.cycle_changes.specs.OtherCycles.{HasOtherCycles}
-use Rattle.cycle_changes.specs.declared.changes.Put.{Put}
+use Rattle.cycle_changes.specs.{OtherCycles.HasOtherCycles, declared.changes.Put.Put, Changed.LosesNoRoom, Found.places_in}
 use Rattle.cycle_changes.specs.Puts.{undone, ArePut, HasPut}
-use Rattle.cycle_changes.specs.Changed.{LosesNoRoom}
-use Rattle.cycle_changes.specs.Found.{places_in}
 use Rattle.cycle_changes.proofs.Putting.{no_puts, put_count, put_apart}
 
 -- ---- what puts leave

@@ -1,7 +1,7 @@
 -- How many cycles may be given anew, lane by lane.
 use Rattle.std.proofs.Common.{◌≡◌, ℕ, ◌+◌, ◌<◌, ◌≤◌, List, length, map, take, nat_lt, arith}
-use Rattle.std.specs.Prelude.{All}
 use Rattle.std.proofs.lemmas.List.Sums.{sum_by_more, sum_by-le-sum_by, length-filter, count_by-le-length}
+use Rattle.std.specs.Prelude.{All}
 use Rattle.event_graph.specs.Lanes.{Lane, IsSoundLane, lane_at, no_lane, timed_below}
 use Rattle.retime.specs.Rounds.{cycles_in, steps_in}
 use Rattle.retime.proofs.Counts.{sum_map, cycles_within}

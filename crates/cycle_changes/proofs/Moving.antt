@@ -1,19 +1,15 @@
 -- How many steps have another cycle, and puts of a draft.
 use Rattle.std.proofs.Common.{◌≡◌, ◌≢◌, refl, sym, ap, ap₂, subst, ◌∙◌, ℕ, zero, suc, ◌+◌, ◌<◌, ◌≤◌, ◌⊎◌, inl, inr, List, [], ◌∷◌, ◌++◌}
 use Rattle.std.proofs.Common.{length, get_or, map, Some, arith}
-use Rattle.std.specs.Prelude.{All}
-use Rattle.std.proofs.Math.ListN.{set, get_or-map}
+use Rattle.std.proofs.{Math.ListN.set, Math.ListN.get_or-map, lemmas.List.Elements.All-push}
 use Rattle.std.proofs.lemmas.List.{get_or-set_same, length-append, length-map}
-use Rattle.std.proofs.lemmas.List.Elements.{All-push}
+use Rattle.std.specs.Prelude.{All}
 use Rattle.flow_word.specs.declared.access.Place.{Place}
 use Rattle.event_graph.specs.Lanes.{Lane, IsSoundLane, lane_at, no_lane, put_in, with_put}
 use Rattle.engine_view.specs.Emitted.{place_of}
-use Rattle.cycle_changes.specs.declared.changes.Put.{Put}
-use Rattle.cycle_changes.specs.declared.draft.Draft.{Draft}
-use Rattle.cycle_changes.specs.Moved.{others_in, moved_in}
+use Rattle.cycle_changes.specs.{declared.changes.Put.Put, declared.draft.Draft.Draft, Moved.others_in, Moved.moved_in}
 use Rattle.cycle_changes.specs.Puts.{HasCycle, ArePut, AreDrafted, drafted}
-use Rattle.cycle_changes.proofs.Putting.{no_puts, put_apart, put_more}
-use Rattle.cycle_changes.proofs.Changing.{puts_are_other}
+use Rattle.cycle_changes.proofs.{Putting.no_puts, Putting.put_apart, Putting.put_more, Changing.puts_are_other}
 
 -- ---- another cycle of one step
 

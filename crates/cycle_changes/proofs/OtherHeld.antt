@@ -1,42 +1,26 @@
 -- With another depth and other cycles, what is held is the core with those cycles.
 use Rattle.std.proofs.Common.{◌≡◌, refl, sym, ap, ap₂, subst, ◌∙◌, ℕ, ◌<◌, ◌≤◌, min, Bool, cond, ltb, ◌&&◌, List, length, map, get_or, drop}
 use Rattle.std.proofs.Common.{arith, suc, false, [], ◌∷◌, filter, nat_lt, inl, inr}
-use Rattle.std.specs.List.Sorted.{IsStrictlyIncreasing}
-use Rattle.std.specs.Prelude.{All}
-use Rattle.std.proofs.lemmas.Bool.{cases_Bool, le-ltb, ltb-true}
-use Rattle.std.proofs.lemmas.List.{get_or_default, length-map, length-set}
-use Rattle.std.proofs.lemmas.List.Elements.{All-map}
-use Rattle.std.proofs.Math.ListN.{get_or-map}
+use Rattle.std.proofs.{lemmas.Bool.cases_Bool, lemmas.Bool.le-ltb, lemmas.Bool.ltb-true, lemmas.List.get_or_default, lemmas.List.length-map}
+use Rattle.std.proofs.{lemmas.List.length-set, lemmas.List.Elements.All-map, Math.ListN.get_or-map}
+use Rattle.std.specs.{List.Sorted.IsStrictlyIncreasing, Prelude.All}
 use Rattle.flow_design.specs.declared.plan.Edit.{Edit}
-use Rattle.flow_word.specs.Kinds.{side_of}
-use Rattle.flow_word.specs.declared.access.Side.{Side}
-use Rattle.flow_word.specs.declared.access.Access.{Access}
-use Rattle.flow_word.specs.declared.access.Step.{Step}
+use Rattle.flow_word.specs.{Kinds.side_of, declared.access.Side.Side, declared.access.Access.Access, declared.access.Step.Step}
 use Rattle.event_graph.specs.Lanes.{Lane, cycle_bound, IsSoundLane, lane_at, no_lane, timed_below}
 use Rattle.fifo_table.specs.Channels.{Channel, IsFifo, channel_at, places_of, with_depth, lag_of}
 use Rattle.fifo_table.specs.Roomed.{RoomedChannels}
 use Rattle.query_log.specs.Logs.{Log, IsSoundLog, log_at, no_log}
 use Rattle.time_engine.specs.Conditions.{IsAccess, HasAccesses}
-use Rattle.event_timing.specs.Machines.{Design, ready}
-use Rattle.event_timing.specs.Views.{own}
+use Rattle.event_timing.specs.{Machines.Design, Machines.ready, Views.own, Edits.edited, Edits.after_edit, Edits.kept}
 use Rattle.event_timing.specs.Core.{Core, core_tally, core_values}
-use Rattle.event_timing.specs.Edits.{edited, after_edit, kept}
 use Rattle.right_records.specs.Records.{with_cycles}
-use Rattle.right_records.proofs.Keeping.{kept_none}
-use Rattle.right_records.proofs.Marks.{marks_on}
-use Rattle.engine_view.specs.Edited.{IsCut}
-use Rattle.engine_view.specs.Held.{Held, step_of, no_step, emitted_of, seen, are_among, flags_by, replies_at, waited, core_of}
-use Rattle.engine_view.specs.Held.{values_at}
-use Rattle.engine_view.specs.Kept.{IsKept, IsNow}
-use Rattle.engine_view.specs.Rooms.{HasRoom, room_of, pending}
+use Rattle.right_records.proofs.{Keeping.kept_none, Marks.marks_on}
+use Rattle.engine_view.specs.{Edited.IsCut, Kept.IsKept, Kept.IsNow, Rooms.HasRoom, Rooms.room_of, Rooms.pending}
+use Rattle.engine_view.specs.Held.{Held, step_of, no_step, emitted_of, seen, are_among, flags_by, replies_at, waited, core_of, values_at}
 use Rattle.engine_view.specs.Shown.{Shows, IsKind, AreTaken, AreWhole, queries_before}
-use Rattle.engine_view.proofs.Answered.{queries_zero, steps_only}
-use Rattle.engine_view.proofs.Keeping.{cut_now, now_kept}
-use Rattle.engine_view.proofs.Placing.{places_from}
-use Rattle.engine_view.proofs.Reading.{IsRead, read_sound}
-use Rattle.engine_view.proofs.Roomy.{pending_same, room_on}
-use Rattle.cycle_changes.specs.Looks.{cycle_held}
-use Rattle.cycle_changes.specs.OtherCycles.{HasOtherCycles}
+use Rattle.engine_view.proofs.{Answered.queries_zero, Answered.steps_only, Keeping.cut_now, Keeping.now_kept, Placing.places_from}
+use Rattle.engine_view.proofs.{Reading.IsRead, Reading.read_sound, Roomy.pending_same, Roomy.room_on}
+use Rattle.cycle_changes.specs.{Looks.cycle_held, OtherCycles.HasOtherCycles}
 
 -- a log without a verified outcome
 abbrev unsure : Log → Log

@@ -1,19 +1,14 @@
 -- Cycles that are put into lanes, and taken back.
-use Rattle.std.proofs.Common.{◌≡◌, refl, sym, ap, subst, ◌∙◌, ℕ, ◌+◌, ◌<◌, ◌≤◌, ◌⊎◌, inl, inr, List, [], ◌∷◌, ◌++◌, length}
-use Rattle.std.proofs.Common.{drop, get_or, arith}
-use Rattle.std.specs.Prelude.{All}
-use Rattle.std.specs.List.Sorted.{IsStrictlyIncreasing}
-use Rattle.std.proofs.Math.ListN.{set}
-use Rattle.std.proofs.lemmas.Bool.{cases_lt}
-use Rattle.std.proofs.lemmas.Bool.Decides.{eqb_tells}
-use Rattle.std.proofs.lemmas.List.{length-set, get_or-set_same, get_or-set_other, get_or_past, set-set, set-get_or}
-use Rattle.std.proofs.lemmas.List.{length-append, get_or_append_left, drop-append-le, drop_all}
+use Rattle.std.proofs.Common.{◌≡◌, refl, sym, ap, subst, ◌∙◌, ℕ, ◌+◌, ◌<◌, ◌≤◌, ◌⊎◌, inl, inr, List, [], ◌∷◌, ◌++◌, length, drop, get_or}
+use Rattle.std.proofs.Common.{arith}
+use Rattle.std.proofs.{Math.ListN.set, lemmas.Bool.cases_lt, lemmas.Bool.Decides.eqb_tells, lemmas.List.Elements.All-push}
+use Rattle.std.proofs.lemmas.List.{length-set, get_or-set_same, get_or-set_other, get_or_past, set-set, set-get_or, length-append}
+use Rattle.std.proofs.lemmas.List.{get_or_append_left, drop-append-le, drop_all}
 use Rattle.std.proofs.Math.Seq.{get_or-append_seam, drop-length}
-use Rattle.std.proofs.lemmas.List.Elements.{All-push}
+use Rattle.std.specs.{Prelude.All, List.Sorted.IsStrictlyIncreasing}
 use Rattle.flow_word.specs.declared.access.Place.{Place}
 use Rattle.event_graph.specs.Lanes.{Lane, IsSoundLane, lane_at, no_lane, put_in, with_put, cycle_bound}
-use Rattle.cycle_changes.specs.declared.changes.Put.{Put}
-use Rattle.cycle_changes.specs.Puts.{HasCycle, IsFitting, undone, ArePut}
+use Rattle.cycle_changes.specs.{declared.changes.Put.Put, Puts.HasCycle, Puts.IsFitting, Puts.undone, Puts.ArePut}
 
 -- ---- one put
 

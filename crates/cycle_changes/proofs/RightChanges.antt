@@ -1,43 +1,26 @@
 -- New cycles that the check finds right are a right record of the edited design.
 use Rattle.std.proofs.Common.{◌≡◌, refl, sym, ap, subst, ◌∙◌, ℕ, suc, ◌<◌, ◌≤◌, Bool, true, false, not, ◌&&◌, ◌⊎◌, eqb, List, [], ◌∷◌}
 use Rattle.std.proofs.Common.{length, map, get_or, arith, inl, inr, Some}
-use Rattle.std.specs.Prelude.{Any, Contains}
 use Rattle.std.proofs.lemmas.Bool.{cases_Bool, and_parts, both_ways, eqb-true, eq-eqb, and_from, not-true}
 use Rattle.std.proofs.lemmas.List.{get_or_default}
-use Rattle.flow_design.specs.declared.plan.Edit.{Edit}
-use Rattle.flow_word.specs.Kinds.{side_of, same_side}
-use Rattle.flow_word.specs.declared.access.Access.{Access}
-use Rattle.flow_word.specs.declared.access.Place.{Place}
-use Rattle.flow_word.specs.declared.access.Side.{Side}
-use Rattle.flow_word.specs.declared.access.Side.TheVariants.{Push}
-use Rattle.flow_design.specs.declared.state.ModuleState.{ModuleState}
-use Rattle.fifo_table.specs.declared.enabler.Enabler.TheVariants.{Event}
-use Rattle.fifo_table.specs.Channels.{IsFifo, channel_at, with_depth}
+use Rattle.std.specs.Prelude.{Any, Contains}
+use Rattle.flow_design.specs.{declared.plan.Edit.Edit, declared.state.ModuleState.ModuleState}
+use Rattle.flow_word.specs.{Kinds.side_of, Kinds.same_side, declared.access.Access.Access, declared.access.Place.Place}
+use Rattle.flow_word.specs.{declared.access.Side.Side, declared.access.Side.TheVariants.Push}
+use Rattle.fifo_table.specs.{declared.enabler.Enabler.TheVariants.Event, Channels.IsFifo, Channels.channel_at, Channels.with_depth}
 use Rattle.event_timing.specs.Machines as theory
 use Rattle.event_timing.specs.Machines.{Design, IsDesign, Each}
-use Rattle.event_timing.specs.Core.{Core, core_accesses, view}
-use Rattle.event_timing.specs.Enablers.{candidate}
-use Rattle.event_timing.specs.Edits.{edited}
-use Rattle.event_timing.proofs.Editing.{edit_design}
-use Rattle.event_timing.proofs.OwnRuns.{same_side_is}
+use Rattle.event_timing.specs.{Core.Core, Core.core_accesses, Core.view, Enablers.candidate, Edits.edited}
+use Rattle.event_timing.proofs.{Editing.edit_design, OwnRuns.same_side_is}
 use Rattle.right_records.specs.Records.{IsRightRecord, IsRight, IsStill, IsBeside, IsChecked, IsIn, IsSaidAround, with_cycles, partner}
 use Rattle.right_records.specs.Records as records
-use Rattle.right_records.proofs.Enabled.{around}
-use Rattle.right_records.proofs.Onward.{record_on}
-use Rattle.engine_view.specs.Emitted.{place_of}
+use Rattle.right_records.proofs.{Enabled.around, Onward.record_on}
+use Rattle.engine_view.specs.{Emitted.place_of, Kept.IsKept, Kept.IsNow, declared.engine.Engine.Engine, Engines.held_in}
 use Rattle.engine_view.specs.Held.{Held, held, step_of, emitted_of, seen, core_of}
-use Rattle.engine_view.specs.Kept.{IsKept, IsNow}
-use Rattle.engine_view.specs.declared.engine.Engine.{Engine}
-use Rattle.engine_view.specs.Engines.{held_in}
-use Rattle.engine_view.proofs.Bounds.{candidate_is}
-use Rattle.engine_view.proofs.Knowing.{timed_within}
-use Rattle.cycle_changes.specs.Looks.{IsLooked, cycle_held}
-use Rattle.cycle_changes.specs.OtherCycles.{HasOtherCycles}
-use Rattle.cycle_changes.proofs.OtherHeld.{other_now}
-use Rattle.cycle_changes.proofs.RightLooks.{look_is}
+use Rattle.engine_view.proofs.{Bounds.candidate_is, Knowing.timed_within}
+use Rattle.cycle_changes.specs.{Looks.IsLooked, Looks.cycle_held, OtherCycles.HasOtherCycles, Changed.AreRightChanges}
 use Rattle.cycle_changes.specs.Around.{IsLookedAround, StandsAt, WaitsFor}
-use Rattle.cycle_changes.specs.Changed.{AreRightChanges}
-use Rattle.cycle_changes.proofs.Waiting.{event_found, no_access}
+use Rattle.cycle_changes.proofs.{OtherHeld.other_now, RightLooks.look_is, Waiting.event_found, Waiting.no_access}
 
 -- ---- lists of accesses
 

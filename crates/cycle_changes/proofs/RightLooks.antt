@@ -1,21 +1,16 @@
 -- A look finds what the theory finds.
-use Rattle.std.proofs.Common.{◌≡◌, sym, ap, ap₂, ◌∙◌, ℕ, zero, suc, ◌+◌, ◌<◌, ◌≤◌, List, length, map, arith, slice_index_or}
+use Rattle.std.proofs.Common.{◌≡◌, sym, ap, ap₂, ◌∙◌, ℕ, zero, suc, ◌+◌, ◌<◌, ◌≤◌, List, length, map, arith, slice_index_or, refl}
 use Rattle.std.specs.Prelude.{All, ◌↔◌}
-use Rattle.std.proofs.Common.{refl}
 use Rattle.flow_word.specs.declared.access.Access.{Access}
 use Rattle.event_graph.specs.Lanes.{Lane, lane_at}
 use Rattle.time_engine.specs.Possible.{when_possible}
 use Rattle.event_timing.specs.Machines as theory
-use Rattle.event_timing.specs.Machines.{Design, IsDesign}
-use Rattle.event_timing.specs.Views.{from}
-use Rattle.event_timing.specs.Core.{Core, core_accesses}
+use Rattle.event_timing.specs.{Machines.Design, Machines.IsDesign, Views.from, Core.Core, Core.core_accesses}
 use Rattle.event_timing.specs.Enablers.{bound, to_clock, flags_at}
 use Rattle.engine_view.specs.Held.{Held, step_of, seen, core_of, waited, emitted_of}
-use Rattle.engine_view.specs.Shown.{IsSound}
-use Rattle.engine_view.specs.Known.{as_known, found_flags}
+use Rattle.engine_view.specs.{Shown.IsSound, Known.as_known, Known.found_flags}
 use Rattle.engine_view.proofs.Bounds.{bound_is, lane_apart, unless}
-use Rattle.engine_view.proofs.Deciding.{flags_found}
-use Rattle.engine_view.proofs.Knowing.{access_known_in, timed_within}
+use Rattle.engine_view.proofs.{Deciding.flags_found, Knowing.access_known_in, Knowing.timed_within}
 use Rattle.right_records.specs.Records.{IsRight, known_at}
 use Rattle.cycle_changes.specs.Looks.{IsLooked, cycle_before, looked, cycle_held}
 

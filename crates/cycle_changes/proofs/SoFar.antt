@@ -1,8 +1,7 @@
 -- What holds of the elements of a list so far.
 use Rattle.std.proofs.Common.{ℕ, ◌+◌, ◌<◌, ◌≤◌, List, length, get_or, take}
+use Rattle.std.proofs.{lemmas.List.take_all, lemmas.List.take_more, lemmas.List.Elements.All-push}
 use Rattle.std.specs.Prelude.{All}
-use Rattle.std.proofs.lemmas.List.{take_all, take_more}
-use Rattle.std.proofs.lemmas.List.Elements.{All-push}
 
 -- one more
 pub all_more : {X : Type 0} (P : X → Type 0) (xs : List X) (i : ℕ) (d : X) → i < length xs → All P (take i xs) → P (get_or xs i d)

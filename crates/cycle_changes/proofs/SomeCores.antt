@@ -1,20 +1,13 @@
 -- In the middle of a change an engine is some core still.
 use Rattle.std.proofs.Common.{refl, ◌<◌, Bool, List, [], length}
-use Rattle.flow_design.specs.declared.state.ModuleState.{ModuleState}
-use Rattle.flow_design.specs.declared.plan.Edit.{Edit}
+use Rattle.flow_design.specs.{declared.state.ModuleState.ModuleState, declared.plan.Edit.Edit}
 use Rattle.fifo_table.specs.Channels.{IsFifo, channel_at}
-use Rattle.event_timing.specs.Machines.{Design}
-use Rattle.event_timing.specs.Edits.{edited}
+use Rattle.event_timing.specs.{Machines.Design, Edits.edited}
 use Rattle.event_timing.proofs.Editing.{edit_design}
-use Rattle.engine_view.specs.Kept.{IsKept}
-use Rattle.engine_view.specs.Rooms.{IsRoomy}
-use Rattle.engine_view.specs.declared.engine.Engine.{Engine}
-use Rattle.engine_view.specs.Engines.{held_in}
-use Rattle.engine_view.specs.Turns.{IsSomeCore}
+use Rattle.engine_view.specs.{Kept.IsKept, Rooms.IsRoomy, declared.engine.Engine.Engine, Engines.held_in, Turns.IsSomeCore}
 use Rattle.retime.specs.Cuts.{KeepsRoomEdited}
-use Rattle.cycle_changes.specs.OtherCycles.{HasOtherCycles}
+use Rattle.cycle_changes.specs.{OtherCycles.HasOtherCycles, Changed.LosesNoRoom}
 use Rattle.cycle_changes.proofs.OtherHeld.{other_now, other_room}
-use Rattle.cycle_changes.specs.Changed.{LosesNoRoom}
 
 module _ (s t : Engine) (edit : Edit) (inside : edit.channel < length s.fifos.channels)
     (is_fifo : IsFifo (channel_at s.fifos.channels edit.channel).kind) (o : HasOtherCycles (held_in s []) (held_in t []) edit)

@@ -1,30 +1,23 @@
 -- Which accesses wait for a step, by the table and by the theory.
-use Rattle.std.proofs.Common.{◌≡◌, refl, sym, ap, ap₂, subst, ◌∙◌, ℕ, suc, ◌+◌, ◌-◌, ◌<◌, ◌≤◌, true, false}
-use Rattle.std.proofs.Common.{List, [], ◌∷◌, length, map, get_or, arith, inl, inr, Option, Some, None, slice_get, nat_le}
+use Rattle.std.proofs.Common.{◌≡◌, refl, sym, ap, ap₂, subst, ◌∙◌, ℕ, suc, ◌+◌, ◌-◌, ◌<◌, ◌≤◌, true, false, List, [], ◌∷◌, length, map}
+use Rattle.std.proofs.Common.{get_or, arith, inl, inr, Option, Some, None, slice_get, nat_le}
 use Rattle.std.proofs.lemmas.Bool.{cases_Bool, cases_lt, and_parts, or_parts, both_ways, eqb-true, ltb-false, le-leb, lt-leb, cond-false}
 use Rattle.std.proofs.lemmas.Option.{slice_get-get_or}
-use Rattle.flow_word.specs.Kinds.{side_of, other_side}
-use Rattle.flow_word.specs.declared.access.Access.{Access}
-use Rattle.flow_word.specs.declared.access.Kind.TheVariants.{Read}
-use Rattle.flow_word.specs.declared.access.Place.{Place}
-use Rattle.flow_word.specs.declared.access.Side.{Side}
+use Rattle.flow_word.specs.{Kinds.side_of, Kinds.other_side, declared.access.Access.Access, declared.access.Kind.TheVariants.Read}
+use Rattle.flow_word.specs.{declared.access.Place.Place, declared.access.Side.Side}
 use Rattle.flow_word.specs.declared.access.Side.TheVariants.{Pop, Push}
-use Rattle.fifo_table.specs.declared.channel.TableChannel.{TableChannel}
+use Rattle.fifo_table.specs.{declared.channel.TableChannel.TableChannel, Enablers.enabler_by, Enablers.event_at}
 use Rattle.fifo_table.specs.declared.channel.TableChannel.TheVariants.{Source, Sink, Fifo}
 use Rattle.fifo_table.specs.declared.enabler.Enabler.TheVariants.{Event}
 use Rattle.fifo_table.specs.Channels.{Channel, IsFifo, HasSide, channel_at, places_of, free_of}
-use Rattle.fifo_table.specs.Enablers.{enabler_by, event_at}
 use Rattle.time_engine.specs.Possible.{enabler_at}
-use Rattle.event_timing.specs.Machines.{Design, IsDesign, takers, takes_at}
+use Rattle.event_timing.specs.{Machines.Design, Machines.IsDesign, Machines.takers, Machines.takes_at, Views.place}
 use Rattle.event_timing.specs.Core.{Core, core_accesses, core_reply, core_tally, bare_replies}
-use Rattle.event_timing.specs.Views.{place}
-use Rattle.event_timing.proofs.Fronts.{core_tally_is}
+use Rattle.event_timing.proofs.{Fronts.core_tally_is, Values.takes_takers}
 use Rattle.event_timing.proofs.OwnRuns.{IsPlace, place_says, same_side_is, tally_more}
-use Rattle.event_timing.proofs.Values.{takes_takers}
 use Rattle.right_records.specs.Records as records
-use Rattle.engine_view.specs.Emitted.{place_of}
+use Rattle.engine_view.specs.{Emitted.place_of, Shown.IsSound, Shown.IsKind, Shown.IsTakenAt}
 use Rattle.engine_view.specs.Held.{Held, step_of, emitted_of, seen, core_of}
-use Rattle.engine_view.specs.Shown.{IsSound, IsKind, IsTakenAt}
 use Rattle.engine_view.proofs.Knowing.{timed_within}
 use Rattle.cycle_changes.proofs.InTurn.{grows, inside, ordinal, taker_at}
 

@@ -1,26 +1,16 @@
 -- A change of a depth that leaves a right record.
 use Rattle.std.specs.Prelude.{◌≡◌, ℕ, ◌≤◌, ◌⊎◌, List, [], length, slice_index, All, Contains}
 use Rattle.flow_design.specs.declared.plan.Edit.{Edit}
-use Rattle.flow_word.specs.declared.access.Place.{Place}
-use Rattle.flow_word.specs.declared.access.Side.{Side}
+use Rattle.flow_word.specs.{declared.access.Place.Place, declared.access.Side.Side}
 use Rattle.event_graph.specs.Lanes.{lane_at}
 use Rattle.fifo_table.specs.Channels.{with_depth}
 use Rattle.event_timing.specs.Edits.{edited}
 use Rattle.right_records.specs.Records.{IsRightRecord}
-use Rattle.engine_view.specs.Emitted.{place_of}
-use Rattle.engine_view.specs.Held.{held, core_of}
-use Rattle.engine_view.specs.Kept.{IsKept}
-use Rattle.engine_view.specs.Rooms.{room_of}
-use Rattle.engine_view.specs.declared.engine.Engine.{Engine}
-use Rattle.engine_view.specs.Engines.{held_in}
-use Rattle.engine_view.specs.Taking.{kinds_in}
-use Rattle.engine_view.specs.Turns.{IsSomeCore, OfEach}
-use Rattle.retime.specs.Cuts.{KeepsRoomEdited}
-use Rattle.retime.specs.Rounds.{only_steps}
-use Rattle.cycle_changes.specs.Looks.{IsLooked, cycle_held}
-use Rattle.cycle_changes.specs.OtherCycles.{HasOtherCycles}
+use Rattle.engine_view.specs.{Emitted.place_of, Held.held, Held.core_of, Kept.IsKept, Rooms.room_of, declared.engine.Engine.Engine}
+use Rattle.engine_view.specs.{Engines.held_in, Taking.kinds_in, Turns.IsSomeCore, Turns.OfEach}
+use Rattle.retime.specs.{Cuts.KeepsRoomEdited, Rounds.only_steps}
+use Rattle.cycle_changes.specs.{Looks.IsLooked, Looks.cycle_held, OtherCycles.HasOtherCycles, Seeds.AreSeeds}
 use Rattle.cycle_changes.specs.Around.{IsLookedAround, AreLate}
-use Rattle.cycle_changes.specs.Seeds.{AreSeeds}
 
 -- for each design of which s is a right record, t is a right record of the design with the new depth
 abbrev pub StaysRight : Edit → ℕ → Engine → Engine → Type 0

@@ -1,12 +1,8 @@
 -- What is found to be right after cycles were put.
 use Rattle.std.specs.Prelude.{ℕ, List, [], map, All}
 use Rattle.flow_word.specs.declared.access.Place.{Place}
-use Rattle.engine_view.specs.declared.engine.Engine.{Engine}
-use Rattle.engine_view.specs.Engines.{held_in}
-use Rattle.cycle_changes.specs.Looks.{IsLooked}
-use Rattle.cycle_changes.specs.declared.changes.Put.{Put}
-use Rattle.cycle_changes.specs.Around.{IsLookedAround, AreLate}
-use Rattle.cycle_changes.specs.Seeds.{AreSeeds}
+use Rattle.engine_view.specs.{declared.engine.Engine.Engine, Engines.held_in}
+use Rattle.cycle_changes.specs.{Looks.IsLooked, declared.changes.Put.Put, Around.IsLookedAround, Around.AreLate, Seeds.AreSeeds}
 
 -- the steps whose cycles were put
 abbrev pub places_in : List Put → List Place

@@ -1,12 +1,8 @@
 -- The steps from which a change of a depth begins.
 use Rattle.std.specs.Prelude.{ℕ, ◌<◌, ◌⊎◌, List, Contains}
-use Rattle.flow_word.specs.declared.access.Side.TheVariants.{Push}
-use Rattle.flow_word.specs.declared.access.Place.{Place}
-use Rattle.engine_view.specs.Emitted.{place_of}
-use Rattle.engine_view.specs.Held.{Held, step_of}
-use Rattle.engine_view.specs.Turns.{first_of}
-use Rattle.cycle_changes.specs.Looks.{IsLooked}
-use Rattle.cycle_changes.specs.Around.{StandsSomewhere}
+use Rattle.flow_word.specs.{declared.access.Side.TheVariants.Push, declared.access.Place.Place}
+use Rattle.engine_view.specs.{Emitted.place_of, Held.Held, Held.step_of, Turns.first_of}
+use Rattle.cycle_changes.specs.{Looks.IsLooked, Around.StandsSomewhere}
 
 -- these places have each step at the FIFO's pushing side in which a look finds the depth felt
 abbrev pub AreSeeds : Held → ℕ → List Place → Type 0

@@ -4,12 +4,9 @@ ghost use Rattle.event_graph.specs.Lanes.{IsSoundLane, lane_at, cycle_bound, tim
 ghost use Rattle.time_engine.specs.Conditions.{HasAccesses};
 ghost use Rattle.fifo_table.specs.Channels.{IsFifo, channel_at};
 ghost use Rattle.engine_view.specs.Turns.{IsSomeCore};
-ghost use Rattle.retime.specs.Rounds.{cycles_in, steps_in};
-ghost use Rattle.retime.specs.Touched.{IsEditIn};
-ghost use Rattle.cycle_changes.specs.Changed.{HasChanged};
+ghost use Rattle.retime.specs.{Rounds.cycles_in, Rounds.steps_in, Touched.IsEditIn};
+ghost use Rattle.cycle_changes.specs.{Changed.HasChanged, Moved.moved_in, Puts.HasPut};
 ghost use Rattle.cycle_changes.specs.Found.{AreFoundRight, IsFoundRight, places_in};
-ghost use Rattle.cycle_changes.specs.Moved.{moved_in};
-ghost use Rattle.cycle_changes.specs.Puts.{HasPut};
 
 use crate::changes::{Changes, Put};
 use crate::check::{are_late, are_right, is_right_around};

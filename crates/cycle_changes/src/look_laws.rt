@@ -3,17 +3,11 @@ ghost use Rattle.std.specs.Prelude.{◌↔◌, ℕ, ◌<◌, ◌≤◌, length, 
 ghost use Rattle.flow_word.specs.declared.access.Side.{Side};
 ghost use Rattle.flow_design.specs.declared.plan.Edit.{Edit};
 ghost use Rattle.event_graph.specs.Lanes.{lane_at};
-ghost use Rattle.fifo_table.specs.Channels.{IsFifo, channel_at};
-ghost use Rattle.fifo_table.specs.Roomed.{RoomedChannels};
-ghost use Rattle.event_timing.specs.Machines.{Design, IsDesign};
-ghost use Rattle.event_timing.specs.Edits.{edited};
+ghost use Rattle.fifo_table.specs.{Channels.IsFifo, Channels.channel_at, Roomed.RoomedChannels};
+ghost use Rattle.event_timing.specs.{Machines.Design, Machines.IsDesign, Edits.edited};
 ghost use Rattle.right_records.specs.Records.{IsRight, with_cycles};
-ghost use Rattle.engine_view.specs.Held.{Held, core_of};
-ghost use Rattle.engine_view.specs.Kept.{IsKept, IsNow};
-ghost use Rattle.engine_view.specs.Rooms.{HasRoom, room_of};
-ghost use Rattle.engine_view.specs.Shown.{IsSound};
-ghost use Rattle.cycle_changes.specs.Looks.{IsLooked, cycle_held};
-ghost use Rattle.cycle_changes.specs.OtherCycles.{HasOtherCycles};
+ghost use Rattle.engine_view.specs.{Held.Held, Held.core_of, Kept.IsKept, Kept.IsNow, Rooms.HasRoom, Rooms.room_of, Shown.IsSound};
+ghost use Rattle.cycle_changes.specs.{Looks.IsLooked, Looks.cycle_held, OtherCycles.HasOtherCycles};
 
 /// A step with a cycle is right exactly where a look at it, by the graph and the table, finds its cycle and its outcomes.
 pub fn looks_are_right<S>()

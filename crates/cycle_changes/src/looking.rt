@@ -2,12 +2,8 @@
 ghost use Rattle.std.specs.Prelude.{◌≡◌, ◌↔◌, ◌<◌, [], true, length, slice_index_or};
 ghost use Rattle.event_graph.specs.Lanes.{HasStep, lane_at, cycle_bound};
 ghost use Rattle.time_engine.specs.Conditions.{HasAccesses, HasPlaces};
-ghost use Rattle.engine_view.specs.Held.{held, step_of, flags_of};
-ghost use Rattle.engine_view.specs.Known.{found_flags};
-ghost use Rattle.engine_view.specs.Engines.{held_in};
-ghost use Rattle.engine_view.specs.Turns.{IsSomeCore};
-ghost use Rattle.cycle_changes.specs.Looks.{IsLooked, looked};
-ghost use Rattle.cycle_changes.specs.Looks.{cycle_before as before};
+ghost use Rattle.engine_view.specs.{Held.held, Held.step_of, Held.flags_of, Known.found_flags, Engines.held_in, Turns.IsSomeCore};
+ghost use Rattle.cycle_changes.specs.Looks.{IsLooked, looked, cycle_before as before};
 
 use engine_view::{Engine, compare_outcomes};
 use event_graph::{Graph, Place};

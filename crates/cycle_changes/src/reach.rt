@@ -2,9 +2,7 @@
 ghost use Rattle.std.specs.Prelude.{◌≡◌, ℕ, ◌<◌, ◌≤◌, [], true, false, length, All, Contains, Some};
 ghost use Rattle.flow_word.specs.Kinds.{side_of, other_side};
 ghost use Rattle.event_graph.specs.Lanes.{HasStep};
-ghost use Rattle.engine_view.specs.Held.{step_of};
-ghost use Rattle.engine_view.specs.Engines.{held_in};
-ghost use Rattle.engine_view.specs.Turns.{IsSomeCore, first_of};
+ghost use Rattle.engine_view.specs.{Held.step_of, Engines.held_in, Turns.IsSomeCore, Turns.first_of};
 ghost use Rattle.cycle_changes.specs.Looks.{IsLooked};
 ghost use Rattle.cycle_changes.specs.Around.{AreLooked, StandsAt, StandsSomewhere, StandsAs, WaitsFor, WaitsAt};
 

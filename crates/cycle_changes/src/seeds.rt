@@ -2,12 +2,8 @@
 ghost use Rattle.std.specs.Prelude.{◌≡◌, ◌<◌, ◌⊎◌, [], true, length, Contains};
 ghost use Rattle.flow_word.specs.declared.access.Place.{Place as place};
 ghost use Rattle.event_graph.specs.Lanes.{HasStep};
-ghost use Rattle.engine_view.specs.Held.{step_of};
-ghost use Rattle.engine_view.specs.Engines.{held_in};
-ghost use Rattle.engine_view.specs.Turns.{IsSomeCore, first_of};
-ghost use Rattle.cycle_changes.specs.Looks.{IsLooked};
-ghost use Rattle.cycle_changes.specs.Around.{StandsSomewhere};
-ghost use Rattle.cycle_changes.specs.Seeds.{AreSeeds};
+ghost use Rattle.engine_view.specs.{Held.step_of, Engines.held_in, Turns.IsSomeCore, Turns.first_of};
+ghost use Rattle.cycle_changes.specs.{Looks.IsLooked, Around.StandsSomewhere, Seeds.AreSeeds};
 
 use crate::reach::is_right_or_elsewhere;
 use engine_view::Engine;

@@ -1,31 +1,20 @@
 -- While no FIFO is full, depths do not matter: the same modules move, and the same is done.
-use Rattle.std.proofs.Common.{◌≡◌, ℕ, zero, suc, ◌<◌, List, map, Bool, false, ◌&&◌, not, cond, refl, sym, ◌∙◌, ap, ap₂, arith}
-use Rattle.std.proofs.Common.{◌⊎◌, inl, inr, [], ◌++◌}
+use Rattle.std.proofs.Common.{◌≡◌, ℕ, zero, suc, ◌<◌, List, map, Bool, false, ◌&&◌, not, cond, refl, sym, ◌∙◌, ap, ap₂, arith, ◌⊎◌, inl}
+use Rattle.std.proofs.Common.{inr, [], ◌++◌}
 use Rattle.std.specs.List.{list_any, enumerate_from, flat_map, filter_map, find}
 use Rattle.std.specs.Prelude.{option_map, Option, None}
-use Rattle.flow_word.specs.declared.access.Side.{Side}
+use Rattle.flow_word.specs.{declared.access.Side.Side, Kinds.side_of, Kinds.is_blocking}
 use Rattle.flow_word.specs.declared.access.Side.TheVariants.{Pop, Push}
-use Rattle.flow_word.specs.Kinds.{side_of, is_blocking}
-use Rattle.flow_design.specs.declared.plan.Plan.{Plan}
-use Rattle.flow_design.specs.declared.report.Held.{Held}
-use Rattle.flow_design.specs.declared.report.Verdict.{Verdict}
+use Rattle.flow_design.specs.{declared.plan.Plan.Plan, declared.report.Held.Held, declared.report.Verdict.Verdict}
+use Rattle.flow_design.specs.{declared.state.ClockState.ClockState, declared.state.Element.Element, declared.state.ModuleState.ModuleState}
+use Rattle.flow_design.specs.{declared.state.Request.Request, declared.state.Reply.Reply, Reports.clock_of}
 use Rattle.flow_design.specs.declared.report.Verdict.TheVariants.{Done, Deadlock, Cycles, Ops}
-use Rattle.flow_design.specs.declared.state.ClockState.{ClockState}
-use Rattle.flow_design.specs.declared.state.Element.{Element}
-use Rattle.flow_design.specs.declared.state.ModuleState.{ModuleState}
-use Rattle.flow_design.specs.declared.state.Request.{Request}
-use Rattle.flow_design.specs.declared.state.Reply.{Reply}
-use Rattle.lockstep_defs.specs.Machine.{is_over, move}
+use Rattle.lockstep_defs.specs.{Machine.is_over, Machine.move, Report.report, Report.report_at, Report.report_with, Laws.NoneBefore}
 use Rattle.lockstep_defs.specs.Channels.{contents_of, is_full, all_ready, is_possible, stalls, reply, reply_by, front, HistoryStep}
 use Rattle.lockstep_defs.specs.Lockstep.{numbered, requests_of, moves, next_state, step_of, step_with, steps_in, contents_after, clock_step}
 use Rattle.lockstep_defs.specs.Lockstep.{module_at, opening, Moment, next_moment, moment, state, history}
 use Rattle.lockstep_defs.specs.Verdict.{some_moves, is_settled, settled_verdict, verdict, held_at, held_by, held_in, held}
-use Rattle.flow_design.specs.Reports.{clock_of}
-use Rattle.lockstep_defs.specs.Report.{report, report_at, report_with}
-use Rattle.lockstep_defs.specs.Laws.{NoneBefore}
-use Rattle.lockstep_defs.proofs.Settled.{full_ready}
-use Rattle.lockstep_defs.proofs.Found.{verdict_none}
-use Rattle.lockstep_defs.proofs.Exits.{clock_settled}
+use Rattle.lockstep_defs.proofs.{Settled.full_ready, Found.verdict_none, Exits.clock_settled}
 use Rattle.depth_order.specs.Depths.{with_depths}
 use Rattle.depth_order.proofs.First.{IsFirst, first_among, verdict_first}
 

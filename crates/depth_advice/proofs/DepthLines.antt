@@ -1,10 +1,8 @@
 -- Lines of depths.
-use Rattle.std.proofs.Common.{◌≡◌, refl, sym, ◌∙◌, ap, arith, ℕ, ◌+◌, ◌<◌, Bool, true, false, cond, List, ◌∷◌, [], ◌++◌}
-use Rattle.std.proofs.Common.{length, drop, get_or, add-one, append_assoc}
-use Rattle.std.proofs.lemmas.Grind.{common_steps}
-use Rattle.std.proofs.Math.Seq.{drop-cons}
-use Rattle.flow_design.specs.declared.design.Channel.{Channel}
-use Rattle.flow_design.specs.Plans.{is_fifo, no_channel}
+use Rattle.std.proofs.Common.{◌≡◌, refl, sym, ◌∙◌, ap, arith, ℕ, ◌+◌, ◌<◌, Bool, true, false, cond, List, ◌∷◌, [], ◌++◌, length, drop}
+use Rattle.std.proofs.Common.{get_or, add-one, append_assoc}
+use Rattle.std.proofs.{lemmas.Grind.common_steps, Math.Seq.drop-cons}
+use Rattle.flow_design.specs.{declared.design.Channel.Channel, Plans.is_fifo, Plans.no_channel}
 use Rattle.report_text.specs.Lines.{Token, line, text_of_lines}
 use Rattle.depth_advice.specs.DepthLines.{depth_tokens, depth_lines}
 

@@ -1,26 +1,18 @@
 -- The advised depths are above each peak and within the limit, so no FIFO is full with them.
-use Rattle.std.proofs.Common.{◌≡◌, ℕ, suc, ◌+◌, ◌≤◌, ◌<◌, List, length, true, false, cond, refl, sym, ◌∙◌, ap, subst}
-use Rattle.std.proofs.Common.{arith, inl, inr, zero-add}
-use Rattle.std.specs.Prelude.{slice_index}
+use Rattle.std.proofs.Common.{◌≡◌, ℕ, suc, ◌+◌, ◌≤◌, ◌<◌, List, length, true, false, cond, refl, sym, ◌∙◌, ap, subst, arith, inl, inr}
+use Rattle.std.proofs.Common.{zero-add}
 use Rattle.std.proofs.lemmas.Bool.{cases_Bool, cases_lt, cond-true, cond-false, lt-leb}
-use Rattle.std.proofs.lemmas.List.{get_or_past}
-use Rattle.std.proofs.lemmas.List.FromFn.{length-map-range_with_len, get_or-map-range_with_len}
-use Rattle.flow_design.specs.declared.limits.TheConstants.{FIFO_DEPTH}
-use Rattle.flow_design.specs.declared.plan.Plan.{Plan}
-use Rattle.flow_design.specs.declared.state.Element.{Element}
-use Rattle.flow_design.specs.Plans.{is_fifo, kind_at}
-use Rattle.flow_design.specs.StaticRules.{FitsEngine}
-use Rattle.lockstep_defs.specs.Channels.{contents_of}
-use Rattle.lockstep_defs.specs.Lockstep.{Moment, state}
-use Rattle.flow_design.specs.Reports.{clock_of}
-use Rattle.lockstep_defs.specs.Report.{report}
+use Rattle.std.proofs.{lemmas.List.get_or_past, lemmas.List.FromFn.length-map-range_with_len, lemmas.List.FromFn.get_or-map-range_with_len}
+use Rattle.std.specs.Prelude.{slice_index}
+use Rattle.flow_design.specs.{declared.limits.TheConstants.FIFO_DEPTH, declared.plan.Plan.Plan, declared.state.Element.Element}
+use Rattle.flow_design.specs.{Plans.is_fifo, Plans.kind_at, StaticRules.FitsEngine, Reports.clock_of}
+use Rattle.lockstep_defs.specs.{Channels.contents_of, Lockstep.Moment, Lockstep.state, Report.report}
 use Rattle.fifo_fills.specs.Fills.{fill, last_clock}
 use Rattle.depth_order.specs.Depths.{with_depths, AreDepths, AreDeeper}
 use Rattle.depth_order.proofs.Plans.{depths_fit, fifo_inside}
 use Rattle.depth_advice.specs.Advice.{depths_by, wide, peak, advised, HoldsLess}
 use Rattle.depth_advice.proofs.Alike.{NoneFull, NeitherBefore, moment_same, verdict_same, report_same}
-use Rattle.depth_advice.proofs.Few.{fill_few}
-use Rattle.depth_advice.proofs.Lists.{greatest_least, greatest_most}
+use Rattle.depth_advice.proofs.{Few.fill_few, Lists.greatest_least, Lists.greatest_most}
 
 -- ---- one entry per channel
 

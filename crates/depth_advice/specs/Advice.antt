@@ -1,10 +1,8 @@
 -- Depths that never block: for each FIFO, the most elements that it holds where there is always room, plus one.
 use Rattle.std.specs.Prelude.{◌≡◌, ◌≢◌, ℕ, zero, suc, ◌+◌, ◌<◌, ◌≤◌, max, true, if◌then◌else◌, List, map, length, slice_index}
 use Rattle.std.specs.List.{range_with_len}
-use Rattle.flow_design.specs.declared.limits.TheConstants.{FIFO_DEPTH}
-use Rattle.flow_design.specs.declared.plan.Plan.{Plan}
+use Rattle.flow_design.specs.{declared.limits.TheConstants.FIFO_DEPTH, declared.plan.Plan.Plan, Plans.is_fifo, Plans.kind_at}
 use Rattle.flow_design.specs.declared.report.Verdict.TheVariants.{Done}
-use Rattle.flow_design.specs.Plans.{is_fifo, kind_at}
 use Rattle.lockstep_defs.specs.Verdict.{verdict}
 use Rattle.depth_order.specs.Depths.{with_depths, AreDepths, IsNoSlower}
 use Rattle.fifo_fills.specs.Fills.{fill, last_clock}

@@ -1,10 +1,7 @@
 //! The laws of the advised depths.
 ghost use Rattle.std.specs.Prelude.{◌≡◌, ◌≢◌, ℕ, List as Items};
-ghost use Rattle.flow_design.specs.declared.plan.Plan.{Plan};
-ghost use Rattle.flow_design.specs.StaticRules.{FitsEngine};
-ghost use Rattle.flow_design.specs.declared.report.Verdict.TheVariants.{Done};
-ghost use Rattle.lockstep_defs.specs.Report.{report};
-ghost use Rattle.lockstep_defs.specs.Verdict.{verdict};
+ghost use Rattle.flow_design.specs.{declared.plan.Plan.Plan, StaticRules.FitsEngine, declared.report.Verdict.TheVariants.Done};
+ghost use Rattle.lockstep_defs.specs.{Report.report, Verdict.verdict};
 ghost use Rattle.depth_order.specs.Depths.{with_depths, AreDepths, AreDeeper, AsksNothing};
 ghost use Rattle.depth_advice.specs.Advice.{wide, advised, HoldsLess, AreFastest, IsNeverDone};
 

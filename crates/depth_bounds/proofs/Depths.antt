@@ -1,14 +1,11 @@
 -- Depths with another one for one FIFO, and the plan's own.
 use Rattle.std.proofs.Common.{◌≡◌, ℕ, ◌<◌, ◌≤◌, true, false, List, length, sym, ◌∙◌, subst, arith, inl, inr}
-use Rattle.std.specs.Prelude.{slice_index, slice_index_or, slice_set, []}
 use Rattle.std.proofs.lemmas.Bool.{cases_eq, cases_lt}
 use Rattle.std.proofs.lemmas.List.{get_or-set_same, get_or-set_other, set-get_or, length-set, get_or_past}
-use Rattle.flow_design.specs.declared.limits.TheConstants.{FIFO_DEPTH}
-use Rattle.flow_design.specs.declared.design.ChannelKind.{ChannelKind}
+use Rattle.std.specs.Prelude.{slice_index, slice_index_or, slice_set, []}
+use Rattle.flow_design.specs.{declared.limits.TheConstants.FIFO_DEPTH, declared.design.ChannelKind.ChannelKind, declared.plan.Plan.Plan}
+use Rattle.flow_design.specs.{Plans.is_fifo, Plans.kind_at, StaticRules.FitsEngine, StaticRules.AreEntriesSound}
 use Rattle.flow_design.specs.declared.design.ChannelKind.TheVariants.{Source, Sink, Fifo}
-use Rattle.flow_design.specs.declared.plan.Plan.{Plan}
-use Rattle.flow_design.specs.Plans.{is_fifo, kind_at}
-use Rattle.flow_design.specs.StaticRules.{FitsEngine, AreEntriesSound}
 use Rattle.depth_order.specs.Depths.{AreDepths, AreDeeper}
 use Rattle.depth_order.proofs.Plans.{fifo_inside}
 

@@ -1,20 +1,16 @@
 -- Depths that paths show to be too small.
 use Rattle.std.proofs.Common.{◌≡◌, ℕ, ◌+◌, ◌<◌, ◌≤◌, true, List, length, refl, arith, Option}
 use Rattle.std.specs.Prelude.{slice_index, slice_set}
-use Rattle.flow_design.specs.declared.plan.Plan.{Plan}
+use Rattle.flow_design.specs.{declared.plan.Plan.Plan, declared.state.Advance.Advance, Plans.is_fifo, Plans.kind_at}
 use Rattle.flow_design.specs.declared.report.Verdict.{Verdict}
 use Rattle.flow_design.specs.declared.report.Verdict.TheVariants.{Done, Deadlock, Cycles, Ops}
-use Rattle.flow_design.specs.declared.state.Advance.{Advance}
-use Rattle.flow_design.specs.Plans.{is_fifo, kind_at}
 use Rattle.lockstep_defs.specs.Verdict.{verdict}
-use Rattle.fifo_table.specs.declared.channel.TableChannel.{TableChannel}
+use Rattle.fifo_table.specs.{declared.channel.TableChannel.TableChannel, Channels.IsFifo, Channels.depth_of, Channels.channel_at}
 use Rattle.fifo_table.specs.declared.channel.TableChannel.TheVariants as table
-use Rattle.fifo_table.specs.Channels.{IsFifo, depth_of, channel_at}
 use Rattle.timing_bridge.specs.Designs.{design}
 use Rattle.depth_order.specs.Depths.{with_depths, AsksNothing, IsDoneBy}
 use Rattle.depth_order.proofs.Order.{never_slower}
-use Rattle.engine_view.specs.Held.{Held}
-use Rattle.engine_view.specs.Shown.{IsKind}
+use Rattle.engine_view.specs.{Held.Held, Shown.IsKind}
 use Rattle.engine_report.specs.Finished.{IsFinished}
 use Rattle.path_check.specs.Waits.{IsTried}
 use Rattle.depth_bounds.specs.Late.{IsLateBelow}

@@ -1,8 +1,6 @@
 -- Depths with which a plan ends late.
 use Rattle.std.specs.Prelude.{ℕ, ◌<◌, ◌≤◌}
-use Rattle.flow_design.specs.declared.limits.TheConstants.{FIFO_DEPTH}
-use Rattle.flow_design.specs.declared.plan.Plan.{Plan}
-use Rattle.flow_design.specs.Plans.{with_depth}
+use Rattle.flow_design.specs.{declared.limits.TheConstants.FIFO_DEPTH, declared.plan.Plan.Plan, Plans.with_depth}
 use Rattle.lockstep_defs.specs.Verdict.{verdict}
 use Rattle.depth_order.specs.Depths.{IsDoneBy}
 

@@ -1,7 +1,6 @@
 //! Depths of FIFOs with which a plan ends late.
 ghost use Rattle.std.specs.Prelude.{◌≡◌, ◌<◌, ◌≤◌, true, length, map, is_some, IfOk};
-ghost use Rattle.flow_design.specs.declared.plan.Plan.{Plan};
-ghost use Rattle.flow_design.specs.Plans.{is_fifo, kind_at};
+ghost use Rattle.flow_design.specs.{declared.plan.Plan.Plan, Plans.is_fifo, Plans.kind_at};
 ghost use Rattle.time_engine.specs.Conditions.{HasAccesses};
 ghost use Rattle.depth_order.specs.Depths.{AsksNothing};
 ghost use Rattle.engine_view.specs.Engines.{held_in};

@@ -1,15 +1,10 @@
 -- Cuts that share no channel add up.
-use Rattle.std.proofs.Common.{◌≡◌, ℕ, zero, suc, ◌+◌, ◌-◌, ◌*◌, ◌<◌, ◌≤◌, inl}
-use Rattle.std.proofs.Common.{inr, List, [], ◌∷◌, length, refl, sym, ◌∙◌, ap, subst, arith}
-use Rattle.std.specs.Prelude.{slice_index, slice_index_or, slice_set, All}
+use Rattle.std.proofs.Common.{◌≡◌, ℕ, zero, suc, ◌+◌, ◌-◌, ◌*◌, ◌<◌, ◌≤◌, inl, inr, List, [], ◌∷◌, length, refl, sym, ◌∙◌, ap, subst, arith}
 use Rattle.std.proofs.lemmas.Bool.{cases_lt, cases_eq}
 use Rattle.std.proofs.lemmas.List.{get_or_default, get_or-set_same, get_or-set_other, length-set}
-use Rattle.depth_cuts.specs.declared.cuts.Need.{Need}
-use Rattle.depth_cuts.specs.declared.cuts.Cut.{Cut}
-use Rattle.depth_cuts.specs.declared.cuts.Demands.{Demands}
-use Rattle.depth_cuts.specs.Met.{IsMet}
-use Rattle.depth_cuts.specs.Cuts.{AreDemands, bits_of, IsNeed}
-use Rattle.depth_cuts.specs.Rises.{AddsBits, ReachesBits}
+use Rattle.std.specs.Prelude.{slice_index, slice_index_or, slice_set, All}
+use Rattle.depth_cuts.specs.{declared.cuts.Need.Need, declared.cuts.Cut.Cut, declared.cuts.Demands.Demands, Met.IsMet, Cuts.AreDemands}
+use Rattle.depth_cuts.specs.{Cuts.bits_of, Cuts.IsNeed, Rises.AddsBits, Rises.ReachesBits}
 use Rattle.depth_cuts.proofs.Bits.{bits_rise}
 
 -- one depth more

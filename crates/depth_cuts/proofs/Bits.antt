@@ -1,8 +1,7 @@
 -- The bits of depths.
 use Rattle.std.proofs.Common.{◌≡◌, ℕ, zero, suc, ◌+◌, ◌*◌, ◌<◌, ◌≤◌, List, [], ◌∷◌, length, take, refl, arith, add-one}
+use Rattle.std.proofs.{Math.Nat.mul-le-mul_left, lemmas.Nat.mul-le}
 use Rattle.std.specs.Prelude.{slice_index, All}
-use Rattle.std.proofs.Math.Nat.{mul-le-mul_left}
-use Rattle.std.proofs.lemmas.Nat.{mul-le}
 use Rattle.flow_design.specs.declared.limits.TheConstants.{FIFO_DEPTH}
 use Rattle.depth_cuts.specs.Cuts.{bits_of}
 

@@ -1,17 +1,10 @@
 -- What the search has found.
-use Rattle.std.proofs.Common.{◌≡◌, ℕ, suc, ◌+◌, ◌<◌, ◌≤◌}
-use Rattle.std.proofs.Common.{inl, inr, Option, Some, List, length, sym, ◌∙◌, ap}
-use Rattle.std.proofs.Common.{subst, arith, []}
-use Rattle.std.specs.Prelude.{slice_index, slice_index_or, slice_set, All}
-use Rattle.std.proofs.lemmas.Bool.{cases_lt, cases_eq}
-use Rattle.std.proofs.lemmas.Bool.Decides.{nat_tests}
+use Rattle.std.proofs.Common.{◌≡◌, ℕ, suc, ◌+◌, ◌<◌, ◌≤◌, inl, inr, Option, Some, List, length, sym, ◌∙◌, ap, subst, arith, []}
+use Rattle.std.proofs.{lemmas.Bool.cases_lt, lemmas.Bool.cases_eq, lemmas.Bool.Decides.nat_tests}
 use Rattle.std.proofs.lemmas.List.{get_or_default, get_or-set_same, get_or-set_other, length-set, set_past, set-set, set-get_or}
-use Rattle.depth_cuts.specs.declared.cuts.Need.{Need}
-use Rattle.depth_cuts.specs.declared.cuts.Cut.{Cut}
-use Rattle.depth_cuts.specs.declared.cuts.Demands.{Demands}
-use Rattle.depth_cuts.specs.declared.order.Choice.{Choice}
-use Rattle.depth_cuts.specs.declared.search.Before.{Before}
-use Rattle.depth_cuts.specs.Met.{IsMet, IsUnmet, cut_at, MeetsBetween}
+use Rattle.std.specs.Prelude.{slice_index, slice_index_or, slice_set, All}
+use Rattle.depth_cuts.specs.{declared.cuts.Need.Need, declared.cuts.Cut.Cut, declared.cuts.Demands.Demands, declared.order.Choice.Choice}
+use Rattle.depth_cuts.specs.{declared.search.Before.Before, Met.IsMet, Met.IsUnmet, Met.cut_at, Met.MeetsBetween}
 use Rattle.depth_cuts.specs.Cuts.{AreAbove, AreDemands, bits_of, IsNeed, IsNoWorse}
 use Rattle.depth_cuts.specs.Searching.{AreTried, Improves, IsAt, IsFound, IsSearched, IsTried, need_at, swapped}
 use Rattle.depth_cuts.proofs.Orders.{above_trans, no_worse_trans, above_no_better}

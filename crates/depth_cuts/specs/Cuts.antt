@@ -1,9 +1,7 @@
 -- The cheapest depths that meet cuts.
 use Rattle.std.specs.Prelude.{◌≡◌, ℕ, ◌+◌, ◌*◌, ◌<◌, ◌≤◌, ◌⊎◌, Option, None, Some, List, [], ◌∷◌, length, slice_index, All}
 use Rattle.flow_design.specs.declared.limits.TheConstants.{CHANNELS, FIFO_DEPTH}
-use Rattle.depth_cuts.specs.declared.cuts.Need.{Need}
-use Rattle.depth_cuts.specs.declared.cuts.Demands.{Demands}
-use Rattle.depth_cuts.specs.Met.{IsMet}
+use Rattle.depth_cuts.specs.{declared.cuts.Need.Need, declared.cuts.Demands.Demands, Met.IsMet}
 
 -- ---- which depths meet the demands
 

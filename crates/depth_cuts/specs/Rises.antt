@@ -1,8 +1,6 @@
 -- A lower bound on the bits that it takes to meet the cuts.
 use Rattle.std.specs.Prelude.{◌≡◌, ℕ, ◌+◌, ◌≤◌, List, length, slice_index, All}
-use Rattle.depth_cuts.specs.declared.cuts.Demands.{Demands}
-use Rattle.depth_cuts.specs.Met.{IsMet}
-use Rattle.depth_cuts.specs.Cuts.{AreAbove, bits_of}
+use Rattle.depth_cuts.specs.{declared.cuts.Demands.Demands, Met.IsMet, Cuts.AreAbove, Cuts.bits_of}
 
 -- all depths that are no less than these and meet the cuts take at least `rises` bits more
 abbrev pub AddsBits : Demands → List ℕ → ℕ → Type 0

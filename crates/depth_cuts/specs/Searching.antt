@@ -1,11 +1,8 @@
 -- What the search for the cheapest depths has found.
 use Rattle.std.specs.Prelude.{◌≡◌, ⊤, ℕ, ◌<◌, ◌≤◌, ◌==◌, if◌then◌else◌, Option, None, Some, List, slice_index, slice_index_or, All}
 use Rattle.flow_design.specs.declared.limits.TheConstants.{FIFO_DEPTH}
-use Rattle.depth_cuts.specs.declared.cuts.Need.{Need}
-use Rattle.depth_cuts.specs.declared.cuts.Demands.{Demands}
-use Rattle.depth_cuts.specs.declared.order.Choice.{Choice}
-use Rattle.depth_cuts.specs.Met.{IsMet, MeetsBetween}
-use Rattle.depth_cuts.specs.Cuts.{AreAbove, Covers, bits_of, IsNoWorse}
+use Rattle.depth_cuts.specs.{declared.cuts.Need.Need, declared.cuts.Demands.Demands, declared.order.Choice.Choice, Met.IsMet}
+use Rattle.depth_cuts.specs.{Met.MeetsBetween, Cuts.AreAbove, Cuts.Covers, Cuts.bits_of, Cuts.IsNoWorse}
 
 -- the choice has its right bits, is within the limits, is at least the floors, and meets the cuts before a place
 pub record IsAt (demands : Demands) (from : ℕ) (at : Choice) : Type 0 where

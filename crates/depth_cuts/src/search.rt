@@ -2,8 +2,7 @@
 ghost use Rattle.std.specs.Prelude.{◌≡◌, ℕ, ◌<◌, ◌≤◌, true, false, length, slice_index, slice_set, Some, IfOk, OnOk};
 ghost use Rattle.flow_design.specs.declared.limits.TheConstants.{FIFO_DEPTH};
 ghost use Rattle.depth_cuts.specs.Cuts.{AreDemands, IsNeed, bits_of as bits_in};
-ghost use Rattle.depth_cuts.specs.Searching.{IsAt, IsKept, IsSearched, Improves};
-ghost use Rattle.depth_cuts.specs.Searching.{swapped as swapped_of};
+ghost use Rattle.depth_cuts.specs.Searching.{IsAt, IsKept, IsSearched, Improves, swapped as swapped_of};
 
 use crate::cuts::{Demands, Need, first_unmet};
 use crate::order::{Choice, bits_of, is_no_worse};

@@ -1,27 +1,18 @@
 -- A chain that crosses no full FIFO leads to a clock that no depths make earlier.
-use Rattle.std.proofs.Common.{◌≡◌, ℕ, zero, suc, ◌+◌, ◌-◌, ◌≤◌, ◌<◌, Bool, true, false, ◌||◌, not, ltb, List, [], ◌∷◌, map, length}
-use Rattle.std.proofs.Common.{get_or, refl, sym, ◌∙◌, ap, subst, arith, inl, inr, ◌⊎◌, Option, Some, None, cond, eqb}
-use Rattle.std.specs.Prelude.{find, option_map, ⊤}
-use Rattle.std.specs.List.{list_any, range_with_len, enumerate_from, AllByRecursion}
+use Rattle.std.proofs.Common.{◌≡◌, ℕ, zero, suc, ◌+◌, ◌-◌, ◌≤◌, ◌<◌, Bool, true, false, ◌||◌, not, ltb, List, [], ◌∷◌, map, length, get_or}
+use Rattle.std.proofs.Common.{refl, sym, ◌∙◌, ap, subst, arith, inl, inr, ◌⊎◌, Option, Some, None, cond, eqb}
 use Rattle.std.proofs.Math.Bool.{or-true}
 use Rattle.std.proofs.lemmas.Bool.{cases_Bool, cases_lt, and_parts, and_from, or_parts, or_from, cond-true, cond-false, eq-eqb, lt-ltb}
 use Rattle.std.proofs.lemmas.Bool.{not-true}
-use Rattle.flow_word.specs.declared.access.Side.{Side}
+use Rattle.std.specs.Prelude.{find, option_map, ⊤}
+use Rattle.std.specs.List.{list_any, range_with_len, enumerate_from, AllByRecursion}
+use Rattle.flow_word.specs.{declared.access.Side.Side, Kinds.side_of, Kinds.other_side, Kinds.same_side}
 use Rattle.flow_word.specs.declared.access.Side.TheVariants.{Pop, Push}
-use Rattle.flow_word.specs.Kinds.{side_of, other_side, same_side}
-use Rattle.flow_design.specs.declared.plan.Plan.{Plan}
-use Rattle.flow_design.specs.declared.state.ModuleState.{ModuleState}
-use Rattle.flow_design.specs.declared.state.Request.{Request}
-use Rattle.flow_design.specs.StaticRules.{FitsEngine}
-use Rattle.lockstep_defs.specs.Channels.{stalls}
+use Rattle.flow_design.specs.{declared.plan.Plan.Plan, declared.state.ModuleState.ModuleState, declared.state.Request.Request}
+use Rattle.flow_design.specs.{StaticRules.FitsEngine, declared.state.ClockState.ClockState, declared.report.Verdict.TheVariants.Done}
+use Rattle.lockstep_defs.specs.{Channels.stalls, Ports.owner, Verdict.verdict, Verdict.some_moves, Verdict.is_settled, Machine.nobody}
 use Rattle.lockstep_defs.specs.Lockstep.{requests_of, moves, state, state_at}
-use Rattle.lockstep_defs.proofs.Settled.{state-suc, still_step, settled_at}
-use Rattle.flow_design.specs.declared.state.ClockState.{ClockState}
-use Rattle.lockstep_defs.specs.Ports.{owner}
-use Rattle.lockstep_defs.specs.Verdict.{verdict, some_moves, is_settled}
-use Rattle.lockstep_defs.specs.Machine.{nobody}
-use Rattle.lockstep_defs.proofs.Agrees.{all_modules}
-use Rattle.flow_design.specs.declared.report.Verdict.TheVariants.{Done}
+use Rattle.lockstep_defs.proofs.{Settled.state-suc, Settled.still_step, Settled.settled_at, Agrees.all_modules}
 use Rattle.event_timing.specs.Machines.{Design, IsDesign}
 use Rattle.event_timing.specs.Histories.{Trace, IsHistory, can_do, can_all, is_possible}
 use Rattle.event_timing.specs.Histories as counted
@@ -29,13 +20,11 @@ use Rattle.event_timing.proofs.Standing.{moves_lives, moves_can, moves_from}
 use Rattle.timing_bridge.specs.Designs.{design, lockstep_run, seen, lag_in}
 use Rattle.timing_bridge.proofs.Alike.{Alike, alike, can_same}
 use Rattle.timing_bridge.proofs.History.{plan_is_design, run_is_history, moves_same}
-use Rattle.depth_order.specs.Earliest.{waits_for, pops_of, IsEarliest, Start, Own, Empty}
-use Rattle.depth_order.specs.Chain.{moves_at, span_start, port_of, stood_at, goes_on, chain, is_push, crosses_full}
-use Rattle.depth_order.specs.Chain.{first_mover, chain_from, path, NoneEndsBefore}
-use Rattle.depth_order.specs.Depths.{AsksNothing}
+use Rattle.depth_order.specs.{Earliest.waits_for, Earliest.pops_of, Earliest.IsEarliest, Earliest.Start, Earliest.Own, Earliest.Empty}
+use Rattle.depth_order.specs.{Chain.moves_at, Chain.span_start, Chain.port_of, Chain.stood_at, Chain.goes_on, Chain.chain, Chain.is_push}
+use Rattle.depth_order.specs.{Chain.crosses_full, Chain.first_mover, Chain.chain_from, Chain.path, Chain.NoneEndsBefore, Depths.AsksNothing}
 use Rattle.depth_order.proofs.Order.{done_ended, done_none_before, ended_settled}
-use Rattle.depth_order.proofs.Latency.{no_earlier_end}
-use Rattle.depth_order.proofs.Bound.{waited, came, waits_owned}
+use Rattle.depth_order.proofs.{Latency.no_earlier_end, Bound.waited, Bound.came, Bound.waits_owned}
 
 -- ---- spans
 

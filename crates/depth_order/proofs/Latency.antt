@@ -1,25 +1,17 @@
 -- A plan without queries with any depths ends only after a clock that no depths make earlier.
 use Rattle.std.proofs.Common.{◌≡◌, ℕ, suc, ◌+◌, ◌-◌, ◌≤◌, true, List, sym, ◌∙◌, ap, subst, arith, inl, inr}
 use Rattle.std.proofs.lemmas.Bool.{cases_lt}
-use Rattle.flow_design.specs.declared.plan.Plan.{Plan}
+use Rattle.flow_design.specs.{declared.plan.Plan.Plan, declared.state.ModuleState.ModuleState, StaticRules.FitsEngine}
 use Rattle.flow_design.specs.declared.report.Verdict.TheVariants.{Done}
-use Rattle.flow_design.specs.declared.state.ModuleState.{ModuleState}
-use Rattle.flow_design.specs.StaticRules.{FitsEngine}
-use Rattle.lockstep_defs.specs.Lockstep.{state_at}
-use Rattle.lockstep_defs.specs.Verdict.{verdict}
-use Rattle.event_timing.specs.Machines.{Design, IsDesign}
-use Rattle.event_timing.specs.Histories.{IsHistory}
+use Rattle.lockstep_defs.specs.{Lockstep.state_at, Verdict.verdict}
+use Rattle.event_timing.specs.{Machines.Design, Machines.IsDesign, Histories.IsHistory}
 use Rattle.event_timing.specs.Histories as counted
 use Rattle.event_timing.proofs.Standing.{moves_lives}
 use Rattle.timing_bridge.specs.Designs.{design, lockstep_run, start_in}
 use Rattle.timing_bridge.proofs.History.{plan_is_design, run_is_history}
-use Rattle.depth_order.specs.Depths.{with_depths, AreDepths, AsksNothing}
-use Rattle.depth_order.specs.Earliest.{IsEarliest}
-use Rattle.depth_order.proofs.Plans.{depths_fit}
-use Rattle.depth_order.proofs.Ahead.{with_start}
+use Rattle.depth_order.specs.{Depths.with_depths, Depths.AreDepths, Depths.AsksNothing, Earliest.IsEarliest}
+use Rattle.depth_order.proofs.{Plans.depths_fit, Ahead.with_start, Same.made_mono, Same.made_reached, Same.always_alike, Bound.no_further}
 use Rattle.depth_order.proofs.Order.{no_queries, same_design, same_elements, over_stays, over_of, done_ended}
-use Rattle.depth_order.proofs.Same.{made_mono, made_reached, always_alike}
-use Rattle.depth_order.proofs.Bound.{no_further}
 
 pub no_earlier_end : (p : Plan) → FitsEngine p → AsksNothing p → (m t : ℕ) → IsEarliest (design p) (lockstep_run p) m t
     → counted.moves (design p) (lockstep_run p) t m ≡ true → (ds : List ℕ) → AreDepths p ds → (clock : ℕ)

@@ -1,23 +1,18 @@
 -- Where no operation is a query, no outcome is told.
 use Rattle.std.proofs.Common.{◌≡◌, ℕ, zero, suc, ◌<◌, List, [], ◌∷◌, ◌++◌, map, length, Bool, true, false, cond, refl, ap, ap₂, ◌∙◌, arith}
-use Rattle.std.specs.Prelude.{All}
 use Rattle.std.proofs.lemmas.List.Concat.{flat_map-append}
 use Rattle.std.proofs.lemmas.List.FromFn.{length-map-range_with_len, get_or-map-range_with_len}
-use Rattle.flow_design.specs.declared.plan.Plan.{Plan}
-use Rattle.flow_design.specs.declared.state.Element.{Element}
+use Rattle.std.specs.Prelude.{All}
+use Rattle.flow_design.specs.{declared.plan.Plan.Plan, declared.state.Element.Element, StaticRules.FitsEngine}
 use Rattle.flow_design.specs.declared.state.Request.{Request}
-use Rattle.flow_design.specs.StaticRules.{FitsEngine}
-use Rattle.lockstep_defs.specs.Channels.{Exchange}
+use Rattle.lockstep_defs.specs.{Channels.Exchange, Machine.is_yes}
 use Rattle.lockstep_defs.specs.Lockstep.{requests_of, moves, answered, step_with, step_of, state, state_at, history}
-use Rattle.lockstep_defs.specs.Machine.{is_yes}
 use Rattle.lockstep_defs.specs.Report.{steps_of, queries, outcomes, answers_in, report}
-use Rattle.lockstep_defs.proofs.Settled.{history-zero}
-use Rattle.lockstep_defs.proofs.Agrees.{steps_of-suc}
+use Rattle.lockstep_defs.proofs.{Settled.history-zero, Agrees.steps_of-suc}
 use Rattle.event_timing.specs.Machines.{Each}
 use Rattle.timing_bridge.specs.Designs.{design, seen}
 use Rattle.depth_order.specs.Depths.{AsksNothing}
-use Rattle.depth_order.proofs.Ahead.{NoQueries}
-use Rattle.depth_order.proofs.Order.{no_queries}
+use Rattle.depth_order.proofs.{Ahead.NoQueries, Order.no_queries}
 
 -- ---- one step
 

@@ -1,28 +1,18 @@
 -- A core behind an edit, and the count of runs with its report.
-use Rattle.std.proofs.Common.{◌≡◌, sym, ap, subst, ◌∙◌, ℕ, ◌+◌, ◌<◌, ◌≤◌, inl, inr, Bool, true, List, [], length}
-use Rattle.std.proofs.Common.{take, get_or, Some, arith}
+use Rattle.std.proofs.Common.{◌≡◌, sym, ap, subst, ◌∙◌, ℕ, ◌+◌, ◌<◌, ◌≤◌, inl, inr, Bool, true, List, [], length, take, get_or, Some, arith}
+use Rattle.std.proofs.{lemmas.Bool.cases_lt, lemmas.Bool.cases_Bool, lemmas.List.length-map, lemmas.List.get_or_past}
 use Rattle.std.specs.Prelude.{slice_get, All}
-use Rattle.std.proofs.lemmas.Bool.{cases_lt, cases_Bool}
-use Rattle.std.proofs.lemmas.List.{length-map, get_or_past}
-use Rattle.flow_design.specs.declared.plan.Edit.{Edit}
-use Rattle.flow_design.specs.declared.plan.Plan.{Plan}
-use Rattle.flow_design.specs.Plans.{EditFits, with_depth}
+use Rattle.flow_design.specs.{declared.plan.Edit.Edit, declared.plan.Plan.Plan, Plans.EditFits, Plans.with_depth}
 use Rattle.lockstep_defs.specs.Report.{report}
-use Rattle.query_log.specs.Logs.{Log, log_at}
-use Rattle.query_log.specs.declared.query.Query.{Query}
-use Rattle.outcome_guard.specs.Prefixes.{IsPrefix}
-use Rattle.outcome_guard.specs.declared.guard.Guard.{Guard}
+use Rattle.query_log.specs.{Logs.Log, Logs.log_at, declared.query.Query.Query}
+use Rattle.outcome_guard.specs.{Prefixes.IsPrefix, declared.guard.Guard.Guard, Runs.all_go_on, Runs.next_counts}
 use Rattle.outcome_guard.specs.declared.guard.Guard.TheVariants.{Same, Differs}
 use Rattle.outcome_guard.specs.declared.count.RunCount.{RunCount}
-use Rattle.outcome_guard.specs.Runs.{all_go_on, next_counts}
 use Rattle.retime.specs.Edits.{OutcomesGrow}
-use Rattle.sim_core.specs.Views.{CoreView}
-use Rattle.sim_core.specs.Drives.{AreOwn, Goes, HasDriven, IsDiffering}
-use Rattle.sim_core.specs.Edits.{IsEdited}
+use Rattle.sim_core.specs.{Views.CoreView, Drives.AreOwn, Drives.Goes, Drives.HasDriven, Drives.IsDiffering, Edits.IsEdited}
 use Rattle.sim_core.specs.Records.{IsSoundCore, IsEditedOn, HasOtherAnswer, recorded_in, verified_in}
 use Rattle.sim_core.proofs.Rounds.{goes_same}
-use Rattle.depth_session.specs.Records.{RepeatsAnswers, answers_of, counted}
-use Rattle.depth_session.specs.Sessions.{Session, plan_behind}
+use Rattle.depth_session.specs.{Records.RepeatsAnswers, Records.answers_of, Records.counted, Sessions.Session, Sessions.plan_behind}
 use Rattle.depth_session.specs.Settled.{IsSettled, HasGoneOn, count_of, count_with, session_of}
 use Rattle.depth_session.proofs.Going.{apart, counts_differ, nothing_new}
 use Rattle.depth_session.proofs.Logs.{counts_of_logs, log_goes_on, recorded_at}

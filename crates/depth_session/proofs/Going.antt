@@ -1,11 +1,9 @@
 -- Lists of outcomes that begin alike.
 use Rattle.std.proofs.Common.{◌≡◌, ◌≢◌, refl, sym, ap, ap₂, subst, ◌∙◌, ℕ, zero, suc, ◌+◌, ◌<◌, ◌≤◌, inl, inr, Bool, true, false, ◌&&◌}
 use Rattle.std.proofs.Common.{cond, List, [], ◌∷◌, ◌++◌, length, Some, arith, append-nil}
+use Rattle.std.proofs.{lemmas.Bool.cases_lt, lemmas.Bool.lt-ltb, lemmas.Bool.le-ltb, lemmas.List.length-append}
 use Rattle.std.specs.Prelude.{slice_get}
-use Rattle.std.proofs.lemmas.Bool.{cases_lt, lt-ltb, le-ltb}
-use Rattle.std.proofs.lemmas.List.{length-append}
-use Rattle.outcome_guard.specs.Prefixes.{IsPrefix}
-use Rattle.outcome_guard.specs.Runs.{goes_on, longer, all_go_on, all_longer, next_counts}
+use Rattle.outcome_guard.specs.{Prefixes.IsPrefix, Runs.goes_on, Runs.longer, Runs.all_go_on, Runs.all_longer, Runs.next_counts}
 use Rattle.outcome_guard.proofs.Kept.{tells_alike, goes_alike}
 use Rattle.depth_session.specs.Records.{GoesOn, RepeatsAnswers, answers_of, counted}
 

@@ -1,8 +1,6 @@
 -- The outcomes in a log beside those of a report.
 use Rattle.std.proofs.Common.{◌≡◌, sym, ap, subst, ◌∙◌, ℕ, ◌<◌, inl, inr, Bool, List, length, take, drop, arith}
-use Rattle.std.proofs.Math.ListN.{get_or-map}
-use Rattle.std.proofs.Math.Seq.{take-length}
-use Rattle.std.proofs.lemmas.List.{length-map, take-append-drop}
+use Rattle.std.proofs.{Math.ListN.get_or-map, Math.Seq.take-length, lemmas.List.length-map, lemmas.List.take-append-drop}
 use Rattle.query_log.specs.Logs.{Log, no_log, log_at}
 use Rattle.outcome_guard.specs.Runs.{next_counts}
 use Rattle.retime.specs.Edits.{OutcomesGrow}

@@ -1,11 +1,8 @@
 -- A session of depth edits, in terms of its plans' reports alone.
 use Rattle.std.specs.Prelude.{◌≡◌, Bool, true, false, List, [], ◌∷◌}
-use Rattle.flow_design.specs.declared.plan.Edit.{Edit}
-use Rattle.flow_design.specs.declared.plan.Plan.{Plan}
-use Rattle.flow_design.specs.Plans.{with_depth}
+use Rattle.flow_design.specs.{declared.plan.Edit.Edit, declared.plan.Plan.Plan, Plans.with_depth}
 use Rattle.lockstep_defs.specs.Report.{report}
-use Rattle.outcome_guard.specs.declared.count.RunCount.{RunCount}
-use Rattle.outcome_guard.specs.Runs.{first_counts, next_counts}
+use Rattle.outcome_guard.specs.{declared.count.RunCount.RunCount, Runs.first_counts, Runs.next_counts}
 
 -- the present plan, the answers that are kept with the count of runs, and whether no edit so far ran out of memory
 pub record Session : Type 0 where

@@ -1,18 +1,13 @@
 -- The core of a session, before and after an edit.
 use Rattle.std.specs.Prelude.{ℕ, Bool}
 use Rattle.flow_design.specs.declared.plan.Edit.{Edit}
-use Rattle.outcome_guard.specs.declared.guard.Guard.{Guard}
+use Rattle.outcome_guard.specs.{declared.guard.Guard.Guard, declared.count.RunCount.RunCount, Runs.next_counts}
 use Rattle.outcome_guard.specs.declared.guard.Guard.TheVariants.{Same, Differs}
 use Rattle.lockstep_defs.specs.Report.{report}
-use Rattle.outcome_guard.specs.declared.count.RunCount.{RunCount}
-use Rattle.outcome_guard.specs.Runs.{next_counts}
 use Rattle.event_timing.specs.Actions.{IsFinal, MayRun}
 use Rattle.timing_bridge.specs.Designs.{design}
-use Rattle.sim_core.specs.Views.{CoreView, theory_of}
-use Rattle.sim_core.specs.Drives.{AreOwn, IsDiffering}
-use Rattle.sim_core.specs.Records.{IsEditedOn, recorded_in}
-use Rattle.depth_session.specs.Records.{counted}
-use Rattle.depth_session.specs.Sessions.{Session}
+use Rattle.sim_core.specs.{Views.CoreView, Views.theory_of, Drives.AreOwn, Drives.IsDiffering, Records.IsEditedOn, Records.recorded_in}
+use Rattle.depth_session.specs.{Records.counted, Sessions.Session}
 
 -- the core is settled: it is final, and no run is lent
 pub record IsSettled (v : CoreView) : Type 0 where

@@ -1,13 +1,10 @@
 //! A core after an edit: it goes on where outcomes are the recorded ones, and is else simulated again.
 ghost use Rattle.std.specs.Prelude.{◌≡◌, ◌+◌, ◌<◌, ◌≤◌, IsOk, IfOk, OnOk, OnErr};
-ghost use Rattle.flow_design.specs.Plans.{EditFits, with_depth};
-ghost use Rattle.flow_design.specs.StaticRules.{FitsEngine};
+ghost use Rattle.flow_design.specs.{Plans.EditFits, Plans.with_depth, StaticRules.FitsEngine};
 ghost use Rattle.lockstep_defs.specs.Report.{report};
-ghost use Rattle.event_timing.specs.Agreement.{AllVerified};
-ghost use Rattle.event_timing.specs.Core.{opening_core};
+ghost use Rattle.event_timing.specs.{Agreement.AllVerified, Core.opening_core};
 ghost use Rattle.timing_bridge.specs.Designs.{design};
-ghost use Rattle.sim_core.specs.Views.{theory_of};
-ghost use Rattle.sim_core.specs.Drives.{AreOwn, Goes, HasDriven};
+ghost use Rattle.sim_core.specs.{Views.theory_of, Drives.AreOwn, Drives.Goes, Drives.HasDriven};
 ghost use Rattle.sim_core.specs.Records.{IsSoundCore, IsEditedOn, recorded_in};
 ghost use Rattle.depth_order.specs.Depths.{AsksNothing};
 ghost use Rattle.depth_session.specs.Records.{RepeatsAnswers};

@@ -1,12 +1,9 @@
 //! What simulates a plan for a session.
 ghost use Rattle.std.specs.Prelude.{◌≡◌, ℕ, ◌+◌, ◌<◌, ◌≤◌, Option, Some, None, option_copied, IfOk};
 ghost use Rattle.flow_design.specs.StaticRules.{FitsEngine};
-ghost use Rattle.event_timing.specs.Actions.{IsFinal};
-ghost use Rattle.event_timing.specs.Core.{opening_core};
-ghost use Rattle.event_timing.specs.Agreement.{AllVerified};
+ghost use Rattle.event_timing.specs.{Actions.IsFinal, Core.opening_core, Agreement.AllVerified};
 ghost use Rattle.timing_bridge.specs.Designs.{design};
-ghost use Rattle.sim_core.specs.Views.{theory_of};
-ghost use Rattle.sim_core.specs.Drives.{AreOwn};
+ghost use Rattle.sim_core.specs.{Views.theory_of, Drives.AreOwn};
 
 use flow_design::Plan;
 use flow_word::OutOfMemory;

@@ -1,7 +1,6 @@
 //! Sessions of depth edits.
 ghost use Rattle.std.specs.Prelude.{◌≡◌, ◌+◌, ◌<◌, ◌≤◌, true, IsOk, IfOk, OnOk, OnErr};
-ghost use Rattle.flow_design.specs.Plans.{EditFits};
-ghost use Rattle.flow_design.specs.StaticRules.{FitsEngine};
+ghost use Rattle.flow_design.specs.{Plans.EditFits, StaticRules.FitsEngine};
 ghost use Rattle.lockstep_defs.specs.Report.{report};
 ghost use Rattle.lockstep_defs.specs.Verdict as lockstep;
 ghost use Rattle.event_timing.specs.Actions.{IsFinal};
@@ -9,8 +8,7 @@ ghost use Rattle.timing_bridge.specs.Designs.{design};
 ghost use Rattle.engine_report.specs.Finished.{report_with};
 ghost use Rattle.sim_core.specs.Views.{theory_of};
 ghost use Rattle.depth_order.specs.Depths.{AsksNothing};
-ghost use Rattle.depth_session.specs.Records.{RepeatsAnswers};
-ghost use Rattle.depth_session.specs.Sessions.{opened, plan_behind, with_edit, IsBroken};
+ghost use Rattle.depth_session.specs.{Records.RepeatsAnswers, Sessions.opened, Sessions.plan_behind, Sessions.with_edit, Sessions.IsBroken};
 
 use crate::following::{first_core, follow};
 use crate::runner::Runner;

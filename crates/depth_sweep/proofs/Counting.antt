@@ -1,17 +1,14 @@
 -- The FIFOs of a plan, and other depths for them.
-use Rattle.std.proofs.Common.{◌≡◌, sym, ◌∙◌, ap, subst, arith, ℕ, ◌+◌, ◌<◌, ◌≤◌, Bool, true, false, cond, List, [], ◌∷◌, ◌++◌}
-use Rattle.std.proofs.Common.{length, get_or, take, All, add-one, zero-add, append-nil}
-use Rattle.std.specs.List.{range_with_len, filter, zip, enumerate_from}
+use Rattle.std.proofs.Common.{◌≡◌, sym, ◌∙◌, ap, subst, arith, ℕ, ◌+◌, ◌<◌, ◌≤◌, Bool, true, false, cond, List, [], ◌∷◌, ◌++◌, length}
+use Rattle.std.proofs.Common.{get_or, take, All, add-one, zero-add, append-nil}
 use Rattle.std.proofs.lemmas.List.{take_more, take_all, length-append, length-map, get_or-map}
 use Rattle.std.proofs.lemmas.List.Elements.{filter-append, filter_passes, All-filter, All-get_or, All-from_get_or}
 use Rattle.std.proofs.lemmas.List.FromFn.{length-enumerate_from, length-range_with_len, get_or-range_with_len}
 use Rattle.std.proofs.lemmas.List.Sums.{length-filter, count_by-le-length}
 use Rattle.std.proofs.lemmas.Slice.Zip.{length-zip, get_or-zip}
-use Rattle.flow_design.specs.declared.limits.TheConstants.{FIFO_DEPTH}
-use Rattle.flow_design.specs.declared.plan.Plan.{Plan}
-use Rattle.flow_design.specs.declared.plan.Edit.{Edit}
-use Rattle.flow_design.specs.Plans.{is_fifo, kind_at, with_depth, EditFits}
-use Rattle.flow_design.specs.StaticRules.{FitsEngine}
+use Rattle.std.specs.List.{range_with_len, filter, zip, enumerate_from}
+use Rattle.flow_design.specs.{declared.limits.TheConstants.FIFO_DEPTH, declared.plan.Plan.Plan, declared.plan.Edit.Edit, Plans.is_fifo}
+use Rattle.flow_design.specs.{Plans.kind_at, Plans.with_depth, Plans.EditFits, StaticRules.FitsEngine}
 use Rattle.outcome_guard.specs.Edits.{depth_after, plan_after}
 use Rattle.fifo_fills.specs.Fills.{fifos}
 use Rattle.depth_sweep.specs.Grid.{depth_edits, with_depths}

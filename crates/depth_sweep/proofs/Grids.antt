@@ -1,13 +1,11 @@
 -- The lists of a grid by their numbers.
-use Rattle.std.proofs.Common.{◌≡◌, refl, sym, ◌∙◌, ap, subst, arith, ℕ, zero, suc, ◌+◌, ◌-◌, ◌*◌, ◌/◌, ◌%◌, ◌^◌, ◌<◌, ◌≤◌}
-use Rattle.std.proofs.Common.{List, [], ◌∷◌, ◌++◌}
-use Rattle.std.proofs.Common.{length, get_or, map, All, append-nil, append_assoc, length-append}
-use Rattle.std.specs.List.{range_with_len, flat_map}
+use Rattle.std.proofs.Common.{◌≡◌, refl, sym, ◌∙◌, ap, subst, arith, ℕ, zero, suc, ◌+◌, ◌-◌, ◌*◌, ◌/◌, ◌%◌, ◌^◌, ◌<◌, ◌≤◌, List, [], ◌∷◌}
+use Rattle.std.proofs.Common.{◌++◌, length, get_or, map, All, append-nil, append_assoc, length-append}
 use Rattle.std.proofs.lemmas.List.{length-map, get_or-map, get_or_append_left, get_or-append-add}
-use Rattle.std.proofs.Math.Nat.{pow-zero, pow-succ'}
+use Rattle.std.proofs.{Math.Nat.pow-zero, Math.Nat.pow-succ', lemmas.List.FromFn.fill_by_all}
 use Rattle.std.proofs.lemmas.List.Elements.{All-cons, All-nil}
-use Rattle.std.proofs.lemmas.List.FromFn.{fill_by_all}
 use Rattle.std.proofs.lemmas.Nat.{div_below, div-mul-add, mod_below, div-add-mod', mul-lt}
+use Rattle.std.specs.List.{range_with_len, flat_map}
 use Rattle.depth_sweep.specs.Grid.{width, depths_between, grid}
 
 -- ---- equally long pieces, one after the other

@@ -1,8 +1,6 @@
 -- The best of the first n points.
 use Rattle.std.specs.Prelude.{ℕ, ◌<◌, ◌≤◌, List, Option, None, Some}
-use Rattle.depth_sweep.specs.Best.{IsDoneAt}
-use Rattle.depth_sweep.specs.declared.ranking.Finish.{Finish}
-use Rattle.depth_sweep.specs.declared.point.Point.{Point}
+use Rattle.depth_sweep.specs.{Best.IsDoneAt, declared.ranking.Finish.Finish, declared.point.Point.Point}
 
 -- what is kept is the best of the first n points
 pub record IsBestOf (points : List Point) (n : ℕ) (kept : Finish) : Type 0 where

@@ -1,7 +1,6 @@
 -- The shape of a grid.
 use Rattle.std.specs.Prelude.{◌≡◌, ◌≤◌, length}
-use Rattle.depth_sweep.specs.declared.shape.Shape.{Shape}
-use Rattle.depth_sweep.specs.Grid.{grid}
+use Rattle.depth_sweep.specs.{declared.shape.Shape.Shape, Grid.grid}
 
 -- the depths go from at least 1 to the greatest, and the shape says how many lists the grid has
 pub record IsShape (shape : Shape) : Type 0 where

@@ -1,8 +1,6 @@
 //! The FIFOs of a plan, and how to give them other depths.
 ghost use Rattle.std.specs.Prelude.{◌≡◌, ◌<◌, ◌≤◌, length, All, IfOk};
-ghost use Rattle.flow_design.specs.Plans.{is_fifo, kind_at};
-ghost use Rattle.flow_design.specs.declared.limits.TheConstants.{FIFO_DEPTH};
-ghost use Rattle.flow_design.specs.StaticRules.{FitsEngine};
+ghost use Rattle.flow_design.specs.{Plans.is_fifo, Plans.kind_at, declared.limits.TheConstants.FIFO_DEPTH, StaticRules.FitsEngine};
 ghost use Rattle.depth_sweep.specs.Grid.{with_depths};
 ghost use Rattle.fifo_fills.specs.Fills.{fifos};
 

@@ -1,9 +1,8 @@
 //! The sweep over a grid of depths, on several threads.
 ghost use Rattle.std.specs.Prelude.{◌≡◌, ◌≤◌, ◌<◌, ◌↔◌, [], Err, length, map, slice_index_or, IfOk};
 ghost use Rattle.flow_design.specs.StaticRules.{FitsEngine};
-ghost use Rattle.depth_sweep.specs.Grid.{grid, grid_of, most_points, point};
+ghost use Rattle.depth_sweep.specs.{Grid.grid, Grid.grid_of, Grid.most_points, Grid.point, Shapes.IsShape};
 ghost use Rattle.fifo_fills.specs.Fills.{fifos};
-ghost use Rattle.depth_sweep.specs.Shapes.{IsShape};
 
 use crate::fifos::{fifo_count, fifos};
 use crate::point::{Point, simulate};

@@ -1,7 +1,6 @@
 //! One point of a grid of depths.
 ghost use Rattle.std.specs.Prelude.{◌≡◌, ◌≤◌, ◌<◌, length, All, IfOk};
-ghost use Rattle.flow_design.specs.declared.limits.TheConstants.{FIFO_DEPTH};
-ghost use Rattle.flow_design.specs.StaticRules.{FitsEngine};
+ghost use Rattle.flow_design.specs.{declared.limits.TheConstants.FIFO_DEPTH, StaticRules.FitsEngine};
 ghost use Rattle.depth_sweep.specs.Grid.{point};
 ghost use Rattle.fifo_fills.specs.Fills.{fifos};
 

@@ -1,9 +1,7 @@
 -- What a module asks is what its step holds.
 use Rattle.std.proofs.Common.{arith, ◌≡◌, ap, Bool, true, false}
-use Rattle.flow_word.specs.declared.access.Access.{Access}
-use Rattle.flow_word.specs.declared.access.Kind.{Kind}
+use Rattle.flow_word.specs.{declared.access.Access.Access, declared.access.Kind.Kind, declared.access.Side.Side}
 use Rattle.flow_word.specs.declared.access.Kind.TheVariants.{Read, Write, TryRead, TryWrite, Empty, Full}
-use Rattle.flow_word.specs.declared.access.Side.{Side}
 use Rattle.flow_word.specs.declared.access.Side.TheVariants.{Pop, Push}
 use Rattle.flow_design.specs.declared.state.Request.{Request}
 use Rattle.event_timing.specs.Machines as theory

@@ -1,31 +1,20 @@
 -- The events are those of the theory's steps.
 use Rattle.std.proofs.Common.{◌≡◌, refl, subst, ◌∙◌, ℕ, ◌<◌, List, [], ◌∷◌, map, length, drop, arith}
-use Rattle.std.specs.Prelude.{All, IsPermutation}
-use Rattle.std.specs.List.{range_with_len, flat_map}
-use Rattle.std.proofs.lemmas.List.Elements.{All-head, All-tail}
-use Rattle.std.proofs.lemmas.List.Sorted.{All-permutation}
-use Rattle.flow_word.specs.declared.access.Access.{Access}
-use Rattle.flow_word.specs.declared.access.Kind.{Kind}
-use Rattle.flow_design.specs.declared.plan.Plan.{Plan}
+use Rattle.std.proofs.{lemmas.List.Elements.All-head, lemmas.List.Elements.All-tail, lemmas.List.Sorted.All-permutation}
+use Rattle.std.specs.{Prelude.All, Prelude.IsPermutation, List.range_with_len, List.flat_map}
+use Rattle.flow_word.specs.{declared.access.Access.Access, declared.access.Kind.Kind}
+use Rattle.flow_design.specs.{declared.plan.Plan.Plan, declared.state.Reply.Reply, declared.state.Request.Request}
 use Rattle.flow_design.specs.declared.report.EventLine.{EventLine}
-use Rattle.flow_design.specs.declared.state.Reply.{Reply}
-use Rattle.flow_design.specs.declared.state.Request.{Request}
-use Rattle.lockstep_defs.specs.Channels.{HistoryStep}
-use Rattle.lockstep_defs.specs.Lockstep.{requests_of}
-use Rattle.lockstep_defs.specs.OwnRun.{paired}
-use Rattle.lockstep_defs.specs.Report.{events_of}
+use Rattle.lockstep_defs.specs.{Channels.HistoryStep, Lockstep.requests_of, OwnRun.paired, Report.events_of}
 use Rattle.lockstep_defs.specs.Report as machine
 use Rattle.event_graph.specs.Lanes.{lane_at}
 use Rattle.event_timing.specs.Core.{core_reply}
-use Rattle.timing_bridge.specs.Designs.{design, told_all}
+use Rattle.timing_bridge.specs.{Designs.design, Designs.told_all, CoreReports.core_step, CoreReports.steps_at, CoreReports.AreSorted}
 use Rattle.timing_bridge.specs.Designs as bridge
-use Rattle.timing_bridge.specs.CoreReports.{core_step, steps_at, AreSorted}
-use Rattle.engine_view.specs.Held.{Held, step_of, seen, core_of}
-use Rattle.engine_view.specs.Shown.{IsSound}
+use Rattle.engine_view.specs.{Held.Held, Held.step_of, Held.seen, Held.core_of, Shown.IsSound}
 use Rattle.engine_view.proofs.Knowing.{timed_within}
 use Rattle.engine_report.specs.Read.{event_of, events_at, places_of, timed_places, AreEvents}
-use Rattle.engine_report.proofs.Loops.{all_mapped, all_given}
-use Rattle.engine_report.proofs.Asking.{same_kind, same_channel}
+use Rattle.engine_report.proofs.{Loops.all_mapped, Loops.all_given, Asking.same_kind, Asking.same_channel}
 
 -- ---- one step
 

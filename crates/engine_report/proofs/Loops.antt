@@ -1,14 +1,11 @@
 -- Loops over the numbers of modules, of channels and of steps.
 use Rattle.std.proofs.Common.{◌≡◌, refl, sym, ℕ, zero, suc, ◌+◌, ◌<◌, Bool, true, false, List, [], ◌∷◌, ◌++◌, map, zero-add, take, drop}
 use Rattle.std.proofs.Common.{cond, append_assoc, length, get_or, arith, Option, None, Some, append-nil}
-use Rattle.std.specs.Prelude.{All}
-use Rattle.std.specs.List.{range_with_len, filter, filter_map, flat_map, find, take_while}
 use Rattle.std.proofs.lemmas.List.{map-append, take_more, drop_more}
-use Rattle.std.proofs.lemmas.List.Folds.{find-append}
-use Rattle.std.proofs.lemmas.List.Concat.{flat_map-append}
+use Rattle.std.proofs.{lemmas.List.Folds.find-append, lemmas.List.Concat.flat_map-append, lemmas.List.Sums.take_while-cons}
 use Rattle.std.proofs.lemmas.List.Elements.{filter-append, filter_map-append, All-append}
 use Rattle.std.proofs.lemmas.List.FromFn.{map-range_with_len_more, length-map-range_with_len, get_or-map-range_with_len}
-use Rattle.std.proofs.lemmas.List.Sums.{take_while-cons}
+use Rattle.std.specs.{Prelude.All, List.range_with_len, List.filter, List.filter_map, List.flat_map, List.find, List.take_while}
 use Rattle.flow_word.proofs.Ranges.{range_last}
 
 -- a number more

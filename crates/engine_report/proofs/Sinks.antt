@@ -1,33 +1,20 @@
 -- What the sinks hold is what the theory's core tells.
-use Rattle.std.proofs.Common.{◌≡◌, refl, sym, ap, ◌∙◌, ℕ, zero, suc, ◌<◌, Bool, true, false, List, [], ◌∷◌, ◌++◌, map, length}
-use Rattle.std.proofs.Common.{take, get_or, arith, length-append, inl, inr}
-use Rattle.std.specs.Prelude.{is_some, nat_lt}
-use Rattle.std.proofs.lemmas.Bool.Decides.{nat_tests}
-use Rattle.std.proofs.lemmas.Bool.{cases_lt, lt-ltb, le-ltb}
-use Rattle.std.specs.List.{take_while}
-use Rattle.std.proofs.Math.Seq.{take-append_seam}
-use Rattle.std.proofs.lemmas.List.{length-map, get_or-map, take-map}
-use Rattle.std.proofs.lemmas.List.Sums.{take_while-cons}
-use Rattle.std.proofs.lemmas.Option.{slice_get-get_or, slice_get_past}
+use Rattle.std.proofs.Common.{◌≡◌, refl, sym, ap, ◌∙◌, ℕ, zero, suc, ◌<◌, Bool, true, false, List, [], ◌∷◌, ◌++◌, map, length, take, get_or}
+use Rattle.std.proofs.Common.{arith, length-append, inl, inr}
+use Rattle.std.proofs.{lemmas.Bool.Decides.nat_tests, lemmas.Bool.cases_lt, lemmas.Bool.lt-ltb, lemmas.Bool.le-ltb}
+use Rattle.std.proofs.{Math.Seq.take-append_seam, lemmas.List.length-map, lemmas.List.get_or-map, lemmas.List.take-map}
+use Rattle.std.proofs.{lemmas.List.Sums.take_while-cons, lemmas.Option.slice_get-get_or, lemmas.Option.slice_get_past}
+use Rattle.std.specs.{Prelude.is_some, Prelude.nat_lt, List.take_while}
 use Rattle.flow_word.specs.declared.access.Side.TheVariants.{Push}
-use Rattle.flow_design.specs.declared.design.ChannelKind.{ChannelKind}
-use Rattle.flow_design.specs.declared.plan.Plan.{Plan}
-use Rattle.flow_design.specs.Plans.{is_fifo, is_sink, kind_at}
+use Rattle.flow_design.specs.{declared.design.ChannelKind.ChannelKind, declared.plan.Plan.Plan, Plans.is_fifo, Plans.is_sink, Plans.kind_at}
 use Rattle.lockstep_defs.specs.Report.{sinks}
 use Rattle.event_graph.specs.Lanes.{lane_at, cycle_of}
-use Rattle.fifo_table.specs.declared.channel.Pushed.{Pushed}
-use Rattle.fifo_table.specs.declared.channel.TableChannel.{TableChannel}
-use Rattle.fifo_table.specs.declared.channel.TableChannel.TheVariants.{Source}
-use Rattle.fifo_table.specs.Channels.{channel_at, values_of}
-use Rattle.event_timing.specs.Machines.{Reply}
-use Rattle.event_timing.specs.Views.{pushed_in}
-use Rattle.event_timing.specs.Core.{core_accesses, core_tally, core_pushed, bare_replies}
-use Rattle.event_timing.proofs.OwnRuns.{tally_mono}
-use Rattle.event_timing.proofs.Values.{length_pushed_in, pushed_in_mono}
-use Rattle.timing_bridge.specs.Designs.{design}
-use Rattle.timing_bridge.specs.CoreReports.{pusher, sink_values}
-use Rattle.engine_view.specs.Held.{Held, emitted_of, core_of}
-use Rattle.engine_view.specs.Shown.{IsSound, IsKind, AreTaken, IsTakenAt}
+use Rattle.fifo_table.specs.{declared.channel.Pushed.Pushed, declared.channel.TableChannel.TableChannel}
+use Rattle.fifo_table.specs.{declared.channel.TableChannel.TheVariants.Source, Channels.channel_at, Channels.values_of}
+use Rattle.event_timing.specs.{Machines.Reply, Views.pushed_in, Core.core_accesses, Core.core_tally, Core.core_pushed, Core.bare_replies}
+use Rattle.event_timing.proofs.{OwnRuns.tally_mono, Values.length_pushed_in, Values.pushed_in_mono}
+use Rattle.timing_bridge.specs.{Designs.design, CoreReports.pusher, CoreReports.sink_values}
+use Rattle.engine_view.specs.{Held.Held, Held.emitted_of, Held.core_of, Shown.IsSound, Shown.IsKind, Shown.AreTaken, Shown.IsTakenAt}
 use Rattle.engine_view.proofs.Knowing.{timed_within}
 use Rattle.engine_report.specs.Read.{timed_values, outputs_of}
 use Rattle.engine_report.proofs.Same.{kept_same}

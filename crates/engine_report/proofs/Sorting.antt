@@ -1,21 +1,14 @@
 -- The steps with a cycle are sorted by their keys.
 use Rattle.std.proofs.Common.{◌≡◌, refl, sym, ap, subst, ◌∙◌, ℕ, zero, suc, ◌+◌, ◌<◌, false, List, map, length, get_or, arith}
-use Rattle.std.proofs.lemmas.Bool.Decides.{nat_tests}
-use Rattle.std.specs.Prelude.{All, IsPermutation}
-use Rattle.std.specs.List.Sorted.{IsSorted}
-use Rattle.std.specs.List.{range_with_len, flat_map}
-use Rattle.std.specs.Ordering.{is_lt, nat_cmp, ordering_then}
-use Rattle.std.specs.Cmp.{nat_cmp_is}
-use Rattle.std.specs.declared.cmp.Ordering.{Ordering}
+use Rattle.std.proofs.{lemmas.Bool.Decides.nat_tests, lemmas.List.length-map, lemmas.List.get_or-map, lemmas.List.map-append}
+use Rattle.std.proofs.{lemmas.Simd.map-map, lemmas.List.Sorted.IsPermutation-map, lemmas.List.Sorted.All-permutation}
+use Rattle.std.specs.{Prelude.All, Prelude.IsPermutation, List.Sorted.IsSorted, List.range_with_len, List.flat_map, Ordering.is_lt}
+use Rattle.std.specs.{Ordering.nat_cmp, Ordering.ordering_then, Cmp.nat_cmp_is, declared.cmp.Ordering.Ordering}
 use Rattle.std.specs.declared.cmp.Ordering.TheVariants.{Less, Equal}
-use Rattle.std.proofs.lemmas.List.{length-map, get_or-map, map-append}
-use Rattle.std.proofs.lemmas.Simd.{map-map}
-use Rattle.std.proofs.lemmas.List.Sorted.{IsPermutation-map, All-permutation}
 use Rattle.event_graph.specs.Lanes.{Lane, lane_at, no_lane, IsSoundLane}
-use Rattle.engine_report.specs.declared.events.TimedStep.{TimedStep}
-use Rattle.engine_report.specs.Read.{is_before, owners, places_of}
-use Rattle.engine_report.proofs.Loops.{all_mapped, all_given}
+use Rattle.engine_report.specs.{declared.events.TimedStep.TimedStep, Read.is_before, Read.owners, Read.places_of}
 use Rattle.engine_report.specs.Keys.{key_of, keys_of, place_of, HasKey, AreSortedKeys}
+use Rattle.engine_report.proofs.Loops.{all_mapped, all_given}
 
 -- by cycle, then by module, then by number
 abbrev key_cmp : TimedStep → TimedStep → Ordering

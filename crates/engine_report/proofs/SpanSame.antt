@@ -1,22 +1,16 @@
 -- What is read off the graph and the table at a step is what the theory's core tells.
-use Rattle.std.proofs.Common.{◌≡◌, ℕ, ◌<◌, List, [], ◌∷◌, refl, sym, ap, ◌∙◌, Bool, true, false, not, ◌&&◌, cond, map}
-use Rattle.std.proofs.Common.{Some}
-use Rattle.std.specs.List.{find, AllByRecursion}
+use Rattle.std.proofs.Common.{◌≡◌, ℕ, ◌<◌, List, [], ◌∷◌, refl, sym, ap, ◌∙◌, Bool, true, false, not, ◌&&◌, cond, map, Some}
 use Rattle.std.proofs.lemmas.List.Elements.{recursion_from_All}
-use Rattle.flow_word.specs.declared.access.Access.{Access}
-use Rattle.flow_word.specs.Kinds.{is_blocking}
+use Rattle.std.specs.List.{find, AllByRecursion}
+use Rattle.flow_word.specs.{declared.access.Access.Access, Kinds.is_blocking}
 use Rattle.flow_design.specs.declared.plan.Plan.{Plan}
 use Rattle.event_graph.specs.Lanes.{Lane}
 use Rattle.fifo_table.specs.Channels.{Channel}
 use Rattle.time_engine.specs.Possible.{when_possible}
-use Rattle.event_timing.specs.Enablers.{Known, answer}
+use Rattle.event_timing.specs.{Enablers.Known, Enablers.answer, Machines.IsDesign, Core.view}
 use Rattle.event_timing.specs.Machines as theory
-use Rattle.event_timing.specs.Machines.{IsDesign}
-use Rattle.event_timing.specs.Core.{view}
 use Rattle.timing_bridge.specs.Designs.{design}
-use Rattle.engine_view.specs.Held.{Held, core_of, step_of, emitted_of, seen}
-use Rattle.engine_view.specs.Known.{as_known}
-use Rattle.engine_view.specs.Shown.{IsSound}
+use Rattle.engine_view.specs.{Held.Held, Held.core_of, Held.step_of, Held.emitted_of, Held.seen, Known.as_known, Shown.IsSound}
 use Rattle.engine_view.proofs.Knowing.{access_known_in}
 use Rattle.stall_spans.specs.CoreDoings.{known_in, waits_at, doing_at, core_doing}
 use Rattle.engine_report.specs.Reading.{waits, doing_of, doing_in}

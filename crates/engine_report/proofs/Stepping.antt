@@ -1,37 +1,26 @@
 -- The spans of a module, step by step, over what an engine holds at its end.
-use Rattle.std.proofs.Common.{◌≡◌, ℕ, zero, suc, ◌+◌, ◌<◌, ◌≤◌, List, [], refl, sym, ap, ◌∙◌, arith, min, max, length, get_or, Some}
-use Rattle.std.proofs.Common.{None, Option, subst, add-one, slice_get}
+use Rattle.std.proofs.Common.{◌≡◌, ℕ, zero, suc, ◌+◌, ◌<◌, ◌≤◌, List, [], refl, sym, ap, ◌∙◌, arith, min, max, length, get_or, Some, None}
+use Rattle.std.proofs.Common.{Option, subst, add-one, slice_get}
+use Rattle.std.proofs.{lemmas.List.length-map, lemmas.Option.slice_get-get_or}
 use Rattle.std.specs.Prelude.{unwrap_or, is_some, IfSome}
-use Rattle.std.proofs.lemmas.List.{length-map}
-use Rattle.std.proofs.lemmas.Option.{slice_get-get_or}
-use Rattle.flow_design.specs.declared.plan.Plan.{Plan}
-use Rattle.flow_design.specs.declared.state.Advance.{Advance}
+use Rattle.flow_design.specs.{declared.plan.Plan.Plan, declared.state.Advance.Advance, Reports.clock_of}
 use Rattle.flow_design.specs.declared.state.Advance.TheVariants.{Step, Ended, Spent}
 use Rattle.lockstep_defs.specs.Verdict.{verdict}
-use Rattle.flow_design.specs.Reports.{clock_of}
-use Rattle.event_timing.specs.Views.{own}
-use Rattle.event_timing.specs.Core.{core_reply}
-use Rattle.timing_bridge.specs.Designs.{design, lockstep_run}
-use Rattle.timing_bridge.specs.OwnRuns.{clocks_of_steps}
+use Rattle.event_timing.specs.{Views.own, Core.core_reply}
+use Rattle.timing_bridge.specs.{Designs.design, Designs.lockstep_run, OwnRuns.clocks_of_steps}
 use Rattle.timing_bridge.proofs.History.{plan_is_design, run_is_history}
 use Rattle.event_graph.specs.Lanes.{no_lane, lane_at, cycle_bound, gap_bound}
 use Rattle.fifo_fills.proofs.Ending.{last_within}
 use Rattle.engine_view.specs.Held.{Held, core_of, step_of, no_step, emitted_of, waited}
 use Rattle.engine_view.proofs.Knowing.{timed_within}
-use Rattle.engine_report.specs.Finished.{IsFinished, IsEndMark, end_gap}
-use Rattle.engine_report.specs.Standings.{end_at, gap_of}
-use Rattle.engine_report.proofs.Ending.{waited_is, apart_at, end_there}
-use Rattle.stall_spans.specs.declared.span.Span.{Span}
-use Rattle.stall_spans.specs.declared.span.Doing.TheVariants.{Moves}
-use Rattle.stall_spans.specs.Doings.{doing}
-use Rattle.stall_spans.specs.Spans.{AreSpansBelow, AreSpans}
-use Rattle.stall_spans.specs.Coming.{reached, Comes, Does}
-use Rattle.stall_spans.specs.CoreDoings.{arrives}
+use Rattle.engine_report.specs.{Finished.IsFinished, Finished.IsEndMark, Finished.end_gap, Standings.end_at, Standings.gap_of}
+use Rattle.engine_report.specs.Reading.{Stands, cycle_before, clock_after, HasPassedSteps}
+use Rattle.engine_report.proofs.{Ending.waited_is, Ending.apart_at, Ending.end_there, SpanSame.reads_core}
+use Rattle.stall_spans.specs.{declared.span.Span.Span, declared.span.Doing.TheVariants.Moves, Doings.doing, Spans.AreSpansBelow}
+use Rattle.stall_spans.specs.{Spans.AreSpans, Coming.reached, Coming.Comes, Coming.Does, CoreDoings.arrives}
 use Rattle.stall_spans.proofs.Waits.{step_clocks, last_clocks}
 use Rattle.stall_spans.proofs.Causes.{timed_gap, timed_after, step_moves, stands-doing, last_gap, last_over}
 use Rattle.stall_spans.proofs.Extending.{listed_spans, spans_listed, span_over, span_none}
-use Rattle.engine_report.specs.Reading.{Stands, cycle_before, clock_after, HasPassedSteps}
-use Rattle.engine_report.proofs.SpanSame.{reads_core}
 
 -- the cycles of a module's steps, and how many have one
 abbrev cycles_of : Held → ℕ → List ℕ

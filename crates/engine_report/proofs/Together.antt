@@ -1,12 +1,9 @@
 -- How modules stand together, one more at a time.
 use Rattle.std.proofs.Common.{◌≡◌, refl, ℕ, ◌+◌, map, [], ◌∷◌}
-use Rattle.std.specs.Prelude.{max}
-use Rattle.std.specs.List.{range_with_len}
-use Rattle.std.proofs.Math.Bool.{and-true, or-false}
+use Rattle.std.proofs.{Math.Bool.and-true, Math.Bool.or-false, lemmas.List.Sums.fold-append}
 use Rattle.std.proofs.lemmas.List.Folds.{list_any-append, list_all-append}
-use Rattle.std.proofs.lemmas.List.Sums.{fold-append}
-use Rattle.engine_report.specs.declared.verdict.Standing.{Standing}
-use Rattle.engine_report.specs.Standings.{together, joined}
+use Rattle.std.specs.{Prelude.max, List.range_with_len}
+use Rattle.engine_report.specs.{declared.verdict.Standing.Standing, Standings.together, Standings.joined}
 use Rattle.engine_report.proofs.Loops.{mapped_more}
 
 pub together_more : (f : ℕ → Standing) (i : ℕ)

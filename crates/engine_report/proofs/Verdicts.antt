@@ -1,19 +1,11 @@
 -- The verdict that is read off is the plan's.
 use Rattle.std.proofs.Common.{◌≡◌, sym, ap, ◌∙◌, List, map, Option}
-use Rattle.flow_design.specs.declared.plan.Plan.{Plan}
-use Rattle.flow_design.specs.declared.report.Report.{Report}
+use Rattle.flow_design.specs.{declared.plan.Plan.Plan, declared.report.Report.Report, declared.state.Advance.Advance}
 use Rattle.flow_design.specs.declared.report.Verdict.{Verdict}
-use Rattle.flow_design.specs.declared.state.Advance.{Advance}
-use Rattle.lockstep_defs.specs.Channels.{HistoryStep}
-use Rattle.lockstep_defs.specs.Lockstep.{history}
-use Rattle.lockstep_defs.specs.Report.{report}
-use Rattle.lockstep_defs.specs.Verdict.{verdict}
-use Rattle.timing_bridge.specs.Designs.{design}
-use Rattle.timing_bridge.specs.CoreReports.{core_report, core_verdict, AreInOrder}
+use Rattle.lockstep_defs.specs.{Channels.HistoryStep, Lockstep.history, Report.report, Verdict.verdict}
+use Rattle.timing_bridge.specs.{Designs.design, CoreReports.core_report, CoreReports.core_verdict, CoreReports.AreInOrder}
 use Rattle.engine_view.specs.Held.{Held, core_of}
-use Rattle.engine_report.specs.Standings.{standing_at, verdict_by}
-use Rattle.engine_report.specs.Read.{owners}
-use Rattle.engine_report.specs.Finished.{IsFinished}
+use Rattle.engine_report.specs.{Standings.standing_at, Standings.verdict_by, Read.owners, Finished.IsFinished}
 use Rattle.engine_report.proofs.Ending.{verdict_is}
 
 pub verdict_read : (p : Plan) (h : Held) (ends : List (Option Advance)) → IsFinished p h ends

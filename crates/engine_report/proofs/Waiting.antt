@@ -1,23 +1,16 @@
 -- The causes of a wait, access by access.
-use Rattle.std.proofs.Common.{◌≡◌, ℕ, ◌+◌, ◌<◌, ◌≤◌, List, ap, ap₂, ◌∙◌, arith, Bool, true, false, not}
-use Rattle.std.proofs.Common.{◌&&◌, max}
-use Rattle.std.proofs.Common.{Some, length, get_or}
-use Rattle.std.specs.Prelude.{Result, Ok, Err, OnOk}
+use Rattle.std.proofs.Common.{◌≡◌, ℕ, ◌+◌, ◌<◌, ◌≤◌, List, ap, ap₂, ◌∙◌, arith, Bool, true, false, not, ◌&&◌, max, Some, length, get_or}
 use Rattle.std.proofs.lemmas.Bool.Decides.{nat_tests}
-use Rattle.flow_word.specs.declared.access.Access.{Access}
-use Rattle.flow_word.specs.declared.access.Side.{Side}
-use Rattle.stall_spans.specs.declared.span.Doing.TheVariants.{Still}
-use Rattle.flow_word.specs.Kinds.{side_of, is_blocking}
+use Rattle.std.specs.Prelude.{Result, Ok, Err, OnOk}
+use Rattle.flow_word.specs.{declared.access.Access.Access, declared.access.Side.Side, Kinds.side_of, Kinds.is_blocking}
+use Rattle.stall_spans.specs.{declared.span.Doing.TheVariants.Still, declared.span.Span.Span, Coming.reached, Coming.Comes, Coming.Does}
 use Rattle.flow_design.specs.declared.plan.Plan.{Plan}
 use Rattle.event_graph.specs.Lanes.{Lane}
 use Rattle.fifo_table.specs.Channels.{Channel}
-use Rattle.time_engine.specs.declared.known.Known.{Known}
-use Rattle.time_engine.specs.Possible.{when_possible}
+use Rattle.time_engine.specs.{declared.known.Known.Known, Possible.when_possible}
 use Rattle.event_timing.specs.Enablers.{answer}
 use Rattle.engine_view.specs.Known.{as_known}
 use Rattle.engine_report.proofs.Loops.{first_found, none_found}
-use Rattle.stall_spans.specs.declared.span.Span.{Span}
-use Rattle.stall_spans.specs.Coming.{reached, Comes, Does}
 use Rattle.engine_report.specs.Reading.{waits, doing_of, known_until, HasWaited, HasPassed}
 
 until_within : (k : Known) (until : ℕ) → known_until k until ≤ until

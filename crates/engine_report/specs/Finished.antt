@@ -1,24 +1,14 @@
 -- What an engine holds at the end of a plan's simulation.
 use Rattle.std.specs.Prelude.{◌≡◌, ℕ, ◌+◌, ◌<◌, Bool, true, is_some, List, [], map, length, if◌then◌else◌, Option, Some}
-use Rattle.flow_design.specs.declared.plan.Plan.{Plan}
-use Rattle.flow_design.specs.declared.report.Report.{Report}
-use Rattle.flow_design.specs.declared.state.Advance.{Advance}
+use Rattle.flow_design.specs.{declared.plan.Plan.Plan, declared.report.Report.Report, declared.state.Advance.Advance}
+use Rattle.flow_design.specs.{declared.state.ModuleState.ModuleState, StaticRules.FitsEngine}
 use Rattle.flow_design.specs.declared.state.Advance.TheVariants.{Step, Ended, Spent}
-use Rattle.flow_design.specs.declared.state.ModuleState.{ModuleState}
-use Rattle.flow_design.specs.StaticRules.{FitsEngine}
 use Rattle.lockstep_defs.specs.Machine as machine
-use Rattle.lockstep_defs.specs.Quiet.{quiet}
-use Rattle.lockstep_defs.specs.Report.{report}
+use Rattle.lockstep_defs.specs.{Quiet.quiet, Report.report}
 use Rattle.event_graph.specs.Lanes.{gap_bound}
-use Rattle.event_timing.specs.Machines.{ready}
-use Rattle.event_timing.specs.Views.{own}
-use Rattle.event_timing.specs.Core.{Core, core_reply}
-use Rattle.event_timing.specs.Actions.{IsFinal}
-use Rattle.event_timing.specs.Agreement.{IsAgreed}
-use Rattle.timing_bridge.specs.Designs.{design, lockstep_run}
-use Rattle.timing_bridge.specs.OwnRuns.{clocks_of_steps}
-use Rattle.engine_view.specs.Held.{Held, core_of}
-use Rattle.engine_view.specs.Shown.{IsSound}
+use Rattle.event_timing.specs.{Machines.ready, Views.own, Core.Core, Core.core_reply, Actions.IsFinal, Agreement.IsAgreed}
+use Rattle.timing_bridge.specs.{Designs.design, Designs.lockstep_run, OwnRuns.clocks_of_steps}
+use Rattle.engine_view.specs.{Held.Held, Held.core_of, Shown.IsSound}
 use Rattle.engine_report.specs.Standings.{end_at, gap_of}
 
 -- ---- end marks

@@ -3,8 +3,7 @@ use Rattle.std.specs.Prelude.{◌≡◌, ℕ, ◌<◌, List, map, length, All, I
 use Rattle.std.specs.List.{range_with_len}
 use Rattle.flow_word.specs.declared.access.Place.{Place}
 use Rattle.event_graph.specs.Lanes.{Lane, lane_at, HasStep}
-use Rattle.engine_report.specs.declared.events.TimedStep.{TimedStep}
-use Rattle.engine_report.specs.Read.{cycle_at, timed_places, is_before}
+use Rattle.engine_report.specs.{declared.events.TimedStep.TimedStep, Read.cycle_at, Read.timed_places, Read.is_before}
 
 abbrev pub key_of : List Lane → ℕ → ℕ → TimedStep
 key_of lanes i k = record { cycle = cycle_at lanes (i, k); «module» = i; step = k }

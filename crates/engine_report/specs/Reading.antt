@@ -1,25 +1,17 @@
 -- What a module does at a step, as it is read off the graph and the table.
 use Rattle.std.specs.Prelude.{ℕ, zero, suc, ◌≡◌, ◌<◌, ◌≤◌, Bool, not, ◌&&◌, Option, Some, None, List, find, min, max, take, true, false}
 use Rattle.std.specs.Prelude.{slice_index_or}
-use Rattle.flow_word.specs.declared.access.Access.{Access}
+use Rattle.flow_word.specs.{declared.access.Access.Access, declared.access.Place.Place, declared.access.Step.Step}
 use Rattle.flow_word.specs.Kinds.{side_of, is_blocking}
 use Rattle.flow_design.specs.declared.plan.Plan.{Plan}
 use Rattle.event_graph.specs.Lanes.{Lane, lane_at}
-use Rattle.flow_word.specs.declared.access.Place.{Place}
-use Rattle.flow_word.specs.declared.access.Step.{Step}
-use Rattle.engine_view.specs.Held.{no_step}
+use Rattle.engine_view.specs.{Held.no_step, Known.as_known}
 use Rattle.fifo_table.specs.Channels.{Channel}
-use Rattle.time_engine.specs.declared.known.Known.{Known}
+use Rattle.time_engine.specs.{declared.known.Known.Known, Possible.when_possible}
 use Rattle.time_engine.specs.declared.known.Known.TheVariants.{From, Never, Unknown}
-use Rattle.time_engine.specs.Possible.{when_possible}
-use Rattle.event_timing.specs.Views.{from}
-use Rattle.event_timing.specs.Enablers.{answer}
-use Rattle.engine_view.specs.Known.{as_known}
-use Rattle.stall_spans.specs.declared.span.Doing.{Doing}
+use Rattle.event_timing.specs.{Views.from, Enablers.answer}
+use Rattle.stall_spans.specs.{declared.span.Doing.Doing, declared.span.Span.Span, Doings.doing, Coming.reached, Coming.Comes}
 use Rattle.stall_spans.specs.declared.span.Doing.TheVariants.{Moves, Still}
-use Rattle.stall_spans.specs.declared.span.Span.{Span}
-use Rattle.stall_spans.specs.Doings.{doing}
-use Rattle.stall_spans.specs.Coming.{reached, Comes}
 
 -- the access blocks, and is not known to be possible in a clock
 abbrev pub waits : List Lane → List Channel → ℕ → Access → Bool

@@ -2,8 +2,7 @@
 ghost use Rattle.std.specs.Prelude.{◌≡◌, true, false, [], map, is_some, IfOk};
 ghost use Rattle.lockstep_defs.specs.Verdict as lockstep;
 ghost use Rattle.engine_view.specs.Engines.{held_in};
-ghost use Rattle.engine_report.specs.Finished.{IsFinished, report_with};
-ghost use Rattle.engine_report.specs.Read.{AreEvents};
+ghost use Rattle.engine_report.specs.{Finished.IsFinished, Finished.report_with, Read.AreEvents};
 
 use crate::answers::answers;
 use crate::events::events;

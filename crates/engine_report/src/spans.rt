@@ -1,18 +1,13 @@
 //! The spans of a module.
 ghost use Rattle.std.specs.Prelude.{ℕ, ◌≡◌, ◌<◌, ◌≤◌, ◌+◌, min, max, length, map, is_some, All, IfOk, OnOk};
-ghost use Rattle.time_engine.specs.Conditions.{IsAccess, HasAccesses, HasPlaces};
-ghost use Rattle.time_engine.specs.Possible.{when_possible};
-ghost use Rattle.flow_design.specs.declared.plan.Plan.{Plan};
+ghost use Rattle.time_engine.specs.{Conditions.IsAccess, Conditions.HasAccesses, Conditions.HasPlaces, Possible.when_possible};
+ghost use Rattle.flow_design.specs.{declared.plan.Plan.Plan, Reports.clock_of};
 ghost use Rattle.lockstep_defs.specs.Verdict.{verdict};
-ghost use Rattle.flow_design.specs.Reports.{clock_of};
 ghost use Rattle.event_graph.specs.Lanes.{HasStep, cycle_bound, gap_bound};
 ghost use Rattle.engine_view.specs.Engines.{held_in};
-ghost use Rattle.engine_report.specs.Finished.{IsFinished};
-ghost use Rattle.engine_report.specs.Standings.{end_at, gap_of};
-ghost use Rattle.stall_spans.specs.declared.span.Doing.TheVariants.{Moves};
-ghost use Rattle.stall_spans.specs.Spans.{AreSpans};
-ghost use Rattle.stall_spans.specs.Coming.{reached, Comes, Does};
+ghost use Rattle.engine_report.specs.{Finished.IsFinished, Standings.end_at, Standings.gap_of};
 ghost use Rattle.engine_report.specs.Reading.{known_until, step_at, Stands, HasWaited, HasPassed};
+ghost use Rattle.stall_spans.specs.{declared.span.Doing.TheVariants.Moves, Spans.AreSpans, Coming.reached, Coming.Comes, Coming.Does};
 
 use engine_view::Engine;
 use event_graph::Place;

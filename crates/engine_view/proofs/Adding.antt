@@ -1,21 +1,15 @@
 -- The loop that adds a step's pushes and pops.
-use Rattle.std.proofs.Common.{◌≡◌, refl, sym, ap, subst, ◌∙◌, ℕ, zero, suc, ◌+◌, ◌<◌, ◌≤◌, ◌⊎◌, inl, inr, Bool, true, false, cond, not}
-use Rattle.std.proofs.Common.{eqb, ◌&&◌, List, [], ◌∷◌, length, drop, get_or, arith}
-use Rattle.std.specs.Prelude.{All, slice_get}
-use Rattle.std.proofs.lemmas.Bool.{cases_Bool}
-use Rattle.std.proofs.lemmas.Bool.Decides.{nat_tests}
+use Rattle.std.proofs.Common.{◌≡◌, refl, sym, ap, subst, ◌∙◌, ℕ, zero, suc, ◌+◌, ◌<◌, ◌≤◌, ◌⊎◌, inl, inr, Bool, true, false, cond, not, eqb}
+use Rattle.std.proofs.Common.{◌&&◌, List, [], ◌∷◌, length, drop, get_or, arith}
+use Rattle.std.proofs.{lemmas.Bool.cases_Bool, lemmas.Bool.Decides.nat_tests}
 use Rattle.std.proofs.lemmas.List.{drop_more, drop_all, drop-drop}
 use Rattle.std.proofs.lemmas.List.Elements.{All-head, All-tail, All-weaker, All-append, All-replicate}
+use Rattle.std.specs.Prelude.{All, slice_get}
 use Rattle.flow_word.specs.Kinds.{is_blocking, is_taking, same_side, side_of}
-use Rattle.flow_word.specs.declared.access.Side.{Side}
-use Rattle.flow_word.specs.declared.access.Access.{Access}
-use Rattle.flow_word.specs.declared.access.Place.{Place}
-use Rattle.fifo_table.specs.Channels.{Channel, AreAllOf, channel_at, places_of}
-use Rattle.fifo_table.specs.Roomed.{RoomedChannels}
+use Rattle.flow_word.specs.{declared.access.Side.Side, declared.access.Access.Access, declared.access.Place.Place}
+use Rattle.fifo_table.specs.{Channels.Channel, Channels.AreAllOf, Channels.channel_at, Channels.places_of, Roomed.RoomedChannels}
 use Rattle.time_engine.specs.Conditions.{IsAccess}
-use Rattle.engine_view.specs.Held.{possible_by, flags_by}
-use Rattle.engine_view.specs.Emitted.{done_at_once}
-use Rattle.engine_view.specs.Answered.{done_late}
+use Rattle.engine_view.specs.{Held.possible_by, Held.flags_by, Emitted.done_at_once, Answered.done_late}
 use Rattle.engine_view.specs.Taking.{taken_by, taken_all, kinds_in}
 use Rattle.engine_view.specs.Rooms.{room_of, TakesAt, AreApart, HasRoomFor, StandAtOwn, done_by}
 use Rattle.engine_view.proofs.Taking.{all_length, all_channel, kind_after, kinds_behind, places_after}

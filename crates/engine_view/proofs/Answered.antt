@@ -1,48 +1,33 @@
 -- Outcomes more in a log, with the pushes and pops that they decide, are the theory's Answer, and what is held stays sound.
-use Rattle.std.proofs.Common.{◌≡◌, refl, sym, ap, subst, ◌∙◌, ℕ, zero, suc, ◌+◌, ◌<◌, ◌≤◌, ◌⊎◌, Bool, true, false, cond, ltb}
-use Rattle.std.proofs.Common.{eqb, cond, List, [], ◌∷◌, ◌++◌, length, map, drop, get_or, arith, inl, inr, append-nil, append_assoc}
-use Rattle.std.proofs.Common.{replicate, length-append, drop_of_length-le}
-use Rattle.std.specs.Prelude.{All, Some}
-use Rattle.flow_word.specs.Kinds.{is_blocking, side_of}
-use Rattle.flow_word.specs.declared.access.Side.{Side}
-use Rattle.flow_word.specs.declared.access.Side.TheVariants.{Push}
-use Rattle.flow_word.specs.declared.access.Kind.{Kind}
-use Rattle.std.proofs.lemmas.Bool.{and_parts, le-ltb, both_ways}
-use Rattle.std.proofs.lemmas.Bool.Decides.{nat_tests}
+use Rattle.std.proofs.Common.{◌≡◌, refl, sym, ap, subst, ◌∙◌, ℕ, zero, suc, ◌+◌, ◌<◌, ◌≤◌, ◌⊎◌, Bool, true, false, cond, ltb, eqb, List, []}
+use Rattle.std.proofs.Common.{◌∷◌, ◌++◌, length, map, drop, get_or, arith, inl, inr, append-nil, append_assoc, replicate, length-append}
+use Rattle.std.proofs.Common.{drop_of_length-le}
+use Rattle.std.proofs.{lemmas.Bool.and_parts, lemmas.Bool.le-ltb, lemmas.Bool.both_ways, lemmas.Bool.Decides.nat_tests}
 use Rattle.std.proofs.lemmas.List.{length-set, get_or-set_same, get_or-set_other, get_or_past, drop-append-le, length-drop}
 use Rattle.std.proofs.lemmas.List.Elements.{All-set, All-weaker}
-use Rattle.flow_word.specs.declared.access.Access.{Access}
-use Rattle.flow_word.specs.declared.access.Step.{Step}
-use Rattle.flow_word.specs.declared.access.Place.{Place}
+use Rattle.std.specs.Prelude.{All, Some}
+use Rattle.flow_word.specs.{Kinds.is_blocking, Kinds.side_of, declared.access.Side.Side, declared.access.Kind.Kind}
+use Rattle.flow_word.specs.{declared.access.Access.Access, declared.access.Step.Step, declared.access.Place.Place}
+use Rattle.flow_word.specs.declared.access.Side.TheVariants.{Push}
 use Rattle.event_graph.specs.Lanes.{lane_at}
-use Rattle.fifo_table.specs.declared.channel.TableChannel.TheVariants.{Source}
-use Rattle.fifo_table.specs.Channels.{Channel, channel_at, places_of}
+use Rattle.fifo_table.specs.{declared.channel.TableChannel.TheVariants.Source, Channels.Channel, Channels.channel_at, Channels.places_of}
 use Rattle.query_log.specs.Logs.{IsSoundLog, Log, all_answered, log_at, no_log}
 use Rattle.time_engine.specs.Conditions.{IsAccess, HasAccesses}
 use Rattle.event_timing.specs.Machines as theory
 use Rattle.event_timing.specs.Machines.{Design, IsDesign, Each, Reply, ready, takes_in, values_in, Access as Asked, takers, takes_at}
-use Rattle.event_timing.specs.Views.{pushed_in}
+use Rattle.event_timing.specs.{Views.pushed_in, Agreement.AreOwnMarks, Enablers.Known, Enablers.known_of, Enablers.flags_at}
 use Rattle.event_timing.specs.Core.{Core, core_accesses, core_tally, core_values, bare_replies, view}
-use Rattle.event_timing.specs.Agreement.{AreOwnMarks}
 use Rattle.event_timing.specs.Actions.{put_at, after_answer, new_flags}
-use Rattle.event_timing.proofs.Assigning.{put_at_same, put_at_other}
-use Rattle.event_timing.proofs.Fronts.{tally_same, pushed_same}
-use Rattle.event_timing.proofs.OwnRuns.{tally_more, tally_mono}
-use Rattle.event_timing.proofs.Values.{pushed_in_more}
-use Rattle.engine_view.specs.Held.{Held, step_of, no_step, emitted_of, seen, queries_in, flags_by, flags_of, are_among, has_all, values_at}
-use Rattle.engine_view.specs.Held.{core_of, possible_by}
-use Rattle.engine_view.specs.Shown.{Shows, IsSound, AreTaken, IsTakenAt, AreWhole, queries_before}
-use Rattle.engine_view.specs.Emitted.{done_at_once, place_of}
+use Rattle.event_timing.proofs.{Assigning.put_at_same, Assigning.put_at_other, Fronts.tally_same, Fronts.pushed_same, OwnRuns.tally_more}
+use Rattle.event_timing.proofs.{OwnRuns.tally_mono, Values.pushed_in_more, Answering.answer_marks}
+use Rattle.engine_view.specs.{Held.Held, Held.step_of, Held.no_step, Held.emitted_of, Held.seen, Held.queries_in, Held.flags_by}
+use Rattle.engine_view.specs.{Held.flags_of, Held.are_among, Held.has_all, Held.values_at, Held.core_of, Held.possible_by, Shown.Shows}
+use Rattle.engine_view.specs.{Shown.IsSound, Shown.AreTaken, Shown.IsTakenAt, Shown.AreWhole, Shown.queries_before, Emitted.done_at_once}
+use Rattle.engine_view.specs.{Emitted.place_of, Answered.outcome_by, Answered.outcomes_of, Answered.done_late, Answered.with_answered}
 use Rattle.engine_view.proofs.Taking.{channel_after, all_length, all_channel, kind_after, places_after, values_on, values_after}
 use Rattle.engine_view.proofs.Taking.{values_longer}
-use Rattle.engine_view.proofs.Assigned.{put_at_is}
-use Rattle.event_timing.proofs.Answering.{answer_marks}
-use Rattle.engine_view.specs.Answered.{outcome_by, outcomes_of, done_late, with_answered}
+use Rattle.engine_view.proofs.{Assigned.put_at_is, Knowing.shown_inside, Placing.places_from, Reading.IsRead, Reading.read_sound}
 use Rattle.engine_view.proofs.Emitted.{no_outcomes_is, not_owner, no_values, source_values, longer_taken, queries_mono}
-use Rattle.event_timing.specs.Enablers.{Known, known_of, flags_at}
-use Rattle.engine_view.proofs.Knowing.{shown_inside}
-use Rattle.engine_view.proofs.Placing.{places_from}
-use Rattle.engine_view.proofs.Reading.{IsRead, read_sound}
 
 -- ---- flags and outcomes
 

@@ -1,19 +1,15 @@
 -- A step's cycle more is the theory's Assign, and what is held stays sound.
 use Rattle.std.proofs.Common.{◌≡◌, refl, sym, ap, subst, ◌∙◌, ℕ, zero, suc, ◌<◌, List, [], ◌∷◌, ◌++◌, length, get_or, arith}
-use Rattle.std.specs.Prelude.{All}
-use mathlib.Core.Path.{fun_ext}
 use Rattle.std.proofs.lemmas.Bool.Decides.{nat_tests}
 use Rattle.std.proofs.lemmas.List.{length-set, get_or-set_same, get_or-set_other, length-append, get_or_push}
+use Rattle.std.specs.Prelude.{All}
+use mathlib.Core.Path.{fun_ext}
 use Rattle.event_graph.specs.Lanes.{Lane, IsSoundLane, no_lane, lane_at, timed, with_cycle}
 use Rattle.time_engine.proofs.Given.{accesses_stay, places_stay, steps_stay}
-use Rattle.event_timing.specs.Machines.{Design}
-use Rattle.event_timing.specs.Core.{Core}
-use Rattle.event_timing.specs.Actions.{put, put_at, after_assign}
-use Rattle.engine_view.specs.Held.{Held, replies_at, core_of}
+use Rattle.event_timing.specs.{Machines.Design, Core.Core, Actions.put, Actions.put_at, Actions.after_assign}
+use Rattle.engine_view.specs.{Held.Held, Held.replies_at, Held.core_of, Timed.with_timed}
 use Rattle.engine_view.specs.Shown.{Shows, IsSound, AreWhole, queries_before}
-use Rattle.engine_view.specs.Timed.{with_timed}
-use Rattle.engine_view.proofs.Cores.{same_core}
-use Rattle.engine_view.proofs.Placing.{taken_stays}
+use Rattle.engine_view.proofs.{Cores.same_core, Placing.taken_stays}
 
 cycles_there : (lanes : List Lane) (owner cycle : ℕ) → owner < length lanes
     → (lane_at (with_cycle lanes owner cycle) owner).cycles ≡ (lane_at lanes owner).cycles ++ cycle ∷ []

@@ -1,34 +1,24 @@
 -- The determined cycle of a step, access by access, is the theory's.
-use Rattle.std.proofs.Common.{◌≡◌, refl, sym, ap₂, drop, ◌∙◌, ℕ, zero, suc, ◌+◌, ◌-◌, ◌<◌, ◌≤◌, ◌⊎◌, max, Bool, true, false}
-use Rattle.std.proofs.Common.{List, [], ◌∷◌, length, map, get_or, Option, None, Some, is_some, is_none, arith, inl, inr, unwrap_or}
-use Rattle.std.proofs.Common.{position}
-use Rattle.std.proofs.lemmas.Bool.Decides.{nat_tests}
-use Rattle.std.specs.Prelude.{All, option_and_then}
+use Rattle.std.proofs.Common.{◌≡◌, refl, sym, ap₂, drop, ◌∙◌, ℕ, zero, suc, ◌+◌, ◌-◌, ◌<◌, ◌≤◌, ◌⊎◌, max, Bool, true, false, List, [], ◌∷◌}
+use Rattle.std.proofs.Common.{length, map, get_or, Option, None, Some, is_some, is_none, arith, inl, inr, unwrap_or, position}
+use Rattle.std.proofs.{lemmas.Bool.Decides.nat_tests, lemmas.Option.slice_get-get_or, lemmas.Option.slice_get_past, lemmas.List.get_or_past}
 use Rattle.std.proofs.lemmas.Bool.{cases_lt, cases_Bool, lt-ltb, le-ltb}
-use Rattle.std.proofs.lemmas.Option.{slice_get-get_or, slice_get_past}
-use Rattle.std.proofs.lemmas.List.{get_or_past}
 use Rattle.std.proofs.lemmas.List.Elements.{All-head, All-tail}
-use Rattle.flow_word.specs.Kinds.{is_blocking}
-use Rattle.flow_word.specs.declared.access.Access.{Access}
-use Rattle.flow_word.specs.declared.access.Step.{Step}
+use Rattle.std.specs.Prelude.{All, option_and_then}
+use Rattle.flow_word.specs.{Kinds.is_blocking, declared.access.Access.Access, declared.access.Step.Step}
 use Rattle.event_graph.specs.Lanes.{Lane, IsSoundLane, no_lane, lane_at, last_cycle}
 use Rattle.fifo_table.specs.Channels.{Channel}
 use Rattle.time_engine.specs.declared.known.Known as of_code
 use Rattle.time_engine.specs.declared.known.Known.TheVariants as code
-use Rattle.time_engine.specs.Possible.{when_possible}
-use Rattle.time_engine.specs.Cycles.{known_clock, is_waiting, clocks_of, latest, open_step, arrival, first_waiting, cycle_unless}
-use Rattle.time_engine.specs.Cycles.{determined}
+use Rattle.time_engine.specs.{Possible.when_possible, Cycles.known_clock, Cycles.is_waiting, Cycles.clocks_of, Cycles.latest}
+use Rattle.time_engine.specs.{Cycles.open_step, Cycles.arrival, Cycles.first_waiting, Cycles.cycle_unless, Cycles.determined}
 use Rattle.time_engine.proofs.LatestClocks.{clocks_of-append, clocks_of_query, clocks_of_known, clocks_of-none}
 use Rattle.event_timing.specs.Machines as theory
 use Rattle.event_timing.specs.Machines.{Design, IsDesign}
-use Rattle.event_timing.specs.Views.{from, first_accesses}
-use Rattle.event_timing.specs.Core.{Core, view}
+use Rattle.event_timing.specs.{Views.from, Views.first_accesses, Core.Core, Core.view, Enablers.Known.From}
 use Rattle.event_timing.specs.Enablers.{Known, known_of, both, bound, reach, to_clock, candidate}
-use Rattle.event_timing.specs.Enablers.Known.{From}
 use Rattle.event_timing.proofs.Candidate.{bound_blocks, bound_free}
-use Rattle.engine_view.specs.Held.{Held, step_of, no_step, seen, core_of, waited}
-use Rattle.engine_view.specs.Shown.{IsSound}
-use Rattle.engine_view.specs.Known.{as_known}
+use Rattle.engine_view.specs.{Held.Held, Held.step_of, Held.no_step, Held.seen, Held.core_of, Held.waited, Shown.IsSound, Known.as_known}
 use Rattle.engine_view.proofs.Knowing.{access_known}
 
 -- ---- the accesses of a step

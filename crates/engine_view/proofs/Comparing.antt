@@ -1,20 +1,16 @@
 -- The loop that compares a step's outcomes.
-use Rattle.std.proofs.Common.{◌≡◌, refl, sym, ap, ◌∙◌, ℕ, zero, suc, ◌+◌, ◌<◌, ◌≤◌, Bool, true, cond, ◌||◌, List, [], ◌∷◌, ◌++◌}
-use Rattle.std.proofs.Common.{length, take, drop, get_or, arith, append_assoc, inl, inr, Some}
+use Rattle.std.proofs.Common.{◌≡◌, refl, sym, ap, ◌∙◌, ℕ, zero, suc, ◌+◌, ◌<◌, ◌≤◌, Bool, true, cond, ◌||◌, List, [], ◌∷◌, ◌++◌, length}
+use Rattle.std.proofs.Common.{take, drop, get_or, arith, append_assoc, inl, inr, Some}
+use Rattle.std.proofs.{lemmas.Bool.cases_Bool, lemmas.List.drop_more, lemmas.List.take_more, lemmas.Option.slice_get-get_or}
 use Rattle.std.specs.Prelude.{slice_get}
-use Rattle.std.proofs.lemmas.Bool.{cases_Bool}
-use Rattle.std.proofs.lemmas.List.{drop_more, take_more}
-use Rattle.std.proofs.lemmas.Option.{slice_get-get_or}
-use Rattle.flow_word.specs.Kinds.{is_blocking}
-use Rattle.flow_word.specs.declared.access.Access.{Access}
+use Rattle.flow_word.specs.{Kinds.is_blocking, declared.access.Access.Access}
 use Rattle.event_graph.specs.Lanes.{Lane}
 use Rattle.fifo_table.specs.Channels.{Channel}
 use Rattle.query_log.specs.declared.query.Query.{Query}
 use Rattle.time_engine.specs.Possible.{when_possible}
 use Rattle.event_timing.specs.Enablers.{answer}
 use Rattle.engine_view.specs.Held.{possible_by, flag_now, queries_in, flags_by}
-use Rattle.engine_view.specs.Known.{as_known, flag_found, found_flags}
-use Rattle.engine_view.specs.Turns.{IsOther}
+use Rattle.engine_view.specs.{Known.as_known, Known.flag_found, Known.found_flags, Turns.IsOther}
 use Rattle.engine_view.proofs.Adding.{get_drop, drop_next}
 use Rattle.flow_word.proofs.Ranges.{some_is}
 

@@ -1,30 +1,18 @@
 -- An Answer that finds the assumed outcomes again is the theory's, and what is held stays sound.
-use Rattle.std.proofs.Common.{◌≡◌, refl, sym, ap, ◌∙◌, ℕ, suc, ◌<◌, ◌≤◌, true, false, cond, eqb}
-use Rattle.std.proofs.Common.{List, ◌++◌, length, get_or, arith, inl, inr}
-use Rattle.std.proofs.lemmas.Bool.{cases_lt, le-ltb}
-use Rattle.std.proofs.lemmas.Bool.Decides.{eqb_tells, nat_tests}
-use Rattle.std.proofs.lemmas.List.{length-set, get_or-set_same, get_or-set_other}
-use Rattle.std.proofs.lemmas.List.Elements.{All-set}
-use Rattle.flow_word.specs.Kinds.{side_of}
-use Rattle.flow_word.specs.declared.access.Side.{Side}
-use Rattle.flow_word.specs.declared.access.Side.TheVariants.{Push}
-use Rattle.flow_word.specs.declared.access.Step.{Step}
+use Rattle.std.proofs.Common.{◌≡◌, refl, sym, ap, ◌∙◌, ℕ, suc, ◌<◌, ◌≤◌, true, false, cond, eqb, List, ◌++◌, length, get_or, arith, inl}
+use Rattle.std.proofs.Common.{inr}
+use Rattle.std.proofs.{lemmas.Bool.cases_lt, lemmas.Bool.le-ltb, lemmas.Bool.Decides.eqb_tells, lemmas.Bool.Decides.nat_tests}
+use Rattle.std.proofs.{lemmas.List.length-set, lemmas.List.get_or-set_same, lemmas.List.get_or-set_other, lemmas.List.Elements.All-set}
+use Rattle.flow_word.specs.{Kinds.side_of, declared.access.Side.Side, declared.access.Side.TheVariants.Push, declared.access.Step.Step}
 use Rattle.event_graph.specs.Lanes.{lane_at}
 use Rattle.query_log.specs.Logs.{IsSoundLog, log_at, no_log}
-use Rattle.event_timing.specs.Machines.{Design, IsDesign}
+use Rattle.event_timing.specs.{Machines.Design, Machines.IsDesign, Agreement.AreOwnMarks, Actions.after_answer, Actions.new_flags}
 use Rattle.event_timing.specs.Core.{Core, core_accesses, core_tally, core_values, bare_replies}
-use Rattle.event_timing.specs.Agreement.{AreOwnMarks}
-use Rattle.event_timing.specs.Actions.{after_answer, new_flags}
-use Rattle.event_timing.proofs.Answering.{answer_marks}
-use Rattle.event_timing.proofs.Fronts.{tally_same, pushed_same}
+use Rattle.event_timing.proofs.{Answering.answer_marks, Fronts.tally_same, Fronts.pushed_same}
 use Rattle.engine_view.specs.Held.{Held, step_of, emitted_of, are_among, has_all, core_of}
-use Rattle.engine_view.specs.Shown.{Shows, IsSound, AreWhole, queries_before}
-use Rattle.engine_view.specs.Answered.{with_confirmed}
-use Rattle.engine_view.proofs.Placing.{taken_stays}
-use Rattle.engine_view.proofs.Assigned.{put_at_is}
-use Rattle.engine_view.proofs.Emitted.{queries_mono}
+use Rattle.engine_view.specs.{Shown.Shows, Shown.IsSound, Shown.AreWhole, Shown.queries_before, Answered.with_confirmed}
+use Rattle.engine_view.proofs.{Placing.taken_stays, Assigned.put_at_is, Emitted.queries_mono, Reading.IsRead, Reading.read_sound}
 use Rattle.engine_view.proofs.Answered.{queries_step, steps_only, among_if}
-use Rattle.engine_view.proofs.Reading.{IsRead, read_sound}
 
 module _ {S : Type 0} (d : Design S) (i : IsDesign d) (h : Held) (m c : ℕ) (inside : m < length h.logs) (s : IsSound d h)
     (b : AreOwnMarks d (core_of d h))

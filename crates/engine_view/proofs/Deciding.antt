@@ -1,7 +1,7 @@
 -- What is decided of queries, by the graph and the table, is what the theory answers.
 use Rattle.std.proofs.Common.{arith, ◌≡◌, refl, ap, ◌∙◌, ℕ, ◌<◌, false, List, [], ◌∷◌, length, map}
-use Rattle.std.specs.Prelude.{◌↔◌, All}
 use Rattle.std.proofs.lemmas.List.Elements.{All-head, All-tail}
+use Rattle.std.specs.Prelude.{◌↔◌, All}
 use Rattle.flow_word.specs.declared.access.Access.{Access}
 use Rattle.event_graph.specs.Lanes.{Lane, lane_at}
 use Rattle.fifo_table.specs.Channels.{Channel}
@@ -9,14 +9,10 @@ use Rattle.time_engine.specs.declared.known.Known as of_code
 use Rattle.time_engine.specs.declared.known.Known.TheVariants as code
 use Rattle.time_engine.specs.Possible.{when_possible}
 use Rattle.event_timing.specs.Machines as theory
-use Rattle.event_timing.specs.Machines.{Design, IsDesign}
-use Rattle.event_timing.specs.Core.{view}
+use Rattle.event_timing.specs.{Machines.Design, Machines.IsDesign, Core.view, Views.first_accesses, Actions.new_flags}
 use Rattle.event_timing.specs.Enablers.{Known, known_of, is_decided, all_decided, flags_at}
-use Rattle.event_timing.specs.Views.{first_accesses}
-use Rattle.event_timing.specs.Actions.{new_flags}
 use Rattle.engine_view.specs.Held.{Held, step_of, emitted_of, seen, core_of}
-use Rattle.engine_view.specs.Shown.{IsSound}
-use Rattle.engine_view.specs.Known.{as_known, found_flags, are_decided}
+use Rattle.engine_view.specs.{Shown.IsSound, Known.as_known, Known.found_flags, Known.are_decided}
 use Rattle.engine_view.proofs.Knowing.{access_known}
 
 pub undecided_is : (k : of_code.Known) → (k ≡ code.Unknown) ↔ (is_decided (as_known k) ≡ false)

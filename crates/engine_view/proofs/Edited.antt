@@ -1,41 +1,27 @@
 -- With cycles forgotten, another depth and outcomes assumed, what is held is the core from which a retiming begins.
-use Rattle.std.proofs.Common.{◌≡◌, refl, sym, subst, ◌∙◌, ℕ, zero, suc, ◌<◌, ◌≤◌, min, true, false, cond, eqb, ltb}
-use Rattle.std.proofs.Common.{nat_lt, ◌&&◌, ◌||◌, List, [], ◌∷◌, length, filter, get_or, arith, inl, inr}
-use Rattle.std.specs.Prelude.{All, AllPairs}
-use Rattle.std.specs.List.Sorted.{IsStrictlyIncreasing}
+use Rattle.std.proofs.Common.{◌≡◌, refl, sym, subst, ◌∙◌, ℕ, zero, suc, ◌<◌, ◌≤◌, min, true, false, cond, eqb, ltb, nat_lt, ◌&&◌, ◌||◌}
+use Rattle.std.proofs.Common.{List, [], ◌∷◌, length, filter, get_or, arith, inl, inr}
 use Rattle.std.proofs.lemmas.Bool.{cases_lt, lt-ltb, le-ltb, ne_eqb}
 use Rattle.std.proofs.lemmas.Bool.Decides.{eqb_tells, nat_tests}
 use Rattle.std.proofs.lemmas.List.{get_or_past, get_or_default, get_or-set_same, get_or-set_other, length-set, length-map}
-use Rattle.std.proofs.lemmas.List.Kept.{AllPairs-from_increasing}
-use Rattle.std.proofs.Math.ListN.{get_or-map}
-use Rattle.flow_word.specs.Kinds.{side_of}
-use Rattle.flow_word.specs.declared.access.Side.{Side}
-use Rattle.flow_word.specs.declared.access.Side.TheVariants.{Pop, Push}
-use Rattle.flow_word.specs.declared.access.Step.{Step}
+use Rattle.std.proofs.{lemmas.List.Kept.AllPairs-from_increasing, Math.ListN.get_or-map, lemmas.List.Elements.All-map}
+use Rattle.std.specs.{Prelude.All, Prelude.AllPairs, List.Sorted.IsStrictlyIncreasing}
+use Rattle.flow_word.specs.{Kinds.side_of, declared.access.Side.Side, declared.access.Step.Step, declared.access.Place.Place}
+use Rattle.flow_word.specs.{declared.access.Side.TheVariants.Pop, declared.access.Side.TheVariants.Push, declared.access.Access.Access}
 use Rattle.event_graph.specs.Lanes.{Lane, no_lane, lane_at, timed_below}
 use Rattle.event_graph.proofs.Growth.{none_pass}
 use Rattle.query_log.specs.Logs.{log_at}
 use Rattle.event_timing.specs.Edits.{kept, kept_cycle, edited, after_edit}
+use Rattle.event_timing.specs.{Machines.Design, Core.Core, Core.core_values, Agreement.AreOwnMarks}
 use Rattle.engine_view.specs.Held.{Held, step_of, emitted_of, queries_in, are_among, has_all, values_at, core_of}
-use Rattle.engine_view.specs.Shown.{AreWhole, queries_before, Shows, IsSound, IsKind, AreTaken}
-use Rattle.engine_view.proofs.Answered.{queries_step, steps_only}
-use Rattle.engine_view.proofs.Emitted.{queries_mono, has_query_is}
-use Rattle.std.proofs.lemmas.List.Elements.{All-map}
-use Rattle.flow_word.specs.declared.access.Access.{Access}
-use Rattle.flow_word.specs.declared.access.Place.{Place}
-use Rattle.fifo_table.specs.declared.channel.Pushed.{Pushed}
-use Rattle.fifo_table.specs.declared.channel.TableChannel.{TableChannel}
+use Rattle.engine_view.specs.{Shown.AreWhole, Shown.queries_before, Shown.Shows, Shown.IsSound, Shown.IsKind, Shown.AreTaken, Edited.IsCut}
+use Rattle.engine_view.proofs.{Answered.queries_step, Answered.steps_only, Emitted.queries_mono, Emitted.has_query_is, Knowing.timed_within}
+use Rattle.engine_view.proofs.{Placing.places_from, Reading.IsRead, Reading.read_sound}
+use Rattle.fifo_table.specs.{declared.channel.Pushed.Pushed, declared.channel.TableChannel.TableChannel}
 use Rattle.fifo_table.specs.declared.channel.TableChannel.TheVariants.{Sink, Fifo}
 use Rattle.fifo_table.specs.Channels.{Channel, places_of, IsFifo, channel_at, unused, values_of, lag_of, deepened, HasSide}
 use Rattle.time_engine.specs.Conditions.{IsAccess, HasAccesses}
-use Rattle.event_timing.specs.Machines.{Design}
-use Rattle.event_timing.specs.Core.{Core, core_values}
-use Rattle.event_timing.specs.Agreement.{AreOwnMarks}
 use Rattle.event_timing.proofs.Editing.{edit_marks, kept_le}
-use Rattle.engine_view.specs.Edited.{IsCut}
-use Rattle.engine_view.proofs.Knowing.{timed_within}
-use Rattle.engine_view.proofs.Placing.{places_from}
-use Rattle.engine_view.proofs.Reading.{IsRead, read_sound}
 
 -- ---- the cycles that stay
 

@@ -1,45 +1,34 @@
 -- A step more in a lane, with its pushes and pops in the table, is the theory's Run, and what is held stays sound.
-use Rattle.std.proofs.Common.{◌≡◌, refl, sym, ap, ap₂, subst, ◌∙◌, ℕ, zero, suc, ◌+◌, ◌-◌, ◌<◌, ◌≤◌, Bool, false, not, eqb, ltb}
-use Rattle.std.proofs.Common.{List, [], ◌∷◌, ◌++◌, length, map, drop, get_or, arith, inl, inr, append-nil, append_assoc}
-use Rattle.std.proofs.Common.{replicate, length-append, drop_of_length-le}
-use Rattle.std.specs.Prelude.{All}
-use Rattle.std.proofs.lemmas.Bool.{cases_lt, cond-false}
-use Rattle.std.proofs.lemmas.Bool.Decides.{nat_tests}
+use Rattle.std.proofs.Common.{◌≡◌, refl, sym, ap, ap₂, subst, ◌∙◌, ℕ, zero, suc, ◌+◌, ◌-◌, ◌<◌, ◌≤◌, Bool, false, not, eqb, ltb, List, []}
+use Rattle.std.proofs.Common.{◌∷◌, ◌++◌, length, map, drop, get_or, arith, inl, inr, append-nil, append_assoc, replicate, length-append}
+use Rattle.std.proofs.Common.{drop_of_length-le}
+use Rattle.std.proofs.{lemmas.Bool.cases_lt, lemmas.Bool.cond-false, lemmas.Bool.Decides.nat_tests}
 use Rattle.std.proofs.lemmas.List.{length-replicate, get_or-replicate, length-set, get_or-set_same, get_or-set_other, get_or_push}
 use Rattle.std.proofs.lemmas.List.{get_or_append_left, get_or-append-add}
 use Rattle.std.proofs.lemmas.List.Elements.{All-head, All-tail, All-set, All-push, All-weaker}
-use Rattle.flow_word.specs.Kinds.{is_blocking, side_of}
-use Rattle.flow_word.specs.declared.access.Side.{Side}
-use Rattle.flow_word.specs.declared.access.Side.TheVariants.{Push}
-use Rattle.flow_word.specs.declared.access.Access.{Access}
-use Rattle.flow_word.specs.declared.access.Step.{Step}
-use Rattle.flow_word.specs.declared.access.Place.{Place}
+use Rattle.std.specs.Prelude.{All}
+use Rattle.flow_word.specs.{Kinds.is_blocking, Kinds.side_of, declared.access.Side.Side, declared.access.Side.TheVariants.Push}
+use Rattle.flow_word.specs.{declared.access.Access.Access, declared.access.Step.Step, declared.access.Place.Place}
 use Rattle.event_graph.specs.Lanes.{Lane, IsSoundLane, no_lane, lane_at, longer, with_step}
 use Rattle.event_graph.proofs.Growth.{longer_sound}
-use Rattle.fifo_table.specs.declared.channel.TableChannel.TheVariants.{Source}
-use Rattle.fifo_table.specs.Channels.{Channel, channel_at, places_of}
+use Rattle.fifo_table.specs.{declared.channel.TableChannel.TheVariants.Source, Channels.Channel, Channels.channel_at, Channels.places_of}
 use Rattle.query_log.specs.Logs.{log_at}
 use Rattle.time_engine.specs.Conditions.{IsAccess, HasAccesses}
 use Rattle.event_timing.specs.Machines as theory
 use Rattle.event_timing.specs.Machines.{Design, IsDesign, Each, Reply, ready, takes_in, values_in}
-use Rattle.event_timing.specs.Views.{pushed_in}
+use Rattle.event_timing.specs.{Views.pushed_in, Agreement.AreOwnMarks}
 use Rattle.event_timing.specs.Core.{Core, core_accesses, core_tally, core_values, bare_replies, has_query, no_outcomes}
-use Rattle.event_timing.specs.Agreement.{AreOwnMarks}
 use Rattle.event_timing.specs.Actions.{put, put_at, newest, emit_step, after_run, MayRun}
 use Rattle.event_timing.proofs.Assigning.{put_at_same, put_at_other, put_same, put_other}
 use Rattle.event_timing.proofs.Running.{emit_up, old_at, run_marks}
-use Rattle.event_timing.proofs.Fronts.{tally_same, pushed_same}
-use Rattle.event_timing.proofs.OwnRuns.{tally_more, same_side_is}
-use Rattle.event_timing.proofs.Values.{pushed_in_more}
+use Rattle.event_timing.proofs.{Fronts.tally_same, Fronts.pushed_same, OwnRuns.tally_more, OwnRuns.same_side_is, Values.pushed_in_more}
 use Rattle.engine_view.specs.Held.{Held, step_of, no_step, emitted_of, seen, queries_in, flags_by, flags_of, are_among, has_all, values_at}
 use Rattle.engine_view.specs.Held.{waited, core_of}
 use Rattle.engine_view.specs.Shown.{Shows, IsSound, AreTaken, IsTakenAt, AreWhole, queries_before}
 use Rattle.engine_view.specs.Emitted.{done_at_once, place_of, with_emitted, IsNextStep}
 use Rattle.engine_view.proofs.Taking.{channel_after, all_length, all_channel, kind_after, places_after, values_on, values_after}
 use Rattle.engine_view.proofs.Taking.{values_longer}
-use Rattle.engine_view.proofs.Assigned.{put_at_is}
-use Rattle.engine_view.proofs.Placing.{places_from}
-use Rattle.engine_view.proofs.Reading.{IsRead, read_sound}
+use Rattle.engine_view.proofs.{Assigned.put_at_is, Placing.places_from, Reading.IsRead, Reading.read_sound}
 
 -- ---- the lanes
 

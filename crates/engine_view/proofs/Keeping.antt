@@ -1,40 +1,21 @@
 -- What is held stays kept, whatever the theory does to its core.
 use Rattle.std.proofs.Common.{◌≡◌, refl, sym, subst, ◌∙◌, ℕ, ◌<◌, ◌≤◌, get_or, Bool, true, false, not, ap, List, length, arith}
-use Rattle.std.specs.Prelude.{All}
 use Rattle.std.proofs.lemmas.Bool.{cond-true, cond-false}
-use Rattle.std.proofs.lemmas.Bool.Decides.{nat_tests}
-use Rattle.std.proofs.Math.ListN.{get_or-map}
-use Rattle.std.proofs.lemmas.List.{length-set}
-use Rattle.flow_word.specs.declared.access.Side.{Side}
-use Rattle.flow_word.specs.declared.access.Step.{Step}
+use Rattle.std.proofs.{lemmas.Bool.Decides.nat_tests, Math.ListN.get_or-map, lemmas.List.length-set}
+use Rattle.std.specs.Prelude.{All}
+use Rattle.flow_word.specs.{declared.access.Side.Side, declared.access.Step.Step}
 use Rattle.event_graph.specs.Lanes.{IsSoundLane, no_lane, lane_at, timed_below, with_cycle}
-use Rattle.fifo_table.specs.declared.channel.TableChannel.{TableChannel}
+use Rattle.fifo_table.specs.{declared.channel.TableChannel.TableChannel, Roomed.RoomedChannels}
 use Rattle.fifo_table.specs.Channels.{Channel, IsFifo, channel_at}
-use Rattle.fifo_table.specs.Roomed.{RoomedChannels}
 use Rattle.event_timing.specs.Machines.{Design, IsDesign, ready}
-use Rattle.event_timing.specs.Core.{Core, has_query, opening_core}
-use Rattle.event_timing.specs.Agreement.{AreOwnMarks}
+use Rattle.event_timing.specs.{Core.Core, Core.has_query, Core.opening_core, Agreement.AreOwnMarks, Edits.edited, Edits.after_edit}
 use Rattle.event_timing.specs.Actions.{MayRun, newest, emit_over, emit_step, after_run, after_assign}
-use Rattle.event_timing.specs.Edits.{edited, after_edit}
-use Rattle.event_timing.proofs.Assigning.{assign_marks, put_at_other}
-use Rattle.event_timing.proofs.Editing.{edit_marks, kept_le}
-use Rattle.event_timing.proofs.Running.{run_marks}
-use Rattle.engine_view.specs.Held.{Held, emitted_of, core_of}
-use Rattle.engine_view.specs.Shown.{IsSound, queries_before}
-use Rattle.engine_view.specs.Kept.{IsKept, IsNow}
-use Rattle.engine_view.specs.Opened.{opening_held, AreKinds}
-use Rattle.engine_view.specs.Emitted.{IsNextStep, with_emitted, with_over}
-use Rattle.engine_view.specs.Timed.{with_timed}
-use Rattle.engine_view.specs.Edited.{IsCut}
-use Rattle.engine_view.specs.Rooms.{room_of, pending, HasRoom}
-use Rattle.engine_view.proofs.Assigned.{assigned_core, assigned_sound}
-use Rattle.engine_view.proofs.Edited.{edited_core}
-use Rattle.engine_view.proofs.Emitted.{emitted_core}
-use Rattle.engine_view.proofs.Ended.{over_core}
-use Rattle.engine_view.proofs.Knowing.{timed_within}
-use Rattle.engine_view.proofs.Opened.{opening_core_is}
-use Rattle.engine_view.proofs.Answered.{steps_only}
-use Rattle.engine_view.proofs.Roomy.{pending_same, room_on}
+use Rattle.event_timing.proofs.{Assigning.assign_marks, Assigning.put_at_other, Editing.edit_marks, Editing.kept_le, Running.run_marks}
+use Rattle.engine_view.specs.{Held.Held, Held.emitted_of, Held.core_of, Shown.IsSound, Shown.queries_before, Kept.IsKept, Kept.IsNow}
+use Rattle.engine_view.specs.{Opened.opening_held, Opened.AreKinds, Emitted.IsNextStep, Emitted.with_emitted, Emitted.with_over}
+use Rattle.engine_view.specs.{Timed.with_timed, Edited.IsCut, Rooms.room_of, Rooms.pending, Rooms.HasRoom}
+use Rattle.engine_view.proofs.{Assigned.assigned_core, Assigned.assigned_sound, Edited.edited_core, Emitted.emitted_core, Ended.over_core}
+use Rattle.engine_view.proofs.{Knowing.timed_within, Opened.opening_core_is, Answered.steps_only, Roomy.pending_same, Roomy.room_on}
 
 -- the steps with a cycle are verified
 abbrev AreVerified : {S : Type 0} → Core S → Type 0

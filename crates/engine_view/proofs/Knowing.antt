@@ -1,35 +1,26 @@
 -- When an access is possible, by the graph and the table, is what the theory knows of it.
 use Rattle.std.proofs.Common.{◌≡◌, refl, sym, ap, ◌∙◌, ℕ, suc, ◌+◌, ◌-◌, ◌<◌, ◌≤◌, false, List, length, get_or, Option, None, Some, arith}
 use Rattle.std.proofs.Common.{inl, inr, slice_get, slice_index_or}
-use Rattle.std.specs.Prelude.{All}
-use Rattle.std.proofs.lemmas.Bool.Decides.{nat_tests}
+use Rattle.std.proofs.{lemmas.Bool.Decides.nat_tests, lemmas.List.get_or_past}
 use Rattle.std.proofs.lemmas.Bool.{cases_lt, lt-ltb, le-ltb, le-leb, lt-leb}
 use Rattle.std.proofs.lemmas.Option.{slice_get_cases, slice_get-get_or, slice_get_past}
-use Rattle.flow_word.specs.Kinds.{other_side, side_of}
-use Rattle.flow_word.specs.declared.access.Side.{Side}
-use Rattle.flow_word.specs.declared.access.Side.TheVariants.{Pop, Push}
-use Rattle.flow_word.specs.declared.access.Access.{Access}
-use Rattle.flow_word.specs.declared.access.Place.{Place}
+use Rattle.std.specs.Prelude.{All}
+use Rattle.flow_word.specs.{Kinds.other_side, Kinds.side_of, declared.access.Side.Side, declared.access.Side.TheVariants.Pop}
+use Rattle.flow_word.specs.{declared.access.Side.TheVariants.Push, declared.access.Access.Access, declared.access.Place.Place}
 use Rattle.event_graph.specs.Lanes.{Lane, IsSoundLane, no_lane, lane_at, cycle_of}
-use Rattle.std.proofs.lemmas.List.{get_or_past}
-use Rattle.fifo_table.specs.declared.channel.TableChannel.{TableChannel}
+use Rattle.fifo_table.specs.{declared.channel.TableChannel.TableChannel, Enablers.event_at, Enablers.enabler_by}
 use Rattle.fifo_table.specs.declared.channel.TableChannel.TheVariants.{Source, Sink, Fifo}
 use Rattle.fifo_table.specs.Channels.{Channel, channel_at, places_of, lag_of, HasSide}
-use Rattle.fifo_table.specs.Enablers.{event_at, enabler_by}
 use Rattle.time_engine.specs.Possible.{lag, known_by, when_possible, enabler_at}
 use Rattle.time_engine.specs.Conditions.{IsAccess, HasAccesses}
-use Rattle.event_timing.specs.Machines.{Design, IsDesign, Reply}
-use Rattle.event_timing.specs.Machines as theory
-use Rattle.event_timing.specs.Views.{place, tally, View}
+use Rattle.event_timing.specs.{Machines.Design, Machines.IsDesign, Machines.Reply, Views.place, Views.tally, Views.View, Enablers.known}
+use Rattle.event_timing.specs.{Enablers.known_of, Enablers.from_step, Enablers.Known.From, Enablers.Known.Unknown}
 use Rattle.event_timing.specs.Core.{Core, core_accesses, core_tally, core_reply, view}
-use Rattle.event_timing.specs.Enablers.{known, known_of, from_step}
-use Rattle.event_timing.specs.Enablers.Known.{From, Unknown}
+use Rattle.event_timing.specs.Machines as theory
 use Rattle.event_timing.proofs.OwnRuns.{IsPlace, place_says, place_unique, tally_mono}
-use Rattle.event_timing.proofs.Fronts.{core_tally_is}
-use Rattle.event_timing.proofs.Threshold.{known_free, known_never}
+use Rattle.event_timing.proofs.{Fronts.core_tally_is, Threshold.known_free, Threshold.known_never}
 use Rattle.engine_view.specs.Held.{Held, step_of, no_step, emitted_of, seen, core_of}
-use Rattle.engine_view.specs.Shown.{Shows, IsSound, IsKind, IsTakenAt, AreTaken}
-use Rattle.engine_view.specs.Known.{as_known}
+use Rattle.engine_view.specs.{Shown.Shows, Shown.IsSound, Shown.IsKind, Shown.IsTakenAt, Shown.AreTaken, Known.as_known}
 
 -- ---- the step of an event
 

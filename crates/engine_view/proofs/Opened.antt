@@ -1,28 +1,20 @@
 -- What is held at first is the theory's opening core.
 use Rattle.std.proofs.Common.{◌≡◌, refl, sym, ap, ◌∙◌, ℕ, zero, suc, false, ltb, List, [], ◌++◌, length, get_or, replicate, arith}
 use Rattle.std.proofs.Common.{append-nil}
-use Rattle.std.specs.Prelude.{All}
-use Rattle.std.proofs.lemmas.Bool.{and_left, le-ltb}
+use Rattle.std.proofs.{lemmas.Bool.and_left, lemmas.Bool.le-ltb, lemmas.List.Elements.All-replicate}
 use Rattle.std.proofs.lemmas.List.{get_or_past, get_or-map, length-map, length-replicate}
-use Rattle.std.proofs.lemmas.List.Elements.{All-replicate}
-use Rattle.flow_word.specs.declared.access.Side.{Side}
-use Rattle.flow_word.specs.declared.access.Place.{Place}
+use Rattle.std.specs.Prelude.{All}
+use Rattle.flow_word.specs.{declared.access.Side.Side, declared.access.Place.Place}
 use Rattle.event_graph.specs.Lanes.{Lane, IsSoundLane, no_lane, lane_at}
-use Rattle.fifo_table.specs.declared.channel.TableChannel.{TableChannel}
-use Rattle.fifo_table.specs.declared.channel.TableChannel.TheVariants.{Sink}
+use Rattle.fifo_table.specs.{declared.channel.TableChannel.TableChannel, declared.channel.TableChannel.TheVariants.Sink}
 use Rattle.fifo_table.specs.Channels.{Channel, channel_at, unused, values_of, places_of}
 use Rattle.query_log.specs.Logs.{IsSoundLog, Log, log_at, no_log}
 use Rattle.time_engine.specs.Conditions.{IsAccess}
-use Rattle.event_timing.specs.Machines.{Design}
-use Rattle.event_timing.specs.Core.{Core, opening_core}
-use Rattle.event_timing.specs.Agreement.{AreOwnMarks}
-use Rattle.event_timing.proofs.OwnRuns.{tally_0}
-use Rattle.event_timing.proofs.Values.{pushed_in_0}
-use Rattle.engine_view.specs.Held.{Held, emitted_of, waited, core_of}
+use Rattle.event_timing.specs.{Machines.Design, Core.Core, Core.opening_core, Agreement.AreOwnMarks}
+use Rattle.event_timing.proofs.{OwnRuns.tally_0, Values.pushed_in_0}
+use Rattle.engine_view.specs.{Held.Held, Held.emitted_of, Held.waited, Held.core_of, Opened.opening_held, Opened.AreKinds}
 use Rattle.engine_view.specs.Shown.{Shows, IsSound, AreTaken, AreWhole, queries_before}
-use Rattle.engine_view.specs.Opened.{opening_held, AreKinds}
-use Rattle.engine_view.proofs.Placing.{places_from}
-use Rattle.engine_view.proofs.Reading.{IsRead, read_sound}
+use Rattle.engine_view.proofs.{Placing.places_from, Reading.IsRead, Reading.read_sound}
 
 pub copy_at : {X : Type 0} (n k : ℕ) (x : X) → get_or (replicate n x) k x ≡ x
 copy_at zero k x = refl

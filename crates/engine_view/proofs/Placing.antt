@@ -1,18 +1,14 @@
 -- The places of what is taken are those of steps.
 use Rattle.std.proofs.Common.{◌≡◌, refl, sym, ap, ◌∙◌, suc, subst, ℕ, ◌<◌, List, length, get_or, arith, inl, inr}
+use Rattle.std.proofs.{lemmas.Bool.cases_lt, lemmas.List.get_or_past, lemmas.List.get_or_default}
 use Rattle.std.specs.Prelude.{All}
-use Rattle.std.proofs.lemmas.Bool.{cases_lt}
-use Rattle.std.proofs.lemmas.List.{get_or_past, get_or_default}
-use Rattle.flow_word.specs.declared.access.Side.{Side}
-use Rattle.flow_word.specs.declared.access.Place.{Place}
+use Rattle.flow_word.specs.{declared.access.Side.Side, declared.access.Place.Place}
 use Rattle.fifo_table.specs.declared.channel.TableChannel.TheVariants.{Sink}
 use Rattle.fifo_table.specs.Channels.{Channel, channel_at, unused, places_of}
 use Rattle.event_graph.specs.Lanes.{Lane, HasStep, no_lane, lane_at}
 use Rattle.time_engine.specs.Conditions.{HasPlaces}
-use Rattle.event_timing.specs.Machines.{Design}
-use Rattle.event_timing.specs.Core.{Core, core_tally}
-use Rattle.engine_view.specs.Held.{Held, emitted_of}
-use Rattle.engine_view.specs.Shown.{AreTaken}
+use Rattle.event_timing.specs.{Machines.Design, Core.Core, Core.core_tally}
+use Rattle.engine_view.specs.{Held.Held, Held.emitted_of, Shown.AreTaken}
 
 place_has : (lanes : List Lane) (p : Place) → p.step < length (lane_at lanes p.module).steps → HasStep lanes p
 place_has lanes p l = record {

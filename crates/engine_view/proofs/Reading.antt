@@ -1,26 +1,19 @@
 -- A core that is shown by what is held, and whose marks are those of its modules' own runs, is the one that is read off.
-use Rattle.std.proofs.Common.{◌≡◌, refl, sym, ap, ap₂, ◌∙◌, ℕ, zero, suc, ◌-◌, ◌<◌, ◌≤◌, Bool, false, cond, List, [], ◌∷◌, length}
-use Rattle.std.proofs.Common.{map, get_or, arith}
-use Rattle.std.proofs.lemmas.Bool.Decides.{nat_tests}
+use Rattle.std.proofs.Common.{◌≡◌, refl, sym, ap, ap₂, ◌∙◌, ℕ, zero, suc, ◌-◌, ◌<◌, ◌≤◌, Bool, false, cond, List, [], ◌∷◌, length, map}
+use Rattle.std.proofs.Common.{get_or, arith}
+use Rattle.std.proofs.{lemmas.Bool.Decides.nat_tests, lemmas.List.Elements.All-head, lemmas.List.Elements.All-tail}
 use Rattle.std.specs.Prelude.{All}
-use Rattle.std.proofs.lemmas.List.Elements.{All-head, All-tail}
-use Rattle.flow_word.specs.Kinds.{side_of}
-use Rattle.flow_word.specs.declared.access.Side.{Side}
-use Rattle.flow_word.specs.declared.access.Side.TheVariants.{Pop}
-use Rattle.flow_word.specs.declared.access.Access.{Access}
+use Rattle.flow_word.specs.{Kinds.side_of, declared.access.Side.Side, declared.access.Side.TheVariants.Pop, declared.access.Access.Access}
 use Rattle.event_graph.specs.Lanes.{lane_at}
 use Rattle.fifo_table.specs.Channels.{Channel}
 use Rattle.query_log.specs.Logs.{log_at}
 use Rattle.event_timing.specs.Machines as theory
-use Rattle.event_timing.specs.Machines.{Design, Reply, ready}
-use Rattle.event_timing.specs.Views.{own}
+use Rattle.event_timing.specs.{Machines.Design, Machines.Reply, Machines.ready, Views.own, Agreement.AreOwnMarks}
 use Rattle.event_timing.specs.Core.{Core, core_tally, core_values, core_reply, replies_of, pops_now}
-use Rattle.event_timing.specs.Agreement.{AreOwnMarks}
 use Rattle.event_timing.proofs.OwnRuns.{own_0, own_more, same_side_is}
 use Rattle.engine_view.specs.Held.{Held, step_of, emitted_of, seen, flags_of, has_all, values_at, replies_by, replies_at, waited, core_of}
 use Rattle.engine_view.specs.Shown.{Shows, IsSound}
-use Rattle.engine_view.proofs.Cores.{same_core}
-use Rattle.engine_view.proofs.Knowing.{shown_inside}
+use Rattle.engine_view.proofs.{Cores.same_core, Knowing.shown_inside}
 
 -- ---- replies
 

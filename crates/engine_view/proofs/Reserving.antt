@@ -1,11 +1,9 @@
 -- The loop that makes room at a module's ports.
 use Rattle.std.proofs.Common.{◌≡◌, refl, ◌∙◌, ℕ, ◌+◌, ◌<◌, ◌≤◌, List, length, take, arith}
-use Rattle.std.specs.Prelude.{All}
-use Rattle.std.proofs.lemmas.List.{take_more, take_all}
+use Rattle.std.proofs.{lemmas.List.take_more, lemmas.List.take_all, Math.ListN.get_or}
 use Rattle.std.proofs.lemmas.List.Elements.{All-push, All-weaker}
-use Rattle.std.proofs.Math.ListN.{get_or}
-use Rattle.flow_word.specs.declared.access.Port.{Port}
-use Rattle.flow_word.specs.declared.access.Side.{Side}
+use Rattle.std.specs.Prelude.{All}
+use Rattle.flow_word.specs.{declared.access.Port.Port, declared.access.Side.Side}
 use Rattle.fifo_table.specs.Roomed.{RoomedChannels}
 use Rattle.engine_view.specs.Rooms.{room_of}
 

@@ -1,37 +1,24 @@
 -- An Answer with no recorded outcomes: what the code needs, and what it leaves.
-use Rattle.std.proofs.Common.{◌≡◌, refl, sym, ap, subst, ◌∙◌, ℕ, suc, ◌+◌, ◌-◌, ◌<◌, ◌≤◌, Bool, true, cond, List, length, drop}
-use Rattle.std.proofs.Common.{get_or, map, arith, eqb, ap₂}
+use Rattle.std.proofs.Common.{◌≡◌, refl, sym, ap, subst, ◌∙◌, ℕ, suc, ◌+◌, ◌-◌, ◌<◌, ◌≤◌, Bool, true, cond, List, length, drop, get_or, map}
+use Rattle.std.proofs.Common.{arith, eqb, ap₂}
+use Rattle.std.proofs.{lemmas.Bool.or_right, lemmas.Bool.Decides.nat_tests, lemmas.Option.get_or_from_slice_get}
 use Rattle.std.specs.Prelude.{All, slice_get, Some}
-use Rattle.std.proofs.lemmas.Bool.{or_right}
-use Rattle.std.proofs.lemmas.Bool.Decides.{nat_tests}
-use Rattle.std.proofs.lemmas.Option.{get_or_from_slice_get}
-use Rattle.flow_word.specs.declared.access.Side.{Side}
-use Rattle.flow_word.specs.declared.access.Access.{Access}
-use Rattle.flow_word.specs.declared.access.Step.{Step}
-use Rattle.fifo_table.specs.Channels.{Channel}
-use Rattle.fifo_table.specs.Roomed.{RoomedChannels}
+use Rattle.flow_word.specs.{declared.access.Side.Side, declared.access.Access.Access, declared.access.Step.Step}
+use Rattle.fifo_table.specs.{Channels.Channel, Roomed.RoomedChannels}
 use Rattle.event_graph.specs.Lanes.{lane_at, no_lane}
 use Rattle.query_log.specs.Logs.{Log, log_at, no_log, with_outcomes}
 use Rattle.time_engine.specs.Conditions.{IsAccess}
 use Rattle.event_timing.specs.Machines as theory
 use Rattle.event_timing.specs.Machines.{Design, IsDesign, Each, takers}
-use Rattle.event_timing.specs.Core.{Core}
-use Rattle.event_timing.specs.Actions.{after_answer, new_flags}
+use Rattle.event_timing.specs.{Core.Core, Actions.after_answer, Actions.new_flags}
 use Rattle.event_timing.proofs.Assigning.{put_at_same, put_at_other}
 use Rattle.engine_view.specs.Held.{Held, held, step_of, no_step, emitted_of, seen, queries_in, core_of}
-use Rattle.engine_view.specs.Shown.{IsSound, queries_before}
-use Rattle.engine_view.specs.Known.{found_flags}
-use Rattle.engine_view.specs.Emitted.{place_of}
-use Rattle.engine_view.specs.Taking.{taken_all}
+use Rattle.engine_view.specs.{Shown.IsSound, Shown.queries_before, Known.found_flags, Emitted.place_of, Taking.taken_all, Turns.first_of}
 use Rattle.engine_view.specs.Answered.{outcomes_of, done_late, with_answered}
 use Rattle.engine_view.specs.Rooms.{query_bound, room_of, TakesAt, AreApart, HasRoomFor, StandAtOwn, CanTake, done_by, pending, HasRoom}
-use Rattle.engine_view.specs.Turns.{first_of}
-use Rattle.engine_view.proofs.Unsure.{IsFresh}
-use Rattle.engine_view.proofs.Taking.{all_length}
-use Rattle.engine_view.proofs.Deciding.{flags_are}
+use Rattle.engine_view.proofs.{Unsure.IsFresh, Taking.all_length, Deciding.flags_are, Adding.done_later}
 use Rattle.engine_view.proofs.Answered.{queries_step, answered_core, last, verified_least, recorded_most, new_length, same_queries}
 use Rattle.engine_view.proofs.Answered.{flags_here, log_now, log_else}
-use Rattle.engine_view.proofs.Adding.{done_later}
 use Rattle.engine_view.proofs.Roomy.{apart_of, own_for, room_for, free_side, pending_same}
 
 module _ {S : Type 0} {d : Design S} {h : Held} {m : ℕ} (f : IsFresh d h m) (c : ℕ) where

@@ -1,33 +1,23 @@
 -- Room stays while modules act.
-use Rattle.std.proofs.Common.{◌≡◌, refl, sym, ap, subst, ◌∙◌, ℕ, zero, suc, ◌+◌, ◌-◌, ◌*◌, ◌<◌, ◌≤◌, Bool, true, false}
-use Rattle.std.proofs.Common.{List, [], ◌∷◌, length, map, get_or, set, arith}
+use Rattle.std.proofs.Common.{◌≡◌, refl, sym, ap, subst, ◌∙◌, ℕ, zero, suc, ◌+◌, ◌-◌, ◌*◌, ◌<◌, ◌≤◌, Bool, true, false, List, [], ◌∷◌}
+use Rattle.std.proofs.Common.{length, map, get_or, set, arith}
+use Rattle.std.proofs.{lemmas.Bool.Decides.nat_tests, lemmas.List.get_or-set_same, lemmas.List.get_or-set_other, lemmas.Bool.cond-false}
 use Rattle.std.specs.Prelude.{All}
-use Rattle.std.proofs.lemmas.Bool.Decides.{nat_tests}
-use Rattle.std.proofs.lemmas.List.{get_or-set_same, get_or-set_other}
-use Rattle.flow_word.specs.Kinds.{side_of, same_side}
-use Rattle.flow_word.specs.declared.access.Side.{Side}
+use Rattle.flow_word.specs.{Kinds.side_of, Kinds.same_side, declared.access.Side.Side, declared.access.Step.Step}
 use Rattle.flow_word.specs.declared.access.Access.{Access}
-use Rattle.flow_word.specs.declared.access.Step.{Step}
-use Rattle.fifo_table.specs.Roomed.{RoomedChannels}
-use Rattle.fifo_table.specs.Channels.{Channel}
+use Rattle.fifo_table.specs.{Roomed.RoomedChannels, Channels.Channel}
 use Rattle.query_log.specs.Logs.{log_at}
 use Rattle.time_engine.specs.Conditions.{IsAccess}
 use Rattle.event_timing.specs.Machines as theory
 use Rattle.event_timing.specs.Machines.{Design, IsDesign, Each, ready, takers, takes_at}
-use Rattle.event_timing.specs.Core.{Core}
-use Rattle.event_timing.specs.Agreement.{AreOwnMarks}
-use Rattle.event_timing.specs.Actions.{MayRun, newest, emit_step}
+use Rattle.event_timing.specs.{Core.Core, Agreement.AreOwnMarks, Actions.MayRun, Actions.newest, Actions.emit_step}
 use Rattle.event_timing.proofs.Assigning.{put_same, put_other, put_at_other}
 use Rattle.engine_view.specs.Held.{Held, step_of, emitted_of, seen, queries_in, are_among, core_of, held}
-use Rattle.engine_view.specs.Shown.{IsSound, queries_before}
+use Rattle.engine_view.specs.{Shown.IsSound, Shown.queries_before, declared.engine.Engine.Engine, Engines.held_in}
 use Rattle.engine_view.specs.Emitted.{IsNextStep, with_emitted, place_of, done_at_once}
-use Rattle.engine_view.specs.declared.engine.Engine.{Engine}
-use Rattle.engine_view.specs.Engines.{held_in}
 use Rattle.engine_view.specs.Rooms.{query_bound, room_of, TakesAt, AreApart, HasRoomFor, StandAtOwn, UsesRoom, pending, HasRoom, IsRoomy}
-use Rattle.engine_view.proofs.Taking.{all_length}
-use Rattle.engine_view.proofs.Emitted.{there, queries_same, emitted_core}
+use Rattle.engine_view.proofs.{Taking.all_length, Emitted.there, Emitted.queries_same, Emitted.emitted_core}
 use Rattle.engine_view.proofs.Answered.{queries_step, queries_zero, all_among}
-use Rattle.std.proofs.lemmas.Bool.{cond-false}
 
 -- ---- accesses of a step
 

@@ -3,10 +3,8 @@ use Rattle.std.specs.Prelude.{◌≡◌, ℕ, min, map, length, All}
 use Rattle.event_graph.specs.Lanes.{IsSoundLane, timed_below}
 use Rattle.fifo_table.specs.Channels.{with_depth}
 use Rattle.query_log.specs.Logs.{IsSoundLog, log_at}
-use Rattle.event_timing.specs.Machines.{Design}
-use Rattle.event_timing.specs.Edits.{kept}
-use Rattle.engine_view.specs.Held.{Held, core_of}
-use Rattle.engine_view.specs.Shown.{queries_before}
+use Rattle.event_timing.specs.{Machines.Design, Edits.kept}
+use Rattle.engine_view.specs.{Held.Held, Held.core_of, Shown.queries_before}
 
 -- g is what is held of h after the cut: cycles from clock t on are forgotten, the FIFO has the new depth, and the outcomes of all
 -- steps without a cycle are assumed

@@ -1,17 +1,11 @@
 -- What a Run adds to what is held.
 use Rattle.std.specs.Prelude.{◌≡◌, ℕ, suc, ◌<◌, ◌≤◌, Bool, true, List, map, slice_set, All}
-use Rattle.flow_word.specs.Kinds.{is_blocking, side_of}
+use Rattle.flow_word.specs.{Kinds.is_blocking, Kinds.side_of, declared.access.Step.Step, declared.access.Place.Place}
 use Rattle.flow_word.specs.declared.access.Access.{Access}
-use Rattle.flow_word.specs.declared.access.Step.{Step}
-use Rattle.flow_word.specs.declared.access.Place.{Place}
 use Rattle.event_graph.specs.Lanes.{IsSoundStep, with_step}
 use Rattle.time_engine.specs.Conditions.{IsAccess}
-use Rattle.event_timing.specs.Machines.{Design, ready}
-use Rattle.event_timing.specs.Core.{core_tally}
-use Rattle.event_timing.specs.Actions.{newest}
-use Rattle.engine_view.specs.Held.{Held, emitted_of, seen, waited, core_of}
-use Rattle.engine_view.specs.Shown.{queries_before}
-use Rattle.engine_view.specs.Taking.{taken_all}
+use Rattle.event_timing.specs.{Machines.Design, Machines.ready, Core.core_tally, Actions.newest}
+use Rattle.engine_view.specs.{Held.Held, Held.emitted_of, Held.seen, Held.waited, Held.core_of, Shown.queries_before, Taking.taken_all}
 
 -- which of these accesses are done as soon as their step is emitted: those that block
 abbrev pub done_at_once : List Access → List Bool

@@ -1,7 +1,6 @@
 -- What an engine holds, as the code has it.
 use Rattle.std.specs.Prelude.{Bool, List}
-use Rattle.engine_view.specs.declared.engine.Engine.{Engine}
-use Rattle.engine_view.specs.Held.{Held, held}
+use Rattle.engine_view.specs.{declared.engine.Engine.Engine, Held.Held, Held.held}
 
 -- what an engine holds, with the marks of modules that are over, which it does not keep itself
 abbrev pub held_in : Engine → List Bool → Held

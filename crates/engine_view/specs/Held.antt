@@ -2,17 +2,13 @@
 use Rattle.std.specs.Prelude.{ℕ, zero, suc, ◌+◌, ◌-◌, Bool, true, false, cond, not, ◌&&◌, ◌||◌, eqb, leb, ltb, List, [], ◌∷◌, length, drop}
 use Rattle.std.specs.Prelude.{filter, get_or, slice_get, slice_index_or, Option, None, Some}
 use Rattle.flow_word.specs.Kinds.{side_of, is_blocking, is_taking}
-use Rattle.flow_word.specs.declared.access.Access.{Access}
-use Rattle.flow_word.specs.declared.access.Kind.{Kind}
-use Rattle.flow_word.specs.declared.access.Step.{Step}
+use Rattle.flow_word.specs.{declared.access.Access.Access, declared.access.Kind.Kind, declared.access.Step.Step}
 use Rattle.event_graph.specs.Lanes.{Lane, lane_at}
 use Rattle.fifo_table.specs.Channels.{Channel, channel_at, values_of}
 use Rattle.query_log.specs.Logs.{Log, log_at}
 use Rattle.query_resolve.specs.Decisions.{late_outcome}
-use Rattle.event_timing.specs.Machines.{Design, ready}
+use Rattle.event_timing.specs.{Machines.Design, Machines.ready, Views.own, Core.Core, Core.pops_now}
 use Rattle.event_timing.specs.Machines as theory
-use Rattle.event_timing.specs.Views.{own}
-use Rattle.event_timing.specs.Core.{Core, pops_now}
 
 -- ---- what is held
 

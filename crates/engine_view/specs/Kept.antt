@@ -1,10 +1,7 @@
 -- What is held, with all that a turn needs of it.
 use Rattle.std.specs.Prelude.{◌≡◌, ℕ, ◌<◌, true}
-use Rattle.event_timing.specs.Machines.{Design}
-use Rattle.event_timing.specs.Core.{Core}
-use Rattle.event_timing.specs.Agreement.{AreOwnMarks}
-use Rattle.engine_view.specs.Held.{Held, core_of}
-use Rattle.engine_view.specs.Shown.{IsSound}
+use Rattle.event_timing.specs.{Machines.Design, Core.Core, Agreement.AreOwnMarks}
+use Rattle.engine_view.specs.{Held.Held, Held.core_of, Shown.IsSound}
 
 -- what is held is kept for the design: it is a core of the design, its marks are those of own runs, and its steps with a cycle are
 -- verified

@@ -2,13 +2,11 @@
 use Rattle.std.specs.Prelude.{◌≡◌, ℕ, ◌<◌, false, List, [], length, map, get_or, replicate}
 use Rattle.flow_word.specs.declared.access.Side.{Side}
 use Rattle.event_graph.specs.Lanes.{no_lane}
-use Rattle.fifo_table.specs.declared.channel.TableChannel.{TableChannel}
-use Rattle.fifo_table.specs.declared.channel.TableChannel.TheVariants.{Sink}
+use Rattle.fifo_table.specs.{declared.channel.TableChannel.TableChannel, declared.channel.TableChannel.TheVariants.Sink}
 use Rattle.fifo_table.specs.Channels.{unused, values_of, lag_of}
 use Rattle.query_log.specs.Logs.{no_log}
 use Rattle.event_timing.specs.Machines.{Design}
-use Rattle.engine_view.specs.Held.{Held}
-use Rattle.engine_view.specs.Shown.{IsKind}
+use Rattle.engine_view.specs.{Held.Held, Shown.IsKind}
 
 -- what is held of n modules before anything is emitted
 abbrev pub opening_held : ℕ → List TableChannel → Held

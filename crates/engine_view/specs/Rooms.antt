@@ -1,26 +1,17 @@
 -- Room for the pushes, pops and outcomes of further steps.
-use Rattle.std.specs.Prelude.{◌≡◌, ◌≢◌, ℕ, ◌+◌, ◌-◌, ◌*◌, ◌^◌, ◌<◌, ◌≤◌, Bool, true, cond, not, eqb, ◌&&◌, ◌||◌, List, []}
-use Rattle.std.specs.Prelude.{◌∷◌, length, drop, slice_get, slice_index, slice_set, All, Some}
+use Rattle.std.specs.Prelude.{◌≡◌, ◌≢◌, ℕ, ◌+◌, ◌-◌, ◌*◌, ◌^◌, ◌<◌, ◌≤◌, Bool, true, cond, not, eqb, ◌&&◌, ◌||◌, List, [], ◌∷◌, length}
+use Rattle.std.specs.Prelude.{drop, slice_get, slice_index, slice_set, All, Some}
 use Rattle.flow_word.specs.Kinds.{side_of, is_blocking, is_taking}
-use Rattle.flow_word.specs.declared.access.Access.{Access}
-use Rattle.flow_word.specs.declared.access.Port.{Port}
-use Rattle.flow_word.specs.declared.access.Side.{Side}
+use Rattle.flow_word.specs.{declared.access.Access.Access, declared.access.Port.Port, declared.access.Side.Side, declared.access.Step.Step}
 use Rattle.flow_word.specs.declared.access.Side.TheVariants.{Pop, Push}
-use Rattle.flow_word.specs.declared.access.Step.{Step}
-use Rattle.event_graph.specs.Lanes.{lane_at, with_step, IsSoundStep, IsSoundLane}
-use Rattle.event_graph.specs.Roomed.{UsesPlace}
-use Rattle.fifo_table.specs.Channels.{Channel, AreAllOf, channel_at, places_of}
-use Rattle.fifo_table.specs.Roomed.{RoomedChannels}
+use Rattle.event_graph.specs.{Lanes.lane_at, Lanes.with_step, Lanes.IsSoundStep, Lanes.IsSoundLane, Roomed.UsesPlace}
+use Rattle.fifo_table.specs.{Channels.Channel, Channels.AreAllOf, Channels.channel_at, Channels.places_of, Roomed.RoomedChannels}
 use Rattle.query_log.specs.Logs.{log_at}
 use Rattle.time_engine.specs.Conditions.{IsAccess}
-use Rattle.event_timing.specs.Machines.{Design}
-use Rattle.event_timing.specs.Core.{Core}
+use Rattle.event_timing.specs.{Machines.Design, Core.Core}
 use Rattle.engine_view.specs.Held.{Held, emitted_of, possible_by, core_of}
-use Rattle.engine_view.specs.Shown.{queries_before}
-use Rattle.engine_view.specs.declared.engine.Engine.{Engine}
-use Rattle.engine_view.specs.Engines.{held_in}
+use Rattle.engine_view.specs.{Shown.queries_before, declared.engine.Engine.Engine, Engines.held_in, Taking.taken_all, Taking.kinds_in}
 use Rattle.engine_view.specs.Emitted.{done_at_once, place_of}
-use Rattle.engine_view.specs.Taking.{taken_all, kinds_in}
 
 -- ---- the accesses of a step
 

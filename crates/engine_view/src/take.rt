@@ -1,12 +1,10 @@
 //! The pushes and pops of a step's accesses.
 ghost use Rattle.std.specs.Prelude.{◌≡◌, ℕ, ◌+◌, ◌<◌, ◌≤◌, ◌^◌, true, cond, not, ◌&&◌, length, drop, All};
-ghost use Rattle.flow_word.specs.Kinds.{side_of, is_blocking, is_taking};
-ghost use Rattle.flow_word.specs.declared.access.Side.{Side as side_type};
+ghost use Rattle.flow_word.specs.{Kinds.side_of, Kinds.is_blocking, Kinds.is_taking, declared.access.Side.Side as side_type};
 ghost use Rattle.fifo_table.specs.Channels.{AreAllOf, channel_at, places_of};
 ghost use Rattle.query_log.specs.Logs.{log_at, outcome_of};
 ghost use Rattle.time_engine.specs.Conditions.{IsAccess};
-ghost use Rattle.engine_view.specs.Held.{possible_by};
-ghost use Rattle.engine_view.specs.Taking.{taken_by, taken_all, kinds_in};
+ghost use Rattle.engine_view.specs.{Held.possible_by, Taking.taken_by, Taking.taken_all, Taking.kinds_in};
 ghost use Rattle.engine_view.specs.Rooms.{room_of, TakesAt, CanTake, done_by};
 
 use event_graph::{Access, Kind, Place};

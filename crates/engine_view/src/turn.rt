@@ -1,13 +1,9 @@
 //! A turn at one module.
 ghost use Rattle.std.specs.Prelude.{◌≡◌, ℕ, ◌+◌, ◌<◌, ◌≤◌, true, length, All};
-ghost use Rattle.event_graph.specs.Lanes.{cycle_bound, with_cycle};
-ghost use Rattle.event_graph.specs.Packed.{whole};
-ghost use Rattle.time_engine.specs.Conditions.{IsAccess, HasPlaces};
-ghost use Rattle.time_engine.specs.Possible.{when_possible};
+ghost use Rattle.event_graph.specs.{Lanes.cycle_bound, Lanes.with_cycle, Packed.whole};
+ghost use Rattle.time_engine.specs.{Conditions.IsAccess, Conditions.HasPlaces, Possible.when_possible};
 ghost use Rattle.event_timing.specs.Enablers.{is_decided as decided};
-ghost use Rattle.engine_view.specs.Held.{queries_in, are_among};
-ghost use Rattle.engine_view.specs.Known.{as_known, are_decided};
-ghost use Rattle.engine_view.specs.Taking.{kinds_in};
+ghost use Rattle.engine_view.specs.{Held.queries_in, Held.are_among, Known.as_known, Known.are_decided, Taking.kinds_in};
 ghost use Rattle.engine_view.specs.Turns.{IsSomeCore, IsDue, MayTakeIn, HasTimed, KeepsRoom, lanes_behind, ticks_of, is_progress, left};
 
 use crate::engine::Engine;

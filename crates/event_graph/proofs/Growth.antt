@@ -1,17 +1,13 @@
 -- A lane stays sound with a step more, and a cut at a bound keeps what is below the bound.
-use Rattle.std.proofs.Common.{◌≡◌, refl, ℕ, ◌+◌, ◌<◌, ◌≤◌, Bool, true, false, List, [], ◌∷◌, ◌++◌, length, get_or, take, drop, map}
-use Rattle.std.proofs.Common.{arith}
-use Rattle.std.proofs.Math.ListN.{set}
-use Rattle.std.specs.Prelude.{All, filter}
-use Rattle.std.specs.List.Sorted.{IsPartitionPoint, IsStrictlyIncreasing, IsNonDecreasingBy}
-use Rattle.std.proofs.lemmas.List.Kept.{AllPairs-from_increasing}
-use Rattle.std.proofs.lemmas.Grind.{common_steps}
+use Rattle.std.proofs.Common.{◌≡◌, refl, ℕ, ◌+◌, ◌<◌, ◌≤◌, Bool, true, false, List, [], ◌∷◌, ◌++◌, length, get_or, take, drop, map, arith}
+use Rattle.std.proofs.{Math.ListN.set, lemmas.List.Kept.AllPairs-from_increasing, lemmas.Grind.common_steps}
 use Rattle.std.proofs.lemmas.List.{take-append-drop, length-append, map-set}
 use Rattle.std.proofs.lemmas.List.Elements.{All-nil, All-head, All-tail, All-push, All-set, filter-append}
+use Rattle.std.specs.Prelude.{All, filter}
+use Rattle.std.specs.List.Sorted.{IsPartitionPoint, IsStrictlyIncreasing, IsNonDecreasingBy}
 use Rattle.flow_word.specs.declared.access.Step.{Step}
-use Rattle.event_graph.specs.Lanes.{Lane, IsSoundStep, IsSoundLane}
+use Rattle.event_graph.specs.{Lanes.Lane, Lanes.IsSoundStep, Lanes.IsSoundLane, Roomed.RoomedLane, Roomed.rooms_of, Roomed.UsesPlace}
 use Rattle.flow_word.proofs.Changed.{shown_old, shown_new, shown_other}
-use Rattle.event_graph.specs.Roomed.{RoomedLane, rooms_of, UsesPlace}
 
 -- what holds of each but the first holds so with one more at the end
 rest_push : {X : Type 0} (P : X → Type 0) (xs : List X) (x : X) → All P (drop 1 xs) → (0 < length xs → P x) → All P (drop 1 (xs ++ x ∷ []))

@@ -1,12 +1,8 @@
 -- Which cycles are kept where those from a clock on are forgotten.
 use Rattle.std.proofs.Common.{◌≡◌, refl, ℕ, suc, zero, ◌<◌, Bool, true, false, List, [], ◌∷◌, length, map, nat_lt, arith, cond, inl, inr}
-use Rattle.std.specs.Prelude.{All, AllPairs, filter, slice_get}
-use Rattle.std.specs.List.Sorted.{IsStrictlyIncreasing}
-use Rattle.std.proofs.lemmas.Bool.Decides.{nat_tests}
-use Rattle.std.proofs.lemmas.List.{get_or_past}
-use Rattle.std.proofs.lemmas.Bool.{cases_lt}
-use Rattle.std.proofs.Math.ListN.{get_or-map}
+use Rattle.std.proofs.{lemmas.Bool.Decides.nat_tests, lemmas.List.get_or_past, lemmas.Bool.cases_lt, Math.ListN.get_or-map}
 use Rattle.std.proofs.lemmas.List.Kept.{AllPairs-from_increasing}
+use Rattle.std.specs.{Prelude.All, Prelude.AllPairs, Prelude.filter, Prelude.slice_get, List.Sorted.IsStrictlyIncreasing}
 use Rattle.flow_word.specs.declared.access.Place.{Place}
 use Rattle.event_graph.specs.Lanes.{Lane, IsSoundLane, no_lane, timed_below, if_below, lane_at, cycle_of}
 use Rattle.event_graph.proofs.Growth.{none_pass}

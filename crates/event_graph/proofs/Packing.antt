@@ -1,20 +1,16 @@
 -- A step more among those that are kept.
-use Rattle.std.proofs.Common.{◌≡◌, refl, subst, ap, ap₂, sym, ◌∙◌, ℕ, ◌+◌, ◌*◌, ◌/◌, ◌%◌, ◌^◌, ◌<◌, ◌≤◌, ◌==◌, ◌⊎◌}
-use Rattle.std.proofs.Common.{inl, inr, Bool, true, false, not, cond, List, [], ◌∷◌, ◌++◌, length, map, get_or, drop, arith, length-append}
-use Rattle.std.proofs.lemmas.List.{get_or_append_left}
-use Rattle.std.specs.Prelude.{All}
-use Rattle.std.specs.Int.{from_bool}
+use Rattle.std.proofs.Common.{◌≡◌, refl, subst, ap, ap₂, sym, ◌∙◌, ℕ, ◌+◌, ◌*◌, ◌/◌, ◌%◌, ◌^◌, ◌<◌, ◌≤◌, ◌==◌, ◌⊎◌, inl, inr, Bool, true}
+use Rattle.std.proofs.Common.{false, not, cond, List, [], ◌∷◌, ◌++◌, length, map, get_or, drop, arith, length-append}
+use Rattle.std.proofs.lemmas.List.{get_or_append_left, append-nil, map-append, drop-append-le, length-drop, drop_at}
 use Rattle.std.proofs.Math.Seq.{get_or-append_seam}
 use Rattle.std.proofs.lemmas.Bool.{both_ways, cases_Bool, cond_both, eqb-true, ne_eqb}
-use Rattle.std.proofs.lemmas.List.{append-nil, map-append, drop-append-le, length-drop, drop_at}
 use Rattle.std.proofs.lemmas.List.Elements.{All-head, All-tail, All-push}
-use Rattle.flow_word.specs.declared.access.Access.{Access}
-use Rattle.flow_word.specs.declared.access.Kind.{Kind}
+use Rattle.std.specs.{Prelude.All, Int.from_bool}
+use Rattle.flow_word.specs.{declared.access.Access.Access, declared.access.Kind.Kind, declared.access.Step.Step}
 use Rattle.flow_word.specs.declared.access.Kind.TheVariants.{Read, Write, TryRead, TryWrite, Empty, Full}
-use Rattle.flow_word.specs.declared.access.Step.{Step}
 use Rattle.event_graph.specs.declared.steps.Head.{Head}
-use Rattle.event_graph.specs.Words.{Fits, kind_of, code_of, is_kept, has_value, goes_on, upper, access_in, behind, accesses_in}
-use Rattle.event_graph.specs.Words.{HasAccess, word_of, words_of}
+use Rattle.event_graph.specs.Words.{Fits, kind_of, code_of, is_kept, has_value, goes_on, upper, access_in, behind, accesses_in, HasAccess}
+use Rattle.event_graph.specs.Words.{word_of, words_of}
 use Rattle.event_graph.specs.Packed.{nothing, opened, opened_at, packed, BeginsStep, IsInside, KeepsInside, IsKept}
 
 -- ---- what a step's words mean, by its word

@@ -1,12 +1,10 @@
 -- The accesses that a view holds.
 use Rattle.std.specs.Prelude.{◌≡◌, true, List, slice_index}
 use Rattle.flow_word.specs.declared.access.Access.{Access}
-use Rattle.event_graph.specs.declared.view.Held.{Held}
+use Rattle.event_graph.specs.{declared.view.Held.Held, declared.view.Listed.Listed, declared.view.Listed.TheVariants.Words}
 use Rattle.event_graph.specs.declared.view.Held.TheVariants.{One, Two, Slice}
-use Rattle.event_graph.specs.declared.view.Listed.{Listed}
-use Rattle.event_graph.specs.declared.view.Listed.TheVariants.{Words}
-use Rattle.event_graph.specs.declared.view.Listed.TheVariants as listed
 use Rattle.event_graph.specs.Words.{HasAccess, accesses_in, behind, goes_on}
+use Rattle.event_graph.specs.declared.view.Listed.TheVariants as listed
 
 abbrev pub accesses_of : Held → List Access
 accesses_of (One items) = items

@@ -1,15 +1,10 @@
 //! The lanes of all modules.
-ghost use Rattle.std.specs.Prelude.{◌≡◌, ℕ, ◌+◌, ◌<◌, ◌≤◌, ◌^◌, length, map, replicate, slice_get, slice_index, All, Some, IfSome};
-ghost use Rattle.std.specs.Prelude.{IsOk};
-ghost use Rattle.std.specs.Prelude.{IfOk, OnOk, OnErr};
-ghost use Rattle.std.specs.Option.{ForSome};
+ghost use Rattle.std.specs.Prelude.{◌≡◌, ℕ, ◌+◌, ◌<◌, ◌≤◌, ◌^◌, length, map, replicate, slice_get, slice_index, All, Some, IfSome, IsOk};
+ghost use Rattle.std.specs.Prelude.{IfOk, OnOk, OnErr, slice_set};
+ghost use Rattle.std.specs.{Option.ForSome, List.Sorted.IsStrictlyIncreasing};
 ghost use Rattle.event_graph.specs.Lanes.{no_lane, lane_at, last_cycle, cycle_bound, HasStep, IsSoundStep, IsSoundLane, with_step};
-ghost use Rattle.event_graph.specs.Lanes.{with_cycle, with_put, timed_below, if_below};
-ghost use Rattle.std.specs.Prelude.{slice_set};
-ghost use Rattle.std.specs.List.Sorted.{IsStrictlyIncreasing};
-ghost use Rattle.event_graph.specs.Lanes.{cycle_of as cycle_at};
-ghost use Rattle.event_graph.specs.Packed.{whole, in_lane, IsFewStep};
-ghost use Rattle.event_graph.specs.Roomed.{UsesPlace};
+ghost use Rattle.event_graph.specs.Lanes.{with_cycle, with_put, timed_below, if_below, cycle_of as cycle_at};
+ghost use Rattle.event_graph.specs.{Packed.whole, Packed.in_lane, Packed.IsFewStep, Roomed.UsesPlace};
 ghost use Rattle.flow_word.specs.declared.access.Place.{Place};
 
 use crate::lane::RoomyLane;

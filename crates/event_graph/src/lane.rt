@@ -1,9 +1,7 @@
 //! One module's lane, with its room.
 ghost use Rattle.std.specs.Prelude.{◌≡◌, ◌+◌, ◌<◌, ◌≤◌, ◌^◌, length, take, filter, nat_lt, slice_get, slice_set, Some, IsOk, OnOk, OnErr};
-ghost use Rattle.std.specs.Option.{ForSome};
-ghost use Rattle.std.specs.List.Sorted.{IsStrictlyIncreasing};
-ghost use Rattle.event_graph.specs.Lanes.{no_lane, last_cycle, cycle_bound, IsSoundStep, IsSoundLane, longer, timed, timed_below};
-ghost use Rattle.event_graph.specs.Lanes.{put_in};
+ghost use Rattle.std.specs.{Option.ForSome, List.Sorted.IsStrictlyIncreasing};
+ghost use Rattle.event_graph.specs.Lanes.{no_lane, last_cycle, cycle_bound, IsSoundStep, IsSoundLane, longer, timed, timed_below, put_in};
 ghost use Rattle.event_graph.specs.Packed.{whole, in_lane, IsFewStep};
 
 use crate::steps::StepList;

@@ -1,6 +1,6 @@
 //! The steps of a lane, each in as few bytes as it needs.
-ghost use Rattle.std.specs.Prelude.{◌≡◌, ◌+◌, ◌<◌, ◌≤◌, ◌^◌, [], ◌∷◌, ◌++◌, true, length, slice_get, slice_index, Some};
-ghost use Rattle.std.specs.Prelude.{◌⊎◌, All, IsOk, OnOk, OnErr};
+ghost use Rattle.std.specs.Prelude.{◌≡◌, ◌+◌, ◌<◌, ◌≤◌, ◌^◌, [], ◌∷◌, ◌++◌, true, length, slice_get, slice_index, Some, ◌⊎◌, All, IsOk};
+ghost use Rattle.std.specs.Prelude.{OnOk, OnErr};
 ghost use Rattle.event_graph.specs.Packed.{whole, in_lane, packed, IsFewStep, IsKept};
 ghost use Rattle.event_graph.specs.Words.{Fits, HasAccess, behind, accesses_in, goes_on as goes_on_by};
 

@@ -2,21 +2,14 @@
 use Rattle.std.proofs.Common.{◌≡◌, ℕ, zero, suc, ◌<◌, ◌≤◌, true, false, ◌⊎◌, inl, inr, List, [], ◌∷◌, sym, subst, arith, ltb, Some}
 use Rattle.std.proofs.lemmas.Bool.{ltb-false}
 use Rattle.event_timing.specs.Core.{values_there, core_reply, Core, opening_core, core_accesses, view}
-use Rattle.event_timing.specs.Views.{own, own_state}
-use Rattle.event_timing.specs.Machines.{ready, Design, IsDesign}
+use Rattle.event_timing.specs.{Views.own, Views.own_state, Machines.ready, Machines.Design, Machines.IsDesign, Histories.Trace}
+use Rattle.event_timing.specs.{Histories.IsHistory, Steps.done, Enablers.candidate, Enablers.IsStuck}
 use Rattle.event_timing.specs.Actions.{MayRun, Action, MayAnswer, MayEarliest, IsOpen, IsQuiet, Acts, ActsAll, after_answer, IsSame}
 use Rattle.event_timing.specs.Actions.{IsFinal, new_flags}
-use Rattle.event_timing.specs.Histories.{Trace, IsHistory}
-use Rattle.event_timing.specs.Steps.{done}
-use Rattle.event_timing.specs.Enablers.{candidate, IsStuck}
 use Rattle.event_timing.specs.Agreement.{AreOwnMarks, IsTimed, IsAgreed, possible_all}
-use Rattle.event_timing.proofs.OwnRuns.{own_0}
-use Rattle.event_timing.proofs.Fronts.{agrees}
-use Rattle.event_timing.proofs.Assigning.{assign_time, assign_marks}
-use Rattle.event_timing.proofs.Running.{run_marks, run_time}
-use Rattle.event_timing.proofs.Answering.{answer_marks, answer_time, first_emitted}
-use Rattle.event_timing.proofs.Candidate.{candidate_parts}
-use Rattle.event_timing.proofs.Earliest.{answers_right, earliest_right, nobody_ahead}
+use Rattle.event_timing.proofs.{OwnRuns.own_0, Fronts.agrees, Assigning.assign_time, Assigning.assign_marks, Running.run_marks}
+use Rattle.event_timing.proofs.{Running.run_time, Answering.answer_marks, Answering.answer_time, Answering.first_emitted}
+use Rattle.event_timing.proofs.{Candidate.candidate_parts, Earliest.answers_right, Earliest.earliest_right, Earliest.nobody_ahead}
 
 -- a module that may not run, though each reply to its newest step is there, is over
 pub run_ended : {S : Type 0} → (d : Design S) → IsDesign d → (x : Core S) → AreOwnMarks d x → (m : ℕ) → (MayRun d x m → ⊥)

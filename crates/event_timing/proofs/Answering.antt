@@ -5,23 +5,16 @@ use Rattle.std.proofs.Common.{arith, Some, append-nil}
 use Rattle.std.proofs.lemmas.Bool.{cases_Bool, cases_eq, ltb-true, or_left}
 use Rattle.flow_word.specs.declared.access.Side.TheVariants.{Push}
 use Rattle.event_timing.specs.Machines.{Design, IsDesign, Access, Reply, ready, values_in, took, takes_at, takers}
-use Rattle.event_timing.specs.Histories.{Trace, IsHistory}
-use Rattle.event_timing.specs.Steps.{steps, done}
+use Rattle.event_timing.specs.{Histories.Trace, Histories.IsHistory, Steps.steps, Steps.done, Views.Begins, Growth.Grows}
 use Rattle.event_timing.specs.Enablers.{Known, known_of, answer, flags_at, candidate}
-use Rattle.event_timing.specs.Views.{Begins}
 use Rattle.event_timing.specs.Core.{Core, bare_replies, core_accesses, core_pushed, core_values, view, no_outcomes}
 use Rattle.event_timing.specs.Agreement.{AreOwnMarks, IsTimed, elements_timed, possible_all, FlagsFit, HappensBefore}
 use Rattle.event_timing.specs.Actions.{after_answer, new_flags, IsSame}
-use Rattle.event_timing.specs.Growth.{Grows}
-use Rattle.event_timing.proofs.Steps.{same_clock}
-use Rattle.event_timing.proofs.Values.{begins_self, begins_behind, pushed_in_more, not_taken}
-use Rattle.event_timing.proofs.Candidate.{candidate_parts, candidate_steps, candidate_done}
-use Rattle.event_timing.proofs.Fronts.{agrees, pushed_same}
-use Rattle.event_timing.proofs.Growing.{settled_less, settled_old, settled_timed, own_grow, reply_grow, there_grow, ended_settled}
-use Rattle.event_timing.proofs.Growing.{elements_grow, pops_grow}
-use Rattle.event_timing.proofs.Assigning.{put_at_same, RightFlags, SureFlags}
-use Rattle.event_timing.proofs.Sure.{new_sure}
-use Rattle.event_timing.proofs.Running.{values_grow}
+use Rattle.event_timing.proofs.{Steps.same_clock, Values.begins_self, Values.begins_behind, Values.pushed_in_more, Values.not_taken}
+use Rattle.event_timing.proofs.{Candidate.candidate_parts, Candidate.candidate_steps, Candidate.candidate_done, Fronts.agrees}
+use Rattle.event_timing.proofs.{Fronts.pushed_same, Growing.settled_less, Growing.settled_old, Growing.settled_timed, Growing.own_grow}
+use Rattle.event_timing.proofs.{Growing.reply_grow, Growing.there_grow, Growing.ended_settled, Growing.elements_grow, Growing.pops_grow}
+use Rattle.event_timing.proofs.{Assigning.put_at_same, Assigning.RightFlags, Assigning.SureFlags, Sure.new_sure, Running.values_grow}
 
 -- ---- an outcome adds pushes behind those that are there
 

@@ -1,23 +1,17 @@
 -- Giving a cycle keeps agreement.
-use Rattle.std.proofs.lemmas.Bool.Decides.{nat_tests}
+use Rattle.std.proofs.{lemmas.Bool.Decides.nat_tests, lemmas.Bool.both_ways, lemmas.Bool.ltb-true}
 use Rattle.std.proofs.Common.{◌≡◌, ℕ, suc, ◌<◌, ◌≤◌, Bool, true, false, List, [], ◌∷◌, length, refl, arith}
-use Rattle.std.proofs.lemmas.Bool.{both_ways, ltb-true}
 use Rattle.flow_word.specs.declared.access.Side.TheVariants.{Pop, Push}
-use Rattle.event_timing.specs.Machines.{Design, IsDesign, Access}
+use Rattle.event_timing.specs.{Machines.Design, Machines.IsDesign, Machines.Access, Steps.steps, Steps.done, Enablers.Known}
+use Rattle.event_timing.specs.{Enablers.known_of, Enablers.flags_at, Actions.after_assign, Actions.put, Actions.put_at, Actions.MayAssign}
 use Rattle.event_timing.specs.Histories.{Trace, IsHistory, replies, can_all}
-use Rattle.event_timing.specs.Steps.{steps, done}
-use Rattle.event_timing.specs.Enablers.{Known, known_of, flags_at}
 use Rattle.event_timing.specs.Core.{Core, bare_replies, core_accesses, core_tally, core_values, all_below, core_reply, values_there, view}
 use Rattle.event_timing.specs.Core.{has_query}
 use Rattle.event_timing.specs.Agreement.{AreOwnMarks, IsTimed, elements_timed, pops_timed, possible_all, FlagsFit, HappensBefore}
-use Rattle.event_timing.specs.Actions.{after_assign, put, put_at, MayAssign}
 use Rattle.event_timing.proofs.Standing.{step_ready, moves_can, steps_moves}
-use Rattle.event_timing.proofs.OwnRuns.{rest_own, follows, tally_mono}
+use Rattle.event_timing.proofs.{OwnRuns.rest_own, OwnRuns.follows, OwnRuns.tally_mono, Fronts.agrees, Fronts.agrees_done, Fronts.IsDone}
+use Rattle.event_timing.proofs.{Growing.below_grow, Replying.replies_right, Replying.core_fronts, Sure.new_sure, Sure.sure_values}
 use Rattle.event_timing.proofs.Candidate.{candidate_parts, candidate_done, candidate_steps, candidate_ready}
-use Rattle.event_timing.proofs.Fronts.{agrees, agrees_done, IsDone}
-use Rattle.event_timing.proofs.Growing.{below_grow}
-use Rattle.event_timing.proofs.Replying.{replies_right, core_fronts}
-use Rattle.event_timing.proofs.Sure.{new_sure, sure_values}
 
 -- ---- functions with one value changed
 

@@ -1,25 +1,16 @@
 -- Actions let the core grow, and those without a Run of a module leave the module's marks as they were.
-use Rattle.std.proofs.lemmas.Bool.Decides.{nat_tests}
+use Rattle.std.proofs.{lemmas.Bool.Decides.nat_tests, lemmas.Bool.cases_eq}
 use Rattle.std.proofs.Common.{◌≡◌, refl, ap, ◌∙◌, ℕ, zero, suc, ◌⊎◌, inl, inr, Some, List, [], ◌∷◌, arith, ◌<◌, ◌≤◌}
-use Rattle.std.proofs.lemmas.Bool.{cases_eq}
 use Rattle.flow_word.specs.declared.access.Side.TheVariants.{Push}
-use Rattle.event_timing.specs.Machines.{Design, IsDesign, ready}
-use Rattle.event_timing.specs.Histories.{Trace, IsHistory}
-use Rattle.event_timing.specs.Views.{Begins}
+use Rattle.event_timing.specs.{Machines.Design, Machines.IsDesign, Machines.ready, Histories.Trace, Histories.IsHistory, Views.Begins}
+use Rattle.event_timing.specs.{Enablers.candidate, Agreement.AreOwnMarks, Agreement.IsAgreed, Growth.Grows, Growth.GrowsBeside}
 use Rattle.event_timing.specs.Core.{Core, bare_replies, core_accesses, core_values, view}
-use Rattle.event_timing.specs.Enablers.{candidate}
 use Rattle.event_timing.specs.Actions.{Action, Acts, ActsAll, MayRun, after_run, after_assign, after_answer, emit_over, newest, IsSame}
 use Rattle.event_timing.specs.Actions.{IsNoRunOf, runs}
-use Rattle.event_timing.specs.Agreement.{AreOwnMarks, IsAgreed}
-use Rattle.event_timing.specs.Growth.{Grows, GrowsBeside}
-use Rattle.event_timing.proofs.Agreement.{acts_agree, all_agree}
+use Rattle.event_timing.proofs.{Agreement.acts_agree, Agreement.all_agree, Assigning.put_other, Fronts.pushed_same, Growing.settled_all}
+use Rattle.event_timing.proofs.{RunningAhead.stays, RunningAhead.newest_stays, Values.begins_self, Values.begins_trans}
 use Rattle.event_timing.proofs.Answering.{answer_grows, first_emitted}
-use Rattle.event_timing.proofs.Assigning.{put_other}
-use Rattle.event_timing.proofs.Fronts.{pushed_same}
-use Rattle.event_timing.proofs.Growing.{settled_all}
 use Rattle.event_timing.proofs.Running.{emit, emit_grows, values_grow, run_marks, run_cases}
-use Rattle.event_timing.proofs.RunningAhead.{stays, newest_stays}
-use Rattle.event_timing.proofs.Values.{begins_self, begins_trans}
 
 pub grows_self : {S : Type 0} → (d : Design S) (x : Core S) → Grows d x x
 grows_self {S} d x = grind (arith, begins_self)

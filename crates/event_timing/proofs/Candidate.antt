@@ -4,12 +4,11 @@ use Rattle.std.proofs.Common.{◌≡◌, ℕ, zero, suc, ◌+◌, ◌-◌, ◌<�
 use Rattle.std.proofs.Common.{refl, ap, ap₂, ◌∙◌, arith, zero-add, leb, Some}
 use Rattle.std.proofs.lemmas.Bool.{cases_Bool, cond-true, cond-false, and_parts, both_ways, le-leb, leb-true}
 use Rattle.flow_word.specs.declared.access.Side.{Side}
-use Rattle.event_timing.specs.Machines.{Design, IsDesign, Access, Each, ready}
+use Rattle.event_timing.specs.{Machines.Design, Machines.IsDesign, Machines.Access, Machines.Each, Machines.ready, Steps.steps, Steps.done}
+use Rattle.event_timing.specs.{Steps.rest, Steps.since, Enablers.Known.From, Enablers.Known.Never, Enablers.Known.Unknown}
 use Rattle.event_timing.specs.Histories.{Trace, IsHistory, is_possible, can_all, can_do}
-use Rattle.event_timing.specs.Steps.{steps, done, rest, since}
 use Rattle.event_timing.specs.Views.{own, tally, View, Agrees, from, first_accesses, own_state}
 use Rattle.event_timing.specs.Enablers.{Known, known, known_of, both, bound, reach, candidate}
-use Rattle.event_timing.specs.Enablers.Known.{From, Never, Unknown}
 use Rattle.event_timing.proofs.Steps.{done_more, done_same, done_mono, since_more, since_same}
 use Rattle.event_timing.proofs.Standing.{early_no_step, late_ready, moves_can, moves_from, steps_moves, steps_from, since_0}
 use Rattle.event_timing.proofs.OwnRuns.{follows, rest_own, done_0, own_fits}

@@ -3,15 +3,11 @@ use Rattle.std.proofs.Common.{◌≡◌, ℕ, zero, suc, ◌<◌, ◌≤◌, max
 use Rattle.flow_word.specs.declared.access.Side.{Side}
 use Rattle.event_timing.specs.Machines.{Design, IsDesign, Access, ready}
 use Rattle.event_timing.specs.Histories.{Trace, IsHistory, is_possible, can_all}
-use Rattle.event_timing.specs.Steps.{steps, done}
-use Rattle.event_timing.specs.Views.{View, Agrees, from, first_accesses}
+use Rattle.event_timing.specs.{Steps.steps, Steps.done, Views.View, Views.Agrees, Views.from, Views.first_accesses, Agreement.possible_all}
 use Rattle.event_timing.specs.Enablers.{Known, known_of, reach, candidate, IsStuck, answer, is_decided, all_decided, flags_at}
-use Rattle.event_timing.specs.Agreement.{possible_all}
 use Rattle.event_timing.specs.Enablers.Known.{From, Never, Unknown}
-use Rattle.event_timing.proofs.Steps.{done_more, done_same, done_less}
+use Rattle.event_timing.proofs.{Steps.done_more, Steps.done_same, Steps.done_less, OwnRuns.done_0, Threshold.Means}
 use Rattle.event_timing.proofs.Standing.{step_ready, step_reached, moves_can, moves_lives, steps_moves}
-use Rattle.event_timing.proofs.OwnRuns.{done_0}
-use Rattle.event_timing.proofs.Threshold.{Means}
 use Rattle.event_timing.proofs.Candidate.{EachMeans, bound_found, first_means, candidate_from, candidate_done, candidate_steps}
 use Rattle.event_timing.proofs.Candidate.{candidate_ready, reach_then, rest_first}
 

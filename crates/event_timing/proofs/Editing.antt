@@ -1,21 +1,14 @@
 -- After an edit the cycles below the first touched clock stay.
-use Rattle.std.proofs.lemmas.Bool.Decides.{nat_tests}
+use Rattle.std.proofs.{lemmas.Bool.Decides.nat_tests, lemmas.Bool.both_ways}
 use Rattle.std.proofs.Common.{◌≡◌, ℕ, zero, suc, ◌-◌, ◌<◌, ◌≤◌, Bool, true, false, not, ◌&&◌, ◌||◌, List, [], ◌∷◌, map, sym, refl, ap, ap₂}
 use Rattle.std.proofs.Common.{◌∙◌, arith}
-use Rattle.std.proofs.lemmas.Bool.{both_ways}
 use mathlib.Core.Path.{fun_ext}
-use Rattle.event_timing.specs.Core.{values_there, Core, core_accesses, has_query}
-use Rattle.flow_word.specs.declared.access.Side.{Side}
-use Rattle.flow_word.specs.declared.access.Side.TheVariants.{Pop, Push}
-use Rattle.event_timing.specs.Machines.{Design, IsDesign, Access}
+use Rattle.event_timing.specs.{Core.values_there, Core.Core, Core.core_accesses, Core.has_query, Machines.Design, Machines.IsDesign}
+use Rattle.event_timing.specs.{Machines.Access, Steps.steps, Steps.done, Views.own, Agreement.AreOwnMarks, Agreement.IsTimed}
+use Rattle.event_timing.specs.{Agreement.IsAgreed, Edits.edited, Edits.IsUntouched, Edits.kept, Edits.kept_cycle, Edits.after_edit}
 use Rattle.event_timing.specs.Histories.{Trace, IsHistory, replies, reply_to, moves, is_possible, can_all}
-use Rattle.event_timing.specs.Steps.{steps, done}
-use Rattle.event_timing.specs.Views.{own}
-use Rattle.event_timing.specs.Agreement.{AreOwnMarks, IsTimed, IsAgreed}
-use Rattle.event_timing.specs.Edits.{edited, IsUntouched, kept, kept_cycle, after_edit}
-use Rattle.event_timing.proofs.Steps.{done_less}
-use Rattle.event_timing.proofs.Fronts.{IsDone}
-use Rattle.event_timing.proofs.Assigning.{can_emitted, plain_possible}
+use Rattle.flow_word.specs.{declared.access.Side.Side, declared.access.Side.TheVariants.Pop, declared.access.Side.TheVariants.Push}
+use Rattle.event_timing.proofs.{Steps.done_less, Fronts.IsDone, Assigning.can_emitted, Assigning.plain_possible}
 
 -- two runs that stand alike before clock c
 pub record Alike {S : Type 0} (h g : Trace S) (c : ℕ) : Type 0 where

@@ -2,21 +2,13 @@
 use Rattle.std.proofs.Common.{◌≡◌, ℕ, zero, suc, ◌+◌, ◌<◌, ◌≤◌, true, List, [], ◌∷◌, ◌++◌, sym, refl, ◌∙◌, arith}
 use Rattle.std.proofs.lemmas.Bool.{lt-ltb}
 use Rattle.flow_word.specs.declared.access.Side.TheVariants.{Push}
-use Rattle.event_timing.specs.Machines.{Design, IsDesign, Access, Each}
-use Rattle.event_timing.specs.Histories.{Trace, IsHistory, is_possible}
-use Rattle.event_timing.specs.Steps.{steps, done}
-use Rattle.event_timing.specs.Enablers.{known_of, Known, answer}
-use Rattle.event_timing.specs.Views.{from, pushed_in, own}
-use Rattle.event_timing.specs.Core.{Core, view, core_accesses, core_reply, bare_replies}
-use Rattle.event_timing.specs.Agreement.{IsAgreed, IsUndetermined, stop}
-use Rattle.event_timing.specs.Actions.{IsFinal}
-use Rattle.event_timing.proofs.Steps.{done_past, done_mono, same_clock}
+use Rattle.event_timing.specs.{Machines.Design, Machines.IsDesign, Machines.Access, Machines.Each, Histories.Trace, Histories.IsHistory}
+use Rattle.event_timing.specs.{Histories.is_possible, Steps.steps, Steps.done, Enablers.known_of, Enablers.Known, Enablers.answer}
+use Rattle.event_timing.specs.{Views.from, Views.pushed_in, Views.own, Core.Core, Core.view, Core.core_accesses, Core.core_reply}
+use Rattle.event_timing.specs.{Core.bare_replies, Agreement.IsAgreed, Agreement.IsUndetermined, Agreement.stop, Actions.IsFinal}
+use Rattle.event_timing.proofs.{Steps.done_past, Steps.done_mono, Steps.same_clock, Earliest.answer_late, Verdict.never_more}
+use Rattle.event_timing.proofs.{Verdict.done_last, Fronts.agrees, Fronts.core_pushed_is, Values.pushed_view, Agreement.final_complete}
 use Rattle.event_timing.proofs.Candidate.{begin, done_begin, EachMeans, first_means, first_ready}
-use Rattle.event_timing.proofs.Earliest.{answer_late}
-use Rattle.event_timing.proofs.Verdict.{never_more, done_last}
-use Rattle.event_timing.proofs.Fronts.{agrees, core_pushed_is}
-use Rattle.event_timing.proofs.Values.{pushed_view}
-use Rattle.event_timing.proofs.Agreement.{final_complete}
 
 -- in a clock up to which the core has every step, and behind all its cycles
 pub done_all : {S : Type 0} → (d : Design S) (h : Trace S) (limit : ℕ) (x : Core S) → IsAgreed d h limit x → (m c : ℕ)

@@ -1,18 +1,12 @@
 -- What stays as a core grows: the replies to its settled steps.
 use Rattle.std.proofs.lemmas.Bool.Decides.{nat_tests}
 use Rattle.std.proofs.Common.{◌≡◌, ℕ, zero, suc, ◌+◌, ◌<◌, ◌≤◌, Bool, true, List, [], ◌∷◌, length, get_or, refl, ap, ap₂, ◌∙◌, arith}
-use Rattle.flow_word.specs.declared.access.Side.{Side}
-use Rattle.flow_word.specs.declared.access.Side.TheVariants.{Pop, Push}
-use Rattle.event_timing.specs.Machines.{Design, Access, takes_in}
-use Rattle.event_timing.specs.Histories.{Trace}
-use Rattle.event_timing.specs.Views.{own, Begins}
-use Rattle.event_timing.specs.Core.{Core, bare_replies, core_accesses, core_tally, core_values, replies_of, all_below, core_reply}
-use Rattle.event_timing.specs.Core.{values_there}
-use Rattle.event_timing.specs.Agreement.{AreOwnMarks, IsTimed, elements_timed, pops_timed}
-use Rattle.event_timing.specs.Growth.{Grows, IsSettled}
-use Rattle.event_timing.proofs.OwnRuns.{own_0, own_more}
-use Rattle.event_timing.proofs.Values.{begins_get, begins_length}
-use Rattle.event_timing.proofs.Fronts.{tally_same}
+use Rattle.flow_word.specs.{declared.access.Side.Side, declared.access.Side.TheVariants.Pop, declared.access.Side.TheVariants.Push}
+use Rattle.event_timing.specs.{Machines.Design, Machines.Access, Machines.takes_in, Histories.Trace, Views.own, Views.Begins, Core.Core}
+use Rattle.event_timing.specs.{Core.bare_replies, Core.core_accesses, Core.core_tally, Core.core_values, Core.replies_of, Core.all_below}
+use Rattle.event_timing.specs.{Core.core_reply, Core.values_there, Agreement.AreOwnMarks, Agreement.IsTimed, Agreement.elements_timed}
+use Rattle.event_timing.specs.{Agreement.pops_timed, Growth.Grows, Growth.IsSettled}
+use Rattle.event_timing.proofs.{OwnRuns.own_0, OwnRuns.own_more, Values.begins_get, Values.begins_length, Fronts.tally_same}
 
 pub settled_less : {S : Type 0} → (d : Design S) (x : Core S) (m n k : ℕ) → k ≤ n → IsSettled d x m n → IsSettled d x m k
 settled_less {S} d x m n k l s = grind (arith, s)

@@ -1,13 +1,8 @@
 -- The marks of a core stay those of the modules' own runs, whatever is done.
 use Rattle.std.proofs.Common.{arith, ◌≡◌, ℕ, ◌⊎◌, List, [], ◌∷◌, sym, subst, Some}
-use Rattle.event_timing.specs.Machines.{Design, IsDesign}
-use Rattle.event_timing.specs.Enablers.{candidate}
-use Rattle.event_timing.specs.Core.{Core, view}
+use Rattle.event_timing.specs.{Machines.Design, Machines.IsDesign, Enablers.candidate, Core.Core, Core.view, Agreement.AreOwnMarks}
 use Rattle.event_timing.specs.Actions.{Action, Acts, ActsAll, after_answer, IsSame}
-use Rattle.event_timing.specs.Agreement.{AreOwnMarks}
-use Rattle.event_timing.proofs.Answering.{answer_marks, first_emitted}
-use Rattle.event_timing.proofs.Assigning.{assign_marks}
-use Rattle.event_timing.proofs.Running.{run_marks}
+use Rattle.event_timing.proofs.{Answering.answer_marks, Answering.first_emitted, Assigning.assign_marks, Running.run_marks}
 
 module _ {S : Type 0} (d : Design S) (i : IsDesign d) (limit : ℕ) where
   found_marks : (x : Core S) → AreOwnMarks d x → (m c : ℕ) → candidate d (view d x) m ≡ Some c → (y : Core S)

@@ -2,18 +2,11 @@
 use Rattle.std.proofs.lemmas.Bool.Decides.{nat_tests}
 use Rattle.std.proofs.Common.{◌≡◌, ℕ, true, ◌⊎◌, List, [], ◌∷◌, sym, refl, arith, Some}
 use Rattle.flow_word.specs.declared.access.Side.TheVariants.{Push}
-use Rattle.event_timing.specs.Machines.{Design, IsDesign}
-use Rattle.event_timing.specs.Enablers.{candidate}
-use Rattle.event_timing.specs.Core.{Core, view}
-use Rattle.event_timing.specs.Agreement.{AreOwnMarks, IsAgreed}
+use Rattle.event_timing.specs.{Machines.Design, Machines.IsDesign, Enablers.candidate, Core.Core, Core.view, Agreement.AreOwnMarks}
+use Rattle.event_timing.specs.{Agreement.IsAgreed, Edits.edited, Edits.after_edit, Growth.Grows, Histories.Trace, Histories.IsHistory}
 use Rattle.event_timing.specs.Actions.{MayRun, after_assign, after_answer, IsSame, Action, Acts, IsRecorded, ActsRecorded}
-use Rattle.event_timing.specs.Edits.{edited, after_edit}
-use Rattle.event_timing.specs.Growth.{Grows}
-use Rattle.event_timing.proofs.Running.{values_grow}
+use Rattle.event_timing.proofs.{Running.values_grow, RunningAhead.stays, Agreement.acts_agree}
 use Rattle.event_timing.proofs.Answering.{answer_marks, first_emitted}
-use Rattle.event_timing.proofs.RunningAhead.{stays}
-use Rattle.event_timing.proofs.Agreement.{acts_agree}
-use Rattle.event_timing.specs.Histories.{Trace, IsHistory}
 
 pub edit_no_run : {S : Type 0} → (d : Design S) (x : Core S) (fifo depth t m : ℕ) → MayRun (edited d fifo depth) (after_edit d x t) m
     → MayRun d x m

@@ -3,15 +3,12 @@ use Rattle.std.proofs.lemmas.Bool.Decides.{nat_tests}
 use Rattle.std.proofs.Common.{◌≡◌, ℕ, zero, suc, ◌<◌, ◌≤◌, Bool, true, false, List, ◌++◌, sym, refl, ap, ap₂, ◌∙◌, arith, [], ◌∷◌}
 use Rattle.flow_word.specs.declared.access.Side.TheVariants.{Push}
 use Rattle.event_timing.specs.Machines.{Design, IsDesign, Access, ready, values_in}
-use Rattle.event_timing.specs.Histories.{Trace, IsHistory}
-use Rattle.event_timing.specs.Views.{own, Begins}
+use Rattle.event_timing.specs.{Histories.Trace, Histories.IsHistory, Views.own, Views.Begins, Growth.Grows, Growth.IsSettled}
 use Rattle.event_timing.specs.Core.{Core, bare_replies, core_accesses, core_pushed, core_values, core_reply, no_outcomes}
 use Rattle.event_timing.specs.Agreement.{AreOwnMarks, IsTimed, elements_timed, FlagsFit}
-use Rattle.event_timing.specs.Growth.{Grows, IsSettled}
 use Rattle.event_timing.specs.Actions.{after_run, put, put_at, MayRun, newest, state_behind, emit_over, emit_step}
-use Rattle.event_timing.proofs.OwnRuns.{own_0, own_more}
+use Rattle.event_timing.proofs.{OwnRuns.own_0, OwnRuns.own_more, Fronts.pushed_same, Fronts.IsDone}
 use Rattle.event_timing.proofs.Values.{pushed_in_mono, begins_behind}
-use Rattle.event_timing.proofs.Fronts.{pushed_same, IsDone}
 use Rattle.event_timing.proofs.Growing.{settled_less, settled_old, settled_timed, settled_all, own_grow, reply_grow, there_grow}
 use Rattle.event_timing.proofs.Growing.{ended_settled, elements_grow, pops_grow}
 use Rattle.event_timing.proofs.Assigning.{plain_possible, can_emitted, RightFlags, SureFlags, HappensFirst}

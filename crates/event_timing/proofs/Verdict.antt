@@ -1,19 +1,12 @@
 -- The verdict of a final core is that of the history.
 use Rattle.std.proofs.Common.{◌≡◌, ℕ, zero, suc, ◌+◌, ◌-◌, ◌<◌, ◌≤◌, min, true, false, inl, inr, refl, ap₂, arith, Some}
 use Rattle.std.proofs.lemmas.Bool.{cases_lt}
-use Rattle.event_timing.specs.Machines.{Design, IsDesign}
-use Rattle.event_timing.specs.Histories.{Trace, IsHistory, moves}
-use Rattle.event_timing.specs.Steps.{done, since, rest}
-use Rattle.event_timing.specs.Enablers.{candidate, IsStuck}
-use Rattle.event_timing.specs.Views.{from}
-use Rattle.event_timing.specs.Core.{Core, view}
-use Rattle.event_timing.specs.Agreement.{IsAgreed, IsAtRest, stop, IsUndetermined}
-use Rattle.event_timing.specs.Actions.{IsFinal}
-use Rattle.event_timing.proofs.Steps.{done_more, done_mono}
+use Rattle.event_timing.specs.{Machines.Design, Machines.IsDesign, Histories.Trace, Histories.IsHistory, Histories.moves, Steps.done}
+use Rattle.event_timing.specs.{Steps.since, Steps.rest, Enablers.candidate, Enablers.IsStuck, Views.from, Core.Core, Core.view}
+use Rattle.event_timing.specs.{Agreement.IsAgreed, Agreement.IsAtRest, Agreement.stop, Agreement.IsUndetermined, Actions.IsFinal}
+use Rattle.event_timing.proofs.{Steps.done_more, Steps.done_mono, Fronts.agrees, Earliest.nobody_ahead}
 use Rattle.event_timing.proofs.Standing.{where_now, since_le, idle_moves, late_ready, moves_lives, steps_from, steps_moves, rest_fits}
-use Rattle.event_timing.proofs.Fronts.{agrees}
 use Rattle.event_timing.proofs.Candidate.{begin, done_begin, since_first, rest_first, candidate_steps}
-use Rattle.event_timing.proofs.Earliest.{nobody_ahead}
 use Rattle.event_timing.proofs.Agreement.{final_stuck, stuck_ended}
 
 pub early_moves : {S : Type 0} → (d : Design S) (h : Trace S) → IsDesign d → IsHistory d h → (m c : ℕ)

@@ -1,9 +1,7 @@
 -- A verified outcome is that of a step which the history does before the limit.
 use Rattle.std.proofs.Common.{arith, ◌≡◌, ℕ, ◌<◌, true, inl, inr}
 use Rattle.std.proofs.lemmas.Bool.{cases_order, both_ways}
-use Rattle.event_timing.specs.Machines.{Design}
-use Rattle.event_timing.specs.Histories.{Trace}
-use Rattle.event_timing.specs.Core.{Core, core_accesses, has_query}
+use Rattle.event_timing.specs.{Machines.Design, Histories.Trace, Core.Core, Core.core_accesses, Core.has_query}
 use Rattle.event_timing.specs.Agreement.{IsAgreed, HappensBefore}
 
 pub verified_happens : {S : Type 0} → (d : Design S) (h : Trace S) (limit : ℕ) (x : Core S) → IsAgreed d h limit x → (m k : ℕ)

@@ -1,7 +1,6 @@
 -- The four actions of a core: when each is permitted, and what it does.
 use Rattle.std.specs.Prelude.{Bool, List, Some, [], cond, eqb, false, not, suc, true, zero, ℕ, ◌&&◌, ◌+◌, ◌<◌, ◌∷◌, ◌≡◌, ◌≤◌, ◌⊎◌, ⊤}
-use Rattle.event_timing.specs.Machines.{Design, ready}
-use Rattle.event_timing.specs.Views.{first_accesses}
+use Rattle.event_timing.specs.{Machines.Design, Machines.ready, Views.first_accesses}
 use Rattle.event_timing.specs.Enablers.{known_of, candidate, all_decided, flags_at}
 use Rattle.event_timing.specs.Core.{Core, core_reply, values_there, view, has_query, no_outcomes}
 

@@ -1,11 +1,8 @@
 -- Agreement of a core with a history.
 use Rattle.std.specs.Prelude.{Bool, List, Some, [], false, suc, true, ℕ, ◌+◌, ◌<◌, ◌∷◌, ◌≡◌, ◌≤◌, ⊤}
 use Rattle.flow_word.specs.declared.access.Side.TheVariants.{Pop, Push}
-use Rattle.event_timing.specs.Machines.{Access, Reply, Design, ready}
-use Rattle.event_timing.specs.Histories.{Trace, is_possible, moves, replies}
-use Rattle.event_timing.specs.Steps.{steps, done}
-use Rattle.event_timing.specs.Views.{own, from}
-use Rattle.event_timing.specs.Enablers.{candidate}
+use Rattle.event_timing.specs.{Machines.Access, Machines.Reply, Machines.Design, Machines.ready, Histories.Trace, Histories.is_possible}
+use Rattle.event_timing.specs.{Histories.moves, Histories.replies, Steps.steps, Steps.done, Views.own, Views.from, Enablers.candidate}
 use Rattle.event_timing.specs.Core.{Core, core_accesses, core_tally, all_below, core_reply, values_there, view, has_query, no_outcomes}
 
 -- there is one flag for each access, and it is true where the access blocks

@@ -1,10 +1,8 @@
 -- The core: the marks of each module, the cycles of its first steps, and the outcomes of its queries.
 use Rattle.std.specs.Prelude.{Bool, List, [], cond, false, get_or, length, ltb, not, true, ℕ, ◌&&◌, ◌++◌, ◌||◌, ◌∷◌}
-use Rattle.flow_word.specs.declared.access.Side.{Side}
+use Rattle.flow_word.specs.{declared.access.Side.Side, Kinds.same_side}
 use Rattle.flow_word.specs.declared.access.Side.TheVariants.{Pop, Push}
-use Rattle.flow_word.specs.Kinds.{same_side}
-use Rattle.event_timing.specs.Machines.{Access, Reply, Design}
-use Rattle.event_timing.specs.Views.{View, tally, pushed_in}
+use Rattle.event_timing.specs.{Machines.Access, Machines.Reply, Machines.Design, Views.View, Views.tally, Views.pushed_in}
 
 -- ---- the core
 

@@ -1,11 +1,8 @@
 -- A change of one FIFO's depth.
 use Rattle.std.specs.Prelude.{cond, eqb, ltb, not, suc, zero, ℕ, ◌&&◌, ◌+◌, ◌-◌, ◌<◌, ◌||◌}
-use Rattle.flow_word.specs.declared.access.Side.{Side}
+use Rattle.flow_word.specs.{declared.access.Side.Side, Kinds.same_side}
 use Rattle.flow_word.specs.declared.access.Side.TheVariants.{Pop, Push}
-use Rattle.flow_word.specs.Kinds.{same_side}
-use Rattle.event_timing.specs.Machines.{Design}
-use Rattle.event_timing.specs.Histories.{Trace}
-use Rattle.event_timing.specs.Core.{Core, core_accesses, core_tally, has_query}
+use Rattle.event_timing.specs.{Machines.Design, Histories.Trace, Core.Core, Core.core_accesses, Core.core_tally, Core.has_query}
 
 -- the design with another depth of one FIFO
 abbrev pub edited : {S : Type 0} → Design S → ℕ → ℕ → Design S

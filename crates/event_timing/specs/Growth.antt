@@ -1,8 +1,7 @@
 -- What stays of a core, whatever is done.
 use Rattle.std.specs.Prelude.{true, ℕ, ◌<◌, ◌≤◌, ◌≡◌}
 use Rattle.flow_word.specs.declared.access.Side.{Side}
-use Rattle.event_timing.specs.Machines.{Design}
-use Rattle.event_timing.specs.Views.{own, Begins}
+use Rattle.event_timing.specs.{Machines.Design, Views.own, Views.Begins}
 use Rattle.event_timing.specs.Core.{Core, core_values, core_reply, core_tally, values_there}
 
 -- core z has all that core x has: its steps, their recorded outcomes, and the values on each channel

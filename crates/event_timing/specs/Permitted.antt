@@ -1,9 +1,7 @@
 -- Tests that compute which actions are permitted.
 use Rattle.std.specs.Prelude.{Bool, None, Option, Some, false, ltb, not, suc, true, zero, ℕ, ◌&&◌, ◌≡◌, ◌≤◌}
-use Rattle.event_timing.specs.Machines.{Design}
-use Rattle.event_timing.specs.Views.{first_accesses}
+use Rattle.event_timing.specs.{Machines.Design, Views.first_accesses, Core.Core, Core.values_there, Core.view}
 use Rattle.event_timing.specs.Enablers.{known_of, candidate, all_decided}
-use Rattle.event_timing.specs.Core.{Core, values_there, view}
 
 -- the core has emitted steps of the design's modules alone
 abbrev pub IsInside : {S : Type 0} → Design S → Core S → Type 0

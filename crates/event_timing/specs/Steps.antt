@@ -1,7 +1,6 @@
 -- The steps of a module in a history: the clocks in which it does accesses.
 use Rattle.std.specs.Prelude.{Bool, cond, suc, zero, ℕ, ◌&&◌}
-use Rattle.event_timing.specs.Machines.{Design, is_some_access}
-use Rattle.event_timing.specs.Histories.{Trace, moves}
+use Rattle.event_timing.specs.{Machines.Design, Machines.is_some_access, Histories.Trace, Histories.moves}
 
 -- module m does a step in clock c: it moves and has an access
 unfoldable pub steps : {S : Type 0} → Design S → Trace S → ℕ → ℕ → Bool

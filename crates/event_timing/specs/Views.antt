@@ -2,8 +2,7 @@
 use Rattle.std.specs.Prelude.{Bool, List, None, Option, Some, [], cond, false, leb, ltb, suc, true, zero, ℕ, ◌&&◌, ◌++◌, ◌+◌, ◌<◌, ◌≡◌}
 use Rattle.flow_word.specs.declared.access.Side.{Side}
 use Rattle.event_timing.specs.Machines.{Access, Reply, Design, ready, takes_in, values_in}
-use Rattle.event_timing.specs.Histories.{Trace, replies}
-use Rattle.event_timing.specs.Steps.{steps, done}
+use Rattle.event_timing.specs.{Histories.Trace, Histories.replies, Steps.steps, Steps.done}
 
 pub record View : Type 0 where
   -- how many steps of each module have a cycle, and whether there is a further step

@@ -1,7 +1,6 @@
 -- A measure of what a core has done. It rises at each action that changes the core, and has a bound.
 use Rattle.std.specs.Prelude.{ℕ, zero, suc, ◌+◌, cond, ltb}
-use Rattle.event_timing.specs.Machines.{Design}
-use Rattle.event_timing.specs.Core.{Core}
+use Rattle.event_timing.specs.{Machines.Design, Core.Core}
 
 -- 1 where module m's first step without a cycle is verified, else 0
 unfoldable pub first_one : {S : Type 0} → Core S → ℕ → ℕ

@@ -1,19 +1,14 @@
 -- The operations of the history, one after the other: what a report tells of them, and in which clocks they were done.
-use Rattle.std.proofs.Common.{◌≡◌, ℕ, zero, suc, ◌+◌, ◌≤◌, ◌<◌, List, [], ◌∷◌, ◌++◌, map, length, drop, Bool, true, false}
-use Rattle.std.proofs.Common.{◌==◌, cond, refl, sym, ◌∙◌, ap, ap₂, subst, arith, zero-add, suc-add, append_assoc, length-append}
+use Rattle.std.proofs.Common.{◌≡◌, ℕ, zero, suc, ◌+◌, ◌≤◌, ◌<◌, List, [], ◌∷◌, ◌++◌, map, length, drop, Bool, true, false, ◌==◌, cond, refl}
+use Rattle.std.proofs.Common.{sym, ◌∙◌, ap, ap₂, subst, arith, zero-add, suc-add, append_assoc, length-append}
+use Rattle.std.proofs.{lemmas.List.append-nil, lemmas.List.drop-append-le, lemmas.List.drop_all, lemmas.List.Concat.flat_map-append}
 use Rattle.std.specs.List.{flat_map, AllByRecursion}
-use Rattle.std.proofs.lemmas.List.{append-nil, drop-append-le, drop_all}
-use Rattle.std.proofs.lemmas.List.Concat.{flat_map-append}
 use Rattle.flow_word.specs.declared.access.Side.{Side}
-use Rattle.flow_design.specs.declared.plan.Plan.{Plan}
-use Rattle.flow_design.specs.declared.state.Element.{Element}
-use Rattle.flow_design.specs.declared.state.ClockState.{ClockState}
+use Rattle.flow_design.specs.{declared.plan.Plan.Plan, declared.state.Element.Element, declared.state.ClockState.ClockState}
 use Rattle.flow_design.specs.declared.state.ModuleState.{ModuleState}
 use Rattle.lockstep_defs.specs.Channels.{HistoryStep, Exchange, moved_value, moved_by, moved}
 use Rattle.lockstep_defs.specs.Lockstep.{requests_of, moves, answered, step_with, step_of, steps_in, numbered, state, history}
-use Rattle.lockstep_defs.proofs.Settled.{history-zero, history-suc}
-use Rattle.lockstep_defs.proofs.Order.{before_clock}
-use Rattle.lockstep_defs.proofs.Queue.{all-append}
+use Rattle.lockstep_defs.proofs.{Settled.history-zero, Settled.history-suc, Order.before_clock, Queue.all-append}
 use Rattle.fifo_fills.specs.Passed.{Act, acts_in, acts_before, moved_in}
 
 -- ---- the operations of steps

@@ -1,35 +1,21 @@
 -- A FIFO holds what was pushed on it less what was popped off it, and never more than its depth.
 use Rattle.std.proofs.Common.{◌≡◌, ℕ, zero, suc, ◌+◌, ◌≤◌, ◌<◌, List, [], ◌∷◌, ◌++◌, map, length, drop, Bool, true, false, ◌&&◌, ◌==◌, not}
-use Rattle.std.proofs.Common.{cond, refl, sym, ◌∙◌, ap, ap₂, subst, arith, nat_le, length-append, length-drop}
-use Rattle.std.specs.Prelude.{slice_index}
-use Rattle.std.specs.List.{list_any, flat_map}
-use Rattle.std.proofs.lemmas.Bool.{eqb-true, or_parts, leb-false}
-use Rattle.std.proofs.Common.{◌⊎◌, inl, inr}
-use Rattle.std.proofs.lemmas.List.{length-map}
-use Rattle.flow_word.specs.declared.access.Side.{Side}
+use Rattle.std.proofs.Common.{cond, refl, sym, ◌∙◌, ap, ap₂, subst, arith, nat_le, length-append, length-drop, ◌⊎◌, inl, inr}
+use Rattle.std.proofs.{lemmas.Bool.eqb-true, lemmas.Bool.or_parts, lemmas.Bool.leb-false, lemmas.List.length-map}
+use Rattle.std.specs.{Prelude.slice_index, List.list_any, List.flat_map}
+use Rattle.flow_word.specs.{declared.access.Side.Side, declared.access.Kind.Kind, Kinds.side_of, Kinds.is_blocking}
 use Rattle.flow_word.specs.declared.access.Side.TheVariants.{Pop, Push}
-use Rattle.flow_word.specs.declared.access.Kind.{Kind}
 use Rattle.flow_word.specs.declared.access.Kind.TheVariants.{Read, Write, TryRead, TryWrite, Empty, Full}
-use Rattle.flow_word.specs.Kinds.{side_of, is_blocking}
-use Rattle.flow_design.specs.declared.plan.Plan.{Plan}
-use Rattle.flow_design.specs.declared.state.Element.{Element}
-use Rattle.flow_design.specs.declared.state.ClockState.{ClockState}
-use Rattle.flow_design.specs.declared.state.ModuleState.{ModuleState}
-use Rattle.flow_design.specs.declared.state.Request.{Request}
+use Rattle.flow_design.specs.{declared.plan.Plan.Plan, declared.state.Element.Element, declared.state.ClockState.ClockState}
+use Rattle.flow_design.specs.{declared.state.ModuleState.ModuleState, declared.state.Request.Request, StaticRules.FitsEngine}
 use Rattle.flow_design.specs.Plans.{is_fifo, kind_at, delay_at}
-use Rattle.flow_design.specs.StaticRules.{FitsEngine}
-use Rattle.lockstep_defs.specs.Machine.{is_yes}
-use Rattle.lockstep_defs.specs.Channels.{values, front, element_from, is_possible, is_full, stalls, reply, reply_by}
-use Rattle.lockstep_defs.specs.Channels.{pushed_value, moved_value, moved_by, moved, contents_of}
-use Rattle.lockstep_defs.specs.Lockstep.{requests_of, moves, answered, step_with, step_of, steps_in, clock_step}
-use Rattle.lockstep_defs.specs.Lockstep.{numbered, state, history}
-use Rattle.lockstep_defs.specs.Laws.{all_in}
-use Rattle.lockstep_defs.proofs.Settled.{state-suc}
-use Rattle.lockstep_defs.proofs.Counts.{fifo_opens_empty}
-use Rattle.lockstep_defs.proofs.Rules.{keeps_ports}
+use Rattle.lockstep_defs.specs.{Machine.is_yes, Laws.all_in}
+use Rattle.lockstep_defs.specs.Channels.{values, front, element_from, is_possible, is_full, stalls, reply, reply_by, pushed_value}
+use Rattle.lockstep_defs.specs.Channels.{moved_value, moved_by, moved, contents_of}
+use Rattle.lockstep_defs.specs.Lockstep.{requests_of, moves, answered, step_with, step_of, steps_in, clock_step, numbered, state, history}
+use Rattle.lockstep_defs.proofs.{Settled.state-suc, Counts.fifo_opens_empty, Rules.keeps_ports}
 use Rattle.lockstep_defs.proofs.Queue.{moved-nil, moved-append, moved-step, nothing_stalls, moves_once, conserved, contents-step}
-use Rattle.lockstep_defs.proofs.Queue.{same_channels}
-use Rattle.lockstep_defs.proofs.Queue.{channel_count}
+use Rattle.lockstep_defs.proofs.Queue.{same_channels, channel_count}
 use Rattle.fifo_fills.specs.Fills.{fill, moved_before}
 
 -- ---- what was pushed and not popped

@@ -1,10 +1,8 @@
 -- How many FIFOs there are.
-use Rattle.std.proofs.Common.{◌≡◌, ℕ, suc, ◌+◌, ◌<◌, Bool, true, false, cond, List, [], ◌∷◌}
-use Rattle.std.proofs.Common.{length, get_or, refl, sym, ◌∙◌, ap, arith, add-zero}
+use Rattle.std.proofs.Common.{◌≡◌, ℕ, suc, ◌+◌, ◌<◌, Bool, true, false, cond, List, [], ◌∷◌, length, get_or, refl, sym, ◌∙◌, ap, arith}
+use Rattle.std.proofs.Common.{add-zero}
 use Rattle.std.specs.List.{filter, range_with_len}
-use Rattle.flow_design.specs.declared.design.Channel.{Channel}
-use Rattle.flow_design.specs.declared.design.ChannelKind.{ChannelKind}
-use Rattle.flow_design.specs.Plans.{is_fifo, no_channel}
+use Rattle.flow_design.specs.{declared.design.Channel.Channel, declared.design.ChannelKind.ChannelKind, Plans.is_fifo, Plans.no_channel}
 
 -- their numbers are as many as they are
 pub counted_numbers : (kind : ℕ → ChannelKind) (k : ℕ) (cs : List Channel)

@@ -2,12 +2,8 @@
 use Rattle.std.specs.Prelude.{ℕ, ◌≡◌, ◌<◌, ◌≤◌, List, length, map, filter, slice_index}
 use Rattle.std.specs.List.{range_with_len}
 use Rattle.flow_word.specs.declared.access.Side.{Side}
-use Rattle.flow_design.specs.declared.plan.Plan.{Plan}
-use Rattle.flow_design.specs.Plans.{is_fifo, kind_at}
-use Rattle.lockstep_defs.specs.Channels.{moved, contents_of}
-use Rattle.lockstep_defs.specs.Lockstep.{state, history}
-use Rattle.lockstep_defs.specs.Verdict.{verdict}
-use Rattle.flow_design.specs.Reports.{clock_of}
+use Rattle.flow_design.specs.{declared.plan.Plan.Plan, Plans.is_fifo, Plans.kind_at, Reports.clock_of}
+use Rattle.lockstep_defs.specs.{Channels.moved, Channels.contents_of, Lockstep.state, Lockstep.history, Verdict.verdict}
 
 -- the numbers of the channels that are FIFOs, in order of declaration
 abbrev pub fifos : Plan → List ℕ

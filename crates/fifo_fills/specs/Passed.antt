@@ -1,10 +1,8 @@
 -- The operations of the history, in the order in which they were done.
-use Rattle.std.specs.Prelude.{ℕ, ◌==◌, if◌then◌else◌, List, [], map}
-use Rattle.std.specs.List.{flat_map}
+use Rattle.std.specs.{Prelude.ℕ, Prelude.◌==◌, Prelude.if◌then◌else◌, Prelude.List, Prelude.[], Prelude.map, List.flat_map}
 use Rattle.flow_word.specs.declared.access.Side.{Side}
 use Rattle.flow_design.specs.declared.plan.Plan.{Plan}
-use Rattle.lockstep_defs.specs.Channels.{HistoryStep, Exchange, moved_value}
-use Rattle.lockstep_defs.specs.Lockstep.{history}
+use Rattle.lockstep_defs.specs.{Channels.HistoryStep, Channels.Exchange, Channels.moved_value, Lockstep.history}
 use Rattle.fifo_fills.specs.Fills.{last_clock}
 
 -- an operation that was done, with its step

@@ -1,13 +1,11 @@
 -- The places and the pushes of one side of a channel, as they are kept.
 use Rattle.std.proofs.Common.{◌≡◌, refl, sym, ap, ◌∙◌, ℕ, List, [], ◌∷◌, ◌++◌, map, length, Some, arith}
-use Rattle.std.specs.List.{zip}
-use Rattle.std.proofs.lemmas.List.{map-append, length-map}
-use Rattle.std.proofs.lemmas.Simd.{map-map}
+use Rattle.std.proofs.{lemmas.List.map-append, lemmas.List.length-map, lemmas.Simd.map-map}
 use Rattle.std.proofs.lemmas.Slice.Zip.{firsts-zip, seconds-zip}
+use Rattle.std.specs.List.{zip}
 use Rattle.flow_word.specs.declared.access.Place.{Place}
-use Rattle.fifo_table.specs.declared.channel.Pushed.{Pushed}
+use Rattle.fifo_table.specs.{declared.channel.Pushed.Pushed, Kept.places_in, Kept.pushes_in}
 use Rattle.fifo_table.specs.Channels.{AreAllOf, push_of, first_module}
-use Rattle.fifo_table.specs.Kept.{places_in, pushes_in}
 
 -- ---- places
 

@@ -1,17 +1,14 @@
 -- The kinds of all channels stay sound.
 use Rattle.std.proofs.Common.{◌≡◌, ℕ, ◌<◌, ◌≤◌, List, length, map, get_or, arith}
-use Rattle.std.specs.Prelude.{◌^◌, All}
-use Rattle.std.proofs.Math.ListN.{set}
+use Rattle.std.proofs.{Math.ListN.set, lemmas.List.Elements.All-set, lemmas.List.Elements.All-map}
 use Rattle.std.proofs.lemmas.List.{map-set, get_or-map, length-map, length-set}
-use Rattle.std.proofs.lemmas.List.Elements.{All-set, All-map}
-use Rattle.flow_word.specs.declared.access.Side.{Side}
-use Rattle.flow_word.specs.declared.access.Side.TheVariants.{Pop, Push}
+use Rattle.std.specs.Prelude.{◌^◌, All}
+use Rattle.flow_word.specs.{declared.access.Side.Side, declared.access.Side.TheVariants.Pop, declared.access.Side.TheVariants.Push}
 use Rattle.flow_design.specs.declared.limits.TheConstants.{FIFO_DEPTH, FIFO_DELAY}
-use Rattle.fifo_table.specs.declared.channel.TableChannel.{TableChannel}
+use Rattle.fifo_table.specs.{declared.channel.TableChannel.TableChannel, Roomed.channel_of, Roomed.channels_of}
 use Rattle.fifo_table.specs.declared.channel.TableChannel.TheVariants.{Source, Sink, Fifo}
 use Rattle.fifo_table.specs.declared.channel.RoomyChannel.{RoomyChannel}
 use Rattle.fifo_table.specs.Channels.{Channel, IsSoundKind, deepened, lag_of, unused}
-use Rattle.fifo_table.specs.Roomed.{channel_of, channels_of}
 
 -- the kinds are sound, and a channel's number fits
 abbrev pub AreSound : List RoomyChannel → Type 0

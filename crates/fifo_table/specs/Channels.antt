@@ -1,12 +1,10 @@
 -- Channels with the pushes and pops that were emitted so far.
-use Rattle.std.specs.Prelude.{ℕ, ◌≡◌, ◌-◌, ◌≤◌, List, [], ◌∷◌, ◌++◌, length, map, slice_get, slice_set, slice_index_or}
-use Rattle.std.specs.Prelude.{Option, option_map, All}
-use Rattle.flow_word.specs.declared.access.Place.{Place}
-use Rattle.flow_word.specs.declared.access.Side.{Side}
+use Rattle.std.specs.Prelude.{ℕ, ◌≡◌, ◌-◌, ◌≤◌, List, [], ◌∷◌, ◌++◌, length, map, slice_get, slice_set, slice_index_or, Option, option_map}
+use Rattle.std.specs.Prelude.{All}
+use Rattle.flow_word.specs.{declared.access.Place.Place, declared.access.Side.Side}
 use Rattle.flow_word.specs.declared.access.Side.TheVariants.{Pop, Push}
 use Rattle.flow_design.specs.declared.limits.TheConstants.{FIFO_DEPTH, FIFO_DELAY}
-use Rattle.fifo_table.specs.declared.channel.Pushed.{Pushed}
-use Rattle.fifo_table.specs.declared.channel.TableChannel.{TableChannel}
+use Rattle.fifo_table.specs.{declared.channel.Pushed.Pushed, declared.channel.TableChannel.TableChannel}
 use Rattle.fifo_table.specs.declared.channel.TableChannel.TheVariants.{Source, Sink, Fifo}
 
 -- ---- what a channel is

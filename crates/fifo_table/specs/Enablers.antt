@@ -1,12 +1,10 @@
 -- The event that enables an access.
 use Rattle.std.specs.Prelude.{ℕ, ◌-◌, length, nat_le, if◌then◌else◌, Option, None, Some}
-use Rattle.flow_word.specs.declared.access.Place.{Place}
-use Rattle.flow_word.specs.declared.access.Side.{Side}
+use Rattle.flow_word.specs.{declared.access.Place.Place, declared.access.Side.Side}
 use Rattle.flow_word.specs.declared.access.Side.TheVariants.{Pop, Push}
-use Rattle.fifo_table.specs.declared.enabler.Enabler.{Enabler}
+use Rattle.fifo_table.specs.{declared.enabler.Enabler.Enabler, declared.channel.TableChannel.TableChannel}
 use Rattle.fifo_table.specs.declared.enabler.Enabler.TheVariants.{Free, Event, Missing, Never}
 use Rattle.fifo_table.specs.declared.channel.TableChannel.TheVariants.{Source, Sink, Fifo}
-use Rattle.fifo_table.specs.declared.channel.TableChannel.{TableChannel}
 use Rattle.fifo_table.specs.Channels.{Channel, nth, places_of}
 
 -- the event at this place, or that it is missing

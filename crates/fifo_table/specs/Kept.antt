@@ -1,9 +1,7 @@
 -- The places and the pushes of one side of a channel as the table keeps them: with their module only once.
-use Rattle.std.specs.Prelude.{ℕ, List, map}
-use Rattle.std.specs.List.{zip}
+use Rattle.std.specs.{Prelude.ℕ, Prelude.List, Prelude.map, List.zip}
 use Rattle.flow_word.specs.declared.access.Place.{Place}
-use Rattle.fifo_table.specs.declared.channel.Pushed.{Pushed}
-use Rattle.fifo_table.specs.Channels.{push_of}
+use Rattle.fifo_table.specs.{declared.channel.Pushed.Pushed, Channels.push_of}
 
 -- the places of module m's steps with these numbers
 abbrev pub places_in : ℕ → List ℕ → List Place

@@ -1,7 +1,6 @@
 -- A table as contracts see it: its channels, and the room that was reserved beside them.
 use Rattle.std.specs.Prelude.{ℕ, List, map}
-use Rattle.fifo_table.specs.declared.channel.RoomyChannel.{RoomyChannel}
-use Rattle.fifo_table.specs.Channels.{Channel}
+use Rattle.fifo_table.specs.{declared.channel.RoomyChannel.RoomyChannel, Channels.Channel}
 
 -- the channels, and how many further pushes and pops each takes without asking for memory
 pub record RoomedChannels : Type 0 where

@@ -3,8 +3,7 @@ ghost use Rattle.std.specs.Prelude.{◌≡◌, ◌≢◌, ◌↔◌, true, ℕ, 
 ghost use Rattle.std.specs.Prelude.{OnErr};
 ghost use Rattle.flow_design.specs.declared.limits.TheConstants.{FIFO_DEPTH, FIFO_DELAY};
 ghost use Rattle.fifo_table.specs.Channels.{IsSoundKind, IsSource, IsSink, IsFifo, HasSide, depth_of, lag_of, free_of, unused, channel_at};
-ghost use Rattle.fifo_table.specs.Channels.{nth};
-ghost use Rattle.fifo_table.specs.Channels.{places_of, first_module, AreAllOf, values_of, with_push, with_pop, with_depth};
+ghost use Rattle.fifo_table.specs.Channels.{nth, places_of, first_module, AreAllOf, values_of, with_push, with_pop, with_depth};
 ghost use Rattle.fifo_table.specs.Enablers.{enabler_of, event_at};
 
 use crate::channel::{Pushed, RoomyChannel, TableChannel};

@@ -1,46 +1,30 @@
 -- Statements that keep the rules of reading, and what these give of bodies.
 use Rattle.std.proofs.Common.{◌≡◌, ℕ, suc, ◌+◌, ◌<◌, ◌≤◌, List, [], ◌∷◌, ◌++◌, length, take, take_while, Option, None, Some, option_map}
-use Rattle.std.proofs.Common.{is_some, Bool, true, false, not, cond, refl, sym, ap, subst, ◌∙◌, arith, true≢false, append_assoc}
-use Rattle.std.proofs.Common.{slice_get, IfSome, count_by, append-nil}
-use Rattle.std.specs.Prelude.{◌&&◌, reverse, nat_le}
-use Rattle.std.specs.List.{list_all, filter_map, cons_option, All}
-use Rattle.std.proofs.lemmas.Bool.{and_parts}
-use Rattle.std.proofs.lemmas.Bool.Decides.{nat_tests}
-use Rattle.std.proofs.lemmas.List.{reverse-append}
+use Rattle.std.proofs.Common.{is_some, Bool, true, false, not, cond, refl, sym, ap, subst, ◌∙◌, arith, true≢false, append_assoc, slice_get}
+use Rattle.std.proofs.Common.{IfSome, count_by, append-nil}
+use Rattle.std.proofs.{lemmas.Bool.and_parts, lemmas.Bool.Decides.nat_tests, lemmas.List.reverse-append, lemmas.List.Sums.take_while-cons}
+use Rattle.std.proofs.{lemmas.List.Sums.sum_by-cons, lemmas.List.Elements.All-nil, lemmas.List.Elements.All-cons}
 use Rattle.std.proofs.lemmas.List.Folds.{list_any-append, list_all-append}
-use Rattle.std.proofs.lemmas.List.Sums.{take_while-cons, sum_by-cons}
-use Rattle.std.specs.Str.{bytes_eq}
-use Rattle.flow_design.specs.declared.session.Statement.{Statement}
+use Rattle.std.specs.{Prelude.◌&&◌, Prelude.reverse, Prelude.nat_le, Str.bytes_eq}
+use Rattle.std.specs.List.{list_all, filter_map, cons_option, All}
+use Rattle.flow_design.specs.{declared.session.Statement.Statement, declared.limits.TheConstants.BLOCK_CLOCKS, declared.limits.Scale.Scale}
+use Rattle.flow_design.specs.{Limits.limits_at, declared.expr.Expr.Expr, declared.expr.Expr.TheVariants.Unary, declared.expr.UnOp.UnOp}
+use Rattle.flow_design.specs.{declared.expr.UnOp.TheVariants.Not, declared.expr.Op.Op, Words.reach, Words.nodes, Words.depth}
+use Rattle.flow_design.specs.{StaticRules.IsExpressionSound, declared.design.Timed.Timed, declared.design.Next.Next}
 use Rattle.flow_design.specs.declared.session.Statement.TheVariants.{Module, Block, Loop}
-use Rattle.flow_grammar.specs.Parts.{parts, Part, expr_parts, op_parts}
+use Rattle.flow_design.specs.Operations.{places_of, expressions_of, memory_of, port_of}
+use Rattle.flow_grammar.specs.{Parts.parts, Parts.Part, Parts.expr_parts, Parts.op_parts, Places.may_follow}
 use Rattle.flow_grammar.specs.Before.{is_among, is_no_module, is_no_block, channels, registers, memories, temps, channel_name}
 use Rattle.flow_grammar.specs.Before.{register_name, memory_name, temp_name, is_operation, in_body}
-use Rattle.flow_grammar.specs.Places.{may_follow}
 use Rattle.flow_grammar.specs.Rules.{is_well_named, is_in_range, is_new, is_known, is_sized, has_room, statement_fault, KeepsRules}
 use Rattle.flow_grammar.specs.Rules.{KeepsReadingRules, is_small, has_small_trees}
-use Rattle.session_plan.specs.Names.{Name, number_of, Scope}
-use Rattle.session_plan.specs.Sections.{begins, body_of, declared}
-use Rattle.session_plan.specs.declared.section.Level.{Level}
-use Rattle.std.proofs.lemmas.List.Elements.{All-nil, All-cons}
-use Rattle.flow_design.specs.declared.limits.TheConstants.{BLOCK_CLOCKS}
-use Rattle.flow_design.specs.declared.limits.Scale.{Scale}
-use Rattle.flow_design.specs.Limits.{limits_at}
-use Rattle.flow_design.specs.declared.expr.Expr.{Expr}
-use Rattle.flow_design.specs.declared.expr.Expr.TheVariants.{Unary}
-use Rattle.flow_design.specs.declared.expr.UnOp.{UnOp}
-use Rattle.flow_design.specs.declared.expr.UnOp.TheVariants.{Not}
-use Rattle.flow_design.specs.declared.expr.Op.{Op}
-use Rattle.flow_design.specs.Words.{reach, nodes, depth}
-use Rattle.flow_design.specs.Operations.{places_of, expressions_of, memory_of, port_of}
-use Rattle.flow_design.specs.StaticRules.{IsExpressionSound}
+use Rattle.session_plan.specs.{Names.Name, Names.number_of, Names.Scope, Sections.begins, Sections.body_of, Sections.declared}
+use Rattle.session_plan.specs.{declared.section.Level.Level, Plans.first_or, Plans.kind_of, Plans.len_of}
+use Rattle.session_plan.specs.Numbered.{numbered, places, operation, timed, terminator}
 use Rattle.flow_grammar.proofs.Induction.{by_cases}
 use Rattle.flow_grammar.proofs.Trees.{folded-Number, folded-Var, folded-Unary, folded-Binary, folded-Sext, folded-Pick}
 use Rattle.flow_grammar.proofs.SpellingLaws.{parts_Var, parts_Unary, parts_Binary, parts_Sext, parts_Pick}
-use Rattle.session_plan.specs.Numbered.{numbered, places, operation, timed, terminator}
 use Rattle.session_plan.proofs.Trees.{numbered_number, numbered_var, numbered_unary, numbered_binary, numbered_sext, numbered_pick}
-use Rattle.flow_design.specs.declared.design.Timed.{Timed}
-use Rattle.flow_design.specs.declared.design.Next.{Next}
-use Rattle.session_plan.specs.Plans.{first_or, kind_of, len_of}
 use Rattle.flow_check.specs.Read.{IsKindRead, IsNextRead}
 use Rattle.session_plan.specs.declared.section.Level.TheVariants as level
 use Rattle.flow_design.specs.declared.expr.Op.TheVariants as op

@@ -1,15 +1,12 @@
 -- What stands before a statement, counted statement by statement.
-use Rattle.std.proofs.Common.{◌≡◌, ℕ, suc, ◌+◌, ◌<◌, ◌≤◌, List, [], ◌∷◌, length, take, drop, get_or, Option, None, Some}
-use Rattle.std.proofs.Common.{option_map, Bool, false, cond, refl, sym, ap, ◌∙◌, arith, add-one}
-use Rattle.std.specs.Prelude.{reverse}
-use Rattle.std.proofs.Math.Seq.{take-suc, drop-cons}
-use Rattle.std.proofs.lemmas.List.{reverse-append}
+use Rattle.std.proofs.Common.{◌≡◌, ℕ, suc, ◌+◌, ◌<◌, ◌≤◌, List, [], ◌∷◌, length, take, drop, get_or, Option, None, Some, option_map, Bool}
+use Rattle.std.proofs.Common.{false, cond, refl, sym, ap, ◌∙◌, arith, add-one}
+use Rattle.std.proofs.{Math.Seq.take-suc, Math.Seq.drop-cons, lemmas.List.reverse-append}
 use Rattle.std.proofs.lemmas.List.Sums.{take_while-cons, sum_by-cons}
+use Rattle.std.specs.Prelude.{reverse}
 use Rattle.flow_design.specs.declared.session.Statement.{Statement}
 use Rattle.flow_grammar.specs.Before.{is_no_module, is_no_block, is_operation, in_body}
-use Rattle.flow_check.specs.declared.item.Item.{Item}
-use Rattle.flow_check.specs.declared.place.Counts.{Counts}
-use Rattle.flow_check.specs.First.{place_where}
+use Rattle.flow_check.specs.{declared.item.Item.Item, declared.place.Counts.Counts, First.place_where}
 use Rattle.flow_check.specs.Places.{counts, counts_more, item_behind, items_behind, items_of, is_item}
 
 -- ---- one statement more

@@ -2,27 +2,17 @@
 use Rattle.std.proofs.Common.{◌≡◌, ℕ, zero, suc, ◌+◌, ◌<◌, ◌≤◌, List, [], ◌∷◌, ◌++◌, length, take, Option, None, Some, option_map, Bool}
 use Rattle.std.proofs.Common.{true, false, cond, refl, sym, ap, subst, ◌∙◌, arith, true≢false, inl, inr, append_assoc, append-nil}
 use Rattle.std.proofs.Common.{slice_get, drop, get_or}
-use Rattle.std.specs.Prelude.{◌⊎◌}
-use Rattle.std.proofs.lemmas.Bool.{cond_both}
-use Rattle.std.proofs.lemmas.List.{at_drop_more}
-use Rattle.std.proofs.lemmas.Option.{cond_some, some_pair_parts}
-use Rattle.std.specs.List.{enumerate_from}
-use Rattle.flow_design.specs.declared.design.Block.{Block}
-use Rattle.flow_design.specs.declared.design.Channel.{Channel}
-use Rattle.flow_design.specs.declared.design.Module.{Module}
-use Rattle.flow_design.specs.declared.limits.Scale.{Scale}
-use Rattle.flow_design.specs.declared.plan.Plan.{Plan}
+use Rattle.std.proofs.{lemmas.Bool.cond_both, lemmas.List.at_drop_more, lemmas.Option.cond_some, lemmas.Option.some_pair_parts}
+use Rattle.std.specs.{Prelude.◌⊎◌, List.enumerate_from}
+use Rattle.flow_design.specs.{declared.design.Block.Block, declared.design.Channel.Channel, declared.design.Module.Module}
+use Rattle.flow_design.specs.{declared.limits.Scale.Scale, declared.plan.Plan.Plan, declared.session.Statement.Statement}
 use Rattle.flow_grammar.specs.declared.fault.Code.{Code}
-use Rattle.flow_check.specs.declared.item.Spot.{Spot}
+use Rattle.flow_check.specs.{declared.item.Spot.Spot, declared.item.Item.Item, First.sooner, First.first_in, First.first_behind}
+use Rattle.flow_check.specs.{First.place_where, Broken.passes, Broken.spot_breaks, Broken.channel_breaks, Broken.breaks}
+use Rattle.flow_check.specs.{declared.place.Counts.Counts, Places.counts, Places.counts_more, Places.item_behind, Places.items_behind}
 use Rattle.flow_check.specs.declared.item.Spot.TheVariants.{Head, Operation, Terminator}
-use Rattle.flow_check.specs.declared.item.Item.{Item}
-use Rattle.flow_check.specs.First.{sooner, first_in, first_behind, place_where}
 use Rattle.flow_check.specs.Rules.{leads_out, breaks_limits, lacks_users, clashes, is_bad_loop, is_too_late, is_on_wrong_side, spot}
 use Rattle.flow_check.specs.Rules.{spot_in, in_module, broken_by}
-use Rattle.flow_check.specs.Broken.{passes, spot_breaks, channel_breaks, breaks}
-use Rattle.flow_design.specs.declared.session.Statement.{Statement}
-use Rattle.flow_check.specs.declared.place.Counts.{Counts}
-use Rattle.flow_check.specs.Places.{counts, counts_more, item_behind, items_behind}
 use Rattle.flow_check.proofs.Counting.{counted}
 use Rattle.flow_grammar.specs.declared.fault.Code.TheVariants as code
 use Rattle.flow_check.specs.declared.item.Item.TheVariants as item

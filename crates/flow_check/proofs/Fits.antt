@@ -1,42 +1,29 @@
 -- A plan that was read breaks no rule of checking at a scale exactly where the engine takes it, and it keeps the scale.
 use Rattle.std.proofs.Common.{◌≡◌, ℕ, zero, suc, ◌+◌, ◌%◌, ◌<◌, ◌≤◌, List, [], ◌∷◌, ◌++◌, length, take, get_or, Option, None, Some, IfSome}
 use Rattle.std.proofs.Common.{option_map, Bool, true, false, cond, refl, sym, ap, ◌∙◌, arith, true≢false, append_assoc, append-nil, subst}
-use Rattle.std.specs.Prelude.{◌==◌, nat_lt, slice_get, IsTrue}
-use Rattle.std.specs.List.{All, AllPairs, enumerate_from}
-use Rattle.std.proofs.Math.Nat.{le_trans, mod-eq_of_lt}
+use Rattle.std.proofs.{Math.Nat.le_trans, Math.Nat.mod-eq_of_lt, lemmas.List.FromFn.length-enumerate_from, lemmas.Bool.Decides.nat_tests}
+use Rattle.std.proofs.{lemmas.List.get_or-take, lemmas.List.length-take, lemmas.List.get_or_default, lemmas.List.Folds.list_any_at}
+use Rattle.std.proofs.{lemmas.List.Folds.list_any_none, lemmas.Option.none-some, lemmas.Option.slice_get-get_or}
 use Rattle.std.proofs.lemmas.Bool.{and_parts, eqb-true, eq-eqb, and_from, lt-ltb, not_from_true, false_from_ne_true}
-use Rattle.std.proofs.lemmas.List.{get_or-take, length-take, get_or_default}
-use Rattle.std.proofs.lemmas.List.Folds.{list_any_at, list_any_none}
-use Rattle.std.proofs.lemmas.List.FromFn.{length-enumerate_from}
-use Rattle.std.proofs.lemmas.Bool.Decides.{nat_tests}
+use Rattle.std.specs.{Prelude.◌==◌, Prelude.nat_lt, Prelude.slice_get, Prelude.IsTrue, List.All, List.AllPairs, List.enumerate_from}
 use Rattle.flow_word.specs.declared.access.Port.{Port}
-use Rattle.flow_design.specs.declared.design.BlockKind.{BlockKind}
+use Rattle.flow_design.specs.{declared.design.BlockKind.BlockKind, declared.design.Next.Next, declared.design.Timed.Timed}
+use Rattle.flow_design.specs.{declared.design.Block.Block, declared.design.Module.Module, declared.plan.Plan.Plan, Operations.port_of}
+use Rattle.flow_design.specs.{Operations.used_port, Plans.no_channel, Plans.kind_at, declared.limits.Scale.Scale, Limits.limits_at}
 use Rattle.flow_design.specs.declared.design.BlockKind.TheVariants.{Plain, Loop}
-use Rattle.flow_design.specs.declared.design.Next.{Next}
-use Rattle.flow_design.specs.declared.design.Timed.{Timed}
-use Rattle.flow_design.specs.declared.design.Block.{Block}
-use Rattle.flow_design.specs.declared.design.Module.{Module}
-use Rattle.flow_design.specs.declared.plan.Plan.{Plan}
 use Rattle.flow_design.specs.Module.{interval, interval_of, no_block, no_operation}
-use Rattle.flow_design.specs.Operations.{port_of, used_port}
-use Rattle.flow_design.specs.Plans.{no_channel, kind_at}
 use Rattle.flow_design.specs.StaticRules.{same_port, uses, IsTimedSound, IsKindSound, IsNextSound, Clashes, IsBlockSound, IsModuleSound}
 use Rattle.flow_design.specs.StaticRules.{IsChannelSound, FitsEngine}
-use Rattle.flow_design.specs.declared.limits.Scale.{Scale}
-use Rattle.flow_design.specs.Limits.{limits_at}
 use Rattle.session_plan.proofs.Giving.{numbered_at}
 use Rattle.flow_grammar.specs.declared.fault.Code.{Code}
 use Rattle.flow_check.specs.declared.item.Spot.TheVariants.{Head, Operation, Terminator}
-use Rattle.flow_check.specs.declared.item.Item.{Item}
+use Rattle.flow_check.specs.{declared.item.Item.Item, Scales.IsLive, Scales.IsBlockWithin, Scales.KeepsScale}
 use Rattle.flow_check.specs.First.{first_in, first_behind, first_for, place_where}
-use Rattle.flow_check.specs.Rules.{leads_out, breaks_limits, lacks_users, is_served, phase, slot, is_slot}
-use Rattle.flow_check.specs.Rules.{takes_again, clashes, is_bad_loop, is_too_late, lacks_port, is_on_wrong_side, spot, spot_in, in_module}
-use Rattle.flow_check.specs.Rules.{broken_by, rules, checking_fault, Slot}
-use Rattle.flow_check.proofs.Firsts.{where_behind, behind_least}
-use Rattle.std.proofs.lemmas.Option.{none-some, slice_get-get_or}
-use Rattle.flow_check.specs.Scales.{IsLive, IsBlockWithin, KeepsScale}
-use Rattle.flow_check.proofs.Scales.{limits_most, live_most, at_pace}
+use Rattle.flow_check.specs.Rules.{leads_out, breaks_limits, lacks_users, is_served, phase, slot, is_slot, takes_again, clashes}
+use Rattle.flow_check.specs.Rules.{is_bad_loop, is_too_late, lacks_port, is_on_wrong_side, spot, spot_in, in_module, broken_by, rules}
+use Rattle.flow_check.specs.Rules.{checking_fault, Slot}
 use Rattle.flow_check.specs.Read.{IsTimedRead, IsKindRead, IsNextRead, IsBlockRead, IsPlanRead}
+use Rattle.flow_check.proofs.{Firsts.where_behind, Firsts.behind_least, Scales.limits_most, Scales.live_most, Scales.at_pace}
 use Rattle.flow_grammar.specs.declared.fault.Code.TheVariants as code
 
 -- ---- where nothing is found

@@ -1,56 +1,37 @@
 -- What the rules of reading give of a plan and of its edits.
 use Rattle.std.proofs.Common.{◌≡◌, ℕ, ◌+◌, ◌<◌, ◌≤◌, List, [], ◌∷◌, ◌++◌, length, map, is_some, IfSome, Bool, true, false, cond, refl, sym}
-use Rattle.std.proofs.Common.{ap, subst, ◌∙◌, arith, length-append, Option, Some, None, true≢false, append_assoc, append-nil}
-use Rattle.std.proofs.Common.{sum_by, get_or}
+use Rattle.std.proofs.Common.{ap, subst, ◌∙◌, arith, length-append, Option, Some, None, true≢false, append_assoc, append-nil, sum_by}
+use Rattle.std.proofs.Common.{get_or}
+use Rattle.std.proofs.{lemmas.List.Elements.All-nil, lemmas.List.Elements.All-cons, lemmas.Bool.and_parts, lemmas.List.Concat.flat_map-cons}
+use Rattle.std.proofs.{lemmas.Bool.Decides.nat_tests, lemmas.List.FromFn.length-enumerate_from, lemmas.Slice.Eq.bytes_eq-Decides}
+use Rattle.std.proofs.lemmas.List.{length-map, reverse-append, get_or-map}
+use Rattle.std.proofs.lemmas.List.Sums.{sum_by-cons, take_while-cons}
 use Rattle.std.specs.List.{All, filter_map, cons_option, flat_map, enumerate_from}
-use Rattle.std.proofs.lemmas.List.Elements.{All-nil, All-cons}
+use Rattle.std.specs.{Prelude.IsTrue, Prelude.reverse, Prelude.nat_le, Prelude.if◌then◌else◌, Str.bytes_eq}
 use Rattle.flow_word.specs.declared.access.Port.{Port}
 use Rattle.flow_design.specs.declared.limits.TheConstants.{MEMORY_WORDS, FIFO_DEPTH, FIFO_DELAY}
-use Rattle.flow_design.specs.declared.limits.Scale.{Scale}
-use Rattle.flow_design.specs.Limits.{limits_at}
-use Rattle.flow_design.specs.declared.session.Statement.{Statement}
-use Rattle.flow_design.specs.declared.design.Timed.{Timed}
-use Rattle.flow_design.specs.declared.design.Next.{Next}
-use Rattle.flow_design.specs.declared.design.Block.{Block}
-use Rattle.flow_design.specs.declared.design.Module.{Module}
-use Rattle.flow_design.specs.Operations.{places_of, expressions_of, memory_of, port_of}
-use Rattle.flow_design.specs.StaticRules.{IsExpressionSound, AreEntriesSound}
+use Rattle.flow_design.specs.{declared.limits.Scale.Scale, Limits.limits_at, declared.session.Statement.Statement}
+use Rattle.flow_design.specs.{declared.design.Timed.Timed, declared.design.Next.Next, declared.design.Block.Block}
+use Rattle.flow_design.specs.{declared.design.Module.Module, Operations.places_of, Operations.expressions_of, Operations.memory_of}
+use Rattle.flow_design.specs.{Operations.port_of, StaticRules.IsExpressionSound, StaticRules.AreEntriesSound, declared.design.Memory.Memory}
+use Rattle.flow_design.specs.{Names.is_name, declared.session.Statement.TheVariants.Input, declared.design.ChannelKind.ChannelKind}
+use Rattle.flow_design.specs.{declared.design.Channel.Channel, Plans.no_channel, Plans.is_fifo, Plans.EditFits, declared.plan.Edit.Edit}
 use Rattle.flow_grammar.specs.Before.{temp_name, is_among, channel_name, register_name, memory_name, block_name, blocks, in_module}
 use Rattle.flow_grammar.specs.Before.{input_count, input_values, module_name, channels, modules, fifo_name}
-use Rattle.session_plan.specs.Names.{Name, Scope, number_of}
-use Rattle.session_plan.specs.Numbered.{timed, terminator}
+use Rattle.flow_grammar.specs.{Tokens.is_name as is_name_token, Rules.is_over, Rules.KeepsReadingRules}
+use Rattle.flow_grammar.specs.declared.place.Place.TheVariants.{AmongRegisters, AtEnd}
+use Rattle.flow_grammar.specs.Places.{place, may_stand, may_follow}
+use Rattle.session_plan.specs.{Names.Name, Names.Scope, Names.number_of, Numbered.timed, Numbered.terminator, declared.section.Level.Level}
 use Rattle.session_plan.specs.Plans.{first_or, kind_of, block, memory, scope_of, module_of, values_for, inputs_of, inputs_for, channel}
 use Rattle.session_plan.specs.Plans.{depth_in, channels_of, channel_names, plan_of, edit, edits_of}
 use Rattle.session_plan.specs.Sections.{begins, body_of, sections, declared, declared_width}
 use Rattle.flow_check.specs.Read.{IsTimedRead, IsKindRead, IsNextRead, IsBlockRead, IsMemoryRead, IsModuleRead, IsPlanRead}
-use Rattle.flow_check.proofs.Bodies.{Keeps, Follow, Plain, plain_body, follow_body, inside, nothing_inside, grows, at_most, as_many, Heard}
 use Rattle.flow_check.specs.Broken.{passes}
-use Rattle.flow_check.proofs.Bodies.{heard_none, Grows, Both, both_more, all_follow, temp_same, heard_all, Hears}
-use Rattle.flow_check.proofs.Bodies.{hears_more, hears_body, plain_later, TimedRead, ops_read, next_read, few_temps, few_operations}
-use Rattle.flow_check.proofs.Bodies.{len_read, kind_read, register_same, memory_same, heard_body, channel_same, in_range, at_most_as}
-use Rattle.std.specs.Prelude.{IsTrue, reverse, nat_le, if◌then◌else◌}
-use Rattle.std.proofs.lemmas.Bool.{and_parts}
-use Rattle.std.proofs.lemmas.List.{length-map, reverse-append, get_or-map}
-use Rattle.flow_design.specs.declared.design.Memory.{Memory}
-use Rattle.flow_design.specs.Names.{is_name}
-use Rattle.flow_grammar.specs.Tokens.{is_name as is_name_token}
-use Rattle.flow_grammar.specs.declared.place.Place.TheVariants.{AmongRegisters, AtEnd}
-use Rattle.flow_grammar.specs.Places.{place, may_stand, may_follow}
-use Rattle.flow_grammar.specs.Rules.{is_over, KeepsReadingRules}
-use Rattle.session_plan.specs.declared.section.Level.{Level}
-use Rattle.std.proofs.lemmas.List.Concat.{flat_map-cons}
-use Rattle.std.proofs.lemmas.List.Sums.{sum_by-cons, take_while-cons}
-use Rattle.std.proofs.lemmas.Bool.Decides.{nat_tests}
-use Rattle.flow_design.specs.declared.session.Statement.TheVariants.{Input}
-use Rattle.flow_design.specs.declared.design.ChannelKind.{ChannelKind}
-use Rattle.flow_design.specs.declared.design.Channel.{Channel}
-use Rattle.std.proofs.lemmas.List.FromFn.{length-enumerate_from}
-use Rattle.flow_design.specs.Plans.{no_channel, is_fifo, EditFits}
-use Rattle.session_plan.proofs.Counts.{names_long}
-use Rattle.session_plan.proofs.Giving.{numbered_at}
-use Rattle.std.specs.Str.{bytes_eq}
-use Rattle.std.proofs.lemmas.Slice.Eq.{bytes_eq-Decides}
-use Rattle.flow_design.specs.declared.plan.Edit.{Edit}
+use Rattle.flow_check.proofs.Bodies.{Keeps, Follow, Plain, plain_body, follow_body, inside, nothing_inside, grows, at_most, as_many, Heard}
+use Rattle.flow_check.proofs.Bodies.{heard_none, Grows, Both, both_more, all_follow, temp_same, heard_all, Hears, hears_more, hears_body}
+use Rattle.flow_check.proofs.Bodies.{plain_later, TimedRead, ops_read, next_read, few_temps, few_operations, len_read, kind_read}
+use Rattle.flow_check.proofs.Bodies.{register_same, memory_same, heard_body, channel_same, in_range, at_most_as}
+use Rattle.session_plan.proofs.{Counts.names_long, Giving.numbered_at}
 use Rattle.flow_design.specs.declared.session.Statement.TheVariants as s
 use Rattle.flow_design.specs.declared.design.Next.TheVariants as next
 use Rattle.session_plan.specs.declared.section.Level.TheVariants as level

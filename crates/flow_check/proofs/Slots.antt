@@ -1,22 +1,14 @@
 -- The ports that modules use, and the slots that operations have taken.
-use Rattle.std.proofs.Common.{◌≡◌, ℕ, ◌+◌, ◌<◌, List, [], ◌∷◌, length, map, get_or, count_by, Bool, false, cond, refl, sym, ap, ◌∙◌}
-use Rattle.std.proofs.Common.{arith, take, drop, Option, Some, option_map, true}
-use Rattle.std.proofs.lemmas.List.{get_or-map, length-map}
-use Rattle.std.proofs.lemmas.List.Sums.{sum_by-cons}
+use Rattle.std.proofs.Common.{◌≡◌, ℕ, ◌+◌, ◌<◌, List, [], ◌∷◌, length, map, get_or, count_by, Bool, false, cond, refl, sym, ap, ◌∙◌, arith}
+use Rattle.std.proofs.Common.{take, drop, Option, Some, option_map, true}
+use Rattle.std.proofs.{lemmas.List.get_or-map, lemmas.List.length-map, lemmas.List.Sums.sum_by-cons, lemmas.Bool.Decides.nat_tests}
 use Rattle.indexmap.specs.IndexSet.{IndexSet}
-use Rattle.flow_design.specs.declared.design.Module.{Module}
-use Rattle.flow_word.specs.declared.access.Side.TheVariants.{Pop}
-use Rattle.flow_word.specs.declared.access.Port.{Port}
-use Rattle.flow_design.specs.StaticRules.{uses}
-use Rattle.flow_check.specs.Ports.{has, HasPorts, HavePorts, has_slot}
-use Rattle.std.specs.Prelude.{◌||◌, ◌&&◌, ◌==◌}
-use Rattle.std.specs.List.{list_any}
-use Rattle.std.proofs.lemmas.Bool.Decides.{nat_tests}
+use Rattle.flow_design.specs.{declared.design.Module.Module, StaticRules.uses, declared.design.Timed.Timed}
 use Rattle.flow_design.specs.declared.design.BlockKind.{BlockKind}
-use Rattle.flow_design.specs.declared.design.Timed.{Timed}
-use Rattle.flow_word.specs.contracts.access.PortPartialEq.TheImpl.{ghosts}
-use Rattle.flow_check.specs.First.{first_behind}
+use Rattle.flow_word.specs.{declared.access.Side.TheVariants.Pop, declared.access.Port.Port, contracts.access.PortPartialEq.TheImpl.ghosts}
+use Rattle.flow_check.specs.{Ports.has, Ports.HasPorts, Ports.HavePorts, Ports.has_slot, First.first_behind}
 use Rattle.flow_check.specs.Rules.{Slot, slot, is_slot, same_slot, clashes}
+use Rattle.std.specs.{Prelude.◌||◌, Prelude.◌&&◌, Prelude.◌==◌, List.list_any}
 
 module _ {S : Type 0} (all : List (IndexSet Port S)) (modules : List Module) (have : HavePorts all modules) where
   pub long : length all ≡ length modules

@@ -1,18 +1,11 @@
 -- How many modules use each channel.
-use Rattle.std.proofs.Common.{◌≡◌, ℕ, ◌+◌, ◌≤◌, List, [], ◌∷◌, length, drop, count_by, slice_index, Bool, true, false, cond}
-use Rattle.std.proofs.Common.{refl, ap, ◌∙◌, arith}
-use Rattle.std.specs.Prelude.{min, ◌==◌}
-use Rattle.std.specs.List.{list_any, AllByRecursion, IsDistinct}
-use Rattle.std.proofs.lemmas.Bool.{cond_both}
-use Rattle.std.proofs.lemmas.Bool.Decides.{nat_tests}
-use Rattle.std.proofs.lemmas.List.{at_drop_all}
-use Rattle.std.proofs.lemmas.List.Sums.{sum_by-cons}
-use Rattle.flow_word.specs.contracts.access.PortPartialEq.TheImpl.{ghosts}
-use Rattle.flow_word.specs.declared.access.Port.{Port}
-use Rattle.flow_word.specs.declared.access.Side.{Side}
+use Rattle.std.proofs.Common.{◌≡◌, ℕ, ◌+◌, ◌≤◌, List, [], ◌∷◌, length, drop, count_by, slice_index, Bool, true, false, cond, refl, ap, ◌∙◌}
+use Rattle.std.proofs.Common.{arith}
+use Rattle.std.proofs.{lemmas.Bool.cond_both, lemmas.Bool.Decides.nat_tests, lemmas.List.at_drop_all, lemmas.List.Sums.sum_by-cons}
+use Rattle.std.specs.{Prelude.min, Prelude.◌==◌, List.list_any, List.AllByRecursion, List.IsDistinct}
+use Rattle.flow_word.specs.{contracts.access.PortPartialEq.TheImpl.ghosts, declared.access.Port.Port, declared.access.Side.Side}
 use Rattle.flow_word.specs.declared.access.Side.TheVariants.{Pop, Push}
-use Rattle.flow_design.specs.StaticRules.{same_port, users_wanted}
-use Rattle.flow_design.specs.declared.design.ChannelKind.{ChannelKind}
+use Rattle.flow_design.specs.{StaticRules.same_port, StaticRules.users_wanted, declared.design.ChannelKind.ChannelKind}
 use Rattle.flow_design.specs.declared.design.ChannelKind.TheVariants.{Source, Sink, Fifo}
 use Rattle.flow_check.specs.Users.{port_at, AreAlike, AreCounted, IsCounting}
 

@@ -1,38 +1,26 @@
 -- A refusal tells the first statement that breaks the first rule that is broken.
-use Rattle.std.proofs.Common.{◌≡◌, ℕ, zero, suc, ◌+◌, List, [], ◌∷◌, length, map, Some, option_map, Bool, true, false, cond, refl, sym}
-use Rattle.std.proofs.Common.{ap, subst, ◌∙◌, arith, true≢false, take, slice_get, ◌<◌, ◌≤◌, ◌++◌, Option, None, unwrap_or}
-use Rattle.std.specs.List.{filter_map, All}
-use Rattle.flow_design.specs.declared.limits.Scale.{Scale}
+use Rattle.std.proofs.Common.{◌≡◌, ℕ, zero, suc, ◌+◌, List, [], ◌∷◌, length, map, Some, option_map, Bool, true, false, cond, refl, sym, ap}
+use Rattle.std.proofs.Common.{subst, ◌∙◌, arith, true≢false, take, slice_get, ◌<◌, ◌≤◌, ◌++◌, Option, None, unwrap_or}
+use Rattle.std.proofs.{lemmas.Bool.Decides.nat_tests, lemmas.List.Elements.All-nil, lemmas.List.Elements.All-cons}
+use Rattle.std.proofs.lemmas.Bool.{cond_both, false_from_ne_true, or_right}
+use Rattle.std.proofs.lemmas.Option.{same_Some, some_pair_parts, slice_get_within}
+use Rattle.std.specs.List.{filter_map, All, list_any}
+use Rattle.flow_design.specs.{declared.limits.Scale.Scale, declared.design.Block.Block, declared.design.Module.Module}
 use Rattle.flow_design.specs.declared.limits.Scale.TheVariants.{Standard, Large}
 use Rattle.flow_design.specs.declared.session.Statement.{Statement}
-use Rattle.flow_design.specs.declared.design.Block.{Block}
-use Rattle.flow_design.specs.declared.design.Module.{Module}
-use Rattle.flow_grammar.specs.declared.fault.Code.{Code}
-use Rattle.session_plan.specs.Names.{Name, Scope}
-use Rattle.session_plan.specs.Numbered.{timed, terminator}
+use Rattle.flow_grammar.specs.{declared.fault.Code.Code, declared.fault.TextFault.TextFault}
+use Rattle.session_plan.specs.{Names.Name, Names.Scope, Numbered.timed, Numbered.terminator, declared.section.Level.Level}
 use Rattle.session_plan.specs.Plans.{first_or, channel, limits_of, block, scope_of, module_of, channels_of, channel_names, modules_of}
 use Rattle.session_plan.specs.Plans.{plan_of}
 use Rattle.session_plan.specs.Sections.{begins, body_of, sections, declared}
-use Rattle.session_plan.specs.declared.section.Level.{Level}
-use Rattle.flow_check.specs.declared.item.Spot.{Spot}
+use Rattle.flow_check.specs.{declared.item.Spot.Spot, declared.item.Item.Item, declared.place.Counts.Counts, Checked.at_line}
+use Rattle.flow_check.specs.{Checked.fault_of, First.first_for, First.or_later, First.place_where}
 use Rattle.flow_check.specs.declared.item.Spot.TheVariants.{Head, Operation, Terminator}
-use Rattle.flow_check.specs.declared.item.Item.{Item}
-use Rattle.flow_check.specs.declared.place.Counts.{Counts}
-use Rattle.flow_check.specs.Places.{counts, item_behind, items_behind, items_of}
-use Rattle.flow_check.specs.Places.{same_item, is_item, place_of}
+use Rattle.flow_check.specs.Places.{counts, item_behind, items_behind, items_of, same_item, is_item, place_of}
 use Rattle.flow_check.specs.Rules.{leads_out, breaks_limits, clashes, is_too_late, is_on_wrong_side, broken_by, rules, checking_fault}
 use Rattle.flow_check.specs.Broken.{passes, spot_breaks, channel_breaks, breaks, statement_breaks, TellsFirst}
-use Rattle.flow_check.proofs.Bodies.{Plain, of_body, plain_body, plain_later}
-use Rattle.flow_check.proofs.Counting.{counted}
+use Rattle.flow_check.proofs.{Bodies.Plain, Bodies.of_body, Bodies.plain_body, Bodies.plain_later, Counting.counted}
 use Rattle.flow_check.proofs.Firsts.{passed, mapped, where_some, where_least, broken_some, broken_least, one_item}
-use Rattle.std.specs.List.{list_any}
-use Rattle.std.proofs.lemmas.Bool.Decides.{nat_tests}
-use Rattle.std.proofs.lemmas.Bool.{cond_both, false_from_ne_true, or_right}
-use Rattle.std.proofs.lemmas.List.Elements.{All-nil, All-cons}
-use Rattle.std.proofs.lemmas.Option.{same_Some, some_pair_parts, slice_get_within}
-use Rattle.flow_grammar.specs.declared.fault.TextFault.{TextFault}
-use Rattle.flow_check.specs.Checked.{at_line, fault_of}
-use Rattle.flow_check.specs.First.{first_for, or_later, place_where}
 use Rattle.flow_design.specs.declared.session.Statement.TheVariants as s
 use Rattle.flow_design.specs.declared.design.Next.TheVariants as next
 use Rattle.flow_grammar.specs.declared.fault.Code.TheVariants as code

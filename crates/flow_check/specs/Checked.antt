@@ -1,15 +1,10 @@
 -- The checking fault of a session: the first rule that it breaks, at the line of the first statement that breaks it.
 use Rattle.std.specs.Prelude.{◌≡◌, ℕ, List, Option, Some, option_map}
-use Rattle.flow_design.specs.declared.limits.Scale.{Scale}
-use Rattle.flow_design.specs.declared.session.Statement.{Statement}
-use Rattle.flow_grammar.specs.declared.fault.Code.{Code}
-use Rattle.flow_grammar.specs.declared.fault.TextFault.{TextFault}
-use Rattle.flow_grammar.specs.declared.fault.ReadFail.{ReadFail}
+use Rattle.flow_design.specs.{declared.limits.Scale.Scale, declared.session.Statement.Statement}
+use Rattle.flow_grammar.specs.{declared.fault.Code.Code, declared.fault.TextFault.TextFault, declared.fault.ReadFail.ReadFail}
 use Rattle.flow_grammar.specs.declared.fault.ReadFail.TheVariants.{Text, OutOfMemory}
 use Rattle.session_plan.specs.Plans.{plan_of}
-use Rattle.flow_check.specs.declared.item.Item.{Item}
-use Rattle.flow_check.specs.Places.{line_of}
-use Rattle.flow_check.specs.Rules.{checking_fault}
+use Rattle.flow_check.specs.{declared.item.Item.Item, Places.line_of, Rules.checking_fault}
 
 abbrev pub at_line : List Statement → List ℕ → Code × Item → TextFault
 at_line statements lines (code, item) = record { line = line_of statements lines item; code = code }

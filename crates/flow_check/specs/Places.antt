@@ -4,12 +4,9 @@ use Rattle.std.specs.Prelude.{option_map, option_and_then, unwrap_or}
 use Rattle.flow_design.specs.declared.session.Statement.{Statement}
 use Rattle.flow_design.specs.declared.session.Statement.TheVariants as s
 use Rattle.flow_grammar.specs.Before.{channels, modules, blocks, operations}
-use Rattle.flow_check.specs.declared.item.Spot.{Spot}
+use Rattle.flow_check.specs.{declared.item.Spot.Spot, declared.item.Item.Item, declared.place.Counts.Counts, First.place_where}
 use Rattle.flow_check.specs.declared.item.Spot.TheVariants.{Head, Operation, Terminator}
-use Rattle.flow_check.specs.declared.item.Item.{Item}
 use Rattle.flow_check.specs.declared.item.Item.TheVariants.{Limits, Channel, InModule}
-use Rattle.flow_check.specs.declared.place.Counts.{Counts}
-use Rattle.flow_check.specs.First.{place_where}
 
 -- ---- the item of a statement
 

@@ -1,21 +1,12 @@
 -- What the rules of reading give of a plan at a scale: all that the engine needs, except what the rules of checking test.
 use Rattle.std.proofs.Common.{◌≡◌, ℕ, ◌+◌, ◌<◌, ◌≤◌, length, sum_by, IsTrue, IfSome}
-use Rattle.std.specs.List.{All}
-use Rattle.std.specs.Prelude.{slice_index, slice_index_or, []}
-use Rattle.flow_design.specs.declared.limits.Scale.{Scale}
-use Rattle.flow_design.specs.Limits.{limits_at}
-use Rattle.flow_design.specs.declared.design.BlockKind.{BlockKind}
+use Rattle.std.specs.{List.All, Prelude.slice_index, Prelude.slice_index_or, Prelude.[]}
+use Rattle.flow_design.specs.{declared.limits.Scale.Scale, Limits.limits_at, declared.design.BlockKind.BlockKind, declared.design.Next.Next}
+use Rattle.flow_design.specs.{declared.design.Timed.Timed, declared.design.Block.Block, declared.design.Memory.Memory}
+use Rattle.flow_design.specs.{declared.design.Module.Module, declared.plan.Plan.Plan, Names.is_name, Plans.no_channel, Plans.kind_at}
 use Rattle.flow_design.specs.declared.design.BlockKind.TheVariants.{Plain, Loop}
-use Rattle.flow_design.specs.declared.design.Next.{Next}
 use Rattle.flow_design.specs.declared.design.Next.TheVariants.{Goto, Branch, Stop}
-use Rattle.flow_design.specs.declared.design.Timed.{Timed}
-use Rattle.flow_design.specs.declared.design.Block.{Block}
-use Rattle.flow_design.specs.declared.design.Memory.{Memory}
-use Rattle.flow_design.specs.declared.design.Module.{Module}
-use Rattle.flow_design.specs.declared.plan.Plan.{Plan}
-use Rattle.flow_design.specs.Names.{is_name}
 use Rattle.flow_design.specs.Operations.{places_of, expressions_of, memory_of, port_of}
-use Rattle.flow_design.specs.Plans.{no_channel, kind_at}
 use Rattle.flow_design.specs.StaticRules.{IsExpressionSound, AreEntriesSound}
 
 pub record IsTimedRead (channels : ℕ) (m : Module) (b : Block) (t : Timed) : Type 0 where

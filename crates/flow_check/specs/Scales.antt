@@ -1,11 +1,8 @@
 -- Plans that keep the limits of a scale which checking tests, and those on which the limits of a run depend.
 use Rattle.std.specs.Prelude.{ℕ, ◌*◌, ◌≤◌, All}
-use Rattle.flow_design.specs.declared.limits.Scale.{Scale}
+use Rattle.flow_design.specs.{declared.limits.Scale.Scale, declared.design.Block.Block, declared.plan.Plan.Plan, Limits.limits_at}
 use Rattle.flow_design.specs.declared.design.BlockKind.{BlockKind}
 use Rattle.flow_design.specs.declared.design.BlockKind.TheVariants.{Plain, Loop}
-use Rattle.flow_design.specs.declared.design.Block.{Block}
-use Rattle.flow_design.specs.declared.plan.Plan.{Plan}
-use Rattle.flow_design.specs.Limits.{limits_at}
 
 -- at most as many iterations of a loop are live at once as the scale allows
 abbrev pub IsLive : Scale → ℕ → BlockKind → Type 0

@@ -1,9 +1,7 @@
 -- How many modules use each channel at one side, where 2 stands for two or more.
 use Rattle.std.specs.Prelude.{◌≡◌, ℕ, ◌+◌, ◌<◌, min, List, length, count_by, slice_index}
-use Rattle.flow_word.specs.declared.access.Port.{Port}
-use Rattle.flow_word.specs.declared.access.Side.{Side}
-use Rattle.flow_design.specs.declared.design.Module.{Module}
-use Rattle.flow_design.specs.StaticRules.{uses}
+use Rattle.flow_word.specs.{declared.access.Port.Port, declared.access.Side.Side}
+use Rattle.flow_design.specs.{declared.design.Module.Module, StaticRules.uses}
 
 abbrev pub port_at : Side → ℕ → Port
 port_at side c = record { side = side; channel = c }

@@ -1,19 +1,10 @@
 //! The laws of checked sessions.
 ghost use Rattle.std.specs.Prelude.{◌≡◌, ◌≤◌, ℕ, List, None, Some, All};
-ghost use Rattle.flow_design.specs.declared.limits.Scale.{Scale};
-ghost use Rattle.flow_design.specs.declared.session.Statement.{Statement};
-ghost use Rattle.flow_design.specs.declared.plan.Plan.{Plan};
-ghost use Rattle.flow_design.specs.Limits.{limits_at};
-ghost use Rattle.flow_design.specs.Plans.{EditFits};
-ghost use Rattle.flow_design.specs.StaticRules.{FitsEngine};
-ghost use Rattle.flow_grammar.specs.Rules.{KeepsReadingRules};
+ghost use Rattle.flow_design.specs.{declared.limits.Scale.Scale, declared.session.Statement.Statement, declared.plan.Plan.Plan};
+ghost use Rattle.flow_design.specs.{Limits.limits_at, Plans.EditFits, StaticRules.FitsEngine};
+ghost use Rattle.flow_grammar.specs.{Rules.KeepsReadingRules, declared.fault.TextFault.TextFault};
 ghost use Rattle.session_plan.specs.Plans.{plan_of, edits_of};
-ghost use Rattle.flow_grammar.specs.declared.fault.TextFault.{TextFault};
-ghost use Rattle.flow_check.specs.Broken.{TellsFirst};
-ghost use Rattle.flow_check.specs.Checked.{fault_of};
-ghost use Rattle.flow_check.specs.Read.{IsPlanRead};
-ghost use Rattle.flow_check.specs.Rules.{checking_fault};
-ghost use Rattle.flow_check.specs.Scales.{KeepsScale};
+ghost use Rattle.flow_check.specs.{Broken.TellsFirst, Checked.fault_of, Read.IsPlanRead, Rules.checking_fault, Scales.KeepsScale};
 
 /// A session that keeps the rules of reading at a scale has a plan with all that the engine needs, except what the rules of
 /// checking test. It keeps the limits of the scale.

@@ -2,11 +2,9 @@
 ghost use Rattle.std.specs.Prelude.{◌≡◌, ◌||◌, [], map, option_map, if◌then◌else◌, IfOk, OnOk};
 ghost use Rattle.std.specs.List.{list_any};
 ghost use Rattle.flow_word.specs.declared.access.Port.{Port as PortOf};
-ghost use Rattle.flow_design.specs.Operations.{used_port};
-ghost use Rattle.flow_design.specs.StaticRules.{uses, is_port};
-ghost use Rattle.flow_check.specs.Ports.{has, has_slot, has_this, HasPorts, HavePorts};
+ghost use Rattle.flow_design.specs.{Operations.used_port, StaticRules.uses, StaticRules.is_port};
+ghost use Rattle.flow_check.specs.{Ports.has, Ports.has_slot, Ports.has_this, Ports.HasPorts, Ports.HavePorts, First.first_behind};
 ghost use Rattle.flow_check.specs.Rules.{phase, slot, clashes, is_slot, Slot as SlotOf};
-ghost use Rattle.flow_check.specs.First.{first_behind};
 
 use flow_design::{BlockKind, Module, Op, Timed};
 use flow_word::{List, OutOfMemory, Port};

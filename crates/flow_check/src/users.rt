@@ -1,9 +1,7 @@
 //! How many modules use each channel at one side.
 ghost use Rattle.std.specs.Prelude.{◌≡◌, List as Items, cond, nat_eq, length, IfOk};
-ghost use Rattle.flow_design.specs.declared.design.Module.{Module as ModuleOf};
-ghost use Rattle.flow_design.specs.StaticRules.{same_port};
-ghost use Rattle.flow_check.specs.Ports.{has, HavePorts};
-ghost use Rattle.flow_check.specs.Users.{port_at, AreCounted, AreUsers};
+ghost use Rattle.flow_design.specs.{declared.design.Module.Module as ModuleOf, StaticRules.same_port};
+ghost use Rattle.flow_check.specs.{Ports.has, Ports.HavePorts, Users.port_at, Users.AreCounted, Users.AreUsers};
 
 use flow_word::{OutOfMemory, Port, Side};
 use indexmap::IndexSet;

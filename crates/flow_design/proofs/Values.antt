@@ -1,9 +1,7 @@
 -- The value of an expression, case by case.
 use Rattle.std.proofs.Common.{◌≡◌, ℕ, ◌%◌, ◌^◌, ◌==◌, List, refl, cond}
 use Rattle.flow_design.specs.declared.expr.Expr.{Expr, Unary, Binary, Sext, Pick, Number, Var}
-use Rattle.flow_design.specs.declared.expr.Expr.TheBlock.{hidden-the_row-Expr-0}
-use Rattle.flow_design.specs.declared.expr.UnOp.{UnOp}
-use Rattle.flow_design.specs.declared.expr.BinOp.{BinOp}
+use Rattle.flow_design.specs.{declared.expr.Expr.TheBlock.hidden-the_row-Expr-0, declared.expr.UnOp.UnOp, declared.expr.BinOp.BinOp}
 use Rattle.flow_design.specs.Words.{unary, binary, extended, variable, value}
 
 pub value_number : (registers temps : List ℕ) (n : ℕ) → value registers temps (Number n) ≡ n

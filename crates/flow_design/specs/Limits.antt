@@ -1,6 +1,5 @@
 -- The limits at each scale.
-use Rattle.flow_design.specs.declared.limits.Limits.{Limits}
-use Rattle.flow_design.specs.declared.limits.Scale.{Scale}
+use Rattle.flow_design.specs.{declared.limits.Limits.Limits, declared.limits.Scale.Scale}
 use Rattle.flow_design.specs.declared.limits.Scale.TheVariants.{Standard, Large}
 use Rattle.flow_design.specs.declared.limits.TheConstants.{STANDARD, LARGE}
 

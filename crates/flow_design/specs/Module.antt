@@ -2,17 +2,11 @@
 use Rattle.std.specs.Prelude.{ℕ, zero, suc, ◌+◌, ◌-◌, ◌*◌, ◌/◌, ◌==◌, min, nat_lt, Bool, true, false, not, if◌then◌else◌, Option, Some}
 use Rattle.std.specs.Prelude.{None, List, [], ◌∷◌, map, filter, flat_map, slice_index_or}
 use Rattle.std.specs.List.{enumerate_from}
-use Rattle.flow_design.specs.declared.expr.Op.TheVariants.{Full}
-use Rattle.flow_design.specs.declared.design.BlockKind.{BlockKind}
+use Rattle.flow_design.specs.{declared.expr.Op.TheVariants.Full, declared.design.BlockKind.BlockKind, declared.design.Next.TheVariants.Stop}
+use Rattle.flow_design.specs.{declared.design.Timed.Timed, declared.design.Block.Block, declared.design.Module.Module}
+use Rattle.flow_design.specs.{declared.state.Control.Control, declared.state.Due.Due, Words.variable}
 use Rattle.flow_design.specs.declared.design.BlockKind.TheVariants.{Plain, Loop}
-use Rattle.flow_design.specs.declared.design.Next.TheVariants.{Stop}
-use Rattle.flow_design.specs.declared.design.Timed.{Timed}
-use Rattle.flow_design.specs.declared.design.Block.{Block}
-use Rattle.flow_design.specs.declared.design.Module.{Module}
-use Rattle.flow_design.specs.declared.state.Control.{Control}
 use Rattle.flow_design.specs.declared.state.ModuleState.{ModuleState}
-use Rattle.flow_design.specs.declared.state.Due.{Due}
-use Rattle.flow_design.specs.Words.{variable}
 
 -- ---- blocks
 

@@ -1,8 +1,6 @@
 -- Names: 1 to 64 letters, digits and underscores, not beginning with a digit, and not the word `sext`.
 use Rattle.std.specs.Prelude.{ℕ, Bool, false, not, ◌&&◌, ◌||◌, ◌==◌, nat_le, List, [], ◌∷◌, length, codes}
-use Rattle.std.specs.List.{list_all}
-use Rattle.std.specs.Char.{is_ascii_alphabetic, is_ascii_alphanumeric}
-use Rattle.std.specs.Str.{bytes_eq}
+use Rattle.std.specs.{List.list_all, Char.is_ascii_alphabetic, Char.is_ascii_alphanumeric, Str.bytes_eq}
 
 -- the byte is a letter, a digit or an underscore
 abbrev pub is_name_byte : ℕ → Bool

@@ -1,34 +1,21 @@
 -- Which plans the engine takes: those that keep the static rules and the limits of the language.
-use Rattle.std.specs.Prelude.{◌≡◌, ℕ, ◌+◌, ◌*◌, ◌%◌, nat_eq, nat_le, ◌<◌, ◌≤◌, Bool, false, ◌&&◌, IsTrue, List, [], length}
-use Rattle.std.specs.Prelude.{slice_index, if◌then◌else◌}
-use Rattle.std.specs.Prelude.{slice_index_or, sum_by, count_by, All, AllPairs, Option, None, Some, IfSome}
+use Rattle.std.specs.Prelude.{◌≡◌, ℕ, ◌+◌, ◌*◌, ◌%◌, nat_eq, nat_le, ◌<◌, ◌≤◌, Bool, false, ◌&&◌, IsTrue, List, [], length, slice_index}
+use Rattle.std.specs.Prelude.{if◌then◌else◌, slice_index_or, sum_by, count_by, All, AllPairs, Option, None, Some, IfSome}
 use Rattle.std.specs.List.{list_any}
-use Rattle.flow_word.specs.declared.access.Port.{Port}
-use Rattle.flow_word.specs.declared.access.Side.{Side}
+use Rattle.flow_word.specs.{declared.access.Port.Port, declared.access.Side.Side, Kinds.same_side}
 use Rattle.flow_word.specs.declared.access.Side.TheVariants.{Pop, Push}
-use Rattle.flow_word.specs.Kinds.{same_side}
 use Rattle.flow_design.specs.declared.limits.TheConstants.{MODULES, CHANNELS, REGISTERS, TEMPS, MEMORIES, MEMORY_WORDS, BLOCKS, OPERATIONS}
 use Rattle.flow_design.specs.declared.limits.TheConstants.{LIVE_ITERATIONS, BLOCK_CLOCKS, EXPRESSION_NODES, EXPRESSION_DEPTH, INPUT_VALUES}
 use Rattle.flow_design.specs.declared.limits.TheConstants.{FIFO_DEPTH, FIFO_DELAY, CYCLES, COUNTED_OPERATIONS, LONG_BLOCK_OPERATIONS}
 use Rattle.flow_design.specs.declared.limits.TheConstants.{SHORT_BLOCK_CLOCKS}
-use Rattle.flow_design.specs.declared.expr.Expr.{Expr}
-use Rattle.flow_design.specs.declared.expr.Op.{Op}
-use Rattle.flow_design.specs.declared.design.BlockKind.{BlockKind}
+use Rattle.flow_design.specs.{declared.expr.Expr.Expr, declared.expr.Op.Op, declared.design.BlockKind.BlockKind, declared.design.Next.Next}
+use Rattle.flow_design.specs.{declared.design.ChannelKind.ChannelKind, declared.design.Timed.Timed, declared.design.Block.Block}
+use Rattle.flow_design.specs.{declared.design.Memory.Memory, declared.design.Module.Module, declared.plan.Plan.Plan, Words.reach}
+use Rattle.flow_design.specs.{Words.nodes, Words.depth, Module.interval, Names.is_name, Plans.no_channel, Plans.kind_at}
 use Rattle.flow_design.specs.declared.design.BlockKind.TheVariants.{Plain, Loop}
-use Rattle.flow_design.specs.declared.design.Next.{Next}
 use Rattle.flow_design.specs.declared.design.Next.TheVariants.{Goto, Branch, Stop}
-use Rattle.flow_design.specs.declared.design.ChannelKind.{ChannelKind}
 use Rattle.flow_design.specs.declared.design.ChannelKind.TheVariants.{Source, Sink, Fifo}
-use Rattle.flow_design.specs.declared.design.Timed.{Timed}
-use Rattle.flow_design.specs.declared.design.Block.{Block}
-use Rattle.flow_design.specs.declared.design.Memory.{Memory}
-use Rattle.flow_design.specs.declared.design.Module.{Module}
-use Rattle.flow_design.specs.declared.plan.Plan.{Plan}
-use Rattle.flow_design.specs.Words.{reach, nodes, depth}
-use Rattle.flow_design.specs.Module.{interval}
-use Rattle.flow_design.specs.Names.{is_name}
 use Rattle.flow_design.specs.Operations.{places_of, expressions_of, memory_of, port_of, used_port}
-use Rattle.flow_design.specs.Plans.{no_channel, kind_at}
 
 -- ---- ports
 

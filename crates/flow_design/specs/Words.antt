@@ -3,10 +3,8 @@ use Rattle.std.specs.Prelude.{ℕ, max, ◌+◌, ◌-◌, ◌*◌, ◌/◌, ◌%
 use Rattle.std.specs.Prelude.{bit_or, bit_xor, int_lt}
 use Rattle.std.specs.Int.{from_bool, cast_signed, w64}
 use Rattle.flow_design.specs.declared.expr.Expr.{Expr, more_of-Expr, Number, Var, Unary', Binary', Sext', Pick', fold-Expr}
-use Rattle.flow_design.specs.declared.expr.Expr.TheOpen.{Expr-F}
-use Rattle.flow_design.specs.declared.expr.UnOp.{UnOp}
+use Rattle.flow_design.specs.{declared.expr.Expr.TheOpen.Expr-F, declared.expr.UnOp.UnOp, declared.expr.BinOp.BinOp}
 use Rattle.flow_design.specs.declared.expr.UnOp.TheVariants.{Not}
-use Rattle.flow_design.specs.declared.expr.BinOp.{BinOp}
 use Rattle.flow_design.specs.declared.expr.BinOp.TheVariants.{Add, Sub, Mul, And, Or, Xor, Shl, Shr, Eq, Ne, LtU, LtS, Div, Rem}
 
 -- a value cut to a width: the value modulo 2^width

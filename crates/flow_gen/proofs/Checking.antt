@@ -1,31 +1,21 @@
 -- The session has no fault of checking.
-use Rattle.std.proofs.Common.{◌≡◌, ℕ, zero, suc, ◌≤◌, List, [], ◌∷◌, map, Option, None, option_map, Bool, true}
-use Rattle.std.proofs.Common.{not, refl, ap, arith, is_some}
-use Rattle.std.specs.Prelude.{take_while}
-use Rattle.std.specs.List.{AllByRecursion, filter_map}
-use Rattle.std.proofs.lemmas.Bool.{and_parts, cond_both}
-use Rattle.std.proofs.lemmas.Bool.Decides.{nat_tests}
-use Rattle.std.proofs.lemmas.List.Sums.{take_while-cons}
+use Rattle.std.proofs.Common.{◌≡◌, ℕ, zero, suc, ◌≤◌, List, [], ◌∷◌, map, Option, None, option_map, Bool, true, not, refl, ap, arith}
+use Rattle.std.proofs.Common.{is_some}
+use Rattle.std.proofs.{lemmas.Bool.and_parts, lemmas.Bool.cond_both, lemmas.Bool.Decides.nat_tests, lemmas.List.Sums.take_while-cons}
+use Rattle.std.specs.{Prelude.take_while, List.AllByRecursion, List.filter_map}
 use Rattle.flow_design.specs.declared.limits.Scale.TheVariants.{Standard}
-use Rattle.flow_design.specs.declared.session.Statement.{Statement}
+use Rattle.flow_design.specs.{declared.session.Statement.Statement, declared.design.Module.Module}
 use Rattle.flow_design.specs.declared.session.Statement.TheVariants.{Block, Loop, At}
-use Rattle.flow_design.specs.declared.design.Module.{Module}
 use Rattle.flow_grammar.specs.declared.fault.Code.{Code}
 use Rattle.flow_grammar.specs.declared.fault.Code.TheVariants as code
-use Rattle.session_plan.specs.Names.{Scope}
-use Rattle.session_plan.specs.Numbered.{timed}
-use Rattle.session_plan.specs.Plans.{block, channel_names, len_of, module_of, plan_of, scope_of}
-use Rattle.session_plan.specs.Sections.{begins, declared, sections}
-use Rattle.session_plan.specs.declared.section.Level.{Level}
+use Rattle.session_plan.specs.{Names.Scope, Numbered.timed, Plans.block, Plans.channel_names, Plans.len_of, Plans.module_of, Plans.plan_of}
+use Rattle.session_plan.specs.{Plans.scope_of, Sections.begins, Sections.declared, Sections.sections, declared.section.Level.Level}
 use Rattle.session_plan.specs.declared.section.Level.TheVariants as level
 use Rattle.session_plan.specs.declared.section.Sort.TheVariants as sort
-use Rattle.flow_check.specs.declared.item.Spot.TheVariants.{Operation}
-use Rattle.flow_check.specs.Checked.{at_line, fault_of}
-use Rattle.flow_check.specs.First.{first_in, place_where}
+use Rattle.flow_check.specs.{declared.item.Spot.TheVariants.Operation, Checked.at_line, Checked.fault_of, First.first_in, First.place_where}
 use Rattle.flow_check.specs.Rules.{broken_by, checking_fault, in_module, is_too_late, spot, spot_in}
 use Rattle.flow_gen.specs.Generated.{drawn, session, session_of}
-use Rattle.flow_gen.proofs.Passing.{checks, all_checked}
-use Rattle.flow_gen.proofs.Fitting.{AllFit, Fits, IsPaced, session_fits}
+use Rattle.flow_gen.proofs.{Passing.checks, Passing.all_checked, Fitting.AllFit, Fitting.Fits, Fitting.IsPaced, Fitting.session_fits}
 
 abbrev Section : Type 0
 Section = Statement × List Statement

@@ -1,23 +1,17 @@
 -- The statements of the session one by one: what their numbers and expressions keep.
-use Rattle.std.proofs.Common.{◌≡◌, ℕ, zero, suc, ◌+◌, ◌-◌, ◌*◌, ◌<◌, ◌≤◌, ◌^◌, List, [], ◌∷◌, ◌++◌, length, None, Bool, true, refl, ◌∙◌}
-use Rattle.std.proofs.Common.{ap, ap₂, arith, length-append, subst}
-use Rattle.std.specs.Prelude.{max, nat_le, codes}
-use Rattle.std.specs.List.{AllByRecursion, list_all}
-use Rattle.std.proofs.lemmas.Bool.{and_from, and_parts, le-leb}
-use Rattle.std.proofs.lemmas.List.Folds.{list_all-append}
+use Rattle.std.proofs.Common.{◌≡◌, ℕ, zero, suc, ◌+◌, ◌-◌, ◌*◌, ◌<◌, ◌≤◌, ◌^◌, List, [], ◌∷◌, ◌++◌, length, None, Bool, true, refl, ◌∙◌, ap}
+use Rattle.std.proofs.Common.{ap₂, arith, length-append, subst}
+use Rattle.std.proofs.{lemmas.Bool.and_from, lemmas.Bool.and_parts, lemmas.Bool.le-leb, lemmas.List.Folds.list_all-append}
+use Rattle.std.specs.{Prelude.max, Prelude.nat_le, Prelude.codes, List.AllByRecursion, List.list_all}
 use Rattle.flow_design.specs.declared.limits.TheConstants.{BLOCK_CLOCKS, EXPRESSION_DEPTH, EXPRESSION_NODES, FIFO_DEPTH, STANDARD}
-use Rattle.flow_design.specs.declared.limits.Scale.TheVariants.{Standard}
-use Rattle.flow_design.specs.declared.session.Statement.{Statement}
+use Rattle.flow_design.specs.{declared.limits.Scale.TheVariants.Standard, declared.session.Statement.Statement, declared.expr.Expr.Expr}
+use Rattle.flow_design.specs.{declared.expr.BinOp.BinOp, Words.nodes, Words.depth, Words.layer_nodes, Words.layer_depth}
 use Rattle.flow_design.specs.declared.session.Statement.TheVariants.{Flow, Source, Sink, Block, Loop, At, Input, End}
 use Rattle.flow_design.specs.declared.expr.Op.TheVariants.{Set, Write}
-use Rattle.flow_design.specs.declared.expr.Expr.{Expr}
 use Rattle.flow_design.specs.declared.expr.Expr.TheVariants.{Number, Var, Binary}
-use Rattle.flow_design.specs.declared.expr.BinOp.{BinOp}
 use Rattle.flow_design.specs.declared.expr.BinOp.TheVariants.{Add, LtU}
-use Rattle.flow_design.specs.Words.{nodes, depth, layer_nodes, layer_depth}
-use Rattle.flow_grammar.specs.Operators.{binary_word}
+use Rattle.flow_grammar.specs.{Operators.binary_word, Rules.is_in_range, Rules.is_sized, Rules.is_small, Rules.has_room}
 use Rattle.flow_grammar.specs.Parts.{Part, Word, Use, AVariable, plain, parts, expr_parts}
-use Rattle.flow_grammar.specs.Rules.{is_in_range, is_sized, is_small, has_room}
 use Rattle.flow_grammar.proofs.SpellingLaws.{parts_Number, parts_Var, parts_Binary}
 use Rattle.flow_grammar.proofs.Trees.{folded-Number, folded-Var, folded-Binary}
 use Rattle.flow_gen.specs.Generated.{Name, drawn, drawn_from, each, fifo_behind, first_clock, head_of, module_of, second_clock, session_of}

@@ -1,23 +1,17 @@
 -- What the session of each number of modules passes, whatever its draws: these tests compute.
 use Rattle.std.proofs.Common.{◌≡◌, ℕ, suc, ◌+◌, ◌-◌, ◌*◌, ◌^◌, ◌<◌, List, [], ◌∷◌, length, Bool, true, refl, not, is_some, sum_by}
-use Rattle.std.specs.Prelude.{◌&&◌, nat_le, nat_lt, codes}
-use Rattle.std.specs.Fmt.{digits}
-use Rattle.std.specs.List.{list_all}
 use Rattle.std.proofs.lemmas.Bool.{agree_below_at}
-use Rattle.flow_design.specs.declared.limits.TheConstants.{STANDARD}
+use Rattle.std.specs.{Prelude.◌&&◌, Prelude.nat_le, Prelude.nat_lt, Prelude.codes, Fmt.digits, List.list_all}
+use Rattle.flow_design.specs.{declared.limits.TheConstants.STANDARD, declared.session.Statement.Statement}
 use Rattle.flow_design.specs.declared.limits.Scale.TheVariants.{Standard}
-use Rattle.flow_design.specs.declared.expr.Op.TheVariants as op
-use Rattle.flow_design.specs.declared.session.Statement.{Statement}
 use Rattle.flow_design.specs.declared.session.Statement.TheVariants.{At, Input}
+use Rattle.flow_design.specs.declared.expr.Op.TheVariants as op
 use Rattle.flow_gen.specs.Generated.{each, first_clock, head_of, second_clock, session_of, values}
 use Rattle.flow_gen.specs.declared.draws.Drawn.{Drawn}
-use Rattle.flow_grammar.specs.declared.fault.Code.{Code}
-use Rattle.flow_grammar.specs.declared.fault.Code.TheVariants as code
-use Rattle.flow_grammar.specs.Tokens.{is_name}
+use Rattle.flow_grammar.specs.{declared.fault.Code.Code, Tokens.is_name, Before.version, Before.operations, Places.may_follow}
 use Rattle.flow_grammar.specs.Parts.{Part, Num, Use, AnyChannel, AVariable, parts}
-use Rattle.flow_grammar.specs.Before.{version, operations}
-use Rattle.flow_grammar.specs.Places.{may_follow}
 use Rattle.flow_grammar.specs.Rules.{is_well_named, fits_version, is_new, is_first_input, is_known, has_room, is_over}
+use Rattle.flow_grammar.specs.declared.fault.Code.TheVariants as code
 use Rattle.flow_print.specs.Canonical.{token_of}
 use Rattle.session_plan.specs.Plans.{plan_of, module_of, block}
 use Rattle.flow_check.specs.Rules.{broken_by}

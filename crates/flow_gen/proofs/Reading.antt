@@ -1,24 +1,17 @@
 -- The text of the session stands for it: the session keeps the rules of reading, and the text is not too long.
-use Rattle.std.proofs.Common.{◌≡◌, ℕ, zero, suc, ◌+◌, ◌-◌, ◌*◌, ◌≤◌, ◌^◌, List, [], ◌∷◌, ◌++◌, length, map, take, Some}
-use Rattle.std.proofs.Common.{true, refl, sym, subst, append_assoc, append-nil, arith, length-append, slice_get, sum_by}
-use Rattle.std.specs.Prelude.{reverse}
-use Rattle.std.specs.List.{list_all, join_with_byte, range_with_len}
-use Rattle.std.proofs.lemmas.Bool.{and_from, and_parts, leb-true}
-use Rattle.std.proofs.lemmas.Fmt.{length-decimal-le}
-use Rattle.std.proofs.lemmas.List.{reverse-append}
-use Rattle.std.proofs.lemmas.List.Concat.{flat_map-cons}
-use Rattle.std.proofs.lemmas.List.Sums.{sum_by-cons}
-use Rattle.flow_design.specs.declared.limits.TheConstants.{STANDARD}
+use Rattle.std.proofs.Common.{◌≡◌, ℕ, zero, suc, ◌+◌, ◌-◌, ◌*◌, ◌≤◌, ◌^◌, List, [], ◌∷◌, ◌++◌, length, map, take, Some, true, refl, sym}
+use Rattle.std.proofs.Common.{subst, append_assoc, append-nil, arith, length-append, slice_get, sum_by}
+use Rattle.std.proofs.{lemmas.Bool.and_from, lemmas.Bool.and_parts, lemmas.Bool.leb-true, lemmas.Fmt.length-decimal-le}
+use Rattle.std.proofs.{lemmas.List.reverse-append, lemmas.List.Concat.flat_map-cons, lemmas.List.Sums.sum_by-cons}
+use Rattle.std.specs.{Prelude.reverse, List.list_all, List.join_with_byte, List.range_with_len}
+use Rattle.flow_design.specs.{declared.limits.TheConstants.STANDARD, declared.session.Statement.Statement}
 use Rattle.flow_design.specs.declared.limits.Scale.TheVariants.{Standard}
-use Rattle.flow_design.specs.declared.session.Statement.{Statement}
-use Rattle.flow_grammar.specs.Parts.{Part, Word, Num, parts}
-use Rattle.flow_grammar.specs.Rules.{is_well_named, is_first_input, is_in_range, is_new, is_known, statement_fault}
-use Rattle.flow_grammar.specs.Rules.{KeepsReadingRules, KeepsRules}
-use Rattle.flow_grammar.specs.Text.{StandsFor}
+use Rattle.flow_grammar.specs.{Parts.Part, Parts.Word, Parts.Num, Parts.parts, Text.StandsFor}
+use Rattle.flow_grammar.specs.Rules.{is_well_named, is_first_input, is_in_range, is_new, is_known, statement_fault, KeepsReadingRules}
+use Rattle.flow_grammar.specs.Rules.{KeepsRules}
 use Rattle.report_text.specs.Lines.{line, text_of_lines}
 use Rattle.flow_print.specs.Canonical.{token_of, tokens_of, written_parts, canonical_text}
-use Rattle.flow_print.proofs.PartLemmas.{written_pass}
-use Rattle.flow_print.proofs.ReadBack.{reads_back}
+use Rattle.flow_print.proofs.{PartLemmas.written_pass, ReadBack.reads_back}
 use Rattle.flow_gen.specs.Generated.{drawn, session, session_of, session_text}
 use Rattle.flow_gen.proofs.Passing.{is_brief, keeps, follow, most_parts, reads, all_read}
 use Rattle.flow_gen.proofs.Fitting.{Fits, AllFit, session_fits}

@@ -1,11 +1,10 @@
 -- One module more, and one value more.
-use Rattle.std.proofs.Common.{◌≡◌, ◌∙◌, ◌<◌, ◌≤◌, ℕ, ◌+◌, ◌*◌, List, ◌++◌, ◌∷◌, [], refl, sym, ap, ap₂, add-one}
-use Rattle.std.proofs.Common.{append-nil, append_assoc, arith, suc, map}
-use Rattle.std.specs.List.{range_with_len}
+use Rattle.std.proofs.Common.{◌≡◌, ◌∙◌, ◌<◌, ◌≤◌, ℕ, ◌+◌, ◌*◌, List, ◌++◌, ◌∷◌, [], refl, sym, ap, ap₂, add-one, append-nil, append_assoc}
+use Rattle.std.proofs.Common.{arith, suc, map}
 use Rattle.std.proofs.lemmas.List.FromFn.{map-range_with_len_more}
+use Rattle.std.specs.List.{range_with_len}
 use Rattle.flow_design.specs.declared.session.Statement.{Statement}
-use Rattle.flow_gen.specs.Generated.{drawn, each, next, state_after}
-use Rattle.flow_gen.specs.declared.draws.Drawn.{Drawn}
+use Rattle.flow_gen.specs.{Generated.drawn, Generated.each, Generated.next, Generated.state_after, declared.draws.Drawn.Drawn}
 
 -- so far the statements of the first k modules are pushed, and their draws leave this state
 pub record IsPushed (statements : ℕ → Drawn → List Statement) (seed k : ℕ) (old now : List Statement) (state : ℕ) : Type 0 where

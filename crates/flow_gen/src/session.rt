@@ -1,8 +1,8 @@
 //! The statements of the generated session.
 ghost use Rattle.std.specs.Prelude.{◌≡◌, ◌++◌, ◌≤◌, ◌<◌, IfOk, OnOk};
 ghost use Rattle.flow_design.specs.declared.limits.TheConstants.{STANDARD};
-ghost use Rattle.flow_gen.specs.Generated.{drawn, each, fifo_behind, fifo_name, first_clock, head_of, input_of, module_name};
-ghost use Rattle.flow_gen.specs.Generated.{module_of, output_of, second_clock, session, values as values_given};
+ghost use Rattle.flow_gen.specs.Generated.{drawn, each, fifo_behind, fifo_name, first_clock, head_of, input_of, module_name, module_of};
+ghost use Rattle.flow_gen.specs.Generated.{output_of, second_clock, session, values as values_given};
 
 use crate::draws::{Drawn, draw_module};
 use flow_design::{BinOp, Expr, Name, Op, Session, Statement};

@@ -1,17 +1,10 @@
 -- What is kept of an expression is the first test that it fails, or the expression with its size.
 use Rattle.std.proofs.Common.{◌≡◌, ℕ, ◌^◌, ◌-◌, List, Bool, true, ◌∙◌, arith}
-use Rattle.std.specs.Prelude.{◌&&◌, nat_le, nat_lt}
-use Rattle.std.specs.List.{list_all}
-use Rattle.std.proofs.lemmas.Bool.Decides.{nat_tests}
-use Rattle.std.proofs.lemmas.List.Folds.{list_all-append}
-use Rattle.flow_design.specs.declared.expr.Expr.{Expr}
-use Rattle.flow_design.specs.declared.expr.Expr.TheVariants.{Unary}
-use Rattle.flow_design.specs.declared.expr.UnOp.{UnOp}
-use Rattle.flow_design.specs.declared.expr.UnOp.TheVariants.{Not}
-use Rattle.flow_grammar.specs.Parts.{expr_parts}
-use Rattle.flow_design.specs.Words.{nodes, depth}
-use Rattle.flow_grammar.specs.Rules.{is_in_range}
-use Rattle.flow_grammar.specs.Operands.{seen, kept, is_known_by}
+use Rattle.std.proofs.{lemmas.Bool.Decides.nat_tests, lemmas.List.Folds.list_all-append}
+use Rattle.std.specs.{Prelude.◌&&◌, Prelude.nat_le, Prelude.nat_lt, List.list_all}
+use Rattle.flow_design.specs.{declared.expr.Expr.Expr, declared.expr.Expr.TheVariants.Unary, declared.expr.UnOp.UnOp}
+use Rattle.flow_design.specs.{declared.expr.UnOp.TheVariants.Not, Words.nodes, Words.depth}
+use Rattle.flow_grammar.specs.{Parts.expr_parts, Rules.is_in_range, Operands.seen, Operands.kept, Operands.is_known_by}
 use Rattle.flow_grammar.proofs.Induction.{by_cases}
 use Rattle.flow_grammar.proofs.Trees.{folded-Number, folded-Var, folded-Unary, folded-Binary, folded-Sext, folded-Pick}
 use Rattle.flow_grammar.proofs.SpellingLaws.{parts_Number, parts_Var, parts_Unary, parts_Binary, parts_Sext, parts_Pick}

@@ -1,13 +1,7 @@
 -- A number is read by the digits' value.
-use Rattle.std.proofs.Common.{◌≡◌, ℕ, List, [], ◌∷◌, true, false, Option, None, refl, ap, arith}
-use Rattle.std.specs.Prelude.{position}
-use Rattle.std.specs.Char.{is_ascii_digit}
-use Rattle.std.specs.List.{list_all, position_or_len}
-use Rattle.std.proofs.lemmas.Bool.{le-ltb}
-use Rattle.std.proofs.Common.{length, cond}
-use Rattle.std.specs.Prelude.{◌==◌}
-use Rattle.std.proofs.Common.{◌≤◌}
-use Rattle.std.proofs.lemmas.Bool.Decides.{nat_tests}
+use Rattle.std.proofs.Common.{◌≡◌, ℕ, List, [], ◌∷◌, true, false, Option, None, refl, ap, arith, length, cond, ◌≤◌}
+use Rattle.std.proofs.{lemmas.Bool.le-ltb, lemmas.Bool.Decides.nat_tests}
+use Rattle.std.specs.{Prelude.position, Prelude.◌==◌, Char.is_ascii_digit, List.list_all, List.position_or_len}
 use Rattle.flow_word.specs.Number.{is_no_digit, number_of as number_read_of, fitting, word_of, judged}
 use Rattle.flow_grammar.specs.Tokens.{is_number, number_of}
 

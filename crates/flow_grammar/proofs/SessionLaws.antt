@@ -1,22 +1,17 @@
 -- A session that a text stands for keeps the rules of reading, and its line numbers rise.
-use Rattle.std.proofs.Common.{◌≡◌, ℕ, zero, suc, ◌+◌, ◌<◌, ◌≤◌, List, [], ◌∷◌, ◌++◌, length, take, None, Some, true, refl, sym, ap}
-use Rattle.std.proofs.Common.{subst, ◌∙◌, append_assoc, inl, inr, arith}
-use Rattle.std.specs.Prelude.{slice_get, reverse, ◌||◌, ◌==◌}
-use Rattle.std.specs.List.{list_all, All, AllPairs}
-use Rattle.std.proofs.lemmas.List.{append-nil}
-use Rattle.std.proofs.lemmas.List.Kept.{AllPairs-cons}
+use Rattle.std.proofs.Common.{◌≡◌, ℕ, zero, suc, ◌+◌, ◌<◌, ◌≤◌, List, [], ◌∷◌, ◌++◌, length, take, None, Some, true, refl, sym, ap, subst}
+use Rattle.std.proofs.Common.{◌∙◌, append_assoc, inl, inr, arith}
+use Rattle.std.proofs.{lemmas.List.append-nil, lemmas.List.Kept.AllPairs-cons, lemmas.Bool.or_right, lemmas.Bool.and_from}
 use Rattle.std.proofs.lemmas.List.Elements.{All-nil, All-cons}
-use Rattle.flow_design.specs.declared.limits.Scale.{Scale}
-use Rattle.flow_design.specs.declared.session.Statement.{Statement}
+use Rattle.std.specs.{Prelude.slice_get, Prelude.reverse, Prelude.◌||◌, Prelude.◌==◌, List.list_all, List.All, List.AllPairs}
+use Rattle.flow_design.specs.{declared.limits.Scale.Scale, declared.session.Statement.Statement}
 use Rattle.flow_design.specs.declared.session.Statement.TheVariants.{Fifo}
 use Rattle.flow_grammar.specs.Tokens.{Line, Token, is_name, lines_of, tokens_of}
-use Rattle.flow_grammar.specs.Before.{version, has_delays}
+use Rattle.flow_grammar.specs.{Before.version, Before.has_delays, Text.statements_among, Text.numbers_among, Text.StandsFor}
 use Rattle.flow_grammar.specs.Parts.{Name, Part, Word, Num, parts, bare_parts, depth_parts, fifo_parts, default_delay}
 use Rattle.flow_grammar.specs.Spelling.{Spells, Spelled, WritesFifo, Writes}
 use Rattle.flow_grammar.specs.Rules.{is_well_named, fits_version, KeepsRules, KeepsReadingRules}
-use Rattle.flow_grammar.specs.Text.{statements_among, numbers_among, StandsFor}
 use Rattle.flow_grammar.proofs.TextLaws.{Words, InOrderFrom, ordered}
-use Rattle.std.proofs.lemmas.Bool.{or_right, and_from}
 
 -- ---- names
 

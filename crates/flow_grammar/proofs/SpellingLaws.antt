@@ -1,43 +1,29 @@
 -- Tokens write what is worked out from them, and that alone.
 use Rattle.std.proofs.Common.{◌≡◌, ℕ, List, [], ◌∷◌, ◌++◌, Bool, true, false, cond, Option, None, Some, refl, subst, append_assoc, ◌-◌, ◌^◌}
 use Rattle.std.proofs.Common.{sym, ◌∙◌, arith, map, inl, inr, true≢false, drop}
-use Rattle.std.specs.Prelude.{◌⊎◌, codes, ◌==◌, ◌&&◌, ◌||◌}
-use Rattle.std.specs.List.{find, list_all}
 use Rattle.std.proofs.lemmas.List.Folds.{list_all-append}
-use Rattle.flow_grammar.proofs.Induction.{by_cases}
-use Rattle.flow_grammar.specs.Parts.{Word, New, Label, Num, Use, AVariable, Part, expr_parts, layer_parts, Name, parts}
-use Rattle.flow_grammar.specs.Parts.{bare_parts, depth_parts, fifo_parts, op_parts, guard_parts, plain, default_depth, default_delay}
-use Rattle.std.specs.Option.{option_and_then}
-use Rattle.flow_design.specs.declared.expr.Expr.{Expr}
-use Rattle.flow_design.specs.declared.expr.Expr.TheOpen.{Expr-F}
-use Rattle.flow_design.specs.declared.expr.Expr.TheVariants.{Number, Var, Unary, Binary, Sext, Pick}
-use Rattle.flow_design.specs.declared.expr.UnOp.{UnOp}
-use Rattle.flow_design.specs.declared.expr.UnOp.TheVariants.{Not}
-use Rattle.flow_design.specs.declared.expr.BinOp.{BinOp}
-use Rattle.flow_grammar.specs.declared.operator.Operator.{Operator}
-use Rattle.flow_grammar.specs.declared.operator.Operator.TheVariants.{One, Two, Extend, Choose}
 use Rattle.std.proofs.lemmas.Bool.{eqb-true, eq-eqb, and_parts, and_from, or_cases}
-use Rattle.std.proofs.lemmas.Slice.Eq.{bytes_eq-Decides}
+use Rattle.std.proofs.{lemmas.Slice.Eq.bytes_eq-Decides, lemmas.Bool.Decides.nat_tests, lemmas.List.append-nil}
+use Rattle.std.specs.Prelude.{◌⊎◌, codes, ◌==◌, ◌&&◌, ◌||◌}
+use Rattle.std.specs.{List.find, List.list_all, Option.option_and_then, Char.is_ascii_digit, Char.is_ascii_alphabetic}
+use Rattle.flow_grammar.proofs.Induction.{by_cases}
+use Rattle.flow_grammar.proofs.Trees.{folded-Number, folded-Var, folded-Unary, folded-Binary, folded-Sext, folded-Pick}
+use Rattle.flow_grammar.specs.Parts.{Word, New, Label, Num, Use, AVariable, Part, expr_parts, layer_parts, Name, parts, bare_parts}
+use Rattle.flow_grammar.specs.Parts.{depth_parts, fifo_parts, op_parts, guard_parts, plain, default_depth, default_delay}
+use Rattle.flow_grammar.specs.{declared.operator.Operator.Operator, declared.keyword.Keyword.Keyword, declared.keyword.Verb.Verb}
+use Rattle.flow_grammar.specs.{Operators.operator_word, Operators.operators, Operators.operator_of, Before.has_delays}
+use Rattle.flow_grammar.specs.declared.operator.Operator.TheVariants.{One, Two, Extend, Choose}
 use Rattle.flow_grammar.specs.Tokens.{is_word, is_number, is_name, number_of, Token}
-use Rattle.flow_grammar.specs.declared.keyword.Keyword.{Keyword}
-use Rattle.flow_grammar.specs.declared.keyword.Verb.{Verb}
 use Rattle.flow_grammar.specs.Keywords.{keyword_word, keywords, keyword_of, verb_word, verbs, verb_of}
-use Rattle.flow_grammar.specs.Operators.{operator_word, operators, operator_of}
 use Rattle.flow_grammar.specs.Spelling.{Spelled, Spells, Writes, WritesFifo}
 use Rattle.flow_grammar.specs.Trees.{Trees, trees_of, with_token, applied, applied_if}
-use Rattle.flow_grammar.proofs.Trees.{folded-Number, folded-Var, folded-Unary, folded-Binary, folded-Sext, folded-Pick}
-use Rattle.std.specs.Char.{is_ascii_digit, is_ascii_alphabetic}
-use Rattle.std.proofs.lemmas.Bool.Decides.{nat_tests}
-use Rattle.std.proofs.lemmas.List.{append-nil}
-use Rattle.flow_design.specs.declared.expr.BinOp.TheVariants.{Add}
-use Rattle.flow_design.specs.declared.expr.Op.{Op}
-use Rattle.flow_design.specs.declared.session.Statement.{Statement}
-use Rattle.flow_design.specs.declared.session.Statement.TheVariants.{Fifo, At}
-use Rattle.flow_design.specs.declared.session.Statement.TheVariants.{Input}
-use Rattle.flow_grammar.specs.Forms.{statement_of, flow_of, fifo_of, mem_of, loop_of, at_of, branch_of, input_of, limits_of, op_of}
-use Rattle.flow_grammar.specs.Forms.{form_of, form_if}
-use Rattle.flow_grammar.specs.Forms.{op_form_of, op_form_if}
-use Rattle.flow_grammar.specs.Before.{has_delays}
+use Rattle.flow_grammar.specs.Forms.{statement_of, flow_of, fifo_of, mem_of, loop_of, at_of, branch_of, input_of, limits_of, op_of, form_of}
+use Rattle.flow_grammar.specs.Forms.{form_if, op_form_of, op_form_if}
+use Rattle.flow_design.specs.{declared.expr.Expr.Expr, declared.expr.Expr.TheOpen.Expr-F, declared.expr.UnOp.UnOp}
+use Rattle.flow_design.specs.{declared.expr.UnOp.TheVariants.Not, declared.expr.BinOp.BinOp, declared.expr.BinOp.TheVariants.Add}
+use Rattle.flow_design.specs.{declared.expr.Op.Op, declared.session.Statement.Statement}
+use Rattle.flow_design.specs.declared.expr.Expr.TheVariants.{Number, Var, Unary, Binary, Sext, Pick}
+use Rattle.flow_design.specs.declared.session.Statement.TheVariants.{Fifo, At, Input}
 use Rattle.flow_design.specs.declared.expr.Op.TheVariants as op
 use Rattle.flow_grammar.specs.declared.keyword.Keyword.TheVariants as keyword
 use Rattle.flow_grammar.specs.declared.keyword.Verb.TheVariants as verb

@@ -1,8 +1,7 @@
 -- The top of a stack is the end of its list.
 use Rattle.std.proofs.Common.{◌≡◌, List, [], ◌∷◌, ◌++◌, Option, None, Some, length, refl, ap, ◌∙◌}
-use Rattle.std.specs.Prelude.{reverse, MatchOption}
-use Rattle.std.specs.Option.{option_to_list}
 use Rattle.std.proofs.lemmas.List.{reverse-append, nil_from_length}
+use Rattle.std.specs.{Prelude.reverse, Prelude.MatchOption, Option.option_to_list}
 
 pub reverse_push : {A : Type 0} (xs : List A) (x : A) → reverse (xs ++ x ∷ []) ≡ x ∷ reverse xs
 reverse_push xs x = reverse-append xs (x ∷ [])

@@ -1,29 +1,19 @@
 -- The lines read one after the other give what the text as a whole stands for, or its fault.
 use Rattle.std.proofs.Common.{◌≡◌, ℕ, List, [], ◌∷◌, ◌⊎◌, inl, inr, Bool, true, false, cond, Option, None, Some, refl, sym, subst, ◌∙◌}
 use Rattle.std.proofs.Common.{zero, suc, ◌+◌, ◌≤◌, ◌<◌, ◌++◌, length, take, get_or, Result, Ok, Err, ap, append_assoc, arith}
-use Rattle.std.specs.Prelude.{reverse}
-use Rattle.std.specs.List.{list_all}
+use Rattle.std.proofs.{lemmas.List.append-nil, lemmas.Bool.cases_lt, lemmas.Bool.cond_both}
+use Rattle.std.specs.{Prelude.reverse, List.list_all}
 use Rattle.flow_design.specs.declared.session.Statement.{Statement}
-use Rattle.flow_grammar.specs.declared.fault.Code.{Code}
+use Rattle.flow_design.specs.{declared.limits.Scale.Scale, Limits.limits_at, declared.session.Session.Session}
+use Rattle.flow_grammar.specs.{declared.fault.Code.Code, Before.version, Forms.statement_of, Spelling.Writes, Places.may_follow}
+use Rattle.flow_grammar.specs.{Rules.statement_fault, Rules.is_over, declared.fault.TextFault.TextFault, declared.fault.ReadFail.ReadFail}
 use Rattle.flow_grammar.specs.declared.fault.Code.TheVariants.{NotAscii, Syntax, Truncated, TooLong}
 use Rattle.flow_grammar.specs.Tokens.{Line, Token, tokens_of, is_permitted, lines_of}
-use Rattle.flow_grammar.specs.Before.{version}
-use Rattle.flow_grammar.specs.Forms.{statement_of}
-use Rattle.flow_grammar.specs.Spelling.{Writes}
-use Rattle.flow_grammar.specs.Places.{may_follow}
-use Rattle.flow_grammar.specs.Rules.{statement_fault, is_over}
 use Rattle.flow_grammar.specs.Line.{form_fault, tokens_fault, statement_in, line_fault}
-use Rattle.flow_grammar.specs.Text.{IsInOrder, IsNoStatement, BreaksRule, Fails, statements_among, numbers_among, AreInOrder}
-use Rattle.flow_grammar.specs.Text.{FailsFirst, HasNoEnd, StandsFor, HasFault, IsAnswer, Answers, session_of, Said}
-use Rattle.flow_grammar.proofs.SpellingLaws.{written_is_read, read_is_written}
-use Rattle.std.proofs.lemmas.List.{append-nil}
-use Rattle.std.proofs.lemmas.Bool.{cases_lt, cond_both}
-use Rattle.flow_design.specs.declared.limits.Scale.{Scale}
-use Rattle.flow_design.specs.Limits.{limits_at}
-use Rattle.flow_design.specs.declared.session.Session.{Session}
-use Rattle.flow_grammar.specs.declared.fault.TextFault.{TextFault}
-use Rattle.flow_grammar.specs.declared.fault.ReadFail.{ReadFail}
+use Rattle.flow_grammar.specs.Text.{IsInOrder, IsNoStatement, BreaksRule, Fails, statements_among, numbers_among, AreInOrder, FailsFirst}
+use Rattle.flow_grammar.specs.Text.{HasNoEnd, StandsFor, HasFault, IsAnswer, Answers, session_of, Said}
 use Rattle.flow_grammar.specs.Gives.{◌>>=◌, Read, reading, at_line, judged, line_reading, with_statement, in_front, ended, TextGives}
+use Rattle.flow_grammar.proofs.SpellingLaws.{written_is_read, read_is_written}
 use Rattle.flow_grammar.specs.declared.fault.ReadFail.TheVariants as fails
 
 pub no_tokens : (v : ℕ) (s : Statement) → statement_of v [] ≡ Some s → ⊥

@@ -1,12 +1,11 @@
 -- The first token of a line, and the tokens behind it.
 use Rattle.std.proofs.Common.{◌≡◌, ℕ, suc, ◌+◌, ◌<◌, ◌≤◌, inl, inr, Bool, true, false, cond, not, List, [], ◌∷◌, length, take, drop, get_or}
 use Rattle.std.proofs.Common.{refl, sym, ap, ◌∙◌, arith}
-use Rattle.std.specs.Prelude.{position, None, Some, unwrap_or, filter}
-use Rattle.std.specs.List.{slice_split, position_or_len, take_while}
 use Rattle.std.proofs.lemmas.List.Splits.{slice_split-cons_yes, slice_split-cons_no, slice_split_none, slice_split_first}
 use Rattle.std.proofs.lemmas.List.Sums.{fails_before_first, take_while-cons, prefix_len-le-length}
-use Rattle.std.proofs.lemmas.Bool.{cases_lt, lt-ltb}
-use Rattle.std.proofs.lemmas.Bool.Decides.{nat_tests}
+use Rattle.std.proofs.{lemmas.Bool.cases_lt, lemmas.Bool.lt-ltb, lemmas.Bool.Decides.nat_tests}
+use Rattle.std.specs.Prelude.{position, None, Some, unwrap_or, filter}
+use Rattle.std.specs.List.{slice_split, position_or_len, take_while}
 use Rattle.flow_grammar.specs.Tokens.{lines_of, is_line_feed, tokens_of, is_separator, is_filler, is_no_comment, is_filled}
 
 pub position-or_length : (p : ℕ → Bool) (xs : List ℕ) → unwrap_or (position p xs) (length xs) ≡ position_or_len p xs

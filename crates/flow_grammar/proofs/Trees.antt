@@ -2,14 +2,10 @@
 use Rattle.std.proofs.Common.{◌≡◌, ℕ, List, ◌∷◌, map, Bool, Option, None, Some, sym, ap, ◌∙◌, arith}
 use Rattle.std.specs.Prelude.{option_map}
 use Rattle.flow_design.specs.declared.expr.Expr.{Expr, fold-Expr, fold-roll-Expr}
-use Rattle.flow_design.specs.declared.expr.Expr.TheOpen.{Expr-F}
+use Rattle.flow_design.specs.{declared.expr.Expr.TheOpen.Expr-F, declared.expr.UnOp.UnOp, declared.expr.BinOp.BinOp}
 use Rattle.flow_design.specs.declared.expr.Expr.TheVariants.{Number, Var, Unary, Binary, Sext, Pick, rolls-Number, rolls-Var, rolls-Unary}
 use Rattle.flow_design.specs.declared.expr.Expr.TheVariants.{rolls-Binary, rolls-Sext, rolls-Pick}
-use Rattle.flow_design.specs.declared.expr.UnOp.{UnOp}
-use Rattle.flow_design.specs.declared.expr.BinOp.{BinOp}
-use Rattle.flow_grammar.specs.declared.operator.Operator.{Operator}
-use Rattle.flow_grammar.specs.declared.operand.Operand.{Operand}
-use Rattle.flow_grammar.specs.Operators.{operator_of}
+use Rattle.flow_grammar.specs.{declared.operator.Operator.Operator, declared.operand.Operand.Operand, Operators.operator_of}
 use Rattle.flow_grammar.specs.Trees.{Trees, applied_if, with_token, trees_of}
 use Rattle.flow_grammar.specs.Operands.{layer_seen, seen, apply_if, take_token}
 

@@ -1,11 +1,9 @@
 -- What the reader keeps of an expression is the first test that it fails, or the expression.
 use Rattle.std.proofs.Common.{◌≡◌, ℕ, ◌+◌, List, Bool, cond, ap, ◌∙◌, arith}
-use Rattle.std.specs.Prelude.{◌&&◌, nat_le, max}
 use Rattle.std.proofs.lemmas.Bool.Decides.{nat_tests}
-use Rattle.flow_design.specs.declared.expr.Expr.{Expr}
+use Rattle.std.specs.Prelude.{◌&&◌, nat_le, max}
+use Rattle.flow_design.specs.{declared.expr.Expr.Expr, declared.expr.UnOp.UnOp, declared.expr.BinOp.BinOp}
 use Rattle.flow_design.specs.declared.expr.Expr.TheVariants.{Unary, Binary, Sext, Pick}
-use Rattle.flow_design.specs.declared.expr.UnOp.{UnOp}
-use Rattle.flow_design.specs.declared.expr.BinOp.{BinOp}
 use Rattle.flow_grammar.specs.declared.fault.Code.TheVariants.{BadNumber, UnknownName, TooMany}
 use Rattle.flow_grammar.specs.declared.operand.Operand.{Operand}
 use Rattle.flow_grammar.specs.declared.operand.Operand.TheVariants.{Whole, Faulty}

@@ -5,8 +5,7 @@ use Rattle.std.specs.List.{filter_map, list_any}
 use Rattle.flow_design.specs.declared.session.Statement.{Statement}
 use Rattle.flow_design.specs.declared.session.Statement.TheVariants.{Flow, Source, Sink, Fifo, Module, Reg, Mem, Block, Loop, Temp, At}
 use Rattle.flow_design.specs.declared.session.Statement.TheVariants.{Input, Depth}
-use Rattle.flow_grammar.specs.Tokens.{is_word}
-use Rattle.flow_grammar.specs.Parts.{Name}
+use Rattle.flow_grammar.specs.{Tokens.is_word, Parts.Name}
 
 -- ---- the version of the language
 

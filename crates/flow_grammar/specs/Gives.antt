@@ -1,17 +1,11 @@
 -- A function answered this, unless memory ran out.
 use Rattle.std.specs.Prelude.{◌≡◌, ℕ, ◌+◌, List, [], ◌∷◌, ◌++◌, Bool, true, false, Option, None, Some, Result, Ok, Err}
-use Rattle.flow_design.specs.declared.limits.Scale.{Scale}
-use Rattle.flow_design.specs.declared.session.Statement.{Statement}
-use Rattle.flow_grammar.specs.declared.fault.Code.{Code}
-use Rattle.flow_grammar.specs.declared.fault.Code.TheVariants.{Truncated, Syntax}
-use Rattle.flow_grammar.specs.declared.operand.Operand.{Operand}
-use Rattle.flow_grammar.specs.declared.fault.TextFault.{TextFault}
-use Rattle.flow_grammar.specs.declared.fault.ReadFail.{ReadFail}
+use Rattle.flow_design.specs.{declared.limits.Scale.Scale, declared.session.Statement.Statement}
+use Rattle.flow_grammar.specs.{declared.fault.Code.Code, declared.fault.Code.TheVariants.Truncated, declared.fault.Code.TheVariants.Syntax}
+use Rattle.flow_grammar.specs.{declared.operand.Operand.Operand, declared.fault.TextFault.TextFault, declared.fault.ReadFail.ReadFail}
+use Rattle.flow_grammar.specs.{declared.fault.LineFail.LineFail, Line.statement_in, Line.line_fault, Rules.is_over}
 use Rattle.flow_grammar.specs.declared.fault.ReadFail.TheVariants as fails
-use Rattle.flow_grammar.specs.declared.fault.LineFail.{LineFail}
 use Rattle.flow_grammar.specs.declared.fault.LineFail.TheVariants as line_fails
-use Rattle.flow_grammar.specs.Line.{statement_in, line_fault}
-use Rattle.flow_grammar.specs.Rules.{is_over}
 
 -- a value, or the fault if there is one
 abbrev pub judged : {A : Type 0} → Option Code → A → Result A Code

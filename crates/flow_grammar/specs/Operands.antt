@@ -1,25 +1,17 @@
 -- Expressions as the reader keeps them: of one that fails a test it keeps only the first test that it fails.
 use Rattle.std.specs.Prelude.{◌≡◌, ℕ, ◌+◌, ◌^◌, max, Bool, true, false, List, ◌∷◌, ◌&&◌, nat_le, nat_lt, if◌then◌else◌, not, Option, None}
 use Rattle.std.specs.Prelude.{Some}
-use Rattle.flow_design.specs.declared.limits.TheConstants.{EXPRESSION_NODES, EXPRESSION_DEPTH}
-use Rattle.flow_design.specs.declared.expr.Expr.{Expr, fold-Expr}
-use Rattle.flow_design.specs.declared.expr.Expr.TheOpen.{Expr-F}
-use Rattle.flow_design.specs.declared.expr.Expr.TheVariants.{Number, Var, Unary, Binary, Sext, Pick}
-use Rattle.flow_design.specs.declared.expr.UnOp.{UnOp}
-use Rattle.flow_design.specs.declared.expr.BinOp.{BinOp}
-use Rattle.flow_grammar.specs.declared.fault.Code.{Code}
-use Rattle.flow_grammar.specs.declared.fault.Code.TheVariants.{BadNumber, UnknownName, TooMany}
-use Rattle.flow_grammar.specs.declared.operand.Operand.{Operand}
-use Rattle.flow_grammar.specs.declared.operand.Operand.TheVariants.{Whole, Faulty}
-use Rattle.flow_grammar.specs.declared.operator.Operator.{Operator}
-use Rattle.flow_grammar.specs.declared.operator.Operator.TheVariants.{One, Two, Extend, Choose}
 use Rattle.std.specs.List.{list_all}
-use Rattle.flow_design.specs.Words.{nodes, depth}
-use Rattle.flow_grammar.specs.Parts.{Name, Part, Use, expr_parts}
-use Rattle.flow_grammar.specs.Rules.{is_in_range, is_small}
-use Rattle.flow_grammar.specs.Numbers.{number_within}
-use Rattle.flow_grammar.specs.Tokens.{is_number, is_name, number_of}
-use Rattle.flow_grammar.specs.Operators.{operator_of}
+use Rattle.flow_design.specs.declared.limits.TheConstants.{EXPRESSION_NODES, EXPRESSION_DEPTH}
+use Rattle.flow_design.specs.{declared.expr.Expr.Expr, declared.expr.Expr.fold-Expr, declared.expr.Expr.TheOpen.Expr-F}
+use Rattle.flow_design.specs.{declared.expr.UnOp.UnOp, declared.expr.BinOp.BinOp, Words.nodes, Words.depth}
+use Rattle.flow_design.specs.declared.expr.Expr.TheVariants.{Number, Var, Unary, Binary, Sext, Pick}
+use Rattle.flow_grammar.specs.{declared.fault.Code.Code, declared.operand.Operand.Operand, declared.operator.Operator.Operator, Parts.Name}
+use Rattle.flow_grammar.specs.{Parts.Part, Parts.Use, Parts.expr_parts, Rules.is_in_range, Rules.is_small, Numbers.number_within}
+use Rattle.flow_grammar.specs.{Tokens.is_number, Tokens.is_name, Tokens.number_of, Operators.operator_of}
+use Rattle.flow_grammar.specs.declared.fault.Code.TheVariants.{BadNumber, UnknownName, TooMany}
+use Rattle.flow_grammar.specs.declared.operand.Operand.TheVariants.{Whole, Faulty}
+use Rattle.flow_grammar.specs.declared.operator.Operator.TheVariants.{One, Two, Extend, Choose}
 
 -- the earlier of two tests that an expression may fail, in the order in which they are tried
 unfoldable pub earlier : Code → Code → Code

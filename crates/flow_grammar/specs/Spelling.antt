@@ -1,9 +1,7 @@
 -- When tokens write a statement under a version of the language: one token for each of its parts.
 use Rattle.std.specs.Prelude.{◌≡◌, ◌⊎◌, ℕ, true, List, [], ◌∷◌}
-use Rattle.flow_design.specs.declared.session.Statement.{Statement}
-use Rattle.flow_design.specs.declared.session.Statement.TheVariants.{Fifo}
-use Rattle.flow_grammar.specs.Tokens.{Token, is_number, is_name, number_of}
-use Rattle.flow_grammar.specs.Before.{has_delays}
+use Rattle.flow_design.specs.{declared.session.Statement.Statement, declared.session.Statement.TheVariants.Fifo}
+use Rattle.flow_grammar.specs.{Tokens.Token, Tokens.is_number, Tokens.is_name, Tokens.number_of, Before.has_delays}
 use Rattle.flow_grammar.specs.Parts.{Name, Part, Word, New, Use, Label, Num, parts, bare_parts, depth_parts, fifo_parts, default_depth}
 use Rattle.flow_grammar.specs.Parts.{default_delay}
 

@@ -2,20 +2,13 @@
 use Rattle.std.specs.Prelude.{◌≡◌, ℕ, ◌+◌, ◌<◌, ◌≤◌, ◌⊎◌, true, false, List, [], ◌∷◌, length, take, reverse, slice_index_or, Option, None}
 use Rattle.std.specs.Prelude.{Some, IfSome, Result, Ok, Err}
 use Rattle.std.specs.List.{list_all, filter_map}
-use Rattle.flow_design.specs.declared.limits.Scale.{Scale}
+use Rattle.flow_design.specs.{declared.limits.Scale.Scale, declared.session.Session.Session, Limits.limits_at}
 use Rattle.flow_design.specs.declared.session.Statement.{Statement}
-use Rattle.flow_design.specs.declared.session.Session.{Session}
-use Rattle.flow_design.specs.Limits.{limits_at}
-use Rattle.flow_grammar.specs.declared.fault.Code.{Code}
+use Rattle.flow_grammar.specs.{declared.fault.Code.Code, declared.fault.TextFault.TextFault, declared.fault.ReadFail.ReadFail}
+use Rattle.flow_grammar.specs.{Before.version, Spelling.Writes, Places.may_follow, Rules.statement_fault, Rules.is_over}
 use Rattle.flow_grammar.specs.declared.fault.Code.TheVariants.{TooLong, NotAscii, Syntax, Truncated}
-use Rattle.flow_grammar.specs.declared.fault.TextFault.{TextFault}
-use Rattle.flow_grammar.specs.declared.fault.ReadFail.{ReadFail}
-use Rattle.flow_grammar.specs.declared.fault.ReadFail.TheVariants as fails
 use Rattle.flow_grammar.specs.Tokens.{Line, lines_of, tokens_of, is_permitted}
-use Rattle.flow_grammar.specs.Before.{version}
-use Rattle.flow_grammar.specs.Spelling.{Writes}
-use Rattle.flow_grammar.specs.Places.{may_follow}
-use Rattle.flow_grammar.specs.Rules.{statement_fault, is_over}
+use Rattle.flow_grammar.specs.declared.fault.ReadFail.TheVariants as fails
 
 -- ---- one line
 

@@ -1,9 +1,6 @@
 -- The lines of a text, and the tokens of a line.
 use Rattle.std.specs.Prelude.{ℕ, Bool, true, false, List, [], ◌∷◌, ◌==◌, ◌&&◌, ◌||◌, not, nat_le, filter, take_while}
-use Rattle.std.specs.List.{slice_split, list_all}
-use Rattle.std.specs.Char.{is_ascii_digit}
-use Rattle.std.specs.Str.{bytes_eq}
-use Rattle.std.specs.Str.Parse.{digits_value}
+use Rattle.std.specs.{List.slice_split, List.list_all, Char.is_ascii_digit, Str.bytes_eq, Str.Parse.digits_value}
 use Rattle.flow_design.specs.Names as names
 
 -- the bytes of a line; and then, of a token

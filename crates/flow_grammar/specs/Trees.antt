@@ -3,11 +3,9 @@ use Rattle.std.specs.Prelude.{List, [], ◌∷◌, if◌then◌else◌, Option, 
 use Rattle.std.specs.Option.{option_and_then}
 use Rattle.flow_design.specs.declared.expr.Expr.{Expr}
 use Rattle.flow_design.specs.declared.expr.Expr.TheVariants.{Number, Var, Unary, Binary, Sext, Pick}
-use Rattle.flow_grammar.specs.declared.operator.Operator.{Operator}
+use Rattle.flow_grammar.specs.{declared.operator.Operator.Operator, Parts.Name, Operators.operator_of}
 use Rattle.flow_grammar.specs.declared.operator.Operator.TheVariants.{One, Two, Extend, Choose}
 use Rattle.flow_grammar.specs.Tokens.{Token, is_number, is_name, number_of}
-use Rattle.flow_grammar.specs.Parts.{Name}
-use Rattle.flow_grammar.specs.Operators.{operator_of}
 
 abbrev pub Trees : Type 0
 Trees = List (Expr Name)

@@ -1,10 +1,7 @@
 -- Texts that differ only in the version of the language.
 use Rattle.std.specs.Prelude.{◌≡◌, ℕ, List, ◌∷◌, ◌++◌}
-use Rattle.flow_design.specs.declared.session.Statement.{Statement}
-use Rattle.flow_design.specs.declared.session.Statement.TheVariants.{Flow}
-use Rattle.flow_grammar.specs.Tokens.{Line, lines_of, tokens_of}
-use Rattle.flow_grammar.specs.Parts.{parts}
-use Rattle.flow_grammar.specs.Spelling.{Spelled}
+use Rattle.flow_design.specs.{declared.session.Statement.Statement, declared.session.Statement.TheVariants.Flow}
+use Rattle.flow_grammar.specs.{Tokens.Line, Tokens.lines_of, Tokens.tokens_of, Parts.parts, Spelling.Spelled}
 
 -- where the first text says `flow 1`, the second says `flow 2`, and all their other lines are the same
 pub record DifferInVersion (first second : List ℕ) : Type 0 where

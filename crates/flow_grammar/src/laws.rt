@@ -1,14 +1,8 @@
 //! The laws of the grammar.
 ghost use Rattle.std.specs.Prelude.{◌≡◌, ◌<◌, Some, List, ℕ, Result, length, AllPairs};
-ghost use Rattle.flow_design.specs.declared.limits.Scale.{Scale};
-ghost use Rattle.flow_design.specs.declared.session.Statement.{Statement};
-ghost use Rattle.flow_grammar.specs.declared.fault.TextFault.{TextFault};
-ghost use Rattle.flow_grammar.specs.Rules.{KeepsReadingRules};
-ghost use Rattle.flow_grammar.specs.Text.{Said, StandsFor};
-ghost use Rattle.flow_grammar.specs.Tokens.{Token};
-ghost use Rattle.flow_grammar.specs.Forms.{statement_of};
-ghost use Rattle.flow_grammar.specs.Spelling.{Writes};
-ghost use Rattle.flow_grammar.specs.Versions.{DifferInVersion, SameButVersion};
+ghost use Rattle.flow_design.specs.{declared.limits.Scale.Scale, declared.session.Statement.Statement};
+ghost use Rattle.flow_grammar.specs.{declared.fault.TextFault.TextFault, Rules.KeepsReadingRules, Text.Said, Text.StandsFor, Tokens.Token};
+ghost use Rattle.flow_grammar.specs.{Forms.statement_of, Spelling.Writes, Versions.DifferInVersion, Versions.SameButVersion};
 
 /// What tokens write is what is computed from them. So under one version of the language they write at most one statement.
 pub fn written_is_read()

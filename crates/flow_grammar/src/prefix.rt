@@ -1,7 +1,6 @@
 //! Expressions in prefix form.
 ghost use Rattle.std.specs.Prelude.{◌≡◌, ℕ, Bool, true, List, map, option_map, IfOk};
-ghost use Rattle.flow_grammar.specs.Tokens.{is_number, number_of};
-ghost use Rattle.flow_grammar.specs.Trees.{trees_of};
+ghost use Rattle.flow_grammar.specs.{Tokens.is_number, Tokens.number_of, Trees.trees_of};
 ghost use Rattle.flow_grammar.specs.Gives.{LineGives, only_operand, both_operands};
 ghost use Rattle.flow_grammar.specs.Operands.{numbered, named, take_token, apply, Takes, seen, kept};
 

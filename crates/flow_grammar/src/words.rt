@@ -1,9 +1,6 @@
 //! Tests of a token: whether it is a word, a number or a name.
-ghost use Rattle.std.specs.Prelude.{◌≡◌, true};
-ghost use Rattle.std.specs.List.{list_all};
-ghost use Rattle.std.specs.Char.{is_ascii_digit};
-ghost use Rattle.flow_grammar.specs.Tokens.{is_word, is_number, is_name, number_of};
-ghost use Rattle.flow_grammar.specs.Numbers.{number_within};
+ghost use Rattle.std.specs.{Prelude.◌≡◌, Prelude.true, List.list_all, Char.is_ascii_digit};
+ghost use Rattle.flow_grammar.specs.{Tokens.is_word, Tokens.is_number, Tokens.is_name, Tokens.number_of, Numbers.number_within};
 
 use flow_word::{Width, read_number};
 

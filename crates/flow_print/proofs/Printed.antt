@@ -2,11 +2,8 @@
 use Rattle.std.proofs.Common.{◌≡◌, ◌∙◌, ℕ, ◌+◌, ◌<◌, length, take, get_or, List, [], ◌∷◌, ◌++◌, map, ap, sym, refl, append-nil}
 use Rattle.std.proofs.Common.{append_assoc}
 use Rattle.std.proofs.lemmas.Grind.{flat_map-append}
-use Rattle.std.specs.Prelude.{codes}
-use Rattle.std.specs.Fmt.{decimal}
-use Rattle.std.specs.List.{join_with_byte}
-use Rattle.flow_design.specs.declared.session.Statement.{Statement}
-use Rattle.flow_design.specs.declared.session.Statement.TheVariants.{Input}
+use Rattle.std.specs.{Prelude.codes, Fmt.decimal, List.join_with_byte}
+use Rattle.flow_design.specs.{declared.session.Statement.Statement, declared.session.Statement.TheVariants.Input}
 use Rattle.flow_grammar.specs.Parts.{Part, plain, parts}
 use Rattle.flow_grammar.proofs.SpellingLaws.{parts_Number, parts_Var, parts_Unary, parts_Binary, parts_Sext, parts_Pick}
 use Rattle.report_text.specs.Lines.{line, text_of_lines}

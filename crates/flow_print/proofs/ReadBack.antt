@@ -1,23 +1,17 @@
 -- The canonical text of a session that keeps the rules stands for that session.
-use Rattle.std.proofs.Common.{◌≡◌, ℕ, suc, ◌+◌, ◌≤◌, List, [], ◌∷◌, ◌++◌, map, length, take, Bool, true, false, None}
-use Rattle.std.proofs.Common.{Some, refl, sym, ap, subst, ◌∙◌, append_assoc, append-nil, inl, inr, arith}
+use Rattle.std.proofs.Common.{◌≡◌, ℕ, suc, ◌+◌, ◌≤◌, List, [], ◌∷◌, ◌++◌, map, length, take, Bool, true, false, None, Some, refl, sym, ap}
+use Rattle.std.proofs.Common.{subst, ◌∙◌, append_assoc, append-nil, inl, inr, arith}
+use Rattle.std.proofs.{lemmas.Bool.eqb-true, lemmas.List.reverse-append}
 use Rattle.std.specs.Prelude.{slice_get, reverse, ◌==◌, ◌||◌, if◌then◌else◌}
-use Rattle.std.proofs.lemmas.Bool.{eqb-true}
-use Rattle.std.proofs.lemmas.List.{reverse-append}
-use Rattle.flow_design.specs.declared.limits.Scale.{Scale}
-use Rattle.flow_design.specs.Limits.{limits_at}
-use Rattle.flow_design.specs.declared.session.Statement.TheVariants.{Flow, Fifo}
 use Rattle.std.specs.List.{list_all, join_with_byte, range_with_len}
-use Rattle.flow_design.specs.declared.session.Statement.{Statement}
+use Rattle.flow_design.specs.{declared.limits.Scale.Scale, Limits.limits_at, declared.session.Statement.Statement}
+use Rattle.flow_design.specs.declared.session.Statement.TheVariants.{Flow, Fifo}
 use Rattle.flow_grammar.specs.Tokens.{Line, Token, lines_of, tokens_of}
-use Rattle.flow_grammar.specs.Before.{version, has_delays}
-use Rattle.flow_grammar.specs.Places.{may_follow}
+use Rattle.flow_grammar.specs.{Before.version, Before.has_delays, Places.may_follow, Spelling.Spelled, Spelling.WritesFifo, Spelling.Writes}
 use Rattle.flow_grammar.specs.Parts.{parts, depth_parts, fifo_parts, default_delay}
-use Rattle.flow_grammar.specs.Spelling.{Spelled, WritesFifo, Writes}
 use Rattle.flow_grammar.specs.Rules.{is_well_named, is_in_range, fits_version, statement_fault, is_over, KeepsRules, KeepsReadingRules}
 use Rattle.flow_grammar.specs.Text.{statements_among, numbers_among, IsInOrder, StandsFor}
-use Rattle.flow_grammar.proofs.TextLaws.{Words, InOrderFrom, in_order_of}
-use Rattle.flow_grammar.proofs.VersionLaws.{same_version}
+use Rattle.flow_grammar.proofs.{TextLaws.Words, TextLaws.InOrderFrom, TextLaws.in_order_of, VersionLaws.same_version}
 use Rattle.flow_print.specs.Canonical.{written_parts, tokens_of as printed_tokens, version_of, canonical_text}
 use Rattle.flow_print.proofs.SplitLemmas.{is_printed, line_permitted, tokens_of_line, text_lines}
 use Rattle.flow_print.proofs.PartLemmas.{parts_printed, fit_parts, written_pass}

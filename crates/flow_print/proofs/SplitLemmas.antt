@@ -1,12 +1,9 @@
 -- The lines and the tokens of texts that are put together from tokens without spaces.
 use Rattle.std.proofs.Common.{◌≡◌, ℕ, List, [], ◌∷◌, ◌++◌, map, Bool, true, not, refl, ap, ◌∙◌, append_assoc, arith}
+use Rattle.std.proofs.{lemmas.List.Folds.list_all-append, lemmas.List.Splits.slice_split-cons_yes, lemmas.List.Splits.slice_split-cons_no}
+use Rattle.std.proofs.{lemmas.List.Sums.take_while-cons, lemmas.Bool.and_parts, lemmas.Bool.Decides.nat_tests}
 use Rattle.std.specs.Prelude.{◌&&◌, nat_le, filter, take_while}
 use Rattle.std.specs.List.{list_all, slice_split, join_with_byte}
-use Rattle.std.proofs.lemmas.List.Folds.{list_all-append}
-use Rattle.std.proofs.lemmas.List.Splits.{slice_split-cons_yes, slice_split-cons_no}
-use Rattle.std.proofs.lemmas.List.Sums.{take_while-cons}
-use Rattle.std.proofs.lemmas.Bool.{and_parts}
-use Rattle.std.proofs.lemmas.Bool.Decides.{nat_tests}
 use Rattle.flow_grammar.specs.Tokens.{Token, is_line_feed, is_separator, is_permitted, is_filled, is_no_comment, lines_of, tokens_of}
 use Rattle.report_text.specs.Lines.{text_of_lines}
 

@@ -1,8 +1,6 @@
 -- The canonical text of a session: one statement on each line, one space between tokens, numbers without leading zeros, each FIFO's
 -- depth written out, and its delay too in a version with delays.
-use Rattle.std.specs.Prelude.{ℕ, List, ◌∷◌, map, if◌then◌else◌}
-use Rattle.std.specs.Fmt.{decimal}
-use Rattle.std.specs.List.{flat_map}
+use Rattle.std.specs.{Prelude.ℕ, Prelude.List, Prelude.◌∷◌, Prelude.map, Prelude.if◌then◌else◌, Fmt.decimal, List.flat_map}
 use Rattle.flow_design.specs.declared.session.Statement.{Statement}
 use Rattle.flow_design.specs.declared.session.Statement.TheVariants.{Flow, Fifo}
 use Rattle.flow_grammar.specs.Before.{has_delays}

@@ -1,11 +1,7 @@
 //! The law of canonical texts.
-ghost use Rattle.std.specs.Prelude.{◌≤◌, List, ℕ, length};
-ghost use Rattle.std.specs.List.{range_with_len};
-ghost use Rattle.flow_design.specs.declared.limits.Scale.{Scale};
-ghost use Rattle.flow_design.specs.declared.session.Statement.{Statement};
-ghost use Rattle.flow_design.specs.Limits.{limits_at};
-ghost use Rattle.flow_grammar.specs.Rules.{KeepsReadingRules};
-ghost use Rattle.flow_grammar.specs.Text.{StandsFor};
+ghost use Rattle.std.specs.{Prelude.◌≤◌, Prelude.List, Prelude.ℕ, Prelude.length, List.range_with_len};
+ghost use Rattle.flow_design.specs.{declared.limits.Scale.Scale, declared.session.Statement.Statement, Limits.limits_at};
+ghost use Rattle.flow_grammar.specs.{Rules.KeepsReadingRules, Text.StandsFor};
 ghost use Rattle.flow_print.specs.Canonical.{canonical_text};
 
 /// A canonical text reads back, unless it is too long: it stands for the session whose text it is, with the statements on the lines

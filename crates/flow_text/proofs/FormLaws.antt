@@ -1,20 +1,13 @@
 -- FIFOs without their delay or depth, and the values of an input.
-use Rattle.std.proofs.Common.{◌≡◌, ℕ, List, Bool, true, refl, arith, ◌-◌, ◌^◌, [], ◌∷◌, ◌++◌, map, Option, None, Some}
-use Rattle.std.proofs.Common.{Result, sym, ap, subst, ◌∙◌, append_assoc}
-use Rattle.std.specs.Prelude.{codes, ◌&&◌, if◌then◌else◌}
+use Rattle.std.proofs.Common.{◌≡◌, ℕ, List, Bool, true, refl, arith, ◌-◌, ◌^◌, [], ◌∷◌, ◌++◌, map, Option, None, Some, Result, sym, ap}
+use Rattle.std.proofs.Common.{subst, ◌∙◌, append_assoc}
+use Rattle.std.proofs.{lemmas.List.append-nil, lemmas.Bool.and_parts}
+use Rattle.std.specs.{Prelude.codes, Prelude.◌&&◌, Prelude.if◌then◌else◌, List.list_all}
 use Rattle.flow_design.specs.declared.session.Statement.{Statement}
 use Rattle.flow_design.specs.declared.session.Statement.TheVariants.{Fifo, Input}
 use Rattle.flow_grammar.specs.Parts.{default_depth, default_delay, Name, plain}
-use Rattle.flow_grammar.specs.Tokens.{is_number, is_name, number_of}
-use Rattle.flow_grammar.specs.Forms.{only_if}
-use Rattle.std.specs.List.{list_all}
-use Rattle.std.proofs.lemmas.List.{append-nil}
-use Rattle.std.proofs.lemmas.Bool.{and_parts}
-use Rattle.flow_grammar.specs.declared.fault.Code.{Code}
-use Rattle.flow_grammar.specs.declared.fault.LineFail.{LineFail}
-use Rattle.flow_grammar.specs.Rules.{is_in_range}
-use Rattle.flow_grammar.specs.Gives.{LineGives}
-use Rattle.flow_grammar.specs.Numbers.{number_within}
+use Rattle.flow_grammar.specs.{Tokens.is_number, Tokens.is_name, Tokens.number_of, Forms.only_if, declared.fault.Code.Code}
+use Rattle.flow_grammar.specs.{declared.fault.LineFail.LineFail, Rules.is_in_range, Gives.LineGives, Numbers.number_within}
 use Rattle.name_tables.specs.declared.tables.Tables.{Tables}
 use Rattle.name_tables.specs.TableTests.{is_new, is_known, fault_by, reading_by}
 use Rattle.flow_text.specs.Inputs.{is_plain, words_within, input_reading}

@@ -1,34 +1,21 @@
 -- What is kept of expressions and operations is the first test that they fail.
-use Rattle.std.proofs.Common.{◌≡◌, List, [], ◌∷◌, map, Bool, true, false, cond, Option, None, Some, Result, Ok, refl, sym, ap, ◌∙◌}
-use Rattle.std.proofs.Common.{arith, Err, ◌<◌, ◌≤◌, length, ℕ, ◌-◌, ◌^◌, subst, drop, get_or, take}
-use Rattle.std.proofs.Math.Seq.{take-length}
-use Rattle.std.specs.Prelude.{◌&&◌, option_map}
-use Rattle.std.specs.List.{list_all}
-use Rattle.flow_design.specs.declared.expr.Expr.{Expr}
-use Rattle.flow_design.specs.declared.expr.Op.{Op}
-use Rattle.flow_grammar.specs.declared.fault.Code.{Code}
-use Rattle.flow_grammar.specs.declared.fault.Code.TheVariants.{Syntax}
-use Rattle.flow_grammar.specs.declared.operand.Operand.{Operand}
-use Rattle.flow_grammar.specs.Parts.{Name, Part, expr_parts, op_parts}
-use Rattle.flow_grammar.specs.Before.{is_among}
-use Rattle.flow_grammar.specs.Rules.{is_in_range}
-use Rattle.flow_grammar.specs.Tokens.{is_name, Token}
+use Rattle.std.proofs.Common.{◌≡◌, List, [], ◌∷◌, map, Bool, true, false, cond, Option, None, Some, Result, Ok, refl, sym, ap, ◌∙◌, arith}
+use Rattle.std.proofs.Common.{Err, ◌<◌, ◌≤◌, length, ℕ, ◌-◌, ◌^◌, subst, drop, get_or, take}
+use Rattle.std.proofs.{Math.Seq.take-length, lemmas.List.Folds.list_all-append}
+use Rattle.std.specs.{Prelude.◌&&◌, Prelude.option_map, List.list_all}
+use Rattle.flow_design.specs.{declared.expr.Expr.Expr, declared.expr.Op.Op, declared.session.Statement.Statement}
+use Rattle.flow_design.specs.declared.session.Statement.TheVariants.{At}
+use Rattle.flow_grammar.specs.{declared.fault.Code.Code, declared.fault.Code.TheVariants.Syntax, declared.operand.Operand.Operand}
+use Rattle.flow_grammar.specs.{Parts.Name, Parts.Part, Parts.expr_parts, Parts.op_parts, Before.is_among, Rules.is_in_range, Tokens.is_name}
+use Rattle.flow_grammar.specs.{Tokens.Token, Trees.Trees, Operands.kept, Operands.is_known_by, Operands.earlier, Gives.only_operand}
+use Rattle.flow_grammar.specs.{Gives.both_operands, Gives.LineGives, declared.fault.LineFail.LineFail, Numbers.number_within}
 use Rattle.flow_grammar.specs.Forms.{one_tree, two_trees, if_then, guarded_of, op_of}
-use Rattle.flow_grammar.specs.Trees.{Trees}
-use Rattle.flow_grammar.specs.Operands.{kept, is_known_by, earlier}
-use Rattle.flow_grammar.specs.Gives.{only_operand, both_operands, LineGives}
 use Rattle.flow_grammar.proofs.SpellingLaws.{same_tests}
-use Rattle.std.proofs.lemmas.List.Folds.{list_all-append}
 use Rattle.name_tables.specs.declared.tables.Tables.{Tables}
 use Rattle.name_tables.specs.TableTests.{is_known, is_new, fault_by, reading_by}
 use Rattle.flow_text.specs.declared.operations.TwoNames.{TwoNames}
-use Rattle.flow_text.specs.Operations.{tree_judged, trees_judged, op_judged, tree_reading, trees_reading, op_reading, tree_kept}
-use Rattle.flow_text.specs.Operations.{trees_kept, made, store_op, op_of_names, named_op, is_variable, timed_reading}
-use Rattle.flow_text.specs.Operations.{guard_known}
-use Rattle.flow_design.specs.declared.session.Statement.{Statement}
-use Rattle.flow_design.specs.declared.session.Statement.TheVariants.{At}
-use Rattle.flow_grammar.specs.declared.fault.LineFail.{LineFail}
-use Rattle.flow_grammar.specs.Numbers.{number_within}
+use Rattle.flow_text.specs.Operations.{tree_judged, trees_judged, op_judged, tree_reading, trees_reading, op_reading, tree_kept, trees_kept}
+use Rattle.flow_text.specs.Operations.{made, store_op, op_of_names, named_op, is_variable, timed_reading, guard_known}
 use Rattle.flow_design.specs.declared.expr.Op.TheVariants as op
 
 -- tokens by the names in front of them, and the others

@@ -1,29 +1,19 @@
 -- Reading the lines one after the other, with the tables of the statements before each.
-use Rattle.std.proofs.Common.{◌≡◌, ℕ, ◌+◌, ◌≤◌, List, [], ◌∷◌, length, Option, None, Some, Result, Ok, true, false, refl, sym}
-use Rattle.std.proofs.Common.{ap, subst, ◌∙◌, append_assoc, arith}
-use Rattle.std.specs.Prelude.{reverse}
+use Rattle.std.proofs.Common.{◌≡◌, ℕ, ◌+◌, ◌≤◌, List, [], ◌∷◌, length, Option, None, Some, Result, Ok, true, false, refl, sym, ap, subst}
+use Rattle.std.proofs.Common.{◌∙◌, append_assoc, arith}
 use Rattle.std.proofs.lemmas.List.{append-nil, reverse-append}
-use Rattle.flow_design.specs.declared.limits.Scale.{Scale}
-use Rattle.flow_design.specs.declared.session.Statement.{Statement}
-use Rattle.flow_grammar.specs.declared.fault.Code.{Code}
-use Rattle.flow_grammar.specs.declared.fault.TextFault.{TextFault}
-use Rattle.flow_grammar.specs.declared.fault.ReadFail.{ReadFail}
-use Rattle.flow_grammar.specs.declared.fault.ReadFail.TheVariants as fails
-use Rattle.flow_grammar.specs.Tokens.{Line, Token, lines_of, tokens_of}
-use Rattle.flow_grammar.specs.Forms.{statement_of}
-use Rattle.flow_grammar.specs.Line.{form_fault, tokens_fault, statement_in, line_fault}
-use Rattle.flow_grammar.specs.Before.{version}
-use Rattle.flow_grammar.specs.Places.{place, is_end}
-use Rattle.flow_grammar.specs.Rules.{is_over}
+use Rattle.std.specs.Prelude.{reverse}
+use Rattle.flow_design.specs.{declared.limits.Scale.Scale, declared.session.Statement.Statement}
+use Rattle.flow_grammar.specs.{declared.fault.Code.Code, declared.fault.TextFault.TextFault, declared.fault.ReadFail.ReadFail, Tokens.Line}
+use Rattle.flow_grammar.specs.{Tokens.Token, Tokens.lines_of, Tokens.tokens_of, Forms.statement_of, Line.form_fault, Line.tokens_fault}
+use Rattle.flow_grammar.specs.{Line.statement_in, Line.line_fault, Before.version, Places.place, Places.is_end, Rules.is_over}
 use Rattle.flow_grammar.specs.Gives.{◌>>=◌, Read, judged, reading, at_line, line_reading, with_statement, with_number, in_front, ended}
 use Rattle.flow_grammar.specs.Gives.{TextFails}
-use Rattle.name_tables.specs.declared.tables.Tables.{Tables}
-use Rattle.name_tables.specs.TablesOf.{tables_of}
-use Rattle.name_tables.specs.TableTests.{reading_by}
+use Rattle.flow_grammar.specs.declared.fault.ReadFail.TheVariants as fails
+use Rattle.name_tables.specs.{declared.tables.Tables.Tables, TablesOf.tables_of, TableTests.reading_by}
 use Rattle.name_tables.proofs.TableLaws.{form_fault_same, accepted_same}
 use Rattle.flow_text.specs.Lines.{said_by, tokens_reading_by, line_reading_by, accepted_if, lines_left, bytes_left}
-use Rattle.flow_text.specs.declared.progress.Progress.{Progress}
-use Rattle.flow_text.specs.Progress.{IsKept, IsOpening, IsAdded, with_front}
+use Rattle.flow_text.specs.{declared.progress.Progress.Progress, Progress.IsKept, Progress.IsOpening, Progress.IsAdded, Progress.with_front}
 
 -- ---- a line by the tables
 

@@ -1,14 +1,10 @@
 -- The values of an input.
 use Rattle.std.specs.Prelude.{ℕ, ◌+◌, ◌-◌, ◌^◌, Bool, List, length, ◌&&◌, not, nat_le, if◌then◌else◌, Option, None, Some, Result, Ok, Err}
 use Rattle.std.specs.List.{list_all}
-use Rattle.flow_design.specs.declared.session.Statement.{Statement}
-use Rattle.flow_design.specs.declared.session.Statement.TheVariants.{Input}
-use Rattle.flow_grammar.specs.declared.fault.Code.{Code}
+use Rattle.flow_design.specs.{declared.session.Statement.Statement, declared.session.Statement.TheVariants.Input}
+use Rattle.flow_grammar.specs.{declared.fault.Code.Code, Parts.Name, Before.is_among, Places.takes_inputs}
 use Rattle.flow_grammar.specs.declared.fault.Code.TheVariants.{Syntax, BadNumber, DoubleName, UnknownName, TooMany}
-use Rattle.flow_grammar.specs.Parts.{Name}
-use Rattle.flow_grammar.specs.Before.{is_among}
 use Rattle.name_tables.specs.declared.tables.Tables.{Tables}
-use Rattle.flow_grammar.specs.Places.{takes_inputs}
 
 -- the number is below 2^64, and so a word
 abbrev pub is_plain : ℕ → Bool

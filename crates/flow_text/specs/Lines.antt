@@ -2,13 +2,9 @@
 use Rattle.std.specs.Prelude.{ℕ, ◌+◌, List, [], ◌∷◌, length, if◌then◌else◌, Option, None, Some, Result, Ok, Err}
 use Rattle.std.specs.List.{list_all}
 use Rattle.flow_design.specs.declared.session.Statement.{Statement}
-use Rattle.flow_grammar.specs.declared.fault.Code.{Code}
-use Rattle.flow_grammar.specs.declared.fault.Code.TheVariants.{NotAscii}
+use Rattle.flow_grammar.specs.{declared.fault.Code.Code, declared.fault.Code.TheVariants.NotAscii, Forms.statement_of}
 use Rattle.flow_grammar.specs.Tokens.{Line, Token, lines_of, tokens_of, is_permitted}
-use Rattle.flow_grammar.specs.Forms.{statement_of}
-use Rattle.name_tables.specs.declared.tables.Tables.{Tables}
-use Rattle.name_tables.specs.TablesOf.{accepted}
-use Rattle.name_tables.specs.TableTests.{reading_by}
+use Rattle.name_tables.specs.{declared.tables.Tables.Tables, TablesOf.accepted, TableTests.reading_by}
 
 -- what a line says whose tokens give this: its statement, or the first test that it fails
 abbrev pub said_by : Result Statement Code → Result (Option Statement) Code

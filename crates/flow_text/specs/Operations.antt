@@ -1,25 +1,17 @@
 -- Operations while they are read: an expression or an operation, or the first test that it fails.
 use Rattle.std.specs.Prelude.{ℕ, Bool, true, false, [], ◌∷◌, ◌&&◌, not, nat_lt, if◌then◌else◌, Option, None, Some, Result, Ok, Err}
 use Rattle.std.specs.List.{list_all}
-use Rattle.flow_design.specs.declared.expr.Expr.{Expr}
-use Rattle.flow_design.specs.declared.expr.Op.{Op}
-use Rattle.flow_design.specs.declared.expr.Op.TheVariants as op
-use Rattle.flow_design.specs.declared.session.Statement.{Statement}
+use Rattle.flow_design.specs.{declared.expr.Expr.Expr, declared.expr.Op.Op, declared.session.Statement.Statement}
 use Rattle.flow_design.specs.declared.session.Statement.TheVariants.{At}
-use Rattle.flow_grammar.specs.declared.fault.Code.{Code}
+use Rattle.flow_design.specs.declared.expr.Op.TheVariants as op
+use Rattle.flow_grammar.specs.{declared.fault.Code.Code, declared.operand.Operand.Operand, Parts.Name, Parts.expr_parts, Parts.op_parts}
+use Rattle.flow_grammar.specs.{Parts.AVariable, Before.is_among, Rules.is_in_range, Rules.is_small, Rules.has_small_trees}
+use Rattle.flow_grammar.specs.{Operands.is_known_by, Operands.earlier, Trees.Trees, Places.takes_operations}
 use Rattle.flow_grammar.specs.declared.fault.Code.TheVariants.{Syntax, BadNumber, UnknownName, TooMany}
-use Rattle.flow_grammar.specs.declared.operand.Operand.{Operand}
 use Rattle.flow_grammar.specs.declared.operand.Operand.TheVariants.{Whole, Faulty}
-use Rattle.flow_grammar.specs.Parts.{Name, expr_parts, op_parts, AVariable}
-use Rattle.flow_grammar.specs.Before.{is_among}
-use Rattle.flow_grammar.specs.Rules.{is_in_range, is_small, has_small_trees}
-use Rattle.flow_grammar.specs.Operands.{is_known_by, earlier}
-use Rattle.flow_grammar.specs.Trees.{Trees}
 use Rattle.flow_text.specs.declared.operations.TwoNames.{TwoNames}
 use Rattle.flow_text.specs.declared.operations.TwoNames.TheVariants as two
-use Rattle.name_tables.specs.declared.tables.Tables.{Tables}
-use Rattle.flow_grammar.specs.Places.{takes_operations}
-use Rattle.name_tables.specs.TableTests.{named, is_known}
+use Rattle.name_tables.specs.{declared.tables.Tables.Tables, TableTests.named, TableTests.is_known}
 
 -- a value, or the first of three tests that fails
 abbrev pub tested : {A : Type 0} → Bool → Bool → Bool → A → Result A Code

@@ -1,9 +1,7 @@
 -- How far a reader of lines is.
 use Rattle.std.specs.Prelude.{◌≡◌, ℕ, List, [], ◌++◌, reverse, Option, Result, Ok}
-use Rattle.flow_design.specs.declared.limits.Scale.{Scale}
-use Rattle.flow_design.specs.declared.session.Statement.{Statement}
-use Rattle.flow_grammar.specs.declared.fault.TextFault.{TextFault}
-use Rattle.flow_grammar.specs.Tokens.{Line, lines_of}
+use Rattle.flow_design.specs.{declared.limits.Scale.Scale, declared.session.Statement.Statement}
+use Rattle.flow_grammar.specs.{declared.fault.TextFault.TextFault, Tokens.Line, Tokens.lines_of}
 use Rattle.flow_grammar.specs.Gives.{◌>>=◌, Read, reading, at_line, line_reading, with_statement, with_number}
 use Rattle.name_tables.specs.TablesOf.{tables_of}
 use Rattle.flow_text.specs.declared.progress.Progress.{Progress}

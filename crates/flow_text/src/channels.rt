@@ -1,12 +1,9 @@
 //! Reading the statements of channels.
 ghost use Rattle.std.specs.Prelude.{◌≡◌, map, ◌&&◌, IfOk};
 ghost use Rattle.flow_design.specs.declared.session.Statement.TheVariants.{Source, Sink, Fifo};
-ghost use Rattle.flow_grammar.specs.Tokens.{is_number, is_name, number_of};
-ghost use Rattle.flow_grammar.specs.Forms.{only_if, name_width, fifo_of};
-ghost use Rattle.flow_grammar.specs.Gives.{LineGives};
-ghost use Rattle.flow_grammar.specs.Parts.{default_depth, default_delay};
-ghost use Rattle.name_tables.specs.TablesOf.{accepted, IsOfStatements};
-ghost use Rattle.name_tables.specs.TableTests.{reading_by};
+ghost use Rattle.flow_grammar.specs.{Tokens.is_number, Tokens.is_name, Tokens.number_of, Forms.only_if, Forms.name_width, Forms.fifo_of};
+ghost use Rattle.flow_grammar.specs.{Gives.LineGives, Parts.default_depth, Parts.default_delay};
+ghost use Rattle.name_tables.specs.{TablesOf.accepted, TablesOf.IsOfStatements, TableTests.reading_by};
 
 use crate::ensure::{Parsed, ensure, syntax};
 use flow_design::limits::{FIFO_DELAY, FIFO_DEPTH};

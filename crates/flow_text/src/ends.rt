@@ -3,8 +3,7 @@ ghost use Rattle.std.specs.Prelude.{◌≡◌, map, IfOk};
 ghost use Rattle.flow_design.specs.declared.session.Statement.TheVariants.{Goto, Stop, Depth, End};
 ghost use Rattle.flow_grammar.specs.Forms.{name_width, one_name, flow_of, branch_of, limits_of, bare};
 ghost use Rattle.flow_grammar.specs.Gives.{LineGives};
-ghost use Rattle.name_tables.specs.TablesOf.{accepted};
-ghost use Rattle.name_tables.specs.TableTests.{reading_by};
+ghost use Rattle.name_tables.specs.{TablesOf.accepted, TableTests.reading_by};
 
 use crate::ensure::{Parsed, ensure, syntax};
 use flow_design::limits::{EDITS, FIFO_DEPTH};

@@ -1,7 +1,6 @@
 //! Failing tests of a line.
 ghost use Rattle.std.specs.Prelude.{◌≡◌, Ok, Err, if◌then◌else◌};
-ghost use Rattle.flow_grammar.specs.declared.fault.Code.TheVariants.{Syntax};
-ghost use Rattle.flow_grammar.specs.declared.fault.LineFail.TheVariants.{Fault};
+ghost use Rattle.flow_grammar.specs.{declared.fault.Code.TheVariants.Syntax, declared.fault.LineFail.TheVariants.Fault};
 
 use flow_grammar::{Code, LineFail};
 

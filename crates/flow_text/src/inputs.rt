@@ -1,13 +1,9 @@
 //! Reading `input`.
-ghost use Rattle.std.specs.Prelude.{◌≡◌, true, map, ◌&&◌, IfOk, Some};
-ghost use Rattle.std.specs.List.{list_all};
+ghost use Rattle.std.specs.{Prelude.◌≡◌, Prelude.true, Prelude.map, Prelude.◌&&◌, Prelude.IfOk, Prelude.Some, List.list_all};
 ghost use Rattle.flow_design.specs.declared.session.Statement.TheVariants.{Input};
-ghost use Rattle.flow_grammar.specs.Tokens.{is_number, is_name, number_of};
-ghost use Rattle.flow_grammar.specs.Forms.{only_if, input_of};
-ghost use Rattle.flow_grammar.specs.Gives.{LineGives};
+ghost use Rattle.flow_grammar.specs.{Tokens.is_number, Tokens.is_name, Tokens.number_of, Forms.only_if, Forms.input_of, Gives.LineGives};
 ghost use Rattle.flow_text.specs.Inputs.{words_within, input_reading};
-ghost use Rattle.name_tables.specs.TablesOf.{accepted};
-ghost use Rattle.name_tables.specs.TableTests.{reading_by};
+ghost use Rattle.name_tables.specs.{TablesOf.accepted, TableTests.reading_by};
 
 use crate::ensure::{Parsed, ensure, syntax};
 use flow_design::{Name, Statement};

@@ -1,12 +1,8 @@
 //! Reading one line.
-ghost use Rattle.std.specs.Prelude.{◌≡◌, ◌∷◌, map, IfOk, Ok};
-ghost use Rattle.std.specs.List.{list_all};
-ghost use Rattle.flow_grammar.specs.Tokens.{is_permitted};
-ghost use Rattle.flow_grammar.specs.Forms.{form_of, statement_of};
-ghost use Rattle.flow_grammar.specs.Gives.{LineGives};
+ghost use Rattle.std.specs.{Prelude.◌≡◌, Prelude.◌∷◌, Prelude.map, Prelude.IfOk, Prelude.Ok, List.list_all};
+ghost use Rattle.flow_grammar.specs.{Tokens.is_permitted, Forms.form_of, Forms.statement_of, Gives.LineGives};
 ghost use Rattle.flow_text.specs.Lines.{line_reading_by, tokens_reading_by, accepted_if};
-ghost use Rattle.name_tables.specs.TablesOf.{accepted, IsOfStatements};
-ghost use Rattle.name_tables.specs.TableTests.{reading_by};
+ghost use Rattle.name_tables.specs.{TablesOf.accepted, TablesOf.IsOfStatements, TableTests.reading_by};
 
 use crate::channels::{fifo, sink, source};
 use crate::ends::{branch, edit, end, flow, goto, limits, stop};

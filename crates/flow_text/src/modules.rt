@@ -1,11 +1,9 @@
 //! Reading modules, registers, memories, blocks, loops and temps.
 ghost use Rattle.std.specs.Prelude.{◌≡◌, true, map, IfOk, Some};
 ghost use Rattle.flow_design.specs.declared.session.Statement.TheVariants.{Module, Reg, Block, Loop, Temp};
-ghost use Rattle.flow_grammar.specs.Tokens.{is_number, number_of};
+ghost use Rattle.flow_grammar.specs.{Tokens.is_number, Tokens.number_of, Gives.LineGives};
 ghost use Rattle.flow_grammar.specs.Forms.{name_width, one_name, mem_of, loop_of};
-ghost use Rattle.flow_grammar.specs.Gives.{LineGives};
-ghost use Rattle.name_tables.specs.TablesOf.{accepted};
-ghost use Rattle.name_tables.specs.TableTests.{reading_by};
+ghost use Rattle.name_tables.specs.{TablesOf.accepted, TableTests.reading_by};
 
 use crate::ensure::{Parsed, ensure, syntax};
 use flow_design::limits::{ALL_MEMORY_WORDS, BLOCK_CLOCKS, MEMORY_WORDS};

@@ -1,12 +1,8 @@
 //! Reading operations.
 ghost use Rattle.std.specs.Prelude.{◌≡◌, map, ◌&&◌};
 ghost use Rattle.flow_design.specs.declared.expr.Op.TheVariants as op;
-ghost use Rattle.flow_grammar.specs.Tokens.{is_name};
-ghost use Rattle.flow_grammar.specs.Before.{is_among};
-ghost use Rattle.flow_grammar.specs.Trees.{trees_of};
-ghost use Rattle.flow_grammar.specs.Forms.{only_if, set_of, load_of, store_of, write_of, two_names};
-ghost use Rattle.flow_grammar.specs.Forms.{try_read_of, try_write_of};
-ghost use Rattle.flow_grammar.specs.Gives.{LineGives};
+ghost use Rattle.flow_grammar.specs.{Tokens.is_name, Before.is_among, Trees.trees_of, Gives.LineGives};
+ghost use Rattle.flow_grammar.specs.Forms.{only_if, set_of, load_of, store_of, write_of, two_names, try_read_of, try_write_of};
 ghost use Rattle.flow_text.specs.Operations.{tree_reading, trees_reading, op_reading, tree_kept, trees_kept, with_tree, store_op};
 ghost use Rattle.flow_text.specs.Operations.{op_of_names, is_variable};
 

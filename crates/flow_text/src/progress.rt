@@ -1,8 +1,7 @@
 //! How far a session is read.
 ghost use Rattle.std.specs.Prelude.{◌≡◌, OnOk, IfOk, IfErr};
 ghost use Rattle.flow_grammar.specs.Gives.{TextGives, TextFails, at_line, line_reading, with_statement, with_number};
-ghost use Rattle.flow_text.specs.Lines.{line_reading_by, accepted_if};
-ghost use Rattle.flow_text.specs.Progress.{IsKept, IsOpening, IsAdded};
+ghost use Rattle.flow_text.specs.{Lines.line_reading_by, Lines.accepted_if, Progress.IsKept, Progress.IsOpening, Progress.IsAdded};
 ghost use Rattle.name_tables.specs.TablesOf.{IsOfStatements};
 
 use crate::lines::line_statement;

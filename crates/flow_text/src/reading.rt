@@ -2,12 +2,9 @@
 ghost use Rattle.std.specs.Prelude.{◌≡◌, ◌≤◌, ◌+◌, [], ◌∷◌, length, position, IfOk, IfErr, Ok, Err, Result, ℕ, reverse, List as Items};
 ghost use Rattle.std.specs.Option.{option_copied};
 ghost use Rattle.flow_design.specs.declared.session.Statement.{Statement as StatementValue};
-ghost use Rattle.flow_grammar.specs.declared.fault.TextFault.{TextFault as FaultValue};
-ghost use Rattle.flow_grammar.specs.Tokens.{lines_of, is_line_feed};
-ghost use Rattle.flow_grammar.specs.Gives.{TextGives, TextFails, ended, reading};
-ghost use Rattle.flow_grammar.specs.Places.{place as place_behind};
-ghost use Rattle.flow_grammar.specs.Rules.{is_over};
-ghost use Rattle.flow_grammar.specs.Text.{StandsFor, HasFault, IsAnswer, Answers, session_of};
+ghost use Rattle.flow_grammar.specs.{declared.fault.TextFault.TextFault as FaultValue, Tokens.lines_of, Tokens.is_line_feed};
+ghost use Rattle.flow_grammar.specs.{Gives.TextGives, Gives.TextFails, Gives.ended, Gives.reading, Places.place as place_behind};
+ghost use Rattle.flow_grammar.specs.{Rules.is_over, Text.StandsFor, Text.HasFault, Text.IsAnswer, Text.Answers, Text.session_of};
 ghost use Rattle.flow_text.specs.Lines.{lines_left, bytes_left};
 ghost use Rattle.flow_text.specs.Progress.{IsKept, IsOpening, IsThrough, with_front};
 

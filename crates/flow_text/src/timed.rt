@@ -1,15 +1,11 @@
 //! Reading `at`.
 ghost use Rattle.std.specs.Prelude.{◌≡◌, ◌+◌, ◌<◌, ◌^◌, ◌∷◌, true, nat_lt, map, option_map, IfOk, Option, Some, None, Ok, Err};
 ghost use Rattle.flow_design.specs.declared.session.Statement.TheVariants.{At};
-ghost use Rattle.flow_grammar.specs.Tokens.{is_number, is_name, number_of};
-ghost use Rattle.flow_grammar.specs.Forms.{op_form_of, op_of, if_then, guarded_of, at_of};
-ghost use Rattle.flow_grammar.specs.Gives.{LineGives};
-ghost use Rattle.flow_grammar.specs.Parts.{Name as NameValue};
+ghost use Rattle.flow_grammar.specs.{Tokens.is_number, Tokens.is_name, Tokens.number_of, Forms.op_form_of, Forms.op_of, Forms.if_then};
+ghost use Rattle.flow_grammar.specs.{Forms.guarded_of, Forms.at_of, Gives.LineGives, Parts.Name as NameValue, Places.takes_operations};
 ghost use Rattle.flow_text.specs.Operations as operations;
 ghost use Rattle.flow_text.specs.Operations.{op_reading, timed_reading};
-ghost use Rattle.name_tables.specs.TablesOf.{accepted};
-ghost use Rattle.flow_grammar.specs.Places.{takes_operations};
-ghost use Rattle.name_tables.specs.TableTests.{reading_by};
+ghost use Rattle.name_tables.specs.{TablesOf.accepted, TableTests.reading_by};
 
 use crate::ensure::{Judged, Parsed, ensure, syntax};
 use crate::operations::{TwoNames, load, set, store, try_read, try_write, two_names, write};

@@ -1,8 +1,7 @@
 -- The kinds of accesses: where each stands, and what it does there.
 use Rattle.std.specs.Prelude.{Bool, true, false}
-use Rattle.flow_word.specs.declared.access.Side.{Side}
+use Rattle.flow_word.specs.{declared.access.Side.Side, declared.access.Kind.Kind}
 use Rattle.flow_word.specs.declared.access.Side.TheVariants.{Pop, Push}
-use Rattle.flow_word.specs.declared.access.Kind.{Kind}
 use Rattle.flow_word.specs.declared.access.Kind.TheVariants.{Read, Write, TryRead, TryWrite, Empty, Full}
 
 -- ---- sides

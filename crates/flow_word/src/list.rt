@@ -1,7 +1,6 @@
 //! A growing list, which contracts see as the list of its items.
 ghost use Rattle.std.specs.Prelude.{◌≡◌, [], ◌∷◌, ◌++◌, length, take, drop, replicate, IfOk, OnOk, OnErr};
-ghost use Rattle.std.specs.Borrow.{sem};
-ghost use Rattle.std.specs.Cmp.Lexicographic.{pointwise, lists_per, lists_equiv};
+ghost use Rattle.std.specs.{Borrow.sem, Cmp.Lexicographic.pointwise, Cmp.Lexicographic.lists_per, Cmp.Lexicographic.lists_equiv};
 ghost use Rattle.flow_word.specs.Lends.{LendsItems};
 
 use crate::memory::OutOfMemory;

@@ -1,27 +1,18 @@
 -- The next depths above those with which a plan is late are a cut.
 use Rattle.std.proofs.Common.{◌≡◌, ℕ, ◌<◌, ◌≤◌, true, false, List, length, refl, ◌∙◌, arith, inl, inr, Option}
+use Rattle.std.proofs.{lemmas.Bool.cases_Bool, lemmas.Bool.cases_lt, lemmas.List.get_or_past}
 use Rattle.std.specs.Prelude.{slice_index, slice_index_or, All}
-use Rattle.std.proofs.lemmas.Bool.{cases_Bool, cases_lt}
-use Rattle.std.proofs.lemmas.List.{get_or_past}
-use Rattle.flow_design.specs.declared.limits.TheConstants.{FIFO_DEPTH}
-use Rattle.flow_design.specs.declared.plan.Plan.{Plan}
-use Rattle.flow_design.specs.declared.report.Verdict.{Verdict}
+use Rattle.flow_design.specs.{declared.limits.TheConstants.FIFO_DEPTH, declared.plan.Plan.Plan, declared.report.Verdict.Verdict}
+use Rattle.flow_design.specs.{Plans.is_fifo, Plans.kind_at, StaticRules.FitsEngine, declared.state.Advance.Advance}
 use Rattle.flow_design.specs.declared.report.Verdict.TheVariants.{Done, Deadlock, Cycles, Ops}
-use Rattle.flow_design.specs.Plans.{is_fifo, kind_at}
-use Rattle.flow_design.specs.StaticRules.{FitsEngine}
 use Rattle.lockstep_defs.specs.Verdict.{verdict}
 use Rattle.depth_order.specs.Depths.{with_depths, AreDepths, AreDeeper, AsksNothing, IsDoneBy}
-use Rattle.depth_order.proofs.Order.{never_slower}
-use Rattle.depth_order.proofs.Plans.{fifo_inside}
-use Rattle.flow_design.specs.declared.state.Advance.{Advance}
+use Rattle.depth_order.proofs.{Order.never_slower, Plans.fifo_inside}
 use Rattle.engine_view.specs.Held.{Held}
 use Rattle.engine_report.specs.Finished.{IsFinished}
 use Rattle.path_check.specs.Waits.{IsTried}
-use Rattle.depth_cuts.specs.declared.cuts.Need.{Need}
-use Rattle.depth_cuts.specs.declared.cuts.Cut.{Cut}
-use Rattle.depth_cuts.specs.Met.{IsUnmet}
-use Rattle.late_cuts.specs.Cuts.{AreDeepest, IsNeedOf, IsCutFor}
-use Rattle.late_cuts.specs.Raised.{AreRaised, IsNext, AreNext}
+use Rattle.depth_cuts.specs.{declared.cuts.Need.Need, declared.cuts.Cut.Cut, Met.IsUnmet}
+use Rattle.late_cuts.specs.{Cuts.AreDeepest, Cuts.IsNeedOf, Cuts.IsCutFor, Raised.AreRaised, Raised.IsNext, Raised.AreNext}
 use Rattle.late_cuts.proofs.Needs.{met_or_short}
 
 -- ---- done by a clock

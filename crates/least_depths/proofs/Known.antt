@@ -1,20 +1,15 @@
 -- What a late depth says of the depths that are tried.
 use Rattle.std.proofs.Common.{◌≡◌, ℕ, ◌+◌, ◌<◌, ◌≤◌, true, false, sym, ◌∙◌, subst, arith, inl, inr}
-use Rattle.std.specs.Prelude.{slice_index}
 use Rattle.std.proofs.lemmas.Bool.{cases_Bool, cases_lt}
-use Rattle.flow_design.specs.declared.limits.TheConstants.{FIFO_DEPTH}
-use Rattle.flow_design.specs.declared.plan.Plan.{Plan}
-use Rattle.flow_design.specs.Plans.{with_depth}
-use Rattle.flow_design.specs.StaticRules.{FitsEngine}
+use Rattle.std.specs.Prelude.{slice_index}
+use Rattle.flow_design.specs.{declared.limits.TheConstants.FIFO_DEPTH, declared.plan.Plan.Plan, Plans.with_depth, StaticRules.FitsEngine}
 use Rattle.lockstep_defs.specs.Verdict.{verdict}
 use Rattle.depth_order.specs.Depths.{AsksNothing}
 use Rattle.depth_order.proofs.Plans.{depths_fit}
 use Rattle.depth_bounds.specs.Late.{IsLateBelow}
 use Rattle.depth_bounds.proofs.Depths.{own_depths}
-use Rattle.least_depths.specs.Known.{AreKnown}
-use Rattle.least_depths.specs.Lowering.{HasDepth, is_in_time, lowered}
-use Rattle.least_depths.proofs.Depths.{test_done_by}
-use Rattle.least_depths.proofs.Least.{in_time_more, lowered_first}
+use Rattle.least_depths.specs.{Known.AreKnown, Lowering.HasDepth, Lowering.is_in_time, Lowering.lowered}
+use Rattle.least_depths.proofs.{Depths.test_done_by, Least.in_time_more, Least.lowered_first}
 
 -- ---- the plan with the first channels lowered
 

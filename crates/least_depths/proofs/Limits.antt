@@ -1,25 +1,18 @@
 -- A plan that stops at a clock has each end by that clock, and no other.
-use Rattle.std.proofs.Common.{◌≡◌, ℕ, zero, suc, ◌+◌, ◌++◌, ◌<◌, ◌≤◌, Bool, true, false, true≢false, cond, max}
-use Rattle.std.proofs.Common.{[], refl, sym, ◌∙◌, ap, subst, arith, inl, inr}
-use Rattle.std.specs.Prelude.{nat_lt, nat_le}
-use Rattle.std.specs.List.{list_all, list_any}
+use Rattle.std.proofs.Common.{◌≡◌, ℕ, zero, suc, ◌+◌, ◌++◌, ◌<◌, ◌≤◌, Bool, true, false, true≢false, cond, max, [], refl, sym, ◌∙◌, ap}
+use Rattle.std.proofs.Common.{subst, arith, inl, inr}
 use Rattle.std.proofs.lemmas.Bool.{cases_Bool, cases_lt, lt-ltb, le-ltb, leb-true, false_from_ne_true}
-use Rattle.flow_design.specs.declared.limits.TheConstants.{CYCLES}
-use Rattle.flow_design.specs.declared.plan.Plan.{Plan}
-use Rattle.flow_design.specs.declared.report.Verdict.{Verdict}
+use Rattle.std.specs.{Prelude.nat_lt, Prelude.nat_le, List.list_all, List.list_any}
+use Rattle.flow_design.specs.{declared.limits.TheConstants.CYCLES, declared.plan.Plan.Plan, declared.report.Verdict.Verdict}
+use Rattle.flow_design.specs.{declared.state.ClockState.ClockState, StaticRules.FitsEngine}
 use Rattle.flow_design.specs.declared.report.Verdict.TheVariants.{Done, Deadlock, Cycles, Ops}
-use Rattle.flow_design.specs.declared.state.ClockState.{ClockState}
-use Rattle.flow_design.specs.StaticRules.{FitsEngine}
-use Rattle.lockstep_defs.specs.Channels.{reply}
+use Rattle.lockstep_defs.specs.{Channels.reply, Machine.is_spent, Laws.NoneBefore}
 use Rattle.lockstep_defs.specs.Lockstep.{Moment, moves, steps_in, clock_step, opening, moment, next_moment, state}
-use Rattle.lockstep_defs.specs.Machine.{is_spent}
 use Rattle.lockstep_defs.specs.Verdict.{is_settled, settled_verdict, verdict}
-use Rattle.lockstep_defs.specs.Laws.{NoneBefore}
 use Rattle.lockstep_defs.proofs.Found.{verdict_found, verdict_none}
 use Rattle.depth_order.specs.Depths.{IsDoneBy}
 use Rattle.depth_order.proofs.First.{IsFirst, first_among, verdict_first}
-use Rattle.least_depths.specs.Lowering.{is_done_by}
-use Rattle.least_depths.specs.Limits.{limit_for, limited}
+use Rattle.least_depths.specs.{Lowering.is_done_by, Limits.limit_for, Limits.limited}
 use Rattle.least_depths.proofs.Depths.{done_by_test}
 
 -- ---- clocks go on as before

@@ -1,14 +1,9 @@
 -- A session with an edit more, and the verdict that a report tells.
 use Rattle.std.proofs.Common.{◌≡◌, ◌+◌, ◌≤◌, Bool, List, sym, ap, subst, arith, inl, inr}
 use Rattle.std.proofs.lemmas.Bool.{cases_Bool}
-use Rattle.flow_design.specs.declared.plan.Edit.{Edit}
-use Rattle.flow_design.specs.Plans.{with_depth}
-use Rattle.flow_design.specs.declared.plan.Plan.{Plan}
-use Rattle.flow_design.specs.declared.report.Report.{Report}
-use Rattle.lockstep_defs.specs.Report.{report}
-use Rattle.lockstep_defs.specs.Verdict.{verdict}
-use Rattle.outcome_guard.specs.declared.count.RunCount.{RunCount}
-use Rattle.outcome_guard.specs.Runs.{all_go_on, next_counts}
+use Rattle.flow_design.specs.{declared.plan.Edit.Edit, Plans.with_depth, declared.plan.Plan.Plan, declared.report.Report.Report}
+use Rattle.lockstep_defs.specs.{Report.report, Verdict.verdict}
+use Rattle.outcome_guard.specs.{declared.count.RunCount.RunCount, Runs.all_go_on, Runs.next_counts}
 use Rattle.depth_session.specs.Sessions.{Session, plan_behind, with_edit}
 
 runs_more : (count : RunCount) (found : List (List Bool)) → (next_counts count found).runs ≤ count.runs + 1

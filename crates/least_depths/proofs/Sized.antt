@@ -1,28 +1,20 @@
 -- What is found of a plan with the advised depths.
 use Rattle.std.proofs.Common.{◌≡◌, ℕ, ◌+◌, ◌<◌, ◌≤◌, List, length, refl, sym, ◌∙◌, ap, subst, arith, ◌⊎◌, inl, inr}
-use Rattle.std.specs.Prelude.{◌≢◌}
 use Rattle.std.proofs.lemmas.Bool.{cases_lt}
+use Rattle.std.specs.Prelude.{◌≢◌}
 use Rattle.flow_design.specs.declared.limits.TheConstants.{CYCLES}
-use Rattle.flow_design.specs.declared.plan.Plan.{Plan}
-use Rattle.flow_design.specs.declared.report.Verdict.{Verdict}
+use Rattle.flow_design.specs.{declared.plan.Plan.Plan, declared.report.Verdict.Verdict, StaticRules.FitsEngine}
 use Rattle.flow_design.specs.declared.report.Verdict.TheVariants.{Done, Deadlock, Cycles, Ops}
-use Rattle.flow_design.specs.StaticRules.{FitsEngine}
-use Rattle.lockstep_defs.specs.Report.{report}
-use Rattle.lockstep_defs.specs.Verdict.{verdict}
+use Rattle.lockstep_defs.specs.{Report.report, Verdict.verdict}
 use Rattle.depth_order.specs.Depths.{with_depths, AreDepths, AreDeeper, AsksNothing, IsDoneBy}
-use Rattle.depth_order.proofs.Order.{done_ended}
-use Rattle.depth_order.proofs.Plans.{depths_fit}
+use Rattle.depth_order.proofs.{Order.done_ended, Plans.depths_fit}
 use Rattle.depth_advice.specs.Advice.{advised, wide}
-use Rattle.depth_advice.proofs.Depths.{advised_depths, never_blocks}
-use Rattle.depth_advice.proofs.Faster.{advised_fastest}
-use Rattle.least_depths.specs.Lowering.{untouched, lowered, AreLeast, all_bits}
+use Rattle.depth_advice.proofs.{Depths.advised_depths, Depths.never_blocks, Faster.advised_fastest}
+use Rattle.least_depths.specs.{Lowering.untouched, Lowering.lowered, Lowering.AreLeast, Lowering.all_bits, declared.sizing.Sizes.Sizes}
 use Rattle.least_depths.specs.Least.{sizes_of, sized_by, sizes, first_runs, IsNoLater, IsLeast}
-use Rattle.least_depths.specs.declared.sizing.Sizes.{Sizes}
-use Rattle.least_depths.proofs.Depths.{same_depths, same_least}
-use Rattle.depth_bounds.proofs.Depths.{own_depths}
+use Rattle.least_depths.proofs.{Depths.same_depths, Depths.same_least, Few.few_in_all, Sessions.report_told}
 use Rattle.least_depths.proofs.Least.{lowered_first, none_lower}
-use Rattle.least_depths.proofs.Few.{few_in_all}
-use Rattle.least_depths.proofs.Sessions.{report_told}
+use Rattle.depth_bounds.proofs.Depths.{own_depths}
 
 -- ---- of any plan
 

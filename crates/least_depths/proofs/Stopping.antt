@@ -1,18 +1,13 @@
 -- FIFOs are lowered alike where the plan stops at the wanted clock.
 use Rattle.std.proofs.Common.{◌≡◌, ℕ, zero, suc, ◌+◌, ◌∙◌, Bool, true, false, List, length, refl, ap, inl, inr}
-use Rattle.std.specs.Prelude.{slice_index}
 use Rattle.std.proofs.lemmas.Bool.{cases_Bool}
-use Rattle.flow_design.specs.declared.plan.Plan.{Plan}
-use Rattle.flow_design.specs.Plans.{is_fifo, kind_at, with_depth}
-use Rattle.flow_design.specs.StaticRules.{FitsEngine}
+use Rattle.std.specs.Prelude.{slice_index}
+use Rattle.flow_design.specs.{declared.plan.Plan.Plan, Plans.is_fifo, Plans.kind_at, Plans.with_depth, StaticRules.FitsEngine}
 use Rattle.lockstep_defs.specs.Verdict.{verdict}
 use Rattle.depth_order.specs.Depths.{IsDoneBy}
-use Rattle.least_depths.specs.Halving.{Found, halved}
-use Rattle.least_depths.specs.Least.{sizes_of}
-use Rattle.least_depths.specs.Limits.{limited}
+use Rattle.least_depths.specs.{Halving.Found, Halving.halved, Least.sizes_of, Limits.limited}
 use Rattle.least_depths.specs.Lowering.{least_for, Lowered, with_found, lowered}
-use Rattle.least_depths.proofs.Least.{lowered_first}
-use Rattle.least_depths.proofs.Limits.{same_test, same_verdict}
+use Rattle.least_depths.proofs.{Least.lowered_first, Limits.same_test, Limits.same_verdict}
 
 -- halving finds the same depth
 same_found : (p : Plan) (clock f : ℕ) → least_for (limited clock p) clock f ≡ least_for p clock f

@@ -1,9 +1,7 @@
 -- Which depths of a FIFO are known to be too late, and which to be in time.
 use Rattle.std.specs.Prelude.{◌≡◌, ℕ, ◌<◌, ◌≤◌, true, false, slice_index}
-use Rattle.flow_design.specs.declared.plan.Plan.{Plan}
-use Rattle.flow_design.specs.Plans.{with_depth}
-use Rattle.least_depths.specs.Lowering.{is_in_time}
-use Rattle.least_depths.specs.declared.halving.Known.{Known}
+use Rattle.flow_design.specs.{declared.plan.Plan.Plan, Plans.with_depth}
+use Rattle.least_depths.specs.{Lowering.is_in_time, declared.halving.Known.Known}
 
 -- the plan q differs from p at most in the depth of channel f
 abbrev pub IsAlike : Plan → ℕ → Plan → Type 0

@@ -1,13 +1,11 @@
 -- The smallest FIFOs that lose no more than some clocks.
 use Rattle.std.specs.Prelude.{◌≡◌, ⊤, ℕ, ◌+◌, ◌^◌, List, length}
-use Rattle.flow_design.specs.declared.plan.Plan.{Plan}
-use Rattle.flow_design.specs.declared.report.Verdict.{Verdict}
+use Rattle.flow_design.specs.{declared.plan.Plan.Plan, declared.report.Verdict.Verdict}
 use Rattle.flow_design.specs.declared.report.Verdict.TheVariants.{Done, Deadlock, Cycles, Ops}
 use Rattle.lockstep_defs.specs.Verdict.{verdict}
 use Rattle.depth_order.specs.Depths.{with_depths, IsDoneBy}
 use Rattle.depth_advice.specs.Advice.{advised}
-use Rattle.least_depths.specs.Lowering.{Lowered, untouched, lowered, AreLeast}
-use Rattle.least_depths.specs.declared.sizing.Sizes.{Sizes}
+use Rattle.least_depths.specs.{Lowering.Lowered, Lowering.untouched, Lowering.lowered, Lowering.AreLeast, declared.sizing.Sizes.Sizes}
 
 -- the sizes that a lowered plan gives: its verdict, its depths, and how many depths were tried
 abbrev pub sizes_of : Lowered → Sizes

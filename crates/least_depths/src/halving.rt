@@ -1,8 +1,7 @@
 //! Lowers depths in a session of edits, by halving.
 ghost use Rattle.std.specs.Prelude.{◌≡◌, ◌+◌, ◌<◌, ◌≤◌, true, false, length, IsSome, IfOk, OnOk};
-ghost use Rattle.flow_design.specs.declared.limits.TheConstants.{FIFO_DEPTH};
+ghost use Rattle.flow_design.specs.{declared.limits.TheConstants.FIFO_DEPTH, StaticRules.FitsEngine};
 ghost use Rattle.flow_design.specs.Plans.{EditFits, is_fifo, kind_at, with_depth};
-ghost use Rattle.flow_design.specs.StaticRules.{FitsEngine};
 ghost use Rattle.depth_order.specs.Depths.{AsksNothing};
 ghost use Rattle.depth_bounds.specs.Late.{IsLateBelow};
 ghost use Rattle.least_depths.specs.Lowering.{HasDepth, is_done_by, is_in_time, least_for, lowered};

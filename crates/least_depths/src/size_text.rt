@@ -2,8 +2,7 @@
 ghost use Rattle.std.specs.Prelude.{◌≡◌, ◌+◌, ◌≤◌, length, IfOk, OnOk};
 ghost use Rattle.flow_design.specs.StaticRules.{FitsEngine};
 ghost use Rattle.depth_order.specs.Depths.{AsksNothing};
-ghost use Rattle.least_depths.specs.Least.{sizes, first_runs, most_slack};
-ghost use Rattle.least_depths.specs.SizeText.{size_text};
+ghost use Rattle.least_depths.specs.{Least.sizes, Least.first_runs, Least.most_slack, SizeText.size_text};
 
 use crate::sizing::find_sizes;
 use depth_advice::print_depths;

@@ -3,9 +3,7 @@ ghost use Rattle.std.specs.Prelude.{◌≡◌, ◌+◌, ◌<◌, ◌≤◌, leng
 ghost use Rattle.flow_design.specs.StaticRules.{FitsEngine};
 ghost use Rattle.lockstep_defs.specs.Verdict.{verdict};
 ghost use Rattle.depth_order.specs.Depths.{with_depths, AsksNothing, IsDoneBy};
-ghost use Rattle.least_depths.specs.Limits.{limited};
-ghost use Rattle.least_depths.specs.Lowering.{lowered};
-ghost use Rattle.least_depths.specs.Least.{sizes_of, sizes, first_runs, most_slack};
+ghost use Rattle.least_depths.specs.{Limits.limited, Lowering.lowered, Least.sizes_of, Least.sizes, Least.first_runs, Least.most_slack};
 
 use crate::bounds::latest_clocks;
 use crate::halving::lower_all;

@@ -1,6 +1,5 @@
 -- The line of the bits.
-use Rattle.std.proofs.Common.{◌≡◌, ℕ, List, ◌∷◌, [], ◌++◌, arith}
-use Rattle.std.proofs.lemmas.Grind.{common_steps}
+use Rattle.std.proofs.{Common.◌≡◌, Common.ℕ, Common.List, Common.◌∷◌, Common.[], Common.◌++◌, Common.arith, lemmas.Grind.common_steps}
 use Rattle.report_text.specs.Lines.{line}
 
 -- a line of two tokens

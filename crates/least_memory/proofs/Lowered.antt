@@ -1,13 +1,9 @@
 -- The cheapest depths are no greater than what is asked of each channel.
 use Rattle.std.proofs.Common.{◌≡◌, ℕ, ◌<◌, ◌≤◌, inl, inr, List, length, refl, sym, ◌∙◌, ap, subst, arith}
-use Rattle.std.specs.Prelude.{slice_index, slice_index_or, slice_set, All}
-use Rattle.std.proofs.lemmas.List.{get_or_past}
+use Rattle.std.proofs.lemmas.List.{get_or_past, get_or-set_same, get_or-set_other, length-set}
 use Rattle.std.proofs.lemmas.Bool.{cases_lt, cases_eq}
-use Rattle.std.proofs.lemmas.List.{get_or-set_same, get_or-set_other, length-set}
-use Rattle.depth_cuts.specs.declared.cuts.Need.{Need}
-use Rattle.depth_cuts.specs.declared.cuts.Cut.{Cut}
-use Rattle.depth_cuts.specs.declared.cuts.Demands.{Demands}
-use Rattle.depth_cuts.specs.Met.{IsMet}
+use Rattle.std.specs.Prelude.{slice_index, slice_index_or, slice_set, All}
+use Rattle.depth_cuts.specs.{declared.cuts.Need.Need, declared.cuts.Cut.Cut, declared.cuts.Demands.Demands, Met.IsMet}
 use Rattle.depth_cuts.specs.Cuts.{AreAbove, Covers, IsEarlier, IsNoWorse, IsCheapest}
 use Rattle.depth_cuts.proofs.Orders.{earlier_trans, above_no_better}
 

@@ -1,19 +1,14 @@
 -- Demands that all depths meet with which a plan is done by a clock.
 use Rattle.std.proofs.Common.{◌≡◌, ℕ, ◌≤◌, inl, inr, false, List, length, sym, ◌∙◌, ap, arith}
+use Rattle.std.proofs.{lemmas.Bool.cases_Bool, lemmas.Bool.cases_lt, lemmas.List.get_or_past, lemmas.List.length-map}
 use Rattle.std.specs.Prelude.{slice_index}
-use Rattle.std.proofs.lemmas.Bool.{cases_Bool, cases_lt}
-use Rattle.std.proofs.lemmas.List.{get_or_past, length-map}
-use Rattle.flow_design.specs.declared.design.Channel.{Channel}
-use Rattle.flow_design.specs.declared.limits.TheConstants.{FIFO_DEPTH}
-use Rattle.flow_design.specs.declared.plan.Plan.{Plan}
-use Rattle.flow_design.specs.Plans.{is_fifo, kind_at}
-use Rattle.flow_design.specs.StaticRules.{FitsEngine}
+use Rattle.flow_design.specs.{declared.design.Channel.Channel, declared.limits.TheConstants.FIFO_DEPTH, declared.plan.Plan.Plan}
+use Rattle.flow_design.specs.{Plans.is_fifo, Plans.kind_at, StaticRules.FitsEngine}
 use Rattle.lockstep_defs.specs.Verdict.{verdict}
 use Rattle.depth_order.specs.Depths.{with_depths, AreDepths, IsDoneBy}
 use Rattle.depth_order.proofs.Plans.{fifo_inside}
 use Rattle.depth_bounds.proofs.Depths.{own_depths}
-use Rattle.depth_cuts.specs.declared.cuts.Demands.{Demands}
-use Rattle.depth_cuts.specs.Cuts.{AreDemands, Covers, IsCheapest}
+use Rattle.depth_cuts.specs.{declared.cuts.Demands.Demands, Cuts.AreDemands, Cuts.Covers, Cuts.IsCheapest}
 use Rattle.least_memory.specs.Needed.{AreNeeded}
 use Rattle.least_memory.proofs.Lowered.{cheapest_within}
 

@@ -1,26 +1,20 @@
 -- Floors and cuts that are shown to be needed.
 use Rattle.std.proofs.Common.{◌≡◌, ℕ, ◌+◌, ◌<◌, inl, inr, true, false, min, max, List, length, refl, sym, ◌∙◌, ap, subst, arith}
-use Rattle.std.specs.Prelude.{slice_index, slice_set, ◌++◌, ◌∷◌, []}
+use Rattle.std.proofs.Common.{length-append}
 use Rattle.std.proofs.lemmas.Bool.{cases_Bool, cases_lt, cases_eq}
 use Rattle.std.proofs.lemmas.List.{get_or-set_same, get_or-set_other, get_or_append_left}
-use Rattle.std.proofs.Common.{length-append}
-use Rattle.std.proofs.Math.Seq.{get_or-append_seam}
-use Rattle.std.proofs.lemmas.List.Elements.{All-push}
-use Rattle.flow_design.specs.declared.limits.TheConstants.{FIFO_DEPTH}
-use Rattle.flow_design.specs.declared.plan.Plan.{Plan}
-use Rattle.flow_design.specs.declared.report.Verdict.{Verdict}
-use Rattle.flow_design.specs.Plans.{is_fifo, kind_at}
-use Rattle.flow_design.specs.StaticRules.{FitsEngine}
+use Rattle.std.proofs.{Math.Seq.get_or-append_seam, lemmas.List.Elements.All-push}
+use Rattle.std.specs.Prelude.{slice_index, slice_set, ◌++◌, ◌∷◌, []}
+use Rattle.flow_design.specs.{declared.limits.TheConstants.FIFO_DEPTH, declared.plan.Plan.Plan, declared.report.Verdict.Verdict}
+use Rattle.flow_design.specs.{Plans.is_fifo, Plans.kind_at, StaticRules.FitsEngine}
 use Rattle.lockstep_defs.specs.Verdict.{verdict}
 use Rattle.depth_order.specs.Depths.{with_depths, AreDepths, AreDeeper, AsksNothing, IsDoneBy}
 use Rattle.depth_bounds.specs.Late.{IsLateBelow}
 use Rattle.depth_bounds.proofs.Depths.{own_depths, set_depths, depth_inside}
 use Rattle.least_depths.specs.Lowering.{is_done_by}
 use Rattle.least_depths.proofs.Depths.{no_later, done_by_test}
-use Rattle.depth_cuts.specs.declared.cuts.Cut.{Cut}
-use Rattle.depth_cuts.specs.declared.cuts.Demands.{Demands}
-use Rattle.late_cuts.specs.Cuts.{AreDeepest, IsCutFor}
-use Rattle.late_cuts.specs.Raised.{AreNext, AreRaised}
+use Rattle.depth_cuts.specs.{declared.cuts.Cut.Cut, declared.cuts.Demands.Demands}
+use Rattle.late_cuts.specs.{Cuts.AreDeepest, Cuts.IsCutFor, Raised.AreNext, Raised.AreRaised}
 use Rattle.late_cuts.proofs.Needed.{cut_of}
 use Rattle.least_memory.specs.Needed.{AreNeeded, IsFloor, IsNeeded}
 

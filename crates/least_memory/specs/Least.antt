@@ -1,16 +1,13 @@
 -- The depths that take the fewest bits of memory, of all with which a plan loses no more than some clocks.
 use Rattle.std.specs.Prelude.{◌≡◌, ℕ, ◌+◌, Bool, Option, List, unwrap_or}
-use Rattle.flow_design.specs.declared.limits.TheConstants.{FIFO_DEPTH}
-use Rattle.flow_design.specs.declared.plan.Plan.{Plan}
-use Rattle.flow_design.specs.declared.report.Verdict.{Verdict}
+use Rattle.flow_design.specs.{declared.limits.TheConstants.FIFO_DEPTH, declared.plan.Plan.Plan, declared.report.Verdict.Verdict}
 use Rattle.flow_design.specs.declared.report.Verdict.TheVariants.{Done, Deadlock, Cycles, Ops}
 use Rattle.lockstep_defs.specs.Verdict.{verdict}
 use Rattle.depth_order.specs.Depths.{with_depths, AreDepths, IsDoneBy}
 use Rattle.depth_advice.specs.Advice.{advised}
 use Rattle.least_depths.specs.Lowering.{is_done_by}
 use Rattle.depth_cuts.specs.Cuts.{IsNoWorse}
-use Rattle.least_memory.specs.Choices.{choices, memory_bits, least_of, widths_of}
-use Rattle.least_memory.specs.declared.finding.Leasts.{Leasts}
+use Rattle.least_memory.specs.{Choices.choices, Choices.memory_bits, Choices.least_of, Choices.widths_of, declared.finding.Leasts.Leasts}
 
 -- with these depths the plan is done in this clock or earlier
 abbrev pub is_timely : Plan → ℕ → List ℕ → Bool

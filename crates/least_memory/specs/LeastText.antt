@@ -3,8 +3,7 @@ use Rattle.std.specs.Prelude.{ℕ, List, [], ◌∷◌, codes, decimal}
 use Rattle.flow_design.specs.declared.plan.Plan.{Plan}
 use Rattle.report_text.specs.Lines.{text_of_lines, verdict_tokens}
 use Rattle.depth_advice.specs.DepthLines.{depth_lines}
-use Rattle.least_memory.specs.Choices.{memory_bits}
-use Rattle.least_memory.specs.Least.{leasts}
+use Rattle.least_memory.specs.{Choices.memory_bits, Least.leasts}
 
 -- the text of the least memory: `least`, the verdict, `bits N`, and `depth NAME D` for each FIFO in order of declaration
 unfoldable pub least_text : ℕ → Plan → List ℕ

@@ -1,17 +1,12 @@
 -- What is known of all depths with which a plan is done by a clock.
 use Rattle.std.specs.Prelude.{◌≡◌, ℕ, ◌<◌, ◌≤◌, true, false, List, length, slice_index, All}
 use Rattle.flow_design.specs.declared.limits.TheConstants.{FIFO_DEPTH}
-use Rattle.flow_design.specs.declared.plan.Plan.{Plan}
-use Rattle.flow_design.specs.declared.report.Verdict.{Verdict}
-use Rattle.flow_design.specs.Plans.{is_fifo, kind_at}
+use Rattle.flow_design.specs.{declared.plan.Plan.Plan, declared.report.Verdict.Verdict, Plans.is_fifo, Plans.kind_at}
 use Rattle.lockstep_defs.specs.Verdict.{verdict}
 use Rattle.depth_order.specs.Depths.{with_depths, AreDepths, IsDoneBy}
-use Rattle.depth_cuts.specs.declared.cuts.Cut.{Cut}
-use Rattle.depth_cuts.specs.declared.cuts.Demands.{Demands}
-use Rattle.depth_cuts.specs.Met.{IsMet}
+use Rattle.depth_cuts.specs.{declared.cuts.Cut.Cut, declared.cuts.Demands.Demands, Met.IsMet}
 use Rattle.late_cuts.specs.Cuts.{IsNeedOf}
-use Rattle.least_memory.specs.Choices.{widths_of}
-use Rattle.least_memory.specs.declared.trying.Outcome.{Outcome}
+use Rattle.least_memory.specs.{Choices.widths_of, declared.trying.Outcome.Outcome}
 use Rattle.least_memory.specs.declared.trying.Outcome.TheVariants.{Late, Ended}
 
 -- no depths with which the plan is done by the clock have less than `floor` in channel f; it is 0 where f is no FIFO

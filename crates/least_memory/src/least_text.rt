@@ -4,8 +4,7 @@ ghost use Rattle.report_text.specs.Lines.{line};
 ghost use Rattle.flow_design.specs.StaticRules.{FitsEngine};
 ghost use Rattle.depth_order.specs.Depths.{AsksNothing};
 ghost use Rattle.least_depths.specs.Least.{most_slack};
-ghost use Rattle.least_memory.specs.Least.{leasts};
-ghost use Rattle.least_memory.specs.LeastText.{least_text};
+ghost use Rattle.least_memory.specs.{Least.leasts, LeastText.least_text};
 
 use crate::demands::widths_of;
 use crate::finding::find_least;

@@ -1,23 +1,17 @@
 -- A module's steps in the history are those of its own run on the history's replies.
 use Rattle.std.proofs.Common.{◌≡◌, ◌≢◌, ℕ, zero, suc, ◌+◌, ◌≤◌, ◌<◌, List, [], ◌∷◌, ◌++◌, map, length, get_or, Bool, true, false, ◌&&◌}
 use Rattle.std.proofs.Common.{◌==◌, not, cond, refl, sym, ◌∙◌, ap, subst, arith, zero-add, length-append}
-use Rattle.std.specs.List.{enumerate_from, flat_map}
 use Rattle.std.proofs.lemmas.List.{append-nil, length-map, get_or-map, get_or_push, map-append}
-use Rattle.std.proofs.lemmas.List.Elements.{filter-append}
+use Rattle.std.proofs.{lemmas.List.Elements.filter-append, Math.ListN.get_or-append}
 use Rattle.std.proofs.lemmas.List.FromFn.{get_or-enumerate_from, length-enumerate_from}
 use Rattle.std.proofs.lemmas.Bool.{ne_eqb, eq-eqb, or_parts, leb-false}
-use Rattle.std.proofs.Math.ListN.{get_or-append}
-use Rattle.flow_design.specs.declared.plan.Plan.{Plan}
-use Rattle.flow_design.specs.declared.state.Element.{Element}
-use Rattle.flow_design.specs.declared.state.ClockState.{ClockState}
-use Rattle.flow_design.specs.declared.state.ModuleState.{ModuleState}
-use Rattle.flow_design.specs.declared.state.Request.{Request}
-use Rattle.flow_design.specs.declared.state.Reply.{Reply}
+use Rattle.std.specs.List.{enumerate_from, flat_map}
+use Rattle.flow_design.specs.{declared.plan.Plan.Plan, declared.state.Element.Element, declared.state.ClockState.ClockState}
+use Rattle.flow_design.specs.{declared.state.ModuleState.ModuleState, declared.state.Request.Request, declared.state.Reply.Reply}
 use Rattle.lockstep_defs.specs.Machine.{requests, move, opened, is_spent, is_over, nobody}
-use Rattle.lockstep_defs.specs.Channels.{HistoryStep, Exchange, reply}
+use Rattle.lockstep_defs.specs.{Channels.HistoryStep, Channels.Exchange, Channels.reply, Report.steps_of}
 use Rattle.lockstep_defs.specs.Lockstep.{no_module, module_at, numbered, requests_of, moves, next_state, answered, step_with, step_of}
 use Rattle.lockstep_defs.specs.Lockstep.{steps_in, clock_step, opening, moment, state, history, state_at}
-use Rattle.lockstep_defs.specs.Report.{steps_of}
 use Rattle.lockstep_defs.specs.OwnRun.{OwnStep, Own, own_after, own_next, own, paired}
 use Rattle.lockstep_defs.specs.Laws.{replies_in, exchanges_in, clocks_made, own_at, IsOwnRun}
 use Rattle.lockstep_defs.proofs.Settled.{state-suc, history-suc}

@@ -1,23 +1,14 @@
 -- The last write to a place wins.
 use Rattle.std.proofs.Common.{◌≡◌, ℕ, ◌+◌, ◌-◌, ◌≤◌, ◌<◌, List, [], ◌∷◌, map, length, get_or, set, reverse, Bool, true, false, ◌&&◌, ◌==◌}
 use Rattle.std.proofs.Common.{nat_lt, cond, refl, sym, ◌∙◌, ap, arith, Option, Some, None}
-use Rattle.std.specs.Prelude.{find, slice_index}
-use Rattle.std.specs.List.{fold}
-use Rattle.std.specs.Option.{option_or}
 use Rattle.std.proofs.lemmas.Bool.{eqb-true, eqb-false, eq-eqb, ne_eqb, ltb-true, ltb-false}
-use Rattle.std.proofs.lemmas.List.{get_or-set_same, get_or-set_other}
-use Rattle.std.proofs.lemmas.List.Folds.{find-append}
-use Rattle.std.proofs.lemmas.Grind.{reverse_onto}
-use Rattle.flow_design.specs.declared.design.Block.{Block}
-use Rattle.flow_design.specs.declared.design.Module.{Module}
-use Rattle.flow_design.specs.declared.state.Effect.{Effect}
+use Rattle.std.proofs.{lemmas.List.get_or-set_same, lemmas.List.get_or-set_other, lemmas.List.Folds.find-append, lemmas.Grind.reverse_onto}
+use Rattle.std.specs.{Prelude.find, Prelude.slice_index, List.fold, Option.option_or}
+use Rattle.flow_design.specs.{declared.design.Block.Block, declared.design.Module.Module, declared.state.Effect.Effect}
+use Rattle.flow_design.specs.{declared.state.ModuleState.ModuleState, declared.state.Reply.Reply, Words.cut_to}
 use Rattle.flow_design.specs.declared.state.Effect.TheVariants.{Variable, Word}
-use Rattle.flow_design.specs.declared.state.ModuleState.{ModuleState}
-use Rattle.flow_design.specs.declared.state.Reply.{Reply}
 use Rattle.flow_design.specs.Module.{block_of, live_count, temps_of, due}
-use Rattle.flow_design.specs.Words.{cut_to}
-use Rattle.lockstep_defs.specs.Machine.{memory_of, effects, stored, committed}
-use Rattle.lockstep_defs.specs.States.{HasPlaces, IsStateOf}
+use Rattle.lockstep_defs.specs.{Machine.memory_of, Machine.effects, Machine.stored, Machine.committed, States.HasPlaces, States.IsStateOf}
 use Rattle.lockstep_defs.specs.Commits.{writes_register, writes_temp, writes_word, written, cut_or_kept, last_value, LastWins}
 use Rattle.lockstep_defs.proofs.States.{stored_places}
 

@@ -2,29 +2,21 @@
 use Rattle.std.proofs.Common.{◌≡◌, ℕ, zero, suc, ◌+◌, ◌-◌, ◌≤◌, ◌<◌, List, [], ◌∷◌, ◌++◌, map, length, drop, Bool, true, false, ◌&&◌, not}
 use Rattle.std.proofs.Common.{refl, sym, ◌∙◌, ap, ap₂, subst, arith, nat_lt, nat_le, length-append, append_assoc, zero-add, suc-add, ◌⊎◌}
 use Rattle.std.proofs.Common.{inl, inr}
-use Rattle.std.specs.Prelude.{slice_index, slice_index_or}
-use Rattle.std.specs.List.{AllByRecursion}
 use Rattle.std.proofs.lemmas.Bool.{ltb_from_iff, leb-true, leb-false, lt-ltb, le-ltb, cases_lt}
 use Rattle.std.proofs.lemmas.List.{append-nil, length-map, map-append, drop-append-le}
 use Rattle.std.proofs.lemmas.List.FromFn.{get_or-map-range_with_len}
+use Rattle.std.specs.{Prelude.slice_index, Prelude.slice_index_or, List.AllByRecursion}
 use Rattle.flow_word.specs.declared.access.Side.TheVariants.{Pop, Push}
-use Rattle.flow_design.specs.declared.design.ChannelKind.{ChannelKind}
+use Rattle.flow_design.specs.{declared.design.ChannelKind.ChannelKind, declared.plan.Plan.Plan, declared.state.ClockState.ClockState}
+use Rattle.flow_design.specs.{declared.state.Element.Element, StaticRules.AreEntriesSound, StaticRules.FitsEngine, Words.cut_to}
 use Rattle.flow_design.specs.declared.design.ChannelKind.TheVariants.{Source, Sink, Fifo}
-use Rattle.flow_design.specs.declared.plan.Plan.{Plan}
-use Rattle.flow_design.specs.declared.state.ClockState.{ClockState}
-use Rattle.flow_design.specs.declared.state.Element.{Element}
 use Rattle.flow_design.specs.Plans.{is_fifo, kind_at, delay_of, delay_at}
-use Rattle.flow_design.specs.StaticRules.{AreEntriesSound, FitsEngine}
-use Rattle.flow_design.specs.Words.{cut_to}
-use Rattle.lockstep_defs.specs.Machine.{width_of}
+use Rattle.lockstep_defs.specs.{Machine.width_of, Laws.all_in, Laws.IsCounted}
 use Rattle.lockstep_defs.specs.Channels.{element_from, values, is_empty, moved, contents_of}
 use Rattle.lockstep_defs.specs.Lockstep.{inputs_of, opening, steps_in, moment, state, history}
-use Rattle.lockstep_defs.specs.Laws.{all_in, IsCounted}
-use Rattle.lockstep_defs.proofs.Settled.{state-suc, history-zero, history-suc}
-use Rattle.lockstep_defs.proofs.Once.{KeepsPorts}
+use Rattle.lockstep_defs.proofs.{Settled.state-suc, Settled.history-zero, Settled.history-suc, Once.KeepsPorts, Rules.keeps_ports}
 use Rattle.lockstep_defs.proofs.Queue.{all-append, moved-nil, moved-append, values_from, contents-step, same_channels, popped_within}
 use Rattle.lockstep_defs.proofs.Queue.{conserved, channel_count}
-use Rattle.lockstep_defs.proofs.Rules.{keeps_ports}
 
 -- ---- what a channel holds at clock 0
 

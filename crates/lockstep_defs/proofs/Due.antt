@@ -1,15 +1,10 @@
 -- Of operations whose offsets are apart at most one is due.
 use Rattle.std.proofs.Common.{◌≡◌, ◌≢◌, ℕ, zero, suc, ◌+◌, ◌*◌, ◌%◌, ◌-◌, ◌≤◌, ◌<◌, List, [], ◌∷◌, ◌++◌, map, length, get_or, Bool, true}
 use Rattle.std.proofs.Common.{false, ◌&&◌, ◌==◌, cond, refl, sym, ◌∙◌, ap, subst, arith, add-zero}
+use Rattle.std.proofs.{lemmas.Bool.ne_eqb, lemmas.Bool.eq-eqb, lemmas.Bool.eqb-true, Math.Nat.add-mul-mod_self_right}
 use Rattle.std.specs.List.{flat_map, filter, enumerate_from, AllByRecursion}
-use Rattle.std.proofs.lemmas.Bool.{ne_eqb, eq-eqb, eqb-true}
-use Rattle.std.proofs.Math.Nat.{add-mul-mod_self_right}
-use Rattle.flow_design.specs.declared.expr.Op.{Op}
-use Rattle.flow_design.specs.declared.design.Timed.{Timed}
-use Rattle.flow_design.specs.declared.design.Block.{Block}
-use Rattle.flow_design.specs.declared.design.Module.{Module}
-use Rattle.flow_design.specs.declared.state.Due.{Due}
-use Rattle.flow_design.specs.declared.state.ModuleState.{ModuleState}
+use Rattle.flow_design.specs.{declared.expr.Op.Op, declared.design.Timed.Timed, declared.design.Block.Block, declared.design.Module.Module}
+use Rattle.flow_design.specs.{declared.state.Due.Due, declared.state.ModuleState.ModuleState}
 use Rattle.flow_design.specs.Module.{no_operation, block_of, operation_at, interval, live_count, ages_down, ages, temps_of, passes, due_at}
 use Rattle.flow_design.specs.Module.{due_in, due}
 

@@ -1,10 +1,8 @@
 -- The live iterations are those of the rule.
 use Rattle.std.proofs.Common.{◌≡◌, ℕ, zero, suc, ◌+◌, length, get_or, ◌*◌, ◌/◌, ◌-◌, ◌≤◌, ◌<◌, min, ◌↔◌, Bool, true, false, cond, refl}
 use Rattle.std.proofs.Common.{arith, nat_lt, ap}
-use Rattle.std.proofs.lemmas.Bool.{ltb-true, ltb-false}
-use Rattle.std.proofs.Math.Nat.{le-div_iff_mul-le}
-use Rattle.flow_design.specs.declared.design.Block.{Block}
-use Rattle.flow_design.specs.declared.state.Control.{Control}
+use Rattle.std.proofs.{lemmas.Bool.ltb-true, lemmas.Bool.ltb-false, Math.Nat.le-div_iff_mul-le}
+use Rattle.flow_design.specs.{declared.design.Block.Block, declared.state.Control.Control}
 use Rattle.flow_design.specs.Module.{interval, live_count, ages_down, ages}
 use Rattle.lockstep_defs.specs.Laws.{IsLive, AreAges}
 

@@ -1,18 +1,12 @@
 -- One move: commits keep the control, the count and the end mark; a move raises the count, or lowers the local clocks that are left.
 use Rattle.std.proofs.Common.{◌≡◌, ℕ, zero, suc, ◌+◌, ◌-◌, ◌≤◌, ◌<◌, List, [], ◌∷◌, length, get_or, Bool, true, false, ◌||◌, ◌&&◌, not}
 use Rattle.std.proofs.Common.{cond, refl, sym, ◌∙◌, ap, subst, arith, ◌⊎◌, inl, inr, ◌==◌}
-use Rattle.std.specs.Prelude.{nat_le, nat_lt, slice_index}
-use Rattle.std.specs.List.{fold}
 use Rattle.std.proofs.lemmas.Bool.{leb-false, ltb-true, lt-ltb, eqb-true, eqb-false, and_from, cond_both, and_parts}
-use Rattle.flow_design.specs.declared.design.Block.{Block}
-use Rattle.flow_design.specs.declared.design.Module.{Module}
-use Rattle.flow_design.specs.declared.design.Next.{Next}
+use Rattle.std.specs.{Prelude.nat_le, Prelude.nat_lt, Prelude.slice_index, List.fold}
+use Rattle.flow_design.specs.{declared.design.Block.Block, declared.design.Module.Module, declared.design.Next.Next}
+use Rattle.flow_design.specs.{declared.state.Control.Control, declared.state.Effect.Effect, declared.state.Effect.TheVariants.Variable}
+use Rattle.flow_design.specs.{declared.state.Effect.TheVariants.Word, declared.state.ModuleState.ModuleState, declared.state.Reply.Reply}
 use Rattle.flow_design.specs.declared.design.Next.TheVariants.{Goto, Branch, Stop}
-use Rattle.flow_design.specs.declared.state.Control.{Control}
-use Rattle.flow_design.specs.declared.state.Effect.{Effect}
-use Rattle.flow_design.specs.declared.state.Effect.TheVariants.{Variable, Word}
-use Rattle.flow_design.specs.declared.state.ModuleState.{ModuleState}
-use Rattle.flow_design.specs.declared.state.Reply.{Reply}
 use Rattle.flow_design.specs.Module.{no_block, block_at, block_of, is_loop, interval, due}
 use Rattle.lockstep_defs.specs.Machine.{effects, stored, committed, entered, ticked, decided, finished, followed, again_of, is_block_over}
 use Rattle.lockstep_defs.specs.Machine.{move, opened}

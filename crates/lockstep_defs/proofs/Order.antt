@@ -1,20 +1,14 @@
 -- The history stands in order of clocks and modules.
 use Rattle.std.proofs.Common.{◌≡◌, ◌≢◌, ℕ, zero, suc, ◌+◌, ◌≤◌, ◌<◌, ◌==◌, List, [], ◌∷◌, ◌++◌, map, length, Bool, true, false, cond, refl}
 use Rattle.std.proofs.Common.{sym, ◌∙◌, ap₂, subst, arith, ◌⊎◌, inl, inr}
-use Rattle.std.specs.List.{filter, flat_map, enumerate_from, AllByRecursion, AllPairs}
 use Rattle.std.proofs.lemmas.Bool.{cases_eq, cond-true, cond-false, eq-eqb, ne_eqb}
 use Rattle.std.proofs.lemmas.List.Elements.{All-from_recursion, recursion_from_All}
-use Rattle.flow_design.specs.declared.plan.Plan.{Plan}
-use Rattle.flow_design.specs.declared.state.Element.{Element}
-use Rattle.flow_design.specs.declared.state.ClockState.{ClockState}
+use Rattle.std.specs.List.{filter, flat_map, enumerate_from, AllByRecursion, AllPairs}
+use Rattle.flow_design.specs.{declared.plan.Plan.Plan, declared.state.Element.Element, declared.state.ClockState.ClockState}
 use Rattle.flow_design.specs.declared.state.ModuleState.{ModuleState}
-use Rattle.lockstep_defs.specs.Channels.{HistoryStep, Exchange}
+use Rattle.lockstep_defs.specs.{Channels.HistoryStep, Channels.Exchange, Report.steps_of, Laws.IsBefore}
 use Rattle.lockstep_defs.specs.Lockstep.{requests_of, moves, answered, step_with, step_of, steps_in, state, history}
-use Rattle.lockstep_defs.specs.Report.{steps_of}
-use Rattle.lockstep_defs.specs.Laws.{IsBefore}
-use Rattle.lockstep_defs.proofs.Settled.{history-zero, history-suc}
-use Rattle.lockstep_defs.proofs.Agrees.{all_modules}
-use Rattle.lockstep_defs.proofs.Queue.{all-append}
+use Rattle.lockstep_defs.proofs.{Settled.history-zero, Settled.history-suc, Agrees.all_modules, Queue.all-append}
 
 abbrev pub IsRising : List HistoryStep → Type 0
 IsRising [] = Unit {0}

@@ -1,35 +1,24 @@
 -- A channel is a queue: what went in is what was popped off it, and then what it holds.
 use Rattle.std.proofs.Common.{◌≡◌, ℕ, zero, suc, ◌+◌, ◌≤◌, ◌<◌, List, [], ◌∷◌, ◌++◌, map, length, drop, Bool, true, false, ◌&&◌, ◌==◌, not}
 use Rattle.std.proofs.Common.{cond, refl, sym, ◌∙◌, ap, subst, arith, append_assoc, zero-add, ◌⊎◌, inl, inr}
-use Rattle.std.specs.List.{list_any, enumerate_from, flat_map, AllByRecursion}
 use Rattle.std.proofs.lemmas.List.{append-nil, length-map, get_or-map, length-append, map-append}
-use Rattle.std.proofs.lemmas.List.Concat.{flat_map-append}
+use Rattle.std.proofs.{lemmas.List.Concat.flat_map-append, Math.Seq.drop-append_seam, Math.ListN.get_or-append}
 use Rattle.std.proofs.lemmas.List.FromFn.{get_or-enumerate_from, length-enumerate_from, length-map-range_with_len}
 use Rattle.std.proofs.lemmas.Bool.{eqb-true, eq-eqb, cases_Bool, or_parts, and_parts, not-true}
-use Rattle.std.proofs.Math.Seq.{drop-append_seam}
-use Rattle.std.proofs.Math.ListN.{get_or-append}
-use Rattle.flow_word.specs.declared.access.Side.{Side}
+use Rattle.std.specs.List.{list_any, enumerate_from, flat_map, AllByRecursion}
+use Rattle.flow_word.specs.{declared.access.Side.Side, declared.access.Kind.Kind, Kinds.side_of, Kinds.is_blocking}
 use Rattle.flow_word.specs.declared.access.Side.TheVariants.{Pop, Push}
-use Rattle.flow_word.specs.declared.access.Kind.{Kind}
 use Rattle.flow_word.specs.declared.access.Kind.TheVariants.{Read, Write, TryRead, TryWrite, Empty, Full}
-use Rattle.flow_design.specs.declared.plan.Plan.{Plan}
-use Rattle.flow_design.specs.declared.state.Element.{Element}
-use Rattle.flow_design.specs.declared.state.ClockState.{ClockState}
-use Rattle.flow_design.specs.declared.state.ModuleState.{ModuleState}
-use Rattle.flow_design.specs.declared.state.Request.{Request}
+use Rattle.flow_design.specs.{declared.plan.Plan.Plan, declared.state.Element.Element, declared.state.ClockState.ClockState}
+use Rattle.flow_design.specs.{declared.state.ModuleState.ModuleState, declared.state.Request.Request, Plans.delay_at, StaticRules.uses}
 use Rattle.flow_design.specs.declared.state.Reply.TheVariants.{Took, Missed}
-use Rattle.flow_design.specs.Plans.{delay_at}
-use Rattle.flow_design.specs.StaticRules.{uses}
 use Rattle.lockstep_defs.specs.Machine.{is_over, is_yes, value_in}
-use Rattle.flow_word.specs.Kinds.{side_of, is_blocking}
 use Rattle.lockstep_defs.specs.Channels.{HistoryStep, Exchange, values, is_empty, front, element_from, is_possible, stalls, reply, reply_by}
 use Rattle.lockstep_defs.specs.Channels.{popped_value, moved_value, moved_by, moved, contents_of}
 use Rattle.lockstep_defs.specs.Lockstep.{module_at, numbered, requests_of, moves, answered, step_with, step_of, steps_in, contents_after}
 use Rattle.lockstep_defs.specs.Lockstep.{clock_step, inputs_of, opening, moment, state, history}
-use Rattle.lockstep_defs.specs.Ports.{owner, is_taker, takers}
-use Rattle.lockstep_defs.specs.Laws.{all_in, IsConserved, PopsInOrder}
-use Rattle.lockstep_defs.proofs.Settled.{state-suc, history-suc}
-use Rattle.lockstep_defs.proofs.Once.{KeepsPorts, port_on, takers_once, no_takers}
+use Rattle.lockstep_defs.specs.{Ports.owner, Ports.is_taker, Ports.takers, Laws.all_in, Laws.IsConserved, Laws.PopsInOrder}
+use Rattle.lockstep_defs.proofs.{Settled.state-suc, Settled.history-suc, Once.KeepsPorts, Once.port_on, Once.takers_once, Once.no_takers}
 
 -- ---- what steps move
 

@@ -1,36 +1,22 @@
 -- The report of a plan names modules and channels of the plan, and has one output for each sink.
 use Rattle.std.proofs.Common.{◌≡◌, refl, sym, ◌∙◌, ap, arith, ℕ, zero, suc, ◌+◌, ◌<◌, ◌≤◌, Bool, true, false, cond, List, [], ◌∷◌, length}
 use Rattle.std.proofs.Common.{map, get_or, Option, Some, None, add-zero}
-use Rattle.std.specs.Prelude.{option_map, find, IfSome}
-use Rattle.std.proofs.lemmas.List.{length-map}
-use Rattle.std.proofs.lemmas.List.FromFn.{length-map-range_with_len}
+use Rattle.std.proofs.{lemmas.List.length-map, lemmas.List.FromFn.length-map-range_with_len}
 use Rattle.std.proofs.lemmas.List.Elements.{All-from_recursion, recursion_from_All}
+use Rattle.std.specs.Prelude.{option_map, find, IfSome}
 use Rattle.std.specs.List.{AllByRecursion, filter, filter_map, cons_option, flat_map, enumerate_from, range_with_len}
-use Rattle.flow_design.specs.declared.design.Channel.{Channel}
-use Rattle.flow_design.specs.declared.design.ChannelKind.{ChannelKind}
-use Rattle.flow_design.specs.declared.plan.Plan.{Plan}
-use Rattle.flow_design.specs.declared.report.Held.{Held}
-use Rattle.flow_design.specs.declared.report.EventLine.{EventLine}
-use Rattle.flow_design.specs.declared.report.Verdict.{Verdict}
+use Rattle.flow_design.specs.{declared.design.Channel.Channel, declared.design.ChannelKind.ChannelKind, declared.plan.Plan.Plan}
+use Rattle.flow_design.specs.{declared.report.Held.Held, declared.report.EventLine.EventLine, declared.report.Verdict.Verdict}
+use Rattle.flow_design.specs.{declared.state.ClockState.ClockState, declared.state.Element.Element, declared.state.ModuleState.ModuleState}
+use Rattle.flow_design.specs.{declared.state.Request.Request, StaticRules.FitsEngine, Reports.clock_of}
 use Rattle.flow_design.specs.declared.report.Verdict.TheVariants.{Done, Deadlock, Cycles, Ops}
-use Rattle.flow_design.specs.declared.state.ClockState.{ClockState}
-use Rattle.flow_design.specs.declared.state.Element.{Element}
-use Rattle.flow_design.specs.declared.state.ModuleState.{ModuleState}
-use Rattle.flow_design.specs.declared.state.Request.{Request}
 use Rattle.flow_design.specs.Plans.{is_sink, no_channel, kind_at}
-use Rattle.flow_design.specs.StaticRules.{FitsEngine}
 use Rattle.lockstep_defs.specs.Channels.{HistoryStep, Exchange, stalls, all_ready}
-use Rattle.lockstep_defs.specs.Ports.{StandsAtPort}
+use Rattle.lockstep_defs.specs.{Ports.StandsAtPort, Machine.is_over, Laws.HasNumbersOf}
 use Rattle.lockstep_defs.specs.Lockstep.{requests_of, numbered, moves, answered, step_with, step_of, steps_in, state, history}
-use Rattle.lockstep_defs.specs.Machine.{is_over}
 use Rattle.lockstep_defs.specs.Report.{steps_of, outcomes, sinks, event_of, events_of, report}
-use Rattle.lockstep_defs.specs.Laws.{HasNumbersOf}
 use Rattle.lockstep_defs.specs.Verdict.{held_at, held_by, held_in, held, verdict}
-use Rattle.flow_design.specs.Reports.{clock_of}
-use Rattle.lockstep_defs.proofs.Agrees.{all_modules}
-use Rattle.lockstep_defs.proofs.Queue.{all-append}
-use Rattle.lockstep_defs.proofs.Settled.{history-zero, history-suc}
-use Rattle.lockstep_defs.proofs.Standing.{requests_stand}
+use Rattle.lockstep_defs.proofs.{Agrees.all_modules, Queue.all-append, Settled.history-zero, Settled.history-suc, Standing.requests_stand}
 
 -- ---- one output per sink
 

@@ -1,23 +1,17 @@
 -- Quiet clocks end.
-use Rattle.std.proofs.Common.{◌≡◌, ℕ, zero, suc, ◌+◌, ◌*◌, ◌-◌, ◌≤◌, ◌<◌, List, [], ◌∷◌, length, Bool, true, false, refl, sym, ap}
-use Rattle.std.proofs.Common.{subst, arith, ◌∙◌, zero-add, add-zero, suc-add, ◌⊎◌, inl, inr, mul-le-mul_right, suc-mul}
+use Rattle.std.proofs.Common.{◌≡◌, ℕ, zero, suc, ◌+◌, ◌*◌, ◌-◌, ◌≤◌, ◌<◌, List, [], ◌∷◌, length, Bool, true, false, refl, sym, ap, subst}
+use Rattle.std.proofs.Common.{arith, ◌∙◌, zero-add, add-zero, suc-add, ◌⊎◌, inl, inr, mul-le-mul_right, suc-mul}
 use Rattle.std.proofs.lemmas.Bool.{cases_Bool, or_parts, or_left}
-use Rattle.flow_design.specs.declared.design.BlockKind.{BlockKind}
+use Rattle.flow_design.specs.{declared.design.BlockKind.BlockKind, declared.design.Block.Block, declared.plan.Plan.Plan}
+use Rattle.flow_design.specs.{declared.state.ModuleState.ModuleState, declared.state.Reply.Reply, declared.state.Request.Request}
 use Rattle.flow_design.specs.declared.design.BlockKind.TheVariants.{Plain, Loop}
-use Rattle.flow_design.specs.declared.design.Block.{Block}
-use Rattle.flow_design.specs.declared.plan.Plan.{Plan}
-use Rattle.flow_design.specs.declared.state.ModuleState.{ModuleState}
-use Rattle.flow_design.specs.declared.state.Reply.{Reply}
-use Rattle.flow_design.specs.declared.state.Request.{Request}
 use Rattle.flow_design.specs.StaticRules.{IsBlockSound, IsKindSound, FitsEngine}
 use Rattle.flow_design.specs.Module.{no_block, block_at, is_loop, interval, interval_of}
 use Rattle.lockstep_defs.specs.Machine.{is_over, move, opened}
-use Rattle.lockstep_defs.specs.Lockstep.{module_at, requests_of}
-use Rattle.lockstep_defs.specs.OwnRun.{Own, own_next, own}
+use Rattle.lockstep_defs.specs.{Lockstep.module_at, Lockstep.requests_of, OwnRun.Own, OwnRun.own_next, OwnRun.own}
 use Rattle.lockstep_defs.specs.Quiet.{own_later, is_some_request, rests, skip, quiet_below, span, measure, quiet, fits}
-use Rattle.lockstep_defs.proofs.Agrees.{own_suc, below_limit}
+use Rattle.lockstep_defs.proofs.{Agrees.own_suc, Agrees.below_limit, Rules.sound_block}
 use Rattle.lockstep_defs.proofs.Moves.{left, Fallen, move_falls, HasIntervals, move_goes, opened_goes}
-use Rattle.lockstep_defs.proofs.Rules.{sound_block}
 
 -- ---- each state that a module comes to fits
 

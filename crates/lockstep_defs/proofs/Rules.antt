@@ -1,34 +1,21 @@
 -- A plan that the engine takes keeps what the laws of channels take of the static rules.
 use Rattle.std.proofs.Common.{◌≡◌, ◌≢◌, ℕ, zero, suc, ◌%◌, ◌≤◌, ◌<◌, List, [], ◌∷◌, length, get_or, Bool, true, false, cond, refl, sym, ap}
 use Rattle.std.proofs.Common.{subst, arith, nat_lt, nat_eq, ◌&&◌, ◌⊎◌, inl, inr, Option, Some, None}
-use Rattle.std.specs.List.{filter, AllByRecursion, All, Any, list_any, position_or_len}
-use Rattle.std.specs.Prelude.{IfSome}
 use Rattle.std.proofs.lemmas.Bool.{eqb-true, ltb-true, ltb-false}
-use Rattle.std.proofs.lemmas.List.{get_or_past}
-use Rattle.std.proofs.lemmas.List.Folds.{Any-from_list_any}
-use Rattle.std.proofs.lemmas.List.Sums.{length-filter}
-use Rattle.flow_design.specs.declared.expr.Op.{Op}
+use Rattle.std.proofs.{lemmas.List.get_or_past, lemmas.List.Folds.Any-from_list_any, lemmas.List.Sums.length-filter}
+use Rattle.std.specs.{List.filter, List.AllByRecursion, List.All, List.Any, List.list_any, List.position_or_len, Prelude.IfSome}
+use Rattle.flow_design.specs.{declared.expr.Op.Op, declared.design.Timed.Timed, declared.design.Block.Block, declared.design.Module.Module}
+use Rattle.flow_design.specs.{declared.plan.Plan.Plan, Operations.port_of, Operations.used_port, Plans.kind_at}
 use Rattle.flow_design.specs.declared.expr.Op.TheVariants.{Set, Load, Store, Read, Write, TryRead, TryWrite, Empty, Full}
 use Rattle.flow_design.specs.declared.design.ChannelKind.{ChannelKind}
 use Rattle.flow_design.specs.declared.design.ChannelKind.TheVariants.{Source, Sink, Fifo}
-use Rattle.flow_design.specs.declared.design.Timed.{Timed}
-use Rattle.flow_design.specs.declared.design.Block.{Block}
-use Rattle.flow_design.specs.declared.design.Module.{Module}
-use Rattle.flow_design.specs.declared.plan.Plan.{Plan}
 use Rattle.flow_design.specs.Module.{no_block, no_operation, block_at, interval}
-use Rattle.flow_word.specs.declared.access.Port.{Port}
-use Rattle.flow_word.specs.declared.access.Side.{Side}
-use Rattle.flow_word.specs.declared.access.Side.TheVariants.{Pop, Push}
-use Rattle.flow_word.specs.Kinds.{same_side}
-use Rattle.flow_design.specs.Operations.{port_of, used_port}
-use Rattle.flow_design.specs.Plans.{kind_at}
 use Rattle.flow_design.specs.StaticRules.{same_port, is_port, uses, users_wanted, Clashes, IsTimedSound, IsBlockSound, IsModuleSound}
 use Rattle.flow_design.specs.StaticRules.{FitsEngine}
-use Rattle.lockstep_defs.specs.Lockstep.{no_module, module_at}
-use Rattle.lockstep_defs.specs.Ports.{takes, owner}
-use Rattle.lockstep_defs.proofs.Blocks.{some_interval}
-use Rattle.lockstep_defs.proofs.Due.{AreApart}
-use Rattle.lockstep_defs.proofs.Once.{KeepsPorts, port_on}
+use Rattle.flow_word.specs.{declared.access.Port.Port, declared.access.Side.Side, Kinds.same_side}
+use Rattle.flow_word.specs.declared.access.Side.TheVariants.{Pop, Push}
+use Rattle.lockstep_defs.specs.{Lockstep.no_module, Lockstep.module_at, Ports.takes, Ports.owner}
+use Rattle.lockstep_defs.proofs.{Blocks.some_interval, Due.AreApart, Once.KeepsPorts, Once.port_on}
 
 -- ---- one module at each port
 

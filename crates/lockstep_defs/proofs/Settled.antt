@@ -1,24 +1,18 @@
 -- A settled state stays, and from a clock that is not settled some module moves.
 use Rattle.std.proofs.Common.{◌≡◌, ℕ, zero, suc, ◌+◌, ◌≤◌, ◌<◌, max, List, [], ◌∷◌, ◌++◌, map, Bool, true, false, ◌&&◌, ◌||◌, not, refl}
 use Rattle.std.proofs.Common.{sym, ◌∙◌, ap, ap₂, arith, zero-add, suc-add, below_more, ◌⊎◌, inl, inr}
-use Rattle.std.specs.List.{list_any, enumerate_from, flat_map}
 use Rattle.std.proofs.lemmas.Bool.{or_parts, or_from, and_parts, not-true, cases_Bool, both_ways}
 use Rattle.std.proofs.lemmas.List.{append-nil, length-map}
-use Rattle.flow_word.specs.declared.access.Kind.{Kind}
+use Rattle.std.specs.List.{list_any, enumerate_from, flat_map}
+use Rattle.flow_word.specs.{declared.access.Kind.Kind, declared.access.Side.Side, Kinds.side_of, Kinds.is_blocking}
 use Rattle.flow_word.specs.declared.access.Kind.TheVariants.{Read, Write, TryRead, TryWrite, Empty, Full}
-use Rattle.flow_design.specs.declared.plan.Plan.{Plan}
-use Rattle.flow_design.specs.declared.state.ClockState.{ClockState}
-use Rattle.flow_design.specs.declared.state.Element.{Element}
-use Rattle.flow_design.specs.declared.state.ModuleState.{ModuleState}
-use Rattle.flow_design.specs.declared.state.Request.{Request}
-use Rattle.lockstep_defs.specs.Machine.{is_over}
-use Rattle.flow_word.specs.declared.access.Side.{Side}
 use Rattle.flow_word.specs.declared.access.Side.TheVariants.{Pop, Push}
-use Rattle.flow_word.specs.Kinds.{side_of, is_blocking}
+use Rattle.flow_design.specs.{declared.plan.Plan.Plan, declared.state.ClockState.ClockState, declared.state.Element.Element}
+use Rattle.flow_design.specs.{declared.state.ModuleState.ModuleState, declared.state.Request.Request}
+use Rattle.lockstep_defs.specs.{Machine.is_over, Verdict.some_moves, Verdict.is_settled}
 use Rattle.lockstep_defs.specs.Channels.{element_from, contents_of, is_empty, is_full, all_ready, is_possible, stalls, moved}
 use Rattle.lockstep_defs.specs.Lockstep.{numbered, requests_of, moves, next_state, step_of, steps_in, contents_after, clock_step, moment}
 use Rattle.lockstep_defs.specs.Lockstep.{state, history}
-use Rattle.lockstep_defs.specs.Verdict.{some_moves, is_settled}
 
 -- ---- the state and the history of the next clock
 

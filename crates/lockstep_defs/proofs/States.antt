@@ -1,33 +1,23 @@
 -- The opening is a state of its module, and a move leads to one.
 use Rattle.std.proofs.Common.{◌≡◌, ℕ, zero, suc, ◌+◌, ◌-◌, ◌≤◌, ◌<◌, List, [], ◌∷◌, ◌++◌, length, get_or, set, replicate, map, Bool, true}
 use Rattle.std.proofs.Common.{false, ◌||◌, ◌&&◌, not, cond, refl, sym, ◌∙◌, ap, subst, arith, ◌==◌, nat_lt, length-append}
-use Rattle.std.specs.Prelude.{nat_le, slice_index}
-use Rattle.std.specs.List.{fold}
 use Rattle.std.proofs.lemmas.Bool.{leb-false, ltb-true, ltb-false, lt-ltb, eqb-true, and_from, cond_both, and_parts}
 use Rattle.std.proofs.lemmas.List.{length-set, length-map, length-drop, get_or-drop, length-replicate, get_or_push}
-use Rattle.std.proofs.Math.Nat.{suc-mul}
-use Rattle.std.proofs.Math.ListN.{get_or-append}
-use Rattle.flow_design.specs.declared.design.Block.{Block}
-use Rattle.flow_design.specs.declared.design.Memory.{Memory}
-use Rattle.flow_design.specs.declared.design.Module.{Module}
-use Rattle.flow_design.specs.declared.design.Next.{Next}
+use Rattle.std.proofs.{Math.Nat.suc-mul, Math.ListN.get_or-append}
+use Rattle.std.specs.{Prelude.nat_le, Prelude.slice_index, List.fold}
+use Rattle.flow_design.specs.{declared.design.Block.Block, declared.design.Memory.Memory, declared.design.Module.Module}
+use Rattle.flow_design.specs.{declared.design.Next.Next, declared.plan.Plan.Plan, declared.state.Control.Control}
+use Rattle.flow_design.specs.{declared.state.Effect.Effect, declared.state.ModuleState.ModuleState, declared.state.Reply.Reply}
 use Rattle.flow_design.specs.declared.design.Next.TheVariants.{Goto, Branch, Stop}
-use Rattle.flow_design.specs.declared.plan.Plan.{Plan}
-use Rattle.flow_design.specs.declared.state.Control.{Control}
-use Rattle.flow_design.specs.declared.state.Effect.{Effect}
 use Rattle.flow_design.specs.declared.state.Effect.TheVariants.{Variable, Word}
-use Rattle.flow_design.specs.declared.state.ModuleState.{ModuleState}
-use Rattle.flow_design.specs.declared.state.Reply.{Reply}
 use Rattle.flow_design.specs.Module.{no_block, block_at, block_of, is_loop, interval, live_count, due}
 use Rattle.flow_design.specs.StaticRules.{IsNextSound, IsBlockSound, IsModuleSound, FitsEngine}
 use Rattle.lockstep_defs.specs.Machine.{effects, stored, entered, ticked, decided, fresh_temps, started, finished, followed, again_of}
 use Rattle.lockstep_defs.specs.Machine.{is_block_over, move, opened}
-use Rattle.lockstep_defs.specs.Channels.{reply}
+use Rattle.lockstep_defs.specs.{Channels.reply, States.HasPlaces, States.IsWithin, States.IsStateOf}
 use Rattle.lockstep_defs.specs.Lockstep.{no_module, module_at, requests_of, moves, state, state_at}
-use Rattle.lockstep_defs.specs.States.{HasPlaces, IsWithin, IsStateOf}
 use Rattle.lockstep_defs.proofs.Agrees.{state_at-zero, state_at-suc, is_on, not_ended}
-use Rattle.lockstep_defs.proofs.Blocks.{some_interval, short_interval}
-use Rattle.lockstep_defs.proofs.Live.{live_iff}
+use Rattle.lockstep_defs.proofs.{Blocks.some_interval, Blocks.short_interval, Live.live_iff}
 use Rattle.lockstep_defs.proofs.Moves.{commits_keep, counted, same_control, same_block as kept_block, first_goes, tick_goes, rest_of_move}
 
 -- ---- how many iterations are live

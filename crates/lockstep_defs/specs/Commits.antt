@@ -1,12 +1,8 @@
 -- Which value a place holds after a commit.
 use Rattle.std.specs.Prelude.{ℕ, ◌≡◌, ◌+◌, ◌<◌, ◌==◌, Bool, false, ◌&&◌, Option, Some, None, List, length, map, find, reverse, slice_index}
-use Rattle.flow_design.specs.declared.design.Block.{Block}
-use Rattle.flow_design.specs.declared.design.Module.{Module}
-use Rattle.flow_design.specs.declared.state.Effect.{Effect}
+use Rattle.flow_design.specs.{declared.design.Block.Block, declared.design.Module.Module, declared.state.Effect.Effect}
+use Rattle.flow_design.specs.{declared.state.ModuleState.ModuleState, Module.temps_of, Words.cut_to}
 use Rattle.flow_design.specs.declared.state.Effect.TheVariants.{Variable, Word}
-use Rattle.flow_design.specs.declared.state.ModuleState.{ModuleState}
-use Rattle.flow_design.specs.Module.{temps_of}
-use Rattle.flow_design.specs.Words.{cut_to}
 use Rattle.lockstep_defs.specs.Machine.{memory_of}
 
 -- the effect writes register x

@@ -1,26 +1,16 @@
 -- The laws of the lockstep machine.
 use Rattle.std.specs.Prelude.{◌⊎◌, ℕ, zero, suc, if◌then◌else◌, ◌≡◌, ◌+◌, ◌*◌, ◌-◌, ◌<◌, ◌≤◌, true, IsTrue, IsFalse, Bool, false, not}
 use Rattle.std.specs.Prelude.{Option, Some, None, List, ◌++◌, map, filter, length, count_by, All, nat_lt, slice_index, slice_index_or}
-use Rattle.flow_word.specs.declared.access.Kind.{Kind}
-use Rattle.flow_word.specs.declared.access.Side.{Side}
+use Rattle.flow_word.specs.{declared.access.Kind.Kind, declared.access.Side.Side, Kinds.is_blocking}
 use Rattle.flow_word.specs.declared.access.Side.TheVariants.{Pop, Push}
-use Rattle.flow_word.specs.Kinds.{is_blocking}
-use Rattle.flow_design.specs.declared.expr.Op.{Op}
-use Rattle.flow_design.specs.declared.design.Block.{Block}
-use Rattle.flow_design.specs.declared.plan.Plan.{Plan}
-use Rattle.flow_design.specs.declared.report.Report.{Report}
-use Rattle.flow_design.specs.declared.state.Control.{Control}
-use Rattle.flow_design.specs.declared.state.Reply.{Reply}
-use Rattle.flow_design.specs.declared.state.ModuleState.{ModuleState}
-use Rattle.flow_design.specs.Plans.{is_fifo, is_sink, kind_at, delay_at}
-use Rattle.flow_design.specs.Operations.{access_of}
+use Rattle.flow_design.specs.{declared.expr.Op.Op, declared.design.Block.Block, declared.plan.Plan.Plan, declared.report.Report.Report}
+use Rattle.flow_design.specs.{declared.state.Control.Control, declared.state.Reply.Reply, declared.state.ModuleState.ModuleState}
+use Rattle.flow_design.specs.{Plans.is_fifo, Plans.is_sink, Plans.kind_at, Plans.delay_at, Operations.access_of}
 use Rattle.flow_design.specs.Module.{block_of, interval, live_count, ages}
 use Rattle.lockstep_defs.specs.Channels.{HistoryStep, Exchange, is_possible, moved, values, contents_of}
 use Rattle.lockstep_defs.specs.Lockstep.{module_at, requests_of, moves, state, history, state_at, steps_in}
-use Rattle.lockstep_defs.specs.Verdict.{is_settled, some_moves}
-use Rattle.lockstep_defs.specs.Report.{steps_of}
+use Rattle.lockstep_defs.specs.{Verdict.is_settled, Verdict.some_moves, Report.steps_of, Quiet.rests, Quiet.skip, Quiet.quiet}
 use Rattle.lockstep_defs.specs.OwnRun.{OwnStep, Own, own, paired}
-use Rattle.lockstep_defs.specs.Quiet.{rests, skip, quiet}
 
 -- from a settled clock on nothing changes and nothing is done
 abbrev pub SettledStays : Plan → ℕ → Type 0

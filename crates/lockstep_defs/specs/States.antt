@@ -1,13 +1,9 @@
 -- What holds of each state that a module comes to.
 use Rattle.std.specs.Prelude.{ℕ, ◌≡◌, ◌+◌, ◌<◌, ◌≤◌, IsTrue, IsFalse, length, map, slice_index}
-use Rattle.flow_design.specs.declared.design.Block.{Block}
-use Rattle.flow_design.specs.declared.design.Module.{Module}
-use Rattle.flow_design.specs.declared.state.Control.{Control}
-use Rattle.flow_design.specs.declared.state.Due.{Due}
-use Rattle.flow_design.specs.declared.state.ModuleState.{ModuleState}
+use Rattle.flow_design.specs.{declared.design.Block.Block, declared.design.Module.Module, declared.state.Control.Control}
+use Rattle.flow_design.specs.{declared.state.Due.Due, declared.state.ModuleState.ModuleState}
 use Rattle.flow_design.specs.Module.{block_of, is_loop, interval, live_count, temps_of}
-use Rattle.lockstep_defs.specs.Machine.{memory_of}
-use Rattle.lockstep_defs.specs.Quiet.{goes_on}
+use Rattle.lockstep_defs.specs.{Machine.memory_of, Quiet.goes_on}
 
 -- the state has a value for each of the module's registers and memory words, and for each temp of `iterations` iterations of the
 -- block

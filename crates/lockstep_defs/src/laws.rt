@@ -1,26 +1,15 @@
 //! The laws of the lockstep machine.
-ghost use Rattle.std.specs.Prelude.{ℕ, ◌≡◌, ◌+◌, ◌<◌, ◌≤◌, ◌↔◌, length, IsTrue, IsFalse, All, AllPairs};
-ghost use Rattle.flow_design.specs.declared.design.Block.{Block};
-ghost use Rattle.flow_design.specs.declared.design.Module.{Module};
-ghost use Rattle.flow_design.specs.declared.plan.Plan.{Plan};
-ghost use Rattle.flow_design.specs.declared.report.Verdict.TheVariants.{Cycles};
-ghost use Rattle.flow_design.specs.declared.state.Control.{Control};
-ghost use Rattle.flow_design.specs.declared.state.ModuleState.{ModuleState};
-ghost use Rattle.flow_design.specs.declared.state.Reply.{Reply};
-ghost use Rattle.std.specs.Prelude.{List as Items};
-ghost use Rattle.flow_design.specs.Module.{block_of, interval, live_count, due};
+ghost use Rattle.std.specs.Prelude.{ℕ, ◌≡◌, ◌+◌, ◌<◌, ◌≤◌, ◌↔◌, length, IsTrue, IsFalse, All, AllPairs, List as Items};
+ghost use Rattle.flow_design.specs.{declared.design.Block.Block, declared.design.Module.Module, declared.plan.Plan.Plan};
+ghost use Rattle.flow_design.specs.{declared.report.Verdict.TheVariants.Cycles, declared.state.Control.Control};
+ghost use Rattle.flow_design.specs.{declared.state.ModuleState.ModuleState, declared.state.Reply.Reply, Module.block_of, Module.interval};
+ghost use Rattle.flow_design.specs.{Module.live_count, Module.due, StaticRules.IsModuleSound, StaticRules.FitsEngine};
 ghost use Rattle.flow_word.specs.declared.access.Port.{Port};
-ghost use Rattle.flow_design.specs.StaticRules.{IsModuleSound, FitsEngine};
 ghost use Rattle.lockstep_defs.specs.Machine.{effects, committed, opened, move};
-ghost use Rattle.lockstep_defs.specs.Channels.{HistoryStep};
-ghost use Rattle.lockstep_defs.specs.Report.{steps_of, report};
+ghost use Rattle.lockstep_defs.specs.{Channels.HistoryStep, Report.steps_of, Report.report, Verdict.is_settled, Verdict.settled_verdict};
+ghost use Rattle.lockstep_defs.specs.{Verdict.verdict, OwnRun.own, Quiet.rests, Quiet.skip, Quiet.own_later, Quiet.fits, States.IsStateOf};
+ghost use Rattle.lockstep_defs.specs.{States.IsDueIn, Ports.takers, Ports.StandsAtPort, Commits.LastWins};
 ghost use Rattle.lockstep_defs.specs.Lockstep.{module_at, requests_of, state, state_at, history};
-ghost use Rattle.lockstep_defs.specs.Verdict.{is_settled, settled_verdict, verdict};
-ghost use Rattle.lockstep_defs.specs.OwnRun.{own};
-ghost use Rattle.lockstep_defs.specs.Quiet.{rests, skip, own_later, fits};
-ghost use Rattle.lockstep_defs.specs.States.{IsStateOf, IsDueIn};
-ghost use Rattle.lockstep_defs.specs.Ports.{takers, StandsAtPort};
-ghost use Rattle.lockstep_defs.specs.Commits.{LastWins};
 ghost use Rattle.lockstep_defs.specs.Laws.{SettledStays, SomeoneMoves, NoneBefore, MovesOnce, IsConserved, PopsInOrder, IsCounted};
 ghost use Rattle.lockstep_defs.specs.Laws.{IsBefore, IsOwnRun, IsLive, AreAges, HasNumbersOf, AsksOnce, QuietClocksEnd};
 

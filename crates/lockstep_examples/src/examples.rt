@@ -4,8 +4,7 @@ ghost use Rattle.flow_word.specs.declared.access.Kind.TheVariants as Kind;
 ghost use Rattle.flow_design.specs.declared.report.Verdict.TheVariants.{Done, Deadlock, Cycles, Ops};
 ghost use Rattle.flow_design.specs.declared.state.Advance.TheVariants as Advance;
 ghost use Rattle.flow_design.specs.declared.state.Reply.TheVariants as Reply;
-ghost use Rattle.lockstep_defs.specs.Report.{report};
-ghost use Rattle.lockstep_defs.specs.OwnRun.{marks};
+ghost use Rattle.lockstep_defs.specs.{Report.report, OwnRun.marks};
 ghost use Rattle.lockstep_examples.specs.Designs as Designs;
 ghost use Rattle.lockstep_examples.specs.Shows.{Shows, event, held_by_channel, access, step_mark};
 

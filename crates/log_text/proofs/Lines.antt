@@ -1,22 +1,13 @@
 -- The lines of a log.
-use Rattle.std.proofs.Common.{◌≡◌, refl, sym, ◌∙◌, ap, ℕ, ◌+◌, ◌<◌, List}
-use Rattle.std.proofs.Common.{[], ◌∷◌, ◌++◌, map, length, take, get_or, append-nil, append_assoc}
-use Rattle.std.proofs.lemmas.List.{get_or_default, map-append}
-use Rattle.std.proofs.lemmas.List.Concat.{flat_map-append}
-use Rattle.std.specs.Prelude.{codes}
-use Rattle.std.specs.List.{flat_map, join_with_byte}
-use Rattle.flow_design.specs.declared.design.Design.{Design}
-use Rattle.flow_design.specs.declared.plan.Plan.{Plan}
-use Rattle.flow_design.specs.declared.report.Verdict.{Verdict}
-use Rattle.flow_design.specs.Reports.{clock_of}
-use Rattle.lockstep_defs.specs.Channels.{HistoryStep}
-use Rattle.lockstep_defs.specs.Lockstep.{history}
-use Rattle.lockstep_defs.specs.Report.{report}
-use Rattle.lockstep_defs.specs.Verdict.{verdict}
+use Rattle.std.proofs.Common.{◌≡◌, refl, sym, ◌∙◌, ap, ℕ, ◌+◌, ◌<◌, List, [], ◌∷◌, ◌++◌, map, length, take, get_or, append-nil}
+use Rattle.std.proofs.Common.{append_assoc}
+use Rattle.std.proofs.{lemmas.List.get_or_default, lemmas.List.map-append, lemmas.List.Concat.flat_map-append}
+use Rattle.std.specs.{Prelude.codes, List.flat_map, List.join_with_byte}
+use Rattle.flow_design.specs.{declared.design.Design.Design, declared.plan.Plan.Plan, declared.report.Verdict.Verdict, Reports.clock_of}
+use Rattle.lockstep_defs.specs.{Channels.HistoryStep, Lockstep.history, Report.report, Verdict.verdict}
 use Rattle.report_text.specs.Lines.{Token, line, text_of_lines, verdict_tokens}
 use Rattle.report_text.proofs.LineLemmas.{line_of_four, lines_more, text-append}
-use Rattle.sim_core.specs.declared.access_log.LoggedAccess.{LoggedAccess}
-use Rattle.sim_core.specs.AccessLog.{log_of, logged, logged_in}
+use Rattle.sim_core.specs.{declared.access_log.LoggedAccess.LoggedAccess, AccessLog.log_of, AccessLog.logged, AccessLog.logged_in}
 use Rattle.log_text.specs.LogText.{access_tokens, log_text}
 
 -- tokens joined by spaces

@@ -1,21 +1,13 @@
 -- A log names modules and channels of its plan alone.
-use Rattle.std.proofs.Common.{◌≡◌, sym, ◌∙◌, ap, ap₂, subst, refl, List, [], ◌∷◌}
-use Rattle.std.proofs.Common.{◌++◌, map, length, ◌<◌, suc, arith, ℕ, ◌+◌, ◌-◌, get_or, length-append}
-use Rattle.std.specs.Prelude.{All}
+use Rattle.std.proofs.Common.{◌≡◌, sym, ◌∙◌, ap, ap₂, subst, refl, List, [], ◌∷◌, ◌++◌, map, length, ◌<◌, suc, arith, ℕ, ◌+◌, ◌-◌, get_or}
+use Rattle.std.proofs.Common.{length-append}
 use Rattle.std.proofs.lemmas.List.{map-append, get_or_append_left, get_or-append_right}
-use Rattle.std.proofs.lemmas.List.Concat.{flat_map-append}
-use Rattle.std.proofs.lemmas.List.Elements.{All-cons, All-nil}
-use Rattle.flow_design.specs.declared.design.Design.{Design}
-use Rattle.flow_design.specs.declared.plan.Plan.{Plan}
-use Rattle.flow_design.specs.declared.report.EventLine.{EventLine}
-use Rattle.lockstep_defs.specs.Channels.{HistoryStep, Exchange}
-use Rattle.lockstep_defs.specs.Lockstep.{history}
+use Rattle.std.proofs.{lemmas.List.Concat.flat_map-append, lemmas.List.Elements.All-cons, lemmas.List.Elements.All-nil}
+use Rattle.std.specs.Prelude.{All}
+use Rattle.flow_design.specs.{declared.design.Design.Design, declared.plan.Plan.Plan, declared.report.EventLine.EventLine, Reports.clock_of}
+use Rattle.lockstep_defs.specs.{Channels.HistoryStep, Channels.Exchange, Lockstep.history, Verdict.verdict, Laws.HasNumbersOf}
 use Rattle.lockstep_defs.specs.Report.{event_of, events_of, report}
-use Rattle.lockstep_defs.specs.Verdict.{verdict}
-use Rattle.flow_design.specs.Reports.{clock_of}
-use Rattle.lockstep_defs.specs.Laws.{HasNumbersOf}
-use Rattle.sim_core.specs.declared.access_log.LoggedAccess.{LoggedAccess}
-use Rattle.sim_core.specs.AccessLog.{log_of, logged, logged_in}
+use Rattle.sim_core.specs.{declared.access_log.LoggedAccess.LoggedAccess, AccessLog.log_of, AccessLog.logged, AccessLog.logged_in}
 use Rattle.log_text.specs.LogText.{IsNamed}
 
 step_events : (s : HistoryStep) (xs : List Exchange) → map (λ (a : LoggedAccess). a.event) (map (logged s) xs) ≡ map (event_of s) xs

@@ -1,31 +1,21 @@
 -- The lines of the steps that a walk has given, one step after the other.
 use Rattle.std.proofs.Common.{◌≡◌, ℕ, List, [], ◌∷◌, ◌++◌, map, refl, sym, ◌∙◌, ap, ap₂, Option, append-nil}
+use Rattle.std.proofs.{lemmas.List.map-append, lemmas.List.Elements.All-cons, lemmas.List.Elements.All-nil}
 use Rattle.std.specs.Prelude.{All}
-use Rattle.std.proofs.lemmas.List.{map-append}
-use Rattle.std.proofs.lemmas.List.Elements.{All-cons, All-nil}
 use Rattle.event_graph.specs.Lanes.{IsSoundLane}
-use Rattle.flow_design.specs.declared.plan.Plan.{Plan}
-use Rattle.flow_design.specs.declared.state.Advance.{Advance}
-use Rattle.lockstep_defs.specs.Channels.{HistoryStep}
-use Rattle.lockstep_defs.specs.Laws.{HasNumbersOf}
-use Rattle.lockstep_defs.specs.Report.{report}
-use Rattle.timing_bridge.specs.Designs.{design}
-use Rattle.timing_bridge.specs.CoreReports.{steps_at}
+use Rattle.flow_design.specs.{declared.plan.Plan.Plan, declared.state.Advance.Advance}
+use Rattle.lockstep_defs.specs.{Channels.HistoryStep, Laws.HasNumbersOf, Report.report}
+use Rattle.timing_bridge.specs.{Designs.design, CoreReports.steps_at}
 use Rattle.engine_view.specs.Held.{Held, core_of}
-use Rattle.engine_report.specs.declared.events.TimedStep.{TimedStep}
-use Rattle.engine_report.specs.Finished.{IsFinished}
-use Rattle.engine_report.specs.Keys.{place_of, IsTimedKey}
+use Rattle.engine_report.specs.{declared.events.TimedStep.TimedStep, Finished.IsFinished, Keys.place_of, Keys.IsTimedKey}
 use Rattle.report_text.specs.Lines.{text_of_lines}
-use Rattle.sim_core.specs.declared.access_log.LoggedAccess.{LoggedAccess}
-use Rattle.sim_core.specs.AccessLog.{log_of, logged_at, logged_in}
+use Rattle.sim_core.specs.{declared.access_log.LoggedAccess.LoggedAccess, AccessLog.log_of, AccessLog.logged_at, AccessLog.logged_in}
 use Rattle.sim_core.proofs.AccessLogs.{all_logged}
 use Rattle.sim_io.specs.Telling.{IsTold}
-use Rattle.step_walk.specs.declared.walk.StepWalk.{StepWalk}
-use Rattle.step_walk.specs.Walking.{IsWalk, HasGiven}
+use Rattle.step_walk.specs.{declared.walk.StepWalk.StepWalk, Walking.IsWalk, Walking.HasGiven}
 use Rattle.step_walk.proofs.Giving.{given_first}
 use Rattle.log_text.specs.LogText.{access_tokens, IsNamed}
-use Rattle.log_text.proofs.Lines.{step_lines, steps_more, history_lines}
-use Rattle.log_text.proofs.Named.{part_named}
+use Rattle.log_text.proofs.{Lines.step_lines, Lines.steps_more, Lines.history_lines, Named.part_named}
 
 -- what these keys stand for
 abbrev pub steps_by : Plan → Held → List TimedStep → List HistoryStep

@@ -1,13 +1,11 @@
 //! The log of a core's plan.
 ghost use Rattle.std.specs.Prelude.{◌≡◌, ◌≤◌, ◌++◌, ◌∷◌, [], map, All, IfOk, IsErrOf, OnErr, OnOk};
 ghost use Rattle.std.specs.List.{flat_map};
-ghost use Rattle.sim_io.specs.Causes.{AppendsPrefix, Rose};
-ghost use Rattle.sim_io.specs.Telling.{IsTold};
+ghost use Rattle.sim_io.specs.{Causes.AppendsPrefix, Causes.Rose, Telling.IsTold};
 ghost use Rattle.event_timing.specs.Actions.{IsFinal};
 ghost use Rattle.timing_bridge.specs.Designs.{design as design_of};
 ghost use Rattle.report_text.specs.Lines.{line, text_of_lines};
-ghost use Rattle.sim_core.specs.Views.{theory_of};
-ghost use Rattle.sim_core.specs.AccessLog.{log_of};
+ghost use Rattle.sim_core.specs.{Views.theory_of, AccessLog.log_of};
 ghost use Rattle.log_text.specs.LogText.{access_tokens, value_tokens, IsNamed};
 ghost use Rattle.log_text.specs.LogText as form;
 

@@ -1,48 +1,27 @@
 -- A run goes on from its rest on replies.
-use Rattle.std.specs.Box.{with_value}
+use Rattle.std.specs.{Box.with_value, Prelude.All, Prelude.filter_map, Prelude.Option, Prelude.Some, Prelude.None}
 use Rattle.std.proofs.Common.{◌≡◌, ℕ, zero, suc, ◌+◌, ◌^◌, ◌<◌, ◌≤◌, true, false, List, [], ◌∷◌, ◌++◌, length, refl, sym, ap, subst, arith}
 use Rattle.std.proofs.Common.{◌∙◌, length-append, append_assoc, get_or}
-use Rattle.std.specs.Prelude.{All, filter_map, Option, Some, None}
-use Rattle.std.proofs.lemmas.List.Sums.{passes_at_first}
-use Rattle.std.proofs.lemmas.Bool.{or_right, and_parts}
+use Rattle.std.proofs.{lemmas.List.Sums.passes_at_first, lemmas.Bool.or_right, lemmas.Bool.and_parts}
 use Rattle.std.proofs.lemmas.List.{length-map, append-nil}
-use Rattle.flow_word.specs.declared.access.Access.{Access}
-use Rattle.flow_word.specs.declared.access.Port.{Port}
-use Rattle.flow_word.specs.Kinds.{side_of}
-use Rattle.flow_design.specs.declared.design.Channel.{Channel}
-use Rattle.flow_design.specs.declared.design.Module.{Module}
-use Rattle.flow_design.specs.declared.plan.Plan.{Plan}
-use Rattle.flow_design.specs.declared.state.Reply.{Reply}
-use Rattle.flow_design.specs.declared.state.Request.{Request}
+use Rattle.flow_word.specs.{declared.access.Access.Access, declared.access.Port.Port, Kinds.side_of}
+use Rattle.flow_design.specs.{declared.design.Channel.Channel, declared.design.Module.Module, declared.plan.Plan.Plan}
+use Rattle.flow_design.specs.{declared.state.Reply.Reply, declared.state.Request.Request, Module.due, Operations.port, StaticRules.uses}
 use Rattle.flow_design.specs.declared.state.ModuleState.{ModuleState}
-use Rattle.flow_design.specs.Module.{due}
-use Rattle.flow_design.specs.Operations.{port}
-use Rattle.flow_design.specs.StaticRules.{uses}
-use Rattle.lockstep_defs.specs.Machine.{move, requests, request_for, is_over}
-use Rattle.lockstep_defs.specs.Lockstep.{no_module, module_at, requests_of}
-use Rattle.lockstep_defs.specs.Ports.{owner}
-use Rattle.lockstep_defs.specs.Channels.{Exchange}
-use Rattle.lockstep_defs.specs.OwnRun.{OwnStep, Own, own_after, paired}
-use Rattle.lockstep_defs.specs.Quiet.{quiet, skip, is_some_request}
-use Rattle.lockstep_defs.specs.States.{IsStateOf}
-use Rattle.lockstep_defs.proofs.States.{move_state}
-use Rattle.lockstep_defs.proofs.Standing.{requests_stand}
+use Rattle.lockstep_defs.specs.{Machine.move, Machine.requests, Machine.request_for, Machine.is_over, Lockstep.no_module}
+use Rattle.lockstep_defs.specs.{Lockstep.module_at, Lockstep.requests_of, Ports.owner, Channels.Exchange, OwnRun.OwnStep, OwnRun.Own}
+use Rattle.lockstep_defs.specs.{OwnRun.own_after, OwnRun.paired, Quiet.quiet, Quiet.skip, Quiet.is_some_request, States.IsStateOf}
+use Rattle.lockstep_defs.proofs.{States.move_state, Standing.requests_stand}
 use Rattle.module_move.proofs.Readiness.{few_due}
 use Rattle.module_move.specs.Moves.{gone_on}
-use Rattle.module_interp.specs.declared.path.Stage.{Stage}
+use Rattle.module_interp.specs.{declared.path.Stage.Stage, declared.path.Path.Path, declared.tally.Tally.Tally}
+use Rattle.module_interp.specs.{declared.run.ModuleRun.ModuleRun, Runs.is_asked, Runs.StandsAt}
 use Rattle.module_interp.specs.declared.path.Stage.TheVariants.{Begun, Asked, Ticked}
-use Rattle.module_interp.specs.declared.path.Path.{Path}
-use Rattle.module_interp.specs.declared.tally.Tally.{Tally}
-use Rattle.module_interp.specs.declared.run.ModuleRun.{ModuleRun}
 use Rattle.module_interp.specs.OwnRests.{requests_at, next_rest, done_in, accesses_at, fits_kind, all_fit}
 use Rattle.module_interp.specs.Paths.{after_move, CanAsk, IsStageSoundBy, IsInTime, LeadsTo, IsTallyOf, HasPort, KnowsPorts}
-use Rattle.module_interp.specs.Runs.{is_asked, StandsAt}
-use Rattle.module_interp.proofs.Gaps.{IsOwnInTime, next_in_time, least_gap}
-use Rattle.module_interp.proofs.Counting.{move_up}
+use Rattle.module_interp.proofs.{Gaps.IsOwnInTime, Gaps.next_in_time, Gaps.least_gap, Counting.move_up, Standing.IsAtRest, Standing.at_rest}
+use Rattle.module_interp.proofs.{Standing.some_asked, Tallies.length-paired, Timing.module_sound, Timing.step_in_time}
 use Rattle.module_interp.proofs.Keeping.{at_stage, sound_at, asked_same, begun_alive}
-use Rattle.module_interp.proofs.Standing.{IsAtRest, at_rest, some_asked}
-use Rattle.module_interp.proofs.Tallies.{length-paired}
-use Rattle.module_interp.proofs.Timing.{module_sound, step_in_time}
 
 pub asked_stage : (g : Stage) → is_asked g ≡ true → g ≡ Asked
 asked_stage Begun h = cc

@@ -1,24 +1,15 @@
 -- The gaps of a run are short, one by one and all together.
 use Rattle.std.proofs.Common.{◌≡◌, ℕ, ◌+◌, ◌^◌, ◌<◌, ◌≤◌, List, [], ◌∷◌, length, false, sym, subst, arith}
-use Rattle.std.specs.Prelude.{sum_by}
 use Rattle.std.proofs.lemmas.List.Sums.{sum_by-append}
-use Rattle.flow_design.specs.declared.design.Module.{Module}
-use Rattle.flow_design.specs.declared.plan.Plan.{Plan}
-use Rattle.flow_design.specs.declared.state.Reply.{Reply}
+use Rattle.std.specs.Prelude.{sum_by}
+use Rattle.flow_design.specs.{declared.design.Module.Module, declared.plan.Plan.Plan, declared.state.Reply.Reply, StaticRules.FitsEngine}
 use Rattle.flow_design.specs.declared.state.Request.{Request}
-use Rattle.flow_design.specs.StaticRules.{FitsEngine}
-use Rattle.lockstep_defs.specs.Machine.{opened}
-use Rattle.lockstep_defs.specs.Lockstep.{module_at}
+use Rattle.lockstep_defs.specs.{Machine.opened, Lockstep.module_at, Quiet.quiet, Quiet.skip, States.IsStateOf}
 use Rattle.lockstep_defs.specs.OwnRun.{OwnStep, Own, own_after}
-use Rattle.lockstep_defs.specs.Quiet.{quiet, skip}
-use Rattle.lockstep_defs.specs.States.{IsStateOf}
-use Rattle.lockstep_defs.proofs.Resting.{quiet_goes}
-use Rattle.lockstep_defs.proofs.States.{opened_state}
+use Rattle.lockstep_defs.proofs.{Resting.quiet_goes, States.opened_state}
 use Rattle.module_move.proofs.Begins.{opened_clock}
-use Rattle.module_interp.specs.declared.run.ModuleRun.{ModuleRun}
+use Rattle.module_interp.specs.{declared.run.ModuleRun.ModuleRun, Paths.IsInTime, Runs.StandsAt}
 use Rattle.module_interp.specs.OwnRests.{to_rest, first_rest, next_rest, requests_at, clocks_in}
-use Rattle.module_interp.specs.Paths.{IsInTime}
-use Rattle.module_interp.specs.Runs.{StandsAt}
 use Rattle.module_interp.proofs.Timing.{module_sound, opened_in_time, moved_in_time, skip_goes_on}
 
 -- ---- all gaps together

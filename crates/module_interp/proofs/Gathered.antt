@@ -1,19 +1,11 @@
 -- The channels that a module pops, or pushes.
 use Rattle.std.proofs.Common.{◌≡◌, refl, sym, subst, ℕ, true, List, eqb}
-use Rattle.std.specs.Prelude.{All, Contains, IfSome, Option, None, Some}
-use Rattle.std.specs.List.{list_any}
-use Rattle.std.proofs.lemmas.Bool.{and_parts, eqb-true}
-use Rattle.std.proofs.lemmas.List.Folds.{Any-from_list_any}
-use Rattle.flow_word.specs.declared.access.Port.{Port}
-use Rattle.flow_word.specs.declared.access.Side.{Side}
+use Rattle.std.proofs.{lemmas.Bool.and_parts, lemmas.Bool.eqb-true, lemmas.List.Folds.Any-from_list_any}
+use Rattle.std.specs.{Prelude.All, Prelude.Contains, Prelude.IfSome, Prelude.Option, Prelude.None, Prelude.Some, List.list_any}
+use Rattle.flow_word.specs.{declared.access.Port.Port, declared.access.Side.Side, Kinds.same_side}
 use Rattle.flow_word.specs.declared.access.Side.TheVariants.{Pop, Push}
-use Rattle.flow_word.specs.Kinds.{same_side}
-use Rattle.flow_design.specs.declared.design.Block.{Block}
-use Rattle.flow_design.specs.declared.design.Module.{Module}
-use Rattle.flow_design.specs.declared.design.Timed.{Timed}
-use Rattle.flow_design.specs.declared.expr.Op.{Op}
-use Rattle.flow_design.specs.Operations.{used_port}
-use Rattle.flow_design.specs.StaticRules.{is_port, uses}
+use Rattle.flow_design.specs.{declared.design.Block.Block, declared.design.Module.Module, declared.design.Timed.Timed, declared.expr.Op.Op}
+use Rattle.flow_design.specs.{Operations.used_port, StaticRules.is_port, StaticRules.uses}
 use Rattle.module_interp.specs.OwnChannels.{IsGathered}
 
 -- what was gathered stays

@@ -1,22 +1,15 @@
 -- Local clocks without work: a move changes the clock, and the temps of iterations that are no longer live go.
 use Rattle.std.proofs.Common.{◌≡◌, ℕ, zero, suc, ◌+◌, ◌-◌, ◌*◌, ◌<◌, ◌≤◌, inl, inr, Bool, true, false, ◌&&◌, ◌==◌, not, nat_le, List, []}
 use Rattle.std.proofs.Common.{◌∷◌, map, length, get_or, drop, refl, sym, ap, arith, ◌∙◌, add-zero}
-use Rattle.std.specs.Prelude.{Contains, filter, flat_map}
-use Rattle.std.specs.List.{enumerate_from}
 use Rattle.std.proofs.lemmas.Bool.{cases_lt, ne_eqb, lt-leb, or_from}
 use Rattle.std.proofs.lemmas.List.{length-drop, drop-drop}
-use Rattle.flow_design.specs.declared.design.Block.{Block}
-use Rattle.flow_design.specs.declared.design.Module.{Module}
-use Rattle.flow_design.specs.declared.design.Timed.{Timed}
-use Rattle.flow_design.specs.declared.plan.Plan.{Plan}
-use Rattle.flow_design.specs.declared.state.Control.{Control}
+use Rattle.std.specs.{Prelude.Contains, Prelude.filter, Prelude.flat_map, List.enumerate_from}
+use Rattle.flow_design.specs.{declared.design.Block.Block, declared.design.Module.Module, declared.design.Timed.Timed}
+use Rattle.flow_design.specs.{declared.plan.Plan.Plan, declared.state.Control.Control, declared.state.Request.Request}
 use Rattle.flow_design.specs.declared.state.ModuleState.{ModuleState}
-use Rattle.flow_design.specs.declared.state.Request.{Request}
 use Rattle.flow_design.specs.Module.{block_of, interval, live_count, ages, due_at, due_in, due}
 use Rattle.lockstep_defs.specs.Machine.{move, decided, finished, is_over, requests}
-use Rattle.lockstep_defs.specs.Lockstep.{module_at, requests_of}
-use Rattle.lockstep_defs.specs.Laws.{IsLive}
-use Rattle.lockstep_defs.specs.Quiet.{rests, skip, is_some_request}
+use Rattle.lockstep_defs.specs.{Lockstep.module_at, Lockstep.requests_of, Laws.IsLive, Quiet.rests, Quiet.skip, Quiet.is_some_request}
 use Rattle.lockstep_defs.proofs.Live.{live_iff}
 use Rattle.module_move.specs.Moves.{counted, ticked_to, gone_on}
 use Rattle.module_move.proofs.Moving.{moved_is}

@@ -3,25 +3,16 @@ use Rattle.std.proofs.Common.{◌≡◌, ℕ, zero, suc, ◌+◌, ◌*◌, ◌^�
 use Rattle.std.proofs.Common.{subst, arith, ◌∙◌, add-zero}
 use Rattle.std.proofs.lemmas.Bool.{or_from, cond-true, cond-false, cases_Bool, both_ways}
 use Rattle.flow_design.specs.declared.limits.TheConstants.{OPERATIONS, LIVE_ITERATIONS, COUNTED_OPERATIONS}
-use Rattle.flow_design.specs.declared.design.Module.{Module}
-use Rattle.flow_design.specs.declared.plan.Plan.{Plan}
+use Rattle.flow_design.specs.{declared.design.Module.Module, declared.plan.Plan.Plan, Module.due, StaticRules.FitsEngine}
 use Rattle.flow_design.specs.declared.state.ModuleState.{ModuleState}
-use Rattle.flow_design.specs.Module.{due}
-use Rattle.flow_design.specs.StaticRules.{FitsEngine}
-use Rattle.lockstep_defs.proofs.Agrees.{not_ended, below_limit}
-use Rattle.lockstep_defs.specs.Machine.{requests, is_over}
-use Rattle.lockstep_defs.specs.Lockstep.{module_at, requests_of}
-use Rattle.lockstep_defs.specs.OwnRun.{Own}
+use Rattle.lockstep_defs.proofs.{Agrees.not_ended, Agrees.below_limit, Moves.move_falls}
+use Rattle.lockstep_defs.specs.{Machine.requests, Machine.is_over, Lockstep.module_at, Lockstep.requests_of, OwnRun.Own, States.IsStateOf}
 use Rattle.lockstep_defs.specs.Quiet.{quiet, skip, rests, is_some_request}
-use Rattle.lockstep_defs.specs.States.{IsStateOf}
-use Rattle.lockstep_defs.proofs.Moves.{move_falls}
 use Rattle.module_move.proofs.Readiness.{few_due}
-use Rattle.module_interp.specs.declared.path.Stage.{Stage}
-use Rattle.module_interp.specs.declared.path.Path.{Path}
+use Rattle.module_interp.specs.{declared.path.Stage.Stage, declared.path.Path.Path}
 use Rattle.module_interp.specs.Paths.{clocks_to_go, after_move_by, after_move, HasAsked, IsStageSoundBy, IsPathOf, LeadsTo, KeepsRest}
 use Rattle.module_interp.specs.Paths.{IsPath, clocks_to_end}
-use Rattle.module_interp.proofs.Counting.{move_up}
-use Rattle.module_interp.proofs.Rests.{nearer, same_rest}
+use Rattle.module_interp.proofs.{Counting.move_up, Rests.nearer, Rests.same_rest}
 use Rattle.module_interp.proofs.Timing.{module_sound, lives, GoesOn, skip_goes_on, falls, left_bound}
 
 -- ---- the same module

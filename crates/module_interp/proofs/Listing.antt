@@ -1,25 +1,18 @@
 -- The accesses of the step at which a run rests, listed.
 use Rattle.std.specs.Box.{with_value}
-use Rattle.std.proofs.Common.{◌≡◌, ◌⊎◌, inl, inr, true, false, ℕ, ◌^◌, ◌<◌, ◌∙◌, List, map, length, refl, sym, ap, subst, arith}
-use Rattle.std.proofs.Common.{Result, Ok, Err, OnErr}
+use Rattle.std.proofs.Common.{◌≡◌, ◌⊎◌, inl, inr, true, false, ℕ, ◌^◌, ◌<◌, ◌∙◌, List, map, length, refl, sym, ap, subst, arith, Result, Ok}
+use Rattle.std.proofs.Common.{Err, OnErr}
 use Rattle.flow_word.specs.declared.access.Access.{Access}
-use Rattle.flow_design.specs.declared.plan.Plan.{Plan}
+use Rattle.flow_design.specs.{declared.plan.Plan.Plan, declared.state.Request.Request}
 use Rattle.flow_design.specs.declared.state.Advance.TheVariants.{Step, Ended, Spent}
-use Rattle.flow_design.specs.declared.state.Request.{Request}
-use Rattle.lockstep_defs.specs.Channels.{Exchange}
-use Rattle.lockstep_defs.specs.Machine.{is_over}
-use Rattle.lockstep_defs.specs.OwnRun.{Own, access_of}
-use Rattle.module_interp.specs.declared.path.Path.{Path}
+use Rattle.lockstep_defs.specs.{Channels.Exchange, Machine.is_over, OwnRun.Own, OwnRun.access_of}
+use Rattle.module_interp.specs.{declared.path.Path.Path, declared.run.ModuleRun.ModuleRun, declared.tally.Tally.Tally, OwnRests.done_in}
+use Rattle.module_interp.specs.{OwnRests.mark_at, Runs.is_asked, Runs.StandsAt, Runs.IsSoundMark}
 use Rattle.module_interp.specs.declared.path.Stage.TheVariants.{Begun, Asked}
-use Rattle.module_interp.specs.declared.run.ModuleRun.{ModuleRun}
-use Rattle.module_interp.specs.declared.tally.Tally.{Tally}
-use Rattle.module_interp.specs.OwnRests.{done_in, mark_at}
 use Rattle.module_interp.specs.Paths.{KeepsRest, LeadsTo, IsAtStep, IsAtEnd, IsTallyOf}
-use Rattle.module_interp.specs.Runs.{is_asked, StandsAt, IsSoundMark}
 use Rattle.module_interp.proofs.Advancing.{kept_on, stands_on, rest_of, at_step, CanList, can_list, stands_asked}
-use Rattle.module_interp.proofs.Sound.{sound_mark, small_step}
+use Rattle.module_interp.proofs.{Sound.sound_mark, Sound.small_step, Tallies.queries_few}
 use Rattle.module_interp.proofs.Standing.{step_rest, ended_mark, spent_mark, step_mark, accesses_are}
-use Rattle.module_interp.proofs.Tallies.{queries_few}
 
 -- what lists the accesses of these requests
 abbrev pub Lists : List Access → Tally → List Request → Type 0

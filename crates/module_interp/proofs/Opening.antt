@@ -1,30 +1,19 @@
 -- A run begins on the way to its first rest.
 use Rattle.std.proofs.Common.{◌≡◌, ℕ, ◌+◌, ◌^◌, ◌<◌, List, [], length, get_or, refl, sym, ap, subst, arith, ◌∙◌}
-use Rattle.std.specs.Prelude.{All}
 use Rattle.std.proofs.lemmas.List.{get_or_default}
-use Rattle.flow_design.specs.declared.design.Module.{Module}
-use Rattle.flow_design.specs.declared.plan.Plan.{Plan}
+use Rattle.std.specs.Prelude.{All}
+use Rattle.flow_design.specs.{declared.design.Module.Module, declared.plan.Plan.Plan, StaticRules.FitsEngine}
 use Rattle.flow_design.specs.declared.state.ModuleState.{ModuleState}
-use Rattle.flow_design.specs.StaticRules.{FitsEngine}
-use Rattle.lockstep_defs.specs.Machine.{opened}
-use Rattle.lockstep_defs.specs.Lockstep.{no_module, module_at}
-use Rattle.lockstep_defs.specs.Quiet.{quiet, skip}
-use Rattle.lockstep_defs.specs.States.{IsStateOf}
+use Rattle.lockstep_defs.specs.{Machine.opened, Lockstep.no_module, Lockstep.module_at, Quiet.quiet, Quiet.skip, States.IsStateOf}
 use Rattle.lockstep_defs.proofs.States.{opened_state}
 use Rattle.module_move.proofs.Begins.{opened_clock, opened_count}
 use Rattle.block_schedule.specs.Schedules.{KeepsLimits}
 use Rattle.block_code.specs.Codes.{AreCodesOf}
 use Rattle.block_schedule.proofs.Limits.{blocks_keep_limits}
-use Rattle.module_interp.specs.declared.path.Stage.{Stage}
-use Rattle.module_interp.specs.declared.path.Stage.TheVariants.{Begun, Asked}
-use Rattle.module_interp.specs.declared.path.Path.{Path}
-use Rattle.module_interp.specs.declared.run.ModuleRun.{ModuleRun}
-use Rattle.module_interp.specs.OwnRests.{first_rest}
+use Rattle.module_interp.specs.{declared.path.Stage.Stage, declared.path.Stage.TheVariants.Begun, declared.path.Stage.TheVariants.Asked}
+use Rattle.module_interp.specs.{declared.path.Path.Path, declared.run.ModuleRun.ModuleRun, OwnRests.first_rest, Runs.StandsAt}
 use Rattle.module_interp.specs.Paths.{after_move, IsStageSoundBy, LeadsTo, IsTallyOf, KnowsPorts}
-use Rattle.module_interp.specs.Runs.{StandsAt}
-use Rattle.module_interp.proofs.Gaps.{first_in_time}
-use Rattle.module_interp.proofs.Keeping.{at_stage}
-use Rattle.module_interp.proofs.Timing.{module_sound, opened_in_time}
+use Rattle.module_interp.proofs.{Gaps.first_in_time, Keeping.at_stage, Timing.module_sound, Timing.opened_in_time}
 
 pub opened_leads : (p : Plan) → FitsEngine p → (i : ℕ) → i < length p.design.modules → (x : Path)
     → x.of ≡ module_at p i

@@ -1,12 +1,9 @@
 -- The place of a channel in a list in order.
 use Rattle.std.proofs.Common.{◌≡◌, ◌∙◌, inl, inr, sym, ap, arith, ℕ, ◌<◌, ◌≤◌, List, length, get_or, set, eqb}
-use Rattle.std.specs.List.{position_or_len}
-use Rattle.std.specs.List.Sorted.{IsStrictlyIncreasing}
-use Rattle.std.specs.Prelude.{Contains}
 use Rattle.std.proofs.lemmas.Bool.{eq-eqb, ne_eqb, eqb-true, cases_eq, cases_lt}
 use Rattle.std.proofs.lemmas.List.{get_or_default, get_or-set_same, get_or-set_other}
-use Rattle.std.proofs.lemmas.List.Kept.{AllPairs-from_increasing}
-use Rattle.std.proofs.lemmas.List.Sums.{position_or_len_is, passes_at_first}
+use Rattle.std.proofs.{lemmas.List.Kept.AllPairs-from_increasing, lemmas.List.Sums.position_or_len_is, lemmas.List.Sums.passes_at_first}
+use Rattle.std.specs.{List.position_or_len, List.Sorted.IsStrictlyIncreasing, Prelude.Contains}
 use Rattle.module_interp.specs.OwnChannels.{IsPlaceOf}
 
 -- ---- where it stands

@@ -1,40 +1,23 @@
 -- The marks of a run are sound, and a step makes few queries.
-use Rattle.std.proofs.Common.{◌≡◌, ℕ, ◌+◌, ◌*◌, ◌^◌, ◌<◌, ◌≤◌, ◌↔◌, Bool, true, false, not, cond, List, [], ◌∷◌, map, length, refl, sym, ◌∙◌, ap}
-use Rattle.std.proofs.Common.{All, get_or, arith}
-use Rattle.std.specs.Prelude.{count_by}
-use Rattle.std.specs.List.{filter}
-use Rattle.std.proofs.lemmas.Bool.{cond_both}
-use Rattle.std.proofs.lemmas.List.{length-map}
-use Rattle.std.proofs.lemmas.List.Elements.{All-map}
-use Rattle.std.proofs.lemmas.List.Sums.{length-filter}
-use Rattle.flow_word.specs.declared.access.Access.{Access}
-use Rattle.flow_word.specs.Kinds.{side_of, is_blocking}
+use Rattle.std.proofs.Common.{◌≡◌, ℕ, ◌+◌, ◌*◌, ◌^◌, ◌<◌, ◌≤◌, ◌↔◌, Bool, true, false, not, cond, List, [], ◌∷◌, map, length, refl, sym}
+use Rattle.std.proofs.Common.{◌∙◌, ap, All, get_or, arith}
+use Rattle.std.proofs.{lemmas.Bool.cond_both, lemmas.List.length-map, lemmas.List.Elements.All-map, lemmas.List.Sums.length-filter}
+use Rattle.std.specs.{Prelude.count_by, List.filter}
+use Rattle.flow_word.specs.{declared.access.Access.Access, Kinds.side_of, Kinds.is_blocking}
 use Rattle.flow_design.specs.declared.limits.TheConstants.{LIVE_ITERATIONS, OPERATIONS}
-use Rattle.flow_design.specs.declared.plan.Plan.{Plan}
-use Rattle.flow_design.specs.declared.state.Advance.{Advance}
+use Rattle.flow_design.specs.{declared.plan.Plan.Plan, declared.state.Advance.Advance, declared.state.ModuleState.ModuleState}
+use Rattle.flow_design.specs.{declared.state.Request.Request, Module.block_of, StaticRules.FitsEngine}
 use Rattle.flow_design.specs.declared.state.Advance.TheVariants.{Ended, Spent}
-use Rattle.flow_design.specs.declared.state.ModuleState.{ModuleState}
-use Rattle.flow_design.specs.declared.state.Request.{Request}
-use Rattle.flow_design.specs.Module.{block_of}
-use Rattle.flow_design.specs.StaticRules.{FitsEngine}
-use Rattle.lockstep_defs.specs.Machine.{is_spent}
-use Rattle.lockstep_defs.specs.Channels.{Exchange}
-use Rattle.lockstep_defs.specs.Laws.{is_query}
+use Rattle.lockstep_defs.specs.{Machine.is_spent, Channels.Exchange, Laws.is_query, OwnRun.Own, OwnRun.access_of}
 use Rattle.lockstep_defs.specs.Lockstep.{module_at, requests_of}
-use Rattle.lockstep_defs.specs.OwnRun.{Own, access_of}
-use Rattle.lockstep_defs.proofs.Once.{asks_once}
-use Rattle.lockstep_defs.proofs.Rules.{keeps_ports}
-use Rattle.lockstep_defs.proofs.Standing.{requests_stand}
+use Rattle.lockstep_defs.proofs.{Once.asks_once, Rules.keeps_ports, Standing.requests_stand}
 use Rattle.module_move.specs.Sound.{IsStateSound}
 use Rattle.module_move.proofs.Readiness.{few_due}
-use Rattle.module_interp.specs.declared.path.Stage.TheVariants.{Asked}
-use Rattle.module_interp.specs.declared.run.ModuleRun.{ModuleRun}
+use Rattle.module_interp.specs.{declared.path.Stage.TheVariants.Asked, declared.run.ModuleRun.ModuleRun}
 use Rattle.module_interp.specs.OwnRests.{requests_at, done_in, accesses_at, mark_at}
 use Rattle.module_interp.specs.Runs.{IsSmall, IsSmallAccess, IsSoundMark, gap_of, StandsAt}
 use Rattle.module_interp.proofs.Feeding.{fewer_requests, waits_at}
-use Rattle.module_interp.proofs.Gaps.{short_gap}
-use Rattle.module_interp.proofs.Tallies.{moved_few, queries_few}
-use Rattle.module_interp.proofs.Timing.{module_sound}
+use Rattle.module_interp.proofs.{Gaps.short_gap, Tallies.moved_few, Tallies.queries_few, Timing.module_sound}
 
 -- ---- marks
 

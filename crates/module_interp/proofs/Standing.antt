@@ -2,24 +2,16 @@
 use Rattle.std.proofs.Common.{◌≡◌, ℕ, ◌<◌, inl, inr, true, false, List, [], ◌∷◌, map, length, refl, sym, ap, subst, arith, ◌∙◌}
 use Rattle.std.proofs.lemmas.Bool.{or_left, or_right, or_parts, or_cases, cond-true, cond-false, both_ways}
 use Rattle.flow_word.specs.declared.access.Access.{Access}
-use Rattle.flow_design.specs.declared.plan.Plan.{Plan}
-use Rattle.flow_design.specs.declared.state.Advance.{Advance}
+use Rattle.flow_design.specs.{declared.plan.Plan.Plan, declared.state.Advance.Advance, declared.state.Request.Request}
 use Rattle.flow_design.specs.declared.state.Advance.TheVariants.{Step, Ended, Spent}
-use Rattle.flow_design.specs.declared.state.Request.{Request}
 use Rattle.flow_design.specs.declared.state.ModuleState.{ModuleState}
-use Rattle.lockstep_defs.specs.Machine.{is_over, is_spent}
-use Rattle.lockstep_defs.specs.Lockstep.{module_at, requests_of}
-use Rattle.lockstep_defs.specs.OwnRun.{Own, access_of}
-use Rattle.lockstep_defs.specs.Report.{queries}
-use Rattle.lockstep_defs.specs.Quiet.{rests, quiet, skip, is_some_request}
-use Rattle.lockstep_defs.specs.States.{IsStateOf}
+use Rattle.lockstep_defs.specs.{Machine.is_over, Machine.is_spent, Lockstep.module_at, Lockstep.requests_of, OwnRun.Own, OwnRun.access_of}
+use Rattle.lockstep_defs.specs.{Report.queries, Quiet.rests, Quiet.quiet, Quiet.skip, Quiet.is_some_request, States.IsStateOf}
 use Rattle.module_interp.specs.declared.path.Stage.TheVariants.{Begun, Asked}
-use Rattle.module_interp.specs.declared.path.Path.{Path}
-use Rattle.module_interp.specs.OwnRests.{done_in, accesses_at, mark_at}
+use Rattle.module_interp.specs.{declared.path.Path.Path, OwnRests.done_in, OwnRests.accesses_at, OwnRests.mark_at}
 use Rattle.module_interp.specs.Paths.{after_move, HasAsked, LeadsTo, IsAtStep, IsAtEnd}
 use Rattle.module_interp.proofs.Keeping.{leads_still, at_stage, asked_same, begun_alive}
-use Rattle.module_interp.proofs.Rests.{none_at_rest}
-use Rattle.module_interp.proofs.Ways.{has_begun}
+use Rattle.module_interp.proofs.{Rests.none_at_rest, Ways.has_begun}
 
 -- ---- at a rest
 

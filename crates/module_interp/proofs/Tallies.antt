@@ -1,30 +1,18 @@
 -- The counts of what a module has done.
 use Rattle.std.proofs.Common.{◌≡◌, ℕ, zero, suc, ◌+◌, ◌<◌, ◌≤◌, inl, inr, Bool, true, false, not, cond, List, [], ◌∷◌, ◌++◌, length, take}
 use Rattle.std.proofs.Common.{drop, add-one, get_or, set, eqb, refl, sym, ap, arith, ◌∙◌, ◌==◌, length-append}
-use Rattle.std.specs.Prelude.{flat_map}
-use Rattle.std.specs.Int.{from_bool}
 use Rattle.std.proofs.lemmas.Bool.{cond_both, eq-eqb, ne_eqb, cases_eq}
-use Rattle.std.proofs.lemmas.List.{length-set, flat_map_more}
-use Rattle.std.proofs.lemmas.List.Elements.{filter-append}
-use Rattle.flow_word.specs.Kinds.{is_blocking, side_of}
-use Rattle.flow_word.specs.declared.access.Side.{Side}
+use Rattle.std.proofs.{lemmas.List.length-set, lemmas.List.flat_map_more, lemmas.List.Elements.filter-append}
+use Rattle.std.specs.{Prelude.flat_map, Int.from_bool}
+use Rattle.flow_word.specs.{Kinds.is_blocking, Kinds.side_of, declared.access.Side.Side, declared.access.Kind.Kind}
 use Rattle.flow_word.specs.declared.access.Side.TheVariants.{Pop, Push}
-use Rattle.flow_word.specs.declared.access.Kind.{Kind}
 use Rattle.flow_word.specs.declared.access.Kind.TheVariants.{Read, Write, TryRead, TryWrite, Empty, Full}
-use Rattle.flow_design.specs.declared.design.Module.{Module}
-use Rattle.flow_design.specs.declared.state.Request.{Request}
-use Rattle.flow_design.specs.declared.state.Reply.{Reply}
-use Rattle.flow_design.specs.StaticRules.{uses}
-use Rattle.lockstep_defs.specs.Machine.{is_yes, value_in}
+use Rattle.flow_design.specs.{declared.design.Module.Module, declared.state.Request.Request, declared.state.Reply.Reply, StaticRules.uses}
+use Rattle.lockstep_defs.specs.{Machine.is_yes, Machine.value_in, Report.queries, OwnRun.paired}
 use Rattle.lockstep_defs.specs.Channels.{Exchange, popped_value, pushed_value, moved_value, moved_by}
-use Rattle.lockstep_defs.specs.Report.{queries}
-use Rattle.lockstep_defs.specs.OwnRun.{paired}
 use Rattle.module_move.proofs.Readiness.{fewer_pass}
-use Rattle.module_interp.specs.declared.tally.Tally.{Tally}
-use Rattle.module_interp.specs.declared.counts.Counts.{Counts}
-use Rattle.module_interp.specs.OwnChannels.{place_in}
-use Rattle.module_interp.specs.Counts.{AreCounts, HasCount, count_at}
-use Rattle.module_interp.specs.Paths.{IsTallyOf, IsCounted, HasPort, KnowsPorts}
+use Rattle.module_interp.specs.{declared.tally.Tally.Tally, declared.counts.Counts.Counts, OwnChannels.place_in, Counts.AreCounts}
+use Rattle.module_interp.specs.{Counts.HasCount, Counts.count_at, Paths.IsTallyOf, Paths.IsCounted, Paths.HasPort, Paths.KnowsPorts}
 use Rattle.module_interp.proofs.Places.{place_set}
 
 -- ---- one operation more

@@ -1,30 +1,21 @@
 -- How long a module can run.
-use Rattle.std.proofs.Common.{◌≡◌, ℕ, zero, suc, ◌+◌, ◌-◌, ◌*◌, ◌<◌, ◌≤◌, ◌⊎◌, inl, inr, Bool, true, false, ◌&&◌, ◌==◌}
-use Rattle.std.proofs.Common.{cond, List, [], refl}
-use Rattle.std.proofs.Common.{sym, ap, subst, arith, length, add-zero}
-use Rattle.std.specs.Prelude.{slice_index, nat_le}
+use Rattle.std.proofs.Common.{◌≡◌, ℕ, zero, suc, ◌+◌, ◌-◌, ◌*◌, ◌<◌, ◌≤◌, ◌⊎◌, inl, inr, Bool, true, false, ◌&&◌, ◌==◌, cond, List, []}
+use Rattle.std.proofs.Common.{refl, sym, ap, subst, arith, length, add-zero}
 use Rattle.std.proofs.lemmas.Bool.{cond_both, or_parts, leb-true}
+use Rattle.std.specs.Prelude.{slice_index, nat_le}
 use Rattle.flow_design.specs.declared.limits.TheConstants.{BLOCK_CLOCKS, SHORT_BLOCK_CLOCKS, COUNTED_OPERATIONS, LONG_BLOCK_OPERATIONS}
-use Rattle.flow_design.specs.declared.design.Block.{Block}
-use Rattle.flow_design.specs.declared.design.Module.{Module}
-use Rattle.flow_design.specs.declared.design.Next.{Next}
+use Rattle.flow_design.specs.{declared.design.Block.Block, declared.design.Module.Module, declared.design.Next.Next}
+use Rattle.flow_design.specs.{declared.plan.Plan.Plan, declared.state.Control.Control, declared.state.ModuleState.ModuleState}
+use Rattle.flow_design.specs.{declared.state.Reply.Reply, Module.no_block, Module.block_of, Module.interval}
 use Rattle.flow_design.specs.declared.design.Next.TheVariants.{Goto, Branch, Stop}
-use Rattle.flow_design.specs.declared.plan.Plan.{Plan}
-use Rattle.flow_design.specs.declared.state.Control.{Control}
-use Rattle.flow_design.specs.declared.state.ModuleState.{ModuleState}
-use Rattle.flow_design.specs.declared.state.Reply.{Reply}
-use Rattle.flow_design.specs.Module.{no_block, block_of, interval}
 use Rattle.flow_design.specs.StaticRules.{IsModuleSound, FitsEngine, longest_block}
 use Rattle.lockstep_defs.specs.Machine.{move, entered, decided, finished, followed, started, stopped, again_of, is_block_over, is_over}
-use Rattle.lockstep_defs.specs.Lockstep.{no_module, module_at, requests_of}
+use Rattle.lockstep_defs.specs.{Lockstep.no_module, Lockstep.module_at, Lockstep.requests_of, States.IsStateOf}
 use Rattle.lockstep_defs.specs.Quiet.{rests, skip, clocks_left, is_some_request}
-use Rattle.lockstep_defs.specs.States.{IsStateOf}
-use Rattle.lockstep_defs.proofs.Agrees.{not_ended, below_limit}
+use Rattle.lockstep_defs.proofs.{Agrees.not_ended, Agrees.below_limit, States.move_state, Blocks.block_sound, Blocks.short_interval}
 use Rattle.lockstep_defs.proofs.Moves.{Fallen, move_falls, same_control}
-use Rattle.lockstep_defs.proofs.States.{move_state}
 use Rattle.module_move.specs.Moves.{counted, ticked_to, gone_on}
 use Rattle.module_move.proofs.Moving.{moved_is}
-use Rattle.lockstep_defs.proofs.Blocks.{block_sound, short_interval}
 use Rattle.module_interp.specs.Paths.{block_bound, clock_bound, clocks_to_go, IsInTime}
 
 -- ---- blocks

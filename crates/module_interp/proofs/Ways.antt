@@ -2,27 +2,16 @@
 use Rattle.std.proofs.Common.{◌≡◌, ℕ, suc, ◌+◌, ◌-◌, ◌^◌, ◌<◌, ◌≤◌, Bool, true, false, ◌&&◌, ◌||◌, not, nat_lt, List, [], ◌∷◌, length}
 use Rattle.std.proofs.Common.{get_or, refl, sym, ap, subst, arith, ◌∙◌}
 use Rattle.std.proofs.lemmas.Bool.{ltb-true, and_parts}
-use Rattle.flow_design.specs.declared.design.Channel.{Channel}
-use Rattle.flow_design.specs.declared.design.Module.{Module}
-use Rattle.flow_design.specs.declared.plan.Plan.{Plan}
-use Rattle.flow_design.specs.declared.state.Request.{Request}
-use Rattle.flow_design.specs.declared.state.ModuleState.{ModuleState}
-use Rattle.flow_design.specs.Module.{block_of, interval}
+use Rattle.flow_design.specs.{declared.design.Channel.Channel, declared.design.Module.Module, declared.plan.Plan.Plan}
+use Rattle.flow_design.specs.{declared.state.Request.Request, declared.state.ModuleState.ModuleState, Module.block_of, Module.interval}
 use Rattle.lockstep_defs.specs.Machine.{move, requests, is_over}
-use Rattle.lockstep_defs.specs.Lockstep.{module_at, requests_of}
-use Rattle.lockstep_defs.specs.Quiet.{skip, rests}
-use Rattle.lockstep_defs.specs.States.{IsStateOf}
-use Rattle.module_move.specs.Moves.{ticked_to, gone_on}
-use Rattle.module_move.specs.Sound.{IsStateSound}
-use Rattle.block_code.specs.declared.code.BlockCode.{BlockCode}
-use Rattle.block_code.specs.declared.noted.Noted.{Noted}
-use Rattle.block_code.specs.Codes.{IsBlockCodeOf, AreCodesOf}
+use Rattle.lockstep_defs.specs.{Lockstep.module_at, Lockstep.requests_of, Quiet.skip, Quiet.rests, States.IsStateOf}
+use Rattle.module_move.specs.{Moves.ticked_to, Moves.gone_on, Sound.IsStateSound}
+use Rattle.block_code.specs.{declared.code.BlockCode.BlockCode, declared.noted.Noted.Noted, Codes.IsBlockCodeOf, Codes.AreCodesOf}
 use Rattle.block_schedule.specs.Work.{IsNextDue, StandsIn}
-use Rattle.module_interp.specs.declared.path.Stage.{Stage}
-use Rattle.module_interp.specs.declared.path.Stage.TheVariants.{Begun, Ticked}
-use Rattle.module_interp.specs.declared.path.Path.{Path}
-use Rattle.module_interp.specs.Paths.{clock_bound, IsInTime, after_move, AsksNothing, IsStageSoundBy, IsPathOf, KeepsRest, IsPath}
-use Rattle.module_interp.specs.Paths.{clocks_to_end}
+use Rattle.module_interp.specs.{declared.path.Stage.Stage, declared.path.Stage.TheVariants.Begun, declared.path.Stage.TheVariants.Ticked}
+use Rattle.module_interp.specs.{declared.path.Path.Path, Paths.clock_bound, Paths.IsInTime, Paths.after_move, Paths.AsksNothing}
+use Rattle.module_interp.specs.{Paths.IsStageSoundBy, Paths.IsPathOf, Paths.KeepsRest, Paths.IsPath, Paths.clocks_to_end}
 use Rattle.module_interp.proofs.Idle.{IsIdle, skip_ticks, skip_on, never_rests}
 use Rattle.module_interp.proofs.Timing.{GoesOn, skip_goes_on, lives}
 use Rattle.module_interp.proofs.Keeping.{IsFixed, leads_on, leads_still, at_stage, end_nearer, asks_nothing, begun_alive}

@@ -1,14 +1,8 @@
 -- The chain of rests of a module's own run: each rest is the next one after the replies to the rest before it.
 use Rattle.std.specs.Prelude.{ℕ, zero, suc, ◌+◌, ◌<◌, List, [], ◌∷◌, ◌++◌, slice_index_or, IsTrue}
-use Rattle.flow_design.specs.declared.plan.Plan.{Plan}
-use Rattle.flow_design.specs.declared.state.Advance.{Advance}
-use Rattle.flow_design.specs.declared.state.Reply.{Reply}
-use Rattle.lockstep_defs.specs.Machine.{opened}
-use Rattle.lockstep_defs.specs.Lockstep.{module_at}
-use Rattle.lockstep_defs.specs.OwnRun.{Own, own_after}
-use Rattle.lockstep_defs.specs.Quiet.{quiet}
-use Rattle.module_interp.specs.OwnRests.{first_rest, next_rest, requests_at, mark_at}
-use Rattle.module_interp.specs.Runs.{is_step}
+use Rattle.flow_design.specs.{declared.plan.Plan.Plan, declared.state.Advance.Advance, declared.state.Reply.Reply}
+use Rattle.lockstep_defs.specs.{Machine.opened, Lockstep.module_at, OwnRun.Own, OwnRun.own_after, Quiet.quiet}
+use Rattle.module_interp.specs.{OwnRests.first_rest, OwnRests.next_rest, OwnRests.requests_at, OwnRests.mark_at, Runs.is_step}
 
 -- the replies to the k-th rest, counted from 0
 abbrev pub replies_to : List (List Reply) → ℕ → List Reply

@@ -1,7 +1,6 @@
 -- Counts at channels.
 use Rattle.std.specs.Prelude.{ℕ, ◌≡◌, ◌<◌, length, slice_index}
-use Rattle.module_interp.specs.OwnChannels.{place_in}
-use Rattle.module_interp.specs.declared.counts.Counts.{Counts}
+use Rattle.module_interp.specs.{OwnChannels.place_in, declared.counts.Counts.Counts}
 
 -- the count of a channel; 0 where it is none of those that are counted
 abbrev pub count_at : Counts → ℕ → ℕ

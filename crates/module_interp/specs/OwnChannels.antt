@@ -2,8 +2,7 @@
 use Rattle.std.specs.Prelude.{ℕ, ◌≡◌, ◌<◌, nat_eq, List, length, slice_index, Contains, IfSome}
 use Rattle.std.specs.List.{position_or_len}
 use Rattle.flow_word.specs.declared.access.Side.{Side}
-use Rattle.flow_design.specs.declared.expr.Op.{Op}
-use Rattle.flow_design.specs.Operations.{used_port}
+use Rattle.flow_design.specs.{declared.expr.Op.Op, Operations.used_port}
 
 -- the place of a channel among some; their number where it is none of them
 abbrev pub place_in : List ℕ → ℕ → ℕ

@@ -1,20 +1,14 @@
 -- A module's own run from rest to rest: it rests in a local clock with a due FIFO operation, and once it is over.
 use Rattle.std.specs.Prelude.{ℕ, ◌+◌, sum_by, Bool, true, false, ◌&&◌, if◌then◌else◌, List, [], ◌∷◌, map, length, flat_map}
-use Rattle.flow_word.specs.declared.access.Access.{Access}
-use Rattle.flow_word.specs.declared.access.Kind.{Kind}
+use Rattle.flow_word.specs.{declared.access.Access.Access, declared.access.Kind.Kind}
 use Rattle.flow_word.specs.declared.access.Kind.TheVariants as kind
-use Rattle.flow_design.specs.declared.plan.Plan.{Plan}
-use Rattle.flow_design.specs.declared.state.Advance.{Advance}
+use Rattle.flow_design.specs.{declared.plan.Plan.Plan, declared.state.Advance.Advance, declared.state.Reply.Reply}
 use Rattle.flow_design.specs.declared.state.Advance.TheVariants.{Step, Ended, Spent}
 use Rattle.flow_design.specs.declared.state.Request.{Request}
-use Rattle.flow_design.specs.declared.state.Reply.{Reply}
 use Rattle.flow_design.specs.declared.state.Reply.TheVariants.{Done, Value, Flag, Took, Missed}
-use Rattle.lockstep_defs.specs.Machine.{opened, is_spent}
-use Rattle.lockstep_defs.specs.Channels.{Exchange}
+use Rattle.lockstep_defs.specs.{Machine.opened, Machine.is_spent, Channels.Exchange, Report.queries, Quiet.quiet, Quiet.own_later}
 use Rattle.lockstep_defs.specs.Lockstep.{module_at, requests_of}
-use Rattle.lockstep_defs.specs.Report.{queries}
 use Rattle.lockstep_defs.specs.OwnRun.{OwnStep, Own, own_after, paired, access_of}
-use Rattle.lockstep_defs.specs.Quiet.{quiet, own_later}
 
 -- ---- rests
 

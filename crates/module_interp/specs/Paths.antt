@@ -1,31 +1,17 @@
 -- How the program's run stands in a module's own run.
 use Rattle.std.specs.Prelude.{ℕ, ◌≡◌, ◌+◌, ◌-◌, ◌*◌, ◌^◌, ◌<◌, ◌≤◌, if◌then◌else◌, nat_eq, true, false, List, [], length}
-use Rattle.flow_word.specs.declared.access.Port.{Port}
-use Rattle.flow_word.specs.declared.access.Side.{Side}
+use Rattle.flow_word.specs.{declared.access.Port.Port, declared.access.Side.Side}
 use Rattle.flow_word.specs.declared.access.Side.TheVariants.{Pop, Push}
 use Rattle.flow_design.specs.declared.limits.TheConstants.{BLOCK_CLOCKS, LONG_BLOCK_OPERATIONS}
-use Rattle.flow_design.specs.declared.design.Channel.{Channel}
-use Rattle.flow_design.specs.declared.design.Module.{Module}
-use Rattle.flow_design.specs.declared.plan.Plan.{Plan}
-use Rattle.flow_design.specs.declared.state.ModuleState.{ModuleState}
-use Rattle.flow_design.specs.StaticRules.{FitsEngine, longest_block, uses}
-use Rattle.flow_design.specs.Module.{block_of}
-use Rattle.lockstep_defs.specs.Machine.{requests, is_over}
-use Rattle.lockstep_defs.specs.Channels.{Exchange, moved_by, moved_value}
-use Rattle.lockstep_defs.specs.Report.{queries}
-use Rattle.lockstep_defs.specs.Lockstep.{module_at}
-use Rattle.lockstep_defs.specs.OwnRun.{Own}
-use Rattle.lockstep_defs.specs.Quiet.{quiet, skip, clocks_left}
-use Rattle.lockstep_defs.specs.States.{IsStateOf}
-use Rattle.module_move.specs.Moves.{notes_of, gone_on}
-use Rattle.module_move.specs.Sound.{IsStateSound}
+use Rattle.flow_design.specs.{declared.design.Channel.Channel, declared.design.Module.Module, declared.plan.Plan.Plan, Module.block_of}
+use Rattle.flow_design.specs.{declared.state.ModuleState.ModuleState, StaticRules.FitsEngine, StaticRules.longest_block, StaticRules.uses}
+use Rattle.lockstep_defs.specs.{Machine.requests, Machine.is_over, Report.queries, Lockstep.module_at, OwnRun.Own, States.IsStateOf}
+use Rattle.lockstep_defs.specs.{Channels.Exchange, Channels.moved_by, Channels.moved_value, Quiet.quiet, Quiet.skip, Quiet.clocks_left}
+use Rattle.module_move.specs.{Moves.notes_of, Moves.gone_on, Sound.IsStateSound}
 use Rattle.block_code.specs.Codes.{AreCodesOf}
-use Rattle.module_interp.specs.declared.path.Stage.{Stage}
+use Rattle.module_interp.specs.{declared.path.Stage.Stage, declared.path.Path.Path, declared.counts.Counts.Counts}
+use Rattle.module_interp.specs.{declared.tally.Tally.Tally, Counts.AreCounts, Counts.HasCount, Counts.count_at}
 use Rattle.module_interp.specs.declared.path.Stage.TheVariants.{Begun, Asked, Ticked}
-use Rattle.module_interp.specs.declared.path.Path.{Path}
-use Rattle.module_interp.specs.declared.counts.Counts.{Counts}
-use Rattle.module_interp.specs.declared.tally.Tally.{Tally}
-use Rattle.module_interp.specs.Counts.{AreCounts, HasCount, count_at}
 
 -- ---- how long a module can run
 

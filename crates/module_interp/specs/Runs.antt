@@ -1,19 +1,13 @@
 -- A run as callers see it: it stands at a rest of the module's own run, and waits for replies or not.
 use Rattle.std.specs.Prelude.{ℕ, ◌≡◌, ◌*◌, ◌^◌, ◌<◌, ◌≤◌, Bool, true, false, List, length, All}
-use Rattle.flow_word.specs.declared.access.Access.{Access}
-use Rattle.flow_word.specs.declared.access.Step.{Step as StepOf}
+use Rattle.flow_word.specs.{declared.access.Access.Access, declared.access.Step.Step as StepOf}
 use Rattle.flow_design.specs.declared.limits.TheConstants.{LIVE_ITERATIONS, OPERATIONS}
-use Rattle.flow_design.specs.declared.plan.Plan.{Plan}
-use Rattle.flow_design.specs.declared.state.Advance.{Advance}
+use Rattle.flow_design.specs.{declared.plan.Plan.Plan, declared.state.Advance.Advance}
 use Rattle.flow_design.specs.declared.state.Advance.TheVariants.{Step, Ended, Spent}
-use Rattle.lockstep_defs.specs.Lockstep.{module_at}
-use Rattle.lockstep_defs.specs.OwnRun.{Own}
-use Rattle.module_interp.specs.declared.path.Stage.{Stage}
+use Rattle.lockstep_defs.specs.{Lockstep.module_at, OwnRun.Own}
+use Rattle.module_interp.specs.{declared.path.Stage.Stage, declared.run.ModuleRun.ModuleRun, Counts.count_at, OwnRests.clocks_in}
+use Rattle.module_interp.specs.{OwnRests.done_in, OwnRests.accesses_at, Paths.IsInTime, Paths.LeadsTo, Paths.IsTallyOf, Paths.KnowsPorts}
 use Rattle.module_interp.specs.declared.path.Stage.TheVariants.{Begun, Asked, Ticked}
-use Rattle.module_interp.specs.declared.run.ModuleRun.{ModuleRun}
-use Rattle.module_interp.specs.Counts.{count_at}
-use Rattle.module_interp.specs.OwnRests.{clocks_in, done_in, accesses_at}
-use Rattle.module_interp.specs.Paths.{IsInTime, LeadsTo, IsTallyOf, KnowsPorts}
 
 abbrev pub is_asked : Stage → Bool
 is_asked Begun = false

@@ -1,17 +1,10 @@
 //! The laws of a module's own run from rest to rest, for any plan `p` that the engine takes.
 ghost use Rattle.std.specs.Prelude.{ℕ, suc, ◌≡◌, ◌<◌, ◌≤◌, ◌^◌, List as Items, not, length, count_by};
 ghost use Rattle.flow_word.specs.Kinds.{is_blocking};
-ghost use Rattle.flow_design.specs.StaticRules.{FitsEngine};
-ghost use Rattle.flow_design.specs.declared.plan.Plan.{Plan};
-ghost use Rattle.flow_design.specs.declared.state.Reply.{Reply};
-ghost use Rattle.flow_design.specs.Module.{block_of};
-ghost use Rattle.lockstep_defs.specs.Laws.{is_query};
-ghost use Rattle.lockstep_defs.specs.Lockstep.{module_at};
-ghost use Rattle.lockstep_defs.specs.OwnRun.{Own, own, marks};
-ghost use Rattle.module_interp.specs.declared.run.ModuleRun.{ModuleRun};
-ghost use Rattle.module_interp.specs.OwnRests.{clocks_in, accesses_at, next_rest};
-ghost use Rattle.module_interp.specs.Chains.{rest_at, clock_at, marks_before, GoesTo};
-ghost use Rattle.module_interp.specs.Runs.{StandsAt};
+ghost use Rattle.flow_design.specs.{StaticRules.FitsEngine, declared.plan.Plan.Plan, declared.state.Reply.Reply, Module.block_of};
+ghost use Rattle.lockstep_defs.specs.{Laws.is_query, Lockstep.module_at, OwnRun.Own, OwnRun.own, OwnRun.marks};
+ghost use Rattle.module_interp.specs.{declared.run.ModuleRun.ModuleRun, OwnRests.clocks_in, OwnRests.accesses_at, OwnRests.next_rest};
+ghost use Rattle.module_interp.specs.{Chains.rest_at, Chains.clock_at, Chains.marks_before, Chains.GoesTo, Runs.StandsAt};
 
 /// The k-th rest, from 0, is where the own run is after k steps on these replies. Where there are replies to each rest but the
 /// last, the own run has the marks of the rests, after any number of local clocks that goes beyond the last rest.

@@ -1,9 +1,7 @@
 //! How a run begins.
 ghost use Rattle.std.specs.Prelude.{◌≡◌, ℕ, ◌<◌, length, IfOk, OnOk};
-ghost use Rattle.flow_design.specs.StaticRules.{FitsEngine};
-ghost use Rattle.flow_design.specs.declared.plan.Plan.{Plan as PlanOf};
-ghost use Rattle.module_interp.specs.declared.path.Stage.TheVariants.{Begun};
-ghost use Rattle.module_interp.specs.OwnRests.{first_rest};
+ghost use Rattle.flow_design.specs.{StaticRules.FitsEngine, declared.plan.Plan.Plan as PlanOf};
+ghost use Rattle.module_interp.specs.{declared.path.Stage.TheVariants.Begun, OwnRests.first_rest};
 ghost use Rattle.module_interp.specs.Paths.{IsPath, IsPathOf, LeadsTo};
 
 use crate::path::{Path, Stage};

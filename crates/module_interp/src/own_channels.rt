@@ -1,8 +1,8 @@
 //! The channels of a module.
 ghost use Rattle.std.specs.Prelude.{◌≡◌, ℕ, ◌<◌, [], true, false, length, slice_index, All, Contains, IfOk, OnErr, OnOk};
+ghost use Rattle.std.specs.List.Sorted.{IsStrictlyIncreasing};
 ghost use Rattle.flow_design.specs.StaticRules.{uses};
 ghost use Rattle.module_interp.specs.OwnChannels.{IsGathered, IsPlaceOf, place_in};
-ghost use Rattle.std.specs.List.Sorted.{IsStrictlyIncreasing};
 
 use flow_design::{Module, Op, Timed};
 use flow_word::{OutOfMemory, Side};

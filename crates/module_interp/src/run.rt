@@ -1,14 +1,11 @@
 //! The run of a module.
-ghost use Rattle.std.specs.Prelude.{◌≡◌, ℕ, ◌<◌, ◌^◌, true, false, if◌then◌else◌, [], map, List as Items, length, IsFalse};
-ghost use Rattle.std.specs.Prelude.{◌≤◌, ◌↔◌, ◌⊎◌, IfOk, OnErr, OnOk};
+ghost use Rattle.std.specs.Prelude.{◌≡◌, ℕ, ◌<◌, ◌^◌, true, false, if◌then◌else◌, [], map, List as Items, length, IsFalse, ◌≤◌, ◌↔◌, ◌⊎◌};
+ghost use Rattle.std.specs.Prelude.{IfOk, OnErr, OnOk};
 ghost use Rattle.flow_word.specs.declared.access.Side.TheVariants.{Pop};
-ghost use Rattle.flow_design.specs.StaticRules.{FitsEngine};
-ghost use Rattle.flow_design.specs.declared.plan.Plan.{Plan as PlanOf};
+ghost use Rattle.flow_design.specs.{StaticRules.FitsEngine, declared.plan.Plan.Plan as PlanOf};
 ghost use Rattle.lockstep_defs.specs.Channels.{Exchange, moved_by};
-ghost use Rattle.lockstep_defs.specs.Report.{queries};
-ghost use Rattle.lockstep_defs.specs.OwnRun.{Own, access_of};
+ghost use Rattle.lockstep_defs.specs.{Report.queries, OwnRun.Own, OwnRun.access_of, Machine.is_over as over_by};
 ghost use Rattle.module_interp.specs.OwnRests.{done_in, first_rest, next_rest, accesses_at, mark_at, all_fit};
-ghost use Rattle.lockstep_defs.specs.Machine.{is_over as over_by};
 ghost use Rattle.module_interp.specs.Paths.{IsAtStep, IsAtEnd, IsTallyOf};
 ghost use Rattle.module_interp.specs.Runs.{waits, is_step, listed, inlets_of, popped_in, IsFew, IsSoundMark, StandsAt};
 

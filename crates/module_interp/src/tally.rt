@@ -1,12 +1,10 @@
 //! How many elements a module has popped and pushed, and how many queries it has made.
-ghost use Rattle.std.specs.Prelude.{◌≡◌, ℕ, ◌+◌, ◌<◌, ◌≤◌, ◌^◌, ◌++◌, ◌∷◌, [], not, List as Items, length, All};
-ghost use Rattle.std.specs.Prelude.{IfOk};
+ghost use Rattle.std.specs.Prelude.{◌≡◌, ℕ, ◌+◌, ◌<◌, ◌≤◌, ◌^◌, ◌++◌, ◌∷◌, [], not, List as Items, length, All, IfOk};
 ghost use Rattle.std.specs.Int.{from_bool};
 ghost use Rattle.flow_word.specs.Kinds.{side_of, is_blocking};
-ghost use Rattle.lockstep_defs.specs.Machine.{is_yes};
 ghost use Rattle.flow_word.specs.declared.access.Side.TheVariants.{Pop, Push};
+ghost use Rattle.lockstep_defs.specs.{Machine.is_yes, OwnRun.access_of, OwnRun.paired};
 ghost use Rattle.lockstep_defs.specs.Channels.{Exchange, moved_by, popped_value, pushed_value};
-ghost use Rattle.lockstep_defs.specs.OwnRun.{access_of, paired};
 ghost use Rattle.module_interp.specs.Paths.{HasPort, IsCounted, IsTallyOf, KnowsPorts};
 
 use crate::counts::Counts;

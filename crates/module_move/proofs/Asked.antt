@@ -1,21 +1,15 @@
 -- What the due operations ask, by the code of their block.
-use Rattle.std.proofs.Common.{◌≡◌, refl, sym, ◌∙◌, ap, subst, arith, suc, ◌<◌, Bool, true, false, cond, List, []}
-use Rattle.std.proofs.Common.{◌∷◌, length, get_or, Option}
-use Rattle.std.specs.List.{All, filter_map}
+use Rattle.std.proofs.Common.{◌≡◌, refl, sym, ◌∙◌, ap, subst, arith, suc, ◌<◌, Bool, true, false, cond, List, [], ◌∷◌, length, get_or}
+use Rattle.std.proofs.Common.{Option}
 use Rattle.std.proofs.lemmas.List.{get_or_default}
-use Rattle.flow_design.specs.declared.design.Channel.{Channel}
-use Rattle.flow_design.specs.declared.design.Module.{Module}
-use Rattle.flow_design.specs.declared.state.Due.{Due}
-use Rattle.flow_design.specs.declared.state.ModuleState.{ModuleState}
-use Rattle.flow_design.specs.Module.{block_of, operation_at, due}
+use Rattle.std.specs.List.{All, filter_map}
+use Rattle.flow_design.specs.{declared.design.Channel.Channel, declared.design.Module.Module, declared.state.Due.Due}
+use Rattle.flow_design.specs.{declared.state.ModuleState.ModuleState, Module.block_of, Module.operation_at, Module.due}
 use Rattle.lockstep_defs.specs.Machine.{request_for, requests}
 use Rattle.lockstep_defs.proofs.Standing.{due_in_range}
-use Rattle.block_code.specs.declared.code.BlockCode.{BlockCode}
-use Rattle.block_code.specs.declared.code.Guarded.{Guarded}
+use Rattle.block_code.specs.{declared.code.BlockCode.BlockCode, declared.code.Guarded.Guarded, Codes.IsBlockCodeOf}
 use Rattle.block_code.specs.Actions.{IsActionOf, action_request}
-use Rattle.block_code.specs.Codes.{IsBlockCodeOf}
-use Rattle.module_move.specs.Moves.{no_action, asked_by}
-use Rattle.module_move.specs.Sound.{HasCode, IsActionAt, IsDueSound, IsStateSound}
+use Rattle.module_move.specs.{Moves.no_action, Moves.asked_by, Sound.HasCode, Sound.IsActionAt, Sound.IsDueSound, Sound.IsStateSound}
 use Rattle.module_move.proofs.Readiness.{op_ready}
 
 -- ---- one operation

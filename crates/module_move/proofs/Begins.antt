@@ -1,9 +1,7 @@
 -- A block begins in a sound state.
 use Rattle.std.proofs.Common.{◌≡◌, refl, arith, ℕ, ◌-◌, ◌*◌, ◌/◌, ◌<◌, ◌≤◌}
 use Rattle.std.proofs.Math.Nat.{div-lt_iff_lt-mul}
-use Rattle.flow_design.specs.declared.limits.TheConstants.{LIVE_ITERATIONS}
-use Rattle.flow_design.specs.declared.design.Module.{Module}
-use Rattle.flow_design.specs.Module.{interval}
+use Rattle.flow_design.specs.{declared.limits.TheConstants.LIVE_ITERATIONS, declared.design.Module.Module, Module.interval}
 pub use Rattle.lockstep_defs.proofs.Blocks.{block_sound, some_interval, span}
 pub use Rattle.block_schedule.proofs.Live.{live_count_is}
 use Rattle.lockstep_defs.specs.Machine.{entered, opened}

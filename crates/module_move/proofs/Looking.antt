@@ -1,17 +1,12 @@
 -- Looking up the due operations, slot by slot.
 use Rattle.std.proofs.Common.{◌≡◌, refl, sym, ◌∙◌, ap, ap₂, ℕ, map, ◌+◌, ◌-◌, ◌<◌, Bool, true, false, cond, List, [], ◌∷◌, ◌++◌, length}
 use Rattle.std.proofs.Common.{take, get_or, append_assoc}
-use Rattle.std.specs.Prelude.{flat_map, filter}
-use Rattle.std.specs.List.{enumerate_from}
-use Rattle.std.proofs.lemmas.List.{map-append, map_push, take_more}
-use Rattle.std.proofs.lemmas.List.Elements.{filter-append}
-use Rattle.flow_design.specs.declared.design.Block.{Block}
-use Rattle.flow_design.specs.declared.design.Module.{Module}
-use Rattle.flow_design.specs.declared.state.Due.{Due}
+use Rattle.std.proofs.{lemmas.List.map-append, lemmas.List.map_push, lemmas.List.take_more, lemmas.List.Elements.filter-append}
+use Rattle.std.specs.{Prelude.flat_map, Prelude.filter, List.enumerate_from}
+use Rattle.flow_design.specs.{declared.design.Block.Block, declared.design.Module.Module, declared.state.Due.Due}
 use Rattle.flow_design.specs.declared.state.ModuleState.{ModuleState}
 use Rattle.flow_design.specs.Module.{block_of, operation_at, interval, live_count, temps_of, passes, ages_down, ages, due_at, due_in, due}
-use Rattle.block_schedule.specs.declared.tables.Slot.{Slot}
-use Rattle.block_schedule.specs.Schedules.{placed, due_at_ages}
+use Rattle.block_schedule.specs.{declared.tables.Slot.Slot, Schedules.placed, Schedules.due_at_ages}
 use Rattle.module_move.specs.Moves.{passing}
 
 passing_one : (b : Block) (s : ModuleState) (place n : ℕ)

@@ -1,18 +1,12 @@
 -- The parts of a move, put together.
 use Rattle.std.proofs.Common.{◌≡◌, ◌∙◌, refl, ap, ℕ, ◌+◌, ◌≤◌, ◌-◌, ◌==◌, List, false, ◌&&◌, length, arith, sym, subst, cond}
-use Rattle.std.specs.Prelude.{slice_index}
-use Rattle.std.specs.List.{fold}
-use Rattle.std.proofs.lemmas.List.{length-map}
-use Rattle.std.proofs.lemmas.Bool.{cond_both, ne_eqb, and_right}
-use Rattle.flow_design.specs.declared.design.Module.{Module}
-use Rattle.flow_design.specs.declared.design.Block.{Block}
-use Rattle.flow_design.specs.declared.state.ModuleState.{ModuleState}
-use Rattle.flow_design.specs.declared.state.Reply.{Reply}
-use Rattle.flow_design.specs.Module.{block_at, block_of, interval, due}
+use Rattle.std.proofs.{lemmas.List.length-map, lemmas.Bool.cond_both, lemmas.Bool.ne_eqb, lemmas.Bool.and_right}
+use Rattle.std.specs.{Prelude.slice_index, List.fold}
+use Rattle.flow_design.specs.{declared.design.Module.Module, declared.design.Block.Block, declared.state.ModuleState.ModuleState}
+use Rattle.flow_design.specs.{declared.state.Reply.Reply, Module.block_at, Module.block_of, Module.interval, Module.due}
 use Rattle.lockstep_defs.specs.Machine.{effects, stored, committed, ticked, decided, finished, again_of, started, stopped, move}
 use Rattle.lockstep_defs.proofs.Moves.{same_block, rest_of_move}
-use Rattle.block_code.specs.declared.noted.Noted.{Noted}
-use Rattle.block_code.specs.Notes.{noted_for, effects_by}
+use Rattle.block_code.specs.{declared.noted.Noted.Noted, Notes.noted_for, Notes.effects_by}
 use Rattle.block_code.proofs.Notes.{all_noted}
 use Rattle.module_move.specs.Moves.{notes_of, counted, ticked_to, gone_on}
 

@@ -1,18 +1,12 @@
 -- What was noted of the due operations of a sound state.
 use Rattle.std.proofs.Common.{◌≡◌, ◌∙◌, sym, ap, subst, arith, ℕ, ◌*◌, ◌<◌, ◌≤◌, List, length, get_or}
-use Rattle.std.specs.Prelude.{All}
 use Rattle.std.proofs.lemmas.List.{get_or-map, length-map}
+use Rattle.std.specs.Prelude.{All}
 use Rattle.flow_design.specs.declared.limits.TheConstants.{LIVE_ITERATIONS, OPERATIONS}
-use Rattle.flow_design.specs.declared.design.Channel.{Channel}
-use Rattle.flow_design.specs.declared.design.Module.{Module}
-use Rattle.flow_design.specs.declared.state.Due.{Due}
-use Rattle.flow_design.specs.declared.state.ModuleState.{ModuleState}
-use Rattle.flow_design.specs.Module.{block_of, due}
-use Rattle.block_code.specs.declared.code.BlockCode.{BlockCode}
-use Rattle.block_code.specs.declared.noted.Noted.{Noted}
-use Rattle.block_code.specs.Notes.{noted_for}
-use Rattle.module_move.specs.Moves.{notes_of}
-use Rattle.module_move.specs.Sound.{CanCommit}
+use Rattle.flow_design.specs.{declared.design.Channel.Channel, declared.design.Module.Module, declared.state.Due.Due}
+use Rattle.flow_design.specs.{declared.state.ModuleState.ModuleState, Module.block_of, Module.due}
+use Rattle.block_code.specs.{declared.code.BlockCode.BlockCode, declared.noted.Noted.Noted, Notes.noted_for}
+use Rattle.module_move.specs.{Moves.notes_of, Sound.CanCommit}
 use Rattle.module_move.proofs.Readiness.{due_sound, few_due}
 
 pub noted_count : (m : Module) (s : ModuleState) (noted : List Noted) → noted ≡ notes_of m s → length noted ≡ length (due m s)

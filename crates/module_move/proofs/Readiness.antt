@@ -2,25 +2,18 @@
 use Rattle.std.proofs.Common.{◌≡◌, refl, ◌∙◌, arith, ℕ, ◌-◌, ◌*◌, ◌<◌, ◌≤◌, ◌==◌, List, [], ◌∷◌, map, length, get_or, length-append, Bool}
 use Rattle.std.proofs.Common.{not}
 use Rattle.std.proofs.lemmas.List.{get_or-map, length-map}
-use Rattle.std.proofs.lemmas.List.Filters.{length-filter_both}
-use Rattle.std.proofs.lemmas.List.FromFn.{length-enumerate_from}
+use Rattle.std.proofs.{lemmas.List.Filters.length-filter_both, lemmas.List.FromFn.length-enumerate_from}
 use Rattle.std.specs.List.{All, filter, flat_map, enumerate_from}
 use Rattle.flow_design.specs.declared.limits.TheConstants.{LIVE_ITERATIONS, OPERATIONS}
-use Rattle.flow_design.specs.declared.design.Module.{Module}
-use Rattle.flow_design.specs.declared.design.Block.{Block}
-use Rattle.flow_design.specs.declared.design.Memory.{Memory}
-use Rattle.flow_design.specs.declared.design.Timed.{Timed}
-use Rattle.flow_design.specs.declared.expr.Op.{Op}
+use Rattle.flow_design.specs.{declared.design.Module.Module, declared.design.Block.Block, declared.design.Memory.Memory}
+use Rattle.flow_design.specs.{declared.design.Timed.Timed, declared.expr.Op.Op, declared.state.Due.Due}
 use Rattle.flow_design.specs.declared.expr.Op.TheVariants.{Set, Load, Store, Read, Write, TryRead, TryWrite, Empty, Full}
 use Rattle.flow_design.specs.declared.state.ModuleState.{ModuleState}
-use Rattle.flow_design.specs.declared.state.Due.{Due}
 use Rattle.flow_design.specs.Module.{block_of, operation_at, no_operation, interval, live_count, ages_down, ages, temps_of, passes, due_at}
 use Rattle.flow_design.specs.Module.{due_in, due}
 use Rattle.flow_design.specs.StaticRules.{IsModuleSound, IsMemorySound, IsTimedSound, IsOperationSound}
 use Rattle.lockstep_defs.specs.Machine.{memory_of}
-use Rattle.lockstep_defs.proofs.Blocks.{block_sound, some_interval, span}
-use Rattle.lockstep_defs.proofs.Live.{length-ages_down}
-use Rattle.lockstep_defs.proofs.Standing.{due_in_range}
+use Rattle.lockstep_defs.proofs.{Blocks.block_sound, Blocks.some_interval, Blocks.span, Live.length-ages_down, Standing.due_in_range}
 use Rattle.block_code.specs.Ready.{IsReady}
 use Rattle.module_move.specs.Sound.{IsStateSound, IsDueSound}
 use Rattle.module_move.proofs.Begins.{live_count_is, few_live}

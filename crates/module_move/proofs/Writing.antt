@@ -1,29 +1,17 @@
 -- What the due operations write, one operation after another.
 use Rattle.std.proofs.Common.{◌≡◌, refl, sym, ◌∙◌, ap, subst, arith, ℕ, zero, suc, add-one, ◌+◌, ◌<◌, ◌≤◌, Bool, false, cond, List, [], ◌∷◌}
-use Rattle.std.proofs.Common.{◌++◌, length, drop}
-use Rattle.std.proofs.Common.{get_or}
-use Rattle.std.proofs.lemmas.Bool.{true≢false}
-use Rattle.std.proofs.lemmas.Grind.{common_steps}
+use Rattle.std.proofs.Common.{◌++◌, length, drop, get_or}
+use Rattle.std.proofs.{lemmas.Bool.true≢false, lemmas.Grind.common_steps, lemmas.List.Sums.fold-append}
 use Rattle.std.proofs.lemmas.List.{drop_more, get_or-drop}
-use Rattle.std.proofs.lemmas.List.Sums.{fold-append}
 use Rattle.std.specs.Prelude.{fold}
-use Rattle.flow_design.specs.declared.design.Block.{Block}
-use Rattle.flow_design.specs.declared.design.Channel.{Channel}
-use Rattle.flow_design.specs.declared.design.Module.{Module}
-use Rattle.flow_design.specs.declared.state.ModuleState.{ModuleState}
-use Rattle.flow_design.specs.declared.state.Effect.{Effect}
-use Rattle.flow_design.specs.declared.state.Reply.{Reply}
-use Rattle.flow_design.specs.declared.state.Reply.TheVariants.{Done}
-use Rattle.flow_design.specs.Module.{operation_at}
+use Rattle.flow_design.specs.{declared.design.Block.Block, declared.design.Channel.Channel, declared.design.Module.Module}
+use Rattle.flow_design.specs.{declared.state.ModuleState.ModuleState, declared.state.Effect.Effect, declared.state.Reply.Reply}
+use Rattle.flow_design.specs.{declared.state.Reply.TheVariants.Done, Module.operation_at}
 use Rattle.lockstep_defs.specs.Machine.{stored, is_fifo_operation}
-use Rattle.block_code.specs.declared.action.Action.{Action}
+use Rattle.block_code.specs.{declared.action.Action.Action, declared.code.BlockCode.BlockCode, declared.code.Guarded.Guarded}
+use Rattle.block_code.specs.{declared.noted.Noted.Noted, Codes.IsBlockCodeOf, Notes.effects_from, Notes.effects_by}
 use Rattle.block_code.specs.declared.action.Action.TheVariants.{Set, Load, Store, Read, Write, TryRead, TryWrite, Empty, Full}
-use Rattle.block_code.specs.declared.code.BlockCode.{BlockCode}
-use Rattle.block_code.specs.declared.code.Guarded.{Guarded}
-use Rattle.block_code.specs.declared.noted.Noted.{Noted}
 use Rattle.block_code.specs.Actions.{IsActionOf, carried_out, takes_reply}
-use Rattle.block_code.specs.Codes.{IsBlockCodeOf}
-use Rattle.block_code.specs.Notes.{effects_from, effects_by}
 
 drop_next : (replies : List Reply) (n : ℕ) → drop (suc n) replies ≡ drop 1 (drop n replies)
 drop_next replies zero = refl

@@ -1,20 +1,12 @@
 -- The parts of a move: the notes, the commits, the clock, the loop's decision, and the block's end.
 use Rattle.std.specs.Prelude.{ℕ, ◌+◌, ◌-◌, List, map, filter, length, drop, slice_index_or, Option, None}
-use Rattle.flow_design.specs.declared.design.Block.{Block}
-use Rattle.flow_design.specs.declared.design.Module.{Module}
-use Rattle.flow_design.specs.declared.state.Due.{Due}
-use Rattle.flow_design.specs.declared.state.ModuleState.{ModuleState}
-use Rattle.flow_design.specs.declared.state.Reply.{Reply}
-use Rattle.flow_design.specs.declared.state.Request.{Request}
+use Rattle.flow_design.specs.{declared.design.Block.Block, declared.design.Module.Module, declared.state.Due.Due}
+use Rattle.flow_design.specs.{declared.state.ModuleState.ModuleState, declared.state.Reply.Reply, declared.state.Request.Request}
 use Rattle.flow_design.specs.Module.{block_of, operation_at, temps_of, passes, live_count, due}
 use Rattle.lockstep_defs.specs.Machine.{committed, decided, finished}
-use Rattle.block_code.specs.declared.action.Action.TheVariants.{Empty}
-use Rattle.block_code.specs.declared.code.BlockCode.{BlockCode}
-use Rattle.block_code.specs.declared.code.Guarded.{Guarded}
-use Rattle.block_code.specs.declared.noted.Noted.{Noted}
+use Rattle.block_code.specs.{declared.action.Action.TheVariants.Empty, declared.code.BlockCode.BlockCode, declared.code.Guarded.Guarded}
+use Rattle.block_code.specs.{declared.noted.Noted.Noted, Actions.action_request, Notes.noted_for}
 use Rattle.block_code.specs.declared.target.Target.TheVariants.{Register}
-use Rattle.block_code.specs.Actions.{action_request}
-use Rattle.block_code.specs.Notes.{noted_for}
 
 -- those of these operations, each beside the place of its live iteration, that have no guard, or one that is not 0
 abbrev pub passing : Block → ModuleState → List (ℕ × ℕ) → List Due

@@ -1,18 +1,10 @@
 -- What must hold of a module's state for its requests and its move to be computed.
 use Rattle.std.specs.Prelude.{◌≡◌, ◌<◌, ◌^◌, false, List, length}
-use Rattle.flow_design.specs.declared.design.Channel.{Channel}
-use Rattle.flow_design.specs.declared.design.Module.{Module}
-use Rattle.flow_design.specs.declared.state.ModuleState.{ModuleState}
-use Rattle.flow_design.specs.declared.state.Due.{Due}
-use Rattle.flow_design.specs.StaticRules.{IsModuleSound}
+use Rattle.flow_design.specs.{declared.design.Channel.Channel, declared.design.Module.Module, declared.state.ModuleState.ModuleState}
+use Rattle.flow_design.specs.{declared.state.Due.Due, StaticRules.IsModuleSound, Module.block_of}
 use Rattle.lockstep_defs.specs.States.{IsStateOf}
-use Rattle.flow_design.specs.Module.{block_of}
-use Rattle.block_code.specs.declared.action.Action.{Action}
-use Rattle.block_code.specs.declared.code.BlockCode.{BlockCode}
-use Rattle.block_code.specs.declared.noted.Noted.{Noted}
-use Rattle.block_code.specs.Actions.{action_value, action_address, IsActionReady}
-use Rattle.block_code.specs.Codes.{IsBlockCodeOf}
-use Rattle.block_code.specs.Notes.{noted_for}
+use Rattle.block_code.specs.{declared.action.Action.Action, declared.code.BlockCode.BlockCode, declared.noted.Noted.Noted}
+use Rattle.block_code.specs.{Actions.action_value, Actions.action_address, Actions.IsActionReady, Codes.IsBlockCodeOf, Notes.noted_for}
 use Rattle.module_move.specs.Moves.{notes_of}
 
 -- the state is one that the module can have, and the module is not ended in it

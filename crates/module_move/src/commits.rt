@@ -1,12 +1,9 @@
 //! The writes of the due operations.
 ghost use Rattle.std.specs.Prelude.{◌≡◌, ℕ, ◌<◌, List as Items, fold, length, drop, if◌then◌else◌, slice_index_or, All};
-ghost use Rattle.flow_design.specs.declared.design.Block.{Block as BlockOf};
+ghost use Rattle.flow_design.specs.{declared.design.Block.Block as BlockOf, declared.design.Module.Module as ModuleOf};
 ghost use Rattle.flow_design.specs.declared.design.Channel.{Channel as ChannelOf};
-ghost use Rattle.flow_design.specs.declared.design.Module.{Module as ModuleOf};
 ghost use Rattle.lockstep_defs.specs.Machine.{stored};
-ghost use Rattle.block_code.specs.Actions.{carried_out, takes_reply};
-ghost use Rattle.block_code.specs.Codes.{IsBlockCodeOf};
-ghost use Rattle.block_code.specs.Notes.{effects_by};
+ghost use Rattle.block_code.specs.{Actions.carried_out, Actions.takes_reply, Codes.IsBlockCodeOf, Notes.effects_by};
 
 use block_code::{Action, BlockCode, Noted, carry_out};
 use flow_design::{ModuleState, Reply};

@@ -1,11 +1,9 @@
 //! One move of a module.
 ghost use Rattle.std.specs.Prelude.{◌≡◌, ◌+◌, ◌<◌, ◌≤◌, ◌*◌, ◌^◌, List as Items, length, OnOk};
 ghost use Rattle.flow_design.specs.declared.limits.TheConstants.{LIVE_ITERATIONS, OPERATIONS};
-ghost use Rattle.flow_design.specs.declared.design.Channel.{Channel as ChannelOf};
-ghost use Rattle.flow_design.specs.declared.design.Module.{Module as ModuleOf};
+ghost use Rattle.flow_design.specs.{declared.design.Channel.Channel as ChannelOf, declared.design.Module.Module as ModuleOf};
 ghost use Rattle.lockstep_defs.specs.Machine.{move};
-ghost use Rattle.module_move.specs.Moves.{counted};
-ghost use Rattle.module_move.specs.Sound.{CanCommit, IsRunnable};
+ghost use Rattle.module_move.specs.{Moves.counted, Sound.CanCommit, Sound.IsRunnable};
 
 use crate::commits::commit_all;
 use crate::control::{go_on, tick_to};

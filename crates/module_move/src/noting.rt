@@ -6,11 +6,8 @@ ghost use Rattle.flow_design.specs.declared.design.Channel.{Channel as ChannelOf
 ghost use Rattle.flow_design.specs.Module.{block_of, due, passes, temps_of};
 ghost use Rattle.lockstep_defs.specs.Machine.{requests};
 ghost use Rattle.block_schedule.specs.Schedules.{placed, IsSlotOf};
-ghost use Rattle.block_code.specs.Actions.{action_request, action_room};
-ghost use Rattle.block_code.specs.Codes.{IsBlockCodeOf};
-ghost use Rattle.block_code.specs.Notes.{noted_for};
-ghost use Rattle.module_move.specs.Moves.{asked_by, passing, notes_of};
-ghost use Rattle.module_move.specs.Sound.{HasCode, IsActionAt, IsStateSound};
+ghost use Rattle.block_code.specs.{Actions.action_request, Actions.action_room, Codes.IsBlockCodeOf, Notes.noted_for};
+ghost use Rattle.module_move.specs.{Moves.asked_by, Moves.passing, Moves.notes_of, Sound.HasCode, Sound.IsActionAt, Sound.IsStateSound};
 
 use block_code::{Action, BlockCode, Noted, Prepared, prepare, temps_of};
 use block_schedule::Slot;

@@ -1,14 +1,10 @@
 -- The words of a set.
-use Rattle.std.proofs.Common.{◌≡◌, ◌≢◌, refl, sym, ap, ◌∙◌, ℕ, suc, ◌+◌, ◌-◌, ◌*◌, ◌/◌, ◌%◌, ◌^◌, ◌<◌, ◌≤◌, ◌⊎◌, inl, inr}
-use Rattle.std.proofs.Common.{arith, List, [], ◌∷◌, ◌++◌, length, get_or, set, replicate, take, length-set}
-use Rattle.std.specs.Prelude.{bit_or, bit_and}
-use Rattle.std.specs.Int.{bit_at, bit_not, w64}
-use Rattle.std.proofs.Math.ListN.{get_or-eq_default}
-use Rattle.std.proofs.Math.Seq.{take-suc}
-use Rattle.std.proofs.lemmas.Bool.{cases_lt, cases_eq}
+use Rattle.std.proofs.Common.{◌≡◌, ◌≢◌, refl, sym, ap, ◌∙◌, ℕ, suc, ◌+◌, ◌-◌, ◌*◌, ◌/◌, ◌%◌, ◌^◌, ◌<◌, ◌≤◌, ◌⊎◌, inl, inr, arith, List, []}
+use Rattle.std.proofs.Common.{◌∷◌, ◌++◌, length, get_or, set, replicate, take, length-set}
+use Rattle.std.proofs.{Math.ListN.get_or-eq_default, Math.Seq.take-suc, lemmas.Bool.cases_lt, lemmas.Bool.cases_eq}
+use Rattle.std.proofs.{lemmas.Grind.get_or_default_zero, lemmas.Nat.Bits.bit_at-zero, lemmas.Nat.Bits.bit_at_ones}
 use Rattle.std.proofs.lemmas.List.{get_or-set_same, get_or-set_other, get_or-replicate, length-replicate}
-use Rattle.std.proofs.lemmas.Grind.{get_or_default_zero}
-use Rattle.std.proofs.lemmas.Nat.Bits.{bit_at-zero, bit_at_ones}
+use Rattle.std.specs.{Prelude.bit_or, Prelude.bit_and, Int.bit_at, Int.bit_not, Int.w64}
 use Rattle.module_sets.specs.declared.mask.Mask.{Mask}
 use Rattle.module_sets.specs.Sets.{IsSet, IsFirstBit, Has, IsIn, HasMask, IsAdded, IsJoined, IsRemoved, IsFirstFrom, capacity}
 use Rattle.module_sets.proofs.Bits.{own_set, set_own, or_set, set_or, without_set, set_without}

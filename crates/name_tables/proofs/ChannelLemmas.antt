@@ -3,8 +3,7 @@ use Rattle.std.proofs.Common.{◌≡◌, ℕ, List, [], ◌∷◌, false, Option
 use Rattle.std.specs.List.{filter_map}
 use Rattle.flow_design.specs.declared.session.Statement.{Statement}
 use Rattle.flow_grammar.specs.Before.{channel_name, source_name, fifo_name, channels, is_among}
-use Rattle.name_tables.specs.declared.tables.Tables.{Tables}
-use Rattle.name_tables.specs.TablesOf.{tables_of, IsOfStatements}
+use Rattle.name_tables.specs.{declared.tables.Tables.Tables, TablesOf.tables_of, TablesOf.IsOfStatements}
 
 abbrev Name : Type 0
 Name = List ℕ

@@ -1,12 +1,8 @@
 -- A table of names by its keys, and names in joined tables.
 use Rattle.std.proofs.Common.{◌≡◌, ℕ, List, [], ◌∷◌, ◌++◌, map, Bool, false, refl, sym, ap, ◌∙◌, nat_eq, arith}
-use Rattle.std.proofs.lemmas.List.{map-append, reverse-append}
-use Rattle.std.specs.Prelude.{◌||◌, if◌then◌else◌, reverse}
-use Rattle.std.specs.List.{list_any}
-use Rattle.std.specs.Cmp.Lexicographic.{pointwise}
+use Rattle.std.proofs.{lemmas.List.map-append, lemmas.List.reverse-append, lemmas.Bool.or_parts, lemmas.List.Folds.list_any-append}
+use Rattle.std.specs.{Prelude.◌||◌, Prelude.if◌then◌else◌, Prelude.reverse, List.list_any, Cmp.Lexicographic.pointwise}
 use Rattle.flow_grammar.specs.Before.{is_among}
-use Rattle.std.proofs.lemmas.Bool.{or_parts}
-use Rattle.std.proofs.lemmas.List.Folds.{list_any-append}
 
 pub among_append : (xs ys : List (List ℕ)) (n : List ℕ) → is_among (xs ++ ys) n ≡ is_among xs n || is_among ys n
 among_append xs ys n = list_any-append (pointwise nat_eq n) xs ys

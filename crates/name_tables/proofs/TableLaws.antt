@@ -1,20 +1,14 @@
 -- The tables of statements: their tests are those of the grammar, and one statement more is accepted.
 use Rattle.std.proofs.Common.{◌≡◌, List, ◌∷◌, Option, None, Some, refl, arith}
-use Rattle.std.specs.Prelude.{◌&&◌, if◌then◌else◌, cond}
-use Rattle.std.specs.List.{list_all}
 use Rattle.std.proofs.lemmas.List.Sums.{sum_by-cons, take_while-cons}
+use Rattle.std.specs.{Prelude.◌&&◌, Prelude.if◌then◌else◌, Prelude.cond, List.list_all}
 use Rattle.flow_grammar.specs.declared.fault.Code.TheVariants.{Syntax}
-use Rattle.flow_grammar.specs.Before.{in_body, is_no_module, is_no_block}
-use Rattle.flow_grammar.specs.Before.{word_count, is_operation, input_count, is_edit}
-use Rattle.flow_design.specs.declared.limits.Scale.{Scale}
-use Rattle.flow_design.specs.declared.session.Statement.{Statement}
+use Rattle.flow_grammar.specs.Before.{in_body, is_no_module, is_no_block, word_count, is_operation, input_count, is_edit}
+use Rattle.flow_grammar.specs.{Parts.Part, Parts.parts, Places.may_stand, Places.may_follow, Rules.statement_fault, Line.form_fault}
+use Rattle.flow_design.specs.{declared.limits.Scale.Scale, declared.session.Statement.Statement}
 use Rattle.flow_design.specs.declared.session.Statement.TheVariants.{Flow}
-use Rattle.flow_grammar.specs.Parts.{Part, parts}
 use Rattle.flow_grammar.specs.Rules as rules
-use Rattle.flow_grammar.specs.Places.{may_stand, may_follow}
-use Rattle.flow_grammar.specs.Rules.{statement_fault}
 use Rattle.name_tables.specs.TablesOf.{tables_of, accepted}
-use Rattle.flow_grammar.specs.Line.{form_fault}
 use Rattle.name_tables.specs.TableTests.{fault_by, form_fault_by, is_new, is_first_input, is_known, has_room}
 
 -- what a part is by the tables and by the grammar

@@ -6,14 +6,10 @@ use Rattle.flow_design.specs.declared.limits.TheConstants.{ALL_MEMORY_WORDS, EDI
 use Rattle.flow_design.specs.declared.session.Statement.{Statement}
 use Rattle.flow_design.specs.declared.session.Statement.TheVariants.{Source, Sink, Fifo, Module, Reg, Mem, Block, Loop, Temp, At, Input}
 use Rattle.flow_design.specs.declared.session.Statement.TheVariants.{Depth}
-use Rattle.flow_grammar.specs.declared.fault.Code.{Code}
-use Rattle.flow_grammar.specs.declared.fault.Code.TheVariants.{Syntax}
-use Rattle.flow_grammar.specs.Places.{may_stand}
-use Rattle.flow_grammar.specs.Before.{is_among}
-use Rattle.flow_grammar.specs.Rules.{is_in_range, is_within, has_small_trees, first_broken}
+use Rattle.flow_grammar.specs.{declared.fault.Code.Code, declared.fault.Code.TheVariants.Syntax, Places.may_stand, Before.is_among}
+use Rattle.flow_grammar.specs.{Rules.is_in_range, Rules.is_within, Rules.has_small_trees, Rules.first_broken, Gives.judged}
 use Rattle.flow_grammar.specs.Parts.{Part, New, Use, Space, ChannelName, ModuleName, RegisterName, MemoryName, TempName, BlockName, Sort}
 use Rattle.flow_grammar.specs.Parts.{AnyChannel, ASource, AFifo, ARegister, AMemory, AVariable, parts}
-use Rattle.flow_grammar.specs.Gives.{judged}
 use Rattle.name_tables.specs.declared.tables.Tables.{Tables}
 
 abbrev Name : Type 0

@@ -1,15 +1,12 @@
 -- The tables of the statements before a line, at a scale, and what each statement does to them.
 use Rattle.std.specs.Prelude.{◌≡◌, ℕ, ◌+◌, List, [], ◌∷◌, length}
-use Rattle.flow_design.specs.declared.limits.Scale.{Scale}
-use Rattle.flow_design.specs.declared.session.Statement.{Statement}
+use Rattle.flow_design.specs.{declared.limits.Scale.Scale, declared.session.Statement.Statement, Limits.limits_at}
 use Rattle.flow_design.specs.declared.session.Statement.TheVariants.{Flow, Source, Sink, Fifo, Module, Reg, Mem, Block, Loop, Temp, At}
 use Rattle.flow_design.specs.declared.session.Statement.TheVariants.{Goto, Branch, Stop, Input, Limits, Depth, End}
-use Rattle.flow_design.specs.Limits.{limits_at}
 use Rattle.flow_grammar.specs.Before as before
-use Rattle.flow_grammar.specs.declared.place.Place.{Place}
+use Rattle.flow_grammar.specs.{declared.place.Place.Place, Places.place}
 use Rattle.flow_grammar.specs.declared.place.Place.TheVariants.{AmongChannels, AmongRegisters, AmongTemps, AmongOperations, AfterBody}
 use Rattle.flow_grammar.specs.declared.place.Place.TheVariants.{AmongInputs, AmongEdits, AtEnd}
-use Rattle.flow_grammar.specs.Places.{place}
 use Rattle.name_tables.specs.declared.tables.Tables.{Tables}
 
 abbrev Name : Type 0

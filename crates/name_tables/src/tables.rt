@@ -2,8 +2,7 @@
 ghost use Rattle.std.specs.Prelude.{◌≡◌, ◌+◌, ◌<◌, ◌≤◌, ◌^◌, [], false, length, OnOk, OnErr, ◌⊎◌};
 ghost use Rattle.flow_design.specs.declared.limits.TheConstants.{ALL_MEMORY_WORDS, EDITS};
 ghost use Rattle.flow_grammar.specs.Before as before;
-ghost use Rattle.flow_grammar.specs.Before.{is_among};
-ghost use Rattle.flow_grammar.specs.Parts.{RegisterName, TempName, AVariable};
+ghost use Rattle.flow_grammar.specs.{Before.is_among, Parts.RegisterName, Parts.TempName, Parts.AVariable};
 ghost use Rattle.name_tables.specs.TableTests as tests;
 ghost use Rattle.name_tables.specs.TablesOf as given;
 

@@ -1,13 +1,10 @@
 -- Edits one after the other.
 use Rattle.std.proofs.Common.{◌≡◌, refl, ◌∙◌, ap, ap₂, arith, ℕ, ◌+◌, ◌<◌, ◌==◌, zero, suc, Bool, true, false, cond, List, [], ◌∷◌, ◌++◌}
 use Rattle.std.proofs.Common.{length, map}
-use Rattle.std.specs.Prelude.{slice_set, filter, if◌then◌else◌}
-use Rattle.std.specs.List.{enumerate_from}
 use Rattle.std.proofs.lemmas.Bool.{cond-true, cond-false, ne_eqb, eq-eqb}
 use Rattle.std.proofs.lemmas.List.Elements.{filter-append}
-use Rattle.flow_design.specs.declared.plan.Edit.{Edit}
-use Rattle.flow_design.specs.declared.plan.Plan.{Plan}
-use Rattle.flow_design.specs.Plans.{with_depth}
+use Rattle.std.specs.{Prelude.slice_set, Prelude.filter, Prelude.if◌then◌else◌, List.enumerate_from}
+use Rattle.flow_design.specs.{declared.plan.Edit.Edit, declared.plan.Plan.Plan, Plans.with_depth}
 use Rattle.outcome_guard.specs.Edits.{last_or, depth_after, plan_after}
 
 -- ---- the last edit of a channel

@@ -2,8 +2,7 @@
 use Rattle.std.proofs.Common.{◌≡◌, refl, sym, ◌∙◌, ap, subst, arith, ℕ, ◌≤◌, ◌⊎◌, inl, inr, min, Bool, true, false, ◌||◌, List, [], ◌∷◌}
 use Rattle.std.proofs.Common.{◌++◌, length, take, drop, IsTrue, ◌↔◌, take-append-drop, drop_of_length-le}
 use Rattle.std.proofs.lemmas.Bool.{cases_lt}
-use Rattle.outcome_guard.specs.Prefixes.{IsPrefix}
-use Rattle.outcome_guard.specs.Runs.{begins, goes_on, all_go_on, all_longer}
+use Rattle.outcome_guard.specs.{Prefixes.IsPrefix, Runs.begins, Runs.goes_on, Runs.all_go_on, Runs.all_longer}
 
 -- ---- one list beside another
 

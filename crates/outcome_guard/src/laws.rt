@@ -1,8 +1,6 @@
 //! What several edits, one after the other, make of a plan.
 ghost use Rattle.std.specs.Prelude.{◌≡◌, ◌<◌, [], ◌∷◌, ◌++◌, length, List};
-ghost use Rattle.flow_design.specs.declared.plan.Plan.{Plan};
-ghost use Rattle.flow_design.specs.declared.plan.Edit.{Edit};
-ghost use Rattle.flow_design.specs.Plans.{with_depth};
+ghost use Rattle.flow_design.specs.{declared.plan.Plan.Plan, declared.plan.Edit.Edit, Plans.with_depth};
 ghost use Rattle.outcome_guard.specs.Edits.{plan_after};
 
 /// Without edits a plan stays as it is, and each further edit sets one more depth.

@@ -1,13 +1,11 @@
 -- Along a path of waits no module goes on sooner.
-use Rattle.std.proofs.Common.{◌≡◌, ℕ, zero, suc, ◌+◌, ◌-◌, ◌≤◌, ◌<◌, Bool, true, false, ◌||◌, ltb, List, [], ◌∷◌, refl, sym, ◌∙◌, ap}
-use Rattle.std.proofs.Common.{arith, inl, inr, ◌⊎◌}
+use Rattle.std.proofs.Common.{◌≡◌, ℕ, zero, suc, ◌+◌, ◌-◌, ◌≤◌, ◌<◌, Bool, true, false, ◌||◌, ltb, List, [], ◌∷◌, refl, sym, ◌∙◌, ap, arith}
+use Rattle.std.proofs.Common.{inl, inr, ◌⊎◌}
 use Rattle.std.proofs.lemmas.Bool.{cases_Bool, cases_lt, and_parts, and_from, ltb-true, eqb-true}
-use Rattle.flow_word.specs.declared.access.Side.{Side}
-use Rattle.flow_word.specs.Kinds.{other_side}
+use Rattle.flow_word.specs.{declared.access.Side.Side, Kinds.other_side}
 use Rattle.event_timing.specs.Machines.{Access, Design, Each, IsDesign}
 use Rattle.event_timing.specs.Histories.{Trace, IsHistory, is_possible, can_do, can_all, moves}
-use Rattle.event_timing.proofs.OwnRuns.{same_side_is}
-use Rattle.event_timing.proofs.Standing.{moves_lives, moves_can, moves_from}
+use Rattle.event_timing.proofs.{OwnRuns.same_side_is, Standing.moves_lives, Standing.moves_can, Standing.moves_from}
 use Rattle.depth_order.specs.Earliest.{made}
 use Rattle.depth_order.proofs.Ahead.{with_start, NoQueries, IsAlike, more_possible, more_can}
 use Rattle.depth_order.proofs.Same.{made_0, made_more, made_same, made_up, made_mono, always_alike}

@@ -1,31 +1,23 @@
 -- What a path of steps says of the end of the plan with these depths.
-use Rattle.std.proofs.Common.{◌≡◌, ℕ, zero, suc, ◌+◌, ◌-◌, ◌<◌, ◌≤◌, List, length, map, Option, None, Some, refl, sym, ◌∙◌, arith}
-use Rattle.std.proofs.Common.{inl, inr}
-use Rattle.std.specs.Prelude.{is_some}
+use Rattle.std.proofs.Common.{◌≡◌, ℕ, zero, suc, ◌+◌, ◌-◌, ◌<◌, ◌≤◌, List, length, map, Option, None, Some, refl, sym, ◌∙◌, arith, inl, inr}
 use Rattle.std.proofs.lemmas.Bool.{cases_lt, lt-ltb, le-ltb}
+use Rattle.std.specs.Prelude.{is_some}
 use Rattle.flow_word.specs.declared.access.Place.{Place}
-use Rattle.flow_design.specs.declared.plan.Plan.{Plan}
-use Rattle.flow_design.specs.declared.report.Verdict.TheVariants.{Done}
-use Rattle.flow_design.specs.declared.state.Advance.{Advance}
+use Rattle.flow_design.specs.{declared.plan.Plan.Plan, declared.report.Verdict.TheVariants.Done, declared.state.Advance.Advance}
 use Rattle.flow_design.specs.declared.state.Advance.TheVariants.{Step, Ended, Spent}
 use Rattle.lockstep_defs.specs.Verdict.{verdict}
 use Rattle.event_graph.specs.Lanes.{lane_at}
-use Rattle.event_timing.specs.Views.{own}
-use Rattle.event_timing.specs.Core.{core_reply}
+use Rattle.event_timing.specs.{Views.own, Core.core_reply}
 use Rattle.timing_bridge.specs.Designs.{design, lockstep_run, start_in}
 use Rattle.timing_bridge.proofs.History.{plan_is_design, run_is_history, moves_same}
 use Rattle.stall_spans.proofs.Waits.{cycle_moves}
 use Rattle.depth_order.specs.Depths.{with_depths}
-use Rattle.engine_view.specs.declared.engine.Engine.{Engine}
-use Rattle.engine_view.specs.Engines.{held_in}
-use Rattle.engine_view.specs.Held.{Held, core_of, emitted_of}
+use Rattle.engine_view.specs.{declared.engine.Engine.Engine, Engines.held_in, Held.Held, Held.core_of, Held.emitted_of}
 use Rattle.engine_view.proofs.Knowing.{timed_within}
-use Rattle.engine_report.specs.Finished.{IsFinished, IsEndMark}
-use Rattle.engine_report.specs.Standings.{end_at, gap_of}
+use Rattle.engine_report.specs.{Finished.IsFinished, Finished.IsEndMark, Standings.end_at, Standings.gap_of}
 use Rattle.path_check.specs.Paths.{Same}
-use Rattle.path_check.proofs.Late.{ends_later, never_ends}
 use Rattle.path_check.specs.Waits.{IsTried, cycle_at, IsTimed, ComesAfter, Adds, IsAlong, place_at, moves_behind}
-use Rattle.path_check.proofs.Steps.{moves_on, moves_last}
+use Rattle.path_check.proofs.{Late.ends_later, Late.never_ends, Steps.moves_on, Steps.moves_last}
 
 -- ---- behind the last step
 

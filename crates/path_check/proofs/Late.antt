@@ -1,29 +1,19 @@
 -- A plan without queries with other depths ends only after the clocks of a path of waits.
 use Rattle.std.proofs.Common.{◌≡◌, ℕ, zero, suc, ◌+◌, ◌-◌, ◌≤◌, true, List, sym, ◌∙◌, ap, subst, arith, inl, inr}
-use Rattle.std.specs.Prelude.{slice_index}
 use Rattle.std.proofs.lemmas.Bool.{cases_Bool, cases_lt}
-use Rattle.flow_word.specs.declared.access.Side.{Side}
-use Rattle.flow_word.specs.declared.access.Side.TheVariants.{Pop, Push}
-use Rattle.flow_design.specs.Plans.{is_fifo, kind_at}
-use Rattle.flow_design.specs.declared.plan.Plan.{Plan}
-use Rattle.flow_design.specs.declared.report.Verdict.TheVariants.{Done}
-use Rattle.flow_design.specs.declared.state.ModuleState.{ModuleState}
-use Rattle.flow_design.specs.StaticRules.{FitsEngine}
-use Rattle.lockstep_defs.specs.Lockstep.{state_at}
-use Rattle.lockstep_defs.specs.Verdict.{verdict}
-use Rattle.event_timing.specs.Machines.{Design, IsDesign}
-use Rattle.event_timing.specs.Histories.{IsHistory}
+use Rattle.std.specs.Prelude.{slice_index}
+use Rattle.flow_word.specs.{declared.access.Side.Side, declared.access.Side.TheVariants.Pop, declared.access.Side.TheVariants.Push}
+use Rattle.flow_design.specs.{Plans.is_fifo, Plans.kind_at, declared.plan.Plan.Plan, declared.report.Verdict.TheVariants.Done}
+use Rattle.flow_design.specs.{declared.state.ModuleState.ModuleState, StaticRules.FitsEngine}
+use Rattle.lockstep_defs.specs.{Lockstep.state_at, Verdict.verdict}
+use Rattle.event_timing.specs.{Machines.Design, Machines.IsDesign, Histories.IsHistory}
 use Rattle.event_timing.specs.Histories as counted
 use Rattle.event_timing.proofs.Standing.{moves_lives}
 use Rattle.timing_bridge.specs.Designs.{design, lockstep_run, start_in}
 use Rattle.timing_bridge.proofs.History.{plan_is_design, run_is_history, moves_same}
-use Rattle.depth_order.specs.Depths.{with_depths, AreDepths, AreDeeper, AsksNothing}
-use Rattle.depth_order.specs.Earliest.{made}
-use Rattle.depth_order.specs.Chain.{moves_at}
-use Rattle.depth_order.proofs.Plans.{depths_fit}
-use Rattle.depth_order.proofs.Ahead.{with_start}
+use Rattle.depth_order.specs.{Depths.with_depths, Depths.AreDepths, Depths.AreDeeper, Depths.AsksNothing, Earliest.made, Chain.moves_at}
+use Rattle.depth_order.proofs.{Plans.depths_fit, Ahead.with_start, Same.made_mono, Same.made_reached, Same.always_alike}
 use Rattle.depth_order.proofs.Order.{no_queries, same_design, same_elements, over_stays, over_of, done_ended}
-use Rattle.depth_order.proofs.Same.{made_mono, made_reached, always_alike}
 use Rattle.path_check.specs.Paths.{IsAfter}
 use Rattle.path_check.proofs.After.{holds_after, held_from_start, held_for_good, none_past}
 

@@ -1,32 +1,25 @@
 -- A step that waits for another, as it is read off the graph and the table, comes after it.
-use Rattle.std.proofs.Common.{◌≡◌, ℕ, zero, suc, ◌+◌, ◌-◌, ◌<◌, ◌≤◌, Bool, true, false, ◌||◌, List, [], ◌∷◌, refl, sym, ap, ◌∙◌}
-use Rattle.std.proofs.Common.{arith, length, map, slice_get, slice_index_or, Option, None, Some, subst}
+use Rattle.std.proofs.Common.{◌≡◌, ℕ, zero, suc, ◌+◌, ◌-◌, ◌<◌, ◌≤◌, Bool, true, false, ◌||◌, List, [], ◌∷◌, refl, sym, ap, ◌∙◌, arith}
+use Rattle.std.proofs.Common.{length, map, slice_get, slice_index_or, Option, None, Some, subst}
+use Rattle.std.proofs.{lemmas.Bool.and_from, lemmas.Bool.eq-eqb, lemmas.Option.get_or_from_slice_get, lemmas.Option.slice_get_within}
 use Rattle.std.specs.Prelude.{slice_index, cond, is_some, IfSome}
-use Rattle.std.proofs.lemmas.Bool.{and_from, eq-eqb}
-use Rattle.std.proofs.lemmas.Option.{get_or_from_slice_get, slice_get_within}
-use Rattle.flow_word.specs.declared.access.Access.{Access}
-use Rattle.flow_word.specs.declared.access.Place.{Place}
-use Rattle.flow_word.specs.declared.access.Side.{Side}
+use Rattle.flow_word.specs.{declared.access.Access.Access, declared.access.Place.Place, declared.access.Side.Side}
 use Rattle.flow_word.specs.declared.access.Side.TheVariants.{Pop, Push}
 use Rattle.flow_word.specs.Kinds.{side_of, other_side, same_side, is_blocking}
-use Rattle.flow_design.specs.declared.plan.Plan.{Plan}
-use Rattle.flow_design.specs.declared.state.Advance.{Advance}
+use Rattle.flow_design.specs.{declared.plan.Plan.Plan, declared.state.Advance.Advance}
 use Rattle.event_graph.specs.Lanes.{lane_at, no_lane}
 use Rattle.fifo_table.specs.declared.channel.TableChannel.{TableChannel}
 use Rattle.fifo_table.specs.declared.channel.TableChannel.TheVariants.{Source, Sink, Fifo}
 use Rattle.fifo_table.specs.Channels.{IsFifo, channel_at, places_of, free_of}
-use Rattle.event_timing.specs.Machines.{Design, IsDesign}
-use Rattle.event_timing.specs.Views.{own}
+use Rattle.event_timing.specs.{Machines.Design, Machines.IsDesign, Views.own}
 use Rattle.event_timing.specs.Core.{core_accesses, core_reply, core_tally, bare_replies}
 use Rattle.event_timing.proofs.OwnRuns.{tally_mono}
 use Rattle.timing_bridge.specs.Designs.{design, lockstep_run, start_in}
 use Rattle.timing_bridge.proofs.History.{plan_is_design, run_is_history}
 use Rattle.depth_order.specs.Depths.{with_depths}
 use Rattle.depth_order.proofs.Order.{same_elements}
-use Rattle.engine_view.specs.declared.engine.Engine.{Engine}
-use Rattle.engine_view.specs.Engines.{held_in}
+use Rattle.engine_view.specs.{declared.engine.Engine.Engine, Engines.held_in, Shown.IsKind, Shown.IsTakenAt}
 use Rattle.engine_view.specs.Held.{Held, core_of, step_of, no_step, emitted_of, seen, waited}
-use Rattle.engine_view.specs.Shown.{IsKind, IsTakenAt}
 use Rattle.engine_view.proofs.Knowing.{shown_inside}
 use Rattle.engine_report.specs.Finished.{IsFinished}
 use Rattle.engine_report.proofs.Ending.{apart_at}

@@ -1,21 +1,14 @@
 -- Paths of waits over the steps of a core that agrees with the run: a module comes to its next step, and to its end, and a step that
 -- waits for another comes after it.
 use Rattle.std.proofs.Common.{◌≡◌, ℕ, zero, suc, ◌+◌, ◌≤◌, ◌<◌, true, false, sym, ◌∙◌, ap, subst, arith}
-use Rattle.flow_word.specs.declared.access.Side.{Side}
-use Rattle.flow_word.specs.Kinds.{other_side}
-use Rattle.event_timing.specs.Machines.{Design, IsDesign}
+use Rattle.flow_word.specs.{declared.access.Side.Side, Kinds.other_side}
+use Rattle.event_timing.specs.{Machines.Design, Machines.IsDesign, Steps.done, Views.Agrees, Views.own, Agreement.IsAgreed}
 use Rattle.event_timing.specs.Histories.{Trace, IsHistory, moves}
-use Rattle.event_timing.specs.Steps.{done}
-use Rattle.event_timing.specs.Views.{Agrees, own}
 use Rattle.event_timing.specs.Core.{Core, core_accesses, core_reply, core_tally, view}
-use Rattle.event_timing.specs.Agreement.{IsAgreed}
 use Rattle.event_timing.proofs.Fronts.{agrees, core_tally_is}
-use Rattle.event_timing.proofs.Standing.{early_no_step}
-use Rattle.event_timing.proofs.Steps.{done_more, done_same}
-use Rattle.event_timing.proofs.Threshold.{taken_view}
+use Rattle.event_timing.proofs.{Standing.early_no_step, Steps.done_more, Steps.done_same, Threshold.taken_view}
 use Rattle.stall_spans.specs.CoreDoings.{arrives}
-use Rattle.stall_spans.proofs.Placed.{arrives_is, arrives_before, stands_at}
-use Rattle.stall_spans.proofs.Waits.{moves_early, cycle_moves}
+use Rattle.stall_spans.proofs.{Placed.arrives_is, Placed.arrives_before, Placed.stands_at, Waits.moves_early, Waits.cycle_moves}
 use Rattle.path_check.specs.Paths.{waits_at, IsAfter, Later, Own, Waits}
 use Rattle.path_check.proofs.After.{owned_there}
 

@@ -1,12 +1,9 @@
 //! The laws of paths of waits, for any plan `p` that the engine takes.
 ghost use Rattle.std.specs.Prelude.{◌≡◌, ◌≢◌, ℕ, zero, suc, ◌+◌, ◌≤◌, IsTrue, List as Items};
-ghost use Rattle.flow_design.specs.declared.plan.Plan.{Plan};
-ghost use Rattle.flow_design.specs.declared.report.Verdict.TheVariants.{Done};
-ghost use Rattle.flow_design.specs.StaticRules.{FitsEngine};
+ghost use Rattle.flow_design.specs.{declared.plan.Plan.Plan, declared.report.Verdict.TheVariants.Done, StaticRules.FitsEngine};
 ghost use Rattle.lockstep_defs.specs.Verdict.{verdict};
 ghost use Rattle.timing_bridge.specs.Designs.{design, lockstep_run, start_in};
-ghost use Rattle.depth_order.specs.Depths.{with_depths, AreDepths, AreDeeper, AsksNothing};
-ghost use Rattle.depth_order.specs.Chain.{moves_at};
+ghost use Rattle.depth_order.specs.{Depths.with_depths, Depths.AreDepths, Depths.AreDeeper, Depths.AsksNothing, Chain.moves_at};
 ghost use Rattle.path_check.specs.Paths.{IsAfter};
 
 /// What a path of waits shows where no operation is a query. If with other depths a module goes on at least w clocks after the

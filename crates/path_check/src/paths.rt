@@ -1,8 +1,6 @@
 //! What a path of steps shows of the end of a plan.
 ghost use Rattle.std.specs.Prelude.{◌≡◌, ◌≢◌, ℕ, ◌<◌, true, length, map, is_some, Option, IfSome, List as Items};
-ghost use Rattle.flow_design.specs.declared.plan.Plan.{Plan};
-ghost use Rattle.flow_design.specs.declared.report.Verdict.TheVariants.{Done};
-ghost use Rattle.flow_design.specs.declared.state.Advance.{Advance};
+ghost use Rattle.flow_design.specs.{declared.plan.Plan.Plan, declared.report.Verdict.TheVariants.Done, declared.state.Advance.Advance};
 ghost use Rattle.lockstep_defs.specs.Verdict.{verdict};
 ghost use Rattle.depth_order.specs.Depths.{with_depths};
 ghost use Rattle.time_engine.specs.Conditions.{HasAccesses};

@@ -1,7 +1,6 @@
 //! Whether a step waits for another.
 ghost use Rattle.std.specs.Prelude.{◌≡◌, ◌<◌, true, length, slice_index, map, is_some, All, Option, IfSome, List as Items};
-ghost use Rattle.flow_design.specs.declared.plan.Plan.{Plan};
-ghost use Rattle.flow_design.specs.declared.state.Advance.{Advance};
+ghost use Rattle.flow_design.specs.{declared.plan.Plan.Plan, declared.state.Advance.Advance};
 ghost use Rattle.time_engine.specs.Conditions.{IsAccess, HasAccesses};
 ghost use Rattle.engine_view.specs.Engines.{held_in};
 ghost use Rattle.path_check.specs.Waits.{IsTried, edited, free_with, WaitsFor, OneWaits, IsTimed, Adds};

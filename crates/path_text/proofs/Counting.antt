@@ -1,7 +1,7 @@
 -- The clocks of a module and the waiting on a channel, as they grow link by link.
 use Rattle.std.proofs.Common.{ℕ, ◌+◌, ◌<◌, ◌≤◌, Bool, true, false, cond, eqb, List, length, take, get_or, arith}
-use Rattle.std.specs.Prelude.{sum_by}
 use Rattle.std.proofs.lemmas.List.Sums.{sum_by_more_le_part}
+use Rattle.std.specs.Prelude.{sum_by}
 use Rattle.depth_order.specs.declared.link.Link.{Link}
 use Rattle.path_text.specs.declared.link.Polled.{Polled}
 use Rattle.path_text.specs.Counts.{clocks_of, clocks_at, clocks_in, clocks_waited, waiting, waiting_at}

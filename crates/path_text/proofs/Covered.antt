@@ -1,14 +1,10 @@
 -- Each clock in which a module does something is in one of its spans.
 use Rattle.std.proofs.Common.{◌≡◌, ◌≢◌, ℕ, zero, suc, ◌+◌, ◌-◌, ◌<◌, ◌≤◌, Option, Some, None, List, refl, ap, arith, inl, inr, ◌⊎◌}
-use Rattle.std.specs.Prelude.{Contains}
 use Rattle.std.proofs.lemmas.Bool.{cases_lt, cases_eq}
+use Rattle.std.specs.Prelude.{Contains}
 use Rattle.flow_design.specs.declared.plan.Plan.{Plan}
-use Rattle.stall_spans.specs.declared.span.Doing.{Doing}
-use Rattle.stall_spans.specs.declared.span.Span.{Span}
-use Rattle.stall_spans.specs.Doings.{doing}
-use Rattle.stall_spans.specs.Spans.{AreSpansBelow}
-use Rattle.stall_spans.proofs.Existing.{same_doing}
-use Rattle.stall_spans.proofs.Extending.{some_same, some_none}
+use Rattle.stall_spans.specs.{declared.span.Doing.Doing, declared.span.Span.Span, Doings.doing, Spans.AreSpansBelow}
+use Rattle.stall_spans.proofs.{Existing.same_doing, Extending.some_same, Extending.some_none}
 
 same_option : (o : Option Doing) (d : Doing) → (o ≡ Some d) ⊎ (o ≢ Some d)
 same_option None d = inr (λ e. some_none d e)

@@ -1,20 +1,15 @@
 -- What a module does in a clock, and whether it moves.
-use Rattle.std.proofs.Common.{◌||◌, List, [], ◌∷◌, ◌≡◌, ℕ, suc, ◌<◌, Bool, true, false, not, ◌&&◌, cond, Option, Some, None, refl, sym}
-use Rattle.std.proofs.Common.{◌∙◌, ap, arith, inl, inr, length}
-use Rattle.std.specs.Prelude.{find, option_map}
-use Rattle.std.specs.List.{list_any}
-use Rattle.std.proofs.lemmas.Bool.{cases_lt}
-use Rattle.std.proofs.lemmas.List.{get_or_past}
+use Rattle.std.proofs.Common.{◌||◌, List, [], ◌∷◌, ◌≡◌, ℕ, suc, ◌<◌, Bool, true, false, not, ◌&&◌, cond, Option, Some, None, refl, sym, ◌∙◌}
+use Rattle.std.proofs.Common.{ap, arith, inl, inr, length}
+use Rattle.std.proofs.{lemmas.Bool.cases_lt, lemmas.List.get_or_past}
+use Rattle.std.specs.{Prelude.find, Prelude.option_map, List.list_any}
 use Rattle.flow_word.specs.declared.access.Port.{Port}
-use Rattle.flow_design.specs.declared.plan.Plan.{Plan}
-use Rattle.flow_design.specs.declared.state.Request.{Request}
-use Rattle.lockstep_defs.specs.Machine.{is_over, nobody}
-use Rattle.lockstep_defs.specs.Channels.{stalls}
+use Rattle.flow_design.specs.{declared.plan.Plan.Plan, declared.state.Request.Request}
+use Rattle.lockstep_defs.specs.{Machine.is_over, Machine.nobody, Channels.stalls}
 use Rattle.lockstep_defs.specs.Lockstep.{moves, requests_of, state, state_at}
 use Rattle.lockstep_defs.proofs.Agrees.{all_modules}
-use Rattle.stall_spans.specs.declared.span.Doing.{Doing}
+use Rattle.stall_spans.specs.{declared.span.Doing.Doing, Doings.doing, Doings.doing_by}
 use Rattle.stall_spans.specs.declared.span.Doing.TheVariants.{Moves, Still}
-use Rattle.stall_spans.specs.Doings.{doing, doing_by}
 use Rattle.stall_spans.proofs.Existing.{nobody_over, none_stays}
 use Rattle.depth_order.specs.Chain.{moves_at, port_of, stands_at}
 use Rattle.depth_order.proofs.Chained.{find_any}

@@ -1,34 +1,28 @@
 -- The queries that are kept for a walk, access by access.
 use Rattle.std.proofs.Common.{◌≡◌, ℕ, zero, suc, ◌+◌, ◌<◌, ◌≤◌, List, [], ◌∷◌, ◌++◌, map, length, take, drop, Bool, true, false, ◌&&◌, cond}
 use Rattle.std.proofs.Common.{refl, sym, ◌∙◌, ap, ap₂, subst, arith, get_or, leb, inl, inr, Option, Some, None}
-use Rattle.std.specs.Prelude.{All, AllPairs, option_map}
-use Rattle.std.specs.List.{filter, list_any, AllByRecursion}
 use Rattle.std.proofs.lemmas.Bool.{cases_lt, le-leb, lt-leb}
 use Rattle.std.proofs.lemmas.List.{get_or_default, map-append, take_more, take_all}
 use Rattle.std.proofs.lemmas.List.Elements.{filter-append, All-from_recursion, recursion_from_All}
+use Rattle.std.specs.{Prelude.All, Prelude.AllPairs, Prelude.option_map, List.filter, List.list_any, List.AllByRecursion}
 use Rattle.lockstep_defs.proofs.Queue.{all-append}
-use Rattle.flow_word.specs.declared.access.Kind.{Kind}
+use Rattle.flow_word.specs.{declared.access.Kind.Kind, declared.access.Side.Side}
 use Rattle.flow_word.specs.declared.access.Kind.TheVariants.{Read, Write, TryRead, TryWrite, Empty, Full}
-use Rattle.flow_word.specs.declared.access.Side.{Side}
 use Rattle.flow_word.specs.declared.access.Side.TheVariants.{Pop, Push}
-use Rattle.flow_design.specs.declared.plan.Plan.{Plan}
-use Rattle.flow_design.specs.StaticRules.{FitsEngine}
+use Rattle.flow_design.specs.{declared.plan.Plan.Plan, StaticRules.FitsEngine}
 use Rattle.sim_core.specs.declared.access_log.LoggedAccess.{LoggedAccess}
 use Rattle.port_clocks.specs.Leads.{before}
 use Rattle.stall_text.specs.Polls.{is_of}
 use Rattle.stall_text.proofs.Accesses.{on, log_inside}
 use Rattle.depth_order.specs.declared.link.Link.{Link}
-use Rattle.path_text.specs.declared.finds.Find.{Find}
-use Rattle.path_text.specs.declared.finds.LastMissed.{LastMissed}
-use Rattle.path_text.specs.declared.link.PolledLink.{PolledLink}
+use Rattle.path_text.specs.{declared.finds.Find.Find, declared.finds.LastMissed.LastMissed, declared.link.PolledLink.PolledLink}
 use Rattle.path_text.specs.Polls.{AreAccesses, clock_of, ends_poll, from_query, front_pushed, if_some, is_hit, last_poll, latest, link_by}
 use Rattle.path_text.specs.Polls.{missed_before, moved_clocks, polled_link, seeks}
 use Rattle.path_text.specs.Finds.{AreFinds, AreInOrder, AreMissed, by_find, find_clock, found_by, is_within, last_missed, missed_of}
 use Rattle.path_text.specs.Finds.{unmissed}
-use Rattle.path_text.proofs.Logged.{IsTold, Orderly, log_orderly}
-use Rattle.path_text.proofs.Fronts.{accesses_told, clocks_rise, front_is, hit_parts}
+use Rattle.path_text.proofs.{Logged.IsTold, Logged.Orderly, Logged.log_orderly, Fronts.accesses_told, Fronts.clocks_rise, Fronts.front_is}
+use Rattle.path_text.proofs.{Fronts.hit_parts, Missed.UpTo, Missed.is_from, Missed.last_bounded, Missed.missed_is}
 use Rattle.path_text.proofs.Latest.{all_filter, in_turn, mapped, of_all, InTurn}
-use Rattle.path_text.proofs.Missed.{UpTo, is_from, last_bounded, missed_is}
 
 -- ---- an access between those before it and those after it
 

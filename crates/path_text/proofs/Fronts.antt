@@ -1,33 +1,21 @@
 -- The element that a query finds was pushed before.
 use Rattle.std.proofs.Common.{◌≡◌, ℕ, suc, ◌+◌, ◌-◌, ◌<◌, ◌≤◌, List, [], ◌∷◌, length, Bool, true, false, not, ◌&&◌, cond, refl, sym, ◌∙◌}
 use Rattle.std.proofs.Common.{ap, subst, arith, get_or, inl, inr}
-use Rattle.std.specs.Prelude.{AllPairs}
-use Rattle.std.specs.List.{filter, AllByRecursion}
 use Rattle.std.proofs.lemmas.Bool.{cases_lt, and_parts, leb-true, not-true}
 use Rattle.std.proofs.lemmas.List.Elements.{All-from_recursion}
-use Rattle.flow_word.specs.declared.access.Port.{Port}
-use Rattle.flow_word.specs.declared.access.Side.{Side}
+use Rattle.std.specs.{Prelude.AllPairs, List.filter, List.AllByRecursion}
+use Rattle.flow_word.specs.{declared.access.Port.Port, declared.access.Side.Side}
 use Rattle.flow_word.specs.declared.access.Side.TheVariants.{Pop, Push}
-use Rattle.flow_design.specs.declared.plan.Plan.{Plan}
-use Rattle.flow_design.specs.Plans.{is_fifo, kind_at, delay_at}
-use Rattle.flow_design.specs.StaticRules.{FitsEngine}
-use Rattle.lockstep_defs.specs.Channels.{contents_of, is_empty}
-use Rattle.lockstep_defs.specs.Lockstep.{state}
-use Rattle.lockstep_defs.specs.Ports.{owner}
+use Rattle.flow_design.specs.{declared.plan.Plan.Plan, Plans.is_fifo, Plans.kind_at, Plans.delay_at, StaticRules.FitsEngine}
+use Rattle.lockstep_defs.specs.{Channels.contents_of, Channels.is_empty, Lockstep.state, Ports.owner}
 use Rattle.lockstep_defs.proofs.Counts.{delay_positive}
-use Rattle.fifo_fills.specs.Passed.{acts}
-use Rattle.fifo_fills.specs.Fills.{last_clock}
-use Rattle.port_clocks.specs.Leads.{before, is_ahead}
-use Rattle.port_clocks.specs.Clocks.{ArePortClocks}
+use Rattle.fifo_fills.specs.{Passed.acts, Fills.last_clock}
+use Rattle.port_clocks.specs.{Leads.before, Leads.is_ahead, Clocks.ArePortClocks}
 use Rattle.port_clocks.proofs.Counts.{before_below, before_most}
-use Rattle.sim_core.specs.AccessLog.{log_of}
-use Rattle.sim_core.specs.declared.access_log.LoggedAccess.{LoggedAccess}
-use Rattle.stall_text.specs.Polls.{is_missed}
-use Rattle.stall_text.specs.Stalls.{clocks_of, moved_at}
-use Rattle.stall_text.specs.Filling.{later}
+use Rattle.sim_core.specs.{AccessLog.log_of, declared.access_log.LoggedAccess.LoggedAccess}
+use Rattle.stall_text.specs.{Polls.is_missed, Stalls.clocks_of, Stalls.moved_at, Filling.later}
 use Rattle.stall_text.proofs.Accesses.{on, list_rises, log_is}
-use Rattle.stall_text.proofs.Uses.{moved_owner, log_clocks}
-use Rattle.stall_text.proofs.Fills.{empty_is, later_before}
+use Rattle.stall_text.proofs.{Uses.moved_owner, Uses.log_clocks, Fills.empty_is, Fills.later_before}
 use Rattle.depth_order.specs.Chain.{moves_at}
 use Rattle.path_text.specs.Polls.{is_hit, seeks, moved_clocks, front_pushed, AreAccesses}
 use Rattle.path_text.proofs.Logged.{IsTold, log_told}

@@ -1,25 +1,18 @@
 -- The last clock in which a module moves.
 use Rattle.std.proofs.Common.{◌≡◌, ◌≢◌, ℕ, zero, suc, ◌+◌, ◌-◌, ◌<◌, ◌≤◌, Bool, true, false, cond, Option, Some, None, List, [], ◌∷◌}
 use Rattle.std.proofs.Common.{length, get_or, refl, sym, ◌∙◌, ap, ap₂, subst, arith, inl, inr, ◌⊎◌}
-use Rattle.std.specs.Prelude.{find, fold}
-use Rattle.std.specs.List.{range_with_len}
 use Rattle.std.proofs.lemmas.Bool.{cases_Bool, cases_lt, cases_eq, le-leb, lt-leb}
 use Rattle.std.proofs.lemmas.List.{get_or_default}
+use Rattle.std.specs.{Prelude.find, Prelude.fold, List.range_with_len}
 use Rattle.flow_design.specs.declared.plan.Plan.{Plan}
-use Rattle.stall_spans.specs.declared.span.Doing.{Doing}
+use Rattle.stall_spans.specs.{declared.span.Doing.Doing, declared.span.Span.Span, Spans.IsBefore, Spans.AreSpansBelow}
 use Rattle.stall_spans.specs.declared.span.Doing.TheVariants.{Moves, Still}
-use Rattle.stall_spans.specs.declared.span.Span.{Span}
-use Rattle.stall_spans.specs.Spans.{IsBefore, AreSpansBelow}
-use Rattle.stall_spans.proofs.Lists.{Member, Rising, all_of}
-use Rattle.stall_spans.proofs.Extending.{Listed, spans_listed}
+use Rattle.stall_spans.proofs.{Lists.Member, Lists.Rising, Lists.all_of, Lists.contains_member, Extending.Listed, Extending.spans_listed}
 use Rattle.depth_order.specs.Chain.{moves_at, first_mover}
 use Rattle.depth_order.proofs.Chained.{find_any, none_among}
-use Rattle.path_text.specs.declared.walk.At.{At}
+use Rattle.path_text.specs.{declared.walk.At.At, Polls.last_move, Polls.move_by}
 use Rattle.path_text.specs.Walks.{end_by, end_with, moving_end, HasSpans, IsLastMove, with_module}
-use Rattle.path_text.specs.Polls.{last_move, move_by}
-use Rattle.path_text.proofs.Doings.{doing_moves, moves_doing, mover_inside}
-use Rattle.path_text.proofs.Covered.{covered}
-use Rattle.stall_spans.proofs.Lists.{contains_member}
+use Rattle.path_text.proofs.{Doings.doing_moves, Doings.moves_doing, Doings.mover_inside, Covered.covered}
 
 -- ---- the last of the spans in which the module moves
 

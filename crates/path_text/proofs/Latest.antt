@@ -1,10 +1,8 @@
 -- The latest of some items, found from the last one back.
-use Rattle.std.proofs.Common.{◌≡◌, ℕ, zero, suc, ◌<◌, List, [], ◌∷◌, ◌++◌, map, Bool, true, false}
-use Rattle.std.proofs.Common.{arith, cond, refl, ◌∙◌, ap, subst, ltb, Option, Some, None}
-use Rattle.std.specs.Prelude.{option_map, AllPairs}
-use Rattle.std.specs.List.{filter, AllByRecursion}
-use Rattle.std.proofs.lemmas.Bool.{lt-ltb}
-use Rattle.std.proofs.lemmas.List.Elements.{All-from_recursion}
+use Rattle.std.proofs.Common.{◌≡◌, ℕ, zero, suc, ◌<◌, List, [], ◌∷◌, ◌++◌, map, Bool, true, false, arith, cond, refl, ◌∙◌, ap, subst, ltb}
+use Rattle.std.proofs.Common.{Option, Some, None}
+use Rattle.std.proofs.{lemmas.Bool.lt-ltb, lemmas.List.Elements.All-from_recursion}
+use Rattle.std.specs.{Prelude.option_map, Prelude.AllPairs, List.filter, List.AllByRecursion}
 use Rattle.path_text.specs.Polls.{later, latest}
 
 module _ {X : Type 0} (clock : X → ℕ) where

@@ -1,25 +1,15 @@
 -- What the links of the chain and what it polls for are, and how many clocks they have.
 use Rattle.std.proofs.Common.{◌≡◌, ℕ, ◌+◌, ◌≤◌, true, Option, Some, None, List, [], ◌∷◌, ◌++◌, refl, ap, ◌∙◌, arith}
-use Rattle.std.specs.Prelude.{sum_by, IfSome}
-use Rattle.std.specs.List.{AllByRecursion}
-use Rattle.std.proofs.lemmas.List.Elements.{All-from_recursion}
-use Rattle.std.proofs.lemmas.List.Sums.{sum_by-cons}
-use Rattle.flow_design.specs.declared.design.Design.{Design}
-use Rattle.flow_design.specs.declared.plan.Plan.{Plan}
-use Rattle.flow_design.specs.StaticRules.{FitsEngine}
+use Rattle.std.proofs.{lemmas.List.Elements.All-from_recursion, lemmas.List.Sums.sum_by-cons}
+use Rattle.std.specs.{Prelude.sum_by, Prelude.IfSome, List.AllByRecursion}
+use Rattle.flow_design.specs.{declared.design.Design.Design, declared.plan.Plan.Plan, StaticRules.FitsEngine}
 use Rattle.sim_core.specs.declared.access_log.LoggedAccess.{LoggedAccess}
-use Rattle.depth_order.specs.declared.link.Link.{Link}
-use Rattle.depth_order.specs.Chain.{moves_at}
-use Rattle.depth_order.specs.Sums.{spent}
+use Rattle.depth_order.specs.{declared.link.Link.Link, Chain.moves_at, Sums.spent}
 use Rattle.depth_order.proofs.Chained.{starts}
-use Rattle.path_text.specs.declared.link.Polled.{Polled}
-use Rattle.path_text.specs.declared.link.PolledLink.{PolledLink}
-use Rattle.path_text.specs.Walks.{link_at}
+use Rattle.path_text.specs.{declared.link.Polled.Polled, declared.link.PolledLink.PolledLink, Walks.link_at}
 use Rattle.path_text.specs.Polls.{AreAccesses, if_some, last_poll, link_by, links_in, polled_link, polled_path, polls_in}
-use Rattle.path_text.proofs.Doings.{mover_inside}
-use Rattle.path_text.proofs.Chains.{crossing_inside}
-use Rattle.path_text.proofs.Followed.{all_in_path, poll_is}
 use Rattle.path_text.specs.Counts.{clocks_of, waiting, IsLinkOf, AreLinksOf, IsPollOf, ArePollsOf}
+use Rattle.path_text.proofs.{Doings.mover_inside, Chains.crossing_inside, Followed.all_in_path, Followed.poll_is}
 use Rattle.path_text.proofs.Totals.{left_within, polled_total}
 
 -- ---- their clocks

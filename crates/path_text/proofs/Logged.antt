@@ -1,27 +1,20 @@
 -- What is known of each access of a plan's log.
 use Rattle.std.proofs.Common.{◌≡◌, ℕ, zero, suc, ◌+◌, ◌<◌, ◌≤◌, List, [], ◌∷◌, map, length, Bool, true, false, not, cond, refl, sym, ◌∙◌}
 use Rattle.std.proofs.Common.{ap, subst, arith, get_or, zero-add}
-use Rattle.std.specs.List.{flat_map, filter, enumerate_from, AllByRecursion}
 use Rattle.std.proofs.lemmas.List.Concat.{flat_map-append}
-use Rattle.flow_word.specs.declared.access.Kind.{Kind}
+use Rattle.std.specs.List.{flat_map, filter, enumerate_from, AllByRecursion}
+use Rattle.flow_word.specs.{declared.access.Kind.Kind, Kinds.side_of}
 use Rattle.flow_word.specs.declared.access.Kind.TheVariants.{Read, Write, TryRead, TryWrite, Empty, Full}
-use Rattle.flow_word.specs.Kinds.{side_of}
-use Rattle.flow_design.specs.declared.plan.Plan.{Plan}
+use Rattle.flow_design.specs.{declared.plan.Plan.Plan, declared.state.Request.Request, declared.state.Reply.Reply, StaticRules.FitsEngine}
 use Rattle.flow_design.specs.declared.state.ModuleState.{ModuleState}
-use Rattle.flow_design.specs.declared.state.Request.{Request}
-use Rattle.flow_design.specs.declared.state.Reply.{Reply}
-use Rattle.flow_design.specs.StaticRules.{FitsEngine}
 use Rattle.lockstep_defs.specs.Machine.{is_yes, nobody}
 use Rattle.lockstep_defs.specs.Channels.{HistoryStep, Exchange, contents_of, is_empty, is_possible, front, reply, reply_by}
 use Rattle.lockstep_defs.specs.Lockstep.{requests_of, answered, step_with, step_of, steps_in, state, state_at}
 use Rattle.lockstep_defs.proofs.Queue.{all-append}
-use Rattle.fifo_fills.specs.Passed.{Act, acts_in, acts_before, acts}
-use Rattle.fifo_fills.specs.Fills.{last_clock}
+use Rattle.fifo_fills.specs.{Passed.Act, Passed.acts_in, Passed.acts_before, Passed.acts, Fills.last_clock}
 use Rattle.fifo_fills.proofs.Acts.{acts-zero, acts-suc, early}
-use Rattle.sim_core.specs.AccessLog.{log_of}
-use Rattle.sim_core.specs.declared.access_log.LoggedAccess.{LoggedAccess}
-use Rattle.stall_text.specs.Polls.{is_missed, misses}
-use Rattle.stall_text.specs.Stalls.{clocks_of}
+use Rattle.sim_core.specs.{AccessLog.log_of, declared.access_log.LoggedAccess.LoggedAccess}
+use Rattle.stall_text.specs.{Polls.is_missed, Polls.misses, Stalls.clocks_of}
 use Rattle.stall_text.proofs.Accesses.{logged_act, log_is, ActStands, all_stand, Climbs, climbs}
 use Rattle.stall_text.proofs.Uses.{Owns}
 use Rattle.depth_order.specs.Chain.{moves_at}

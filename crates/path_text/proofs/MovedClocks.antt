@@ -1,17 +1,14 @@
 -- The clocks in which elements were moved at a side, access by access.
-use Rattle.std.proofs.Common.{◌≡◌, ◌≢◌, ℕ, ◌+◌, ◌<◌, List, [], ◌∷◌, ◌++◌, length, take, set, replicate, Bool, true, false, ◌&&◌, cond}
-use Rattle.std.proofs.Common.{refl, sym, ◌∙◌, ap, subst, arith, get_or, inl, inr, is_some, eqb, length-set}
-use Rattle.std.specs.List.{filter}
-use Rattle.std.proofs.lemmas.Bool.{cases_eq, ne_eqb}
+use Rattle.std.proofs.Common.{◌≡◌, ◌≢◌, ℕ, ◌+◌, ◌<◌, List, [], ◌∷◌, ◌++◌, length, take, set, replicate, Bool, true, false, ◌&&◌, cond, refl}
+use Rattle.std.proofs.Common.{sym, ◌∙◌, ap, subst, arith, get_or, inl, inr, is_some, eqb, length-set}
+use Rattle.std.proofs.{lemmas.Bool.cases_eq, lemmas.Bool.ne_eqb, lemmas.List.Elements.filter-append}
 use Rattle.std.proofs.lemmas.List.{append-nil, map-append, take_more, get_or-set_same, get_or-set_other, get_or-replicate, length-replicate}
-use Rattle.std.proofs.lemmas.List.Elements.{filter-append}
-use Rattle.flow_word.specs.declared.access.Side.{Side}
-use Rattle.flow_word.specs.Kinds.{side_of, same_side}
+use Rattle.std.specs.List.{filter}
+use Rattle.flow_word.specs.{declared.access.Side.Side, Kinds.side_of, Kinds.same_side}
 use Rattle.sim_core.specs.declared.access_log.LoggedAccess.{LoggedAccess}
 use Rattle.stall_text.specs.Stalls.{moved_at, clocks_of}
 use Rattle.stall_text.proofs.Accesses.{on}
-use Rattle.path_text.specs.Polls.{moved_clocks}
-use Rattle.path_text.specs.Finds.{AreMoved}
+use Rattle.path_text.specs.{Polls.moved_clocks, Finds.AreMoved}
 
 clocks_last : (xs : List LoggedAccess) (a : LoggedAccess) (b : Bool)
     → clocks_of (xs ++ cond b (a ∷ []) []) ≡ cond b (clocks_of xs ++ a.event.cycle ∷ []) (clocks_of xs)

@@ -1,19 +1,15 @@
 -- The modules at the ends of channels.
 use Rattle.std.proofs.Common.{◌≡◌, ℕ, ◌-◌, ◌<◌, Option, Some, List, length, get_or, sym, ◌∙◌, ap, arith, zero-add}
-use Rattle.std.specs.Prelude.{slice_index}
 use Rattle.std.proofs.lemmas.List.FromFn.{length-map-range_with_len, get_or-map-range_with_len}
-use Rattle.flow_word.specs.declared.access.Port.{Port}
-use Rattle.flow_word.specs.declared.access.Side.{Side}
-use Rattle.flow_word.specs.declared.access.Side.TheVariants.{Pop, Push}
-use Rattle.flow_design.specs.declared.plan.Plan.{Plan}
-use Rattle.flow_design.specs.declared.design.Channel.{Channel}
-use Rattle.flow_design.specs.Plans.{kind_at, delay_of, no_channel}
 use Rattle.std.proofs.lemmas.List.{ext_get_or, get_or_default}
+use Rattle.std.specs.Prelude.{slice_index}
+use Rattle.flow_word.specs.{declared.access.Port.Port, declared.access.Side.Side}
+use Rattle.flow_word.specs.declared.access.Side.TheVariants.{Pop, Push}
+use Rattle.flow_design.specs.{declared.plan.Plan.Plan, declared.design.Channel.Channel, Plans.kind_at, Plans.delay_of, Plans.no_channel}
 use Rattle.lockstep_defs.specs.Ports.{owner}
 use Rattle.depth_order.specs.declared.link.Link.{Link}
 use Rattle.sim_core.specs.Readers.{AreUsers}
-use Rattle.path_text.specs.Owners.{owners}
-use Rattle.path_text.specs.Walks.{before_link}
+use Rattle.path_text.specs.{Owners.owners, Walks.before_link}
 
 -- ---- the modules of all channels
 

@@ -1,31 +1,21 @@
 -- Where nothing is polled for, the chain is the one that follows no polls.
-use Rattle.std.proofs.Common.{◌≡◌, ℕ, zero, suc, true, false, List, [], ◌∷◌, map, refl, ◌∙◌, ap}
-use Rattle.std.proofs.Common.{Option, Some, None}
+use Rattle.std.proofs.Common.{◌≡◌, ℕ, zero, suc, true, false, List, [], ◌∷◌, map, refl, ◌∙◌, ap, Option, Some, None}
 use Rattle.std.specs.List.{filter, AllByRecursion}
-use Rattle.flow_word.specs.declared.access.Kind.{Kind}
+use Rattle.flow_word.specs.{declared.access.Kind.Kind, declared.access.Port.Port, Kinds.is_blocking}
 use Rattle.flow_word.specs.declared.access.Kind.TheVariants.{Read, Write, TryRead, TryWrite, Empty, Full}
-use Rattle.flow_word.specs.declared.access.Port.{Port}
-use Rattle.flow_word.specs.Kinds.{is_blocking}
-use Rattle.flow_design.specs.declared.plan.Plan.{Plan}
-use Rattle.flow_design.specs.declared.state.Request.{Request}
-use Rattle.flow_design.specs.StaticRules.{FitsEngine}
+use Rattle.flow_design.specs.{declared.plan.Plan.Plan, declared.state.Request.Request, StaticRules.FitsEngine}
 use Rattle.lockstep_defs.specs.Lockstep.{requests_of, state_at}
 use Rattle.event_timing.specs.Machines.{Each}
 use Rattle.timing_bridge.specs.Designs.{seen}
-use Rattle.sim_core.specs.AccessLog.{log_of}
-use Rattle.sim_core.specs.declared.access_log.LoggedAccess.{LoggedAccess}
+use Rattle.sim_core.specs.{AccessLog.log_of, declared.access_log.LoggedAccess.LoggedAccess}
 use Rattle.stall_text.specs.Polls.{is_of}
-use Rattle.depth_order.specs.Depths.{AsksNothing}
-use Rattle.depth_order.specs.declared.link.Link.{Link}
+use Rattle.depth_order.specs.{Depths.AsksNothing, declared.link.Link.Link}
 use Rattle.depth_order.specs.Chain.{span_start, stood_at, goes_on, chain, first_mover, chain_from, path}
 use Rattle.depth_order.proofs.Order.{no_queries}
-use Rattle.path_text.specs.declared.walk.At.{At}
-use Rattle.path_text.specs.declared.link.PolledLink.{PolledLink}
-use Rattle.path_text.specs.Walks.{before_link, link_at}
+use Rattle.path_text.specs.{declared.walk.At.At, declared.link.PolledLink.PolledLink, Walks.before_link, Walks.link_at}
 use Rattle.path_text.specs.Polls.{before_polled, clock_of, ends_poll, going_on, last_move, last_poll, latest, link_by, links_in, move_by}
 use Rattle.path_text.specs.Polls.{polled_chain, polled_from, polled_path, polls_in, seeks}
-use Rattle.path_text.proofs.Latest.{all_filter, none}
-use Rattle.path_text.proofs.Logged.{all_logged}
+use Rattle.path_text.proofs.{Latest.all_filter, Latest.none, Logged.all_logged}
 
 -- no link ends a poll
 abbrev pub NothingPolled : Plan → List LoggedAccess → Type 0

@@ -1,12 +1,9 @@
 -- Lines that grow.
-use Rattle.std.proofs.Common.{◌≡◌, ℕ, zero, suc, ◌+◌, ◌<◌, List, ◌∷◌, ◌++◌, refl, sym, ap, ap₂, ◌∙◌, arith, length}
-use Rattle.std.proofs.Common.{append_assoc}
+use Rattle.std.proofs.Common.{◌≡◌, ℕ, zero, suc, ◌+◌, ◌<◌, List, ◌∷◌, ◌++◌, refl, sym, ap, ap₂, ◌∙◌, arith, length, append_assoc}
 use Rattle.std.specs.List.{flat_map, range_with_len}
-use Rattle.flow_word.specs.declared.access.Side.{Side}
-use Rattle.flow_word.specs.declared.access.Side.TheVariants.{Pop, Push}
+use Rattle.flow_word.specs.{declared.access.Side.Side, declared.access.Side.TheVariants.Pop, declared.access.Side.TheVariants.Push}
 use Rattle.flow_design.specs.declared.design.Design.{Design}
-use Rattle.report_text.specs.Lines.{Token, line, text_of_lines}
-use Rattle.report_text.specs.ReportText.{module_name, channel_name}
+use Rattle.report_text.specs.{Lines.Token, Lines.line, Lines.text_of_lines, ReportText.module_name, ReportText.channel_name}
 use Rattle.path_text.specs.PathText.{spend_lines, cross_lines, poll_lines, lines_at, module_lines, channel_lines}
 use Rattle.report_text.proofs.LineLemmas.{text-append}
 

@@ -1,22 +1,18 @@
 -- Searches in lists in order of time.
-use Rattle.std.proofs.Common.{◌≡◌, ◌⊎◌, ℕ, zero, suc, ◌+◌, ◌<◌, ◌≤◌, List, [], ◌∷◌, length, take, drop, get_or, arith, inl, inr, Bool, true, false}
-use Rattle.std.proofs.Common.{◌||◌, ◌&&◌, ltb, leb, refl, sym, ◌∙◌, ap, subst, Option, Some, None}
-use Rattle.std.specs.Prelude.{AllPairs}
-use Rattle.std.specs.List.{filter, AllByRecursion}
+use Rattle.std.proofs.Common.{◌≡◌, ◌⊎◌, ℕ, zero, suc, ◌+◌, ◌<◌, ◌≤◌, List, [], ◌∷◌, length, take, drop, get_or, arith, inl, inr, Bool, true}
+use Rattle.std.proofs.Common.{false, ◌||◌, ◌&&◌, ltb, leb, refl, sym, ◌∙◌, ap, subst, Option, Some, None}
 use Rattle.std.proofs.lemmas.Bool.{cases_lt, cases_eq, and_parts, leb-true, ltb-true, lt-leb}
-use Rattle.std.proofs.lemmas.List.{take-append-drop}
+use Rattle.std.proofs.lemmas.List.{take-append-drop, get_or_default}
+use Rattle.std.specs.{Prelude.AllPairs, List.filter, List.AllByRecursion}
 use Rattle.port_clocks.specs.Leads.{before}
 use Rattle.port_clocks.proofs.Counts.{before_above, before_below, before_most}
-use Rattle.std.proofs.lemmas.List.{get_or_default}
 use Rattle.stall_spans.specs.declared.span.Span.{Span}
 use Rattle.flow_word.specs.declared.access.Kind.TheVariants.{Read}
 use Rattle.sim_core.specs.declared.access_log.LoggedAccess.{LoggedAccess}
 use Rattle.stall_text.specs.Polls.{is_of}
 use Rattle.depth_order.specs.declared.link.Link.{Link}
-use Rattle.path_text.specs.declared.finds.Find.{Find}
-use Rattle.path_text.specs.Polls.{latest}
+use Rattle.path_text.specs.{declared.finds.Find.Find, Polls.latest, Walks.AreSorted}
 use Rattle.path_text.specs.Finds.{AreInOrder, find_clock, is_ahead, is_before, is_within}
-use Rattle.path_text.specs.Walks.{AreSorted}
 use Rattle.path_text.proofs.Latest.{IsSooner, ahead, none}
 
 -- ---- the span that has a clock

@@ -1,21 +1,16 @@
 -- A link of the chain, by the spans of its module.
 use Rattle.std.proofs.Common.{◌≡◌, ℕ, zero, suc, ◌+◌, ◌-◌, ◌<◌, ◌≤◌, true, false, Option, Some, None, List, get_or, refl, sym, ◌∙◌, ap}
 use Rattle.std.proofs.Common.{subst, arith, inl, inr}
-use Rattle.std.proofs.lemmas.Bool.{cases_Bool}
-use Rattle.std.proofs.lemmas.List.Elements.{Contains-get_or}
+use Rattle.std.proofs.{lemmas.Bool.cases_Bool, lemmas.List.Elements.Contains-get_or}
 use Rattle.flow_word.specs.declared.access.Port.{Port}
 use Rattle.flow_design.specs.declared.plan.Plan.{Plan}
-use Rattle.stall_spans.specs.declared.span.Doing.{Doing}
+use Rattle.stall_spans.specs.{declared.span.Doing.Doing, declared.span.Span.Span, Doings.doing, Spans.IsSpan, Spans.AreSpansBelow}
 use Rattle.stall_spans.specs.declared.span.Doing.TheVariants.{Moves, Still}
-use Rattle.stall_spans.specs.declared.span.Span.{Span}
-use Rattle.stall_spans.specs.Doings.{doing}
-use Rattle.stall_spans.specs.Spans.{IsSpan, AreSpansBelow}
 use Rattle.stall_spans.proofs.Extending.{some_same}
 use Rattle.depth_order.specs.Chain.{moves_at, span_start, stood_at}
 use Rattle.depth_order.proofs.Chained.{IsStill, starts, start_more, start_new, start_0}
 use Rattle.path_text.specs.Walks.{AreSorted, IsWith, StoodBefore, link_at, port_of}
-use Rattle.path_text.proofs.Doings.{doing_moves, moves_doing, doing_stands, still_before}
-use Rattle.path_text.proofs.Covered.{covered}
+use Rattle.path_text.proofs.{Doings.doing_moves, Doings.moves_doing, Doings.doing_stands, Doings.still_before, Covered.covered}
 
 pub spans_sorted : (p : Plan) (m end : ℕ) (spans : List Span) → AreSpansBelow p m end spans → AreSorted spans
 spans_sorted p m end spans a = record {

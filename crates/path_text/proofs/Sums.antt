@@ -1,32 +1,24 @@
 -- The numbers of the text add up to the clocks of the chain.
-use Rattle.std.proofs.Common.{◌≡◌, ◌≢◌, ℕ, zero, suc, ◌+◌, ◌-◌, ◌*◌, ◌<◌, Bool, true, false, cond, Option, Some, None, List, [], ◌∷◌, length}
-use Rattle.std.proofs.Common.{◌≤◌, refl, sym, ap, ◌∙◌, arith, ◌⊎◌, inl, inr}
-use Rattle.std.specs.Prelude.{sum_by, IfSome}
-use Rattle.std.specs.List.{AllByRecursion, range_with_len}
-use Rattle.std.proofs.lemmas.Bool.{cases_lt, eq-eqb, ne_eqb}
-use Rattle.std.proofs.lemmas.List.Elements.{recursion_from_All}
+use Rattle.std.proofs.Common.{◌≡◌, ◌≢◌, ℕ, zero, suc, ◌+◌, ◌-◌, ◌*◌, ◌<◌, Bool, true, false, cond, Option, Some, None, List, [], ◌∷◌}
+use Rattle.std.proofs.Common.{length, ◌≤◌, refl, sym, ap, ◌∙◌, arith, ◌⊎◌, inl, inr}
+use Rattle.std.proofs.{lemmas.Bool.cases_lt, lemmas.Bool.eq-eqb, lemmas.Bool.ne_eqb, lemmas.List.Elements.recursion_from_All}
 use Rattle.std.proofs.lemmas.List.Sums.{sum_by-cons, sum_by_push}
+use Rattle.std.specs.{Prelude.sum_by, Prelude.IfSome, List.AllByRecursion, List.range_with_len}
 use Rattle.flow_word.proofs.Ranges.{range_more}
-use Rattle.flow_word.specs.declared.access.Port.{Port}
-use Rattle.flow_word.specs.declared.access.Side.{Side}
+use Rattle.flow_word.specs.{declared.access.Port.Port, declared.access.Side.Side}
 use Rattle.flow_word.specs.declared.access.Side.TheVariants.{Pop, Push}
-use Rattle.flow_design.specs.declared.design.Design.{Design}
-use Rattle.flow_design.specs.declared.plan.Plan.{Plan}
-use Rattle.flow_design.specs.Plans.{delay_at}
-use Rattle.flow_design.specs.Reports.{clock_of}
+use Rattle.flow_design.specs.{declared.design.Design.Design, declared.plan.Plan.Plan, Plans.delay_at, Reports.clock_of}
 use Rattle.flow_design.specs.StaticRules.{FitsEngine, is_port}
 use Rattle.lockstep_defs.specs.Verdict.{verdict}
 use Rattle.timing_bridge.specs.Designs.{lag_in}
 use Rattle.depth_order.specs.declared.link.Link.{Link}
-use Rattle.path_text.specs.declared.link.Polled.{Polled}
-use Rattle.sim_core.specs.AccessLog.{log_of}
 use Rattle.depth_order.specs.Sums.{spent, clocks_across, under_way, chain_clocks, IsEnd, MovesLast, NoneMoves}
-use Rattle.depth_order.proofs.Adds.{whole_chain, chain_to, no_chain}
+use Rattle.path_text.specs.{declared.link.Polled.Polled, PathText.told_links, PathText.told_polls}
 use Rattle.path_text.specs.Counts.{clocks_of, clocks_at, clocks_in, clocks_waited, crossings, waiting, waiting_at, IsLinkOf, IsPollOf}
-use Rattle.path_text.specs.PathText.{told_links, told_polls}
 use Rattle.path_text.specs.Sums.{spent_clocks, crossed_clocks, told_clocks}
-use Rattle.path_text.proofs.Told.{told_links_are, told_polls_are}
-use Rattle.path_text.proofs.Totals.{chain_total, polled_total}
+use Rattle.sim_core.specs.AccessLog.{log_of}
+use Rattle.depth_order.proofs.Adds.{whole_chain, chain_to, no_chain}
+use Rattle.path_text.proofs.{Told.told_links_are, Told.told_polls_are, Totals.chain_total, Totals.polled_total}
 
 -- ---- sums over the first numbers
 

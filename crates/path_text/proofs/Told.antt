@@ -1,21 +1,15 @@
 -- What a walk finds is what the text tells.
 use Rattle.std.proofs.Common.{◌≡◌, ◌≤◌, Bool, true, false, cond, List, [], refl, ap, subst, ◌∙◌, inl, inr}
 use Rattle.std.specs.Prelude.{sum_by}
-use Rattle.flow_design.specs.declared.plan.Plan.{Plan}
-use Rattle.flow_design.specs.Reports.{clock_of}
-use Rattle.flow_design.specs.StaticRules.{FitsEngine}
+use Rattle.flow_design.specs.{declared.plan.Plan.Plan, Reports.clock_of, StaticRules.FitsEngine}
 use Rattle.lockstep_defs.specs.Verdict.{verdict}
-use Rattle.sim_core.specs.AccessLog.{log_of}
-use Rattle.sim_core.specs.declared.access_log.LoggedAccess.{LoggedAccess}
-use Rattle.depth_order.specs.Depths.{AsksNothing}
-use Rattle.depth_order.specs.declared.link.Link.{Link}
-use Rattle.path_text.specs.declared.link.Polled.{Polled}
-use Rattle.path_text.specs.Polls.{AreAccesses, links_in, polled_path, polls_in}
-use Rattle.report_text.specs.Lines.{text_of_lines}
+use Rattle.sim_core.specs.{AccessLog.log_of, declared.access_log.LoggedAccess.LoggedAccess}
+use Rattle.depth_order.specs.{Depths.AsksNothing, declared.link.Link.Link}
+use Rattle.path_text.specs.{declared.link.Polled.Polled, Polls.AreAccesses, Polls.links_in, Polls.polled_path, Polls.polls_in}
 use Rattle.path_text.specs.Counts.{clocks_of, waiting, AreLinksOf, ArePollsOf}
 use Rattle.path_text.specs.PathText.{path_lines, path_text, told_links, told_polls}
-use Rattle.path_text.proofs.Links.{path_polls, polled_few, polled_links}
-use Rattle.path_text.proofs.Plain.{no_accesses, plain_path, quiet_path}
+use Rattle.report_text.specs.Lines.{text_of_lines}
+use Rattle.path_text.proofs.{Links.path_polls, Links.polled_few, Links.polled_links, Plain.no_accesses, Plain.plain_path, Plain.quiet_path}
 
 -- the log that a walk gets
 pub told_log : (p : Plan) (polls : Bool) (log : List LoggedAccess) → log ≡ cond polls (log_of p) [] → AreAccesses p log

@@ -1,29 +1,22 @@
 -- The clocks of a chain that follows polls are as many as those of one that does not.
-use Rattle.std.proofs.Common.{◌≡◌, ℕ, zero, suc, ◌+◌, ◌-◌, ◌<◌, ◌≤◌, true, List, ◌∷◌, ◌++◌, length, refl, sym, ◌∙◌, ap, arith}
-use Rattle.std.proofs.Common.{inl, inr, Option, Some, None}
-use Rattle.std.specs.Prelude.{sum_by}
-use Rattle.std.specs.List.{range_with_len}
+use Rattle.std.proofs.Common.{◌≡◌, ℕ, zero, suc, ◌+◌, ◌-◌, ◌<◌, ◌≤◌, true, List, ◌∷◌, ◌++◌, length, refl, sym, ◌∙◌, ap, arith, inl, inr}
+use Rattle.std.proofs.Common.{Option, Some, None}
 use Rattle.std.proofs.lemmas.List.Sums.{sum_by-cons}
+use Rattle.std.specs.{Prelude.sum_by, List.range_with_len}
 use Rattle.flow_word.specs.Kinds.{other_side}
-use Rattle.flow_design.specs.declared.plan.Plan.{Plan}
-use Rattle.flow_design.specs.StaticRules.{FitsEngine}
+use Rattle.flow_design.specs.{declared.plan.Plan.Plan, StaticRules.FitsEngine}
 use Rattle.lockstep_defs.specs.Ports.{owner}
 use Rattle.timing_bridge.specs.Designs.{lag_in}
 use Rattle.sim_core.specs.declared.access_log.LoggedAccess.{LoggedAccess}
-use Rattle.depth_order.specs.declared.link.Link.{Link}
+use Rattle.depth_order.specs.{declared.link.Link.Link, Sums.spent, Sums.clocks_across, Sums.under_way, Sums.chain_clocks}
 use Rattle.depth_order.specs.Chain.{moves_at, span_start, stood_at, goes_on, chain, first_mover, chain_from, path}
-use Rattle.depth_order.specs.Sums.{spent, clocks_across, under_way, chain_clocks}
-use Rattle.depth_order.proofs.Chained.{starts, chain_more, found_true}
-use Rattle.depth_order.proofs.Adds.{adds_up}
-use Rattle.path_text.specs.declared.walk.At.{At}
-use Rattle.path_text.specs.declared.link.Polled.{Polled}
-use Rattle.path_text.specs.declared.link.PolledLink.{PolledLink}
+use Rattle.depth_order.proofs.{Chained.starts, Chained.chain_more, Chained.found_true, Adds.adds_up}
+use Rattle.path_text.specs.{declared.walk.At.At, declared.link.Polled.Polled, declared.link.PolledLink.PolledLink, Counts.waiting}
 use Rattle.path_text.specs.Walks.{before_link, link_at, MovesBefore}
 use Rattle.path_text.specs.Polls.{AreAccesses, before_polled, going_on, if_some, last_move, last_poll, link_by, links_in, move_by}
 use Rattle.path_text.specs.Polls.{polled_chain, polled_from, polled_link, polled_path, polls_in}
 use Rattle.path_text.proofs.Chains.{crossed_at}
 use Rattle.path_text.proofs.Followed.{last_moves, left, next_polled, poll_is, polled_more}
-use Rattle.path_text.specs.Counts.{waiting}
 
 -- ---- one link
 

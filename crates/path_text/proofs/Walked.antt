@@ -2,18 +2,12 @@
 use Rattle.std.proofs.Common.{◌≡◌, ◌∙◌, sym, ap, subst, arith, ℕ, ◌<◌, true, ◌++◌, [], List, length, get_or, Option, Some, None}
 use Rattle.std.proofs.lemmas.List.{get_or_default}
 use Rattle.flow_design.specs.declared.plan.Plan.{Plan}
-use Rattle.stall_spans.specs.declared.span.Span.{Span}
-use Rattle.stall_spans.specs.Spans.{AreSpansBelow}
-use Rattle.depth_order.specs.declared.link.Link.{Link}
-use Rattle.depth_order.specs.Chain.{moves_at}
-use Rattle.path_text.specs.declared.walk.At.{At}
+use Rattle.stall_spans.specs.{declared.span.Span.Span, Spans.AreSpansBelow}
+use Rattle.depth_order.specs.{declared.link.Link.Link, Chain.moves_at}
+use Rattle.path_text.specs.{declared.walk.At.At, declared.link.Polled.Polled, Polls.links_in, Polls.polled_from, Polls.polls_in}
 use Rattle.path_text.specs.Walks.{HasSpans, IsLastMove, MovesBefore}
-use Rattle.path_text.specs.declared.link.Polled.{Polled}
-use Rattle.path_text.specs.Polls.{links_in, polled_from, polls_in}
 use Rattle.sim_core.specs.declared.access_log.LoggedAccess.{LoggedAccess}
-use Rattle.path_text.proofs.Doings.{mover_inside}
-use Rattle.path_text.proofs.Last.{last_is}
-use Rattle.path_text.proofs.Followed.{IsWalk}
+use Rattle.path_text.proofs.{Doings.mover_inside, Last.last_is, Followed.IsWalk}
 
 -- the spans of a module that moves
 pub spans_at : (p : Plan) (end : ℕ) (at : At) (spans : List (List Span)) (found slice : List Span) → moves_at p at.clock at.module ≡ true

@@ -1,18 +1,11 @@
 -- The whole text.
 use Rattle.std.proofs.Common.{◌≡◌, ℕ, ◌+◌, ◌<◌, ◌^◌, false, List, [], ◌∷◌, ◌++◌, sym, ap, subst, ◌∙◌, arith, length, get_or, inl, inr, Bool}
+use Rattle.std.proofs.{lemmas.Bool.cases_lt, lemmas.List.get_or_append_left, Math.Seq.get_or-append_seam}
 use Rattle.std.specs.Prelude.{codes, All}
-use Rattle.std.proofs.lemmas.Bool.{cases_lt}
-use Rattle.std.proofs.lemmas.List.{get_or_append_left}
-use Rattle.std.proofs.Math.Seq.{get_or-append_seam}
-use Rattle.flow_design.specs.declared.design.Design.{Design}
-use Rattle.flow_design.specs.declared.plan.Plan.{Plan}
-use Rattle.flow_design.specs.declared.report.Report.{Report}
-use Rattle.flow_design.specs.StaticRules.{FitsEngine}
-use Rattle.lockstep_defs.specs.Report.{report}
-use Rattle.lockstep_defs.specs.Verdict.{verdict}
+use Rattle.flow_design.specs.{declared.design.Design.Design, declared.plan.Plan.Plan, declared.report.Report.Report, StaticRules.FitsEngine}
+use Rattle.lockstep_defs.specs.{Report.report, Verdict.verdict}
 use Rattle.engine_report.specs.Finished.{report_with}
-use Rattle.stall_spans.specs.declared.span.Span.{Span}
-use Rattle.stall_spans.specs.Spans.{AreSpansBelow}
+use Rattle.stall_spans.specs.{declared.span.Span.Span, Spans.AreSpansBelow}
 use Rattle.report_text.specs.Lines.{line, text_of_lines, verdict_tokens}
 use Rattle.depth_order.specs.declared.link.Link.{Link}
 use Rattle.path_text.specs.Counts.{AreLinksOf}

@@ -1,20 +1,13 @@
 -- The text on what decides the latency.
 use Rattle.std.specs.Prelude.{ℕ, ◌==◌, Bool, true, false, if◌then◌else◌, List, [], ◌∷◌, ◌++◌, codes, decimal, length, map, reverse}
 use Rattle.std.specs.List.{flat_map, range_with_len}
-use Rattle.flow_word.specs.declared.access.Side.{Side}
-use Rattle.flow_word.specs.declared.access.Side.TheVariants.{Pop, Push}
-use Rattle.flow_design.specs.declared.design.Design.{Design}
-use Rattle.flow_design.specs.declared.plan.Plan.{Plan}
-use Rattle.flow_design.specs.declared.report.Verdict.{Verdict}
+use Rattle.flow_word.specs.{declared.access.Side.Side, declared.access.Side.TheVariants.Pop, declared.access.Side.TheVariants.Push}
+use Rattle.flow_design.specs.{declared.design.Design.Design, declared.plan.Plan.Plan, declared.report.Verdict.Verdict, Reports.clock_of}
 use Rattle.lockstep_defs.specs.Verdict.{verdict}
-use Rattle.flow_design.specs.Reports.{clock_of}
-use Rattle.report_text.specs.Lines.{Token, text_of_lines, verdict_tokens}
-use Rattle.report_text.specs.ReportText.{module_name, channel_name}
-use Rattle.depth_order.specs.declared.link.Link.{Link}
-use Rattle.depth_order.specs.Chain.{path}
+use Rattle.report_text.specs.{Lines.Token, Lines.text_of_lines, Lines.verdict_tokens, ReportText.module_name, ReportText.channel_name}
+use Rattle.depth_order.specs.{declared.link.Link.Link, Chain.path}
 use Rattle.sim_core.specs.AccessLog.{log_of}
-use Rattle.path_text.specs.declared.link.Polled.{Polled}
-use Rattle.path_text.specs.Polls.{polled_path, links_in, polls_in}
+use Rattle.path_text.specs.{declared.link.Polled.Polled, Polls.polled_path, Polls.links_in, Polls.polls_in}
 use Rattle.path_text.specs.Counts.{clocks_in, clocks_waited, crossings, times_polled}
 
 -- the line `spend M N` for N clocks that the chain spends in the module M, if N is not 0

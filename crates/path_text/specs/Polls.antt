@@ -1,25 +1,17 @@
 -- What a module polls for, and the chain that goes back to where that was pushed.
-use Rattle.std.specs.Prelude.{◌<◌, ◌≡◌, ℕ, zero, suc, nat_le, nat_lt, Bool, true, false, not, ◌&&◌, ◌⊎◌, if◌then◌else◌}
-use Rattle.std.specs.Prelude.{Option, Some, None, List, [], ◌∷◌, ◌++◌, filter, map, slice_index}
+use Rattle.std.specs.Prelude.{◌<◌, ◌≡◌, ℕ, zero, suc, nat_le, nat_lt, Bool, true, false, not, ◌&&◌, ◌⊎◌, if◌then◌else◌, Option, Some, None}
+use Rattle.std.specs.Prelude.{List, [], ◌∷◌, ◌++◌, filter, map, slice_index}
 use Rattle.std.specs.List.{list_any}
-use Rattle.flow_word.specs.declared.access.Kind.{Kind}
-use Rattle.flow_word.specs.declared.access.Kind.TheVariants.{TryRead, Empty}
-use Rattle.flow_word.specs.declared.access.Side.{Side}
-use Rattle.flow_word.specs.declared.access.Side.TheVariants.{Pop, Push}
-use Rattle.flow_design.specs.declared.plan.Plan.{Plan}
-use Rattle.flow_design.specs.Plans.{is_fifo, kind_at}
+use Rattle.flow_word.specs.{declared.access.Kind.Kind, declared.access.Kind.TheVariants.TryRead, declared.access.Kind.TheVariants.Empty}
+use Rattle.flow_word.specs.{declared.access.Side.Side, declared.access.Side.TheVariants.Pop, declared.access.Side.TheVariants.Push}
+use Rattle.flow_design.specs.{declared.plan.Plan.Plan, Plans.is_fifo, Plans.kind_at}
 use Rattle.lockstep_defs.specs.Ports.{owner}
 use Rattle.port_clocks.specs.Leads.{before}
-use Rattle.sim_core.specs.AccessLog.{log_of}
-use Rattle.sim_core.specs.declared.access_log.LoggedAccess.{LoggedAccess}
-use Rattle.stall_text.specs.Polls.{asks, is_missed, is_of}
-use Rattle.stall_text.specs.Stalls.{clocks_of, moved_at}
-use Rattle.depth_order.specs.declared.link.Link.{Link}
-use Rattle.depth_order.specs.Chain.{first_mover}
-use Rattle.path_text.specs.declared.walk.At.{At}
-use Rattle.path_text.specs.declared.link.Polled.{Polled}
+use Rattle.sim_core.specs.{AccessLog.log_of, declared.access_log.LoggedAccess.LoggedAccess}
+use Rattle.stall_text.specs.{Polls.asks, Polls.is_missed, Polls.is_of, Stalls.clocks_of, Stalls.moved_at}
+use Rattle.depth_order.specs.{declared.link.Link.Link, Chain.first_mover}
+use Rattle.path_text.specs.{declared.walk.At.At, declared.link.Polled.Polled, Walks.before_link, Walks.link_at}
 use Rattle.path_text.specs.declared.link.PolledLink.{PolledLink}
-use Rattle.path_text.specs.Walks.{before_link, link_at}
 
 -- ---- queries that found what was polled for
 

@@ -1,11 +1,8 @@
 -- What the numbers of the text add up to.
-use Rattle.std.specs.Prelude.{ℕ, ◌+◌, ◌*◌, ◌-◌, Bool, length, sum_by}
-use Rattle.std.specs.List.{range_with_len}
+use Rattle.std.specs.{Prelude.ℕ, Prelude.◌+◌, Prelude.◌*◌, Prelude.◌-◌, Prelude.Bool, Prelude.length, Prelude.sum_by, List.range_with_len}
 use Rattle.flow_word.specs.declared.access.Side.TheVariants.{Pop}
-use Rattle.flow_design.specs.declared.plan.Plan.{Plan}
-use Rattle.flow_design.specs.Plans.{delay_at}
-use Rattle.path_text.specs.Counts.{clocks_in, clocks_waited, crossings}
-use Rattle.path_text.specs.PathText.{told_links, told_polls}
+use Rattle.flow_design.specs.{declared.plan.Plan.Plan, Plans.delay_at}
+use Rattle.path_text.specs.{Counts.clocks_in, Counts.clocks_waited, Counts.crossings, PathText.told_links, PathText.told_polls}
 
 -- the clocks of all lines `spend M N`
 abbrev pub spent_clocks : Bool → Plan → ℕ

@@ -1,17 +1,13 @@
 -- The chain without polls, link by link, and how spans tell it.
-use Rattle.std.specs.Prelude.{◌≡◌, ⊤, ℕ, zero, suc, ◌-◌, ◌<◌, ◌≤◌, true, false, nat_le, if◌then◌else◌, Option, Some, None, option_map}
-use Rattle.std.specs.Prelude.{List, [], All, AllPairs, Contains, fold, length, slice_index_or}
-use Rattle.flow_word.specs.declared.access.Port.{Port}
-use Rattle.flow_word.specs.Kinds.{other_side}
+use Rattle.std.specs.Prelude.{◌≡◌, ⊤, ℕ, zero, suc, ◌-◌, ◌<◌, ◌≤◌, true, false, nat_le, if◌then◌else◌, Option, Some, None, option_map, List}
+use Rattle.std.specs.Prelude.{[], All, AllPairs, Contains, fold, length, slice_index_or}
+use Rattle.flow_word.specs.{declared.access.Port.Port, Kinds.other_side}
 use Rattle.flow_design.specs.declared.plan.Plan.{Plan}
 use Rattle.lockstep_defs.specs.Ports.{owner}
 use Rattle.timing_bridge.specs.Designs.{lag_in}
-use Rattle.stall_spans.specs.declared.span.Doing.{Doing}
+use Rattle.stall_spans.specs.{declared.span.Doing.Doing, declared.span.Span.Span, Spans.IsBefore, Spans.AreSpansBelow}
 use Rattle.stall_spans.specs.declared.span.Doing.TheVariants.{Moves, Still}
-use Rattle.stall_spans.specs.declared.span.Span.{Span}
-use Rattle.stall_spans.specs.Spans.{IsBefore, AreSpansBelow}
-use Rattle.depth_order.specs.declared.link.Link.{Link}
-use Rattle.depth_order.specs.Chain.{moves_at, span_start, stood_at}
+use Rattle.depth_order.specs.{declared.link.Link.Link, Chain.moves_at, Chain.span_start, Chain.stood_at}
 use Rattle.path_text.specs.declared.walk.At.{At}
 
 -- ---- links

@@ -1,7 +1,6 @@
 //! The law of the chain that follows polls.
 ghost use Rattle.std.specs.Prelude.{ℕ, AllPairs};
-ghost use Rattle.flow_design.specs.declared.plan.Plan.{Plan};
-ghost use Rattle.flow_design.specs.StaticRules.{FitsEngine};
+ghost use Rattle.flow_design.specs.{declared.plan.Plan.Plan, StaticRules.FitsEngine};
 ghost use Rattle.sim_core.specs.AccessLog.{log_of};
 ghost use Rattle.path_text.specs.Polls.{EndsEarlier, links_in, polled_path};
 

@@ -1,13 +1,9 @@
 //! The laws of the text on the latency.
 ghost use Rattle.std.specs.Prelude.{◌≡◌, ℕ, suc, ◌+◌, Bool, true, false};
-ghost use Rattle.flow_design.specs.declared.plan.Plan.{Plan};
-ghost use Rattle.flow_design.specs.Reports.{clock_of};
-ghost use Rattle.flow_design.specs.StaticRules.{FitsEngine};
+ghost use Rattle.flow_design.specs.{declared.plan.Plan.Plan, Reports.clock_of, StaticRules.FitsEngine};
 ghost use Rattle.lockstep_defs.specs.Verdict.{verdict};
-ghost use Rattle.depth_order.specs.Depths.{AsksNothing};
-ghost use Rattle.depth_order.specs.Sums.{IsEnd, MovesLast, NoneMoves};
-ghost use Rattle.path_text.specs.PathText.{path_text};
-ghost use Rattle.path_text.specs.Sums.{crossed_clocks, spent_clocks, told_clocks};
+ghost use Rattle.depth_order.specs.{Depths.AsksNothing, Sums.IsEnd, Sums.MovesLast, Sums.NoneMoves};
+ghost use Rattle.path_text.specs.{PathText.path_text, Sums.crossed_clocks, Sums.spent_clocks, Sums.told_clocks};
 
 /// The text accounts for each clock up to the last one in which a module moves, whatever the verdict is. Three sums make up that
 /// clock plus one, or 0 where no module moves: the clocks of the lines `spend`; over the lines `cross empty`, the number of each

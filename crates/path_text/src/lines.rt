@@ -2,8 +2,8 @@
 ghost use Rattle.std.specs.Prelude.{◌≡◌, ◌<◌, ◌^◌, ◌++◌, length, slice_index, All, OnOk};
 ghost use Rattle.report_text.specs.Lines.{line, text_of_lines};
 ghost use Rattle.path_text.specs.Counts.{at_sides};
-ghost use Rattle.path_text.specs.PathText.{spend_lines, side_word as word_of, cross_lines};
-ghost use Rattle.path_text.specs.PathText.{module_lines, channel_lines, link_tokens, link_lines, poll_lines};
+ghost use Rattle.path_text.specs.PathText.{spend_lines, side_word as word_of, cross_lines, module_lines, channel_lines, link_tokens};
+ghost use Rattle.path_text.specs.PathText.{link_lines, poll_lines};
 
 use depth_order::Link;
 use flow_design::Design;

@@ -4,12 +4,10 @@ ghost use Rattle.lockstep_defs.specs.Verdict.{verdict as verdict_of};
 ghost use Rattle.flow_design.specs.Reports.{clock_of as clock_in};
 ghost use Rattle.event_timing.specs.Actions.{IsFinal};
 ghost use Rattle.timing_bridge.specs.Designs.{design as design_of};
-ghost use Rattle.sim_core.specs.Views.{theory_of};
-ghost use Rattle.path_text.specs.Walks.{HasSpans};
-ghost use Rattle.report_text.specs.Lines.{text_of_lines};
-ghost use Rattle.sim_core.specs.AccessLog.{log_of};
+ghost use Rattle.sim_core.specs.{Views.theory_of, AccessLog.log_of};
+ghost use Rattle.path_text.specs.{Walks.HasSpans, PathText.count_lines};
 ghost use Rattle.path_text.specs.Counts.{clocks_of, waiting, AreLinksOf, ArePollsOf};
-ghost use Rattle.path_text.specs.PathText.{count_lines};
+ghost use Rattle.report_text.specs.Lines.{text_of_lines};
 ghost use Rattle.path_text.specs.PathText as form;
 
 use crate::counts::{clocks_by_module, crossings_by_channel, polls_by_channel, waiting_by_channel};

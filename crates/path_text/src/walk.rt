@@ -1,17 +1,13 @@
 //! The walk back along the chain.
 ghost use Rattle.std.specs.Prelude.{◌≡◌, ℕ, ◌<◌, ◌≤◌, ◌++◌, filter, length, IfOk, IfSome, OnOk};
 ghost use Rattle.flow_word.specs.declared.access.Side.TheVariants as side;
-ghost use Rattle.flow_design.specs.declared.plan.Plan.{Plan};
-ghost use Rattle.flow_design.specs.Plans.{delay_of};
-ghost use Rattle.flow_design.specs.StaticRules.{FitsEngine};
+ghost use Rattle.flow_design.specs.{declared.plan.Plan.Plan, Plans.delay_of, StaticRules.FitsEngine, Reports.clock_of};
 ghost use Rattle.timing_bridge.specs.Designs.{lag_in};
 ghost use Rattle.lockstep_defs.specs.Verdict.{verdict};
-ghost use Rattle.flow_design.specs.Reports.{clock_of};
-ghost use Rattle.path_text.specs.Owners.{owners};
+ghost use Rattle.path_text.specs.{Owners.owners, Finds.AreInOrder, Finds.by_find, Finds.find_clock, Finds.is_within};
 ghost use Rattle.path_text.specs.Walks.{HasSpans, IsLastMove, before_link, with_module};
-ghost use Rattle.path_text.specs.Polls.{AreAccesses, before_polled as goes_on_at, from_query as begins_with, if_some};
-ghost use Rattle.path_text.specs.Polls.{latest as latest_of, links_in, polled_path, polls_in};
-ghost use Rattle.path_text.specs.Finds.{AreInOrder, by_find, find_clock, is_within};
+ghost use Rattle.path_text.specs.Polls.{AreAccesses, before_polled as goes_on_at, from_query as begins_with, if_some, latest as latest_of};
+ghost use Rattle.path_text.specs.Polls.{links_in, polled_path, polls_in};
 
 use crate::finds::{Find, finds};
 use crate::link::{Path, Polled, PolledLink};

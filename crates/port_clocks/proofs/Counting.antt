@@ -1,9 +1,8 @@
 -- Clocks by how many of them are before each clock.
 use Rattle.std.proofs.Common.{◌≡◌, ℕ, zero, suc, ◌<◌, ◌≤◌, List, length, get_or, ltb, arith, sym, ◌∙◌, inl, inr}
-use Rattle.std.specs.Prelude.{AllPairs}
 use Rattle.std.proofs.lemmas.Bool.{cases_lt, lt-ltb, ltb-true}
-use Rattle.std.proofs.lemmas.List.{get_or_default}
-use Rattle.std.proofs.lemmas.Grind.{same_number_lists}
+use Rattle.std.proofs.{lemmas.List.get_or_default, lemmas.Grind.same_number_lists}
+use Rattle.std.specs.Prelude.{AllPairs}
 use Rattle.port_clocks.specs.Leads.{before, AreClocks}
 use Rattle.port_clocks.proofs.Counts.{before_above, before_below, before_most}
 

@@ -1,13 +1,11 @@
 -- How many clocks of a list are before a clock, and in how many clocks of an interval a test holds.
 use Rattle.std.proofs.Common.{◌≡◌, ℕ, zero, suc, ◌+◌, ◌-◌, ◌<◌, ◌≤◌, List, [], ◌∷◌, refl, sym, ap, ap₂, ◌∙◌, arith, Bool, true, false, cond}
 use Rattle.std.proofs.Common.{length, get_or, max, min, ltb, leb, inl, inr, ◌⊎◌, add-one, zero-add, Option, slice_get}
-use Rattle.std.specs.Prelude.{AllPairs, option_map, unwrap_or}
-use Rattle.std.specs.List.{range_with_len, count_by, sum_by}
 use Rattle.std.proofs.lemmas.Bool.{cases_lt, lt-ltb, le-ltb, le-leb, lt-leb}
-use Rattle.std.proofs.lemmas.List.{map-id}
+use Rattle.std.proofs.{lemmas.List.map-id, lemmas.Option.slice_get-get_or, lemmas.Option.slice_get_past}
 use Rattle.std.proofs.lemmas.List.FromFn.{sum_by-map-range_with_len_more, length-range_with_len}
 use Rattle.std.proofs.lemmas.List.Sums.{sum_by-cons, count_by-le-length}
-use Rattle.std.proofs.lemmas.Option.{slice_get-get_or, slice_get_past}
+use Rattle.std.specs.{Prelude.AllPairs, Prelude.option_map, Prelude.unwrap_or, List.range_with_len, List.count_by, List.sum_by}
 use Rattle.port_clocks.specs.Leads.{before, is_ahead, ahead_clocks}
 
 abbrev pub Rises : List ℕ → Type 0

@@ -1,12 +1,9 @@
 -- By how many one list of clocks is ahead of another at most.
-use Rattle.std.proofs.Common.{◌≡◌, ℕ, zero, suc, ◌+◌, ◌-◌, ◌<◌, ◌≤◌, List, [], ◌∷◌, refl, sym, ap, ◌∙◌, arith, true, false}
-use Rattle.std.proofs.Common.{map, length, get_or, max, ltb, inl, inr, Option, slice_get, subst, add-one, zero-add}
-use Rattle.std.specs.Prelude.{All, option_map, unwrap_or}
-use Rattle.std.specs.List.{range_with_len, fold}
-use Rattle.std.proofs.lemmas.Bool.{cases_lt, ltb-true, ltb-false}
-use Rattle.std.proofs.lemmas.List.FromFn.{map-range_with_len_more}
-use Rattle.std.proofs.lemmas.List.Sums.{fold-append}
-use Rattle.std.proofs.lemmas.Option.{slice_get-get_or, slice_get_past}
+use Rattle.std.proofs.Common.{◌≡◌, ℕ, zero, suc, ◌+◌, ◌-◌, ◌<◌, ◌≤◌, List, [], ◌∷◌, refl, sym, ap, ◌∙◌, arith, true, false, map, length}
+use Rattle.std.proofs.Common.{get_or, max, ltb, inl, inr, Option, slice_get, subst, add-one, zero-add}
+use Rattle.std.proofs.{lemmas.Bool.cases_lt, lemmas.Bool.ltb-true, lemmas.Bool.ltb-false, lemmas.List.FromFn.map-range_with_len_more}
+use Rattle.std.proofs.{lemmas.List.Sums.fold-append, lemmas.Option.slice_get-get_or, lemmas.Option.slice_get_past}
+use Rattle.std.specs.{Prelude.All, Prelude.option_map, Prelude.unwrap_or, List.range_with_len, List.fold}
 use Rattle.port_clocks.specs.Leads.{before, most_ahead}
 use Rattle.port_clocks.proofs.Counts.{Rises, before_above, before_below, before_most, before_later}
 

@@ -1,40 +1,26 @@
 -- The cycles of the steps that use a port are the clocks in which elements pass it.
-use Rattle.std.proofs.Common.{◌≡◌, ℕ, zero, suc, ◌<◌, ◌≤◌, List, [], length, true, get_or, ltb, slice_get, Option, Some, None, arith}
-use Rattle.std.proofs.Common.{refl, sym, ◌∙◌, ap, ap₂, subst, inl, inr}
-use Rattle.std.specs.Prelude.{Bool, false, ◌==◌, option_and_then, option_map, unwrap_or}
+use Rattle.std.proofs.Common.{◌≡◌, ℕ, zero, suc, ◌<◌, ◌≤◌, List, [], length, true, get_or, ltb, slice_get, Option, Some, None, arith, refl}
+use Rattle.std.proofs.Common.{sym, ◌∙◌, ap, ap₂, subst, inl, inr}
 use Rattle.std.proofs.lemmas.Bool.{cases_lt, eq-eqb, eqb-true, le-ltb, lt-ltb, ltb-true}
 use Rattle.std.proofs.lemmas.Option.{get_or_from_slice_get, slice_get_cases, slice_get-get_or, slice_get_within}
-use Rattle.flow_word.specs.declared.access.Place.{Place}
-use Rattle.flow_word.specs.declared.access.Port.{Port}
-use Rattle.flow_word.specs.declared.access.Side.{Side}
-use Rattle.flow_design.specs.declared.plan.Plan.{Plan}
-use Rattle.flow_design.specs.declared.state.Advance.{Advance}
-use Rattle.flow_design.specs.declared.state.ModuleState.{ModuleState}
-use Rattle.lockstep_defs.specs.Channels.{HistoryStep, moved}
-use Rattle.lockstep_defs.specs.Ports.{owner}
+use Rattle.std.specs.Prelude.{Bool, false, ◌==◌, option_and_then, option_map, unwrap_or}
+use Rattle.flow_word.specs.{declared.access.Place.Place, declared.access.Port.Port, declared.access.Side.Side}
+use Rattle.flow_design.specs.{declared.plan.Plan.Plan, declared.state.Advance.Advance, declared.state.ModuleState.ModuleState}
+use Rattle.lockstep_defs.specs.{Channels.HistoryStep, Channels.moved, Ports.owner}
 use Rattle.fifo_fills.specs.Fills.{last_clock, moved_before}
 use Rattle.fifo_fills.proofs.Ending.{last_within}
 use Rattle.event_graph.specs.Lanes.{Lane, lane_at, cycle_of}
 use Rattle.fifo_table.specs.Channels.{Channel, channel_at, first_module, places_of}
-use Rattle.event_timing.specs.Machines.{IsDesign}
-use Rattle.event_timing.specs.Histories.{Trace, IsHistory}
-use Rattle.event_timing.specs.Views.{tally}
+use Rattle.event_timing.specs.{Machines.IsDesign, Histories.Trace, Histories.IsHistory, Views.tally, Views.Agrees}
 use Rattle.event_timing.specs.Core.{Core, core_accesses, core_reply, core_tally, bare_replies, view}
-use Rattle.event_timing.specs.Views.{Agrees}
-use Rattle.event_timing.proofs.FinalReport.{done_limit}
-use Rattle.event_timing.proofs.Fronts.{agrees, core_tally_is}
-use Rattle.event_timing.proofs.OwnRuns.{tally_mono, taken_mono}
+use Rattle.event_timing.proofs.{FinalReport.done_limit, Fronts.agrees, Fronts.core_tally_is, OwnRuns.tally_mono, OwnRuns.taken_mono}
 use Rattle.event_timing.proofs.Threshold.{counted, taken_view}
 use Rattle.timing_bridge.specs.Designs.{design, lockstep_run}
-use Rattle.timing_bridge.proofs.History.{plan_is_design, run_is_history}
-use Rattle.timing_bridge.proofs.InOrder.{reported_history}
-use Rattle.engine_view.specs.Held.{Held, core_of}
-use Rattle.engine_view.specs.Shown.{IsTakenAt}
+use Rattle.timing_bridge.proofs.{History.plan_is_design, History.run_is_history, InOrder.reported_history}
+use Rattle.engine_view.specs.{Held.Held, Held.core_of, Shown.IsTakenAt}
 use Rattle.engine_report.specs.Finished.{IsFinished}
 use Rattle.port_clocks.proofs.Counting.{told_clocks, told_counts}
-use Rattle.port_clocks.specs.Clocks.{ArePortClocks}
-use Rattle.port_clocks.specs.Reading.{cycle_in, AreCycles}
-use Rattle.port_clocks.specs.Walks.{never, PassesAt}
+use Rattle.port_clocks.specs.{Clocks.ArePortClocks, Reading.cycle_in, Reading.AreCycles, Walks.never, Walks.PassesAt}
 
 -- ---- places and their cycles
 

@@ -1,21 +1,15 @@
 -- Where a walk over the clocks of a FIFO's ports stands, as it goes on.
-use Rattle.std.proofs.Common.{◌≡◌, ◌≢◌, ℕ, zero, suc, ◌+◌, ◌-◌, ◌<◌, ◌≤◌, List, length, arith, length-append}
-use Rattle.std.proofs.Common.{sym, ◌∙◌, ap, subst, inl, inr}
+use Rattle.std.proofs.Common.{◌≡◌, ◌≢◌, ℕ, zero, suc, ◌+◌, ◌-◌, ◌<◌, ◌≤◌, List, length, arith, length-append, sym, ◌∙◌, ap, subst, inl, inr}
 use Rattle.std.proofs.lemmas.Bool.{cases_lt, lt-ltb, ltb-true}
-use Rattle.flow_word.specs.declared.access.Port.{Port}
-use Rattle.flow_word.specs.declared.access.Side.{Side}
+use Rattle.flow_word.specs.{declared.access.Port.Port, declared.access.Side.Side}
 use Rattle.flow_word.specs.declared.access.Side.TheVariants.{Pop, Push}
-use Rattle.flow_design.specs.declared.plan.Plan.{Plan}
-use Rattle.flow_design.specs.StaticRules.{FitsEngine}
-use Rattle.lockstep_defs.specs.Channels.{HistoryStep, moved}
-use Rattle.lockstep_defs.specs.Lockstep.{history, state, steps_in}
+use Rattle.flow_design.specs.{declared.plan.Plan.Plan, StaticRules.FitsEngine}
+use Rattle.lockstep_defs.specs.{Channels.HistoryStep, Channels.moved, Lockstep.history, Lockstep.state, Lockstep.steps_in}
 use Rattle.lockstep_defs.proofs.Queue.{moved-nil, moved-append, moves_once}
-use Rattle.lockstep_defs.proofs.Rules.{keeps_ports}
-use Rattle.lockstep_defs.proofs.Settled.{history-zero, history-suc}
+use Rattle.lockstep_defs.proofs.{Rules.keeps_ports, Settled.history-zero, Settled.history-suc}
 use Rattle.fifo_fills.specs.Fills.{fill, last_clock, moved_before}
 use Rattle.fifo_fills.proofs.Counting.{counted}
-use Rattle.port_clocks.specs.declared.walk.PortWalk.{PortWalk}
-use Rattle.port_clocks.specs.declared.walk.FifoWalk.{FifoWalk}
+use Rattle.port_clocks.specs.{declared.walk.PortWalk.PortWalk, declared.walk.FifoWalk.FifoWalk}
 use Rattle.port_clocks.specs.Walks.{PassesAt, StandsAt, IsFifoWalk, next_of}
 
 -- ---- how many elements pass a port before a clock

@@ -1,12 +1,9 @@
 -- How far a walk over the clocks of a FIFO's ports is.
 use Rattle.std.specs.Prelude.{ℕ, ◌≡◌, ◌<◌, ◌≤◌, ◌^◌, ◌-◌, nat_lt, IsTrue, min, length}
-use Rattle.flow_word.specs.declared.access.Port.{Port}
-use Rattle.flow_word.specs.declared.access.Side.TheVariants.{Pop, Push}
-use Rattle.flow_design.specs.declared.plan.Plan.{Plan}
-use Rattle.flow_design.specs.Plans.{is_fifo, kind_at}
+use Rattle.flow_word.specs.{declared.access.Port.Port, declared.access.Side.TheVariants.Pop, declared.access.Side.TheVariants.Push}
+use Rattle.flow_design.specs.{declared.plan.Plan.Plan, Plans.is_fifo, Plans.kind_at}
 use Rattle.fifo_fills.specs.Fills.{last_clock, moved_before}
-use Rattle.port_clocks.specs.declared.walk.PortWalk.{PortWalk}
-use Rattle.port_clocks.specs.declared.walk.FifoWalk.{FifoWalk}
+use Rattle.port_clocks.specs.{declared.walk.PortWalk.PortWalk, declared.walk.FifoWalk.FifoWalk}
 
 -- a number that is later than each clock
 abbrev pub never : ℕ

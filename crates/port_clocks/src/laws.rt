@@ -1,13 +1,9 @@
 //! The law of a port's clocks.
 ghost use Rattle.std.specs.Prelude.{◌≡◌, ◌+◌, ◌<◌, ◌≤◌, ℕ, true, length, List as Items};
-ghost use Rattle.flow_word.specs.declared.access.Port.{Port};
-ghost use Rattle.flow_word.specs.declared.access.Side.TheVariants.{Pop, Push};
-ghost use Rattle.flow_design.specs.declared.plan.Plan.{Plan};
-ghost use Rattle.flow_design.specs.Plans.{is_fifo, kind_at};
-ghost use Rattle.flow_design.specs.StaticRules.{FitsEngine};
+ghost use Rattle.flow_word.specs.{declared.access.Port.Port, declared.access.Side.TheVariants.Pop, declared.access.Side.TheVariants.Push};
+ghost use Rattle.flow_design.specs.{declared.plan.Plan.Plan, Plans.is_fifo, Plans.kind_at, StaticRules.FitsEngine};
 ghost use Rattle.fifo_fills.specs.Fills.{fill, last_clock};
-ghost use Rattle.port_clocks.specs.Leads.{before};
-ghost use Rattle.port_clocks.specs.Clocks.{ArePortClocks};
+ghost use Rattle.port_clocks.specs.{Leads.before, Clocks.ArePortClocks};
 
 /// A port has exactly one list of clocks. In each clock up to the verdict's a FIFO holds as many elements as clocks of its pushes
 /// come before that clock, less the clocks of its pops.

@@ -1,9 +1,8 @@
 -- The verified outcomes of all logs stay prefixes.
 use Rattle.std.proofs.Common.{◌≡◌, refl, Bool, ℕ, ◌<◌, List, length, get_or, arith}
-use Rattle.std.specs.Prelude.{All}
-use Rattle.std.proofs.Math.ListN.{set}
+use Rattle.std.proofs.{Math.ListN.set, lemmas.List.Elements.All-set}
 use Rattle.std.proofs.lemmas.List.{map-set, get_or-map, length-map, length_push}
-use Rattle.std.proofs.lemmas.List.Elements.{All-set}
+use Rattle.std.specs.Prelude.{All}
 use Rattle.query_log.specs.declared.roomy.RoomyLog.{RoomyLog}
 use Rattle.query_log.specs.Logs.{Log, no_log, log_at, IsSoundLog, answered, log_of, logs_of}
 

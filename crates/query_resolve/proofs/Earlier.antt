@@ -1,8 +1,7 @@
 -- The first of the least cycles among the first candidates, one after the other.
 use Rattle.std.proofs.Common.{◌≡◌, ℕ, ◌<◌, ◌≤◌, List, Option, None, Some}
 use Rattle.std.specs.Prelude.{slice_get}
-use Rattle.event_graph.specs.declared.candidate.Candidate.{Candidate}
-use Rattle.event_graph.specs.declared.candidate.Candidate.TheVariants.{At}
+use Rattle.event_graph.specs.{declared.candidate.Candidate.Candidate, declared.candidate.Candidate.TheVariants.At}
 
 -- of the first i candidates this one is the first of the least
 pub record IsFirst (candidates : List Candidate) (i m cycle : ℕ) : Type 0 where

@@ -1,7 +1,6 @@
 -- What is decided of a query.
 use Rattle.std.specs.Prelude.{ℕ, ◌<◌, ◌≤◌, Bool, not}
-use Rattle.flow_word.specs.declared.access.Kind.{Kind}
-use Rattle.flow_word.specs.Kinds.{is_taking}
+use Rattle.flow_word.specs.{declared.access.Kind.Kind, Kinds.is_taking}
 use Rattle.time_engine.specs.declared.known.Known.{Known}
 use Rattle.time_engine.specs.declared.known.Known.TheVariants.{From, Never, Unknown}
 

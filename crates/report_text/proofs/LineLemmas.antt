@@ -1,13 +1,9 @@
 -- Lines and numbers one after another.
 use Rattle.std.proofs.Common.{◌≡◌, ℕ, ◌+◌, ◌<◌, List, [], ◌∷◌, ◌++◌, length, map, take, get_or, ap, sym, ◌≤◌, ◌∙◌, append-nil, length-take}
 use Rattle.std.proofs.Common.{append_assoc, take-take, arith}
-use Rattle.std.proofs.lemmas.Grind.{common_steps}
-use Rattle.std.specs.Fmt.{decimal}
-use Rattle.std.specs.List.{flat_map, join_with_byte, range_with_len}
-use Rattle.std.specs.Io.{StartsWith}
-use Rattle.std.proofs.Math.Seq.{take-append_seam}
+use Rattle.std.proofs.{lemmas.Grind.common_steps, Math.Seq.take-append_seam, lemmas.List.Concat.flat_map-append}
 use Rattle.std.proofs.lemmas.List.{map_more, take_more, flat_map_more}
-use Rattle.std.proofs.lemmas.List.Concat.{flat_map-append}
+use Rattle.std.specs.{Fmt.decimal, List.flat_map, List.join_with_byte, List.range_with_len, Io.StartsWith}
 use Rattle.flow_word.proofs.Ranges.{range_last}
 use Rattle.report_text.specs.Lines.{Token, line, text_of_lines, spaced}
 

@@ -1,13 +1,10 @@
 -- The lines of the outputs, channel after channel.
 use Rattle.std.proofs.Common.{◌≡◌, ℕ, ◌+◌, ◌<◌, ◌≤◌, ◌∙◌, ap, true, false, List, ◌∷◌, ◌++◌, length, drop, get_or, append_assoc, add-one}
 use Rattle.std.proofs.Common.{suc, length-take, arith}
+use Rattle.std.proofs.{lemmas.List.take-append-le, Math.Seq.drop-cons}
 use Rattle.std.specs.Io.{StartsWith}
-use Rattle.std.proofs.lemmas.List.{take-append-le}
-use Rattle.std.proofs.Math.Seq.{drop-cons}
-use Rattle.flow_design.specs.declared.design.Channel.{Channel}
-use Rattle.report_text.specs.Lines.{line, text_of_lines}
-use Rattle.flow_design.specs.Plans.{is_sink}
-use Rattle.report_text.specs.ReportText.{sink_names, output_lines, output_tokens}
+use Rattle.flow_design.specs.{declared.design.Channel.Channel, Plans.is_sink}
+use Rattle.report_text.specs.{Lines.line, Lines.text_of_lines, ReportText.sink_names, ReportText.output_lines, ReportText.output_tokens}
 
 -- what is printed, with what the channels and outputs from some places on give, is the whole
 pub record IsPrinting (first text : List ℕ) (channels : List Channel) (outputs : List (List ℕ)) (i at : ℕ) : Type 0 where

@@ -4,14 +4,9 @@ use Rattle.std.specs.Prelude.{if◌then◌else◌}
 use Rattle.std.specs.List.{zip}
 use Rattle.flow_word.specs.declared.access.Kind.{Kind}
 use Rattle.flow_word.specs.declared.access.Kind.TheVariants.{Read, Write, TryRead, TryWrite, Empty, Full}
-use Rattle.flow_design.specs.declared.design.Channel.{Channel}
-use Rattle.flow_design.specs.declared.design.Design.{Design}
-use Rattle.flow_design.specs.declared.report.Verdict.{Verdict}
+use Rattle.flow_design.specs.{declared.design.Channel.Channel, declared.design.Design.Design, declared.report.Verdict.Verdict}
+use Rattle.flow_design.specs.{declared.report.Held.Held, declared.report.EventLine.EventLine, declared.report.Report.Report, Plans.is_sink}
 use Rattle.flow_design.specs.declared.report.Verdict.TheVariants.{Done, Deadlock, Cycles, Ops}
-use Rattle.flow_design.specs.declared.report.Held.{Held}
-use Rattle.flow_design.specs.declared.report.EventLine.{EventLine}
-use Rattle.flow_design.specs.declared.report.Report.{Report}
-use Rattle.flow_design.specs.Plans.{is_sink}
 use Rattle.report_text.specs.Lines.{Token, text_of_lines, verdict_tokens}
 
 -- the names of the sinks, in order of declaration

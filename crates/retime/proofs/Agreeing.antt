@@ -1,23 +1,16 @@
 -- An edit of a final core that agrees with its history.
 use Rattle.std.proofs.Common.{◌≡◌, sym, ◌∙◌, ℕ, ◌≤◌, inl, inr, get_or, arith}
 use Rattle.std.proofs.lemmas.Option.{slice_get_within, get_or_from_slice_get}
-use Rattle.flow_word.specs.declared.access.Place.{Place}
-use Rattle.flow_word.specs.declared.access.Side.TheVariants.{Push}
+use Rattle.flow_word.specs.{declared.access.Place.Place, declared.access.Side.TheVariants.Push}
 use Rattle.flow_design.specs.declared.plan.Edit.{Edit}
 use Rattle.event_graph.specs.Lanes.{lane_at}
 use Rattle.fifo_table.specs.Channels.{channel_at, depth_of, places_of}
-use Rattle.event_timing.specs.Machines.{Design}
-use Rattle.event_timing.specs.Histories.{Trace, IsHistory}
-use Rattle.event_timing.specs.Core.{Core}
-use Rattle.event_timing.specs.Agreement.{IsAgreed}
+use Rattle.event_timing.specs.{Machines.Design, Histories.Trace, Histories.IsHistory, Core.Core, Agreement.IsAgreed}
 use Rattle.event_timing.specs.Edits.{edited, after_edit, IsUntouchedByCycles}
-use Rattle.event_timing.proofs.Editing.{edit_agrees}
-use Rattle.event_timing.proofs.Touched.{before_first, untouched}
+use Rattle.event_timing.proofs.{Editing.edit_agrees, Touched.before_first, Touched.untouched}
 use Rattle.engine_view.specs.Held.{Held, core_of}
-use Rattle.retime.specs.Touched.{IsFirstTouched}
-use Rattle.retime.specs.Edits.{IsFinalOf, IsEditFrom}
-use Rattle.retime.proofs.Filling.{clock_of, clock_within}
-use Rattle.retime.proofs.Tallied.{start_is, never_before, never_at_all}
+use Rattle.retime.specs.{Touched.IsFirstTouched, Edits.IsFinalOf, Edits.IsEditFrom}
+use Rattle.retime.proofs.{Filling.clock_of, Filling.clock_within, Tallied.start_is, Tallied.never_before, Tallied.never_at_all}
 
 module _ {S : Type 0} (d : Design S) (y : Trace S) (limit : ℕ) (h : Held) (f : IsFinalOf d y limit h) (edit : Edit) (t : ℕ)
     (e : IsEditFrom h.lanes h.channels edit limit t) where

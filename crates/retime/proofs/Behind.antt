@@ -1,26 +1,14 @@
 -- What is held after an edit agrees with the history of the edited design.
 use Rattle.std.proofs.Common.{ℕ, ◌<◌, Bool, List, length, arith}
-use Rattle.flow_design.specs.declared.state.ModuleState.{ModuleState}
-use Rattle.flow_design.specs.declared.plan.Edit.{Edit}
+use Rattle.flow_design.specs.{declared.state.ModuleState.ModuleState, declared.plan.Edit.Edit}
 use Rattle.query_log.specs.Logs.{log_at}
 use Rattle.outcome_guard.specs.declared.guard.Guard.{Guard}
 use Rattle.event_timing.specs.Machines.{Design, IsDesign}
-use Rattle.event_timing.specs.Histories.{Trace}
-use Rattle.event_timing.specs.Core.{Core}
-use Rattle.event_timing.specs.Edits.{edited, after_edit}
-use Rattle.event_timing.specs.Agreement.{IsAgreed}
-use Rattle.event_timing.proofs.Agreement.{all_agree}
-use Rattle.event_timing.proofs.Editing.{edit_design}
-use Rattle.engine_view.specs.Held.{core_of}
-use Rattle.engine_view.specs.declared.engine.Engine.{Engine}
-use Rattle.engine_view.specs.Engines.{held_in}
-use Rattle.engine_view.specs.Kept.{IsKept}
-use Rattle.retime.specs.Rounds.{LeadsAll}
-use Rattle.retime.specs.Edits.{IsEditOf, RecordGrows, OutcomesGrow}
-use Rattle.retime.proofs.Agreeing.{cut_agrees}
-use Rattle.retime.proofs.Counts.{same_steps}
-use Rattle.retime.proofs.Growing.{records_grow}
-use Rattle.retime.proofs.Outcomes.{outcomes_grow}
+use Rattle.event_timing.specs.{Histories.Trace, Core.Core, Edits.edited, Edits.after_edit, Agreement.IsAgreed}
+use Rattle.event_timing.proofs.{Agreement.all_agree, Editing.edit_design}
+use Rattle.engine_view.specs.{Held.core_of, declared.engine.Engine.Engine, Engines.held_in, Kept.IsKept}
+use Rattle.retime.specs.{Rounds.LeadsAll, Edits.IsEditOf, Edits.RecordGrows, Edits.OutcomesGrow}
+use Rattle.retime.proofs.{Agreeing.cut_agrees, Counts.same_steps, Growing.records_grow, Outcomes.outcomes_grow}
 
 module _ (d : Design ModuleState) (y z : Trace ModuleState) (limit : ℕ) (over : List Bool) (old new : Engine) (guard : Guard)
     (edit : Edit) (t : ℕ) (e : IsEditOf d y z limit over old new guard edit t) where

@@ -1,16 +1,11 @@
 -- How many cycles and steps there are behind a turn, and behind a cut.
 use Rattle.std.proofs.Common.{◌≡◌, refl, sym, ap, ◌∙◌, ℕ, suc, ◌+◌, ◌<◌, ◌≤◌, List, [], ◌∷◌, length, map, get_or, arith}
-use Rattle.std.specs.Prelude.{All}
-use Rattle.std.specs.List.{sum_by}
-use Rattle.std.proofs.Math.Seq.{map-set_same}
-use Rattle.std.proofs.Math.ListN.{get_or-map}
-use Rattle.std.proofs.lemmas.List.{length-append, length-map}
+use Rattle.std.proofs.{Math.Seq.map-set_same, Math.ListN.get_or-map, lemmas.List.length-append, lemmas.List.length-map}
 use Rattle.std.proofs.lemmas.List.Sums.{sum_by-set, sum_by-cons}
+use Rattle.std.specs.{Prelude.All, List.sum_by}
 use Rattle.flow_word.specs.declared.access.Step.{Step}
 use Rattle.event_graph.specs.Lanes.{Lane, IsSoundLane, no_lane, lane_at, timed, timed_below}
-use Rattle.engine_view.specs.declared.turn.Timing.{Timing}
-use Rattle.engine_view.specs.declared.turn.Timing.TheVariants.{Assigned}
-use Rattle.engine_view.specs.Turns.{lanes_behind, ticks_of}
+use Rattle.engine_view.specs.{declared.turn.Timing.Timing, declared.turn.Timing.TheVariants.Assigned, Turns.lanes_behind, Turns.ticks_of}
 use Rattle.retime.specs.Rounds.{only_steps, cycles_in, steps_in}
 
 -- ---- lanes with the same steps

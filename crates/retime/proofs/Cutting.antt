@@ -1,36 +1,21 @@
 -- The cut from which a retiming begins is the theory's core after the edit, with room as before.
-use Rattle.std.proofs.Common.{◌≡◌, refl, sym, ap, subst, ◌∙◌, ℕ, ◌≤◌, min, inl, inr, Bool, List}
-use Rattle.std.proofs.Common.{[], length, map, get_or, arith}
-use Rattle.std.specs.Prelude.{All}
-use Rattle.std.proofs.lemmas.Bool.{cases_lt}
+use Rattle.std.proofs.Common.{◌≡◌, refl, sym, ap, subst, ◌∙◌, ℕ, ◌≤◌, min, inl, inr, Bool, List, [], length, map, get_or, arith}
+use Rattle.std.proofs.{lemmas.Bool.cases_lt, Math.ListN.get_or-map}
 use Rattle.std.proofs.lemmas.List.{get_or_past, get_or_default, length-map}
-use Rattle.std.proofs.Math.ListN.{get_or-map}
-use Rattle.flow_word.specs.declared.access.Step.{Step}
-use Rattle.flow_word.specs.declared.access.Side.{Side}
+use Rattle.std.specs.Prelude.{All}
+use Rattle.flow_word.specs.{declared.access.Step.Step, declared.access.Side.Side}
 use Rattle.flow_word.specs.declared.access.Side.TheVariants.{Pop, Push}
-use Rattle.flow_design.specs.declared.plan.Edit.{Edit}
-use Rattle.flow_design.specs.declared.state.ModuleState.{ModuleState}
+use Rattle.flow_design.specs.{declared.plan.Edit.Edit, declared.state.ModuleState.ModuleState}
 use Rattle.event_graph.specs.Lanes.{Lane, IsSoundLane, no_lane, lane_at, timed_below}
 use Rattle.query_log.specs.Logs.{Log, IsSoundLog, no_log, log_at}
 use Rattle.outcome_guard.specs.declared.guard.Guard.{Guard}
-use Rattle.event_timing.specs.Machines.{Design, IsDesign}
-use Rattle.event_timing.specs.Core.{Core}
-use Rattle.event_timing.specs.Edits.{edited, after_edit, kept}
+use Rattle.event_timing.specs.{Machines.Design, Machines.IsDesign, Core.Core, Edits.edited, Edits.after_edit, Edits.kept}
 use Rattle.event_timing.proofs.Editing.{edit_design}
 use Rattle.engine_view.specs.Held.{Held, no_step, emitted_of, core_of}
-use Rattle.engine_view.specs.Shown.{queries_before}
-use Rattle.engine_view.specs.Edited.{IsCut}
-use Rattle.engine_view.specs.Rooms.{IsRoomy, room_of}
-use Rattle.engine_view.specs.declared.engine.Engine.{Engine}
-use Rattle.engine_view.specs.Engines.{held_in}
-use Rattle.engine_view.specs.Kept.{IsKept, IsNow}
-use Rattle.engine_view.specs.Turns.{IsSomeCore, KeepsRoom}
-use Rattle.engine_view.proofs.Answered.{steps_only}
-use Rattle.engine_view.proofs.Emitted.{queries_mono}
-use Rattle.engine_view.proofs.Edited.{timed_kept}
-use Rattle.engine_view.proofs.Keeping.{cut_now, room_cut}
-use Rattle.retime.specs.Rounds.{LeadsAll, HasGone, IsAtEnd}
-use Rattle.retime.specs.Touched.{IsEditIn}
+use Rattle.engine_view.specs.{Shown.queries_before, Edited.IsCut, Rooms.IsRoomy, Rooms.room_of, declared.engine.Engine.Engine}
+use Rattle.engine_view.specs.{Engines.held_in, Kept.IsKept, Kept.IsNow, Turns.IsSomeCore, Turns.KeepsRoom}
+use Rattle.engine_view.proofs.{Answered.steps_only, Emitted.queries_mono, Edited.timed_kept, Keeping.cut_now, Keeping.room_cut}
+use Rattle.retime.specs.{Rounds.LeadsAll, Rounds.HasGone, Rounds.IsAtEnd, Touched.IsEditIn}
 use Rattle.retime.specs.Cuts.{AreAssumed, AreNumbered, IsCutBack, assumed, only_lanes, timed_queries, HasRetimed, KeepsRoomEdited}
 use Rattle.retime.proofs.Filling.{rising_of}
 

@@ -1,12 +1,10 @@
 -- The cycle of a push or a pop, by what it enables.
 use Rattle.std.proofs.Common.{◌≡◌, ap, ◌∙◌, ℕ, ◌+◌, ◌-◌, ◌≤◌, Option, List, arith}
-use Rattle.std.specs.Prelude.{slice_get, option_and_then}
 use Rattle.std.proofs.lemmas.Bool.{lt-leb}
-use Rattle.flow_word.specs.declared.access.Place.{Place}
-use Rattle.flow_word.specs.declared.access.Side.{Side}
+use Rattle.std.specs.Prelude.{slice_get, option_and_then}
+use Rattle.flow_word.specs.{declared.access.Place.Place, declared.access.Side.Side}
 use Rattle.flow_word.specs.declared.access.Side.TheVariants.{Pop, Push}
-use Rattle.fifo_table.specs.declared.channel.TableChannel.{TableChannel}
-use Rattle.fifo_table.specs.declared.channel.TableChannel.TheVariants.{Fifo}
+use Rattle.fifo_table.specs.{declared.channel.TableChannel.TableChannel, declared.channel.TableChannel.TheVariants.Fifo}
 use Rattle.fifo_table.specs.Channels.{Channel, IsFifo, HasSide, depth_of, places_of}
 use Rattle.fifo_table.specs.Enablers.{enabler_of, enabler_by, event_at}
 use Rattle.event_graph.specs.Lanes.{Lane, cycle_of}

@@ -1,23 +1,13 @@
 -- Going round the modules as long as something is permitted.
-use Rattle.std.proofs.Common.{◌≡◌, refl, sym, subst, ◌∙◌, ℕ, ◌+◌, ◌<◌, ◌≤◌, ◌⊎◌, inl, inr, List, [], ◌∷◌, ◌++◌, length}
-use Rattle.std.proofs.Common.{None, Some, arith}
-use Rattle.std.proofs.lemmas.Bool.{cases_lt}
-use Rattle.std.proofs.lemmas.List.{get_or_past}
+use Rattle.std.proofs.Common.{◌≡◌, refl, sym, subst, ◌∙◌, ℕ, ◌+◌, ◌<◌, ◌≤◌, ◌⊎◌, inl, inr, List, [], ◌∷◌, ◌++◌, length, None, Some, arith}
+use Rattle.std.proofs.{lemmas.Bool.cases_lt, lemmas.List.get_or_past}
 use Rattle.event_graph.specs.Lanes.{no_lane}
 use Rattle.outcome_guard.specs.declared.guard.Guard.TheVariants.{Same}
-use Rattle.event_timing.specs.Machines.{Design}
-use Rattle.event_timing.specs.Enablers.{candidate}
-use Rattle.event_timing.specs.Core.{Core, view}
-use Rattle.event_timing.specs.Actions.{Action, Acts, ActsAll}
+use Rattle.event_timing.specs.{Machines.Design, Enablers.candidate, Core.Core, Core.view, Actions.Action, Actions.Acts, Actions.ActsAll}
 use Rattle.event_timing.specs.Actions.Action.{Run, Assign, Answer, Earliest}
-use Rattle.engine_view.specs.declared.engine.Engine.{Engine}
-use Rattle.engine_view.specs.declared.turn.Timing.{Timing}
+use Rattle.engine_view.specs.{declared.engine.Engine.Engine, declared.turn.Timing.Timing, Held.Held, Held.core_of, Engines.held_in}
+use Rattle.engine_view.specs.{Cursors.CursorView, Cursors.IsNext, Cursors.IsPassed, Cursors.AreIdle, Taking.kinds_in, Kept.IsKept}
 use Rattle.engine_view.specs.declared.turn.Timing.TheVariants.{Assigned, Answered, Differs, Nothing}
-use Rattle.engine_view.specs.Held.{Held, core_of}
-use Rattle.engine_view.specs.Engines.{held_in}
-use Rattle.engine_view.specs.Cursors.{CursorView, IsNext, IsPassed, AreIdle}
-use Rattle.engine_view.specs.Taking.{kinds_in}
-use Rattle.engine_view.specs.Kept.{IsKept}
 use Rattle.engine_view.specs.Turns.{IsIdle, IsSomeCore, HasTimed, KeepsRoom, Leads, OfEach, lanes_behind, ticks_of}
 use Rattle.engine_view.proofs.Cursors.{idle_more}
 use Rattle.retime.specs.Rounds.{AreTimings, HasGone, IsAtEnd, only_steps, cycles_in}

@@ -1,27 +1,18 @@
 -- A query that is found to be another is another in the history.
-use Rattle.std.proofs.Common.{◌≡◌, refl, sym, ap, ap₂, ◌∙◌, ℕ, zero, suc, ◌+◌, ◌<◌, Bool, false}
-use Rattle.std.proofs.Common.{List, [], ◌∷◌, length, map, take, drop, Option, Some, arith}
+use Rattle.std.proofs.Common.{◌≡◌, refl, sym, ap, ap₂, ◌∙◌, ℕ, zero, suc, ◌+◌, ◌<◌, Bool, false, List, [], ◌∷◌, length, map, take, drop}
+use Rattle.std.proofs.Common.{Option, Some, arith}
 use Rattle.std.proofs.lemmas.Bool.Decides.{nat_tests}
-use Rattle.std.specs.Prelude.{All, slice_get}
 use Rattle.std.proofs.lemmas.Option.{get_or_from_slice_get, slice_get_within, slice_get-get_or}
-use Rattle.flow_word.specs.Kinds.{is_blocking, side_of}
-use Rattle.flow_word.specs.declared.access.Access.{Access}
-use Rattle.flow_word.specs.declared.access.Kind.{Kind}
-use Rattle.query_log.specs.Logs.{log_at}
-use Rattle.query_log.specs.declared.query.Query.{Query}
+use Rattle.std.specs.Prelude.{All, slice_get}
+use Rattle.flow_word.specs.{Kinds.is_blocking, Kinds.side_of, declared.access.Access.Access, declared.access.Kind.Kind}
+use Rattle.query_log.specs.{Logs.log_at, declared.query.Query.Query}
 use Rattle.event_timing.specs.Machines as theory
-use Rattle.event_timing.specs.Machines.{Design, IsDesign}
-use Rattle.event_timing.specs.Histories.{Trace, IsHistory, is_possible}
-use Rattle.event_timing.specs.Core.{Core, core_tally, view}
-use Rattle.event_timing.specs.Actions.{new_flags}
-use Rattle.event_timing.specs.Agreement.{IsAgreed, possible_all}
-use Rattle.event_timing.proofs.Agreement.{answer_found}
-use Rattle.event_timing.proofs.Answering.{first_emitted}
+use Rattle.event_timing.specs.{Machines.Design, Machines.IsDesign, Histories.Trace, Histories.IsHistory, Histories.is_possible, Core.Core}
+use Rattle.event_timing.specs.{Core.core_tally, Core.view, Actions.new_flags, Agreement.IsAgreed, Agreement.possible_all}
+use Rattle.event_timing.proofs.{Agreement.answer_found, Answering.first_emitted, Fronts.agrees}
 use Rattle.event_timing.proofs.Candidate.{candidate_done, candidate_steps}
-use Rattle.event_timing.proofs.Fronts.{agrees}
 use Rattle.engine_view.specs.Held.{Held, step_of, emitted_of, seen, queries_in, possible_by, flags_by, core_of}
-use Rattle.engine_view.specs.Shown.{IsSound, queries_before}
-use Rattle.engine_view.specs.Turns.{IsDifferent, first_of}
+use Rattle.engine_view.specs.{Shown.IsSound, Shown.queries_before, Turns.IsDifferent, Turns.first_of}
 use Rattle.retime.specs.Edits.{IsOtherInHistory}
 
 -- ---- lists

@@ -1,18 +1,13 @@
 -- What the growth of a record means for the list of outcomes.
-use Rattle.std.proofs.Common.{◌≡◌, refl, sym, ap, ap₂, ◌∙◌, ℕ, zero, suc, ◌+◌, ◌<◌, ◌≤◌, ◌⊎◌, inl, inr, Bool, true, not, cond}
-use Rattle.std.proofs.Common.{eqb, leb, ltb, ◌&&◌, ◌||◌, List, [], ◌∷◌, ◌++◌, length, take, drop, get_or, arith, append-nil}
-use Rattle.std.proofs.Math.Seq.{take-add, take-length}
-use Rattle.std.proofs.lemmas.Bool.{and_parts, lt-ltb}
-use Rattle.std.proofs.lemmas.Bool.Decides.{eqb_tells}
+use Rattle.std.proofs.Common.{◌≡◌, refl, sym, ap, ap₂, ◌∙◌, ℕ, zero, suc, ◌+◌, ◌<◌, ◌≤◌, ◌⊎◌, inl, inr, Bool, true, not, cond, eqb, leb}
+use Rattle.std.proofs.Common.{ltb, ◌&&◌, ◌||◌, List, [], ◌∷◌, ◌++◌, length, take, drop, get_or, arith, append-nil}
+use Rattle.std.proofs.{Math.Seq.take-add, Math.Seq.take-length, lemmas.Bool.and_parts, lemmas.Bool.lt-ltb, lemmas.Bool.Decides.eqb_tells}
 use Rattle.std.proofs.lemmas.List.{length-append, length-drop, take-append-drop}
-use Rattle.flow_word.specs.declared.access.Access.{Access}
-use Rattle.flow_word.specs.declared.access.Step.{Step}
+use Rattle.flow_word.specs.{declared.access.Access.Access, declared.access.Step.Step}
 use Rattle.event_graph.specs.Lanes.{lane_at}
 use Rattle.query_log.specs.Logs.{Log, no_log, log_at}
 use Rattle.query_resolve.specs.Decisions.{late_outcome}
-use Rattle.event_timing.specs.Machines.{Design}
-use Rattle.event_timing.specs.Core.{Core, core_accesses, has_query}
-use Rattle.event_timing.specs.Edits.{after_edit}
+use Rattle.event_timing.specs.{Machines.Design, Core.Core, Core.core_accesses, Core.has_query, Edits.after_edit}
 use Rattle.engine_view.specs.Held.{Held, no_step, step_of, emitted_of, queries_in, flags_by, are_among, has_all, core_of}
 use Rattle.engine_view.specs.Shown.{IsSound, AreWhole, queries_before}
 use Rattle.engine_view.proofs.Answered.{queries_step, queries_zero, among_is, among_if, all_among}

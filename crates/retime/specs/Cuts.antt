@@ -7,11 +7,7 @@ use Rattle.query_log.specs.Logs.{Log, log_at}
 use Rattle.outcome_guard.specs.declared.guard.Guard.{Guard}
 use Rattle.event_timing.specs.Edits.{edited, after_edit}
 use Rattle.engine_view.specs.Held.{Held, step_of, emitted_of, core_of}
-use Rattle.engine_view.specs.Shown.{queries_before}
-use Rattle.engine_view.specs.Rooms.{IsRoomy}
-use Rattle.engine_view.specs.declared.engine.Engine.{Engine}
-use Rattle.engine_view.specs.Engines.{held_in}
-use Rattle.engine_view.specs.Turns.{OfEach}
+use Rattle.engine_view.specs.{Shown.queries_before, Rooms.IsRoomy, declared.engine.Engine.Engine, Engines.held_in, Turns.OfEach}
 use Rattle.retime.specs.Rounds.{LeadsAll, HasEnded}
 
 -- what is held, with lanes alone

@@ -1,30 +1,16 @@
 -- An edit of a final core, and the history of the edited design.
 use Rattle.std.specs.Prelude.{Bool, ◌≡◌, ◌≢◌, ℕ, suc, ◌+◌, ◌≤◌, ◌⊎◌, true, false, slice_get, Some, List, length, take, ◌<◌}
-use Rattle.flow_word.specs.Kinds.{is_blocking, side_of}
-use Rattle.flow_word.specs.declared.access.Access.{Access}
-use Rattle.flow_design.specs.declared.plan.Edit.{Edit}
+use Rattle.flow_word.specs.{Kinds.is_blocking, Kinds.side_of, declared.access.Access.Access, declared.access.Side.TheVariants.Push}
+use Rattle.flow_design.specs.{declared.plan.Edit.Edit, declared.state.ModuleState.ModuleState}
 use Rattle.event_graph.specs.Lanes.{Lane}
 use Rattle.fifo_table.specs.Channels.{Channel, IsFifo, channel_at, depth_of}
-use Rattle.query_log.specs.declared.query.Query.{Query}
-use Rattle.query_log.specs.Logs.{Log, outcome_of}
-use Rattle.outcome_guard.specs.Prefixes.{IsPrefix}
-use Rattle.event_timing.specs.Machines.{Design, IsDesign}
-use Rattle.event_timing.specs.Histories.{Trace, IsHistory, is_possible}
-use Rattle.event_timing.specs.Core.{Core, core_tally}
-use Rattle.event_timing.specs.Actions.{IsFinal}
-use Rattle.event_timing.specs.Edits.{edited}
-use Rattle.flow_design.specs.declared.state.ModuleState.{ModuleState}
-use Rattle.flow_word.specs.declared.access.Side.TheVariants.{Push}
-use Rattle.outcome_guard.specs.declared.guard.Guard.{Guard}
-use Rattle.engine_view.specs.declared.engine.Engine.{Engine}
-use Rattle.engine_view.specs.Engines.{held_in}
-use Rattle.retime.specs.Rounds.{only_steps}
-use Rattle.retime.specs.Cuts.{HasRetimed}
-use Rattle.event_timing.specs.Agreement.{IsAgreed, IsStepAt}
+use Rattle.query_log.specs.{declared.query.Query.Query, Logs.Log, Logs.outcome_of}
+use Rattle.outcome_guard.specs.{Prefixes.IsPrefix, declared.guard.Guard.Guard}
+use Rattle.event_timing.specs.{Machines.Design, Machines.IsDesign, Histories.Trace, Histories.IsHistory, Histories.is_possible, Core.Core}
+use Rattle.event_timing.specs.{Core.core_tally, Actions.IsFinal, Edits.edited, Agreement.IsAgreed, Agreement.IsStepAt}
+use Rattle.engine_view.specs.{declared.engine.Engine.Engine, Engines.held_in, Shown.IsSound, Shown.queries_before, Turns.first_of}
 use Rattle.engine_view.specs.Held.{Held, step_of, queries_in, possible_by, core_of}
-use Rattle.engine_view.specs.Shown.{IsSound, queries_before}
-use Rattle.engine_view.specs.Turns.{first_of}
-use Rattle.retime.specs.Touched.{IsFirstTouched, IsNeverTouched}
+use Rattle.retime.specs.{Rounds.only_steps, Cuts.HasRetimed, Touched.IsFirstTouched, Touched.IsNeverTouched}
 
 -- what is held is a final core of the design, and agrees with the history
 pub record IsFinalOf {S : Type 0} (d : Design S) (y : Trace S) (limit : ℕ) (h : Held) : Type 0 where

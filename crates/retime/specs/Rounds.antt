@@ -1,18 +1,11 @@
 -- Rounds over the modules, in which steps get their cycles and queries their answers.
-use Rattle.std.specs.Prelude.{ℕ, List, [], ◌∷◌, length, map}
-use Rattle.std.specs.List.{sum_by}
+use Rattle.std.specs.{Prelude.ℕ, Prelude.List, Prelude.[], Prelude.◌∷◌, Prelude.length, Prelude.map, List.sum_by}
 use Rattle.flow_word.specs.declared.access.Step.{Step}
 use Rattle.event_graph.specs.Lanes.{Lane}
-use Rattle.outcome_guard.specs.declared.guard.Guard.{Guard}
-use Rattle.outcome_guard.specs.declared.guard.Guard.TheVariants.{Same, Differs}
-use Rattle.event_timing.specs.Machines.{Design}
-use Rattle.event_timing.specs.Core.{Core}
-use Rattle.event_timing.specs.Actions.{Action, ActsAll}
+use Rattle.outcome_guard.specs.{declared.guard.Guard.Guard, declared.guard.Guard.TheVariants.Same, declared.guard.Guard.TheVariants.Differs}
+use Rattle.event_timing.specs.{Machines.Design, Core.Core, Actions.Action, Actions.ActsAll}
 use Rattle.event_timing.specs.Actions.Action.{Run, Assign, Answer, Earliest}
-use Rattle.engine_view.specs.Held.{Held, core_of}
-use Rattle.engine_view.specs.declared.engine.Engine.{Engine}
-use Rattle.engine_view.specs.Engines.{held_in}
-use Rattle.engine_view.specs.Kept.{IsKept}
+use Rattle.engine_view.specs.{Held.Held, Held.core_of, declared.engine.Engine.Engine, Engines.held_in, Kept.IsKept}
 use Rattle.engine_view.specs.Turns.{IsDifferent, IsIdle, OfEach}
 
 -- each of these actions is an Assign or an Answer

@@ -1,17 +1,11 @@
 //! What a retiming leaves.
 ghost use Rattle.std.specs.Prelude.{ℕ, ◌<◌, length, Bool, List};
-ghost use Rattle.flow_design.specs.declared.plan.Edit.{Edit};
+ghost use Rattle.flow_design.specs.{declared.plan.Edit.Edit, declared.state.ModuleState.ModuleState};
 ghost use Rattle.query_log.specs.Logs.{log_at};
-ghost use Rattle.event_timing.specs.Machines.{Design};
-ghost use Rattle.event_timing.specs.Histories.{Trace};
-ghost use Rattle.event_timing.specs.Agreement.{IsAgreed};
-ghost use Rattle.event_timing.specs.Edits.{edited};
-ghost use Rattle.engine_view.specs.Held.{core_of};
+ghost use Rattle.event_timing.specs.{Machines.Design, Histories.Trace, Agreement.IsAgreed, Edits.edited};
+ghost use Rattle.engine_view.specs.{Held.core_of, declared.engine.Engine.Engine, Engines.held_in};
 ghost use Rattle.retime.specs.Edits.{OutcomesGrow, IsEditOf};
-ghost use Rattle.flow_design.specs.declared.state.ModuleState.{ModuleState};
 ghost use Rattle.outcome_guard.specs.declared.guard.Guard.{Guard as guard};
-ghost use Rattle.engine_view.specs.declared.engine.Engine.{Engine};
-ghost use Rattle.engine_view.specs.Engines.{held_in};
 
 /// After a retiming the core agrees with the edited design's history. Of each module the log has the outcomes that it had: with no
 /// further ones, or with further ones and all verified.

@@ -2,10 +2,8 @@
 ghost use Rattle.std.specs.Prelude.{◌≡◌, ◌+◌, ◌≤◌, length, map, unwrap_or};
 ghost use Rattle.event_graph.specs.Lanes.{cycle_bound, timed_below};
 ghost use Rattle.fifo_table.specs.Channels.{with_depth};
-ghost use Rattle.engine_view.specs.Taking.{kinds_in};
-ghost use Rattle.engine_view.specs.Turns.{IsSomeCore};
-ghost use Rattle.retime.specs.Rounds.{only_steps, cycles_in};
-ghost use Rattle.retime.specs.Touched.{IsEditIn};
+ghost use Rattle.engine_view.specs.{Taking.kinds_in, Turns.IsSomeCore};
+ghost use Rattle.retime.specs.{Rounds.only_steps, Rounds.cycles_in, Touched.IsEditIn};
 ghost use Rattle.retime.specs.Cuts.{AreNumbered, AreAssumed, IsCutBack, HasRetimed, KeepsRoomEdited};
 
 use crate::rounds::time_all;

@@ -1,8 +1,7 @@
 //! Rounds over the modules, in which steps get cycles and queries answers.
 ghost use Rattle.std.specs.Prelude.{◌≡◌, ◌+◌, ◌≤◌};
 ghost use Rattle.event_graph.specs.Lanes.{cycle_bound};
-ghost use Rattle.engine_view.specs.Taking.{kinds_in};
-ghost use Rattle.engine_view.specs.Turns.{IsSomeCore, KeepsRoom};
+ghost use Rattle.engine_view.specs.{Taking.kinds_in, Turns.IsSomeCore, Turns.KeepsRoom};
 ghost use Rattle.retime.specs.Rounds.{HasGone, IsAtEnd, only_steps, cycles_in};
 
 use engine_view::{Cursor, Engine, Hints, Timing};

@@ -1,19 +1,11 @@
 -- Each step of a final core that agrees is right, and of those without a cycle none with a query is verified.
 use Rattle.std.proofs.Common.{◌≡◌, ℕ, suc, ◌<◌, ◌≤◌, true, false, inl, inr, arith}
 use Rattle.std.proofs.lemmas.Bool.{cases_Bool, cases_eq}
-use Rattle.event_timing.specs.Machines.{Design, IsDesign}
-use Rattle.event_timing.specs.Histories.{Trace, IsHistory}
-use Rattle.event_timing.specs.Core.{Core, core_accesses, has_query}
-use Rattle.event_timing.specs.Actions.{IsFinal}
-use Rattle.event_timing.specs.Agreement.{IsAgreed}
-use Rattle.event_timing.specs.Edits.{kept, after_edit}
-use Rattle.event_timing.proofs.Agreement.{final_complete}
-use Rattle.event_timing.proofs.Editing.{cycles_rise, kept_same}
-use Rattle.event_timing.proofs.Steps.{done_more}
-use Rattle.event_timing.proofs.Fronts.{IsDone}
+use Rattle.event_timing.specs.{Machines.Design, Machines.IsDesign, Histories.Trace, Histories.IsHistory, Core.Core, Core.core_accesses}
+use Rattle.event_timing.specs.{Core.has_query, Actions.IsFinal, Agreement.IsAgreed, Edits.kept, Edits.after_edit}
+use Rattle.event_timing.proofs.{Agreement.final_complete, Editing.cycles_rise, Editing.kept_same, Steps.done_more, Fronts.IsDone}
 use Rattle.right_records.specs.Records.{IsRight}
-use Rattle.right_records.proofs.Keeping.{kept_all}
-use Rattle.right_records.proofs.Begun.{begun_right}
+use Rattle.right_records.proofs.{Keeping.kept_all, Begun.begun_right}
 
 module _ {S : Type 0} (d : Design S) (h : Trace S) (i : IsDesign d) (y : IsHistory d h) (limit : ℕ) (x : Core S) (a : IsAgreed d h limit x)
     (f : IsFinal d limit x) where

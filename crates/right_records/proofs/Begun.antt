@@ -3,23 +3,17 @@ use Rattle.std.proofs.Common.{◌≡◌, ℕ, ◌+◌, ◌<◌, ◌≤◌, max, 
 use Rattle.std.proofs.Common.{Some}
 use Rattle.std.proofs.lemmas.Bool.{lt-ltb}
 use Rattle.flow_word.specs.declared.access.Side.TheVariants.{Pop}
-use Rattle.event_timing.specs.Machines.{Design, IsDesign, Access, Reply}
+use Rattle.event_timing.specs.{Machines.Design, Machines.IsDesign, Machines.Access, Machines.Reply, Steps.steps, Steps.done, Views.from}
+use Rattle.event_timing.specs.{Views.tally, Agreement.AreOwnMarks, Agreement.FlagsFit, Agreement.possible_all, Edits.kept, Edits.after_edit}
 use Rattle.event_timing.specs.Histories.{Trace, IsHistory, replies, reply_to}
-use Rattle.event_timing.specs.Steps.{steps, done}
-use Rattle.event_timing.specs.Views.{from, tally}
 use Rattle.event_timing.specs.Enablers.{known_of, reach, flags_at, to_clock, bound}
 use Rattle.event_timing.specs.Core.{Core, core_accesses, core_reply, core_tally, core_values, replies_of, view}
-use Rattle.event_timing.specs.Agreement.{AreOwnMarks, FlagsFit, possible_all}
-use Rattle.event_timing.specs.Edits.{kept, after_edit}
-use Rattle.event_timing.proofs.Steps.{done_mono, same_clock}
+use Rattle.event_timing.proofs.{Steps.done_mono, Steps.same_clock, Earliest.candidate_can, Earliest.flags_late, Earliest.step_determined}
+use Rattle.event_timing.proofs.{Fronts.IsDone, Fronts.agrees_done, Editing.kept_le, Editing.kept_below, Editing.kept_same}
 use Rattle.event_timing.proofs.Candidate.{first_means, candidate_done, candidate_steps, candidate_parts, candidate_ready}
-use Rattle.event_timing.proofs.Earliest.{candidate_can, flags_late, step_determined}
-use Rattle.event_timing.proofs.Fronts.{IsDone, agrees_done}
-use Rattle.event_timing.proofs.Editing.{kept_le, kept_below, kept_same}
 use Rattle.right_records.specs.Records.{IsRight, known_at}
 use Rattle.right_records.proofs.Keeping.{Rise, kept_beyond, from_kept, kept_fewer}
-use Rattle.right_records.proofs.Marks.{marks_cut}
-use Rattle.right_records.proofs.Cutting.{IsCut, cut_known, bound_up, flags_cut}
+use Rattle.right_records.proofs.{Marks.marks_cut, Cutting.IsCut, Cutting.cut_known, Cutting.bound_up, Cutting.flags_cut}
 
 -- ---- its outcomes
 

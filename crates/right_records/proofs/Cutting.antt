@@ -1,19 +1,15 @@
 -- What a record that is cut at a clock tells of that clock: the same as the whole one.
-use Rattle.std.proofs.lemmas.Bool.Decides.{nat_tests}
+use Rattle.std.proofs.{lemmas.Bool.Decides.nat_tests, lemmas.Bool.cases_Bool}
 use Rattle.std.proofs.Common.{◌≡◌, ℕ, suc, ◌-◌, ◌<◌, ◌≤◌, false, ◌||◌, ◌⊎◌, inl, inr, List, [], ◌∷◌, sym, refl, ◌∙◌, arith, ltb, Option}
 use Rattle.std.proofs.Common.{Some, None}
-use Rattle.std.proofs.lemmas.Bool.{cases_Bool}
-use Rattle.flow_word.specs.declared.access.Side.{Side}
-use Rattle.flow_word.specs.Kinds.{other_side}
+use Rattle.flow_word.specs.{declared.access.Side.Side, Kinds.other_side}
 use Rattle.event_timing.specs.Machines.{Access, Design, IsDesign, Reply}
 use Rattle.event_timing.specs.Enablers.{Known, known, from_step, bound, answer, flags_at}
-use Rattle.event_timing.specs.Enablers.Known.{From, Unknown}
+use Rattle.event_timing.specs.{Enablers.Known.From, Enablers.Known.Unknown, Edits.kept, Edits.kept_cycle, Edits.after_edit}
 use Rattle.event_timing.specs.Core.{Core, core_accesses, core_reply, view}
-use Rattle.event_timing.specs.Edits.{kept, kept_cycle, after_edit}
-use Rattle.event_timing.proofs.OwnRuns.{IsPlace, place_says, tally_mono}
+use Rattle.event_timing.proofs.{OwnRuns.IsPlace, OwnRuns.place_says, OwnRuns.tally_mono, Editing.kept_le, Editing.kept_same}
 use Rattle.event_timing.proofs.Threshold.{known_free, known_never, known_event, enabler}
 use Rattle.event_timing.proofs.Candidate.{both_parts, bound_blocks, bound_free}
-use Rattle.event_timing.proofs.Editing.{kept_le, kept_same}
 use Rattle.right_records.proofs.Keeping.{kept_beyond}
 
 -- the one is the other, or is not known, and by the other the access is not possible in clock t

@@ -3,9 +3,7 @@ use Rattle.std.proofs.Common.{◌≡◌, ℕ, zero, suc, ◌-◌, ◌<◌, ◌�
 use Rattle.std.proofs.Common.{false, List, [], ◌∷◌}
 use Rattle.std.proofs.lemmas.Bool.{cases_Bool}
 use Rattle.flow_word.specs.Kinds.{other_side}
-use Rattle.event_timing.specs.Machines.{Access, Design, Each}
-use Rattle.event_timing.specs.Views.{from}
-use Rattle.event_timing.specs.Core.{Core, core_accesses, core_reply}
+use Rattle.event_timing.specs.{Machines.Access, Machines.Design, Machines.Each, Views.from, Core.Core, Core.core_accesses, Core.core_reply}
 use Rattle.event_timing.proofs.OwnRuns.{place_says, tally_mono}
 use Rattle.right_records.specs.Records.{IsIn, IsBetween, IsSaidAround, IsStill, KeepsEnabler, is_free_at, IsTaking, count_at, enabler_at}
 use Rattle.right_records.specs.Records.{partner}

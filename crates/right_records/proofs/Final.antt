@@ -1,8 +1,6 @@
 -- A right record is final.
 use Rattle.std.proofs.Common.{ℕ, arith}
-use Rattle.event_timing.specs.Machines.{Design}
-use Rattle.event_timing.specs.Core.{Core}
-use Rattle.event_timing.specs.Actions.{IsFinal, IsDetermined}
+use Rattle.event_timing.specs.{Machines.Design, Core.Core, Actions.IsFinal, Actions.IsDetermined}
 use Rattle.right_records.specs.Records.{IsRightRecord}
 
 module _ {S : Type 0} (d : Design S) (limit : ℕ) (x : Core S) (r : IsRightRecord d limit x) where

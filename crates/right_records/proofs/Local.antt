@@ -1,19 +1,13 @@
 -- What a step's rightness depends on.
-use Rattle.std.proofs.lemmas.Bool.Decides.{nat_tests}
+use Rattle.std.proofs.{lemmas.Bool.Decides.nat_tests, lemmas.Bool.cases_Bool, lemmas.Bool.cases_eq}
 use Rattle.std.proofs.Common.{◌≡◌, ℕ, ◌+◌, ◌≤◌, max, arith, Bool, ◌||◌, inl, inr, List, [], ◌∷◌, sym, refl, ap, ap₂, ◌∙◌, ltb, Option, Some}
 use Rattle.std.proofs.Common.{None}
-use Rattle.std.proofs.lemmas.Bool.{cases_Bool, cases_eq}
-use Rattle.flow_word.specs.declared.access.Side.{Side}
-use Rattle.flow_word.specs.declared.access.Side.TheVariants.{Push}
-use Rattle.event_timing.specs.Machines.{Access, Design, Each}
-use Rattle.event_timing.specs.Views.{from, tally}
+use Rattle.flow_word.specs.{declared.access.Side.Side, declared.access.Side.TheVariants.Push}
+use Rattle.event_timing.specs.{Machines.Access, Machines.Design, Machines.Each, Views.from, Views.tally, Enablers.Known.From, Edits.edited}
 use Rattle.event_timing.specs.Enablers.{Known, known, from_step, bound, flags_at, both, to_clock}
-use Rattle.event_timing.specs.Enablers.Known.{From}
 use Rattle.event_timing.specs.Core.{Core, core_accesses, core_reply, view}
-use Rattle.event_timing.specs.Edits.{edited}
-use Rattle.event_timing.proofs.OwnRuns.{same_side_is}
+use Rattle.event_timing.proofs.{OwnRuns.same_side_is, Candidate.bound_blocks, Candidate.bound_free, Candidate.both_parts}
 use Rattle.event_timing.proofs.Threshold.{known_free, known_never, known_event, enabler}
-use Rattle.event_timing.proofs.Candidate.{bound_blocks, bound_free, both_parts}
 use Rattle.right_records.specs.Records.{KeepsEnabler, IsRight, IsStill, IsBeside, IsSlack, HasSlack, known_at, with_cycles, enabler_at}
 use Rattle.right_records.specs.Records.{partner}
 

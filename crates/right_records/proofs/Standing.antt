@@ -1,24 +1,14 @@
 -- A right record that is cut at a clock: its steps that stay, and what comes next.
-use Rattle.std.proofs.lemmas.Bool.Decides.{nat_tests}
+use Rattle.std.proofs.{lemmas.Bool.Decides.nat_tests, lemmas.Bool.cases_lt, lemmas.Bool.lt-ltb, lemmas.Bool.ltb-false}
 use Rattle.std.proofs.Common.{◌≡◌, ℕ, zero, suc, ◌+◌, ◌<◌, ◌≤◌, max, true, false, inl, inr, ap, subst, arith, ltb, Some}
-use Rattle.std.proofs.lemmas.Bool.{cases_lt, lt-ltb, ltb-false}
-use Rattle.event_timing.specs.Machines.{Access, Design, IsDesign}
-use Rattle.event_timing.specs.Histories.{Trace, IsHistory}
-use Rattle.event_timing.specs.Views.{from, own_state, tally}
+use Rattle.event_timing.specs.{Machines.Access, Machines.Design, Machines.IsDesign, Histories.Trace, Histories.IsHistory, Views.from}
+use Rattle.event_timing.specs.{Views.own_state, Views.tally, Enablers.Known.From, Core.Core, Core.core_accesses, Core.core_reply, Core.view}
+use Rattle.event_timing.specs.{Actions.new_flags, Agreement.AreOwnMarks, Agreement.IsTimed, Edits.kept, Edits.after_edit}
 use Rattle.event_timing.specs.Enablers.{known_of, bound, candidate, reach, IsStuck}
-use Rattle.event_timing.specs.Enablers.Known.{From}
-use Rattle.event_timing.specs.Core.{Core, core_accesses, core_reply, view}
-use Rattle.event_timing.specs.Actions.{new_flags}
-use Rattle.event_timing.specs.Agreement.{AreOwnMarks, IsTimed}
-use Rattle.event_timing.specs.Edits.{kept, after_edit}
-use Rattle.event_timing.proofs.Candidate.{candidate_parts, candidate_from}
-use Rattle.event_timing.proofs.Fronts.{IsDone}
+use Rattle.event_timing.proofs.{Candidate.candidate_parts, Candidate.candidate_from, Fronts.IsDone, Agreement.run_ended}
 use Rattle.event_timing.proofs.Editing.{kept_le, kept_same, time_from, edit_plain}
 use Rattle.right_records.specs.Records.{IsRight, IsRightRecord, known_at}
-use Rattle.right_records.proofs.Keeping.{Rise, kept_beyond, from_kept}
-use Rattle.event_timing.proofs.Agreement.{run_ended}
-use Rattle.right_records.proofs.Local.{clock_parts}
-use Rattle.right_records.proofs.Marks.{marks_cut}
+use Rattle.right_records.proofs.{Keeping.Rise, Keeping.kept_beyond, Keeping.from_kept, Local.clock_parts, Marks.marks_cut}
 use Rattle.right_records.proofs.Cutting.{IsCut, cut_known, bound_down, bound_up, flags_cut}
 
 module _ {S : Type 0} (d : Design S) (x : Core S) (right : (m k : ℕ) → k < x.timed m → IsRight d x m k) where

@@ -1,13 +1,7 @@
 //! The laws of right records, for any design `d` over states of any type `S`, and any history `h` of it.
 ghost use Rattle.std.specs.Prelude.{Bool, ◌⊎◌, ◌≡◌, ℕ, ◌-◌, ◌<◌, ◌≤◌, Some};
-ghost use Rattle.event_timing.specs.Machines.{Access, Design, IsDesign};
-ghost use Rattle.event_timing.specs.Histories.{Trace, IsHistory};
-ghost use Rattle.event_timing.specs.Core.{Core};
-ghost use Rattle.event_timing.specs.Actions.{IsFinal};
-ghost use Rattle.event_timing.specs.Agreement.{IsAgreed};
-ghost use Rattle.event_timing.specs.Edits.{edited};
-ghost use Rattle.event_timing.specs.Core.{view};
-ghost use Rattle.event_timing.specs.Enablers.{candidate};
+ghost use Rattle.event_timing.specs.{Machines.Access, Machines.Design, Machines.IsDesign, Histories.Trace, Histories.IsHistory, Core.Core};
+ghost use Rattle.event_timing.specs.{Core.view, Actions.IsFinal, Agreement.IsAgreed, Edits.edited, Enablers.candidate};
 ghost use Rattle.right_records.specs.Records.{IsRightRecord, IsRight, with_cycles, IsStill, IsBeside, IsChecked, HasSlack, IsTaking};
 ghost use Rattle.right_records.specs.Records.{enabler_at, partner, count_at, IsBetween, AreRightAround};
 ghost use Rattle.flow_word.specs.Kinds.{other_side};

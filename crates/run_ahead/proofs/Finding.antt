@@ -1,15 +1,10 @@
 -- Reading a mail, access by access.
-use Rattle.std.proofs.Common.{◌≡◌, refl, sym, ap, subst, ◌∙◌, ℕ, zero, suc, ◌+◌, ◌<◌, ◌≤◌, Bool, true, false, List, [], ◌∷◌, ◌++◌}
-use Rattle.std.proofs.Common.{length, drop, Option, Some, is_some, not}
+use Rattle.std.proofs.Common.{◌≡◌, refl, sym, ap, subst, ◌∙◌, ℕ, zero, suc, ◌+◌, ◌<◌, ◌≤◌, Bool, true, false, List, [], ◌∷◌, ◌++◌, length}
+use Rattle.std.proofs.Common.{drop, Option, Some, is_some, not, slice_get, inl, inr, arith, append_assoc}
+use Rattle.std.proofs.{lemmas.Bool.eq-eqb, lemmas.Bool.Decides.eqb_tells, Math.Seq.drop-nil, lemmas.List.drop_all, lemmas.List.drop-drop}
 use Rattle.std.specs.Prelude.{option_map}
-use Rattle.std.proofs.Common.{slice_get, inl, inr, arith, append_assoc}
-use Rattle.std.proofs.lemmas.Bool.{eq-eqb}
-use Rattle.std.proofs.lemmas.Bool.Decides.{eqb_tells}
-use Rattle.std.proofs.Math.Seq.{drop-nil}
 use Rattle.engine_view.proofs.Adding.{get_drop}
-use Rattle.std.proofs.lemmas.List.{drop_all, drop-drop}
-use Rattle.flow_word.specs.declared.access.Access.{Access}
-use Rattle.flow_word.specs.declared.access.Kind.{Kind}
+use Rattle.flow_word.specs.{declared.access.Access.Access, declared.access.Kind.Kind}
 use Rattle.flow_design.specs.declared.state.Reply.{Reply}
 use Rattle.module_interp.specs.OwnRests.{fits_kind, all_fit}
 use Rattle.engine_view.specs.Held.{queries_in}

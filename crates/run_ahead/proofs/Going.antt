@@ -1,13 +1,10 @@
 -- How a burst goes on, mark by mark.
 use Rattle.std.proofs.Common.{◌≡◌, refl, ◌∙◌, ℕ, Bool, true, false, List, [], ◌∷◌, ◌++◌, None, inl, inr, append_assoc, append-nil}
-use Rattle.flow_design.specs.declared.plan.Plan.{Plan}
-use Rattle.flow_design.specs.declared.state.Advance.{Advance}
+use Rattle.flow_design.specs.{declared.plan.Plan.Plan, declared.state.Advance.Advance}
 use Rattle.lockstep_defs.specs.OwnRun.{Own}
-use Rattle.module_interp.specs.declared.run.ModuleRun.{ModuleRun}
+use Rattle.module_interp.specs.{declared.run.ModuleRun.ModuleRun, Runs.StandsAt, Runs.waits, Runs.is_step}
 use Rattle.module_interp.specs.OwnRests.{next_rest, accesses_at}
-use Rattle.module_interp.specs.Runs.{StandsAt, waits, is_step}
-use Rattle.run_ahead.specs.declared.mail.Mail.{Mail}
-use Rattle.run_ahead.specs.declared.mail.Task.{Task}
+use Rattle.run_ahead.specs.{declared.mail.Mail.Mail, declared.mail.Task.Task}
 use Rattle.run_ahead.specs.Mails.{replies_in, taken_after, none_taken, IsLeft, IsPast, GoesOn, IsBurstFrom}
 use Rattle.run_ahead.specs.Working.{IsFed, IsEmitted, IsSoFar, burst_of, task_of}
 use Rattle.run_ahead.proofs.Finding.{left_none}

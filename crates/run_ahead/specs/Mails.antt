@@ -1,18 +1,13 @@
 -- What a run reads off its mail, and how it goes on by it from rest to rest.
-use Rattle.std.specs.Prelude.{◌≡◌, ℕ, suc, ◌+◌, ◌⊎◌, Bool, true, false, cond, List, [], ◌∷◌, length, drop, Option, None, Some}
-use Rattle.std.specs.Prelude.{nat_eq, nat_lt, slice_get, slice_index_or, if◌then◌else◌}
+use Rattle.std.specs.Prelude.{◌≡◌, ℕ, suc, ◌+◌, ◌⊎◌, Bool, true, false, cond, List, [], ◌∷◌, length, drop, Option, None, Some, nat_eq}
+use Rattle.std.specs.Prelude.{nat_lt, slice_get, slice_index_or, if◌then◌else◌}
 use Rattle.flow_word.specs.declared.access.Access.{Access}
-use Rattle.flow_design.specs.declared.plan.Plan.{Plan}
-use Rattle.flow_design.specs.declared.state.Advance.{Advance}
-use Rattle.flow_design.specs.declared.state.Reply.{Reply}
+use Rattle.flow_design.specs.{declared.plan.Plan.Plan, declared.state.Advance.Advance, declared.state.Reply.Reply}
 use Rattle.lockstep_defs.specs.OwnRun.{Own}
-use Rattle.module_interp.specs.OwnChannels.{place_in}
+use Rattle.module_interp.specs.{OwnChannels.place_in, Runs.StandsAt, Runs.waits, Runs.is_step, Runs.IsSoundMark}
 use Rattle.module_interp.specs.OwnRests.{next_rest, accesses_at, mark_at}
-use Rattle.module_interp.specs.Runs.{StandsAt, waits, is_step, IsSoundMark}
 use Rattle.engine_view.specs.Held.{queries_in}
-use Rattle.run_ahead.specs.declared.mail.Mail.{Mail}
-use Rattle.run_ahead.specs.declared.mail.Task.{Task}
-use Rattle.run_ahead.specs.declared.mail.Burst.{Burst}
+use Rattle.run_ahead.specs.{declared.mail.Mail.Mail, declared.mail.Task.Task, declared.mail.Burst.Burst}
 use Rattle.run_ahead.specs.Replies.{replies_from, has_value}
 
 -- ---- replies

@@ -1,16 +1,11 @@
 -- How far a burst has come, while it goes on.
 use Rattle.std.specs.Prelude.{◌≡◌, ℕ, ◌+◌, Bool, false, List, [], ◌∷◌, ◌++◌, length, Some}
-use Rattle.flow_design.specs.declared.plan.Plan.{Plan}
-use Rattle.flow_design.specs.declared.state.Advance.{Advance}
-use Rattle.flow_design.specs.declared.state.Reply.{Reply}
+use Rattle.flow_design.specs.{declared.plan.Plan.Plan, declared.state.Advance.Advance, declared.state.Reply.Reply}
 use Rattle.lockstep_defs.specs.OwnRun.{Own}
-use Rattle.module_interp.specs.declared.run.ModuleRun.{ModuleRun}
+use Rattle.module_interp.specs.{declared.run.ModuleRun.ModuleRun, Runs.StandsAt, Runs.waits, Runs.is_step, Runs.IsSoundMark}
 use Rattle.module_interp.specs.OwnRests.{next_rest, accesses_at, mark_at}
-use Rattle.module_interp.specs.Runs.{StandsAt, waits, is_step, IsSoundMark}
 use Rattle.engine_view.specs.Held.{queries_in}
-use Rattle.run_ahead.specs.declared.mail.Mail.{Mail}
-use Rattle.run_ahead.specs.declared.mail.Burst.{Burst}
-use Rattle.run_ahead.specs.declared.mail.Task.{Task}
+use Rattle.run_ahead.specs.{declared.mail.Mail.Mail, declared.mail.Burst.Burst, declared.mail.Task.Task}
 use Rattle.run_ahead.specs.Mails.{replies_in, taken_after, IsLeft, GoesOn}
 
 -- the run stands at some rest of some module

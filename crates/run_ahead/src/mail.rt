@@ -1,14 +1,10 @@
 //! A module's run with its mail, and how far it goes on that alone.
-ghost use Rattle.std.specs.Prelude.{◌≡◌, ◌≢◌, ℕ, ◌<◌, [], length, drop, slice_set};
-ghost use Rattle.std.specs.Prelude.{List as Items, Some, None, true, false, IsTrue, IsFalse, IsNone, IfOk, IfSome, OnErr};
+ghost use Rattle.std.specs.Prelude.{◌≡◌, ◌≢◌, ℕ, ◌<◌, [], length, drop, slice_set, List as Items, Some, None, true, false, IsTrue, IsFalse};
+ghost use Rattle.std.specs.Prelude.{IsNone, IfOk, IfSome, OnErr};
 ghost use Rattle.flow_design.specs.declared.plan.Plan.{Plan as PlanOf};
 ghost use Rattle.lockstep_defs.specs.OwnRun.{Own};
-ghost use Rattle.module_interp.specs.OwnChannels.{place_in};
-ghost use Rattle.module_interp.specs.OwnRests.{accesses_at};
-ghost use Rattle.module_interp.specs.Runs.{StandsAt, waits};
-ghost use Rattle.module_interp.specs.Runs.{is_step as is_step_of};
-ghost use Rattle.run_ahead.specs.Replies.{has_value};
-ghost use Rattle.run_ahead.specs.declared.mail.Mail.{Mail as MailOf};
+ghost use Rattle.module_interp.specs.{OwnChannels.place_in, OwnRests.accesses_at, Runs.StandsAt, Runs.waits, Runs.is_step as is_step_of};
+ghost use Rattle.run_ahead.specs.{Replies.has_value, declared.mail.Mail.Mail as MailOf};
 ghost use Rattle.run_ahead.specs.Mails.{values_on, next_value, replies_in, none_taken, taken_after, IsLeft, GoesOn, IsBurst, IsBurstFrom};
 ghost use Rattle.run_ahead.specs.Working.{StandsSomewhere, IsFed, IsEmitted, burst_of, task_of};
 

@@ -1,7 +1,6 @@
 //! The replies to a step, from the outcomes and values that are there for it.
 ghost use Rattle.std.specs.Prelude.{◌≡◌, ℕ, ◌+◌, ◌<◌, ◌^◌, Option, All, Some, None, IfOk, IfSome, IsNone, length, slice_get, false};
-ghost use Rattle.flow_word.specs.declared.access.Access.{Access as AccessOf};
-ghost use Rattle.flow_word.specs.Kinds.{is_blocking};
+ghost use Rattle.flow_word.specs.{declared.access.Access.Access as AccessOf, Kinds.is_blocking};
 ghost use Rattle.time_engine.specs.Conditions.{IsAccess};
 ghost use Rattle.engine_view.specs.Held.{queries_in};
 ghost use Rattle.run_ahead.specs.Replies.{reply_now, replies_from, first_missing, value_now};

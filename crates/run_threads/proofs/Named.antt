@@ -1,7 +1,6 @@
 -- Which modules a list of flags names.
 use Rattle.std.proofs.Common.{◌≡◌, ◌≤◌, ℕ, inl, inr, true, false, get_or, replicate, arith}
-use Rattle.std.proofs.Math.ListN.{get_or-eq_default}
-use Rattle.std.proofs.lemmas.Bool.{cases_lt, both_ways}
+use Rattle.std.proofs.{Math.ListN.get_or-eq_default, lemmas.Bool.cases_lt, lemmas.Bool.both_ways}
 use Rattle.std.proofs.lemmas.List.{get_or-replicate, length-replicate}
 
 -- none of them is set

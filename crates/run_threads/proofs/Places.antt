@@ -1,17 +1,11 @@
 -- The passes of the modules, by their places.
 use Rattle.std.proofs.Common.{◌≡◌, ℕ, List, [], ◌∷◌, ◌++◌, length, Some, slice_get, refl, sym, subst, arith}
 use Rattle.flow_design.specs.declared.plan.Plan.{Plan}
-use Rattle.sim_hub.specs.declared.hub.Hub.{Hub}
-use Rattle.sim_hub.specs.declared.pass.ModulePass.{ModulePass}
-use Rattle.sim_hub.specs.declared.pass.PerfPass.{PerfPass}
-use Rattle.sim_hub.specs.Places.{HasNoDeskOut}
+use Rattle.sim_hub.specs.{declared.hub.Hub.Hub, declared.pass.ModulePass.ModulePass, declared.pass.PerfPass.PerfPass, Places.HasNoDeskOut}
 use Rattle.sim_hub.specs.Hubs.{hub_id, module_of, module_view, perf_view}
 use Rattle.sim_hub.specs.Closings.{AreNew, AreOfHub, AllHome, HasEachModule}
-use Rattle.sim_hub.proofs.Lists.{there}
-use Rattle.sim_hub.proofs.Openings.{new_home}
-use Rattle.run_threads.specs.declared.drive.Seat.{Seat}
-use Rattle.run_threads.specs.Driving.{IsHere}
-use Rattle.run_threads.specs.Slots.{AreHere, passes_in}
+use Rattle.sim_hub.proofs.{Lists.there, Openings.new_home}
+use Rattle.run_threads.specs.{declared.drive.Seat.Seat, Driving.IsHere, Slots.AreHere, Slots.passes_in}
 
 pub home_at : (h : Hub) (k : ℕ) (p : ModulePass) → IsHere h k p → HasNoDeskOut (module_of p) (module_view p)
 home_at h k p is = subst (λ n. HasNoDeskOut n (module_view p)) (sym is.1) is.2

@@ -2,14 +2,10 @@
 use Rattle.std.specs.Prelude.{◌≡◌, ℕ}
 use Rattle.turn_lock.specs.declared.view.View.{View}
 use Rattle.turn_history.specs.declared.entry.HubEntry.{HubEntry}
-use Rattle.sim_hub.specs.declared.hub.Hub.{Hub}
-use Rattle.sim_hub.specs.declared.pass.ModulePass.{ModulePass}
-use Rattle.sim_hub.specs.Places.{Behind, HasNoDeskOut}
+use Rattle.sim_hub.specs.{declared.hub.Hub.Hub, declared.pass.ModulePass.ModulePass, Places.Behind, Places.HasNoDeskOut}
 use Rattle.sim_hub.specs.Hubs.{IsOfHub, IsFinished, WasShort, module_of, module_view}
-use Rattle.run_threads.specs.declared.drive.Answered.{Answered}
-use Rattle.run_threads.specs.declared.drive.Went.{Went}
+use Rattle.run_threads.specs.{declared.drive.Answered.Answered, declared.drive.Went.Went, declared.drive.End.End}
 use Rattle.run_threads.specs.declared.drive.Went.TheVariants as went
-use Rattle.run_threads.specs.declared.drive.End.{End}
 use Rattle.run_threads.specs.declared.drive.End.TheVariants as end
 
 -- what a try to drive a module says follows from what its pass has seen

@@ -1,10 +1,7 @@
 -- Where the passes of the modules are.
 use Rattle.std.specs.Prelude.{◌≡◌, ℕ, List, map, Some, slice_get}
-use Rattle.sim_hub.specs.declared.hub.Hub.{Hub}
-use Rattle.sim_hub.specs.declared.pass.ModulePass.{ModulePass}
-use Rattle.run_threads.specs.Driving.{IsHere}
-use Rattle.run_threads.specs.declared.drive.Seat.{Seat}
-use Rattle.run_threads.specs.declared.start.Slot.{Slot}
+use Rattle.sim_hub.specs.{declared.hub.Hub.Hub, declared.pass.ModulePass.ModulePass}
+use Rattle.run_threads.specs.{Driving.IsHere, declared.drive.Seat.Seat, declared.start.Slot.Slot}
 use Rattle.run_threads.specs.declared.start.Slot.TheVariants as slot
 
 -- these are the passes of this hub's modules, in order, with no desk out

@@ -1,9 +1,7 @@
 //! The caller: it gives the cycles, drives the modules that have no thread, and takes all passes back.
 ghost use Rattle.std.specs.Prelude.{◌≡◌, ◌≤◌, [], length, vec_capacity};
 ghost use Rattle.sim_hub.specs.Hubs.{IsOverAt, IsPerfOf, perf_view};
-ghost use Rattle.run_threads.specs.Driving.{IsHere};
-ghost use Rattle.run_threads.specs.Leading.{HasGoneOn};
-ghost use Rattle.run_threads.specs.Slots.{SlotIs, AreSlots, AreHere};
+ghost use Rattle.run_threads.specs.{Driving.IsHere, Leading.HasGoneOn, Slots.SlotIs, Slots.AreSlots, Slots.AreHere};
 
 use crate::bells::Bells;
 use crate::concern::News;

@@ -1,7 +1,6 @@
 //! The modules that the caller drives from the start of a run.
 ghost use Rattle.std.specs.Prelude.{◌≡◌, ◌⊎◌, ◌↔◌, ℕ, ◌<◌, ◌≤◌, IsTrue, length};
-ghost use Rattle.flow_design.specs.declared.limits.TheConstants.{MODULES};
-ghost use Rattle.flow_design.specs.StaticRules.{FitsEngine};
+ghost use Rattle.flow_design.specs.{declared.limits.TheConstants.MODULES, StaticRules.FitsEngine};
 ghost use Rattle.run_threads.specs.Lights.{IsNamed};
 
 use flow_design::limits::MODULES;

@@ -3,12 +3,9 @@ ghost use Rattle.std.specs.Prelude.{◌≡◌, ◌≤◌, [], length, IfOk, vec_
 ghost use Rattle.flow_design.specs.StaticRules.{FitsEngine};
 ghost use Rattle.event_timing.specs.Core.{opening_core};
 ghost use Rattle.timing_bridge.specs.Designs.{design};
-ghost use Rattle.sim_core.specs.Views.{theory_of};
-ghost use Rattle.sim_core.specs.Drives.{AreOwn};
-ghost use Rattle.sim_hub.specs.Hubs.{IsOverAt, IsPerfOf, perf_view};
-ghost use Rattle.sim_hub.specs.Closings.{IsRun};
-ghost use Rattle.run_threads.specs.Leading.{HasGoneOn};
-ghost use Rattle.run_threads.specs.Slots.{passes_in, AreHere};
+ghost use Rattle.sim_core.specs.{Views.theory_of, Drives.AreOwn};
+ghost use Rattle.sim_hub.specs.{Hubs.IsOverAt, Hubs.IsPerfOf, Hubs.perf_view, Closings.IsRun};
+ghost use Rattle.run_threads.specs.{Leading.HasGoneOn, Slots.passes_in, Slots.AreHere};
 
 use crate::bells::Bells;
 use crate::drive::Seat;

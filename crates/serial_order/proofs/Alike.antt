@@ -2,24 +2,17 @@
 use Rattle.std.proofs.Common.{◌≡◌, ℕ, zero, suc, ◌-◌, ◌%◌, ◌^◌, ◌<◌, List, [], ◌∷◌, length, get_or, set, Option, Some, None, Bool, true}
 use Rattle.std.proofs.Common.{false, not, ◌||◌, nat_lt, refl, sym, ◌∙◌, ap, arith, ◌==◌}
 use Rattle.std.proofs.lemmas.Bool.{ltb-true, ltb-false, eq-eqb, or_right, or_left}
-use Rattle.std.proofs.Math.ListN.{get_or-append}
-use Rattle.std.proofs.Math.Seq.{get_or-append_right}
+use Rattle.std.proofs.{Math.ListN.get_or-append, Math.Seq.get_or-append_right}
 use Rattle.flow_word.specs.declared.access.Side.TheVariants.{Pop, Push}
 use Rattle.flow_design.specs.declared.expr.Expr.{Expr, more_of-Expr, Number, Var, Unary', Binary', Sext', Pick'}
-use Rattle.flow_design.specs.declared.expr.Op.{Op}
+use Rattle.flow_design.specs.{declared.expr.Op.Op, declared.design.Module.Module, declared.design.Timed.Timed, Operations.places_of}
+use Rattle.flow_design.specs.{Operations.expressions_of, Module.temps_of, Module.passes, StaticRules.IsOperationSound}
 use Rattle.flow_design.specs.declared.expr.Op.TheVariants.{Set, Load, Store, Read, Write, TryRead, TryWrite, Empty, Full}
-use Rattle.flow_design.specs.declared.design.Module.{Module}
-use Rattle.flow_design.specs.declared.design.Timed.{Timed}
 use Rattle.flow_design.specs.Words.{variable, value, unary, extended}
-use Rattle.flow_design.specs.Operations.{places_of, expressions_of}
-use Rattle.flow_design.specs.Module.{temps_of, passes}
-use Rattle.flow_design.specs.StaticRules.{IsOperationSound}
-use Rattle.lockstep_defs.specs.Machine.{memory_of}
-use Rattle.lockstep_defs.specs.Channels.{moved_by}
-use Rattle.serial_order.specs.declared.order.Used.{Used}
+use Rattle.lockstep_defs.specs.{Machine.memory_of, Channels.moved_by}
+use Rattle.serial_order.specs.{declared.order.Used.Used, SerialRun.Progress}
 use Rattle.serial_order.specs.declared.order.Used.TheVariants.{Register, Memory, Reading, Writing}
 use Rattle.serial_order.specs.Uses.{names, is_named, is_this, is_among, is_use}
-use Rattle.serial_order.specs.SerialRun.{Progress}
 use Rattle.serial_order.proofs.Outcomes.{ToVariable, Setting, outcome, exchange}
 
 -- ---- tests and lists

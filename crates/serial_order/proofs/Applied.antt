@@ -1,26 +1,17 @@
 -- What outcomes and exchanges leave of a thing, and of the temps of an iteration.
-use Rattle.std.proofs.Common.{◌≡◌, ◌≢◌, ℕ, ◌-◌, ◌<◌, List, [], ◌∷◌, ◌++◌, length, get_or, set, Option, Some, None, Bool, true}
-use Rattle.std.proofs.Common.{false, nat_lt, refl, sym, ◌∙◌, ap, ◌==◌}
+use Rattle.std.proofs.Common.{◌≡◌, ◌≢◌, ℕ, ◌-◌, ◌<◌, List, [], ◌∷◌, ◌++◌, length, get_or, set, Option, Some, None, Bool, true, false}
+use Rattle.std.proofs.Common.{nat_lt, refl, sym, ◌∙◌, ap, ◌==◌}
 use Rattle.std.proofs.lemmas.Bool.{eqb-true, eqb-false, or_parts}
 use Rattle.std.proofs.lemmas.List.{get_or-set_same, get_or-set_other}
 use Rattle.std.specs.Prelude.{if◌then◌else◌}
-use Rattle.flow_word.specs.declared.access.Side.{Side}
-use Rattle.flow_word.specs.declared.access.Side.TheVariants.{Pop, Push}
-use Rattle.flow_design.specs.declared.expr.Op.{Op}
+use Rattle.flow_word.specs.{declared.access.Side.Side, declared.access.Side.TheVariants.Pop, declared.access.Side.TheVariants.Push}
+use Rattle.flow_design.specs.{declared.expr.Op.Op, declared.state.ModuleState.ModuleState, Words.cut_to, Module.temps_of}
 use Rattle.flow_design.specs.declared.expr.Op.TheVariants.{Set, Load, Store, Read, Write, TryRead, TryWrite, Empty, Full}
 use Rattle.flow_design.specs.declared.state.Effect.TheVariants.{Variable, Word}
-use Rattle.flow_design.specs.declared.state.ModuleState.{ModuleState}
-use Rattle.flow_design.specs.Words.{cut_to}
-use Rattle.flow_design.specs.Module.{temps_of}
-use Rattle.lockstep_defs.specs.Machine.{memory_of}
-use Rattle.lockstep_defs.specs.Channels.{Exchange, moved_by}
-use Rattle.lockstep_defs.specs.States.{HasPlaces}
-use Rattle.lockstep_defs.proofs.Queue.{moved_by-append}
-use Rattle.lockstep_defs.proofs.States.{stored_places}
-use Rattle.serial_order.specs.declared.order.Used.{Used}
+use Rattle.lockstep_defs.specs.{Machine.memory_of, Channels.Exchange, Channels.moved_by, States.HasPlaces}
+use Rattle.lockstep_defs.proofs.{Queue.moved_by-append, States.stored_places}
+use Rattle.serial_order.specs.{declared.order.Used.Used, Uses.writes, SerialRun.Progress}
 use Rattle.serial_order.specs.declared.order.Used.TheVariants.{Register, Memory, Reading, Writing}
-use Rattle.serial_order.specs.Uses.{writes}
-use Rattle.serial_order.specs.SerialRun.{Progress}
 use Rattle.serial_order.proofs.Outcomes.{Outcome, Nothing, ToVariable, ToWord, Setting, put, more, applied, done_by_op}
 use Rattle.serial_order.proofs.Exchanges.{unmoved, pop_elsewhere, pop_no_push, push_elsewhere, push_no_pop}
 use Rattle.serial_order.proofs.Alike.{set_alike, held}

@@ -1,28 +1,16 @@
 -- A module's own run on lists of values comes to its end beside the serial run.
-use Rattle.std.proofs.Common.{◌≡◌, ℕ, zero, suc, ◌+◌, ◌<◌, List, [], ◌∷◌, ◌++◌, length, Bool, true, false, refl, sym, ◌∙◌, ap}
-use Rattle.std.proofs.Common.{subst, arith, true≢false, append_assoc, append-nil}
-use Rattle.std.specs.Prelude.{if◌then◌else◌, slice_index_or}
-use Rattle.std.specs.List.{flat_map}
-use Rattle.std.proofs.lemmas.List.{ext_get_or}
-use Rattle.std.proofs.lemmas.Grind.{flat_map-append}
-use Rattle.flow_design.specs.declared.design.Module.{Module}
-use Rattle.flow_design.specs.declared.plan.Plan.{Plan}
-use Rattle.flow_design.specs.declared.state.ModuleState.{ModuleState}
-use Rattle.flow_design.specs.declared.state.Reply.{Reply}
-use Rattle.flow_design.specs.declared.state.Request.{Request}
-use Rattle.flow_design.specs.Module.{block_at}
-use Rattle.flow_design.specs.StaticRules.{IsModuleSound}
-use Rattle.lockstep_defs.specs.Machine.{requests, move, is_over}
-use Rattle.flow_word.specs.declared.access.Side.TheVariants.{Pop, Push}
-use Rattle.lockstep_defs.specs.Channels.{Exchange, moved_by}
-use Rattle.lockstep_defs.specs.Lockstep.{module_at}
+use Rattle.std.proofs.Common.{◌≡◌, ℕ, zero, suc, ◌+◌, ◌<◌, List, [], ◌∷◌, ◌++◌, length, Bool, true, false, refl, sym, ◌∙◌, ap, subst, arith}
+use Rattle.std.proofs.Common.{true≢false, append_assoc, append-nil}
+use Rattle.std.proofs.{lemmas.List.ext_get_or, lemmas.Grind.flat_map-append}
+use Rattle.std.specs.{Prelude.if◌then◌else◌, Prelude.slice_index_or, List.flat_map}
+use Rattle.flow_design.specs.{declared.design.Module.Module, declared.plan.Plan.Plan, declared.state.ModuleState.ModuleState}
+use Rattle.flow_design.specs.{declared.state.Reply.Reply, declared.state.Request.Request, Module.block_at, StaticRules.IsModuleSound}
+use Rattle.lockstep_defs.specs.{Machine.requests, Machine.move, Machine.is_over, Channels.Exchange, Channels.moved_by, Lockstep.module_at}
 use Rattle.lockstep_defs.specs.OwnRun.{OwnStep, Own, own_after, own_next, own, paired}
+use Rattle.flow_word.specs.declared.access.Side.TheVariants.{Pop, Push}
 use Rattle.serial_order.specs.declared.order.Used.TheVariants.{Register, Memory, Reading, Writing}
 use Rattle.serial_order.specs.SerialRun.{all_given, Progress, serial, AreGiven, done_by, EndsAlike, GetsAsFar}
-use Rattle.serial_order.proofs.Outcomes.{setting_of}
-use Rattle.serial_order.proofs.Alike.{only}
-use Rattle.serial_order.proofs.Going.{IsSerial}
-use Rattle.serial_order.proofs.Fronts.{end_front}
+use Rattle.serial_order.proofs.{Outcomes.setting_of, Alike.only, Going.IsSerial, Fronts.end_front}
 use Rattle.serial_order.proofs.Runs.{IsBeside, goes, ends, moved, goes_further, opens}
 
 -- ---- what was given before the last step

@@ -1,32 +1,19 @@
 -- What overlapping iterations have done at a channel is a front of what the serial run does there.
 use Rattle.std.proofs.Common.{◌≡◌, ℕ, zero, suc, ◌+◌, ◌-◌, ◌*◌, ◌≤◌, ◌<◌, List, [], ◌∷◌, ◌++◌, length, min, Bool, true, false, refl, sym}
 use Rattle.std.proofs.Common.{◌∙◌, ap, subst, arith, ◌⊎◌, inl, inr, append_assoc, append-nil, true≢false}
+use Rattle.std.proofs.{lemmas.Bool.cases_lt, lemmas.Bool.cases_Bool, Math.Nat.mul-le-mul_right, Math.Nat.min-le_right}
 use Rattle.std.specs.Prelude.{if◌then◌else◌}
-use Rattle.std.proofs.lemmas.Bool.{cases_lt, cases_Bool}
-use Rattle.std.proofs.Math.Nat.{mul-le-mul_right, min-le_right}
-use Rattle.flow_word.specs.declared.access.Side.{Side}
-use Rattle.flow_word.specs.declared.access.Side.TheVariants.{Pop, Push}
-use Rattle.flow_design.specs.declared.design.Block.{Block}
-use Rattle.flow_design.specs.declared.design.Channel.{Channel}
-use Rattle.flow_design.specs.declared.design.Module.{Module}
-use Rattle.flow_design.specs.declared.design.Timed.{Timed}
-use Rattle.flow_design.specs.Module.{block_at, block_of, interval}
-use Rattle.flow_design.specs.StaticRules.{IsModuleSound}
-use Rattle.lockstep_defs.specs.Machine.{requests}
-use Rattle.lockstep_defs.specs.Channels.{moved_by}
-use Rattle.lockstep_defs.specs.OwnRun.{paired}
+use Rattle.flow_word.specs.{declared.access.Side.Side, declared.access.Side.TheVariants.Pop, declared.access.Side.TheVariants.Push}
+use Rattle.flow_design.specs.{declared.design.Block.Block, declared.design.Channel.Channel, declared.design.Module.Module}
+use Rattle.flow_design.specs.{declared.design.Timed.Timed, Module.block_at, Module.block_of, Module.interval, StaticRules.IsModuleSound}
+use Rattle.lockstep_defs.specs.{Machine.requests, Channels.moved_by, OwnRun.paired}
 use Rattle.lockstep_defs.proofs.Queue.{moved_by-append}
-use Rattle.serial_order.specs.declared.order.Used.{Used}
+use Rattle.serial_order.specs.{declared.order.Used.Used, Uses.writes}
 use Rattle.serial_order.specs.declared.order.Used.TheVariants.{Reading, Writing}
-use Rattle.serial_order.specs.Uses.{writes}
 use Rattle.serial_order.specs.SerialRun.{Progress, IsFront, all_given, alone_at, gone_on, iteration, iterated, serial}
-use Rattle.serial_order.proofs.Lists.{Among}
+use Rattle.serial_order.proofs.{Lists.Among, Alike.IsThing, Alike.held, Offsets.upto, Going.IsSerial, Runs.GoesBeside, Runs.from-suc}
 use Rattle.serial_order.proofs.Outcomes.{Setting, setting_of}
-use Rattle.serial_order.proofs.Alike.{IsThing, held}
-use Rattle.serial_order.proofs.Offsets.{upto}
 use Rattle.serial_order.proofs.Windows.{IsNarrow, NotLater, AllEarlier, writes_used}
-use Rattle.serial_order.proofs.Going.{IsSerial}
-use Rattle.serial_order.proofs.Runs.{GoesBeside, from-suc}
 
 -- ---- fronts
 

@@ -1,27 +1,17 @@
 -- How a module in a loop goes on: within an iteration, with a next one, or out of its block.
-use Rattle.std.proofs.Common.{◌≡◌, ℕ, suc, ◌+◌, ◌-◌, ◌*◌, ◌≤◌, ◌<◌, List, [], length, get_or, drop, Bool, true, false, ◌&&◌}
-use Rattle.std.proofs.Common.{refl, sym, ◌∙◌, ap, arith, ◌==◌, nat_lt}
-use Rattle.std.specs.Prelude.{slice_index}
-use Rattle.std.proofs.lemmas.Bool.{ltb-true, ltb-false}
+use Rattle.std.proofs.Common.{◌≡◌, ℕ, suc, ◌+◌, ◌-◌, ◌*◌, ◌≤◌, ◌<◌, List, [], length, get_or, drop, Bool, true, false, ◌&&◌, refl, sym, ◌∙◌}
+use Rattle.std.proofs.Common.{ap, arith, ◌==◌, nat_lt}
+use Rattle.std.proofs.{lemmas.Bool.ltb-true, lemmas.Bool.ltb-false, Math.Nat.mul-le-mul_right}
 use Rattle.std.proofs.lemmas.List.{get_or-drop, length-drop}
-use Rattle.std.proofs.Math.Nat.{mul-le-mul_right}
-use Rattle.flow_design.specs.declared.design.Block.{Block}
-use Rattle.flow_design.specs.declared.design.Module.{Module}
-use Rattle.flow_design.specs.declared.design.Timed.{Timed}
-use Rattle.flow_design.specs.declared.state.Control.{Control}
-use Rattle.flow_design.specs.declared.state.ModuleState.{ModuleState}
+use Rattle.std.specs.Prelude.{slice_index}
+use Rattle.flow_design.specs.{declared.design.Block.Block, declared.design.Module.Module, declared.design.Timed.Timed}
+use Rattle.flow_design.specs.{declared.state.Control.Control, declared.state.ModuleState.ModuleState}
 use Rattle.flow_design.specs.Module.{is_loop, interval, temps_of}
 use Rattle.lockstep_defs.specs.Machine.{requests, ticked, decided, started, stopped, finished, followed, again_of, is_block_over}
-use Rattle.lockstep_defs.proofs.Live.{live_iff}
-use Rattle.lockstep_defs.proofs.Moves.{commits_keep}
-use Rattle.serial_order.specs.declared.order.Used.{Used}
+use Rattle.lockstep_defs.proofs.{Live.live_iff, Moves.commits_keep}
+use Rattle.serial_order.specs.{declared.order.Used.Used, Uses.writes, SerialRun.Progress, SerialRun.all_given}
 use Rattle.serial_order.specs.declared.order.Used.TheVariants.{Register, Memory, Reading, Writing}
-use Rattle.serial_order.specs.Uses.{writes}
-use Rattle.serial_order.specs.SerialRun.{Progress, all_given}
-use Rattle.serial_order.proofs.Lists.{Among}
-use Rattle.serial_order.proofs.Outcomes.{Setting}
-use Rattle.serial_order.proofs.Alike.{held}
-use Rattle.serial_order.proofs.Offsets.{IsFit, HasStores, upto}
+use Rattle.serial_order.proofs.{Lists.Among, Outcomes.Setting, Alike.held, Offsets.IsFit, Offsets.HasStores, Offsets.upto}
 use Rattle.serial_order.proofs.Windows.{IsNarrow, IsChain, HoldsAlike, live_in, IsSlot, TempsAlike, IsInLoop, HasCommitted}
 use Rattle.serial_order.proofs.Overlap.{after_clock, has_committed, clock_is}
 

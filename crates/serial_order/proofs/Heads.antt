@@ -1,14 +1,10 @@
 -- The first of a list that is made item by item.
 use Rattle.std.proofs.Common.{◌≡◌, ℕ, suc, ◌+◌, ◌<◌, List, [], ◌∷◌, ◌++◌, length, map, drop, get_or, Option, Some, None, Bool, true, false}
 use Rattle.std.proofs.Common.{cond, refl, ◌∙◌, add-one, drop-cons}
-use Rattle.std.specs.List.{filter, flat_map, find, enumerate_from}
-use Rattle.std.specs.Option.{option_or, option_map}
-use Rattle.flow_design.specs.declared.design.Timed.{Timed}
-use Rattle.flow_design.specs.declared.design.Block.{Block}
+use Rattle.std.specs.{List.filter, List.flat_map, List.find, List.enumerate_from, Option.option_or, Option.option_map}
+use Rattle.flow_design.specs.{declared.design.Timed.Timed, declared.design.Block.Block, declared.design.Module.Module}
 use Rattle.flow_design.specs.declared.design.BlockKind.TheVariants.{Loop}
-use Rattle.flow_design.specs.declared.design.Module.{Module}
-use Rattle.serial_order.specs.declared.order.Order.{Order}
-use Rattle.serial_order.specs.declared.order.Used.{Used}
+use Rattle.serial_order.specs.{declared.order.Order.Order, declared.order.Used.Used}
 use Rattle.serial_order.specs.declared.order.Order.TheVariants.{Late, Wide}
 use Rattle.serial_order.specs.Orders.{head, numbers_where, is_late, lates_of, is_wide, things_of, wides_of, faults_by}
 

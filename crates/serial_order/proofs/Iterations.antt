@@ -1,13 +1,8 @@
 -- One live iteration in one local clock.
-use Rattle.std.proofs.Common.{◌≡◌, ◌≢◌, ℕ, ◌<◌, length, Option, Bool, true, false, cond, refl}
-use Rattle.std.proofs.Common.{◌∙◌, arith, ◌==◌}
+use Rattle.std.proofs.Common.{◌≡◌, ◌≢◌, ℕ, ◌<◌, length, Option, Bool, true, false, cond, refl, ◌∙◌, arith, ◌==◌}
 use Rattle.std.proofs.lemmas.Bool.{eqb-true}
-use Rattle.flow_design.specs.declared.design.Timed.{Timed}
-use Rattle.flow_design.specs.Module.{temps_of, passes}
-use Rattle.flow_design.specs.StaticRules.{IsTimedSound}
-use Rattle.serial_order.specs.declared.order.Used.{Used}
-use Rattle.serial_order.specs.Uses.{writes}
-use Rattle.serial_order.specs.SerialRun.{Progress}
+use Rattle.flow_design.specs.{declared.design.Timed.Timed, Module.temps_of, Module.passes, StaticRules.IsTimedSound}
+use Rattle.serial_order.specs.{declared.order.Used.Used, Uses.writes, SerialRun.Progress}
 use Rattle.lockstep_defs.specs.Channels.{Exchange}
 use Rattle.serial_order.proofs.Lists.{Among, fold_both, fold_keeps}
 use Rattle.serial_order.proofs.Outcomes.{Outcome, Setting, outcome, exchange, applied, done_by_op, at_age, iteration_done}

@@ -1,27 +1,18 @@
 -- The next local clock in a loop: in the same iterations, or with one more.
-use Rattle.std.proofs.Common.{◌≡◌, ℕ, zero, suc, ◌+◌, ◌-◌, ◌*◌, ◌≤◌, ◌<◌, [], ◌∷◌, ◌++◌, length, get_or, min, Bool, true, false, not}
-use Rattle.std.proofs.Common.{refl, sym, ◌∙◌, ap, subst, arith, nat_lt, inl, inr, length-append}
-use Rattle.std.specs.Prelude.{slice_index, if◌then◌else◌}
+use Rattle.std.proofs.Common.{◌≡◌, ℕ, zero, suc, ◌+◌, ◌-◌, ◌*◌, ◌≤◌, ◌<◌, [], ◌∷◌, ◌++◌, length, get_or, min, Bool, true, false, not, refl}
+use Rattle.std.proofs.Common.{sym, ◌∙◌, ap, subst, arith, nat_lt, inl, inr, length-append}
 use Rattle.std.proofs.lemmas.Bool.{ltb-true, ltb-false}
-use Rattle.std.proofs.Math.ListN.{get_or-append}
-use Rattle.std.proofs.Math.Seq.{get_or-append_seam}
-use Rattle.std.proofs.Math.Nat.{suc-mul, min-eq_left}
-use Rattle.flow_design.specs.declared.design.Block.{Block}
-use Rattle.flow_design.specs.declared.design.Timed.{Timed}
-use Rattle.flow_design.specs.declared.state.Control.{Control}
+use Rattle.std.proofs.{Math.ListN.get_or-append, Math.Seq.get_or-append_seam, Math.Nat.suc-mul, Math.Nat.min-eq_left}
+use Rattle.std.specs.Prelude.{slice_index, if◌then◌else◌}
+use Rattle.flow_design.specs.{declared.design.Block.Block, declared.design.Timed.Timed, declared.state.Control.Control}
 use Rattle.flow_design.specs.Module.{block_at, block_of, is_loop, interval, temps_of}
 use Rattle.lockstep_defs.specs.Machine.{started, again_of, fresh_temps, followed}
-use Rattle.serial_order.specs.declared.order.Used.{Used}
+use Rattle.serial_order.specs.{declared.order.Used.Used, Uses.writes, SerialRun.Progress, SerialRun.goes_again, SerialRun.iterated}
 use Rattle.serial_order.specs.declared.order.Used.TheVariants.{Register, Memory, Reading, Writing}
-use Rattle.serial_order.specs.Uses.{writes}
-use Rattle.serial_order.specs.SerialRun.{Progress, goes_again, iterated}
-use Rattle.serial_order.proofs.Lists.{Among}
-use Rattle.serial_order.proofs.Outcomes.{Setting}
+use Rattle.serial_order.proofs.{Lists.Among, Outcomes.Setting, Applied.Placed, Going.IsSerial, Going.HasTicked}
 use Rattle.serial_order.proofs.Alike.{IsThing, held, only}
-use Rattle.serial_order.proofs.Applied.{Placed}
 use Rattle.serial_order.proofs.Offsets.{IsFit, Stands, upto, upto-zero, upto_block, upto_places, upto_start, still}
 use Rattle.serial_order.proofs.Windows.{IsChain, NotLater, AllEarlier, HoldsAlike, live_in, TempsAlike, IsInLoop}
-use Rattle.serial_order.proofs.Going.{IsSerial, HasTicked}
 
 -- ---- an iteration of the serial run
 

@@ -1,9 +1,7 @@
 -- Which variables an expression names, case by case.
 use Rattle.std.proofs.Common.{◌≡◌, ℕ, ◌==◌, ◌||◌, false, refl}
 use Rattle.flow_design.specs.declared.expr.Expr.{Expr, Unary, Binary, Sext, Pick, Number, Var}
-use Rattle.flow_design.specs.declared.expr.Expr.TheBlock.{hidden-the_row-Expr-0}
-use Rattle.flow_design.specs.declared.expr.UnOp.{UnOp}
-use Rattle.flow_design.specs.declared.expr.BinOp.{BinOp}
+use Rattle.flow_design.specs.{declared.expr.Expr.TheBlock.hidden-the_row-Expr-0, declared.expr.UnOp.UnOp, declared.expr.BinOp.BinOp}
 use Rattle.serial_order.specs.Uses.{names}
 
 pub names_number : (x n : ℕ) → names x (Number n) ≡ false

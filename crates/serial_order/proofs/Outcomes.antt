@@ -1,42 +1,27 @@
 -- What the operations of a local clock make of a module: one outcome and one exchange each.
 use Rattle.std.proofs.Common.{◌≡◌, ℕ, suc, ◌+◌, ◌≤◌, ◌<◌, List, [], ◌∷◌, ◌++◌, length, map, drop, get_or, zero-add, Option, Some, None}
-use Rattle.std.proofs.Common.{Bool, true, false}
-use Rattle.std.proofs.Common.{cond, refl, ◌∙◌, ap, subst, arith, ◌==◌, inl, inr, append_assoc, append-nil, add-zero}
-use Rattle.std.specs.Prelude.{slice_index, if◌then◌else◌}
+use Rattle.std.proofs.Common.{Bool, true, false, cond, refl, ◌∙◌, ap, subst, arith, ◌==◌, inl, inr, append_assoc, append-nil, add-zero}
+use Rattle.std.proofs.{lemmas.Bool.eq-eqb, lemmas.List.Sums.fold-append}
+use Rattle.std.specs.Prelude.{slice_index, if◌then◌else◌, nat_eq, ◌⊎◌}
 use Rattle.std.specs.List.{fold, filter, filter_map, flat_map, enumerate_from, cons_option}
-use Rattle.std.specs.Prelude.{nat_eq, ◌⊎◌}
-use Rattle.std.proofs.lemmas.Bool.{eq-eqb}
-use Rattle.std.proofs.lemmas.List.Sums.{fold-append}
-use Rattle.flow_design.specs.declared.state.Reply.{Reply}
-use Rattle.flow_design.specs.Module.{interval}
+use Rattle.flow_design.specs.{declared.state.Reply.Reply, declared.expr.Op.Op, declared.design.Block.Block, declared.design.Channel.Channel}
+use Rattle.flow_design.specs.{declared.design.Module.Module, declared.design.Timed.Timed, declared.state.Due.Due}
+use Rattle.flow_design.specs.{declared.state.ModuleState.ModuleState, declared.state.Request.Request, Words.cut_to}
+use Rattle.flow_design.specs.Module.{interval, no_operation, block_of, operation_at, ages, temps_of, passes, due_at, due_in, due}
+use Rattle.flow_design.specs.Module.{live_count}
+use Rattle.flow_design.specs.declared.expr.Op.TheVariants.{Set, Load, Store, Read, Write, TryRead, TryWrite, Empty, Full}
+use Rattle.flow_design.specs.declared.state.Effect.TheVariants.{Variable, Word}
+use Rattle.flow_design.specs.declared.state.Reply.TheVariants.{Done, Value}
 use Rattle.flow_word.specs.declared.access.Kind.TheVariants as kind
 use Rattle.flow_word.specs.declared.access.Side.TheVariants.{Pop}
-use Rattle.flow_design.specs.declared.expr.Op.{Op}
-use Rattle.flow_design.specs.declared.expr.Op.TheVariants.{Set, Load, Store, Read, Write, TryRead, TryWrite, Empty, Full}
-use Rattle.flow_design.specs.declared.design.Block.{Block}
-use Rattle.flow_design.specs.declared.design.Channel.{Channel}
-use Rattle.flow_design.specs.declared.design.Module.{Module}
-use Rattle.flow_design.specs.declared.design.Timed.{Timed}
-use Rattle.flow_design.specs.declared.state.Due.{Due}
-use Rattle.flow_design.specs.declared.state.Effect.TheVariants.{Variable, Word}
-use Rattle.flow_design.specs.declared.state.ModuleState.{ModuleState}
-use Rattle.flow_design.specs.declared.state.Reply.TheVariants.{Done, Value}
-use Rattle.flow_design.specs.declared.state.Request.{Request}
-use Rattle.flow_design.specs.Words.{cut_to}
-use Rattle.flow_design.specs.Module.{no_operation, block_of, operation_at, ages, temps_of, passes, due_at, due_in, due, live_count}
-use Rattle.lockstep_defs.specs.States.{IsDueIn}
-use Rattle.lockstep_defs.proofs.Standing.{due_in_range}
-use Rattle.lockstep_defs.specs.Ports.{takes}
-use Rattle.lockstep_defs.proofs.Due.{AreApart, how_many, due_once}
-use Rattle.serial_order.specs.Uses.{reading_end}
-use Rattle.serial_order.proofs.Exchanges.{pop_of, push_of, unmoved, pop_elsewhere, push_no_pop}
-use Rattle.serial_order.proofs.Lists.{Among, among_all, among_at}
-use Rattle.lockstep_defs.specs.Laws.{is_query}
+use Rattle.lockstep_defs.specs.{States.IsDueIn, Ports.takes, Laws.is_query, Channels.Exchange, Channels.moved_by, OwnRun.paired}
 use Rattle.lockstep_defs.specs.Machine.{width_of, value_of, request_of, requests, memory_of, address_in, effects_of, is_fifo_operation}
 use Rattle.lockstep_defs.specs.Machine.{effects, stored}
-use Rattle.lockstep_defs.specs.Channels.{Exchange, moved_by}
-use Rattle.lockstep_defs.specs.OwnRun.{paired}
+use Rattle.lockstep_defs.proofs.{Standing.due_in_range, Due.AreApart, Due.how_many, Due.due_once}
+use Rattle.serial_order.specs.Uses.{reading_end}
 use Rattle.serial_order.specs.SerialRun.{value_given, given, all_given, Progress, clock_made}
+use Rattle.serial_order.proofs.Exchanges.{pop_of, push_of, unmoved, pop_elsewhere, push_no_pop}
+use Rattle.serial_order.proofs.Lists.{Among, among_all, among_at}
 
 -- ---- outcomes
 

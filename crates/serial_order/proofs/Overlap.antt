@@ -1,27 +1,21 @@
 -- One local clock of overlapping iterations.
-use Rattle.std.proofs.Common.{◌≡◌, ◌≢◌, ℕ, zero, suc, ◌+◌, ◌-◌, ◌*◌, ◌≤◌, ◌<◌, List, length, get_or, min, Bool, true, false, refl, sym}
-use Rattle.std.proofs.Common.{◌∙◌, ap, subst, arith, nat_lt, ◌⊎◌, inl, inr}
-use Rattle.std.specs.List.{fold, enumerate_from}
+use Rattle.std.proofs.Common.{◌≡◌, ◌≢◌, ℕ, zero, suc, ◌+◌, ◌-◌, ◌*◌, ◌≤◌, ◌<◌, List, length, get_or, min, Bool, true, false, refl, sym, ◌∙◌}
+use Rattle.std.proofs.Common.{ap, subst, arith, nat_lt, ◌⊎◌, inl, inr}
 use Rattle.std.proofs.lemmas.Bool.{ltb-true, ltb-false}
 use Rattle.std.proofs.lemmas.List.FromFn.{get_or-enumerate_from, length-enumerate_from}
 use Rattle.std.proofs.Math.Nat.{mul-le-mul_right, le_of_mul-le-mul_right, suc-mul, add-mul, min-eq_left, min-eq_right}
-use Rattle.flow_design.specs.declared.design.Timed.{Timed}
-use Rattle.flow_design.specs.declared.design.Block.{Block}
+use Rattle.std.specs.List.{fold, enumerate_from}
+use Rattle.flow_design.specs.{declared.design.Timed.Timed, declared.design.Block.Block}
 use Rattle.flow_design.specs.Module.{block_of, interval, ages, temps_of}
 use Rattle.lockstep_defs.proofs.Live.{live_iff, are_ages}
-use Rattle.serial_order.specs.declared.order.Used.{Used}
-use Rattle.serial_order.specs.Uses.{writes}
-use Rattle.serial_order.specs.SerialRun.{Progress, clock_made}
+use Rattle.serial_order.specs.{declared.order.Used.Used, Uses.writes, SerialRun.Progress, SerialRun.clock_made, Orders.is_written_at}
 use Rattle.serial_order.proofs.Lists.{Among, fold_none, fold_one, fold_keeps}
 use Rattle.serial_order.proofs.Outcomes.{Setting, setting_of, PopsOnce, iteration_done, clock_by_iterations}
-use Rattle.serial_order.proofs.Alike.{IsThing, held, Agree}
-use Rattle.serial_order.proofs.Applied.{Placed}
+use Rattle.serial_order.proofs.{Alike.IsThing, Alike.held, Alike.Agree, Applied.Placed}
 use Rattle.serial_order.proofs.Iterations.{iteration_places, thing_left, other_temps, thing_alike, same_temps}
 use Rattle.serial_order.proofs.Offsets.{IsFit, upto, solo, upto_next, upto_places, solo_places, upto_start, solo_holds, still}
 use Rattle.serial_order.proofs.Windows.{IsNarrow, IsChain, NotLater, AllEarlier, HoldsAlike, live_in, IsSlot, TempsAlike, IsInLoop}
-use Rattle.serial_order.proofs.Windows.{HasCommitted}
-use Rattle.serial_order.proofs.Windows.{writes_used, some_written, none_written}
-use Rattle.serial_order.specs.Orders.{is_written_at}
+use Rattle.serial_order.proofs.Windows.{HasCommitted, writes_used, some_written, none_written}
 
 -- ---- the live iterations
 

@@ -1,37 +1,28 @@
 -- A module's run beside its serial run, from the opening to the end.
-use Rattle.std.proofs.Common.{◌≡◌, ℕ, suc, ◌+◌, ◌-◌, ◌*◌, ◌≤◌, ◌<◌, List, [], ◌∷◌, length, get_or, min, Bool, true, false, not, ◌&&◌}
-use Rattle.std.proofs.Common.{cond, refl, sym, ◌∙◌, ap, subst, arith, ◌==◌, true≢false, replicate, map}
+use Rattle.std.proofs.Common.{◌≡◌, ℕ, suc, ◌+◌, ◌-◌, ◌*◌, ◌≤◌, ◌<◌, List, [], ◌∷◌, length, get_or, min, Bool, true, false, not, ◌&&◌, cond}
+use Rattle.std.proofs.Common.{refl, sym, ◌∙◌, ap, subst, arith, ◌==◌, true≢false, replicate, map}
+use Rattle.std.proofs.{lemmas.Bool.eqb-true, lemmas.Bool.leb-true, lemmas.Bool.and_parts, Math.Nat.min-eq_left}
 use Rattle.std.specs.Prelude.{nat_le, slice_index, if◌then◌else◌}
-use Rattle.std.proofs.lemmas.Bool.{eqb-true, leb-true, and_parts}
-use Rattle.std.proofs.Math.Nat.{min-eq_left}
-use Rattle.flow_design.specs.declared.design.Block.{Block}
-use Rattle.flow_design.specs.declared.design.Channel.{Channel}
-use Rattle.flow_design.specs.declared.design.Module.{Module}
-use Rattle.flow_design.specs.declared.design.Next.{Next}
+use Rattle.flow_design.specs.{declared.design.Block.Block, declared.design.Channel.Channel, declared.design.Module.Module}
+use Rattle.flow_design.specs.{declared.design.Next.Next, declared.state.Control.Control, declared.state.ModuleState.ModuleState}
 use Rattle.flow_design.specs.declared.design.Next.TheVariants.{Goto, Branch, Stop}
-use Rattle.flow_design.specs.declared.state.Control.{Control}
-use Rattle.flow_design.specs.declared.state.ModuleState.{ModuleState}
 use Rattle.flow_design.specs.Module.{no_block, block_at, block_of, is_loop, interval, live_count, temps_of, due}
 use Rattle.flow_design.specs.StaticRules.{IsModuleSound, IsNextSound}
-use Rattle.lockstep_defs.specs.Machine.{requests, ticked, decided, started, stopped, finished, followed, entered, again_of}
-use Rattle.lockstep_defs.specs.Machine.{is_block_over, move, opened, fresh_temps}
+use Rattle.lockstep_defs.specs.Machine.{requests, ticked, decided, started, stopped, finished, followed, entered, again_of, is_block_over}
+use Rattle.lockstep_defs.specs.Machine.{move, opened, fresh_temps}
 use Rattle.lockstep_defs.specs.States.{HasPlaces, IsStateOf}
 use Rattle.lockstep_defs.proofs.States.{move_state, opened_state}
 use Rattle.serial_order.specs.declared.order.Used.{Used}
 use Rattle.serial_order.specs.declared.order.Used.TheVariants.{Register, Memory, Reading, Writing}
 use Rattle.serial_order.specs.SerialRun.{Progress, all_given, clock_made, goes_again, iterated, serial}
-use Rattle.serial_order.proofs.Outcomes.{Setting, setting_of}
-use Rattle.serial_order.proofs.Alike.{IsThing, held, only}
-use Rattle.serial_order.proofs.Applied.{Placed}
+use Rattle.serial_order.proofs.{Outcomes.Setting, Outcomes.setting_of, Alike.IsThing, Alike.held, Alike.only, Applied.Placed}
 use Rattle.serial_order.proofs.Offsets.{Stands, HasStores, upto, upto-zero, upto_ended, upto_start}
 use Rattle.serial_order.proofs.Windows.{IsChain, HoldsAlike, live_in, TempsAlike, IsInLoop}
 use Rattle.serial_order.proofs.Overlap.{after_clock, clock_is}
 use Rattle.serial_order.proofs.Going.{IsSerial, HasTicked, tick_of, has_ticked, ticked_ended, decided_not, decided_stop, decided_start}
 use Rattle.serial_order.proofs.Going.{finished_not, finished_now}
 use Rattle.serial_order.proofs.Loops.{whole, iterated_again, iterated_over, whole_stands, last_thing, decides_alike, with_looping}
-use Rattle.serial_order.proofs.Loops.{with_looping_holds}
-use Rattle.serial_order.proofs.Loops.{same_loop}
-use Rattle.serial_order.proofs.Loops.{with_start, longer_chain, started_loop}
+use Rattle.serial_order.proofs.Loops.{with_looping_holds, same_loop, with_start, longer_chain, started_loop}
 
 module _ (lists : List (List ℕ)) (channels : List Channel) (m : Module) (sound : IsModuleSound (length channels) m)
     (rules : (b : ℕ) → b < length m.blocks → IsSerial (setting_of lists channels m (block_at m b))) where

@@ -1,44 +1,26 @@
 -- What holds of the blocks of a module that is answered to be serial.
 use Rattle.std.proofs.Common.{◌≡◌, ◌≢◌, ℕ, zero, suc, ◌+◌, ◌-◌, ◌^◌, ◌≤◌, ◌<◌, List, [], ◌∷◌, ◌++◌, length, map, get_or, min, max, Bool}
-use Rattle.std.proofs.Common.{true, false, ◌&&◌}
-use Rattle.std.proofs.Common.{cond, refl, sym, ◌∙◌, ap, subst, arith, nat_lt, inl, inr, true≢false, unwrap_or, add-zero, ◌%◌, Option, Some}
-use Rattle.std.proofs.Common.{None}
-use Rattle.std.specs.Prelude.{nat_le, nat_eq}
-use Rattle.std.specs.List.{AllByRecursion}
-use Rattle.flow_word.specs.declared.access.Port.{Port}
-use Rattle.flow_word.specs.declared.access.Side.{Side}
-use Rattle.flow_word.specs.declared.access.Side.TheVariants.{Pop, Push}
-use Rattle.flow_word.specs.Kinds.{same_side}
-use Rattle.flow_design.specs.Operations.{used_port}
-use Rattle.flow_design.specs.StaticRules.{is_port, Clashes}
-use Rattle.lockstep_defs.specs.Ports.{takes}
-use Rattle.lockstep_defs.proofs.Due.{AreApart}
-use Rattle.serial_order.specs.Uses.{reading_end}
-use Rattle.std.specs.List.{fold, filter, flat_map, enumerate_from, range_with_len}
+use Rattle.std.proofs.Common.{true, false, ◌&&◌, cond, refl, sym, ◌∙◌, ap, subst, arith, nat_lt, inl, inr, true≢false, unwrap_or, add-zero}
+use Rattle.std.proofs.Common.{◌%◌, Option, Some, None}
 use Rattle.std.proofs.lemmas.Bool.{ltb-true, ltb-false, leb-false, eqb-true, eq-eqb, or_parts}
-use Rattle.flow_design.specs.declared.design.Block.{Block}
-use Rattle.flow_design.specs.declared.design.BlockKind.{BlockKind}
+use Rattle.std.specs.Prelude.{nat_le, nat_eq}
+use Rattle.std.specs.List.{AllByRecursion, fold, filter, flat_map, enumerate_from, range_with_len}
+use Rattle.flow_word.specs.{declared.access.Port.Port, declared.access.Side.Side, Kinds.same_side}
+use Rattle.flow_word.specs.declared.access.Side.TheVariants.{Pop, Push}
+use Rattle.flow_design.specs.{Operations.used_port, declared.design.Block.Block, declared.design.BlockKind.BlockKind}
+use Rattle.flow_design.specs.{declared.design.Channel.Channel, declared.design.Module.Module, declared.design.Timed.Timed}
+use Rattle.flow_design.specs.StaticRules.{is_port, Clashes, IsKindSound, IsTimedSound, IsBlockSound, IsModuleSound}
 use Rattle.flow_design.specs.declared.design.BlockKind.TheVariants.{Plain, Loop}
-use Rattle.flow_design.specs.declared.design.Channel.{Channel}
-use Rattle.flow_design.specs.declared.design.Module.{Module}
-use Rattle.flow_design.specs.declared.design.Timed.{Timed}
 use Rattle.flow_design.specs.Module.{no_operation, no_block, block_at, is_loop, interval_of, interval}
-use Rattle.flow_design.specs.StaticRules.{IsKindSound, IsTimedSound, IsBlockSound, IsModuleSound}
-use Rattle.lockstep_defs.specs.Laws.{is_query}
-use Rattle.lockstep_defs.specs.Machine.{again_of}
-use Rattle.lockstep_defs.proofs.Blocks.{some_interval, short_interval}
-use Rattle.serial_order.specs.declared.order.Used.{Used}
+use Rattle.lockstep_defs.specs.{Ports.takes, Laws.is_query, Machine.again_of}
+use Rattle.lockstep_defs.proofs.{Due.AreApart, Blocks.some_interval, Blocks.short_interval}
+use Rattle.serial_order.specs.{Uses.reading_end, Uses.writes, Uses.is_use, declared.order.Used.Used, declared.order.Order.Order}
 use Rattle.serial_order.specs.declared.order.Used.TheVariants.{Register, Memory, Reading, Writing}
-use Rattle.serial_order.specs.declared.order.Order.{Order}
 use Rattle.serial_order.specs.declared.order.Order.TheVariants.{Serial, Query, Late, Wide}
-use Rattle.serial_order.specs.Uses.{writes, is_use}
-use Rattle.serial_order.specs.Orders.{head, numbers_where, queries_of, is_late, lates_of, offsets_of_use, first_use, last_use}
-use Rattle.serial_order.specs.Orders.{is_wide, things_of, faults_by, faults_of, all_faults}
-use Rattle.serial_order.proofs.Lists.{Among, among_all}
-use Rattle.serial_order.proofs.Outcomes.{setting_of}
-use Rattle.serial_order.proofs.Alike.{IsThing}
+use Rattle.serial_order.specs.Orders.{head, numbers_where, queries_of, is_late, lates_of, offsets_of_use, first_use, last_use, is_wide}
+use Rattle.serial_order.specs.Orders.{things_of, faults_by, faults_of, all_faults}
+use Rattle.serial_order.proofs.{Lists.Among, Lists.among_all, Outcomes.setting_of, Alike.IsThing, Going.IsSerial}
 use Rattle.serial_order.proofs.Windows.{writes_used, none_written}
-use Rattle.serial_order.proofs.Going.{IsSerial}
 
 -- ---- no fault is called serial
 

@@ -1,14 +1,10 @@
 -- Serial modules equal plain loops.
 use Rattle.std.proofs.Common.{◌≡◌, ℕ, List, [], length, true, sym, subst}
-use Rattle.flow_design.specs.declared.design.Design.{Design}
-use Rattle.flow_design.specs.declared.plan.Plan.{Plan}
-use Rattle.flow_design.specs.declared.state.Reply.{Reply}
+use Rattle.flow_design.specs.{declared.design.Design.Design, declared.plan.Plan.Plan, declared.state.Reply.Reply}
 use Rattle.lockstep_defs.specs.OwnRun.{own}
-use Rattle.serial_order.specs.declared.order.Order.TheVariants.{Serial}
-use Rattle.serial_order.specs.Orders.{module_in, order_of, HasModule}
+use Rattle.serial_order.specs.{declared.order.Order.TheVariants.Serial, Orders.module_in, Orders.order_of, Orders.HasModule}
 use Rattle.serial_order.specs.SerialRun.{AreGiven, EndsAlike, EqualsPlainLoops, GetsAsFar, KeepsToPlainLoops, serial}
-use Rattle.serial_order.proofs.Ends.{ends_alike, gets_as_far}
-use Rattle.serial_order.proofs.Serials.{serial_blocks}
+use Rattle.serial_order.proofs.{Ends.ends_alike, Ends.gets_as_far, Serials.serial_blocks}
 
 in_plan : (p : Plan) (i : ℕ) → HasModule p.design i → order_of p.design i ≡ Serial
     → (lists : List (List ℕ)) (replies : List (List Reply)) (n : ℕ)

@@ -2,21 +2,13 @@
 use Rattle.std.proofs.Common.{◌≡◌, ◌≢◌, ℕ, suc, ◌+◌, ◌-◌, ◌*◌, ◌≤◌, ◌<◌, List, [], ◌∷◌, length, min, Bool, true, false, ◌&&◌, refl, sym}
 use Rattle.std.proofs.Common.{◌∙◌, ap, ◌==◌, ◌||◌, true≢false, ◌⊎◌, inl, inr}
 use Rattle.std.proofs.lemmas.Bool.{eqb-true, eq-eqb, or_right, or_parts}
-use Rattle.flow_design.specs.declared.design.Timed.{Timed}
-use Rattle.flow_design.specs.declared.expr.Op.{Op}
+use Rattle.flow_design.specs.{declared.design.Timed.Timed, declared.expr.Op.Op, Operations.places_of, Operations.expressions_of}
 use Rattle.flow_design.specs.declared.expr.Op.TheVariants.{Set, Load, Store, Read, Write, TryRead, TryWrite, Empty, Full}
 use Rattle.flow_design.specs.Module.{block_of, interval, live_count, temps_of}
-use Rattle.serial_order.specs.declared.order.Used.{Used}
+use Rattle.serial_order.specs.{declared.order.Used.Used, Orders.is_written_at, SerialRun.Progress}
 use Rattle.serial_order.specs.declared.order.Used.TheVariants.{Register, Memory, Reading, Writing}
 use Rattle.serial_order.specs.Uses.{writes, is_use, is_this, is_named, is_among}
-use Rattle.flow_design.specs.Operations.{places_of, expressions_of}
-use Rattle.serial_order.specs.Orders.{is_written_at}
-use Rattle.serial_order.specs.SerialRun.{Progress}
-use Rattle.serial_order.proofs.Lists.{Among}
-use Rattle.serial_order.proofs.Outcomes.{Setting}
-use Rattle.serial_order.proofs.Alike.{IsThing, held}
-use Rattle.serial_order.proofs.Applied.{Placed}
-use Rattle.serial_order.proofs.Offsets.{Stands, upto}
+use Rattle.serial_order.proofs.{Lists.Among, Outcomes.Setting, Alike.IsThing, Alike.held, Applied.Placed, Offsets.Stands, Offsets.upto}
 
 -- ---- writes are uses
 

@@ -1,22 +1,15 @@
 -- Which rules of serial modules a module breaks, in which order, and the answer that follows.
-use Rattle.std.specs.Prelude.{ℕ, ◌<◌, ◌≤◌, ◌-◌, ◌^◌, ◌==◌, ◌&&◌, ◌||◌, nat_le, nat_lt, min, max, Bool, List, [], ◌∷◌, ◌++◌, length}
-use Rattle.std.specs.Prelude.{map, filter, flat_map, fold, slice_index_or, Option, Some, None, unwrap_or}
+use Rattle.std.specs.Prelude.{ℕ, ◌<◌, ◌≤◌, ◌-◌, ◌^◌, ◌==◌, ◌&&◌, ◌||◌, nat_le, nat_lt, min, max, Bool, List, [], ◌∷◌, ◌++◌, length, map}
+use Rattle.std.specs.Prelude.{filter, flat_map, fold, slice_index_or, Option, Some, None, unwrap_or}
 use Rattle.std.specs.List.{list_any, enumerate_from, range_with_len}
 use Rattle.flow_design.specs.declared.limits.TheConstants.{CHANNELS}
-use Rattle.flow_design.specs.declared.design.BlockKind.{BlockKind}
+use Rattle.flow_design.specs.{declared.design.BlockKind.BlockKind, declared.design.Timed.Timed, declared.design.Block.Block}
+use Rattle.flow_design.specs.{declared.design.Module.Module, declared.design.Design.Design, StaticRules.IsModuleSound}
 use Rattle.flow_design.specs.declared.design.BlockKind.TheVariants.{Plain, Loop}
-use Rattle.flow_design.specs.declared.design.Timed.{Timed}
-use Rattle.flow_design.specs.declared.design.Block.{Block}
-use Rattle.flow_design.specs.declared.design.Module.{Module}
-use Rattle.flow_design.specs.declared.design.Design.{Design}
-use Rattle.flow_design.specs.StaticRules.{IsModuleSound}
-use Rattle.lockstep_defs.specs.Laws.{is_query}
-use Rattle.lockstep_defs.specs.Lockstep.{no_module}
-use Rattle.serial_order.specs.declared.order.Used.{Used}
+use Rattle.lockstep_defs.specs.{Laws.is_query, Lockstep.no_module}
+use Rattle.serial_order.specs.{declared.order.Used.Used, declared.order.Order.Order, Uses.writes, Uses.is_use}
 use Rattle.serial_order.specs.declared.order.Used.TheVariants.{Register, Memory, Reading, Writing}
-use Rattle.serial_order.specs.declared.order.Order.{Order}
 use Rattle.serial_order.specs.declared.order.Order.TheVariants.{Serial, Query, Late, Wide}
-use Rattle.serial_order.specs.Uses.{writes, is_use}
 
 -- ---- the modules of a design
 

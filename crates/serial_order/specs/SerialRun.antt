@@ -1,17 +1,10 @@
 -- The serial run of a module: the iterations of a loop run one after another, and pops take their values from a list per channel.
 use Rattle.std.specs.Prelude.{◌≡◌, ℕ, zero, suc, ◌<◌, ◌++◌, ◌==◌, ◌&&◌, Bool, true, false, not, if◌then◌else◌, IsTrue, List, [], ◌∷◌}
-use Rattle.std.specs.Prelude.{length}
-use Rattle.std.specs.Prelude.{flat_map, slice_index, slice_index_or}
+use Rattle.std.specs.Prelude.{length, flat_map, slice_index, slice_index_or}
 use Rattle.flow_word.specs.declared.access.Side.TheVariants.{Pop, Push}
-use Rattle.flow_design.specs.declared.design.Block.{Block}
-use Rattle.flow_design.specs.declared.design.Channel.{Channel}
-use Rattle.flow_design.specs.declared.design.Design.{Design}
-use Rattle.flow_design.specs.declared.design.Module.{Module}
-use Rattle.flow_design.specs.declared.plan.Plan.{Plan}
-use Rattle.flow_design.specs.declared.state.ModuleState.{ModuleState}
-use Rattle.flow_design.specs.declared.state.Reply.{Reply}
-use Rattle.flow_design.specs.declared.state.Request.{Request}
-use Rattle.flow_design.specs.Module.{block_of, is_loop}
+use Rattle.flow_design.specs.{declared.design.Block.Block, declared.design.Channel.Channel, declared.design.Design.Design}
+use Rattle.flow_design.specs.{declared.design.Module.Module, declared.plan.Plan.Plan, declared.state.ModuleState.ModuleState}
+use Rattle.flow_design.specs.{declared.state.Reply.Reply, declared.state.Request.Request, Module.block_of, Module.is_loop}
 use Rattle.lockstep_defs.specs.Machine.{requests, committed, again_of, fresh_temps, followed, opened}
 use Rattle.lockstep_defs.specs.Channels.{Exchange, reply_by, moved_by}
 use Rattle.lockstep_defs.specs.OwnRun.{OwnStep, Own, own, paired}

@@ -1,8 +1,7 @@
 //! Checks the rules of serial modules on one module.
 ghost use Rattle.std.specs.Prelude.{◌≡◌, ◌<◌, ◌≤◌, ◌^◌, length, All};
 ghost use Rattle.std.specs.List.{enumerate_from, flat_map};
-ghost use Rattle.flow_design.specs.declared.limits.TheConstants.{CHANNELS};
-ghost use Rattle.flow_design.specs.StaticRules.{IsModuleSound};
+ghost use Rattle.flow_design.specs.{declared.limits.TheConstants.CHANNELS, StaticRules.IsModuleSound};
 ghost use Rattle.serial_order.specs.Orders.{head, queries_of, faults_by, faults_of, all_faults, order_of, HasModule};
 ghost use Rattle.serial_order.specs.SerialRun.{EqualsPlainLoops};
 

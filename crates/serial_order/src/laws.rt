@@ -1,8 +1,7 @@
 //! The law of serial modules.
 ghost use Rattle.std.specs.Prelude.{◌≡◌, ℕ};
 ghost use Rattle.flow_design.specs.declared.design.Design.{Design as Designed};
-ghost use Rattle.serial_order.specs.declared.order.Order.TheVariants.{Serial};
-ghost use Rattle.serial_order.specs.Orders.{order_of, HasModule};
+ghost use Rattle.serial_order.specs.{declared.order.Order.TheVariants.Serial, Orders.order_of, Orders.HasModule};
 ghost use Rattle.serial_order.specs.SerialRun.{EqualsPlainLoops, KeepsToPlainLoops};
 
 /// A serial module does what it would do with the iterations of its loops one after another, whatever values the channels give.

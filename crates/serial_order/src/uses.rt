@@ -1,7 +1,6 @@
 //! What an operation uses, and what it writes.
 ghost use Rattle.std.specs.Prelude.{◌≡◌};
-ghost use Rattle.flow_design.specs.Operations.{places_of, expressions_of, memory_of};
-ghost use Rattle.flow_design.specs.Operations.{port_of, used_port};
+ghost use Rattle.flow_design.specs.Operations.{places_of, expressions_of, memory_of, port_of, used_port};
 ghost use Rattle.flow_design.specs.StaticRules.{is_port};
 ghost use Rattle.serial_order.specs.Uses.{names, is_named, is_among, is_this, stored_in, writes, is_use};
 

@@ -1,17 +1,11 @@
 -- The inputs that the statements so far have given.
-use Rattle.std.proofs.Common.{◌≡◌, ℕ, ◌<◌, List, [], ◌∷◌, ◌++◌, length, map, get_or}
-use Rattle.std.proofs.Common.{sym, ap, ◌∙◌, arith, append-nil}
+use Rattle.std.proofs.Common.{◌≡◌, ℕ, ◌<◌, List, [], ◌∷◌, ◌++◌, length, map, get_or, sym, ap, ◌∙◌, arith, append-nil}
 use Rattle.std.proofs.lemmas.List.{map-append, get_or-map, ext_get_or, length-map}
-use Rattle.std.proofs.lemmas.List.FromFn.{get_or-enumerate_from, length-enumerate_from}
-use Rattle.std.proofs.lemmas.Grind.{flat_map-append}
+use Rattle.std.proofs.{lemmas.List.FromFn.get_or-enumerate_from, lemmas.List.FromFn.length-enumerate_from, lemmas.Grind.flat_map-append}
 use Rattle.std.specs.List.{flat_map, enumerate_from}
-use Rattle.flow_design.specs.declared.session.Statement.{Statement}
+use Rattle.flow_design.specs.{declared.session.Statement.Statement, declared.design.Channel.Channel, Plans.no_channel, Words.cut_to}
 use Rattle.flow_design.specs.declared.design.ChannelKind.{ChannelKind}
-use Rattle.flow_design.specs.declared.design.Channel.{Channel}
-use Rattle.flow_design.specs.Plans.{no_channel}
-use Rattle.flow_design.specs.Words.{cut_to}
-use Rattle.session_plan.specs.Names.{Name}
-use Rattle.session_plan.specs.Plans.{values_for, inputs_of, inputs_for}
+use Rattle.session_plan.specs.{Names.Name, Plans.values_for, Plans.inputs_of, Plans.inputs_for}
 
 -- what channel number f takes of values
 abbrev pub taken : List Channel → ℕ → List ℕ → List ℕ

@@ -1,9 +1,8 @@
 -- Numbers of names.
-use Rattle.std.proofs.Common.{◌≡◌, ℕ, ◌+◌, ◌<◌, ◌≤◌, List, [], ◌∷◌, ◌++◌, length, Option, None, Some, option_map, is_some}
-use Rattle.std.proofs.Common.{false, cond, arith, length-append}
-use Rattle.std.specs.Option.{option_or}
-use Rattle.std.specs.Str.{bytes_eq}
+use Rattle.std.proofs.Common.{◌≡◌, ℕ, ◌+◌, ◌<◌, ◌≤◌, List, [], ◌∷◌, ◌++◌, length, Option, None, Some, option_map, is_some, false, cond}
+use Rattle.std.proofs.Common.{arith, length-append}
 use Rattle.std.proofs.lemmas.Slice.Eq.{bytes_eq-Decides}
+use Rattle.std.specs.{Option.option_or, Str.bytes_eq}
 use Rattle.session_plan.specs.Names.{Name, place_of, number_of}
 
 -- a name's place, where one more name stands behind

@@ -1,11 +1,8 @@
 -- An expression with numbers, case by case.
 use Rattle.std.proofs.Common.{◌≡◌, ℕ, List, refl}
 use Rattle.flow_design.specs.declared.expr.Expr.{Expr, Unary, Binary, Sext, Pick, Number, Var}
-use Rattle.flow_design.specs.declared.expr.Expr.TheBlock.{hidden-the_row-Expr-0}
-use Rattle.flow_design.specs.declared.expr.UnOp.{UnOp}
-use Rattle.flow_design.specs.declared.expr.BinOp.{BinOp}
-use Rattle.session_plan.specs.Names.{Name, number_of}
-use Rattle.session_plan.specs.Numbered.{numbered}
+use Rattle.flow_design.specs.{declared.expr.Expr.TheBlock.hidden-the_row-Expr-0, declared.expr.UnOp.UnOp, declared.expr.BinOp.BinOp}
+use Rattle.session_plan.specs.{Names.Name, Names.number_of, Numbered.numbered}
 
 pub numbered_number : (names : List Name) (n : ℕ) → numbered names (Number n) ≡ Number n
 unfolding numbered

@@ -1,7 +1,5 @@
 -- What a table of numbers by name has.
-use Rattle.std.specs.Borrow.{Bor}
-use Rattle.std.specs.Prelude.{ℕ, Option}
-use Rattle.std.specs.Str.{bytes_eq}
+use Rattle.std.specs.{Borrow.Bor, Prelude.ℕ, Prelude.Option, Str.bytes_eq}
 use Rattle.indexmap.specs.IndexMap.{IndexMap, get_by}
 use Rattle.session_plan.specs.Names.{Name}
 

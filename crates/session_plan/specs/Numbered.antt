@@ -1,13 +1,11 @@
 -- Operations and terminators with names replaced by numbers.
 use Rattle.std.specs.Prelude.{ℕ, List, ◌++◌, Option, None, Some, option_map}
 use Rattle.flow_design.specs.declared.expr.Expr.{Expr, more_of-Expr, Number, Var, Unary, Unary', Binary, Binary', Sext, Sext', Pick, Pick'}
-use Rattle.flow_design.specs.declared.expr.Op.{Op}
+use Rattle.flow_design.specs.{declared.expr.Op.Op, declared.design.Timed.Timed, declared.design.Next.Next}
 use Rattle.flow_design.specs.declared.expr.Op.TheVariants.{Set, Load, Store, Read, Write, TryRead, TryWrite, Empty, Full}
-use Rattle.flow_design.specs.declared.design.Timed.{Timed}
-use Rattle.flow_design.specs.declared.design.Next.{Next}
-use Rattle.flow_design.specs.declared.design.Next.TheVariants as next
 use Rattle.flow_design.specs.declared.session.Statement.{Statement}
 use Rattle.flow_design.specs.declared.session.Statement.TheVariants.{At, Goto, Branch, Stop}
+use Rattle.flow_design.specs.declared.design.Next.TheVariants as next
 use Rattle.session_plan.specs.Names.{Name, number_of, Scope}
 
 -- an expression with each name replaced by its number in the list

@@ -2,10 +2,8 @@
 use Rattle.std.specs.Prelude.{ℕ, Bool, true, false, not, List, [], ◌∷◌, take_while, Option, None, Some, if◌then◌else◌}
 use Rattle.flow_design.specs.declared.session.Statement.{Statement}
 use Rattle.flow_design.specs.declared.session.Statement.TheVariants.{Source, Sink, Fifo, Module, Reg, Mem, Block, Loop, Temp}
-use Rattle.session_plan.specs.Names.{Name}
-use Rattle.session_plan.specs.declared.section.Level.{Level}
+use Rattle.session_plan.specs.{Names.Name, declared.section.Level.Level, declared.section.Sort.Sort}
 use Rattle.session_plan.specs.declared.section.Level.TheVariants as level
-use Rattle.session_plan.specs.declared.section.Sort.{Sort}
 use Rattle.session_plan.specs.declared.section.Sort.TheVariants as sort
 
 -- the statement begins a section of this level: a module, or a block

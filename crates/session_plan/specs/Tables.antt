@@ -1,7 +1,6 @@
 -- The names that a body may use, from the tables of its module.
 use Rattle.std.specs.Prelude.{List}
-use Rattle.session_plan.specs.Names.{Name, Scope}
-use Rattle.session_plan.specs.declared.scope.ModuleNames.{ModuleNames}
+use Rattle.session_plan.specs.{Names.Name, Names.Scope, declared.scope.ModuleNames.ModuleNames}
 
 abbrev pub scope_at : List Name → ModuleNames → List Name → Scope
 scope_at channels own temps = record {

@@ -1,7 +1,6 @@
 //! The laws of plans.
 ghost use Rattle.std.specs.Prelude.{◌≡◌, ◌∷◌, ℕ, List};
-ghost use Rattle.flow_design.specs.declared.limits.Scale.{Scale};
-ghost use Rattle.flow_design.specs.declared.session.Statement.{Statement};
+ghost use Rattle.flow_design.specs.{declared.limits.Scale.Scale, declared.session.Statement.Statement};
 ghost use Rattle.flow_design.specs.declared.session.Statement.TheVariants.{Flow};
 ghost use Rattle.session_plan.specs.Plans.{plan_of, edits_of};
 

@@ -1,10 +1,7 @@
 //! Modules and their blocks.
-ghost use Rattle.std.specs.Prelude.{◌≡◌, List as Items, [], map, IfOk};
-ghost use Rattle.std.specs.List.{filter_map};
-ghost use Rattle.session_plan.specs.Names.{Name as SpecName};
+ghost use Rattle.std.specs.{Prelude.◌≡◌, Prelude.List as Items, Prelude.[], Prelude.map, Prelude.IfOk, List.filter_map};
+ghost use Rattle.session_plan.specs.{Names.Name as SpecName, Tables.scope_at, Numbered.timed, Numbered.terminator};
 ghost use Rattle.session_plan.specs.Sections.{sections, declared_width};
-ghost use Rattle.session_plan.specs.Tables.{scope_at};
-ghost use Rattle.session_plan.specs.Numbered.{timed, terminator};
 ghost use Rattle.session_plan.specs.Plans.{first_or, kind_of, len_of, block, memory, module_name, scope_of, module_of};
 ghost use Rattle.flow_design.specs.declared.design.Next.TheVariants as next;
 ghost use Rattle.session_plan.specs.declared.section.Level.TheVariants as level;

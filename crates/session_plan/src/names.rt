@@ -1,9 +1,7 @@
 //! Names and their numbers.
 ghost use Rattle.std.specs.Prelude.{◌≡◌, ◌≤◌, ◌^◌, ℕ, List as Items, [], ◌∷◌, ◌++◌, length, if◌then◌else◌, OnOk, OnErr};
-ghost use Rattle.std.specs.Option.{option_or};
-ghost use Rattle.std.specs.Str.{bytes_eq};
-ghost use Rattle.session_plan.specs.Names.{number_of};
-ghost use Rattle.session_plan.specs.NameTables.{number_at};
+ghost use Rattle.std.specs.{Option.option_or, Str.bytes_eq};
+ghost use Rattle.session_plan.specs.{Names.number_of, NameTables.number_at};
 
 use flow_word::{List, OutOfMemory};
 use indexmap::IndexMap;

@@ -1,8 +1,7 @@
 //! Replacing names by numbers.
 ghost use Rattle.std.specs.Prelude.{◌≡◌, [], ◌++◌, option_map, IfOk};
-ghost use Rattle.session_plan.specs.Names.{number_of};
+ghost use Rattle.session_plan.specs.{Names.number_of, Tables.scope_at};
 ghost use Rattle.session_plan.specs.Numbered.{numbered, operation, timed, terminator};
-ghost use Rattle.session_plan.specs.Tables.{scope_at};
 
 use crate::names::Names;
 use crate::scope::ModuleNames;

@@ -1,8 +1,6 @@
 //! The names that a session declares.
-ghost use Rattle.std.specs.Prelude.{◌≡◌, [], IfOk};
-ghost use Rattle.std.specs.List.{filter_map};
-ghost use Rattle.session_plan.specs.Names.{number_of};
-ghost use Rattle.session_plan.specs.Sections.{declared};
+ghost use Rattle.std.specs.{Prelude.◌≡◌, Prelude.[], Prelude.IfOk, List.filter_map};
+ghost use Rattle.session_plan.specs.{Names.number_of, Sections.declared};
 
 use crate::names::Names;
 use crate::section::{Sort, declared};

@@ -1,8 +1,7 @@
 //! A module of a session, run ahead on replies that the test feeds to it. The expected steps were worked out from the clock rules.
 ghost use Rattle.std.specs.Prelude.{ℕ, ◌≡◌, ◌<◌, true, false, length, IfOk, OnOk};
 ghost use Rattle.flow_word.specs.declared.access.Kind.{Kind as KindOf};
-ghost use Rattle.module_interp.specs.OwnRests.{fits_kind, all_fit};
-ghost use Rattle.module_interp.specs.Runs.{waits};
+ghost use Rattle.module_interp.specs.{OwnRests.fits_kind, OwnRests.all_fit, Runs.waits};
 ghost use Rattle.session_tests.specs.Runs.{IsRun};
 
 use flow_design::Reply;

@@ -1,49 +1,32 @@
 -- The log that is read off a final core is the history's.
-use Rattle.std.proofs.Common.{◌≡◌, refl, sym, ap, ap₂, subst, ◌∙◌, ℕ, ◌+◌, ◌<◌, ◌≤◌, List, [], ◌∷◌, ◌++◌, length, map, take}
-use Rattle.std.proofs.Common.{get_or, arith}
+use Rattle.std.proofs.Common.{◌≡◌, refl, sym, ap, ap₂, subst, ◌∙◌, ℕ, ◌+◌, ◌<◌, ◌≤◌, List, [], ◌∷◌, ◌++◌, length, map, take, get_or, arith}
 use Rattle.std.proofs.Common.{append_assoc}
-use Rattle.std.specs.Prelude.{All, IsPermutation, IfSome, IsNone, Option, Some, None, flat_map, slice_get, unwrap_or}
-use Rattle.std.specs.List.{range_with_len}
-use Rattle.std.proofs.lemmas.Option.{get_or_from_slice_get}
+use Rattle.std.proofs.{lemmas.Option.get_or_from_slice_get, lemmas.List.Sorted.All-permutation}
 use Rattle.std.proofs.lemmas.List.{get_or-map, length-map, map-append, take_all}
 use Rattle.std.proofs.lemmas.List.Elements.{All-head, All-tail}
-use Rattle.std.proofs.lemmas.List.Sorted.{All-permutation}
-use Rattle.flow_word.specs.declared.access.Access.{Access}
-use Rattle.flow_word.specs.declared.access.Step.{Step}
-use Rattle.flow_design.specs.declared.plan.Plan.{Plan}
+use Rattle.std.specs.Prelude.{All, IsPermutation, IfSome, IsNone, Option, Some, None, flat_map, slice_get, unwrap_or}
+use Rattle.std.specs.List.{range_with_len}
+use Rattle.flow_word.specs.{declared.access.Access.Access, declared.access.Step.Step}
+use Rattle.flow_design.specs.{declared.plan.Plan.Plan, declared.state.Reply.Reply, declared.state.Request.Request, StaticRules.FitsEngine}
 use Rattle.flow_design.specs.declared.state.ModuleState.{ModuleState}
-use Rattle.flow_design.specs.declared.state.Reply.{Reply}
-use Rattle.flow_design.specs.declared.state.Request.{Request}
-use Rattle.flow_design.specs.StaticRules.{FitsEngine}
-use Rattle.lockstep_defs.specs.Channels.{HistoryStep}
-use Rattle.lockstep_defs.specs.Lockstep.{requests_of}
-use Rattle.lockstep_defs.specs.OwnRun.{paired}
+use Rattle.lockstep_defs.specs.{Channels.HistoryStep, Lockstep.requests_of, OwnRun.paired}
 use Rattle.time_engine.specs.Conditions.{IsAccess}
 use Rattle.module_interp.proofs.Tallies.{paired_more}
 use Rattle.query_log.specs.Logs.{log_at}
 use Rattle.event_timing.specs.Machines as theory
-use Rattle.event_timing.specs.Core.{Core}
-use Rattle.event_timing.specs.Actions.{IsFinal}
-use Rattle.event_timing.specs.Agreement.{IsAgreed}
+use Rattle.event_timing.specs.{Core.Core, Actions.IsFinal, Agreement.IsAgreed}
 use Rattle.timing_bridge.specs.Designs as bridge
-use Rattle.timing_bridge.specs.Designs.{design, lockstep_run}
-use Rattle.timing_bridge.specs.CoreReports.{core_step, steps_at, AreSorted}
-use Rattle.timing_bridge.proofs.InOrder.{only_in_order, reported_history}
-use Rattle.timing_bridge.proofs.Places.{sorted_steps}
-use Rattle.engine_view.specs.Held.{Held, no_step, step_of, seen, core_of}
-use Rattle.engine_view.specs.Shown.{IsSound}
-use Rattle.engine_report.specs.declared.events.TimedStep.{TimedStep}
+use Rattle.timing_bridge.specs.{Designs.design, Designs.lockstep_run, CoreReports.core_step, CoreReports.steps_at, CoreReports.AreSorted}
+use Rattle.timing_bridge.proofs.{InOrder.only_in_order, InOrder.reported_history, Places.sorted_steps}
+use Rattle.engine_view.specs.{Held.Held, Held.no_step, Held.step_of, Held.seen, Held.core_of, Shown.IsSound}
+use Rattle.engine_report.specs.{declared.events.TimedStep.TimedStep, Read.timed_places, Keys.place_of, Keys.IsTimedKey, Keys.AreSortedKeys}
 use Rattle.event_graph.specs.Lanes.{lane_at}
-use Rattle.engine_report.specs.Read.{timed_places}
-use Rattle.engine_report.specs.Keys.{place_of, IsTimedKey, AreSortedKeys}
-use Rattle.engine_report.proofs.Asking.{same_kind, same_channel}
-use Rattle.engine_report.proofs.Happening.{IsTimed, all_timed}
+use Rattle.engine_report.proofs.{Asking.same_kind, Asking.same_channel, Happening.IsTimed, Happening.all_timed}
 use Rattle.run_ahead.specs.Replies.{value_now}
 use Rattle.run_ahead.proofs.Finding.{replies_length}
-use Rattle.sim_core.specs.Found.{replies_now}
-use Rattle.flow_word.proofs.Ranges.{some_is}
+use Rattle.sim_core.specs.{Found.replies_now, declared.access_log.LoggedAccess.LoggedAccess}
 use Rattle.sim_core.specs.AccessLog.{logged, logged_in, log_of, request_of, exchange_of, replies_at, step_with, logged_at}
-use Rattle.sim_core.specs.declared.access_log.LoggedAccess.{LoggedAccess}
+use Rattle.flow_word.proofs.Ranges.{some_is}
 use Rattle.sim_core.proofs.Fed.{accesses_inside, are_told, found_told, seen_same}
 
 -- what a module asks is what its step holds

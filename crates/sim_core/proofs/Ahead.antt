@@ -3,45 +3,26 @@ use Rattle.std.proofs.Common.{◌≡◌, refl, sym, ap, ap₂, subst, ◌∙◌,
 use Rattle.std.proofs.Common.{length, map, drop, Some, slice_get, inl, inr, arith}
 use Rattle.std.proofs.lemmas.Bool.{cases_Bool, cond-true, cond-false}
 use Rattle.std.proofs.lemmas.Option.{slice_get_within, get_or_from_slice_get, slice_get-get_or}
-use Rattle.flow_word.specs.declared.access.Access.{Access}
-use Rattle.flow_word.specs.declared.access.Side.TheVariants.{Pop}
-use Rattle.flow_word.specs.declared.access.Step.{Step as StepOf}
-use Rattle.flow_design.specs.declared.plan.Plan.{Plan}
-use Rattle.flow_design.specs.declared.state.Advance.{Advance}
+use Rattle.flow_word.specs.{declared.access.Access.Access, declared.access.Side.TheVariants.Pop, declared.access.Step.Step as StepOf}
+use Rattle.flow_design.specs.{declared.plan.Plan.Plan, declared.state.Advance.Advance, declared.state.ModuleState.ModuleState}
+use Rattle.flow_design.specs.{declared.state.Reply.Reply, declared.state.Request.Request, StaticRules.FitsEngine}
 use Rattle.flow_design.specs.declared.state.Advance.TheVariants.{Step, Ended, Spent}
-use Rattle.flow_design.specs.declared.state.ModuleState.{ModuleState}
-use Rattle.flow_design.specs.declared.state.Reply.{Reply}
-use Rattle.flow_design.specs.declared.state.Request.{Request}
-use Rattle.flow_design.specs.StaticRules.{FitsEngine}
-use Rattle.lockstep_defs.specs.Lockstep.{requests_of}
-use Rattle.lockstep_defs.specs.Machine.{is_over, is_spent}
-use Rattle.lockstep_defs.specs.OwnRun.{Own, access_of}
-use Rattle.module_interp.specs.OwnRests.{done_in, next_rest, accesses_at, mark_at}
-use Rattle.module_interp.specs.Runs.{StandsAt, is_step}
-use Rattle.event_timing.specs.Machines.{ready, takes_in}
-use Rattle.event_timing.specs.Views.{Begins}
+use Rattle.lockstep_defs.specs.{Lockstep.requests_of, Machine.is_over, Machine.is_spent, OwnRun.Own, OwnRun.access_of}
+use Rattle.module_interp.specs.{OwnRests.done_in, OwnRests.next_rest, OwnRests.accesses_at, OwnRests.mark_at, Runs.StandsAt, Runs.is_step}
+use Rattle.event_timing.specs.{Machines.ready, Machines.takes_in, Views.Begins, Agreement.AreOwnMarks, Growth.Grows}
 use Rattle.event_timing.specs.Core.{Core, core_accesses, core_tally, core_values, values_there, has_query, bare_replies}
 use Rattle.event_timing.specs.Actions.{runs, ActsAll, MayRun, after_run, emit_over, newest}
-use Rattle.event_timing.specs.Agreement.{AreOwnMarks}
-use Rattle.event_timing.proofs.Beside.{grows_self, grows_trans}
-use Rattle.event_timing.proofs.Assigning.{put_same, put_at_same}
-use Rattle.event_timing.specs.Growth.{Grows}
-use Rattle.event_timing.proofs.Growing.{settled_all, tally_grow}
-use Rattle.event_timing.proofs.OwnRuns.{tally_more}
+use Rattle.event_timing.proofs.{Beside.grows_self, Beside.grows_trans, Assigning.put_same, Assigning.put_at_same, Growing.settled_all}
+use Rattle.event_timing.proofs.{Growing.tally_grow, OwnRuns.tally_more, Values.begins_self, Values.begins_get, Values.begins_length}
 use Rattle.event_timing.proofs.Running.{emit, emit_grows, newest_own, run_marks}
-use Rattle.event_timing.proofs.Values.{begins_self, begins_get, begins_length}
 use Rattle.timing_bridge.specs.Designs.{design}
 use Rattle.engine_view.specs.Held.{queries_in}
-use Rattle.run_ahead.specs.declared.mail.Mail.{Mail}
-use Rattle.sim_core.specs.Runs.{IsRunOf, rest_behind}
-use Rattle.run_ahead.specs.declared.mail.Task.{Task}
+use Rattle.run_ahead.specs.{declared.mail.Mail.Mail, declared.mail.Task.Task}
 use Rattle.run_ahead.specs.Mails.{values_on, next_value, replies_in, taken_after, IsLeft, IsWaiting, IsGoing, IsAtStep, IsPast, GoesOn}
-use Rattle.sim_core.specs.Tasks.{outcomes_in, values_behind, committed, IsTaskLeft}
-use Rattle.sim_core.proofs.Beginnings.{get_drop, begins_places}
+use Rattle.sim_core.specs.{Runs.IsRunOf, Runs.rest_behind, Tasks.outcomes_in, Tasks.values_behind, Tasks.committed, Tasks.IsTaskLeft}
+use Rattle.sim_core.proofs.{Beginnings.get_drop, Beginnings.begins_places, Resting.rest_is, Staying.fed_is, Staying.behind_same}
 use Rattle.sim_core.proofs.Committed.{committed_waits, committed_goes}
 use Rattle.sim_core.proofs.Mailed.{AreFound, read_is, no_query, no_outcomes_of}
-use Rattle.sim_core.proofs.Resting.{rest_is}
-use Rattle.sim_core.proofs.Staying.{fed_is, behind_same}
 
 -- ---- where a burst has come to, beside a core
 

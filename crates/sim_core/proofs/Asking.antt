@@ -1,47 +1,29 @@
 -- Of a module that is not hinted no Assign and no Answer is permitted, whatever was done.
-use Rattle.std.proofs.Common.{◌≡◌, ◌≢◌, refl, sym, ap, subst, ◌∙◌, ℕ, ◌+◌, ◌-◌, ◌<◌, inl, inr, true, false, arith}
-use Rattle.std.proofs.Common.{List, [], ◌∷◌, ◌++◌, length, map, Some}
-use Rattle.std.specs.Prelude.{◌↔◌, slice_get, slice_index_or}
-use Rattle.std.specs.List.{AllByRecursion}
-use Rattle.std.proofs.lemmas.Bool.{cases_eq, cases_lt}
-use Rattle.std.proofs.lemmas.Option.{slice_get_within}
+use Rattle.std.proofs.Common.{◌≡◌, ◌≢◌, refl, sym, ap, subst, ◌∙◌, ℕ, ◌+◌, ◌-◌, ◌<◌, inl, inr, true, false, arith, List, [], ◌∷◌, ◌++◌}
+use Rattle.std.proofs.Common.{length, map, Some}
+use Rattle.std.proofs.{lemmas.Bool.cases_eq, lemmas.Bool.cases_lt, lemmas.Option.slice_get_within}
 use Rattle.std.proofs.lemmas.List.{get_or_append_left, get_or-append_right, length-append}
+use Rattle.std.specs.{Prelude.◌↔◌, Prelude.slice_get, Prelude.slice_index_or, List.AllByRecursion}
 use Rattle.flow_word.proofs.Ranges.{some_is}
-use Rattle.flow_word.specs.Kinds.{other_side, side_of}
-use Rattle.flow_word.specs.declared.access.Side.{Side}
+use Rattle.flow_word.specs.{Kinds.other_side, Kinds.side_of, declared.access.Side.Side, declared.access.Port.Port}
 use Rattle.flow_word.specs.declared.access.Side.TheVariants.{Pop, Push}
-use Rattle.flow_word.specs.declared.access.Port.{Port}
-use Rattle.flow_design.specs.declared.plan.Plan.{Plan}
+use Rattle.flow_design.specs.{declared.plan.Plan.Plan, declared.state.Request.Request, Plans.with_depth, StaticRules.FitsEngine}
 use Rattle.flow_design.specs.declared.state.ModuleState.{ModuleState}
-use Rattle.flow_design.specs.declared.state.Request.{Request}
-use Rattle.flow_design.specs.Plans.{with_depth}
-use Rattle.flow_design.specs.StaticRules.{FitsEngine}
-use Rattle.module_sets.specs.declared.mask.Mask.{Mask}
-use Rattle.module_sets.specs.Sets.{Has, HasMask, IsAdded, capacity}
-use Rattle.lockstep_defs.specs.Lockstep.{requests_of}
-use Rattle.lockstep_defs.specs.Ports.{StandsAtPort, owner}
-use Rattle.event_timing.specs.Machines.{Design, Each}
-use Rattle.event_timing.specs.Core.{Core}
+use Rattle.module_sets.specs.{declared.mask.Mask.Mask, Sets.Has, Sets.HasMask, Sets.IsAdded, Sets.capacity}
+use Rattle.lockstep_defs.specs.{Lockstep.requests_of, Ports.StandsAtPort, Ports.owner}
+use Rattle.event_timing.specs.{Machines.Design, Machines.Each, Core.Core, Actions.Action.Assign, Actions.Action.Answer, Agreement.IsAgreed}
 use Rattle.event_timing.specs.Actions.{ActsAll, Acts, MayEarliest, after_answer, runs}
-use Rattle.event_timing.specs.Actions.Action.{Assign, Answer}
-use Rattle.event_timing.specs.Agreement.{IsAgreed}
 use Rattle.timing_bridge.specs.Designs.{design, lockstep_run, seen}
-use Rattle.timing_bridge.proofs.History.{plan_is_design, run_is_history}
-use Rattle.timing_bridge.proofs.Requests.{stand}
-use Rattle.turn_history.specs.Apart.{AreApart}
-use Rattle.turn_history.specs.Rounds.{may_time, after_timing}
+use Rattle.timing_bridge.proofs.{History.plan_is_design, History.run_is_history, Requests.stand}
+use Rattle.turn_history.specs.{Apart.AreApart, Rounds.may_time, Rounds.after_timing}
 use Rattle.turn_history.proofs.Apart.{timing_apart, runs_apart}
 use Rattle.turn_history.proofs.Onward.{assigned_is, answered_is, idle_is, opened_is}
 use Rattle.outcome_guard.specs.declared.guard.Guard.{Guard}
 use Rattle.outcome_guard.specs.declared.guard.Guard.TheVariants as guard
-use Rattle.engine_view.specs.Held.{Held, core_of}
-use Rattle.engine_view.specs.Turns.{is_progress, IsIdle}
-use Rattle.engine_view.specs.declared.turn.Timing.{Timing}
+use Rattle.engine_view.specs.{Held.Held, Held.core_of, Turns.is_progress, Turns.IsIdle, declared.turn.Timing.Timing}
 use Rattle.engine_view.specs.declared.turn.Timing.TheVariants as turn
 use Rattle.sim_core.specs.Asking.{Lacks, HasRoom, AreAcross, AreAcrossTo, AreBeside, AreBesideTo, AreAsking}
-use Rattle.sim_core.specs.Opening.{ports_to}
-use Rattle.sim_core.specs.Turns.{HasTurned, HasAnsweredLeast}
-use Rattle.sim_core.specs.Views.{CoreView, theory_of}
+use Rattle.sim_core.specs.{Opening.ports_to, Turns.HasTurned, Turns.HasAnsweredLeast, Views.CoreView, Views.theory_of}
 use Rattle.sim_core.proofs.Ports.{all_there}
 
 -- ---- the modules at the other ends

@@ -1,56 +1,33 @@
 -- How a core begins.
 use Rattle.std.proofs.Common.{◌≡◌, refl, sym, ap, subst, ◌∙◌, ℕ, suc, ◌+◌, ◌<◌, Bool, true, false, List, [], ◌∷◌, ◌++◌, length, map, get_or}
 use Rattle.std.proofs.Common.{Option, Some, None, arith, inl, inr, is_none, is_some, length-append, zero, not, ◌&&◌, replicate, set}
-use Rattle.std.specs.Prelude.{All, IfSome, slice_index, slice_index_or}
-use Rattle.std.proofs.lemmas.List.FromFn.{get_or-map-range_with_len, length-map-range_with_len}
-use Rattle.std.proofs.lemmas.Bool.{cases_lt, cases_Bool, both_ways}
-use Rattle.std.proofs.lemmas.Bool.Decides.{eqb_tells}
+use Rattle.std.proofs.{lemmas.List.FromFn.get_or-map-range_with_len, lemmas.List.FromFn.length-map-range_with_len, lemmas.Bool.cases_lt}
+use Rattle.std.proofs.{lemmas.Bool.cases_Bool, lemmas.Bool.both_ways, lemmas.Bool.Decides.eqb_tells, Math.Seq.get_or-append_seam}
 use Rattle.std.proofs.lemmas.List.{get_or_past, get_or_append_left, get_or-map, get_or-set_other, length-replicate, length-set}
-use Rattle.std.proofs.Math.Seq.{get_or-append_seam}
-use Rattle.flow_word.specs.declared.access.Side.{Side}
+use Rattle.std.specs.Prelude.{All, IfSome, slice_index, slice_index_or}
+use Rattle.flow_word.specs.{declared.access.Side.Side, Kinds.same_side}
 use Rattle.flow_word.specs.declared.access.Side.TheVariants.{Pop, Push}
-use Rattle.flow_word.specs.Kinds.{same_side}
-use Rattle.flow_design.specs.declared.plan.Plan.{Plan}
-use Rattle.flow_design.specs.declared.state.Advance.{Advance}
-use Rattle.module_interp.specs.declared.run.ModuleRun.{ModuleRun}
-use Rattle.module_interp.specs.OwnRests.{first_rest}
-use Rattle.module_interp.specs.Runs.{StandsAt, waits}
-use Rattle.module_interp.specs.Chains.{rest_at}
-use Rattle.flow_design.specs.declared.design.ChannelKind.{ChannelKind}
+use Rattle.flow_design.specs.{declared.plan.Plan.Plan, declared.state.Advance.Advance, declared.design.ChannelKind.ChannelKind}
+use Rattle.flow_design.specs.{StaticRules.FitsEngine, StaticRules.AreEntriesSound, Plans.is_fifo, Plans.kind_at, Words.cut_to}
+use Rattle.module_interp.specs.{declared.run.ModuleRun.ModuleRun, OwnRests.first_rest, Runs.StandsAt, Runs.waits, Chains.rest_at}
 use Rattle.flow_design.specs.declared.design.ChannelKind.TheVariants as plan
-use Rattle.flow_design.specs.StaticRules.{FitsEngine, AreEntriesSound}
-use Rattle.flow_design.specs.Plans.{is_fifo, kind_at}
-use Rattle.flow_design.specs.Words.{cut_to}
-use Rattle.lockstep_defs.specs.Machine.{width_of}
-use Rattle.lockstep_defs.specs.OwnRun.{Own}
-use Rattle.lockstep_defs.specs.Channels.{contents_of, values, element_from}
+use Rattle.lockstep_defs.specs.{Machine.width_of, OwnRun.Own, Channels.contents_of, Channels.values, Channels.element_from}
 use Rattle.lockstep_defs.specs.Lockstep.{inputs_of, opening, moment, state}
-use Rattle.event_graph.specs.Lanes.{Lane, no_lane}
+use Rattle.event_graph.specs.{Lanes.Lane, Lanes.no_lane, declared.candidate.Candidate.Candidate}
 use Rattle.query_log.specs.Logs.{no_log}
-use Rattle.fifo_table.specs.declared.channel.TableChannel.{TableChannel}
-use Rattle.fifo_table.specs.declared.channel.TableChannel.TheVariants.{Sink}
+use Rattle.fifo_table.specs.{declared.channel.TableChannel.TableChannel, declared.channel.TableChannel.TheVariants.Sink}
 use Rattle.fifo_table.specs.Channels.{IsSoundKind, unused, values_of, lag_of}
-use Rattle.event_timing.specs.Core.{opening_core}
-use Rattle.event_timing.specs.Agreement.{IsAgreed}
+use Rattle.event_timing.specs.{Core.opening_core, Agreement.IsAgreed}
 use Rattle.event_timing.proofs.Agreement.{opening_agrees}
 use Rattle.timing_bridge.specs.Designs.{design, lockstep_run, is_source, lag_in}
 use Rattle.timing_bridge.proofs.History.{plan_is_design, run_is_history}
-use Rattle.engine_view.specs.Held.{Held, emitted_of, core_of}
-use Rattle.engine_view.specs.Shown.{IsSound, IsKind}
-use Rattle.engine_view.specs.Opened.{opening_held, AreKinds}
-use Rattle.engine_view.specs.Rooms.{HasRoom}
-use Rattle.engine_view.specs.declared.engine.Engine.{Engine}
-use Rattle.engine_view.specs.Engines.{held_in}
-use Rattle.engine_view.specs.Taking.{kinds_in}
-use Rattle.engine_view.proofs.Opened.{opening_core_is, copy_at}
-use Rattle.engine_view.proofs.Roomy.{room_opening}
+use Rattle.engine_view.specs.{Held.Held, Held.emitted_of, Held.core_of, Shown.IsSound, Shown.IsKind, Opened.opening_held, Opened.AreKinds}
+use Rattle.engine_view.specs.{Rooms.HasRoom, declared.engine.Engine.Engine, Engines.held_in, Taking.kinds_in}
+use Rattle.engine_view.proofs.{Opened.opening_core_is, Opened.copy_at, Roomy.room_opening}
 use Rattle.sim_core.specs.Runs.{IsCore, IsStoredCore, IsRunOf, rest_behind, lent_of, over_of}
-use Rattle.sim_core.specs.declared.due.Due.{Due}
-use Rattle.sim_core.specs.declared.unread.Unread.{Unread}
-use Rattle.sim_core.specs.declared.wiring.Wiring.{Wiring}
-use Rattle.event_graph.specs.declared.candidate.Candidate.{Candidate}
-use Rattle.sim_core.proofs.Keeping.{over_at}
+use Rattle.sim_core.specs.{declared.due.Due.Due, declared.unread.Unread.Unread, declared.wiring.Wiring.Wiring}
 use Rattle.sim_core.specs.Opening.{kind_by, kind_in, kinds_of, source_values, AreFirstRuns, AreLeft, AreOlderRuns}
+use Rattle.sim_core.proofs.Keeping.{over_at}
 
 pub runs_none : (p : Plan) → AreFirstRuns p [] 0
 runs_none p = record { count = refl; some = λ m l. absurd (omega arith); each = λ m run e. cc }

@@ -2,8 +2,7 @@
 use Rattle.std.proofs.Common.{◌≡◌, ℕ, ◌-◌, ◌≤◌, true, false, arith}
 use Rattle.std.proofs.lemmas.Bool.{cond-true, cond-false}
 use Rattle.flow_design.specs.declared.state.ModuleState.{ModuleState}
-use Rattle.module_interp.specs.declared.run.ModuleRun.{ModuleRun}
-use Rattle.module_interp.specs.Runs.{waits}
+use Rattle.module_interp.specs.{declared.run.ModuleRun.ModuleRun, Runs.waits}
 use Rattle.event_timing.specs.Core.{Core}
 use Rattle.sim_core.specs.Tasks.{committed}
 

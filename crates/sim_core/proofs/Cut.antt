@@ -1,21 +1,13 @@
 -- The core from which an edit goes on.
 use Rattle.std.proofs.Common.{refl, sym, subst, ℕ}
-use Rattle.flow_design.specs.declared.plan.Edit.{Edit}
-use Rattle.flow_design.specs.declared.plan.Plan.{Plan}
+use Rattle.flow_design.specs.{declared.plan.Edit.Edit, declared.plan.Plan.Plan, Plans.with_depth, Plans.EditFits, StaticRules.FitsEngine}
 use Rattle.flow_design.specs.declared.state.ModuleState.{ModuleState}
-use Rattle.flow_design.specs.Plans.{with_depth, EditFits}
-use Rattle.flow_design.specs.StaticRules.{FitsEngine}
-use Rattle.event_timing.specs.Machines.{Design}
-use Rattle.event_timing.specs.Histories.{IsHistory}
+use Rattle.event_timing.specs.{Machines.Design, Histories.IsHistory, Agreement.IsAgreed, Edits.edited, Edits.after_edit}
 use Rattle.event_timing.specs.Actions.{IsFinal, MayRun}
-use Rattle.event_timing.specs.Agreement.{IsAgreed}
-use Rattle.event_timing.specs.Edits.{edited, after_edit}
 use Rattle.event_timing.proofs.NoRun.{edit_no_run}
 use Rattle.timing_bridge.specs.Designs.{design, lockstep_run}
-use Rattle.timing_bridge.proofs.Edits.{edited_fits, same_design}
-use Rattle.timing_bridge.proofs.History.{plan_is_design, run_is_history}
-use Rattle.engine_view.specs.Held.{Held, core_of}
-use Rattle.engine_view.specs.Shown.{IsSound}
+use Rattle.timing_bridge.proofs.{Edits.edited_fits, Edits.same_design, History.plan_is_design, History.run_is_history}
+use Rattle.engine_view.specs.{Held.Held, Held.core_of, Shown.IsSound}
 use Rattle.retime.specs.Edits.{IsFinalOf, IsEditFrom}
 use Rattle.retime.proofs.Agreeing.{cut_agrees}
 

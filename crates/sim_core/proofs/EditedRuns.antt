@@ -1,31 +1,16 @@
 -- The runs and the ends stand in the edited plan where they stood, and the table has its channels.
-use Rattle.std.proofs.Common.{◌≡◌, refl, sym, ap, subst, ◌∙◌, ℕ, zero, suc, ◌<◌, inl, inr, Bool, true, List, length, get_or}
-use Rattle.std.proofs.Common.{arith}
+use Rattle.std.proofs.Common.{◌≡◌, refl, sym, ap, subst, ◌∙◌, ℕ, zero, suc, ◌<◌, inl, inr, Bool, true, List, length, get_or, arith}
 use Rattle.std.proofs.lemmas.Bool.Decides.{eqb_tells}
 use Rattle.std.proofs.lemmas.List.{length-map, length-set, get_or-map, get_or-set_same, get_or-set_other, same_lists}
 use Rattle.std.proofs.lemmas.List.FromFn.{get_or-map-range_with_len, length-map-range_with_len}
-use Rattle.flow_design.specs.declared.design.ChannelKind.{ChannelKind}
-use Rattle.flow_design.specs.declared.plan.Edit.{Edit}
-use Rattle.flow_design.specs.declared.plan.Plan.{Plan}
-use Rattle.flow_design.specs.declared.state.Advance.{Advance}
-use Rattle.flow_design.specs.declared.state.ModuleState.{ModuleState}
-use Rattle.flow_design.specs.declared.state.Reply.{Reply}
-use Rattle.flow_design.specs.Plans.{is_fifo, kind_at, with_depth, EditFits}
-use Rattle.flow_design.specs.StaticRules.{FitsEngine}
-use Rattle.lockstep_defs.specs.Lockstep.{moment, opening}
-use Rattle.lockstep_defs.specs.OwnRun.{Own}
-use Rattle.lockstep_defs.specs.Ports.{owner}
-use Rattle.lockstep_defs.specs.Quiet.{quiet, quiet_below, measure}
-use Rattle.module_interp.specs.declared.path.Path.{Path}
-use Rattle.module_interp.specs.declared.run.ModuleRun.{ModuleRun}
-use Rattle.module_interp.specs.Chains.{rest_at, replies_to}
-use Rattle.module_interp.specs.OwnRests.{next_rest, mark_at}
-use Rattle.module_interp.specs.Paths.{IsPathOf}
-use Rattle.module_interp.specs.Runs.{StandsAt}
-use Rattle.fifo_table.specs.declared.channel.TableChannel.{TableChannel}
-use Rattle.fifo_table.specs.declared.channel.TableChannel.TheVariants.{Sink}
-use Rattle.fifo_table.specs.Channels.{Channel, IsFifo, channel_at, deepened, depth_of, unused}
-use Rattle.fifo_table.specs.Channels.{with_depth as with_depths}
+use Rattle.flow_design.specs.{declared.design.ChannelKind.ChannelKind, declared.plan.Edit.Edit, declared.plan.Plan.Plan}
+use Rattle.flow_design.specs.{declared.state.Advance.Advance, declared.state.ModuleState.ModuleState, declared.state.Reply.Reply}
+use Rattle.flow_design.specs.{Plans.is_fifo, Plans.kind_at, Plans.with_depth, Plans.EditFits, StaticRules.FitsEngine}
+use Rattle.lockstep_defs.specs.{Lockstep.moment, Lockstep.opening, OwnRun.Own, Ports.owner, Quiet.quiet, Quiet.quiet_below, Quiet.measure}
+use Rattle.module_interp.specs.{declared.path.Path.Path, declared.run.ModuleRun.ModuleRun, Chains.rest_at, Chains.replies_to}
+use Rattle.module_interp.specs.{OwnRests.next_rest, OwnRests.mark_at, Paths.IsPathOf, Runs.StandsAt}
+use Rattle.fifo_table.specs.{declared.channel.TableChannel.TableChannel, declared.channel.TableChannel.TheVariants.Sink}
+use Rattle.fifo_table.specs.Channels.{Channel, IsFifo, channel_at, deepened, depth_of, unused, with_depth as with_depths}
 use Rattle.event_timing.specs.Core.{Core}
 use Rattle.timing_bridge.proofs.Edits.{edited_fits}
 use Rattle.engine_view.specs.Taking.{kinds_in}

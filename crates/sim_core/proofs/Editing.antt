@@ -1,77 +1,36 @@
 -- A final core behind an edit of its plan.
-use Rattle.std.proofs.Common.{◌≡◌, refl, sym, ap, subst, ◌∙◌, ℕ, suc, ◌+◌, ◌<◌, ◌≤◌, inl, inr, Bool, List, [], length, map}
-use Rattle.std.proofs.Common.{set, Option, Some, None, unwrap_or, ◌⊎◌, arith}
-use Rattle.std.specs.Prelude.{IfSome, IsNone}
-use Rattle.std.proofs.lemmas.Bool.{cases_eq}
-use Rattle.std.proofs.lemmas.List.{length-map, set-get_or}
+use Rattle.std.proofs.Common.{◌≡◌, refl, sym, ap, subst, ◌∙◌, ℕ, suc, ◌+◌, ◌<◌, ◌≤◌, inl, inr, Bool, List, [], length, map, set, Option}
+use Rattle.std.proofs.Common.{Some, None, unwrap_or, ◌⊎◌, arith}
+use Rattle.std.proofs.{lemmas.Bool.cases_eq, lemmas.List.length-map, lemmas.List.set-get_or}
 use Rattle.std.proofs.lemmas.Option.{get_or_from_slice_get, slice_get-get_or, slice_get_within}
+use Rattle.std.specs.Prelude.{IfSome, IsNone}
 use Rattle.flow_word.specs.declared.access.Side.{Side}
-use Rattle.flow_design.specs.declared.plan.Edit.{Edit}
-use Rattle.flow_design.specs.declared.plan.Plan.{Plan}
-use Rattle.flow_design.specs.declared.state.Advance.{Advance}
-use Rattle.flow_design.specs.declared.state.ModuleState.{ModuleState}
-use Rattle.flow_design.specs.Plans.{with_depth, EditFits}
-use Rattle.flow_design.specs.StaticRules.{FitsEngine}
+use Rattle.flow_design.specs.{declared.plan.Edit.Edit, declared.plan.Plan.Plan, declared.state.Advance.Advance}
+use Rattle.flow_design.specs.{declared.state.ModuleState.ModuleState, Plans.with_depth, Plans.EditFits, StaticRules.FitsEngine}
 use Rattle.module_interp.specs.declared.run.ModuleRun.{ModuleRun}
-use Rattle.event_graph.specs.Lanes.{Lane, lane_at, timed_below}
-use Rattle.fifo_table.specs.Channels.{channel_at, depth_of, places_of}
-use Rattle.fifo_table.specs.Channels.{with_depth as with_depths}
-use Rattle.outcome_guard.specs.declared.guard.Guard.{Guard}
-use Rattle.outcome_guard.specs.declared.guard.Guard.TheVariants.{Same, Differs}
-use Rattle.event_timing.specs.Machines.{Design, IsDesign}
-use Rattle.event_timing.specs.Core.{Core}
-use Rattle.event_timing.specs.Actions.{IsFinal}
-use Rattle.event_timing.specs.Agreement.{AreOwnMarks, IsAgreed}
-use Rattle.event_timing.specs.Edits.{edited, after_edit}
-use Rattle.event_timing.specs.Growth.{GrowsBeside}
-use Rattle.event_timing.proofs.Beside.{others_grow}
-use Rattle.event_timing.proofs.Editing.{cycles_rise, kept_same}
-use Rattle.event_timing.proofs.Steps.{same_clock}
-use Rattle.event_timing.proofs.Touched.{kept_ge}
+use Rattle.event_graph.specs.{Lanes.Lane, Lanes.lane_at, Lanes.timed_below, declared.candidate.Candidate.Candidate}
+use Rattle.fifo_table.specs.Channels.{channel_at, depth_of, places_of, with_depth as with_depths}
+use Rattle.outcome_guard.specs.{declared.guard.Guard.Guard, declared.guard.Guard.TheVariants.Same, declared.guard.Guard.TheVariants.Differs}
+use Rattle.event_timing.specs.{Machines.Design, Machines.IsDesign, Core.Core, Actions.IsFinal, Agreement.AreOwnMarks, Agreement.IsAgreed}
+use Rattle.event_timing.specs.{Edits.edited, Edits.after_edit, Growth.GrowsBeside}
+use Rattle.event_timing.proofs.{Beside.others_grow, Editing.cycles_rise, Editing.kept_same, Steps.same_clock, Touched.kept_ge}
 use Rattle.timing_bridge.specs.Designs.{design, lockstep_run}
-use Rattle.timing_bridge.proofs.Edits.{edited_fits, same_design}
-use Rattle.timing_bridge.proofs.History.{plan_is_design, run_is_history}
-use Rattle.engine_view.specs.Held.{core_of}
-use Rattle.engine_view.specs.Kept.{IsKept}
-use Rattle.engine_view.specs.Rooms.{IsRoomy}
-use Rattle.engine_view.specs.Shown.{IsSound}
+use Rattle.timing_bridge.proofs.{Edits.edited_fits, Edits.same_design, History.plan_is_design, History.run_is_history}
+use Rattle.engine_view.specs.{Held.core_of, Kept.IsKept, Rooms.IsRoomy, Shown.IsSound, Engines.held_in, Taking.kinds_in, Turns.IsSomeCore}
 use Rattle.engine_view.specs.declared.engine.Engine.{Engine}
-use Rattle.engine_view.specs.Engines.{held_in}
-use Rattle.engine_view.specs.Taking.{kinds_in}
-use Rattle.engine_view.specs.Turns.{IsSomeCore}
 use Rattle.right_records.specs.Records.{IsRightRecord}
-use Rattle.right_records.proofs.Final.{right_final}
-use Rattle.right_records.proofs.Marks.{marks_on}
-use Rattle.right_records.proofs.Onward.{final_record}
-use Rattle.right_records.proofs.Recording.{right_agrees}
-use Rattle.cycle_changes.specs.Changed.{HasChanged}
-use Rattle.cycle_changes.specs.Moved.{moved_in}
-use Rattle.retime.specs.Cuts.{HasRetimed, KeepsRoomEdited}
-use Rattle.retime.specs.Edits.{IsEditFrom, IsEditOf}
+use Rattle.right_records.proofs.{Final.right_final, Marks.marks_on, Onward.final_record, Recording.right_agrees}
+use Rattle.cycle_changes.specs.{Changed.HasChanged, Moved.moved_in}
+use Rattle.retime.specs.{Cuts.HasRetimed, Cuts.KeepsRoomEdited, Edits.IsEditFrom, Edits.IsEditOf}
 use Rattle.retime.specs.Rounds.{LeadsAll, HasEnded, only_steps, cycles_in, steps_in}
 use Rattle.retime.specs.Touched.{AreInOrder, IsFirstTouched, IsNeverTouched}
-use Rattle.retime.proofs.Counts.{few_cycles}
-use Rattle.retime.proofs.Cutting.{sound_lanes_of}
-use Rattle.retime.proofs.Behind.{agreed_behind, outcomes_behind}
-use Rattle.retime.proofs.Otherwise.{other_in_history}
-use Rattle.retime.proofs.Tallied.{places_in_order}
-use Rattle.sim_core.specs.Edits.{IsEdited, IsTrueGuard, StayBelow}
-use Rattle.sim_core.specs.Runs.{IsCore, IsStoredCore, IsWired, over_of}
-use Rattle.sim_core.specs.declared.due.Due.{Due}
-use Rattle.sim_core.specs.declared.unread.Unread.{Unread}
-use Rattle.sim_core.specs.Waking.{IsFull}
-use Rattle.sim_core.specs.declared.wiring.Wiring.{Wiring}
-use Rattle.event_graph.specs.declared.candidate.Candidate.{Candidate}
-use Rattle.sim_core.proofs.Asking.{beside_edited, still_room}
-use Rattle.sim_core.proofs.Listing.{listed_all}
-use Rattle.sim_core.proofs.Waking.{due_all}
-use Rattle.sim_core.proofs.Leaving.{unread_none}
-use Rattle.sim_core.proofs.Cut.{final_of, history_of, cut_of}
+use Rattle.retime.proofs.{Counts.few_cycles, Counts.same_steps, Counts.same_length, Cutting.sound_lanes_of, Behind.agreed_behind}
+use Rattle.retime.proofs.{Behind.outcomes_behind, Otherwise.other_in_history, Tallied.places_in_order}
+use Rattle.sim_core.specs.{Edits.IsEdited, Edits.IsTrueGuard, Edits.StayBelow, Runs.IsCore, Runs.IsStoredCore, Runs.IsWired, Runs.over_of}
+use Rattle.sim_core.specs.{declared.due.Due.Due, declared.unread.Unread.Unread, Waking.IsFull, declared.wiring.Wiring.Wiring}
+use Rattle.sim_core.proofs.{Asking.beside_edited, Asking.still_room, Listing.listed_all, Waking.due_all, Leaving.unread_none, Cut.final_of}
+use Rattle.sim_core.proofs.{Cut.history_of, Cut.cut_of, Keeping.kept_of, SameSteps.marks_beside, Staying.run_stays, Staying.end_stays}
 use Rattle.sim_core.proofs.EditedRuns.{run_edited, end_edited, channel_inside, fifo_there, depth_there, kinds_edited}
-use Rattle.sim_core.proofs.Keeping.{kept_of}
-use Rattle.retime.proofs.Counts.{same_steps, same_length}
-use Rattle.sim_core.proofs.SameSteps.{marks_beside}
-use Rattle.sim_core.proofs.Staying.{run_stays, end_stays}
 use Rattle.lockstep_defs.specs.Ports.{owner}
 use Rattle.turn_history.proofs.Lending.{timings_no_run}
 

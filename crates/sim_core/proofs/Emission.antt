@@ -1,51 +1,27 @@
 -- A mark of a module, emitted by a Run: what it makes of the core.
-use Rattle.std.proofs.Common.{◌≡◌, refl, sym, ap, subst, ◌∙◌, ℕ, suc, ◌-◌, ◌^◌, ◌<◌, ◌≤◌, inl, inr, true, false}
-use Rattle.std.proofs.Common.{List, length, get_or, set, Option, Some, None, is_some, arith}
-use Rattle.std.proofs.lemmas.Bool.{both_ways, cond-false}
-use Rattle.std.proofs.lemmas.Bool.Decides.{eqb_tells}
+use Rattle.std.proofs.Common.{◌≡◌, refl, sym, ap, subst, ◌∙◌, ℕ, suc, ◌-◌, ◌^◌, ◌<◌, ◌≤◌, inl, inr, true, false, List, length, get_or, set}
+use Rattle.std.proofs.Common.{Option, Some, None, is_some, arith}
+use Rattle.std.proofs.{lemmas.Bool.both_ways, lemmas.Bool.cond-false, lemmas.Bool.Decides.eqb_tells}
 use Rattle.std.proofs.lemmas.List.{length-set, length-map, map-set, get_or-set_same, get_or-set_other}
 use Rattle.flow_word.specs.declared.access.Step.{Step as StepOf}
-use Rattle.flow_design.specs.declared.plan.Plan.{Plan}
-use Rattle.flow_design.specs.declared.state.ModuleState.{ModuleState}
-use Rattle.flow_design.specs.declared.state.Advance.{Advance}
+use Rattle.flow_design.specs.{declared.plan.Plan.Plan, declared.state.ModuleState.ModuleState, declared.state.Advance.Advance}
 use Rattle.flow_design.specs.declared.state.Advance.TheVariants.{Step}
 use Rattle.event_graph.specs.Lanes.{gap_bound}
-use Rattle.lockstep_defs.specs.Machine.{is_over}
-use Rattle.lockstep_defs.specs.OwnRun.{Own}
-use Rattle.module_interp.specs.declared.run.ModuleRun.{ModuleRun}
-use Rattle.module_interp.specs.OwnRests.{mark_at}
+use Rattle.lockstep_defs.specs.{Machine.is_over, OwnRun.Own}
+use Rattle.module_interp.specs.{declared.run.ModuleRun.ModuleRun, OwnRests.mark_at, Runs.is_step, Runs.gap_of, Runs.IsSmallStep}
 use Rattle.module_interp.proofs.Gaps.{least_gap}
-use Rattle.module_interp.specs.Runs.{is_step, gap_of, IsSmallStep}
-use Rattle.event_timing.specs.Machines.{Design, ready}
-use Rattle.event_timing.specs.Core.{Core}
-use Rattle.event_timing.specs.Actions.{Acts, MayRun, newest, after_run}
-use Rattle.event_timing.specs.Actions.Action.{Run}
-use Rattle.event_timing.specs.Agreement.{AreOwnMarks}
-use Rattle.event_timing.specs.Growth.{Grows, IsSettled}
-use Rattle.event_timing.proofs.Assigning.{put_same}
-use Rattle.event_timing.proofs.Growing.{settled_all}
-use Rattle.event_timing.proofs.Running.{newest_own}
-use Rattle.event_timing.proofs.Beside.{run_grows}
+use Rattle.event_timing.specs.{Machines.Design, Machines.ready, Core.Core, Actions.Acts, Actions.MayRun, Actions.newest, Actions.after_run}
+use Rattle.event_timing.specs.{Actions.Action.Run, Agreement.AreOwnMarks, Growth.Grows, Growth.IsSettled}
+use Rattle.event_timing.proofs.{Assigning.put_same, Growing.settled_all, Running.newest_own, Beside.run_grows}
 use Rattle.timing_bridge.specs.Designs.{design}
 use Rattle.timing_bridge.proofs.History.{plan_is_design}
 use Rattle.engine_view.specs.Held.{Held, emitted_of, queries_in, core_of}
-use Rattle.engine_view.specs.Shown.{IsSound}
+use Rattle.engine_view.specs.{Shown.IsSound, Rooms.HasRoom, Rooms.CanEmit, Rooms.HasEmitted, declared.engine.Engine.Engine, Engines.held_in}
 use Rattle.engine_view.specs.Emitted.{IsNextStep, with_emitted, with_over}
-use Rattle.engine_view.specs.Rooms.{HasRoom, CanEmit, HasEmitted}
-use Rattle.engine_view.specs.declared.engine.Engine.{Engine}
-use Rattle.engine_view.specs.Engines.{held_in}
-use Rattle.engine_view.proofs.Emitted.{emitted_core}
-use Rattle.engine_view.proofs.Ended.{over_core}
-use Rattle.engine_view.proofs.Assigned.{IsAlike, alike_queries}
+use Rattle.engine_view.proofs.{Emitted.emitted_core, Ended.over_core, Assigned.IsAlike, Assigned.alike_queries}
 use Rattle.engine_view.proofs.Roomy.{few_queries, apart_next, own_next, room_for_next, room_emitted, room_same, pending_same}
-use Rattle.sim_core.specs.Marks.{IsRestBehind}
-use Rattle.sim_core.specs.Runs.{IsEndOf, IsCore, rest_behind, lent_of, over_of}
-use Rattle.sim_core.proofs.Ahead.{over_of_mark}
-use Rattle.sim_core.proofs.Lends.{not_lent}
-use Rattle.sim_core.proofs.Resting.{rest_is}
-use Rattle.sim_core.proofs.Marking.{next_step}
-use Rattle.sim_core.proofs.Staying.{fed_is}
-use Rattle.sim_core.proofs.Keeping.{core_acted}
+use Rattle.sim_core.specs.{Marks.IsRestBehind, Runs.IsEndOf, Runs.IsCore, Runs.rest_behind, Runs.lent_of, Runs.over_of}
+use Rattle.sim_core.proofs.{Ahead.over_of_mark, Lends.not_lent, Resting.rest_is, Marking.next_step, Staying.fed_is, Keeping.core_acted}
 
 -- a Run of a module whose run is out of the core is permitted
 pub record IsReady (p : Plan) (s : Engine) (ends : List (Option Advance)) (runs : List (Option ModuleRun)) (m : ℕ)

@@ -1,32 +1,19 @@
 -- A Run's next mark, emitted.
-use Rattle.std.proofs.Common.{◌≡◌, refl, sym, subst, ◌∙◌, ℕ, ◌≤◌, ◌⊎◌, inl, inr, false}
-use Rattle.std.proofs.Common.{List, length, set, Option, Some, arith}
-use Rattle.std.proofs.lemmas.Bool.{both_ways}
-use Rattle.std.proofs.lemmas.Bool.Decides.{eqb_tells}
-use Rattle.flow_word.specs.declared.access.Access.{Access}
-use Rattle.flow_word.specs.declared.access.Step.{Step as StepOf}
-use Rattle.flow_design.specs.declared.plan.Plan.{Plan}
-use Rattle.flow_design.specs.declared.state.ModuleState.{ModuleState}
-use Rattle.flow_design.specs.declared.state.Advance.{Advance}
+use Rattle.std.proofs.Common.{◌≡◌, refl, sym, subst, ◌∙◌, ℕ, ◌≤◌, ◌⊎◌, inl, inr, false, List, length, set, Option, Some, arith}
+use Rattle.std.proofs.{lemmas.Bool.both_ways, lemmas.Bool.Decides.eqb_tells}
+use Rattle.flow_word.specs.{declared.access.Access.Access, declared.access.Step.Step as StepOf}
+use Rattle.flow_design.specs.{declared.plan.Plan.Plan, declared.state.ModuleState.ModuleState, declared.state.Advance.Advance}
 use Rattle.flow_design.specs.declared.state.Advance.TheVariants.{Step, Ended, Spent}
 use Rattle.event_graph.specs.Packed.{IsFewStep}
 use Rattle.lockstep_defs.specs.OwnRun.{Own}
-use Rattle.module_interp.specs.declared.run.ModuleRun.{ModuleRun}
-use Rattle.module_interp.specs.OwnRests.{mark_at}
+use Rattle.module_interp.specs.{declared.run.ModuleRun.ModuleRun, OwnRests.mark_at}
 use Rattle.module_interp.specs.Runs.{StandsAt, waits, is_step, listed, IsFew, IsSoundMark}
-use Rattle.event_timing.specs.Machines.{Design}
-use Rattle.event_timing.specs.Core.{Core}
-use Rattle.event_timing.specs.Actions.{Acts, MayRun}
-use Rattle.event_timing.specs.Actions.Action.{Run}
+use Rattle.event_timing.specs.{Machines.Design, Core.Core, Actions.Acts, Actions.MayRun, Actions.Action.Run}
 use Rattle.timing_bridge.specs.Designs.{design}
-use Rattle.engine_view.specs.Held.{Held, emitted_of, core_of}
-use Rattle.engine_view.specs.declared.engine.Engine.{Engine}
-use Rattle.engine_view.specs.Engines.{held_in}
-use Rattle.sim_core.specs.Runs.{IsRunOf, rest_behind, over_of}
-use Rattle.sim_core.specs.Returned.{CanGoOn, IsNextMark}
+use Rattle.engine_view.specs.{Held.Held, Held.emitted_of, Held.core_of, declared.engine.Engine.Engine, Engines.held_in}
+use Rattle.sim_core.specs.{Runs.IsRunOf, Runs.rest_behind, Runs.over_of, Returned.CanGoOn, Returned.IsNextMark}
 use Rattle.sim_core.proofs.Returning as returning
-use Rattle.sim_core.proofs.Staying.{behind_same}
-use Rattle.sim_core.proofs.Emission.{IsReady}
+use Rattle.sim_core.proofs.{Staying.behind_same, Emission.IsReady}
 use Rattle.sim_core.proofs.Emission as emission
 
 pub not_a_step : (a : Advance) → ((t : StepOf) → a ≡ Step t → ⊥) → is_step a ≡ false

@@ -1,31 +1,20 @@
 -- The end marks of a core are those of the modules' own runs.
-use Rattle.std.proofs.Common.{◌≡◌, refl, sym, ap, ◌∙◌, ℕ, ◌<◌, Bool, true, false, cond, List, length, get_or, Option, None, Some}
-use Rattle.std.proofs.Common.{is_some, inl, inr, arith}
+use Rattle.std.proofs.Common.{◌≡◌, refl, sym, ap, ◌∙◌, ℕ, ◌<◌, Bool, true, false, cond, List, length, get_or, Option, None, Some, is_some}
+use Rattle.std.proofs.Common.{inl, inr, arith}
+use Rattle.std.proofs.{lemmas.Bool.cases_lt, lemmas.List.get_or_past, lemmas.List.length-map}
 use Rattle.flow_word.specs.declared.access.Step.{Step as StepOf}
-use Rattle.flow_design.specs.declared.plan.Plan.{Plan}
-use Rattle.flow_design.specs.declared.state.Advance.{Advance}
+use Rattle.flow_design.specs.{declared.plan.Plan.Plan, declared.state.Advance.Advance, declared.state.ModuleState.ModuleState}
 use Rattle.flow_design.specs.declared.state.Advance.TheVariants.{Step, Ended, Spent}
-use Rattle.flow_design.specs.declared.state.ModuleState.{ModuleState}
-use Rattle.lockstep_defs.specs.Machine.{is_spent}
-use Rattle.lockstep_defs.specs.OwnRun.{Own}
+use Rattle.lockstep_defs.specs.{Machine.is_spent, OwnRun.Own}
 use Rattle.event_graph.specs.Lanes.{gap_bound}
-use Rattle.module_interp.specs.declared.run.ModuleRun.{ModuleRun}
-use Rattle.module_interp.specs.Runs.{is_step}
+use Rattle.module_interp.specs.{declared.run.ModuleRun.ModuleRun, Runs.is_step}
 use Rattle.module_interp.specs.Runs as run
-use Rattle.std.proofs.lemmas.Bool.{cases_lt}
-use Rattle.std.proofs.lemmas.List.{get_or_past, length-map}
-use Rattle.event_timing.specs.Core.{Core}
-use Rattle.event_timing.specs.Actions.{IsFinal}
+use Rattle.event_timing.specs.{Core.Core, Actions.IsFinal}
 use Rattle.timing_bridge.specs.Designs.{design}
-use Rattle.engine_view.specs.Held.{core_of}
-use Rattle.engine_view.specs.declared.engine.Engine.{Engine}
-use Rattle.engine_view.specs.Engines.{held_in}
-use Rattle.engine_report.specs.Standings.{end_at, gap_of}
-use Rattle.engine_report.specs.Finished.{IsEndMark, IsFinished}
-use Rattle.sim_core.specs.Marks.{IsRestBehind}
-use Rattle.sim_core.specs.Runs.{IsCore, rest_behind, over_of}
-use Rattle.sim_core.proofs.Marking.{table_count}
-use Rattle.sim_core.proofs.Resting.{rest_is}
+use Rattle.engine_view.specs.{Held.core_of, declared.engine.Engine.Engine, Engines.held_in}
+use Rattle.engine_report.specs.{Standings.end_at, Standings.gap_of, Finished.IsEndMark, Finished.IsFinished}
+use Rattle.sim_core.specs.{Marks.IsRestBehind, Runs.IsCore, Runs.rest_behind, Runs.over_of}
+use Rattle.sim_core.proofs.{Marking.table_count, Resting.rest_is}
 
 marked : (p : Plan) (x : Core ModuleState) (m : ℕ) (o : Own) → IsRestBehind p x m (x.emitted m) o
     → (mark : Advance) (a b : Bool) (t : StepOf) → a ≡ o.state.ended → b ≡ is_spent p.ops o.state

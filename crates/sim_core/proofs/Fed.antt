@@ -1,56 +1,37 @@
 -- A run that waits is fed with the replies that are found for its newest step.
-use Rattle.std.proofs.Common.{◌≡◌, refl, sym, ap, ap₂, subst, ◌∙◌, ℕ, suc, ◌+◌, ◌-◌, ◌<◌, ◌≤◌, inl, inr, Bool, true, false, cond, ltb}
-use Rattle.std.proofs.Common.{◌&&◌, List, [], ◌∷◌, length, map, get_or, is_some, not, arith}
-use Rattle.std.specs.Prelude.{All, Option, Some, None, slice_get}
-use Rattle.std.proofs.lemmas.Option.{get_or_from_slice_get}
-use Rattle.flow_word.specs.declared.access.Step.{Step}
+use Rattle.std.proofs.Common.{◌≡◌, refl, sym, ap, ap₂, subst, ◌∙◌, ℕ, suc, ◌+◌, ◌-◌, ◌<◌, ◌≤◌, inl, inr, Bool, true, false, cond, ltb, ◌&&◌}
+use Rattle.std.proofs.Common.{List, [], ◌∷◌, length, map, get_or, is_some, not, arith}
+use Rattle.std.proofs.{lemmas.Option.get_or_from_slice_get, lemmas.Bool.Decides.eqb_tells}
 use Rattle.std.proofs.lemmas.Bool.{both_ways, cond-true, and_from, and_parts, or_left, or_right, lt-ltb, le-leb}
-use Rattle.std.proofs.lemmas.Bool.Decides.{eqb_tells}
 use Rattle.std.proofs.lemmas.List.Elements.{All-head, All-tail}
-use Rattle.flow_word.specs.declared.access.Access.{Access}
-use Rattle.flow_word.specs.declared.access.Kind.{Kind}
-use Rattle.flow_design.specs.declared.plan.Plan.{Plan}
-use Rattle.flow_design.specs.declared.state.Advance.{Advance}
-use Rattle.flow_design.specs.declared.state.ModuleState.{ModuleState}
-use Rattle.flow_design.specs.declared.state.Reply.{Reply}
-use Rattle.flow_design.specs.declared.state.Request.{Request}
+use Rattle.std.specs.Prelude.{All, Option, Some, None, slice_get}
+use Rattle.flow_word.specs.{declared.access.Step.Step, declared.access.Access.Access, declared.access.Kind.Kind, declared.access.Side.Side}
+use Rattle.flow_word.specs.Kinds.{side_of, is_blocking, is_taking, same_side}
+use Rattle.flow_word.specs.declared.access.Side.TheVariants.{Pop, Push}
+use Rattle.flow_design.specs.{declared.plan.Plan.Plan, declared.state.Advance.Advance, declared.state.ModuleState.ModuleState}
+use Rattle.flow_design.specs.{declared.state.Reply.Reply, declared.state.Request.Request}
 use Rattle.fifo_table.specs.Channels.{Channel}
 use Rattle.query_log.specs.Logs.{log_at}
-use Rattle.lockstep_defs.specs.Channels.{Exchange, reply_by}
-use Rattle.lockstep_defs.specs.Lockstep.{requests_of}
-use Rattle.lockstep_defs.specs.OwnRun.{Own, access_of}
-use Rattle.lockstep_defs.specs.Report.{queries}
-use Rattle.module_interp.specs.declared.run.ModuleRun.{ModuleRun}
+use Rattle.lockstep_defs.specs.{Channels.Exchange, Channels.reply_by, Lockstep.requests_of, OwnRun.Own, OwnRun.access_of, Report.queries}
+use Rattle.module_interp.specs.{declared.run.ModuleRun.ModuleRun, Runs.StandsAt, Runs.waits}
 use Rattle.module_interp.specs.OwnRests.{done_in, next_rest, accesses_at, all_fit}
-use Rattle.module_interp.specs.Runs.{StandsAt, waits}
-use Rattle.flow_word.specs.Kinds.{side_of, is_blocking, is_taking, same_side}
-use Rattle.flow_word.specs.declared.access.Side.{Side}
-use Rattle.flow_word.specs.declared.access.Side.TheVariants.{Pop, Push}
 use Rattle.event_timing.specs.Machines as theory
-use Rattle.event_timing.specs.Machines.{is_some_access}
+use Rattle.event_timing.specs.{Machines.is_some_access, Actions.MayRun, Agreement.AreOwnMarks, Agreement.FlagsFit}
 use Rattle.event_timing.specs.Core.{Core, core_values, core_tally, values_there, all_below}
-use Rattle.event_timing.specs.Actions.{MayRun}
-use Rattle.event_timing.specs.Agreement.{AreOwnMarks, FlagsFit}
 use Rattle.timing_bridge.specs.Designs as bridge
 use Rattle.timing_bridge.specs.Designs.{design, told_all}
 use Rattle.time_engine.specs.Conditions.{IsAccess}
 use Rattle.event_graph.specs.Lanes.{no_lane, lane_at}
 use Rattle.engine_view.specs.Held.{Held, no_step, step_of, emitted_of, seen, queries_in, flags_of, are_among, values_at, replies_by}
 use Rattle.engine_view.specs.Held.{core_of}
-use Rattle.engine_view.specs.Shown.{IsSound}
-use Rattle.engine_view.proofs.Reading.{reply_is}
-use Rattle.engine_view.proofs.Answered.{among_is}
-use Rattle.sim_core.specs.Found.{replies_now}
-use Rattle.engine_view.specs.declared.engine.Engine.{Engine}
-use Rattle.engine_view.specs.Engines.{held_in}
-use Rattle.sim_core.specs.Marks.{IsRestBehind}
+use Rattle.engine_view.specs.{Shown.IsSound, declared.engine.Engine.Engine, Engines.held_in}
+use Rattle.engine_view.proofs.{Reading.reply_is, Answered.among_is}
+use Rattle.sim_core.specs.{Found.replies_now, Marks.IsRestBehind}
 use Rattle.sim_core.specs.Runs.{IsRunOf, IsAnswered, IsCore, over_of, rest_behind}
-use Rattle.sim_core.proofs.Marking.{ordinal_is, queries_done}
-use Rattle.sim_core.proofs.Resting.{rest_is}
-use Rattle.sim_core.proofs.Staying.{tell, fed_is}
+use Rattle.sim_core.proofs.{Marking.ordinal_is, Marking.queries_done, Resting.rest_is, Staying.tell, Staying.fed_is}
+use Rattle.sim_core.proofs.Finding.{replies_found, values_now, are_found, not_found}
 use Rattle.run_ahead.specs.Replies.{value_now, first_missing}
 use Rattle.run_ahead.proofs.Finding.{replies_fit, none_missing}
-use Rattle.sim_core.proofs.Finding.{replies_found, values_now, are_found, not_found}
 use Rattle.engine_report.proofs.Asking.{same_kind, same_channel}
 
 -- ---- replies

@@ -1,25 +1,21 @@
 -- What it means that the replies to a step are there.
-use Rattle.std.proofs.Common.{◌≡◌, refl, sym, ap, ap₂, ◌∙◌, ℕ, suc, ◌+◌, ◌-◌, ◌≤◌, ◌⊎◌, inl, inr, Bool, true, false, cond}
-use Rattle.std.proofs.Common.{not, ltb, ◌&&◌, ◌||◌, List, [], ◌∷◌, length, drop, get_or, Option, Some, None, is_some, arith}
-use Rattle.std.specs.Prelude.{slice_get, unwrap_or}
+use Rattle.std.proofs.Common.{◌≡◌, refl, sym, ap, ap₂, ◌∙◌, ℕ, suc, ◌+◌, ◌-◌, ◌≤◌, ◌⊎◌, inl, inr, Bool, true, false, cond, not, ltb, ◌&&◌}
+use Rattle.std.proofs.Common.{◌||◌, List, [], ◌∷◌, length, drop, get_or, Option, Some, None, is_some, arith}
 use Rattle.std.proofs.lemmas.Bool.{and_from, and_parts, lt-ltb, ltb-true}
-use Rattle.std.proofs.lemmas.Bool.Decides.{nat_tests}
-use Rattle.std.proofs.lemmas.List.{drop-drop}
+use Rattle.std.proofs.{lemmas.Bool.Decides.nat_tests, lemmas.List.drop-drop}
 use Rattle.std.proofs.lemmas.Option.{unwrap_or-slice_get, slice_get-get_or, slice_get_past}
-use Rattle.flow_word.specs.declared.access.Access.{Access}
-use Rattle.flow_word.specs.declared.access.Kind.{Kind}
+use Rattle.std.specs.Prelude.{slice_get, unwrap_or}
+use Rattle.flow_word.specs.{declared.access.Access.Access, declared.access.Kind.Kind, declared.access.Side.TheVariants.Pop}
+use Rattle.flow_word.specs.Kinds.{side_of, is_blocking, is_taking, same_side}
 use Rattle.flow_design.specs.declared.state.Reply.{Reply}
 use Rattle.fifo_table.specs.Channels.{Channel}
 use Rattle.lockstep_defs.specs.Channels.{reply_by}
-use Rattle.flow_word.specs.Kinds.{side_of, is_blocking, is_taking, same_side}
-use Rattle.flow_word.specs.declared.access.Side.TheVariants.{Pop}
 use Rattle.engine_view.specs.Held.{seen, possible_by, queries_in, flags_by, values_at}
-use Rattle.engine_view.proofs.Adding.{get_drop}
+use Rattle.engine_view.proofs.{Adding.get_drop, Comparing.queries_cons}
 use Rattle.event_timing.specs.Core.{pops_now}
 use Rattle.run_ahead.specs.Replies.{reply_now, put_first, told_by, replies_from, value_now}
 use Rattle.run_ahead.proofs.Parts.{first_parts}
 use Rattle.flow_word.proofs.Ranges.{some_is}
-use Rattle.engine_view.proofs.Comparing.{queries_cons}
 
 -- the replies, by an access's kind, whether it is possible, and the value at its ordinal
 abbrev pub replies_found : List Channel → List Access → List Bool → List Reply

@@ -2,25 +2,14 @@
 use Rattle.std.proofs.Common.{◌≡◌, refl, sym, ap, subst, ◌∙◌, ℕ, zero, suc, ◌⊎◌, inl, inr, true, false, List, [], ◌∷◌, length, get_or}
 use Rattle.std.proofs.Common.{Option, None, Some, is_some}
 use Rattle.std.proofs.lemmas.Bool.{both_ways}
-use Rattle.flow_design.specs.declared.plan.Plan.{Plan}
-use Rattle.flow_design.specs.declared.state.Advance.{Advance}
-use Rattle.flow_design.specs.declared.state.ModuleState.{ModuleState}
+use Rattle.flow_design.specs.{declared.plan.Plan.Plan, declared.state.Advance.Advance, declared.state.ModuleState.ModuleState}
 use Rattle.module_interp.specs.declared.run.ModuleRun.{ModuleRun}
-use Rattle.event_timing.specs.Machines.{Design}
-use Rattle.event_timing.specs.Core.{Core}
-use Rattle.event_timing.specs.Actions.{Action, Acts, IsNoRunOf}
-use Rattle.event_timing.specs.Growth.{GrowsBeside}
-use Rattle.event_timing.proofs.Agreement.{acts_agree}
-use Rattle.event_timing.proofs.Beside.{others_grow}
+use Rattle.event_timing.specs.{Machines.Design, Core.Core, Actions.Action, Actions.Acts, Actions.IsNoRunOf, Growth.GrowsBeside}
+use Rattle.event_timing.proofs.{Agreement.acts_agree, Beside.others_grow}
 use Rattle.timing_bridge.specs.Designs.{design, lockstep_run}
 use Rattle.timing_bridge.proofs.History.{plan_is_design, run_is_history}
-use Rattle.engine_view.specs.Held.{core_of}
-use Rattle.engine_view.specs.Shown.{IsSound}
-use Rattle.engine_view.specs.Rooms.{IsRoomy}
+use Rattle.engine_view.specs.{Held.core_of, Shown.IsSound, Rooms.IsRoomy, Engines.held_in, Taking.kinds_in, Kept.IsKept}
 use Rattle.engine_view.specs.declared.engine.Engine.{Engine}
-use Rattle.engine_view.specs.Engines.{held_in}
-use Rattle.engine_view.specs.Taking.{kinds_in}
-use Rattle.engine_view.specs.Kept.{IsKept}
 use Rattle.sim_core.specs.Runs.{IsCore, IsEndOf, over_of}
 use Rattle.sim_core.proofs.Staying.{run_stays, end_stays}
 

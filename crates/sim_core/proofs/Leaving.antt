@@ -1,34 +1,22 @@
 -- What came back unread stays the next values of its channel, whatever acts.
-use Rattle.std.proofs.Common.{◌≡◌, refl, ap, subst, ℕ, zero, suc, ◌+◌, ◌<◌, ◌≤◌, List}
-use Rattle.std.proofs.Common.{[], ◌∷◌, ◌++◌, length, drop, get_or, set, inl, inr, arith, sym}
-use Rattle.std.proofs.Common.{Option, ◌∙◌}
-use Rattle.std.proofs.lemmas.Bool.{cases_lt}
-use Rattle.std.proofs.lemmas.Bool.Decides.{eqb_tells}
+use Rattle.std.proofs.Common.{◌≡◌, refl, ap, subst, ℕ, zero, suc, ◌+◌, ◌<◌, ◌≤◌, List, [], ◌∷◌, ◌++◌, length, drop, get_or, set, inl, inr}
+use Rattle.std.proofs.Common.{arith, sym, Option, ◌∙◌}
+use Rattle.std.proofs.{lemmas.Bool.cases_lt, lemmas.Bool.Decides.eqb_tells}
 use Rattle.std.proofs.lemmas.List.{get_or-set_same, get_or-set_other, get_or_past, length-set}
-use Rattle.flow_design.specs.declared.plan.Plan.{Plan}
-use Rattle.flow_design.specs.declared.state.Advance.{Advance}
-use Rattle.flow_design.specs.declared.state.ModuleState.{ModuleState}
+use Rattle.flow_design.specs.{declared.plan.Plan.Plan, declared.state.Advance.Advance, declared.state.ModuleState.ModuleState}
 use Rattle.std.specs.List.Sorted.{IsStrictlyIncreasing}
-use Rattle.module_interp.specs.OwnChannels.{place_in}
+use Rattle.module_interp.specs.{OwnChannels.place_in, declared.run.ModuleRun.ModuleRun}
 use Rattle.module_interp.proofs.Places.{position_at}
-use Rattle.run_ahead.specs.declared.mail.Mail.{Mail}
-use Rattle.run_ahead.specs.Mails.{values_on}
+use Rattle.run_ahead.specs.{declared.mail.Mail.Mail, Mails.values_on}
 use Rattle.run_ahead.proofs.Placed.{values_there}
-use Rattle.module_interp.specs.declared.run.ModuleRun.{ModuleRun}
-use Rattle.event_timing.specs.Core.{Core, core_values}
+use Rattle.event_timing.specs.{Core.Core, Core.core_values, Views.Begins}
 use Rattle.event_timing.specs.Actions.{Action, Acts, ActsAll, IsNoRunOf, runs}
-use Rattle.event_timing.specs.Views.{Begins}
-use Rattle.event_timing.proofs.Beside.{others_grow}
-use Rattle.event_timing.proofs.Values.{begins_trans}
+use Rattle.event_timing.proofs.{Beside.others_grow, Values.begins_trans}
 use Rattle.timing_bridge.specs.Designs.{design, lockstep_run}
 use Rattle.timing_bridge.proofs.History.{plan_is_design, run_is_history}
-use Rattle.engine_view.specs.Held.{Held, core_of, values_at}
-use Rattle.engine_view.specs.Shown.{IsSound}
-use Rattle.engine_view.specs.declared.engine.Engine.{Engine}
-use Rattle.sim_core.specs.declared.unread.Unread.{Unread}
+use Rattle.engine_view.specs.{Held.Held, Held.core_of, Held.values_at, Shown.IsSound, declared.engine.Engine.Engine}
+use Rattle.sim_core.specs.{declared.unread.Unread.Unread, Returned.core_in, Runs.IsCore, Runs.AreUnreadIn}
 use Rattle.sim_core.specs.Unread.{none_unread, unread_at, IsUnread, AreUnread}
-use Rattle.sim_core.specs.Returned.{core_in}
-use Rattle.sim_core.specs.Runs.{IsCore, AreUnreadIn}
 use Rattle.sim_core.proofs.Beginnings.{begins_drop}
 
 -- ---- lists

@@ -1,50 +1,30 @@
 -- The records of outcomes behind an edit and the actions that follow.
-use Rattle.std.proofs.Common.{◌≡◌, refl, sym, ap, ap₂, subst, ◌∙◌, ℕ, ◌<◌, inl, inr, Bool, true, false, Some, ltb, ◌&&◌, List, []}
-use Rattle.std.proofs.Common.{◌∷◌, ◌++◌, length, get_or, arith}
+use Rattle.std.proofs.Common.{◌≡◌, refl, sym, ap, ap₂, subst, ◌∙◌, ℕ, ◌<◌, inl, inr, Bool, true, false, Some, ltb, ◌&&◌, List, [], ◌∷◌}
+use Rattle.std.proofs.Common.{◌++◌, length, get_or, arith}
+use Rattle.std.proofs.{lemmas.Bool.and_parts, lemmas.Bool.both_ways, lemmas.Bool.cases_lt, lemmas.Bool.lt-ltb, lemmas.List.get_or_past}
 use Rattle.std.specs.Prelude.{slice_get}
-use Rattle.std.proofs.lemmas.Bool.{and_parts, both_ways, cases_lt, lt-ltb}
-use Rattle.flow_design.specs.declared.plan.Edit.{Edit}
-use Rattle.flow_design.specs.declared.plan.Plan.{Plan}
+use Rattle.flow_design.specs.{declared.plan.Edit.Edit, declared.plan.Plan.Plan, Plans.with_depth, StaticRules.FitsEngine}
 use Rattle.flow_design.specs.declared.state.ModuleState.{ModuleState}
-use Rattle.flow_design.specs.Plans.{with_depth}
-use Rattle.flow_design.specs.StaticRules.{FitsEngine}
-use Rattle.lockstep_defs.specs.Channels.{HistoryStep}
-use Rattle.lockstep_defs.specs.Report.{report, outcomes}
+use Rattle.lockstep_defs.specs.{Channels.HistoryStep, Report.report, Report.outcomes}
 use Rattle.flow_word.specs.declared.access.Step.{Step}
-use Rattle.query_log.specs.Logs.{log_at}
+use Rattle.query_log.specs.{Logs.log_at, declared.query.Query.Query}
 use Rattle.event_graph.specs.Lanes.{Lane, lane_at, no_lane}
-use Rattle.std.proofs.lemmas.List.{get_or_past}
-use Rattle.query_log.specs.declared.query.Query.{Query}
-use Rattle.event_timing.specs.Machines.{Design}
-use Rattle.event_timing.specs.Core.{Core, core_accesses, view}
-use Rattle.event_timing.specs.Enablers.{candidate}
+use Rattle.event_timing.specs.{Machines.Design, Core.Core, Core.core_accesses, Core.view, Enablers.candidate, Agreement.AreOwnMarks}
+use Rattle.event_timing.specs.{Agreement.IsAgreed, Edits.edited, Edits.after_edit}
 use Rattle.event_timing.specs.Actions.{Action, ActsAll, IsFinal, MayRun, new_flags}
-use Rattle.event_timing.specs.Agreement.{AreOwnMarks, IsAgreed}
-use Rattle.event_timing.specs.Edits.{edited, after_edit}
-use Rattle.event_timing.proofs.Answering.{first_emitted}
-use Rattle.event_timing.proofs.Beside.{actions_grow}
-use Rattle.timing_bridge.specs.Designs.{design, lockstep_run}
-use Rattle.timing_bridge.specs.Outcomes.{outcomes_by, first_requests, IsNextStep}
-use Rattle.timing_bridge.proofs.Edits.{same_design}
-use Rattle.timing_bridge.proofs.History.{plan_is_design, run_is_history}
+use Rattle.event_timing.proofs.{Answering.first_emitted, Beside.actions_grow, Deciding.determined_inside}
+use Rattle.timing_bridge.specs.{Designs.design, Designs.lockstep_run, Outcomes.outcomes_by, Outcomes.first_requests, Outcomes.IsNextStep}
+use Rattle.timing_bridge.proofs.{Edits.same_design, History.plan_is_design, History.run_is_history}
 use Rattle.timing_bridge.proofs.Outcomes.{answered_outcomes, earliest_outcomes}
 use Rattle.engine_view.specs.Held.{Held, step_of, emitted_of, are_among, core_of}
-use Rattle.engine_view.specs.Shown.{IsSound}
-use Rattle.engine_view.specs.Turns.{IsFoundOther, first_of}
+use Rattle.engine_view.specs.{Shown.IsSound, Turns.IsFoundOther, Turns.first_of}
 use Rattle.retime.specs.Edits.{OutcomesGrow}
-use Rattle.sim_core.specs.Views.{CoreView, theory_of}
-use Rattle.sim_core.specs.Drives.{Goes, IsDiffering}
+use Rattle.sim_core.specs.{Views.CoreView, Views.theory_of, Drives.Goes, Drives.IsDiffering, Records.IsEditedOn, Records.HasOtherAnswer}
 use Rattle.sim_core.specs.Edits.{IsAsBefore, IsRetimed, IsChanged}
-use Rattle.sim_core.specs.Records.{IsEditedOn, HasOtherAnswer}
-use Rattle.event_timing.proofs.Deciding.{determined_inside}
-use Rattle.sim_core.proofs.Rounds.{acts_join}
-use Rattle.sim_core.proofs.Cut.{cut_of, cut_stays}
-use Rattle.sim_core.proofs.Logged.{answered_back, outcomes_on}
-use Rattle.sim_core.proofs.Otherwise.{AreOtherAt, other_answer}
-use Rattle.sim_core.proofs.RecordsGrow.{all_recorded}
-use Rattle.retime.proofs.Counts.{same_steps}
+use Rattle.sim_core.proofs.{Rounds.acts_join, Cut.cut_of, Cut.cut_stays, Logged.answered_back, Logged.outcomes_on, Otherwise.AreOtherAt}
+use Rattle.sim_core.proofs.{Otherwise.other_answer, RecordsGrow.all_recorded, Unadded.IsUnadded, Unadded.unadded_no_run}
 use Rattle.sim_core.proofs.SameSteps.{same_flags, same_answered, all_asked}
-use Rattle.sim_core.proofs.Unadded.{IsUnadded, unadded_no_run}
+use Rattle.retime.proofs.Counts.{same_steps}
 
 -- a module with a step is one of the lanes
 within_lanes : (h : Held) (m k : ℕ) → k < emitted_of h m → length h.logs ≡ length h.lanes → m < length h.logs

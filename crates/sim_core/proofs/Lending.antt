@@ -1,26 +1,15 @@
 -- A run that is taken out of the core and put back.
-use Rattle.std.proofs.Common.{◌≡◌, refl, sym, ap, subst, ◌∙◌, ℕ, zero, suc, ◌<◌, inl, inr, Bool, true, false, List, [], ◌∷◌, length}
-use Rattle.std.proofs.Common.{get_or, set, Option, Some, None, arith}
+use Rattle.std.proofs.Common.{◌≡◌, refl, sym, ap, subst, ◌∙◌, ℕ, zero, suc, ◌<◌, inl, inr, Bool, true, false, List, [], ◌∷◌, length, get_or}
+use Rattle.std.proofs.Common.{set, Option, Some, None, arith}
+use Rattle.std.proofs.{lemmas.Bool.Decides.eqb_tells, lemmas.List.length-set, lemmas.List.get_or-set_same, lemmas.List.get_or-set_other}
 use Rattle.std.specs.Prelude.{IfSome}
-use Rattle.std.proofs.lemmas.Bool.Decides.{eqb_tells}
-use Rattle.std.proofs.lemmas.List.{length-set, get_or-set_same, get_or-set_other}
-use Rattle.flow_design.specs.declared.plan.Plan.{Plan}
-use Rattle.flow_design.specs.declared.state.Advance.{Advance}
-use Rattle.flow_design.specs.declared.state.ModuleState.{ModuleState}
+use Rattle.flow_design.specs.{declared.plan.Plan.Plan, declared.state.Advance.Advance, declared.state.ModuleState.ModuleState}
 use Rattle.module_interp.specs.declared.run.ModuleRun.{ModuleRun}
-use Rattle.event_timing.specs.Core.{Core}
-use Rattle.event_timing.specs.Actions.{Acts}
-use Rattle.event_timing.specs.Actions.Action.{Run}
-use Rattle.event_timing.specs.Agreement.{IsAgreed}
+use Rattle.event_timing.specs.{Core.Core, Actions.Acts, Actions.Action.Run, Agreement.IsAgreed}
 use Rattle.timing_bridge.specs.Designs.{design, lockstep_run}
-use Rattle.engine_view.specs.Held.{Held, core_of}
-use Rattle.engine_view.specs.Shown.{IsSound}
-use Rattle.engine_view.specs.Taking.{kinds_in}
-use Rattle.engine_view.specs.Rooms.{IsRoomy}
+use Rattle.engine_view.specs.{Held.Held, Held.core_of, Shown.IsSound, Taking.kinds_in, Rooms.IsRoomy, Engines.held_in}
 use Rattle.engine_view.specs.declared.engine.Engine.{Engine}
-use Rattle.engine_view.specs.Engines.{held_in}
-use Rattle.sim_core.specs.Views.{CoreView, theory_of}
-use Rattle.sim_core.specs.Drives.{Goes, GoesOn}
+use Rattle.sim_core.specs.{Views.CoreView, Views.theory_of, Drives.Goes, Drives.GoesOn}
 use Rattle.sim_core.specs.Runs.{IsRunOf, IsEndOf, IsCore, lent_of, over_of}
 
 -- where the lists are the same

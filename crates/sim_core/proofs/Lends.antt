@@ -1,35 +1,20 @@
 -- A core that lends a run.
-use Rattle.std.proofs.Common.{◌≡◌, refl, sym, ap, subst, ◌∙◌, ℕ, zero, suc, ◌<◌, ◌≤◌, true, false, cond, inl, inr, List, [], ◌∷◌}
-use Rattle.std.proofs.Common.{arith, drop, length, get_or, set, Option, Some, None, is_none}
-use Rattle.std.proofs.lemmas.Bool.{cases_Bool, cond-true, cond-false}
-use Rattle.std.proofs.lemmas.List.{map-set}
-use Rattle.flow_word.specs.declared.access.Access.{Access}
-use Rattle.flow_word.specs.declared.access.Side.TheVariants.{Pop}
-use Rattle.flow_design.specs.declared.plan.Plan.{Plan}
-use Rattle.flow_design.specs.declared.state.Advance.{Advance}
-use Rattle.lockstep_defs.specs.OwnRun.{Own}
-use Rattle.lockstep_defs.specs.Report.{queries}
-use Rattle.module_interp.specs.declared.run.ModuleRun.{ModuleRun}
-use Rattle.module_interp.specs.OwnRests.{done_in, accesses_at}
+use Rattle.std.proofs.Common.{◌≡◌, refl, sym, ap, subst, ◌∙◌, ℕ, zero, suc, ◌<◌, ◌≤◌, true, false, cond, inl, inr, List, [], ◌∷◌, arith}
+use Rattle.std.proofs.Common.{drop, length, get_or, set, Option, Some, None, is_none}
+use Rattle.std.proofs.{lemmas.Bool.cases_Bool, lemmas.Bool.cond-true, lemmas.Bool.cond-false, lemmas.List.map-set}
+use Rattle.flow_word.specs.{declared.access.Access.Access, declared.access.Side.TheVariants.Pop}
+use Rattle.flow_design.specs.{declared.plan.Plan.Plan, declared.state.Advance.Advance, declared.state.ModuleState.ModuleState}
+use Rattle.lockstep_defs.specs.{OwnRun.Own, Report.queries}
+use Rattle.module_interp.specs.{declared.run.ModuleRun.ModuleRun, OwnRests.done_in, OwnRests.accesses_at}
 use Rattle.module_interp.specs.Runs.{StandsAt, popped_in, waits}
 use Rattle.query_log.specs.Logs.{log_at}
-use Rattle.event_timing.specs.Actions.{MayRun}
+use Rattle.event_timing.specs.{Actions.MayRun, Core.Core, Core.core_tally, Core.core_values, Views.Begins}
 use Rattle.timing_bridge.specs.Designs.{design}
-use Rattle.engine_view.specs.Held.{Held, emitted_of, core_of}
-use Rattle.engine_view.specs.declared.engine.Engine.{Engine}
-use Rattle.engine_view.specs.Engines.{held_in}
-use Rattle.run_ahead.specs.declared.mail.Mail.{Mail}
-use Rattle.run_ahead.specs.declared.mail.Task.{Task}
-use Rattle.run_ahead.specs.Mails.{values_on}
-use Rattle.sim_core.specs.Lent.{IsMade}
-use Rattle.sim_core.specs.Readers.{AreReaders}
+use Rattle.engine_view.specs.{Held.Held, Held.emitted_of, Held.core_of, declared.engine.Engine.Engine, Engines.held_in}
+use Rattle.run_ahead.specs.{declared.mail.Mail.Mail, declared.mail.Task.Task, Mails.values_on}
+use Rattle.sim_core.specs.{Lent.IsMade, Readers.AreReaders, Tasks.committed, Tasks.IsTaskOf, Tasks.IsTaskLeft}
 use Rattle.sim_core.specs.Runs.{IsCore, IsRunOf, rest_behind, lent_of, over_of}
-use Rattle.sim_core.specs.Tasks.{committed, IsTaskOf, IsTaskLeft}
-use Rattle.event_timing.specs.Core.{Core, core_tally, core_values}
-use Rattle.event_timing.specs.Views.{Begins}
-use Rattle.flow_design.specs.declared.state.ModuleState.{ModuleState}
-use Rattle.sim_core.proofs.Posted.{going_posted, waiting_posted}
-use Rattle.sim_core.proofs.Sending.{popped_is}
+use Rattle.sim_core.proofs.{Posted.going_posted, Posted.waiting_posted, Sending.popped_is}
 use Rattle.sim_core.proofs.Committed.{committed_waits, committed_goes}
 
 -- ---- which are lent

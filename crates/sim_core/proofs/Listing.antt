@@ -1,16 +1,10 @@
 -- The candidate of a module that is neither asking nor unlisted is right, whatever was done.
 use Rattle.std.proofs.Common.{◌≡◌, refl, sym, ap, subst, ◌∙◌, ℕ, ◌<◌, inl, inr, true, arith, List, [], length, Some}
 use Rattle.std.specs.Prelude.{slice_index_or}
-use Rattle.flow_design.specs.declared.plan.Plan.{Plan}
-use Rattle.flow_design.specs.declared.state.ModuleState.{ModuleState}
-use Rattle.flow_design.specs.StaticRules.{FitsEngine}
-use Rattle.module_sets.specs.declared.mask.Mask.{Mask}
-use Rattle.module_sets.specs.Sets.{Has, HasMask, IsAdded}
+use Rattle.flow_design.specs.{declared.plan.Plan.Plan, declared.state.ModuleState.ModuleState, StaticRules.FitsEngine}
+use Rattle.module_sets.specs.{declared.mask.Mask.Mask, Sets.Has, Sets.HasMask, Sets.IsAdded}
 use Rattle.event_graph.specs.declared.candidate.Candidate.{Candidate}
-use Rattle.event_timing.specs.Core.{Core, view}
-use Rattle.event_timing.specs.Enablers.{candidate}
-use Rattle.event_timing.specs.Actions.{ActsAll, IsQuiet, runs}
-use Rattle.event_timing.specs.Agreement.{IsAgreed}
+use Rattle.event_timing.specs.{Core.Core, Core.view, Enablers.candidate, Actions.ActsAll, Actions.IsQuiet, Actions.runs, Agreement.IsAgreed}
 use Rattle.timing_bridge.specs.Designs.{design, lockstep_run}
 use Rattle.timing_bridge.proofs.History.{plan_is_design, run_is_history}
 use Rattle.turn_history.specs.Rounds.{after_timing}
@@ -18,15 +12,10 @@ use Rattle.turn_history.proofs.Apart.{candidate_apart, candidates_apart}
 use Rattle.turn_history.proofs.Onward.{assigned_is, answered_is, idle_is, opened_is}
 use Rattle.outcome_guard.specs.declared.guard.Guard.{Guard}
 use Rattle.outcome_guard.specs.declared.guard.Guard.TheVariants as guard
-use Rattle.engine_view.specs.Turns.{is_progress}
-use Rattle.engine_view.specs.declared.turn.Timing.{Timing}
+use Rattle.engine_view.specs.{Turns.is_progress, declared.turn.Timing.Timing}
 use Rattle.engine_view.specs.declared.turn.Timing.TheVariants as turn
-use Rattle.sim_core.specs.declared.due.Due.{Due}
-use Rattle.sim_core.specs.Asking.{Lacks, HasRoom, AreAsking, AreBeside}
-use Rattle.sim_core.specs.Candidates.{AreListed, IsListed}
-use Rattle.sim_core.specs.Turns.{HasTurned, HasAnsweredLeast}
-use Rattle.sim_core.specs.Views.{CoreView, theory_of}
-use Rattle.sim_core.specs.Waking.{IsFull}
+use Rattle.sim_core.specs.{declared.due.Due.Due, Asking.Lacks, Asking.HasRoom, Asking.AreAsking, Asking.AreBeside, Candidates.AreListed}
+use Rattle.sim_core.specs.{Candidates.IsListed, Turns.HasTurned, Turns.HasAnsweredLeast, Views.CoreView, Views.theory_of, Waking.IsFull}
 use Rattle.sim_core.proofs.Asking.{still_room}
 
 pub listed_all : (p : Plan) (x : Core ModuleState) (due : Due) (candidates : List Candidate) → length candidates ≡ length p.design.modules

@@ -1,8 +1,7 @@
 -- The outcomes in the log, where a core came from another.
 use Rattle.std.proofs.Common.{◌≡◌, refl, sym, ap, ◌∙◌, ℕ, ◌<◌, ◌≤◌, ◌⊎◌, Bool, true, List, [], ◌∷◌, length, map, drop, arith}
 use Rattle.flow_word.specs.declared.access.Access.{Access}
-use Rattle.event_timing.specs.Machines.{Design}
-use Rattle.event_timing.specs.Core.{core_accesses}
+use Rattle.event_timing.specs.{Machines.Design, Core.core_accesses}
 use Rattle.query_log.specs.Logs.{log_at}
 use Rattle.engine_view.specs.Held.{Held, step_of, emitted_of, seen, queries_in, flags_by, core_of}
 use Rattle.engine_view.specs.Shown.{IsSound}

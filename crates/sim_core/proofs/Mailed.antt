@@ -1,29 +1,19 @@
 -- The replies that are read off a mail are those that the core tells.
-use Rattle.std.proofs.Common.{◌≡◌, refl, sym, ap, ap₂, subst, ◌∙◌, ℕ, zero, suc, ◌+◌, Bool, true, false, not, cond, eqb, ltb, ◌&&◌}
-use Rattle.std.proofs.Common.{◌||◌, List, [], ◌∷◌, length, map, drop, get_or, Option, Some, None, slice_get, inl, inr}
-use Rattle.std.proofs.Common.{arith, length-drop}
-use Rattle.std.proofs.lemmas.Bool.Decides.{nat_tests}
-use Rattle.std.proofs.lemmas.Bool.{cases_Bool, and_from}
-use Rattle.std.proofs.lemmas.Bool.Decides.{eqb_tells}
+use Rattle.std.proofs.Common.{◌≡◌, refl, sym, ap, ap₂, subst, ◌∙◌, ℕ, zero, suc, ◌+◌, Bool, true, false, not, cond, eqb, ltb, ◌&&◌, ◌||◌}
+use Rattle.std.proofs.Common.{List, [], ◌∷◌, length, map, drop, get_or, Option, Some, None, slice_get, inl, inr, arith, length-drop}
+use Rattle.std.proofs.{lemmas.Bool.Decides.nat_tests, lemmas.Bool.Decides.eqb_tells, lemmas.Bool.cases_Bool, lemmas.Bool.and_from}
 use Rattle.std.proofs.lemmas.Option.{slice_get_within, slice_get_past, get_or_from_slice_get}
-use Rattle.flow_word.specs.declared.access.Kind.{Kind}
+use Rattle.flow_word.specs.{declared.access.Kind.Kind, declared.access.Side.TheVariants.Pop}
 use Rattle.flow_word.specs.declared.access.Kind.TheVariants.{Read, Write, TryRead, TryWrite, Empty, Full}
-use Rattle.flow_design.specs.declared.state.Reply.{Reply}
-use Rattle.flow_design.specs.declared.state.Reply.TheVariants.{Done, Value, Flag, Took, Missed}
-use Rattle.flow_design.specs.declared.state.Request.{Request}
-use Rattle.lockstep_defs.specs.Channels.{Exchange, reply_by}
-use Rattle.lockstep_defs.specs.OwnRun.{access_of}
 use Rattle.flow_word.specs.Kinds.{same_side, side_of, is_blocking, is_taking}
-use Rattle.flow_word.specs.declared.access.Side.TheVariants.{Pop}
-use Rattle.event_timing.specs.Machines.{takes_in}
-use Rattle.event_timing.specs.Core.{replies_of, all_below, bare_replies, has_query}
-use Rattle.event_timing.specs.Agreement.{FlagsFit}
+use Rattle.flow_design.specs.{declared.state.Reply.Reply, declared.state.Request.Request}
+use Rattle.flow_design.specs.declared.state.Reply.TheVariants.{Done, Value, Flag, Took, Missed}
+use Rattle.lockstep_defs.specs.{Channels.Exchange, Channels.reply_by, OwnRun.access_of}
+use Rattle.event_timing.specs.{Machines.takes_in, Core.replies_of, Core.all_below, Core.bare_replies, Core.has_query, Agreement.FlagsFit}
 use Rattle.timing_bridge.specs.Designs.{told_all, seen}
-use Rattle.engine_view.specs.Held.{queries_in}
-use Rattle.engine_view.specs.Answered.{outcome_by}
-use Rattle.run_ahead.specs.declared.mail.Mail.{Mail}
+use Rattle.engine_view.specs.{Held.queries_in, Answered.outcome_by}
+use Rattle.run_ahead.specs.{declared.mail.Mail.Mail, Mails.next_value, Mails.replies_in, Mails.one_more, Mails.taken_after}
 use Rattle.run_ahead.specs.Replies.{reply_now, put_first, has_value, told_by}
-use Rattle.run_ahead.specs.Mails.{next_value, replies_in, one_more, taken_after}
 use Rattle.flow_word.proofs.Ranges.{some_is}
 use Rattle.run_ahead.proofs.Parts.{first_parts}
 use Rattle.sim_core.specs.Tasks.{outcomes_in}

@@ -1,56 +1,33 @@
 -- The mark of a run's next rest is the next step of the theory's core, or its end.
 use Rattle.std.proofs.Common.{◌≡◌, refl, sym, ap, ap₂, subst, ◌∙◌, ℕ, zero, suc, ◌+◌, ◌<◌, ◌≤◌, ◌^◌, Bool, true, false, not, cond, ◌||◌}
 use Rattle.std.proofs.Common.{List, [], ◌∷◌, ◌++◌, length, map, get_or, filter, arith, length-append, append-nil, drop}
-use Rattle.std.specs.Prelude.{All}
-use Rattle.std.specs.List.{range_with_len}
 use Rattle.std.proofs.lemmas.List.{map-append, get_or-map, length-map}
 use Rattle.std.proofs.lemmas.List.FromFn.{get_or-map-range_with_len, length-map-range_with_len}
 use Rattle.std.proofs.lemmas.List.Elements.{All-map, All-weaker, filter-append, All-from_recursion}
-use Rattle.flow_word.specs.declared.access.Access.{Access}
-use Rattle.flow_word.specs.declared.access.Step.{Step as StepOf}
-use Rattle.flow_design.specs.declared.design.ChannelKind.{ChannelKind}
-use Rattle.flow_design.specs.declared.plan.Plan.{Plan}
+use Rattle.std.specs.{Prelude.All, List.range_with_len}
+use Rattle.flow_word.specs.{declared.access.Access.Access, declared.access.Step.Step as StepOf, Kinds.side_of, Kinds.is_blocking}
+use Rattle.flow_word.specs.{declared.access.Side.Side, declared.access.Side.TheVariants.Pop, declared.access.Side.TheVariants.Push}
+use Rattle.flow_design.specs.{declared.design.ChannelKind.ChannelKind, declared.plan.Plan.Plan, declared.state.ModuleState.ModuleState}
+use Rattle.flow_design.specs.{declared.state.Reply.Reply, declared.state.Request.Request, StaticRules.FitsEngine, Plans.kind_at}
 use Rattle.flow_design.specs.declared.state.Advance.TheVariants.{Step, Ended, Spent}
-use Rattle.flow_design.specs.declared.state.ModuleState.{ModuleState}
-use Rattle.flow_design.specs.declared.state.Reply.{Reply}
-use Rattle.flow_design.specs.declared.state.Request.{Request}
-use Rattle.flow_design.specs.StaticRules.{FitsEngine}
-use Rattle.flow_design.specs.Plans.{kind_at}
 use Rattle.lockstep_defs.specs.Channels.{Exchange, moved, moved_by}
-use Rattle.lockstep_defs.specs.Ports.{has_port, StandsAtPort}
-use Rattle.lockstep_defs.specs.Lockstep.{requests_of}
-use Rattle.lockstep_defs.specs.Machine.{is_over, is_spent}
-use Rattle.lockstep_defs.specs.OwnRun.{Own, access_of, paired}
-use Rattle.lockstep_defs.specs.Quiet.{quiet}
-use Rattle.lockstep_defs.specs.Report.{queries}
+use Rattle.lockstep_defs.specs.{Ports.has_port, Ports.StandsAtPort, Lockstep.requests_of, Machine.is_over, Machine.is_spent, OwnRun.Own}
+use Rattle.lockstep_defs.specs.{OwnRun.access_of, OwnRun.paired, Quiet.quiet, Report.queries}
 use Rattle.lockstep_defs.proofs.Queue.{moved-append, moved_by-append}
 use Rattle.module_interp.specs.OwnRests.{done_in, mark_at}
-use Rattle.fifo_table.specs.declared.channel.TableChannel.{TableChannel}
-use Rattle.fifo_table.specs.declared.channel.TableChannel.TheVariants.{Sink}
+use Rattle.fifo_table.specs.{declared.channel.TableChannel.TableChannel, declared.channel.TableChannel.TheVariants.Sink}
 use Rattle.fifo_table.specs.Channels.{Channel, HasSide, channel_at, unused}
-use Rattle.engine_view.specs.Taking.{kinds_in}
-use Rattle.time_engine.specs.Conditions.{IsAccess}
-use Rattle.flow_word.specs.Kinds.{side_of, is_blocking}
-use Rattle.flow_word.specs.declared.access.Side.{Side}
-use Rattle.flow_word.specs.declared.access.Side.TheVariants.{Pop, Push}
-use Rattle.event_timing.specs.Machines.{ready}
-use Rattle.event_timing.specs.Machines as theory
-use Rattle.event_timing.specs.Views.{own}
-use Rattle.event_timing.specs.Core.{Core, core_reply, core_tally}
-use Rattle.event_timing.specs.Actions.{newest}
-use Rattle.event_timing.specs.Agreement.{AreOwnMarks}
-use Rattle.event_timing.proofs.Running.{newest_own}
-use Rattle.timing_bridge.specs.Designs.{design, told_all}
-use Rattle.timing_bridge.specs.Designs as bridge
-use Rattle.timing_bridge.specs.CoreReports.{core_step}
-use Rattle.timing_bridge.specs.OwnRuns.{clocks_of_steps}
-use Rattle.timing_bridge.proofs.Ordinals.{ordinals}
-use Rattle.timing_bridge.proofs.Requests.{stand}
+use Rattle.engine_view.specs.{Taking.kinds_in, Shown.IsSound, Shown.queries_before, Emitted.IsNextStep}
 use Rattle.engine_view.specs.Held.{Held, step_of, emitted_of, seen, queries_in, waited, core_of}
-use Rattle.engine_view.specs.Shown.{IsSound, queries_before}
-use Rattle.engine_view.specs.Emitted.{IsNextStep}
-use Rattle.sim_core.specs.Marks.{exchanges_before, IsRestBehind}
-use Rattle.sim_core.specs.Opening.{kind_by, kind_in, kinds_of}
+use Rattle.time_engine.specs.Conditions.{IsAccess}
+use Rattle.event_timing.specs.{Machines.ready, Views.own, Actions.newest, Agreement.AreOwnMarks}
+use Rattle.event_timing.specs.Core.{Core, core_reply, core_tally}
+use Rattle.event_timing.specs.Machines as theory
+use Rattle.event_timing.proofs.Running.{newest_own}
+use Rattle.timing_bridge.specs.{Designs.design, Designs.told_all, CoreReports.core_step, OwnRuns.clocks_of_steps}
+use Rattle.timing_bridge.specs.Designs as bridge
+use Rattle.timing_bridge.proofs.{Ordinals.ordinals, Requests.stand}
+use Rattle.sim_core.specs.{Marks.exchanges_before, Marks.IsRestBehind, Opening.kind_by, Opening.kind_in, Opening.kinds_of}
 use Rattle.flow_word.proofs.Ranges.{range_more}
 
 -- ---- accesses

@@ -1,12 +1,10 @@
 -- The first module that pops each channel, once all modules are noted.
 use Rattle.std.proofs.Common.{◌≡◌, refl, sym, ap, ◌∙◌, ℕ, zero, suc, ◌+◌, ◌<◌, ◌≤◌, Bool, cond, List, [], ◌∷◌, length, drop, slice_index}
 use Rattle.std.proofs.Common.{inl, inr, arith}
-use Rattle.std.specs.Prelude.{nat_eq}
-use Rattle.std.specs.List.{position_or_len}
 use Rattle.std.proofs.lemmas.Bool.Decides.{eqb_tells}
+use Rattle.std.specs.{Prelude.nat_eq, List.position_or_len}
 use Rattle.flow_word.specs.declared.access.Side.{Side}
-use Rattle.flow_design.specs.declared.design.Module.{Module}
-use Rattle.flow_design.specs.StaticRules.{uses}
+use Rattle.flow_design.specs.{declared.design.Module.Module, StaticRules.uses}
 use Rattle.sim_core.specs.Readers.{port_at, IsSearching}
 
 pub searching_all : (side : Side) (modules : List Module) (none : ℕ) (now : List ℕ) → none ≡ length modules

@@ -1,34 +1,22 @@
 -- A query that is found to be another makes the report's answers differ from the recorded ones.
-use Rattle.std.proofs.Common.{◌≡◌, ◌≢◌, refl, sym, ap, ◌∙◌, ℕ, zero, suc, ◌+◌, ◌<◌, ◌≤◌, inl, inr, Bool, true, false}
-use Rattle.std.proofs.Common.{List, [], ◌∷◌, ◌++◌, length, map, take, drop, get_or, Some, arith}
-use Rattle.std.proofs.Common.{append-nil}
-use Rattle.std.specs.Prelude.{slice_get}
-use Rattle.std.proofs.lemmas.Bool.{cases_Bool}
-use Rattle.std.proofs.lemmas.Option.{slice_get_within}
+use Rattle.std.proofs.Common.{◌≡◌, ◌≢◌, refl, sym, ap, ◌∙◌, ℕ, zero, suc, ◌+◌, ◌<◌, ◌≤◌, inl, inr, Bool, true, false, List, [], ◌∷◌, ◌++◌}
+use Rattle.std.proofs.Common.{length, map, take, drop, get_or, Some, arith, append-nil}
+use Rattle.std.proofs.{lemmas.Bool.cases_Bool, lemmas.Option.slice_get_within}
 use Rattle.std.proofs.lemmas.List.{length-drop, length-map, length-take, take-append-drop}
-use Rattle.flow_word.specs.Kinds.{is_blocking}
-use Rattle.flow_word.specs.declared.access.Access.{Access}
-use Rattle.flow_word.specs.declared.access.Kind.{Kind}
-use Rattle.flow_design.specs.declared.plan.Plan.{Plan}
-use Rattle.flow_design.specs.declared.state.ModuleState.{ModuleState}
-use Rattle.flow_design.specs.declared.state.Request.{Request}
-use Rattle.lockstep_defs.specs.Channels.{HistoryStep}
-use Rattle.lockstep_defs.specs.Report.{report, outcomes}
-use Rattle.query_log.specs.Logs.{log_at}
-use Rattle.query_log.specs.declared.query.Query.{Query}
+use Rattle.std.specs.Prelude.{slice_get}
+use Rattle.flow_word.specs.{Kinds.is_blocking, declared.access.Access.Access, declared.access.Kind.Kind}
+use Rattle.flow_design.specs.{declared.plan.Plan.Plan, declared.state.ModuleState.ModuleState, declared.state.Request.Request}
+use Rattle.lockstep_defs.specs.{Channels.HistoryStep, Report.report, Report.outcomes}
+use Rattle.query_log.specs.{Logs.log_at, declared.query.Query.Query}
 use Rattle.event_timing.specs.Machines as theory
-use Rattle.event_timing.specs.Core.{Core, view}
+use Rattle.event_timing.specs.{Core.Core, Core.view, Views.first_accesses, Actions.new_flags, Agreement.IsAgreed}
 use Rattle.event_timing.specs.Enablers.{Known, candidate, flags_at}
-use Rattle.event_timing.specs.Views.{first_accesses}
-use Rattle.event_timing.specs.Actions.{new_flags}
-use Rattle.event_timing.specs.Agreement.{IsAgreed}
 use Rattle.event_timing.proofs.Answering.{first_emitted}
 use Rattle.timing_bridge.specs.Designs.{design, lockstep_run}
-use Rattle.timing_bridge.specs.Designs as bridge
 use Rattle.timing_bridge.specs.Outcomes.{outcome_of, outcomes_by, first_requests, IsNextStep}
+use Rattle.timing_bridge.specs.Designs as bridge
 use Rattle.engine_view.specs.Held.{Held, step_of, emitted_of, seen, queries_in, possible_by, flags_by, core_of}
-use Rattle.engine_view.specs.Shown.{IsSound, queries_before}
-use Rattle.engine_view.specs.Turns.{IsFoundOther, first_of}
+use Rattle.engine_view.specs.{Shown.IsSound, Shown.queries_before, Turns.IsFoundOther, Turns.first_of}
 use Rattle.engine_report.proofs.Asking.{same_kind}
 use Rattle.sim_core.proofs.Reported.{answers_next, next_recorded}
 

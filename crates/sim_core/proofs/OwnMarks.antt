@@ -1,41 +1,25 @@
 -- The steps that a core has emitted are the marks of its modules' own runs.
-use Rattle.std.proofs.Common.{◌≡◌, refl, sym, ap, ap₂, subst, ◌∙◌, ℕ, zero, suc, ◌+◌, ◌<◌, ◌≤◌, Bool, true, false, cond, ◌||◌}
-use Rattle.std.proofs.Common.{List, [], ◌∷◌, ◌++◌, length, map, take, get_or, arith}
-use Rattle.std.proofs.Math.Seq.{take-suc}
+use Rattle.std.proofs.Common.{◌≡◌, refl, sym, ap, ap₂, subst, ◌∙◌, ℕ, zero, suc, ◌+◌, ◌<◌, ◌≤◌, Bool, true, false, cond, ◌||◌, List, []}
+use Rattle.std.proofs.Common.{◌∷◌, ◌++◌, length, map, take, get_or, arith}
+use Rattle.std.proofs.{Math.Seq.take-suc, lemmas.List.FromFn.length-map-range_with_len}
 use Rattle.std.proofs.lemmas.List.{get_or-map, length-map, take_all}
-use Rattle.std.proofs.lemmas.List.FromFn.{length-map-range_with_len}
 use Rattle.flow_word.specs.declared.access.Step.{Step as StepOf}
-use Rattle.flow_design.specs.declared.plan.Plan.{Plan}
-use Rattle.flow_design.specs.declared.state.Advance.{Advance}
+use Rattle.flow_design.specs.{declared.plan.Plan.Plan, declared.state.Advance.Advance, declared.state.Reply.Reply, StaticRules.FitsEngine}
 use Rattle.flow_design.specs.declared.state.Advance.TheVariants.{Step, Ended, Spent}
 use Rattle.flow_design.specs.declared.state.ModuleState.{ModuleState}
-use Rattle.flow_design.specs.declared.state.Reply.{Reply}
-use Rattle.flow_design.specs.StaticRules.{FitsEngine}
-use Rattle.lockstep_defs.specs.Channels.{Exchange}
+use Rattle.lockstep_defs.specs.{Channels.Exchange, Lockstep.requests_of, OwnRun.access_of, OwnRun.marks, Quiet.quiet, Report.queries}
 use Rattle.lockstep_defs.specs.Machine.{is_over, is_spent}
-use Rattle.lockstep_defs.specs.Lockstep.{requests_of}
-use Rattle.lockstep_defs.specs.OwnRun.{access_of, marks}
-use Rattle.lockstep_defs.specs.Quiet.{quiet}
-use Rattle.lockstep_defs.specs.Report.{queries}
 use Rattle.module_interp.specs.Chains.{rest_at, clock_at, marks_before, GoesTo}
-use Rattle.module_interp.specs.OwnRests.{done_in, accesses_at, mark_at}
-use Rattle.module_interp.specs.Runs.{is_step}
+use Rattle.module_interp.specs.{OwnRests.done_in, OwnRests.accesses_at, OwnRests.mark_at, Runs.is_step}
 use Rattle.module_interp.proofs.Chains.{marks_are_own}
-use Rattle.event_timing.specs.Views.{own}
-use Rattle.event_timing.specs.Core.{Core, core_reply, core_tally}
-use Rattle.event_timing.specs.Agreement.{IsAgreed}
-use Rattle.timing_bridge.specs.Designs.{design, lockstep_run}
-use Rattle.timing_bridge.specs.OwnRuns.{clocks_of_steps, core_replies}
+use Rattle.event_timing.specs.{Views.own, Core.Core, Core.core_reply, Core.core_tally, Agreement.IsAgreed}
+use Rattle.timing_bridge.specs.{Designs.design, Designs.lockstep_run, OwnRuns.clocks_of_steps, OwnRuns.core_replies}
 use Rattle.event_graph.specs.Lanes.{lane_at}
-use Rattle.engine_view.specs.Held.{no_step, step_of, emitted_of, waited}
-use Rattle.engine_view.specs.Shown.{IsSound}
+use Rattle.engine_view.specs.{Held.no_step, Held.step_of, Held.emitted_of, Held.waited, Shown.IsSound}
 use Rattle.engine_view.proofs.Bounds.{lane_apart}
 use Rattle.engine_report.proofs.Ending.{waited_is}
-use Rattle.sim_core.specs.OwnMarks.{TellsOwnRun, held_marks}
-use Rattle.sim_core.specs.Views.{CoreView, theory_of}
-use Rattle.sim_core.proofs.Fed.{same_accesses, seen_same}
-use Rattle.sim_core.proofs.Marking.{ordinal_is, queries_done}
-use Rattle.sim_core.proofs.Resting.{rest_is}
+use Rattle.sim_core.specs.{OwnMarks.TellsOwnRun, OwnMarks.held_marks, Views.CoreView, Views.theory_of}
+use Rattle.sim_core.proofs.{Fed.same_accesses, Fed.seen_same, Marking.ordinal_is, Marking.queries_done, Resting.rest_is}
 
 -- ---- marks
 

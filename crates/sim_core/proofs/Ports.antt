@@ -1,19 +1,14 @@
 -- A module's own ports are all of those at which it stands, and are within the channels.
-use Rattle.std.proofs.Common.{◌≡◌, ℕ, zero, suc, ◌+◌, ◌<◌, ◌≤◌, Bool, true, false, eqb, inl, inr, List, ◌++◌, Some, refl, subst, sym}
-use Rattle.std.proofs.Common.{arith, append_assoc, length}
-use Rattle.std.specs.Prelude.{All, flat_map, slice_get}
-use Rattle.std.specs.List.{range_with_len}
-use Rattle.std.proofs.lemmas.Bool.Decides.{eqb_tells}
-use Rattle.std.proofs.lemmas.List.Elements.{All-from_recursion}
-use Rattle.std.specs.List.{AllByRecursion}
-use Rattle.flow_word.specs.declared.access.Port.{Port}
-use Rattle.flow_word.specs.declared.access.Side.{Side}
+use Rattle.std.proofs.Common.{◌≡◌, ℕ, zero, suc, ◌+◌, ◌<◌, ◌≤◌, Bool, true, false, eqb, inl, inr, List, ◌++◌, Some, refl, subst, sym, arith}
+use Rattle.std.proofs.Common.{append_assoc, length}
+use Rattle.std.proofs.{lemmas.Bool.Decides.eqb_tells, lemmas.List.Elements.All-from_recursion, lemmas.Bool.eq-eqb}
+use Rattle.std.specs.{Prelude.All, Prelude.flat_map, Prelude.slice_get, List.range_with_len, List.AllByRecursion}
+use Rattle.flow_word.specs.{declared.access.Port.Port, declared.access.Side.Side}
 use Rattle.flow_word.specs.declared.access.Side.TheVariants.{Pop, Push}
 use Rattle.flow_design.specs.declared.plan.Plan.{Plan}
 use Rattle.timing_bridge.specs.Designs.{design}
 use Rattle.engine_view.specs.Rooms.{AreAllPorts}
 use Rattle.sim_core.specs.Opening.{port_where, ports_at, ports_to}
-use Rattle.std.proofs.lemmas.Bool.{eq-eqb}
 
 abbrev Has : List Port → Port → Type 0
 Has ports port = (i : ℕ) × (slice_get ports i ≡ Some port)

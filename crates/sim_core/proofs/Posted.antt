@@ -1,35 +1,20 @@
 -- A mail that was made for a run that may go on is one of a task of the core.
-use Rattle.std.proofs.Common.{length-drop, ◌≡◌, sym, ap, ap₂, ◌∙◌, ℕ, suc, ◌+◌, ◌<◌, ◌≤◌, Bool, true, false, eqb}
-use Rattle.std.proofs.Common.{leb, ltb, ◌&&◌, ◌||◌, inl, inr, List, [], length, map, take, drop}
-use Rattle.std.proofs.Common.{arith}
+use Rattle.std.proofs.Common.{length-drop, ◌≡◌, sym, ap, ap₂, ◌∙◌, ℕ, suc, ◌+◌, ◌<◌, ◌≤◌, Bool, true, false, eqb, leb, ltb, ◌&&◌, ◌||◌, inl}
+use Rattle.std.proofs.Common.{inr, List, [], length, map, take, drop, arith}
 use Rattle.std.proofs.lemmas.Bool.{cond-true, cond-false, lt-ltb, leb-true, le-ltb}
 use Rattle.std.proofs.lemmas.Bool.Decides.{eqb_tells}
 use Rattle.flow_word.specs.declared.access.Access.{Access}
-use Rattle.flow_design.specs.declared.plan.Plan.{Plan}
-use Rattle.flow_design.specs.declared.state.ModuleState.{ModuleState}
-use Rattle.flow_design.specs.StaticRules.{FitsEngine}
-use Rattle.lockstep_defs.specs.Lockstep.{requests_of}
-use Rattle.lockstep_defs.specs.OwnRun.{access_of}
-use Rattle.lockstep_defs.specs.Report.{queries}
-use Rattle.module_interp.specs.declared.run.ModuleRun.{ModuleRun}
-use Rattle.module_interp.specs.OwnRests.{done_in, accesses_at}
-use Rattle.module_interp.specs.Runs.{StandsAt, waits}
+use Rattle.flow_design.specs.{declared.plan.Plan.Plan, declared.state.ModuleState.ModuleState, StaticRules.FitsEngine}
+use Rattle.lockstep_defs.specs.{Lockstep.requests_of, OwnRun.access_of, Report.queries}
+use Rattle.module_interp.specs.{declared.run.ModuleRun.ModuleRun, OwnRests.done_in, OwnRests.accesses_at, Runs.StandsAt, Runs.waits}
 use Rattle.query_log.specs.Logs.{log_at}
-use Rattle.event_timing.specs.Core.{Core}
-use Rattle.event_timing.specs.Actions.{MayRun}
-use Rattle.event_timing.specs.Agreement.{AreOwnMarks}
+use Rattle.event_timing.specs.{Core.Core, Actions.MayRun, Agreement.AreOwnMarks}
 use Rattle.timing_bridge.specs.Designs.{design}
-use Rattle.engine_view.specs.Held.{Held, emitted_of, step_of, queries_in, core_of}
-use Rattle.engine_view.specs.Shown.{IsSound}
+use Rattle.engine_view.specs.{Held.Held, Held.emitted_of, Held.step_of, Held.queries_in, Held.core_of, Shown.IsSound, Taking.kinds_in}
 use Rattle.run_ahead.specs.declared.mail.Mail.{Mail}
-use Rattle.sim_core.specs.Lent.{IsMade}
-use Rattle.sim_core.specs.Readers.{AreReaders}
-use Rattle.sim_core.specs.Runs.{IsRunOf, rest_behind}
-use Rattle.engine_view.specs.Taking.{kinds_in}
-use Rattle.sim_core.specs.Opening.{kinds_of}
+use Rattle.sim_core.specs.{Lent.IsMade, Readers.AreReaders, Runs.IsRunOf, Runs.rest_behind, Opening.kinds_of}
 use Rattle.sim_core.specs.Tasks.{outcomes_at, outcomes_in, values_behind, committed, IsTaskOf}
-use Rattle.sim_core.proofs.Committed.{committed_waits, committed_goes}
-use Rattle.sim_core.proofs.Resting.{rest_is}
+use Rattle.sim_core.proofs.{Committed.committed_waits, Committed.committed_goes, Resting.rest_is}
 use Rattle.sim_core.proofs.Sending.{outcomes_read, asked_same, queries_are, mine, others, outside}
 
 -- ---- the outcomes that are needed are there

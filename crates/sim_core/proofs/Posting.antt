@@ -1,6 +1,6 @@
 -- Reading a mail off the log and the table.
-use Rattle.std.proofs.Common.{◌≡◌, refl, sym, ap, ◌∙◌, ℕ, zero, suc, ◌+◌, ◌-◌, ◌<◌, List, [], ◌∷◌, ◌++◌, take, drop}
-use Rattle.std.proofs.Common.{length, Some, None, slice_get, arith, append_assoc, append-nil, Bool}
+use Rattle.std.proofs.Common.{◌≡◌, refl, sym, ap, ◌∙◌, ℕ, zero, suc, ◌+◌, ◌-◌, ◌<◌, List, [], ◌∷◌, ◌++◌, take, drop, length, Some, None}
+use Rattle.std.proofs.Common.{slice_get, arith, append_assoc, append-nil, Bool}
 use Rattle.event_timing.specs.Views.{Begins}
 use Rattle.sim_core.specs.Lent.{IsReadingOutcomes, IsReadingValues}
 use Rattle.sim_core.proofs.Beginnings.{drop_twice, drop_front}

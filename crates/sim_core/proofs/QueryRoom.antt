@@ -1,20 +1,10 @@
 -- A step has no more queries than its body has operations.
 use Rattle.std.proofs.Common.{◌≡◌, inl, inr, ap, arith, ℕ, ◌<◌, ◌≤◌, not, length, List, get_or}
-use Rattle.std.proofs.lemmas.Bool.{cases_lt}
-use Rattle.std.proofs.lemmas.List.{get_or_past}
-use Rattle.std.proofs.lemmas.List.Sums.{length-filter, count_by-le-length}
-use Rattle.flow_word.specs.Kinds.{is_blocking}
-use Rattle.flow_word.specs.declared.access.Access.{Access}
-use Rattle.flow_word.specs.declared.access.Step.{Step as StepOf}
-use Rattle.flow_design.specs.declared.design.Module.{Module}
-use Rattle.flow_design.specs.declared.plan.Plan.{Plan}
-use Rattle.flow_design.specs.declared.state.Advance.TheVariants.{Step}
-use Rattle.flow_design.specs.Module.{no_block, block_at, block_of}
-use Rattle.flow_design.specs.StaticRules.{FitsEngine}
-use Rattle.lockstep_defs.specs.Laws.{is_query}
-use Rattle.lockstep_defs.specs.Lockstep.{module_at}
-use Rattle.lockstep_defs.specs.Machine.{is_spent}
-use Rattle.lockstep_defs.specs.OwnRun.{Own}
+use Rattle.std.proofs.{lemmas.Bool.cases_lt, lemmas.List.get_or_past, lemmas.List.Sums.length-filter, lemmas.List.Sums.count_by-le-length}
+use Rattle.flow_word.specs.{Kinds.is_blocking, declared.access.Access.Access, declared.access.Step.Step as StepOf}
+use Rattle.flow_design.specs.{declared.design.Module.Module, declared.plan.Plan.Plan, declared.state.Advance.TheVariants.Step}
+use Rattle.flow_design.specs.{Module.no_block, Module.block_at, Module.block_of, StaticRules.FitsEngine}
+use Rattle.lockstep_defs.specs.{Laws.is_query, Lockstep.module_at, Machine.is_spent, OwnRun.Own}
 use Rattle.module_interp.specs.OwnRests.{accesses_at, mark_at}
 use Rattle.module_interp.proofs.Sound.{few_queries}
 use Rattle.engine_view.specs.Held.{queries_in}

@@ -1,18 +1,14 @@
 -- The values of a mail are those of the channels that its module pops.
 use Rattle.std.proofs.Common.{◌≡◌, refl, sym, ap, ap₂, ◌∙◌, ℕ, ◌+◌, ◌<◌, ◌≤◌, inl, inr, Bool, true, false, cond, List, [], ◌∷◌, ◌++◌}
-use Rattle.std.proofs.Common.{length, map, take, drop, eqb}
-use Rattle.std.proofs.Common.{get_or, slice_index, arith}
+use Rattle.std.proofs.Common.{length, map, take, drop, eqb, get_or, slice_index, arith}
 use Rattle.std.proofs.lemmas.Bool.{cond-true, cond-false, eq-eqb, ne_eqb, cases_lt}
 use Rattle.std.proofs.lemmas.List.{get_or_past, get_or-map, map_more}
-use Rattle.fifo_table.specs.Channels.{Channel, unused, values_of}
-use Rattle.fifo_table.specs.declared.channel.TableChannel.TheVariants.{Sink}
+use Rattle.fifo_table.specs.{Channels.Channel, Channels.unused, Channels.values_of, declared.channel.TableChannel.TheVariants.Sink}
 use Rattle.module_interp.specs.OwnChannels.{place_in}
 use Rattle.module_interp.proofs.Places.{found_at}
 use Rattle.engine_view.specs.Held.{values_at}
-use Rattle.run_ahead.specs.declared.mail.Mail.{Mail}
-use Rattle.run_ahead.specs.Mails.{values_on}
-use Rattle.run_ahead.proofs.Placed.{values_there, no_channel}
-use Rattle.run_ahead.proofs.Finding.{drop_none}
+use Rattle.run_ahead.specs.{declared.mail.Mail.Mail, Mails.values_on}
+use Rattle.run_ahead.proofs.{Placed.values_there, Placed.no_channel, Finding.drop_none}
 use Rattle.sim_core.specs.Lent.{mailed}
 
 module _ (channels : List Channel) (readers : List ℕ) (m : ℕ) (popped : ℕ → ℕ) where

@@ -1,20 +1,14 @@
 -- While actions are done, a module's record of outcomes only grows, and either none was added or all that it has are verified.
-use Rattle.std.proofs.Common.{◌≡◌, refl, sym, ap, subst, ◌∙◌, ℕ, suc, ◌<◌, ◌⊎◌, inl, inr, true, not, List, [], ◌∷◌}
-use Rattle.std.proofs.Common.{arith}
-use Rattle.std.proofs.lemmas.Bool.{cases_Bool, both_ways}
-use Rattle.std.proofs.lemmas.Bool.Decides.{eqb_tells}
+use Rattle.std.proofs.Common.{◌≡◌, refl, sym, ap, subst, ◌∙◌, ℕ, suc, ◌<◌, ◌⊎◌, inl, inr, true, not, List, [], ◌∷◌, arith}
+use Rattle.std.proofs.{lemmas.Bool.cases_Bool, lemmas.Bool.both_ways, lemmas.Bool.Decides.eqb_tells}
 use Rattle.event_timing.specs.Machines.{Design, IsDesign, ready}
-use Rattle.event_timing.specs.Histories.{Trace, IsHistory}
-use Rattle.event_timing.specs.Core.{Core, core_accesses, has_query}
+use Rattle.event_timing.specs.{Histories.Trace, Histories.IsHistory, Core.Core, Core.core_accesses, Core.has_query, Agreement.IsAgreed}
 use Rattle.event_timing.specs.Actions.{Action, Acts, ActsAll, newest, emit_step, after_run}
 use Rattle.event_timing.specs.Actions.Action.{Run, Assign, Answer, Earliest}
-use Rattle.event_timing.specs.Agreement.{IsAgreed}
-use Rattle.event_timing.proofs.Agreement.{acts_agree}
+use Rattle.event_timing.proofs.{Agreement.acts_agree, Beside.actions_grow}
 use Rattle.event_timing.proofs.Assigning.{put_same, put_other, put_at_same, put_at_other}
-use Rattle.event_timing.proofs.Beside.{actions_grow}
 use Rattle.retime.specs.Edits.{RecordGrows}
-use Rattle.retime.proofs.Growing.{answered_or_not}
-use Rattle.retime.proofs.Outcomes.{NoneAdded, AreSure}
+use Rattle.retime.proofs.{Growing.answered_or_not, Outcomes.NoneAdded, Outcomes.AreSure}
 
 module _ {S : Type 0} (d : Design S) where
   abbrev StayVerified : Core S → Core S → ℕ → Type 0

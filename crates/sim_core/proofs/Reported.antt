@@ -1,40 +1,25 @@
 -- The answers of the report are the verified outcomes in the log of a final core.
 use Rattle.std.proofs.Common.{◌≡◌, sym, ap, ◌∙◌, ℕ, ◌<◌, ◌≤◌, inl, inr, Bool, true, ltb, List, [], ◌∷◌, ◌++◌, length, map, take, drop}
 use Rattle.std.proofs.Common.{get_or, arith}
-use Rattle.std.specs.List.{range_with_len}
-use Rattle.std.proofs.Math.Seq.{take-length}
-use Rattle.std.proofs.lemmas.Bool.{and_parts}
+use Rattle.std.proofs.{Math.Seq.take-length, lemmas.Bool.and_parts, lemmas.List.Concat.flat_map-append}
 use Rattle.std.proofs.lemmas.List.{length-drop, length-map, get_or-map, same_lists}
-use Rattle.std.proofs.lemmas.List.Concat.{flat_map-append}
 use Rattle.std.proofs.lemmas.List.FromFn.{get_or-map-range_with_len, length-map-range_with_len}
+use Rattle.std.specs.List.{range_with_len}
 use Rattle.flow_word.specs.declared.access.Access.{Access}
-use Rattle.flow_design.specs.declared.plan.Plan.{Plan}
-use Rattle.flow_design.specs.declared.report.Report.{Report}
+use Rattle.flow_design.specs.{declared.plan.Plan.Plan, declared.report.Report.Report, StaticRules.FitsEngine, Reports.clock_of}
 use Rattle.flow_design.specs.declared.state.ModuleState.{ModuleState}
-use Rattle.flow_design.specs.StaticRules.{FitsEngine}
-use Rattle.lockstep_defs.specs.Channels.{HistoryStep, Exchange}
-use Rattle.lockstep_defs.specs.Lockstep.{history}
-use Rattle.lockstep_defs.specs.Machine.{is_yes}
+use Rattle.lockstep_defs.specs.{Channels.HistoryStep, Channels.Exchange, Lockstep.history, Machine.is_yes, Verdict.verdict}
 use Rattle.lockstep_defs.specs.Report.{report, outcomes, queries, steps_of}
-use Rattle.lockstep_defs.specs.Verdict.{verdict}
-use Rattle.flow_design.specs.Reports.{clock_of}
 use Rattle.query_log.specs.Logs.{Log, no_log, log_at}
-use Rattle.event_timing.specs.Core.{Core}
-use Rattle.event_timing.specs.Actions.{IsFinal}
-use Rattle.event_timing.specs.Agreement.{IsAgreed, AllVerified}
-use Rattle.timing_bridge.specs.Designs.{design, lockstep_run}
-use Rattle.timing_bridge.specs.CoreReports.{core_steps}
-use Rattle.timing_bridge.proofs.History.{plan_is_design, run_is_history}
-use Rattle.timing_bridge.specs.Outcomes.{IsNextStep}
+use Rattle.event_timing.specs.{Core.Core, Actions.IsFinal, Agreement.IsAgreed, Agreement.AllVerified}
+use Rattle.timing_bridge.specs.{Designs.design, Designs.lockstep_run, CoreReports.core_steps, Outcomes.IsNextStep}
+use Rattle.timing_bridge.proofs.{History.plan_is_design, History.run_is_history, Reports.every_report}
 use Rattle.timing_bridge.proofs.InOrder.{history_in_order, reported_history}
-use Rattle.timing_bridge.proofs.Reports.{every_report}
 use Rattle.engine_view.specs.Held.{Held, step_of, emitted_of, queries_in, are_among, core_of}
-use Rattle.engine_view.specs.Shown.{IsSound, queries_before}
-use Rattle.engine_view.specs.Turns.{first_of}
+use Rattle.engine_view.specs.{Shown.IsSound, Shown.queries_before, Turns.first_of}
 use Rattle.engine_view.proofs.Answered.{among_is}
 use Rattle.engine_report.proofs.Replied.{front}
-use Rattle.retime.proofs.Outcomes.{sure_all}
-use Rattle.retime.proofs.Recorded.{verified_are_timed}
+use Rattle.retime.proofs.{Outcomes.sure_all, Recorded.verified_are_timed}
 
 -- the outcomes of a module's steps with a cycle
 pub steps_told : (p : Plan) (h : Held) → IsSound (design p) h

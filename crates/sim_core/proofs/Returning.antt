@@ -1,42 +1,27 @@
 -- Marks that come back, one after the other.
-use Rattle.std.proofs.Common.{◌≡◌, refl, sym, ap, subst, ◌∙◌, ℕ, suc, ◌+◌, ◌*◌, ◌^◌, ◌<◌, ◌≤◌, ◌⊎◌, inl, inr, Bool, true, false}
-use Rattle.std.proofs.Common.{List, [], ◌∷◌, length, drop, drop-set-lt, get_or, set, Option, Some, arith}
+use Rattle.std.proofs.Common.{◌≡◌, refl, sym, ap, subst, ◌∙◌, ℕ, suc, ◌+◌, ◌*◌, ◌^◌, ◌<◌, ◌≤◌, ◌⊎◌, inl, inr, Bool, true, false, List, []}
+use Rattle.std.proofs.Common.{◌∷◌, length, drop, drop-set-lt, get_or, set, Option, Some, arith}
 use Rattle.std.proofs.lemmas.Bool.{cases_Bool}
 use Rattle.flow_word.specs.declared.access.Step.{Step as StepOf}
-use Rattle.flow_design.specs.declared.plan.Plan.{Plan}
-use Rattle.flow_design.specs.declared.state.ModuleState.{ModuleState}
-use Rattle.flow_design.specs.declared.state.Advance.{Advance}
-use Rattle.flow_design.specs.declared.state.Advance.TheVariants.{Step}
-use Rattle.flow_design.specs.StaticRules.{FitsEngine}
-use Rattle.lockstep_defs.specs.Lockstep.{module_at}
-use Rattle.lockstep_defs.specs.OwnRun.{Own}
-use Rattle.module_interp.specs.declared.run.ModuleRun.{ModuleRun}
-use Rattle.module_interp.specs.OwnRests.{next_rest, accesses_at, mark_at}
+use Rattle.flow_design.specs.{declared.plan.Plan.Plan, declared.state.ModuleState.ModuleState, declared.state.Advance.Advance}
+use Rattle.flow_design.specs.{declared.state.Advance.TheVariants.Step, StaticRules.FitsEngine}
+use Rattle.lockstep_defs.specs.{Lockstep.module_at, OwnRun.Own}
+use Rattle.module_interp.specs.{declared.run.ModuleRun.ModuleRun, OwnRests.next_rest, OwnRests.accesses_at, OwnRests.mark_at}
 use Rattle.module_interp.specs.Runs.{waits, is_step, gap_of, IsSmall, IsSmallStep, IsSoundMark}
-use Rattle.event_timing.specs.Core.{Core}
+use Rattle.event_timing.specs.{Core.Core, Actions.Action.Run, Agreement.AreOwnMarks}
 use Rattle.event_timing.specs.Actions.{Acts, ActsAll, MayRun, after_run}
 use Rattle.event_timing.specs.Actions as actions
-use Rattle.event_timing.specs.Actions.Action.{Run}
-use Rattle.event_timing.specs.Agreement.{AreOwnMarks}
 use Rattle.event_timing.proofs.Running.{run_marks}
 use Rattle.timing_bridge.specs.Designs.{design}
 use Rattle.engine_view.specs.Held.{Held, queries_in, core_of}
-use Rattle.engine_view.specs.declared.engine.Engine.{Engine}
-use Rattle.engine_view.specs.Engines.{held_in}
-use Rattle.run_ahead.specs.declared.mail.Mail.{Mail}
-use Rattle.run_ahead.specs.declared.mail.Task.{Task}
-use Rattle.run_ahead.specs.declared.mail.Burst.{Burst}
-use Rattle.run_ahead.specs.Working.{burst_of}
+use Rattle.engine_view.specs.{declared.engine.Engine.Engine, Engines.held_in, Rooms.CanEmit, Rooms.HasEmitted}
+use Rattle.run_ahead.specs.{declared.mail.Mail.Mail, declared.mail.Task.Task, declared.mail.Burst.Burst, Working.burst_of}
 use Rattle.run_ahead.specs.Mails.{taken_after, none_taken, task_left, IsAtStep, IsPast, GoesOn, IsBurst, IsBurstFrom}
-use Rattle.sim_core.specs.Returned.{core_in, HasRoomForMarks, IsNextMark, AreReturned}
-use Rattle.sim_core.specs.Runs.{HasBodiesWithin, IsCore, rest_behind, over_of, lent_of}
-use Rattle.sim_core.specs.Tasks.{IsTaskFor, IsTaskLeft, rest_of}
-use Rattle.sim_core.proofs.QueryRoom.{room_for_step}
+use Rattle.sim_core.specs.{Returned.core_in, Returned.HasRoomForMarks, Returned.IsNextMark, Returned.AreReturned, Runs.HasBodiesWithin}
+use Rattle.sim_core.specs.{Runs.IsCore, Runs.rest_behind, Runs.over_of, Runs.lent_of, Tasks.IsTaskFor, Tasks.IsTaskLeft, Tasks.rest_of}
+use Rattle.sim_core.proofs.{QueryRoom.room_for_step, Tasks.waits_first, Tasks.goes_first, Emission.IsReady}
 use Rattle.sim_core.proofs.Ahead.{Goes, Waits, waits_behind, over_behind, goes_on, waiting_stands, going_stands, over_stands}
-use Rattle.sim_core.proofs.Tasks.{waits_first, goes_first}
-use Rattle.sim_core.proofs.Emission.{IsReady}
 use Rattle.sim_core.proofs.Emission as emission
-use Rattle.engine_view.specs.Rooms.{CanEmit, HasEmitted}
 use Rattle.module_interp.proofs.Sound.{gap_at}
 
 -- ---- one mark

@@ -2,36 +2,22 @@
 use Rattle.std.proofs.Common.{◌≡◌, sym, subst, ◌∙◌, ℕ, ◌<◌, List, [], length, get_or, set, Bool, Option, None, Some, arith}
 use Rattle.std.specs.Prelude.{All, IfSome, slice_index_or}
 use Rattle.flow_word.specs.declared.access.Port.{Port}
-use Rattle.flow_design.specs.declared.plan.Plan.{Plan}
-use Rattle.flow_design.specs.declared.state.Advance.{Advance}
-use Rattle.flow_design.specs.declared.state.ModuleState.{ModuleState}
+use Rattle.flow_design.specs.{declared.plan.Plan.Plan, declared.state.Advance.Advance, declared.state.ModuleState.ModuleState}
 use Rattle.module_interp.specs.declared.run.ModuleRun.{ModuleRun}
 use Rattle.module_sets.specs.Sets.{IsAdded}
 use Rattle.event_graph.specs.declared.candidate.Candidate.{Candidate}
-use Rattle.event_timing.specs.Machines.{Design}
-use Rattle.event_timing.specs.Core.{core_values}
-use Rattle.event_timing.specs.Actions.{ActsAll}
+use Rattle.event_timing.specs.{Machines.Design, Core.core_values, Actions.ActsAll}
 use Rattle.event_timing.specs.Actions as actions
 use Rattle.timing_bridge.specs.Designs.{design}
-use Rattle.engine_view.specs.declared.engine.Engine.{Engine}
-use Rattle.engine_view.specs.Engines.{held_in}
-use Rattle.engine_view.specs.Held.{Held, core_of}
+use Rattle.engine_view.specs.{declared.engine.Engine.Engine, Engines.held_in, Held.Held, Held.core_of}
 use Rattle.engine_view.specs.Rooms.{HasModule, IsSameButRoom, IsRoomy, AreAllPorts}
-use Rattle.sim_core.specs.declared.due.Due.{Due}
-use Rattle.sim_core.specs.declared.unread.Unread.{Unread}
-use Rattle.sim_core.specs.declared.wiring.Wiring.{Wiring}
-use Rattle.sim_core.specs.Candidates.{AreListed}
-use Rattle.sim_core.specs.Waking.{AreWaking, IsSpread}
-use Rattle.sim_core.specs.Opening.{ports_to}
-use Rattle.sim_core.specs.Returned.{core_in}
+use Rattle.sim_core.specs.{declared.due.Due.Due, declared.unread.Unread.Unread, declared.wiring.Wiring.Wiring, Candidates.AreListed}
+use Rattle.sim_core.specs.{Waking.AreWaking, Waking.IsSpread, Opening.ports_to, Returned.core_in, Unread.AreUnread}
 use Rattle.sim_core.specs.Runs.{IsRunOf, IsOut, IsCore, IsStoredCore, lent_of, over_of}
-use Rattle.sim_core.specs.Unread.{AreUnread}
 use Rattle.sim_core.proofs.Asking.{asking_kept, asking_returned}
-use Rattle.sim_core.proofs.Listing.{listed_ran, listed_roomed}
-use Rattle.sim_core.proofs.Waking.{waking_more, waking_ran}
+use Rattle.sim_core.proofs.{Listing.listed_ran, Listing.listed_roomed, Waking.waking_more, Waking.waking_ran, Marking.table_count}
 use Rattle.sim_core.proofs.Leaving as leaving
 use Rattle.sim_core.proofs.Lending as lending
-use Rattle.sim_core.proofs.Marking.{table_count}
 use Rattle.sim_core.proofs.Ports as ports
 
 -- ---- a run that is taken out or put back

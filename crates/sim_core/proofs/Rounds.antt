@@ -1,37 +1,23 @@
 -- Going round the modules as long as something is permitted.
 use Rattle.std.proofs.Common.{◌≡◌, refl, sym, ap, subst, ◌∙◌, ℕ, suc, ◌+◌, ◌-◌, ◌*◌, ◌<◌, ◌≤◌, ◌⊎◌, inl, inr, true, false, Bool, Some}
 use Rattle.std.proofs.Common.{get_or, List, [], ◌∷◌, ◌++◌, length, arith, mul-le-mul_right}
-use Rattle.std.specs.Prelude.{slice_get, slice_index_or}
 use Rattle.std.proofs.lemmas.Bool.{both_ways, cases_lt}
-use Rattle.flow_design.specs.declared.plan.Plan.{Plan}
-use Rattle.flow_design.specs.StaticRules.{FitsEngine}
+use Rattle.std.specs.Prelude.{slice_get, slice_index_or}
+use Rattle.flow_design.specs.{declared.plan.Plan.Plan, StaticRules.FitsEngine}
 use Rattle.query_log.specs.declared.query.Query.{Query}
-use Rattle.event_timing.specs.Machines.{Design}
-use Rattle.event_timing.specs.Core.{Core, view}
-use Rattle.event_timing.specs.Enablers.{candidate}
+use Rattle.event_timing.specs.{Machines.Design, Core.Core, Core.view, Enablers.candidate, Actions.Action.Run, Actions.Action.Assign}
+use Rattle.event_timing.specs.{Actions.Action.Answer, Actions.Action.Earliest, Agreement.IsAgreed, Agreement.AllVerified, Work.work}
 use Rattle.event_timing.specs.Actions.{Action, Acts, ActsAll, MayRun, IsQuiet, IsNoRunOf, after_run}
-use Rattle.event_timing.specs.Actions.Action.{Run, Assign, Answer, Earliest}
-use Rattle.event_timing.specs.Agreement.{IsAgreed, AllVerified}
-use Rattle.event_timing.specs.Work.{work}
-use Rattle.event_timing.proofs.Agreement.{all_agree}
-use Rattle.event_timing.proofs.Deciding.{determined_inside}
-use Rattle.event_timing.proofs.Assigning.{put_same}
-use Rattle.event_timing.proofs.Beside.{others_grow}
-use Rattle.event_timing.proofs.Running.{run_cases}
+use Rattle.event_timing.proofs.{Agreement.all_agree, Deciding.determined_inside, Assigning.put_same, Beside.others_grow, Running.run_cases}
 use Rattle.event_timing.proofs.ActionBound.{more_work, most_work, never_found, all_rise}
 use Rattle.timing_bridge.specs.Designs.{design, lockstep_run}
-use Rattle.timing_bridge.proofs.Bounded.{plan_is_bounded}
-use Rattle.timing_bridge.proofs.History.{plan_is_design, run_is_history}
+use Rattle.timing_bridge.proofs.{Bounded.plan_is_bounded, History.plan_is_design, History.run_is_history}
 use Rattle.module_interp.specs.declared.run.ModuleRun.{ModuleRun}
-use Rattle.engine_view.specs.declared.turn.Timing.{Timing}
+use Rattle.engine_view.specs.{declared.turn.Timing.Timing, Cursors.CursorView, Turns.IsDifferent, Turns.IsFoundOther}
 use Rattle.engine_view.specs.declared.turn.Timing.TheVariants as turn
-use Rattle.engine_view.specs.Cursors.{CursorView}
-use Rattle.engine_view.specs.Turns.{IsDifferent, IsFoundOther}
 use Rattle.outcome_guard.specs.declared.guard.Guard.TheVariants as guard
-use Rattle.sim_core.specs.Runs.{IsOut, IsRunOf}
-use Rattle.sim_core.specs.Views.{CoreView, theory_of}
+use Rattle.sim_core.specs.{Runs.IsOut, Runs.IsRunOf, Views.CoreView, Views.theory_of, declared.visit.Visit.Visit}
 use Rattle.sim_core.specs.Turns.{IsStill, IsEarliestOther, HasTurned, HasAnsweredLeast}
-use Rattle.sim_core.specs.declared.visit.Visit.{Visit}
 use Rattle.sim_core.specs.declared.visit.Visit.TheVariants.{Acted, Differs, Idle}
 use Rattle.sim_core.specs.Drives.{given, Goes, GoesOn, HasTimed, HasVisited, AreOwn, IsGoingRound}
 use Rattle.sim_core.proofs.Staying.{run_stays}

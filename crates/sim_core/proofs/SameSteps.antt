@@ -1,23 +1,17 @@
 -- Where the steps and the outcomes are the same, so are the marks: what is held may differ in cycles and in the depth of a FIFO.
-use Rattle.std.proofs.Common.{◌≡◌, sym, ap, ap₂, subst, ◌∙◌, ℕ, zero, suc, ◌<◌, ◌≤◌, inl, inr, Bool, ltb, ◌&&◌, ◌++◌}
-use Rattle.std.proofs.Common.{List, length, map, drop, arith}
-use Rattle.std.specs.Prelude.{slice_index_or, false}
+use Rattle.std.proofs.Common.{◌≡◌, sym, ap, ap₂, subst, ◌∙◌, ℕ, zero, suc, ◌<◌, ◌≤◌, inl, inr, Bool, ltb, ◌&&◌, ◌++◌, List, length, map}
+use Rattle.std.proofs.Common.{drop, arith}
 use Rattle.std.proofs.lemmas.Bool.{cases_lt, cond-false, le-ltb}
+use Rattle.std.specs.Prelude.{slice_index_or, false}
 use mathlib.Core.Path.{fun_ext}
-use Rattle.flow_word.specs.declared.access.Side.{Side}
+use Rattle.flow_word.specs.{declared.access.Side.Side, declared.access.Step.Step}
 use Rattle.flow_word.specs.declared.access.Side.TheVariants.{Pop, Push}
-use Rattle.flow_word.specs.declared.access.Step.{Step}
 use Rattle.event_graph.specs.Lanes.{lane_at}
 use Rattle.query_log.specs.Logs.{Log, log_at}
 use Rattle.event_timing.specs.Machines.{Access, Reply, Design, ready, takes_in, values_in}
-use Rattle.event_timing.specs.Views.{own, Begins}
+use Rattle.event_timing.specs.{Views.own, Views.Begins, Agreement.AreOwnMarks, Edits.edited, Growth.GrowsBeside}
 use Rattle.event_timing.specs.Core.{Core, bare_replies, core_accesses, core_pushed, core_reply, core_tally, core_values, replies_of}
-use Rattle.event_timing.specs.Agreement.{AreOwnMarks}
-use Rattle.event_timing.specs.Edits.{edited}
-use Rattle.event_timing.specs.Growth.{GrowsBeside}
-use Rattle.event_timing.proofs.Fronts.{tally_same, pushed_same}
-use Rattle.event_timing.proofs.OwnRuns.{own_0, own_more}
-use Rattle.event_timing.proofs.Values.{begins_self}
+use Rattle.event_timing.proofs.{Fronts.tally_same, Fronts.pushed_same, OwnRuns.own_0, OwnRuns.own_more, Values.begins_self}
 use Rattle.engine_view.specs.Held.{Held, no_step, emitted_of, seen, flags_by, flags_of, are_among, has_all, waited, core_of}
 use Rattle.engine_view.specs.Shown.{IsSound}
 

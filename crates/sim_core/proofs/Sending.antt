@@ -1,41 +1,24 @@
 -- What a run's counts, the log and the table tell of its mail is what the core tells.
-use Rattle.std.proofs.Common.{◌≡◌, refl, sym, ap, ap₂, subst, ◌∙◌, ℕ, suc, ◌<◌, ◌≤◌, Bool, false, not, cond, inl, inr}
-use Rattle.std.proofs.Common.{List, [], ◌∷◌, length, map, take, drop, arith}
+use Rattle.std.proofs.Common.{◌≡◌, refl, sym, ap, ap₂, subst, ◌∙◌, ℕ, suc, ◌<◌, ◌≤◌, Bool, false, not, cond, inl, inr, List, [], ◌∷◌}
+use Rattle.std.proofs.Common.{length, map, take, drop, arith}
 use Rattle.std.proofs.lemmas.Bool.{cases_Bool}
-use Rattle.flow_word.specs.declared.access.Access.{Access}
-use Rattle.flow_word.specs.declared.access.Side.TheVariants.{Pop}
-use Rattle.flow_design.specs.declared.plan.Plan.{Plan}
-use Rattle.flow_design.specs.declared.state.Request.{Request}
-use Rattle.flow_design.specs.StaticRules.{FitsEngine}
-use Rattle.lockstep_defs.specs.Channels.{Exchange, moved_by}
-use Rattle.lockstep_defs.specs.OwnRun.{access_of}
-use Rattle.lockstep_defs.specs.Report.{queries}
-use Rattle.module_interp.specs.declared.run.ModuleRun.{ModuleRun}
-use Rattle.module_interp.specs.OwnChannels.{place_in}
-use Rattle.module_interp.specs.OwnRests.{done_in}
-use Rattle.module_interp.specs.Runs.{StandsAt, popped_in}
+use Rattle.flow_word.specs.{declared.access.Access.Access, declared.access.Side.TheVariants.Pop, Kinds.is_blocking}
+use Rattle.flow_design.specs.{declared.plan.Plan.Plan, declared.state.Request.Request, StaticRules.FitsEngine}
+use Rattle.lockstep_defs.specs.{Channels.Exchange, Channels.moved_by, OwnRun.access_of, Report.queries}
+use Rattle.module_interp.specs.{declared.run.ModuleRun.ModuleRun, OwnChannels.place_in, OwnRests.done_in, Runs.StandsAt, Runs.popped_in}
 use Rattle.module_interp.proofs.Feeding.{owner_uses}
 use Rattle.query_resolve.specs.Decisions.{late_outcome}
-use Rattle.flow_word.specs.Kinds.{is_blocking}
-use Rattle.event_timing.specs.Core.{core_tally}
-use Rattle.event_timing.specs.Agreement.{AreOwnMarks}
+use Rattle.event_timing.specs.{Core.core_tally, Agreement.AreOwnMarks}
 use Rattle.timing_bridge.specs.Designs.{design}
 use Rattle.timing_bridge.specs.Designs as bridge
 use Rattle.timing_bridge.proofs.Ordinals.{ordinals}
 use Rattle.engine_view.specs.Held.{Held, emitted_of, seen, queries_in, flags_by, core_of}
-use Rattle.engine_view.specs.Shown.{IsSound, queries_before}
-use Rattle.run_ahead.specs.declared.mail.Mail.{Mail}
-use Rattle.sim_core.specs.Lent.{IsMade}
-use Rattle.sim_core.specs.Readers.{AreReaders}
-use Rattle.run_ahead.specs.Mails.{values_on}
-use Rattle.sim_core.specs.Marks.{IsRestBehind}
-use Rattle.sim_core.specs.Runs.{rest_behind}
-use Rattle.engine_view.specs.Taking.{kinds_in}
-use Rattle.sim_core.specs.Opening.{kinds_of}
+use Rattle.engine_view.specs.{Shown.IsSound, Shown.queries_before, Taking.kinds_in}
+use Rattle.run_ahead.specs.{declared.mail.Mail.Mail, Mails.values_on}
+use Rattle.sim_core.specs.{Lent.IsMade, Readers.AreReaders, Marks.IsRestBehind, Runs.rest_behind, Opening.kinds_of}
 use Rattle.sim_core.specs.Tasks.{outcomes_in, values_behind}
-use Rattle.sim_core.proofs.Marking.{moved_before, queries_done, table_count}
+use Rattle.sim_core.proofs.{Marking.moved_before, Marking.queries_done, Marking.table_count, Resting.rest_is}
 use Rattle.sim_core.proofs.Reading.{past, own_values, others_values, read_on, read_none}
-use Rattle.sim_core.proofs.Resting.{rest_is}
 use Rattle.engine_report.proofs.Asking.{same_kind}
 
 -- ---- outcomes

@@ -1,28 +1,18 @@
 -- An edit and the actions behind it set few cycles.
-use Rattle.std.proofs.Common.{◌≡◌, refl, ap, subst, ◌∙◌, ℕ, suc, ◌+◌, ◌≤◌, inl, inr, List, [], ◌∷◌, length, map}
-use Rattle.std.proofs.Common.{not, arith}
+use Rattle.std.proofs.Common.{◌≡◌, refl, ap, subst, ◌∙◌, ℕ, suc, ◌+◌, ◌≤◌, inl, inr, List, [], ◌∷◌, length, map, not, arith}
+use Rattle.std.proofs.{lemmas.List.Filters.length-filter_both, lemmas.List.Sums.sum_by-cons}
 use Rattle.std.specs.Prelude.{nat_lt}
-use Rattle.std.proofs.lemmas.List.Filters.{length-filter_both}
-use Rattle.std.proofs.lemmas.List.Sums.{sum_by-cons}
-use Rattle.flow_design.specs.declared.plan.Edit.{Edit}
-use Rattle.flow_design.specs.declared.plan.Plan.{Plan}
+use Rattle.flow_design.specs.{declared.plan.Edit.Edit, declared.plan.Plan.Plan, declared.state.ModuleState.ModuleState}
 use Rattle.flow_word.specs.declared.access.Step.{Step}
-use Rattle.flow_design.specs.declared.state.ModuleState.{ModuleState}
 use Rattle.event_graph.specs.Lanes.{Lane, lane_at, timed_below}
-use Rattle.event_timing.specs.Machines.{Design}
-use Rattle.event_timing.specs.Core.{Core}
-use Rattle.event_timing.specs.Actions.{Action, ActsAll, IsFinal}
+use Rattle.event_timing.specs.{Machines.Design, Core.Core, Actions.Action, Actions.ActsAll, Actions.IsFinal}
 use Rattle.event_timing.specs.Actions.Action.{Run, Assign, Answer, Earliest}
 use Rattle.timing_bridge.specs.Designs.{design}
 use Rattle.retime.specs.Rounds.{cycles_in, steps_in}
-use Rattle.retime.proofs.Counts.{cycles_within}
-use Rattle.sim_core.specs.Views.{CoreView, theory_of}
-use Rattle.sim_core.specs.Drives.{Goes, given}
+use Rattle.retime.proofs.Counts.{cycles_within, same_steps}
+use Rattle.sim_core.specs.{Views.CoreView, Views.theory_of, Drives.Goes, Drives.given, Records.IsEditedOn, Costs.HasSetFew}
 use Rattle.sim_core.specs.Edits.{IsAsBefore, IsRetimed, IsChanged}
-use Rattle.sim_core.specs.Records.{IsEditedOn}
-use Rattle.sim_core.specs.Costs.{HasSetFew}
 use Rattle.sim_core.proofs.Given.{goes_cycles}
-use Rattle.retime.proofs.Counts.{same_steps}
 
 fewer_below : (t : ℕ) (lanes : List Lane) → cycles_in (map (timed_below t) lanes) ≤ cycles_in lanes
 fewer_below t [] = omega arith

@@ -1,25 +1,16 @@
 -- A run stays where it stands while others act, and goes to the next rest on its replies.
 use Rattle.std.proofs.Common.{◌≡◌, refl, sym, ap, ap₂, subst, ◌∙◌, ℕ, zero, suc, ◌+◌, ◌<◌, List, [], ◌∷◌, ◌++◌, map, arith}
+use Rattle.std.proofs.{lemmas.List.map-append, lemmas.List.FromFn.get_or-map-range_with_len}
 use Rattle.std.specs.List.{range_with_len}
-use Rattle.std.proofs.lemmas.List.{map-append}
-use Rattle.std.proofs.lemmas.List.FromFn.{get_or-map-range_with_len}
-use Rattle.flow_design.specs.declared.plan.Plan.{Plan}
+use Rattle.flow_design.specs.{declared.plan.Plan.Plan, declared.state.Advance.Advance, declared.state.Reply.Reply}
 use Rattle.flow_design.specs.declared.state.ModuleState.{ModuleState}
-use Rattle.flow_design.specs.declared.state.Advance.{Advance}
-use Rattle.flow_design.specs.declared.state.Reply.{Reply}
-use Rattle.lockstep_defs.specs.Lockstep.{requests_of}
-use Rattle.lockstep_defs.specs.OwnRun.{Own}
-use Rattle.module_interp.specs.declared.run.ModuleRun.{ModuleRun}
+use Rattle.lockstep_defs.specs.{Lockstep.requests_of, OwnRun.Own}
+use Rattle.module_interp.specs.{declared.run.ModuleRun.ModuleRun, Chains.rest_at, Chains.replies_to, Runs.StandsAt}
 use Rattle.module_interp.specs.OwnRests.{next_rest, mark_at}
-use Rattle.module_interp.specs.Chains.{rest_at, replies_to}
-use Rattle.module_interp.specs.Runs.{StandsAt}
 use Rattle.event_timing.specs.Machines as theory
-use Rattle.event_timing.specs.Core.{Core, core_reply}
-use Rattle.event_timing.specs.Agreement.{AreOwnMarks}
-use Rattle.event_timing.specs.Growth.{Grows, GrowsBeside, IsSettled}
+use Rattle.event_timing.specs.{Core.Core, Core.core_reply, Agreement.AreOwnMarks, Growth.Grows, Growth.GrowsBeside, Growth.IsSettled}
 use Rattle.event_timing.proofs.Growing.{settled_less, settled_old, settled_all, reply_grow, there_grow}
-use Rattle.timing_bridge.specs.Designs.{design, told_all}
-use Rattle.timing_bridge.specs.OwnRuns.{core_replies}
+use Rattle.timing_bridge.specs.{Designs.design, Designs.told_all, OwnRuns.core_replies}
 use Rattle.sim_core.specs.Runs.{IsAnswered, IsRunOf, IsEndOf, rest_behind}
 use Rattle.flow_word.proofs.Ranges.{range_more}
 

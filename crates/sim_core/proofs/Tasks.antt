@@ -1,49 +1,30 @@
 -- A task of a core stays a task of it while others act; its burst is a list of permitted Runs, and has a mark where memory was there.
-use Rattle.std.proofs.Common.{◌≡◌, refl, sym, ap, subst, ◌∙◌, ℕ, ◌+◌, ◌-◌, ◌<◌, Bool, true, false, not, cond, ltb}
-use Rattle.std.proofs.Common.{◌&&◌, ◌||◌, List, [], ◌∷◌, length, map, drop, get_or, Some, slice_get, inl}
-use Rattle.std.proofs.Common.{inr, arith}
-use Rattle.std.proofs.lemmas.Bool.Decides.{nat_tests}
+use Rattle.std.proofs.Common.{◌≡◌, refl, sym, ap, subst, ◌∙◌, ℕ, ◌+◌, ◌-◌, ◌<◌, Bool, true, false, not, cond, ltb, ◌&&◌, ◌||◌, List, []}
+use Rattle.std.proofs.Common.{◌∷◌, length, map, drop, get_or, Some, slice_get, inl, inr, arith}
+use Rattle.std.proofs.{lemmas.Bool.Decides.nat_tests, lemmas.Option.slice_get-get_or}
 use Rattle.std.proofs.lemmas.Bool.{cases_Bool, cond-true, cond-false, lt-ltb, le-ltb, cases_lt, cases_eq, and_parts, ltb-true}
 use Rattle.std.specs.List.{AllByRecursion}
-use Rattle.std.proofs.lemmas.Option.{slice_get-get_or}
-use Rattle.flow_word.specs.declared.access.Side.{Side}
-use Rattle.flow_word.specs.declared.access.Side.TheVariants.{Pop}
+use Rattle.flow_word.specs.{declared.access.Side.Side, declared.access.Side.TheVariants.Pop}
 use Rattle.flow_word.specs.Kinds.{same_side, side_of, is_taking}
-use Rattle.flow_design.specs.declared.plan.Plan.{Plan}
-use Rattle.flow_design.specs.declared.state.Advance.{Advance}
-use Rattle.flow_design.specs.declared.state.ModuleState.{ModuleState}
-use Rattle.flow_design.specs.declared.state.Reply.{Reply}
-use Rattle.flow_design.specs.declared.state.Request.{Request}
-use Rattle.flow_design.specs.StaticRules.{FitsEngine}
-use Rattle.lockstep_defs.specs.Lockstep.{requests_of}
-use Rattle.lockstep_defs.specs.OwnRun.{Own, access_of}
-use Rattle.module_interp.specs.OwnRests.{done_in, next_rest, accesses_at}
-use Rattle.module_interp.specs.Runs.{waits}
-use Rattle.event_timing.specs.Machines.{Each}
-use Rattle.event_timing.specs.Views.{Begins}
+use Rattle.flow_design.specs.{declared.plan.Plan.Plan, declared.state.Advance.Advance, declared.state.ModuleState.ModuleState}
+use Rattle.flow_design.specs.{declared.state.Reply.Reply, declared.state.Request.Request, StaticRules.FitsEngine}
+use Rattle.lockstep_defs.specs.{Lockstep.requests_of, OwnRun.Own, OwnRun.access_of, Ports.StandsAtPort}
+use Rattle.module_interp.specs.{OwnRests.done_in, OwnRests.next_rest, OwnRests.accesses_at, Runs.waits}
+use Rattle.event_timing.specs.{Machines.Each, Views.Begins, Agreement.AreOwnMarks, Growth.Grows, Growth.GrowsBeside}
 use Rattle.event_timing.specs.Core.{Core, core_tally, core_values, all_below}
-use Rattle.event_timing.specs.Agreement.{AreOwnMarks}
-use Rattle.event_timing.specs.Growth.{Grows, GrowsBeside}
 use Rattle.event_timing.proofs.Growing.{settled_all, settled_less, tally_grow}
-use Rattle.event_timing.proofs.RunningAhead.{stays}
-use Rattle.event_timing.proofs.Values.{begins_self, begins_trans}
+use Rattle.event_timing.proofs.{RunningAhead.stays, Values.begins_self, Values.begins_trans}
 use Rattle.timing_bridge.specs.Designs.{design, seen}
-use Rattle.lockstep_defs.specs.Ports.{StandsAtPort}
-use Rattle.timing_bridge.proofs.History.{plan_is_design}
-use Rattle.timing_bridge.proofs.Requests.{stand}
+use Rattle.timing_bridge.proofs.{History.plan_is_design, Requests.stand}
 use Rattle.engine_view.specs.Held.{queries_in}
-use Rattle.run_ahead.specs.declared.mail.Mail.{Mail}
-use Rattle.run_ahead.specs.declared.mail.Task.{Task}
-use Rattle.run_ahead.specs.declared.mail.Burst.{Burst}
-use Rattle.sim_core.specs.Runs.{rest_behind}
+use Rattle.run_ahead.specs.{declared.mail.Mail.Mail, declared.mail.Task.Task, declared.mail.Burst.Burst}
 use Rattle.run_ahead.specs.Mails.{values_on, next_value, replies_in, taken_after, none_taken, task_left, GoesOn, IsBurst, IsBurstFrom}
+use Rattle.sim_core.specs.Runs.{rest_behind}
 use Rattle.sim_core.specs.Tasks.{outcomes_in, outcomes_at, values_behind, committed, rest_of, IsMailFor, IsTaskFor, IsTaskOf}
 use Rattle.sim_core.proofs.Mailed.{pops_one, HasValues, all_found}
 use Rattle.sim_core.proofs.Ahead.{IsWindow, Goes, Waits, Ran, run_on, goes_on, get_begins, ran_none, waiting_stands}
-use Rattle.sim_core.proofs.Resting.{rest_is}
-use Rattle.sim_core.proofs.Beginnings.{get_drop, begins_drop}
+use Rattle.sim_core.proofs.{Resting.rest_is, Beginnings.get_drop, Beginnings.begins_drop, Staying.run_stays}
 use Rattle.sim_core.proofs.Committed.{committed_waits, committed_goes, committed_below}
-use Rattle.sim_core.proofs.Staying.{run_stays}
 
 -- ---- lists
 

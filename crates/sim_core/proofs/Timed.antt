@@ -1,34 +1,20 @@
 -- What a turn at a module leaves of all that a core keeps.
 use Rattle.std.proofs.Common.{◌≡◌, ◌≢◌, sym, ap, ◌∙◌, ℕ, ◌<◌, true, List, [], Option, length, arith}
 use Rattle.std.specs.Prelude.{slice_index_or}
-use Rattle.flow_design.specs.declared.plan.Plan.{Plan}
-use Rattle.flow_design.specs.declared.state.Advance.{Advance}
+use Rattle.flow_design.specs.{declared.plan.Plan.Plan, declared.state.Advance.Advance}
 use Rattle.module_interp.specs.declared.run.ModuleRun.{ModuleRun}
 use Rattle.module_sets.specs.Sets.{Has, HasMask, capacity}
 use Rattle.event_graph.specs.declared.candidate.Candidate.{Candidate}
 use Rattle.event_timing.specs.Actions.{IsQuiet, MayAssign}
 use Rattle.timing_bridge.specs.Designs.{design}
 use Rattle.timing_bridge.proofs.History.{plan_is_design}
-use Rattle.engine_view.specs.declared.engine.Engine.{Engine}
-use Rattle.engine_view.specs.declared.turn.Timing.{Timing}
+use Rattle.engine_view.specs.{declared.engine.Engine.Engine, declared.turn.Timing.Timing, Held.core_of, Engines.held_in, Taking.kinds_in}
 use Rattle.engine_view.specs.declared.turn.Timing.TheVariants.{Nothing}
-use Rattle.engine_view.specs.Held.{core_of}
-use Rattle.engine_view.specs.Engines.{held_in}
-use Rattle.engine_view.specs.Taking.{kinds_in}
 use Rattle.engine_view.specs.Turns.{MayTakeIn, HasTimed, KeepsRoom, is_progress, left}
-use Rattle.sim_core.specs.Asking.{Lacks}
-use Rattle.sim_core.specs.Candidates.{AreCandidates}
-use Rattle.sim_core.specs.Waking.{IsWoken}
-use Rattle.sim_core.specs.Runs.{IsStoredCore, lent_of, over_of}
-use Rattle.sim_core.specs.Turns.{HasTurned}
-use Rattle.sim_core.specs.Views.{CoreView}
-use Rattle.sim_core.specs.declared.due.Due.{Due}
-use Rattle.sim_core.specs.declared.unread.Unread.{Unread}
-use Rattle.sim_core.specs.declared.wiring.Wiring.{Wiring}
-use Rattle.sim_core.proofs.Asking.{asking_turned, still_room}
+use Rattle.sim_core.specs.{Asking.Lacks, Candidates.AreCandidates, Waking.IsWoken, Turns.HasTurned, Views.CoreView, declared.due.Due.Due}
+use Rattle.sim_core.specs.{declared.unread.Unread.Unread, declared.wiring.Wiring.Wiring, Runs.IsStoredCore, Runs.lent_of, Runs.over_of}
+use Rattle.sim_core.proofs.{Asking.asking_turned, Asking.still_room, Waking.waking_turned, Keeping.kept_of}
 use Rattle.sim_core.proofs.Listing.{asking_none, listed_turned}
-use Rattle.sim_core.proofs.Waking.{waking_turned}
-use Rattle.sim_core.proofs.Keeping.{kept_of}
 use Rattle.sim_core.proofs.Turning as turning
 
 -- the step that may be given its cycle is so in the engine

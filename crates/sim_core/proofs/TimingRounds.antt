@@ -1,41 +1,27 @@
 -- Rounds of Assigns and Answers, the Earliest behind them, and the end.
-use Rattle.std.proofs.Common.{◌≡◌, sym, ap, subst, ◌∙◌, ℕ, suc, ◌+◌, ◌*◌, ◌^◌, ◌<◌, ◌≤◌, ◌⊎◌, inl, inr, true, false}
-use Rattle.std.proofs.Common.{length, Some, None, arith, mul-le-mul_right}
+use Rattle.std.proofs.Common.{◌≡◌, sym, ap, subst, ◌∙◌, ℕ, suc, ◌+◌, ◌*◌, ◌^◌, ◌<◌, ◌≤◌, ◌⊎◌, inl, inr, true, false, length, Some, None}
+use Rattle.std.proofs.Common.{arith, mul-le-mul_right}
 use Rattle.std.proofs.lemmas.Bool.{cases_Bool}
 use Rattle.flow_design.specs.declared.limits.TheConstants.{MODULES, COUNTED_OPERATIONS}
-use Rattle.flow_design.specs.declared.plan.Plan.{Plan}
-use Rattle.flow_design.specs.declared.state.ModuleState.{ModuleState}
-use Rattle.flow_design.specs.StaticRules.{FitsEngine}
-use Rattle.event_timing.specs.Machines.{Design}
-use Rattle.event_timing.specs.Enablers.{known_of, all_decided}
-use Rattle.event_timing.specs.Views.{first_accesses}
-use Rattle.event_timing.specs.Core.{Core, view}
-use Rattle.event_timing.specs.Actions.{IsDetermined, IsFinal}
+use Rattle.flow_design.specs.{declared.plan.Plan.Plan, declared.state.ModuleState.ModuleState, StaticRules.FitsEngine}
+use Rattle.event_timing.specs.{Machines.Design, Enablers.known_of, Enablers.all_decided, Views.first_accesses, Core.Core, Core.view}
+use Rattle.event_timing.specs.{Actions.IsDetermined, Actions.IsFinal, Permitted.IsInside, Work.work}
 use Rattle.event_timing.specs.Agreement.{IsAgreed, AllVerified}
-use Rattle.event_timing.specs.Permitted.{IsInside}
-use Rattle.event_timing.specs.Work.{work}
-use Rattle.event_timing.proofs.ActionBound.{most_work}
-use Rattle.event_timing.proofs.Agreement.{final_closed}
+use Rattle.event_timing.proofs.{ActionBound.most_work, Agreement.final_closed, Deciding.determined_inside}
 use Rattle.query_log.specs.declared.query.Query.{Query}
 use Rattle.outcome_guard.specs.declared.guard.Guard.TheVariants as guard
 use Rattle.timing_bridge.specs.Designs.{design, lockstep_run}
-use Rattle.timing_bridge.proofs.Bounded.{plan_is_bounded}
-use Rattle.timing_bridge.proofs.History.{plan_is_design, run_is_history}
-use Rattle.turn_history.specs.Rounds.{may_time, after_timing, next_timing, timings, earliest_of}
-use Rattle.turn_history.specs.Turns.{NoTiming}
-use Rattle.turn_history.proofs.Onward.{assigned_is, answered_is, idle_is, next_none, timings_none, timings_more, timings_on, timings_over}
-use Rattle.turn_history.proofs.Onward.{earliest_found}
-use Rattle.turn_history.proofs.Timings.{none_left_at}
-use Rattle.engine_view.specs.declared.turn.Timing.{Timing}
+use Rattle.timing_bridge.proofs.{Bounded.plan_is_bounded, History.plan_is_design, History.run_is_history}
+use Rattle.turn_history.specs.{Rounds.may_time, Rounds.after_timing, Rounds.next_timing, Rounds.timings, Rounds.earliest_of, Turns.NoTiming}
+use Rattle.turn_history.proofs.{Onward.assigned_is, Onward.answered_is, Onward.idle_is, Onward.next_none, Onward.timings_none}
+use Rattle.turn_history.proofs.{Onward.timings_more, Onward.timings_on, Onward.timings_over, Onward.earliest_found, Timings.none_left_at}
+use Rattle.engine_view.specs.{declared.turn.Timing.Timing, Turns.is_progress, Turns.ticks_of}
+use Rattle.engine_view.specs.Cursors.{CursorView, IsNext, IsPassed, GoesRound}
 use Rattle.engine_view.specs.declared.turn.Timing.TheVariants as turn
-use Rattle.engine_view.specs.Turns.{is_progress, ticks_of}
-use Rattle.sim_core.specs.Views.{CoreView, theory_of}
-use Rattle.sim_core.specs.Turns.{HasTurned, HasAnsweredLeast, IsFirstEarliest}
+use Rattle.sim_core.specs.{Views.CoreView, Views.theory_of, Turns.HasTurned, Turns.HasAnsweredLeast, Turns.IsFirstEarliest}
 use Rattle.sim_core.specs.Timings.{IsUntimable, IsTimed, IsTimingRound, HasMore}
 use Rattle.sim_core.proofs.Rounds as rounds
-use Rattle.event_timing.proofs.Deciding.{determined_inside}
 use Rattle.sim_core.proofs.Rounds.{to_do}
-use Rattle.engine_view.specs.Cursors.{CursorView, IsNext, IsPassed, GoesRound}
 use Rattle.engine_view.proofs.Cursors.{idle_more}
 
 -- ---- one action

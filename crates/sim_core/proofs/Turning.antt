@@ -1,55 +1,37 @@
 -- What the calls of an engine do to a core: cycles and answers.
-use Rattle.std.proofs.Common.{◌≡◌, refl, sym, ap, ap₂, subst, ◌∙◌, ℕ, zero, suc, ◌+◌, ◌-◌, ◌*◌, ◌<◌, inl, inr, Bool, true, false, cond}
-use Rattle.std.proofs.Common.{ltb, ◌&&◌, List, [], length, get_or, Option, None, Some, arith}
+use Rattle.std.proofs.Common.{◌≡◌, refl, sym, ap, ap₂, subst, ◌∙◌, ℕ, zero, suc, ◌+◌, ◌-◌, ◌*◌, ◌<◌, inl, inr, Bool, true, false, cond, ltb}
+use Rattle.std.proofs.Common.{◌&&◌, List, [], length, get_or, Option, None, Some, arith}
 use Rattle.std.proofs.lemmas.Bool.{cases_Bool, both_ways, lt-ltb}
-use Rattle.std.proofs.lemmas.List.{get_or_past}
-use Rattle.std.proofs.lemmas.Bool.Decides.{nat_tests}
+use Rattle.std.proofs.{lemmas.List.get_or_past, lemmas.Bool.Decides.nat_tests}
 use Rattle.std.proofs.lemmas.Option.{get_or_from_slice_get, slice_get-get_or, slice_get_within}
 use Rattle.std.specs.Prelude.{slice_get}
-use Rattle.flow_design.specs.declared.plan.Plan.{Plan}
-use Rattle.flow_design.specs.declared.state.Advance.{Advance}
-use Rattle.flow_design.specs.declared.state.ModuleState.{ModuleState}
+use Rattle.flow_design.specs.{declared.plan.Plan.Plan, declared.state.Advance.Advance, declared.state.ModuleState.ModuleState}
 use Rattle.module_interp.specs.declared.run.ModuleRun.{ModuleRun}
-use Rattle.event_graph.specs.Lanes.{lane_at}
-use Rattle.event_graph.specs.declared.candidate.Candidate.{Candidate}
+use Rattle.event_graph.specs.{Lanes.lane_at, declared.candidate.Candidate.Candidate}
 use Rattle.event_graph.specs.declared.candidate.Candidate.TheVariants.{At, Nothing}
 use Rattle.query_log.specs.Logs.{log_at}
 use Rattle.query_resolve.specs.Earliest.{cycle_of, IsEarliest}
 use Rattle.outcome_guard.specs.declared.guard.Guard.{Guard}
 use Rattle.outcome_guard.specs.declared.guard.Guard.TheVariants as guard
 use Rattle.time_engine.specs.Cycles.{determined}
-use Rattle.event_timing.specs.Machines.{Design, IsDesign}
-use Rattle.event_timing.specs.Views.{first_accesses}
+use Rattle.event_timing.specs.{Machines.Design, Machines.IsDesign, Views.first_accesses, Core.Core, Core.view, Work.sum_to}
 use Rattle.event_timing.specs.Enablers.{candidate, known_of, all_decided}
-use Rattle.event_timing.specs.Core.{Core, view}
-use Rattle.event_timing.specs.Work.{sum_to}
 use Rattle.event_timing.specs.Actions.{Acts, MayAssign, MayAnswer, MayEarliest, IsOpen, IsQuiet, IsFinal, IsDetermined}
 use Rattle.event_timing.specs.Actions.Action.{Assign, Answer, Earliest}
-use Rattle.event_timing.proofs.Assigning.{put_at_same}
-use Rattle.event_timing.proofs.Answering.{first_emitted}
+use Rattle.event_timing.proofs.{Assigning.put_at_same, Answering.first_emitted, Deciding.determined_inside}
 use Rattle.timing_bridge.specs.Designs.{design}
 use Rattle.timing_bridge.proofs.History.{plan_is_design}
 use Rattle.turn_history.proofs.Apart.{answered_assigns}
-use Rattle.engine_view.specs.declared.turn.Timing.{Timing}
+use Rattle.engine_view.specs.{declared.turn.Timing.Timing, Kept.IsKept, declared.engine.Engine.Engine, Engines.held_in, Taking.kinds_in}
 use Rattle.engine_view.specs.declared.turn.Timing.TheVariants.{Assigned, Answered, Differs}
-use Rattle.engine_view.specs.declared.turn.Timing.TheVariants as turn
 use Rattle.engine_view.specs.Held.{Held, no_step, emitted_of, step_of, are_among, core_of}
-use Rattle.engine_view.specs.Kept.{IsKept}
-use Rattle.engine_view.specs.declared.engine.Engine.{Engine}
-use Rattle.engine_view.specs.Engines.{held_in}
-use Rattle.engine_view.specs.Taking.{kinds_in}
 use Rattle.engine_view.specs.Turns.{HasTimed, HasAnswered, KeepsRoom, HasUnsure, IsSomeCore, first_of, left_of, left}
+use Rattle.engine_view.specs.declared.turn.Timing.TheVariants as turn
 use Rattle.engine_view.proofs.Bounds.{candidate_is}
-use Rattle.sim_core.specs.Views.{CoreView}
-use Rattle.sim_core.specs.Runs.{AreUnreadIn, IsCore, over_of}
-use Rattle.sim_core.specs.Turns.{HasTurned, HasAnsweredLeast}
-use Rattle.sim_core.specs.declared.due.Due.{Due}
-use Rattle.sim_core.specs.Asking.{HasRoom}
+use Rattle.sim_core.specs.{Views.CoreView, Runs.AreUnreadIn, Runs.IsCore, Runs.over_of, Turns.HasTurned, Turns.HasAnsweredLeast}
+use Rattle.sim_core.specs.{declared.due.Due.Due, Asking.HasRoom, declared.unread.Unread.Unread}
 use Rattle.sim_core.specs.Candidates.{AreCandidates, AreListed, IsCandidate, IsListed}
-use Rattle.event_timing.proofs.Deciding.{determined_inside}
-use Rattle.sim_core.proofs.Keeping.{core_acted, kept_of}
-use Rattle.sim_core.specs.declared.unread.Unread.{Unread}
-use Rattle.sim_core.proofs.Leaving.{unread_acted}
+use Rattle.sim_core.proofs.{Keeping.core_acted, Keeping.kept_of, Leaving.unread_acted}
 
 -- ---- what is left to do is read off the core
 

@@ -1,18 +1,12 @@
 -- Where actions add no outcome, each of them meets recorded ones, and no Run is permitted behind them.
 use Rattle.std.proofs.Common.{◌≡◌, refl, ap, subst, ℕ, ◌<◌, ◌⊎◌, inl, inr, true, Some, List, [], ◌∷◌, arith}
 use Rattle.std.proofs.lemmas.Bool.{cases_Bool, both_ways}
-use Rattle.event_timing.specs.Machines.{Design, IsDesign}
+use Rattle.event_timing.specs.{Machines.Design, Machines.IsDesign, Core.Core, Core.view, Enablers.candidate, Agreement.IsAgreed}
 use Rattle.event_timing.specs.Histories.{Trace, IsHistory}
-use Rattle.event_timing.specs.Core.{Core, view}
-use Rattle.event_timing.specs.Enablers.{candidate}
 use Rattle.event_timing.specs.Actions.{Action, Acts, ActsAll, IsRecorded, IsSame, MayRun, after_answer}
 use Rattle.event_timing.specs.Actions.Action.{Run, Assign, Answer, Earliest}
-use Rattle.event_timing.specs.Agreement.{IsAgreed}
-use Rattle.event_timing.proofs.Agreement.{acts_agree}
+use Rattle.event_timing.proofs.{Agreement.acts_agree, Assigning.put_at_same, Beside.actions_grow, NoRun.recorded_no_run}
 use Rattle.event_timing.proofs.Answering.{first_emitted}
-use Rattle.event_timing.proofs.Assigning.{put_at_same}
-use Rattle.event_timing.proofs.Beside.{actions_grow}
-use Rattle.event_timing.proofs.NoRun.{recorded_no_run}
 
 -- each outcome of the one was there in the other
 abbrev pub IsUnadded : {S : Type 0} → Core S → Core S → Type 0

@@ -1,39 +1,27 @@
 -- The verified outcomes of a module are the first of the report's answers, whether the core is final or not.
-use Rattle.std.proofs.Common.{◌≡◌, refl, sym, ap, ◌∙◌, ℕ, zero, suc, ◌+◌, ◌-◌, ◌<◌, ◌≤◌, inl, inr, Bool, true, false, ◌&&◌}
-use Rattle.std.proofs.Common.{ltb, List, [], ◌∷◌, ◌++◌, length, map, take, drop, get_or, Some, arith, append-nil, append_assoc}
-use Rattle.std.specs.List.{range_with_len}
+use Rattle.std.proofs.Common.{◌≡◌, refl, sym, ap, ◌∙◌, ℕ, zero, suc, ◌+◌, ◌-◌, ◌<◌, ◌≤◌, inl, inr, Bool, true, false, ◌&&◌, ltb, List, []}
+use Rattle.std.proofs.Common.{◌∷◌, ◌++◌, length, map, take, drop, get_or, Some, arith, append-nil, append_assoc}
 use Rattle.std.proofs.Math.Seq.{take-add}
 use Rattle.std.proofs.lemmas.Bool.{and_parts, both_ways, cases_Bool, cases_eq, cases_lt, ltb-true}
-use Rattle.flow_word.specs.Kinds.{is_blocking}
-use Rattle.flow_word.specs.declared.access.Access.{Access}
-use Rattle.flow_word.specs.declared.access.Kind.{Kind}
-use Rattle.flow_design.specs.declared.plan.Plan.{Plan}
+use Rattle.std.specs.List.{range_with_len}
+use Rattle.flow_word.specs.{Kinds.is_blocking, declared.access.Access.Access, declared.access.Kind.Kind}
+use Rattle.flow_design.specs.{declared.plan.Plan.Plan, declared.state.Request.Request, StaticRules.FitsEngine}
 use Rattle.flow_design.specs.declared.state.ModuleState.{ModuleState}
-use Rattle.flow_design.specs.declared.state.Request.{Request}
-use Rattle.flow_design.specs.StaticRules.{FitsEngine}
-use Rattle.lockstep_defs.specs.Channels.{HistoryStep}
+use Rattle.lockstep_defs.specs.{Channels.HistoryStep, Report.report, Report.outcomes, Report.steps_of}
 use Rattle.lockstep_defs.specs.Lockstep.{step_of, state, state_at, history}
-use Rattle.lockstep_defs.specs.Report.{report, outcomes, steps_of}
 use Rattle.lockstep_defs.proofs.Agrees.{steps_of-suc}
 use Rattle.query_log.specs.Logs.{log_at}
 use Rattle.outcome_guard.specs.Prefixes.{IsPrefix}
-use Rattle.event_timing.specs.Steps.{steps, done}
-use Rattle.event_timing.specs.Core.{Core, core_accesses, has_query}
-use Rattle.event_timing.specs.Agreement.{IsAgreed}
-use Rattle.event_timing.proofs.Steps.{done_more, done_same, done_past}
-use Rattle.event_timing.proofs.OwnRuns.{done_0}
-use Rattle.timing_bridge.specs.Designs.{design, lockstep_run}
-use Rattle.timing_bridge.specs.Designs as bridge
-use Rattle.timing_bridge.specs.CoreReports.{core_step, core_steps}
+use Rattle.event_timing.specs.{Steps.steps, Steps.done, Core.Core, Core.core_accesses, Core.has_query, Agreement.IsAgreed}
+use Rattle.event_timing.proofs.{Steps.done_more, Steps.done_same, Steps.done_past, OwnRuns.done_0}
+use Rattle.timing_bridge.specs.{Designs.design, Designs.lockstep_run, CoreReports.core_step, CoreReports.core_steps}
 use Rattle.timing_bridge.specs.Outcomes.{outcome_of, outcomes_by, first_requests}
-use Rattle.timing_bridge.proofs.Outcomes.{verified_outcomes}
-use Rattle.timing_bridge.proofs.Steps.{steps_are}
+use Rattle.timing_bridge.specs.Designs as bridge
+use Rattle.timing_bridge.proofs.{Outcomes.verified_outcomes, Steps.steps_are}
 use Rattle.engine_view.specs.Held.{Held, emitted_of, seen, queries_in, possible_by, flags_by, are_among, core_of}
+use Rattle.engine_view.specs.{Shown.IsSound, Shown.queries_before, Turns.first_of}
 use Rattle.engine_view.specs.Held as held
-use Rattle.engine_view.specs.Shown.{IsSound, queries_before}
-use Rattle.engine_view.specs.Turns.{first_of}
-use Rattle.engine_view.proofs.Answered.{among_if, queries_step}
-use Rattle.engine_view.proofs.Emitted.{queries_mono}
+use Rattle.engine_view.proofs.{Answered.among_if, Answered.queries_step, Emitted.queries_mono}
 use Rattle.engine_report.proofs.Asking.{same_kind}
 use Rattle.retime.proofs.Outcomes.{all_within}
 use Rattle.sim_core.proofs.Reported.{answers_behind, answers_next, next_recorded}

@@ -1,26 +1,20 @@
 -- Of a module outside of the sets nothing is permitted, whatever was done.
 use Rattle.std.proofs.Common.{◌≡◌, sym, subst, ℕ, ◌<◌, inl, inr, arith, List, [], length, Some}
-use Rattle.std.specs.Prelude.{slice_index_or}
 use Rattle.std.proofs.lemmas.Bool.{cases_eq}
-use Rattle.flow_design.specs.declared.plan.Plan.{Plan}
-use Rattle.flow_design.specs.declared.state.ModuleState.{ModuleState}
-use Rattle.module_sets.specs.declared.mask.Mask.{Mask}
-use Rattle.module_sets.specs.Sets.{Has, IsRemoved}
-use Rattle.event_timing.specs.Core.{Core}
-use Rattle.event_timing.specs.Actions.{ActsAll, MayRun, runs, after_assign, after_answer}
+use Rattle.std.specs.Prelude.{slice_index_or}
+use Rattle.flow_design.specs.{declared.plan.Plan.Plan, declared.state.ModuleState.ModuleState}
+use Rattle.module_sets.specs.{declared.mask.Mask.Mask, Sets.Has, Sets.IsRemoved}
+use Rattle.event_timing.specs.{Core.Core, Actions.ActsAll, Actions.MayRun, Actions.runs, Actions.after_assign, Actions.after_answer}
 use Rattle.timing_bridge.specs.Designs.{design}
 use Rattle.turn_history.specs.Apart.{AreApart}
-use Rattle.turn_history.proofs.RunApart.{assign_no_run, answer_no_run, runs_no_run}
-use Rattle.turn_history.proofs.Timings.{no_timing_at}
+use Rattle.turn_history.proofs.{RunApart.assign_no_run, RunApart.answer_no_run, RunApart.runs_no_run, Timings.no_timing_at}
 use Rattle.outcome_guard.specs.declared.guard.Guard.{Guard}
 use Rattle.outcome_guard.specs.declared.guard.Guard.TheVariants as guard
 use Rattle.engine_view.specs.declared.turn.Timing.{Timing}
 use Rattle.engine_view.specs.declared.turn.Timing.TheVariants as turn
-use Rattle.sim_core.specs.declared.due.Due.{Due}
-use Rattle.sim_core.specs.Asking.{Lacks, HasRoom, AreBeside}
+use Rattle.sim_core.specs.{declared.due.Due.Due, Asking.Lacks, Asking.HasRoom, Asking.AreBeside, Views.CoreView, Views.theory_of}
 use Rattle.sim_core.specs.Waking.{AreDue, AreWaking, IsFull, IsOutside, IsSpread, IsWoken}
 use Rattle.sim_core.specs.Turns.{HasTurned, HasAnsweredLeast, IsStill}
-use Rattle.sim_core.specs.Views.{CoreView, theory_of}
 use Rattle.sim_core.proofs.Asking.{asking_all, still_room}
 
 pub waking_all : (p : Plan) (x : Core ModuleState) (running : List ℕ) → HasRoom p running → IsFull running → AreWaking p x running

@@ -1,21 +1,12 @@
 -- What each access of a plan's simulation gave.
 use Rattle.std.specs.Prelude.{ℕ, List, [], flat_map, map, slice_get, unwrap_or}
-use Rattle.flow_design.specs.declared.plan.Plan.{Plan}
-use Rattle.flow_design.specs.declared.state.Reply.{Reply}
-use Rattle.flow_design.specs.declared.state.Request.{Request}
-use Rattle.flow_word.specs.Kinds.{side_of}
-use Rattle.flow_word.specs.declared.access.Access.{Access}
+use Rattle.flow_design.specs.{declared.plan.Plan.Plan, declared.state.Reply.Reply, declared.state.Request.Request, Reports.clock_of}
+use Rattle.flow_word.specs.{Kinds.side_of, declared.access.Access.Access}
 use Rattle.lockstep_defs.specs.Channels.{HistoryStep, Exchange, moved_value}
-use Rattle.lockstep_defs.specs.Lockstep.{history}
-use Rattle.lockstep_defs.specs.Machine.{is_yes}
-use Rattle.lockstep_defs.specs.OwnRun.{paired}
-use Rattle.lockstep_defs.specs.Report.{event_of}
-use Rattle.lockstep_defs.specs.Verdict.{verdict}
-use Rattle.flow_design.specs.Reports.{clock_of}
+use Rattle.lockstep_defs.specs.{Lockstep.history, Machine.is_yes, OwnRun.paired, Report.event_of, Verdict.verdict}
 use Rattle.engine_view.specs.Held.{Held, step_of}
 use Rattle.engine_report.specs.declared.events.TimedStep.{TimedStep}
-use Rattle.sim_core.specs.Found.{replies_now}
-use Rattle.sim_core.specs.declared.access_log.LoggedAccess.{LoggedAccess}
+use Rattle.sim_core.specs.{Found.replies_now, declared.access_log.LoggedAccess.LoggedAccess}
 
 -- ---- by a history
 

@@ -1,15 +1,11 @@
 -- The modules for which an Assign or an Answer may be permitted, as far as it is known.
 use Rattle.std.specs.Prelude.{◌≡◌, ℕ, ◌<◌, ◌≤◌, false, List, [], length, slice_get, slice_index_or, Some}
-use Rattle.flow_word.specs.Kinds.{other_side}
-use Rattle.flow_word.specs.declared.access.Port.{Port}
-use Rattle.flow_design.specs.declared.plan.Plan.{Plan}
-use Rattle.flow_design.specs.declared.state.ModuleState.{ModuleState}
-use Rattle.module_sets.specs.declared.mask.Mask.{Mask}
-use Rattle.module_sets.specs.Sets.{Has, HasMask, capacity}
+use Rattle.flow_word.specs.{Kinds.other_side, declared.access.Port.Port}
+use Rattle.flow_design.specs.{declared.plan.Plan.Plan, declared.state.ModuleState.ModuleState}
+use Rattle.module_sets.specs.{declared.mask.Mask.Mask, Sets.Has, Sets.HasMask, Sets.capacity}
 use Rattle.event_timing.specs.Core.{Core}
 use Rattle.timing_bridge.specs.Designs.{design}
-use Rattle.turn_history.specs.Apart.{AreApart}
-use Rattle.turn_history.specs.Rounds.{may_time}
+use Rattle.turn_history.specs.{Apart.AreApart, Rounds.may_time}
 
 -- module n is not in the set
 abbrev pub Lacks : List ℕ → ℕ → Type 0

@@ -3,8 +3,7 @@ use Rattle.std.specs.Prelude.{◌≡◌, ℕ, ◌+◌, ◌≤◌, ◌⊎◌, map
 use Rattle.flow_design.specs.declared.plan.Edit.{Edit}
 use Rattle.event_graph.specs.Lanes.{timed_below}
 use Rattle.fifo_table.specs.Channels.{channel_at}
-use Rattle.retime.specs.Rounds.{cycles_in, steps_in}
-use Rattle.retime.specs.Touched.{IsFirstTouched, IsNeverTouched}
+use Rattle.retime.specs.{Rounds.cycles_in, Rounds.steps_in, Touched.IsFirstTouched, Touched.IsNeverTouched}
 use Rattle.sim_core.specs.Views.{CoreView}
 
 -- the clock is the first touched clock of the edit, or the limit where there is none

@@ -4,17 +4,12 @@ use Rattle.flow_design.specs.StaticRules.{FitsEngine}
 use Rattle.query_log.specs.declared.query.Query.{Query}
 use Rattle.outcome_guard.specs.declared.guard.Guard.{Guard}
 use Rattle.outcome_guard.specs.declared.guard.Guard.TheVariants as guard
-use Rattle.event_timing.specs.Actions.{Action, ActsAll, IsFinal}
+use Rattle.event_timing.specs.{Actions.Action, Actions.ActsAll, Actions.IsFinal, Agreement.IsAgreed, Work.work}
 use Rattle.event_timing.specs.Actions.Action.{Run, Assign, Answer, Earliest}
-use Rattle.event_timing.specs.Agreement.{IsAgreed}
-use Rattle.event_timing.specs.Work.{work}
-use Rattle.engine_view.specs.Cursors.{CursorView, turns_left}
-use Rattle.engine_view.specs.Turns.{IsDifferent, IsIdle}
+use Rattle.engine_view.specs.{Cursors.CursorView, Cursors.turns_left, Turns.IsDifferent, Turns.IsIdle}
 use Rattle.timing_bridge.specs.Designs.{design, lockstep_run}
-use Rattle.sim_core.specs.declared.visit.Visit.{Visit}
+use Rattle.sim_core.specs.{declared.visit.Visit.Visit, Views.CoreView, Views.theory_of, Turns.IsStill, Turns.IsEarliestOther}
 use Rattle.sim_core.specs.declared.visit.Visit.TheVariants.{Acted, Differs, Idle}
-use Rattle.sim_core.specs.Views.{CoreView, theory_of}
-use Rattle.sim_core.specs.Turns.{IsStill, IsEarliestOther}
 
 -- how many of these actions give a step its cycle
 abbrev pub given : List Action → ℕ

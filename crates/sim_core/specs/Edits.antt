@@ -5,11 +5,8 @@ use Rattle.flow_word.specs.declared.access.Place.{Place}
 use Rattle.event_graph.specs.Lanes.{Lane, cycle_of, timed_below}
 use Rattle.fifo_table.specs.Channels.{channel_at, depth_of}
 use Rattle.query_log.specs.Logs.{log_at}
-use Rattle.outcome_guard.specs.declared.guard.Guard.{Guard}
-use Rattle.outcome_guard.specs.declared.guard.Guard.TheVariants.{Same, Differs}
-use Rattle.event_timing.specs.Actions.{IsFinal}
-use Rattle.event_timing.specs.Agreement.{IsAgreed}
-use Rattle.event_timing.specs.Edits.{after_edit}
+use Rattle.outcome_guard.specs.{declared.guard.Guard.Guard, declared.guard.Guard.TheVariants.Same, declared.guard.Guard.TheVariants.Differs}
+use Rattle.event_timing.specs.{Actions.IsFinal, Agreement.IsAgreed, Edits.after_edit}
 use Rattle.timing_bridge.specs.Designs.{design, lockstep_run}
 use Rattle.engine_view.specs.Shown.{IsSound}
 use Rattle.retime.specs.Edits.{IsEditFrom, IsOtherInHistory, OutcomesGrow}

@@ -2,8 +2,7 @@
 use Rattle.std.specs.Prelude.{◌≡◌, ℕ, ◌+◌, ◌-◌, Bool, cond, eqb, List, [], ◌++◌, map, take, drop, slice_index}
 use Rattle.flow_word.specs.declared.access.Access.{Access}
 use Rattle.fifo_table.specs.Channels.{Channel}
-use Rattle.module_interp.specs.declared.run.ModuleRun.{ModuleRun}
-use Rattle.module_interp.specs.Runs.{inlets_of, popped_in}
+use Rattle.module_interp.specs.{declared.run.ModuleRun.ModuleRun, Runs.inlets_of, Runs.popped_in}
 use Rattle.engine_view.specs.Held.{values_at, queries_in}
 use Rattle.run_ahead.specs.declared.mail.Mail.{Mail}
 

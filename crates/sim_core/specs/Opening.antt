@@ -1,24 +1,16 @@
 -- A core at the beginning.
-use Rattle.std.specs.Prelude.{◌≡◌, ℕ, ◌<◌, Bool, true, false, eqb, List, []}
-use Rattle.std.specs.Prelude.{◌∷◌, ◌++◌, flat_map, length, map, slice_index, slice_index_or, Option, None, Some}
-use Rattle.std.specs.Prelude.{is_none}
+use Rattle.std.specs.Prelude.{◌≡◌, ℕ, ◌<◌, Bool, true, false, eqb, List, [], ◌∷◌, ◌++◌, flat_map, length, map, slice_index, slice_index_or}
+use Rattle.std.specs.Prelude.{Option, None, Some, is_none}
 use Rattle.std.specs.List.{range_with_len}
-use Rattle.flow_word.specs.declared.access.Port.{Port}
-use Rattle.flow_word.specs.declared.access.Side.{Side}
+use Rattle.flow_word.specs.{declared.access.Port.Port, declared.access.Side.Side}
 use Rattle.flow_word.specs.declared.access.Side.TheVariants.{Pop, Push}
-use Rattle.flow_design.specs.declared.design.ChannelKind.{ChannelKind}
+use Rattle.flow_design.specs.{declared.design.ChannelKind.ChannelKind, declared.plan.Plan.Plan, Plans.kind_at, Words.cut_to}
 use Rattle.flow_design.specs.declared.design.ChannelKind.TheVariants as plan
-use Rattle.flow_design.specs.declared.plan.Plan.{Plan}
-use Rattle.flow_design.specs.Plans.{kind_at}
 use Rattle.fifo_table.specs.declared.channel.TableChannel.{TableChannel}
 use Rattle.fifo_table.specs.declared.channel.TableChannel.TheVariants.{Source, Sink, Fifo}
-use Rattle.flow_design.specs.Words.{cut_to}
-use Rattle.lockstep_defs.specs.Machine.{width_of}
-use Rattle.lockstep_defs.specs.OwnRun.{Own}
+use Rattle.lockstep_defs.specs.{Machine.width_of, OwnRun.Own}
 use Rattle.timing_bridge.specs.Designs.{design}
-use Rattle.module_interp.specs.declared.run.ModuleRun.{ModuleRun}
-use Rattle.module_interp.specs.OwnRests.{first_rest}
-use Rattle.module_interp.specs.Runs.{StandsAt, waits}
+use Rattle.module_interp.specs.{declared.run.ModuleRun.ModuleRun, OwnRests.first_rest, Runs.StandsAt, Runs.waits}
 
 -- the kind of a plan's channel, in the form that the table needs: with the inputs of a source, or the present depth of a FIFO
 abbrev pub kind_by : ChannelKind → List ℕ → ℕ → TableChannel

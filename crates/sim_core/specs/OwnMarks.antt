@@ -1,9 +1,7 @@
 -- The steps that a core has emitted of a module, compared with the marks of the module's own run.
 use Rattle.std.specs.Prelude.{◌≡◌, ℕ, suc, ◌<◌, true, false, List, [], ◌∷◌, ◌++◌, map, take, slice_index_or}
-use Rattle.flow_design.specs.declared.plan.Plan.{Plan}
-use Rattle.flow_design.specs.declared.state.Advance.{Advance}
+use Rattle.flow_design.specs.{declared.plan.Plan.Plan, declared.state.Advance.Advance, declared.state.Reply.Reply}
 use Rattle.flow_design.specs.declared.state.Advance.TheVariants.{Step}
-use Rattle.flow_design.specs.declared.state.Reply.{Reply}
 use Rattle.lockstep_defs.specs.OwnRun.{marks}
 use Rattle.module_interp.specs.Runs.{is_step}
 use Rattle.event_graph.specs.Lanes.{lane_at}

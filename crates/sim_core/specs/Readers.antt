@@ -1,12 +1,8 @@
 -- The module that pops, or pushes, each channel.
 use Rattle.std.specs.Prelude.{◌≡◌, ℕ, ◌+◌, ◌<◌, Bool, cond, ◌&&◌, nat_eq, List, length, drop, slice_index}
 use Rattle.std.specs.List.{position_or_len}
-use Rattle.flow_word.specs.declared.access.Port.{Port}
-use Rattle.flow_word.specs.declared.access.Side.{Side}
-use Rattle.flow_word.specs.declared.access.Side.TheVariants.{Pop}
-use Rattle.flow_design.specs.declared.design.Module.{Module}
-use Rattle.flow_design.specs.declared.plan.Plan.{Plan}
-use Rattle.flow_design.specs.StaticRules.{uses}
+use Rattle.flow_word.specs.{declared.access.Port.Port, declared.access.Side.Side, declared.access.Side.TheVariants.Pop}
+use Rattle.flow_design.specs.{declared.design.Module.Module, declared.plan.Plan.Plan, StaticRules.uses}
 use Rattle.timing_bridge.specs.Designs.{design}
 
 -- the list has the module at this side of each channel, or the number of modules where there is none

@@ -1,20 +1,13 @@
 -- What edits make of the records of outcomes.
 use Rattle.std.specs.Prelude.{◌≡◌, ◌≢◌, ℕ, ◌<◌, Bool, List, [], length, map, take, slice_get, slice_index_or, Some}
-use Rattle.flow_design.specs.declared.plan.Edit.{Edit}
-use Rattle.flow_design.specs.declared.plan.Plan.{Plan}
-use Rattle.flow_design.specs.Plans.{EditFits, with_depth}
-use Rattle.flow_design.specs.StaticRules.{FitsEngine}
+use Rattle.flow_design.specs.{declared.plan.Edit.Edit, declared.plan.Plan.Plan, Plans.EditFits, Plans.with_depth, StaticRules.FitsEngine}
 use Rattle.lockstep_defs.specs.Report.{report}
-use Rattle.query_log.specs.declared.query.Query.{Query}
-use Rattle.query_log.specs.Logs.{Log, outcome_of}
+use Rattle.query_log.specs.{declared.query.Query.Query, Logs.Log, Logs.outcome_of}
 use Rattle.outcome_guard.specs.declared.guard.Guard.{Guard}
-use Rattle.event_timing.specs.Actions.{IsFinal}
-use Rattle.event_timing.specs.Agreement.{IsAgreed}
+use Rattle.event_timing.specs.{Actions.IsFinal, Agreement.IsAgreed}
 use Rattle.timing_bridge.specs.Designs.{design, lockstep_run}
 use Rattle.engine_view.specs.Shown.{IsSound}
-use Rattle.sim_core.specs.Views.{CoreView, theory_of}
-use Rattle.sim_core.specs.Drives.{Goes}
-use Rattle.sim_core.specs.Edits.{IsEdited}
+use Rattle.sim_core.specs.{Views.CoreView, Views.theory_of, Drives.Goes, Edits.IsEdited}
 
 -- what always holds of a core: it agrees with its plan, which the engine takes
 pub record IsSoundCore (v : CoreView) : Type 0 where

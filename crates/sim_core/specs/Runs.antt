@@ -1,39 +1,18 @@
 -- Where the modules' runs stand, compared with the core, and what a core keeps.
-use Rattle.std.specs.Prelude.{◌≡◌, ℕ, suc, ◌<◌, ◌≤◌, Bool, true, false, List, Option, None, Some, map, is_none, is_some, slice_index_or, length}
-use Rattle.std.specs.Prelude.{slice_index, All}
-use Rattle.flow_design.specs.StaticRules.{FitsEngine}
-use Rattle.flow_design.specs.declared.design.Module.{Module}
-use Rattle.flow_design.specs.declared.plan.Plan.{Plan}
-use Rattle.flow_design.specs.declared.state.Advance.{Advance}
-use Rattle.flow_design.specs.declared.state.ModuleState.{ModuleState}
-use Rattle.lockstep_defs.specs.Lockstep.{module_at}
-use Rattle.lockstep_defs.specs.OwnRun.{Own}
-use Rattle.module_interp.specs.declared.run.ModuleRun.{ModuleRun}
-use Rattle.module_interp.specs.Chains.{rest_at}
-use Rattle.module_interp.specs.OwnRests.{mark_at}
+use Rattle.std.specs.Prelude.{◌≡◌, ℕ, suc, ◌<◌, ◌≤◌, Bool, true, false, List, Option, None, Some, map, is_none, is_some, slice_index_or}
+use Rattle.std.specs.Prelude.{length, slice_index, All}
+use Rattle.flow_design.specs.{StaticRules.FitsEngine, declared.design.Module.Module, declared.plan.Plan.Plan}
+use Rattle.flow_design.specs.{declared.state.Advance.Advance, declared.state.ModuleState.ModuleState}
+use Rattle.lockstep_defs.specs.{Lockstep.module_at, OwnRun.Own}
+use Rattle.module_interp.specs.{declared.run.ModuleRun.ModuleRun, Chains.rest_at, OwnRests.mark_at}
 use Rattle.module_interp.specs.Runs.{StandsAt, waits, is_step, gap_of}
-use Rattle.event_graph.specs.declared.candidate.Candidate.{Candidate}
-use Rattle.event_graph.specs.Lanes.{gap_bound}
-use Rattle.event_timing.specs.Core.{Core, core_values, values_there}
-use Rattle.event_timing.specs.Agreement.{IsAgreed}
-use Rattle.timing_bridge.specs.Designs.{design, lockstep_run}
-use Rattle.timing_bridge.specs.OwnRuns.{core_replies}
-use Rattle.engine_view.specs.Held.{core_of}
-use Rattle.engine_view.specs.Shown.{IsSound}
-use Rattle.engine_view.specs.Rooms.{IsRoomy}
-use Rattle.engine_view.specs.declared.engine.Engine.{Engine}
-use Rattle.engine_view.specs.Engines.{held_in}
-use Rattle.engine_view.specs.Taking.{kinds_in}
-use Rattle.sim_core.specs.Views.{CoreView, theory_of}
+use Rattle.event_graph.specs.{declared.candidate.Candidate.Candidate, Lanes.gap_bound}
+use Rattle.event_timing.specs.{Core.Core, Core.core_values, Core.values_there, Agreement.IsAgreed}
+use Rattle.timing_bridge.specs.{Designs.design, Designs.lockstep_run, OwnRuns.core_replies}
+use Rattle.engine_view.specs.{Held.core_of, Shown.IsSound, Rooms.IsRoomy, declared.engine.Engine.Engine, Engines.held_in, Taking.kinds_in}
+use Rattle.sim_core.specs.{Views.CoreView, Views.theory_of, Readers.AreReaders, Asking.AreBeside, Candidates.AreListed, Waking.AreDue}
+use Rattle.sim_core.specs.{Unread.AreUnread, declared.due.Due.Due, declared.unread.Unread.Unread, declared.wiring.Wiring.Wiring}
 use Rattle.sim_core.specs.Opening.{kinds_of, AreOwnPorts}
-use Rattle.sim_core.specs.Readers.{AreReaders}
-use Rattle.sim_core.specs.Asking.{AreBeside}
-use Rattle.sim_core.specs.Candidates.{AreListed}
-use Rattle.sim_core.specs.Waking.{AreDue}
-use Rattle.sim_core.specs.Unread.{AreUnread}
-use Rattle.sim_core.specs.declared.due.Due.{Due}
-use Rattle.sim_core.specs.declared.unread.Unread.{Unread}
-use Rattle.sim_core.specs.declared.wiring.Wiring.{Wiring}
 
 -- ---- runs
 

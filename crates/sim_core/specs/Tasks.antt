@@ -1,25 +1,14 @@
 -- What is lent of a core: a module's run with its mail.
 use Rattle.std.specs.Prelude.{◌≡◌, ℕ, ◌-◌, ◌<◌, ◌≤◌, Bool, cond, ltb, List, [], ◌∷◌, length, drop}
-use Rattle.flow_design.specs.declared.plan.Plan.{Plan}
-use Rattle.flow_design.specs.declared.state.ModuleState.{ModuleState}
-use Rattle.flow_design.specs.declared.state.Request.{Request}
-use Rattle.flow_word.specs.Kinds.{is_blocking}
-use Rattle.flow_word.specs.declared.access.Side.TheVariants.{Pop}
-use Rattle.lockstep_defs.specs.Lockstep.{requests_of}
-use Rattle.lockstep_defs.specs.OwnRun.{Own}
-use Rattle.module_interp.specs.declared.run.ModuleRun.{ModuleRun}
-use Rattle.module_interp.specs.Runs.{waits}
-use Rattle.event_timing.specs.Views.{Begins}
-use Rattle.event_timing.specs.Core.{Core, core_tally, core_values}
-use Rattle.event_timing.specs.Actions.{MayRun}
+use Rattle.flow_design.specs.{declared.plan.Plan.Plan, declared.state.ModuleState.ModuleState, declared.state.Request.Request}
+use Rattle.flow_word.specs.{Kinds.is_blocking, declared.access.Side.TheVariants.Pop}
+use Rattle.lockstep_defs.specs.{Lockstep.requests_of, OwnRun.Own}
+use Rattle.module_interp.specs.{declared.run.ModuleRun.ModuleRun, Runs.waits}
+use Rattle.event_timing.specs.{Views.Begins, Core.Core, Core.core_tally, Core.core_values, Actions.MayRun}
 use Rattle.timing_bridge.specs.Designs.{design}
 use Rattle.engine_view.specs.Answered.{outcome_by}
-use Rattle.sim_core.specs.Runs.{IsRunOf, rest_behind}
-use Rattle.run_ahead.specs.Mails.{values_on, IsBurst}
-use Rattle.run_ahead.specs.declared.mail.Mail.{Mail}
-use Rattle.run_ahead.specs.declared.mail.Task.{Task}
-use Rattle.run_ahead.specs.declared.mail.Burst.{Burst}
-use Rattle.sim_core.specs.Views.{CoreView, theory_of}
+use Rattle.sim_core.specs.{Runs.IsRunOf, Runs.rest_behind, Views.CoreView, Views.theory_of}
+use Rattle.run_ahead.specs.{Mails.values_on, Mails.IsBurst, declared.mail.Mail.Mail, declared.mail.Task.Task, declared.mail.Burst.Burst}
 
 -- the outcomes of the queries among the requests, by whether each request is possible
 abbrev pub outcomes_in : List Request → List Bool → List Bool

@@ -1,14 +1,11 @@
 -- What rounds of Assigns and Answers make of a core.
 use Rattle.std.specs.Prelude.{◌≡◌, ℕ, ◌+◌, ◌≤◌, ◌⊎◌, true, false, length}
 use Rattle.flow_design.specs.StaticRules.{FitsEngine}
-use Rattle.event_timing.specs.Actions.{MayRun, IsDetermined}
-use Rattle.event_timing.specs.Agreement.{IsAgreed, AllVerified}
-use Rattle.event_timing.specs.Work.{work}
+use Rattle.event_timing.specs.{Actions.MayRun, Actions.IsDetermined, Agreement.IsAgreed, Agreement.AllVerified, Work.work}
 use Rattle.timing_bridge.specs.Designs.{design, lockstep_run}
 use Rattle.turn_history.specs.Rounds.{may_time, after_timing, timings}
-use Rattle.sim_core.specs.Views.{CoreView, theory_of}
+use Rattle.sim_core.specs.{Views.CoreView, Views.theory_of, Drives.Goes, Drives.GoesOn}
 use Rattle.engine_view.specs.Cursors.{CursorView, AreIdle}
-use Rattle.sim_core.specs.Drives.{Goes, GoesOn}
 
 -- an Assign or an Answer of module m is permitted
 abbrev pub IsTimable : CoreView → ℕ → Type 0

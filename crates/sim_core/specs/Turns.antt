@@ -5,9 +5,8 @@ use Rattle.outcome_guard.specs.declared.guard.Guard.{Guard}
 use Rattle.outcome_guard.specs.declared.guard.Guard.TheVariants as guard
 use Rattle.event_timing.specs.Actions.{Acts, MayRun, MayAssign, MayEarliest, IsFinal}
 use Rattle.event_timing.specs.Actions.Action.{Assign, Answer, Earliest}
-use Rattle.engine_view.specs.declared.turn.Timing.{Timing}
+use Rattle.engine_view.specs.{declared.turn.Timing.Timing, Turns.IsDifferent, Turns.IsFoundOther, Turns.IsIdle}
 use Rattle.engine_view.specs.declared.turn.Timing.TheVariants.{Assigned, Answered, Differs, Nothing}
-use Rattle.engine_view.specs.Turns.{IsDifferent, IsFoundOther, IsIdle}
 use Rattle.timing_bridge.specs.Designs.{design}
 use Rattle.sim_core.specs.Views.{CoreView, theory_of}
 

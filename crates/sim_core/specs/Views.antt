@@ -1,7 +1,6 @@
 -- What contracts see of a core.
 use Rattle.std.specs.Prelude.{Bool, List}
-use Rattle.flow_design.specs.declared.plan.Plan.{Plan}
-use Rattle.flow_design.specs.declared.state.ModuleState.{ModuleState}
+use Rattle.flow_design.specs.{declared.plan.Plan.Plan, declared.state.ModuleState.ModuleState}
 use Rattle.event_timing.specs.Core.{Core}
 use Rattle.engine_view.specs.Held.{Held, core_of}
 use Rattle.timing_bridge.specs.Designs.{design}

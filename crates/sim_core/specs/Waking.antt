@@ -1,16 +1,12 @@
 -- Of which modules something may be permitted, as far as it is known.
 use Rattle.std.specs.Prelude.{◌≡◌, ℕ, ◌<◌, List, length}
-use Rattle.flow_design.specs.declared.plan.Plan.{Plan}
-use Rattle.flow_design.specs.declared.state.ModuleState.{ModuleState}
-use Rattle.module_sets.specs.declared.mask.Mask.{Mask}
-use Rattle.module_sets.specs.Sets.{Has, HasMask, capacity}
-use Rattle.event_timing.specs.Core.{Core}
-use Rattle.event_timing.specs.Actions.{MayRun}
+use Rattle.flow_design.specs.{declared.plan.Plan.Plan, declared.state.ModuleState.ModuleState}
+use Rattle.module_sets.specs.{declared.mask.Mask.Mask, Sets.Has, Sets.HasMask, Sets.capacity}
+use Rattle.event_timing.specs.{Core.Core, Actions.MayRun}
 use Rattle.timing_bridge.specs.Designs.{design}
 use Rattle.engine_view.specs.declared.turn.Timing.{Timing}
 use Rattle.engine_view.specs.declared.turn.Timing.TheVariants.{Assigned, Answered, Differs, Nothing}
-use Rattle.sim_core.specs.Asking.{Lacks, HasRoom, AreAsking}
-use Rattle.sim_core.specs.declared.due.Due.{Due}
+use Rattle.sim_core.specs.{Asking.Lacks, Asking.HasRoom, Asking.AreAsking, declared.due.Due.Due}
 
 -- of a module that is not in the set no Run is permitted
 pub record AreWaking (p : Plan) (x : Core ModuleState) (running : List ℕ) : Type 0 where

@@ -1,9 +1,7 @@
 //! What each access of a final core gave.
 ghost use Rattle.std.specs.Prelude.{◌≡◌, ◌++◌, ◌≤◌, [], length, map, slice_get, IfOk, OnOk};
 ghost use Rattle.flow_word.specs.Kinds.{side_of};
-ghost use Rattle.lockstep_defs.specs.Channels.{moved_value};
-ghost use Rattle.lockstep_defs.specs.Machine.{is_yes, value_in};
-ghost use Rattle.lockstep_defs.specs.OwnRun.{paired};
+ghost use Rattle.lockstep_defs.specs.{Channels.moved_value, Machine.is_yes, Machine.value_in, OwnRun.paired};
 ghost use Rattle.event_timing.specs.Actions.{IsFinal};
 ghost use Rattle.timing_bridge.specs.Designs.{design};
 ghost use Rattle.engine_report.specs.Keys.{IsTimedKey};

@@ -1,11 +1,9 @@
 //! A whole simulation on one thread.
 ghost use Rattle.std.specs.Prelude.{◌≡◌, ◌<◌, IfOk, OnOk};
 ghost use Rattle.flow_design.specs.StaticRules.{FitsEngine};
-ghost use Rattle.event_timing.specs.Actions.{IsFinal};
-ghost use Rattle.event_timing.specs.Agreement.{AllVerified};
+ghost use Rattle.event_timing.specs.{Actions.IsFinal, Agreement.AllVerified};
 ghost use Rattle.timing_bridge.specs.Designs.{design};
-ghost use Rattle.sim_core.specs.Views.{theory_of};
-ghost use Rattle.sim_core.specs.Drives.{AreOwn};
+ghost use Rattle.sim_core.specs.{Views.theory_of, Drives.AreOwn};
 
 use crate::machine::Core;
 use flow_design::Plan;

@@ -1,15 +1,13 @@
 //! Emitting the marks of a run.
-ghost use Rattle.std.specs.Prelude.{◌≡◌, ◌+◌, ◌<◌, ◌≤◌, length, slice_index, slice_get, slice_set, OnErr, OnOk, Some};
-ghost use Rattle.std.specs.Prelude.{List as Items, Option as Maybe};
+ghost use Rattle.std.specs.Prelude.{◌≡◌, ◌+◌, ◌<◌, ◌≤◌, length, slice_index, slice_get, slice_set, OnErr, OnOk, Some, List as Items};
+ghost use Rattle.std.specs.Prelude.{Option as Maybe};
 ghost use Rattle.flow_design.specs.declared.plan.Plan.{Plan as PlanOf};
-ghost use Rattle.event_timing.specs.Actions.{Acts, ActsAll, runs};
-ghost use Rattle.event_timing.specs.Actions.Action.{Run};
+ghost use Rattle.event_timing.specs.{Actions.Acts, Actions.ActsAll, Actions.runs, Actions.Action.Run};
 ghost use Rattle.timing_bridge.specs.Designs.{design};
 ghost use Rattle.module_interp.specs.declared.run.ModuleRun.{ModuleRun as RunOf};
 ghost use Rattle.event_graph.specs.Packed.{whole, IsFewStep};
 ghost use Rattle.run_ahead.specs.declared.mail.Task.{Task as TaskOf};
-ghost use Rattle.sim_core.specs.Runs.{IsCore, IsRunOf};
-ghost use Rattle.sim_core.specs.Tasks.{IsTaskLeft};
+ghost use Rattle.sim_core.specs.{Runs.IsCore, Runs.IsRunOf, Tasks.IsTaskLeft};
 ghost use Rattle.sim_core.specs.Returned.{core_in, CanGoOn, IsNextMark, AreReturned};
 
 use engine_view::Engine;

@@ -1,16 +1,12 @@
 //! Which modules may be given a cycle or an answer, and which modules share a channel.
 ghost use Rattle.std.specs.Prelude.{◌≡◌, ◌≢◌, ◌<◌, ℕ, All, true, length, IfOk};
 ghost use Rattle.flow_design.specs.StaticRules.{FitsEngine};
-ghost use Rattle.flow_word.specs.Kinds.{other_side};
-ghost use Rattle.flow_word.specs.declared.access.Side.TheVariants.{Push};
+ghost use Rattle.flow_word.specs.{Kinds.other_side, declared.access.Side.TheVariants.Push};
 ghost use Rattle.module_sets.specs.Sets.{Has, HasMask, capacity};
 ghost use Rattle.timing_bridge.specs.Designs.{design};
-ghost use Rattle.engine_view.specs.Turns.{is_progress};
-ghost use Rattle.engine_view.specs.declared.turn.Timing.TheVariants.{Nothing};
+ghost use Rattle.engine_view.specs.{Turns.is_progress, declared.turn.Timing.TheVariants.Nothing};
 ghost use Rattle.sim_core.specs.Asking.{Lacks, HasRoom, AreAcross, AreBeside};
-ghost use Rattle.sim_core.specs.Waking.{IsSpread, IsWoken};
-ghost use Rattle.sim_core.specs.Opening.{AreOwnPorts};
-ghost use Rattle.sim_core.specs.Readers.{AreReaders, AreUsers};
+ghost use Rattle.sim_core.specs.{Waking.IsSpread, Waking.IsWoken, Opening.AreOwnPorts, Readers.AreReaders, Readers.AreUsers};
 
 use crate::wiring::ports_of;
 use engine_view::Timing;

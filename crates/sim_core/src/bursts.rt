@@ -1,17 +1,10 @@
 //! The law of running ahead.
-ghost use Rattle.std.specs.Prelude.{◌≡◌, ℕ, ◌<◌, false, length};
-ghost use Rattle.flow_design.specs.declared.plan.Plan.{Plan};
-ghost use Rattle.flow_design.specs.declared.state.ModuleState.{ModuleState};
-ghost use Rattle.flow_design.specs.StaticRules.{FitsEngine};
-ghost use Rattle.event_timing.specs.Core.{Core};
-ghost use Rattle.event_timing.specs.Actions.{Action, ActsAll, IsNoRunOf, runs};
-ghost use Rattle.event_timing.specs.Agreement.{IsAgreed};
+ghost use Rattle.std.specs.Prelude.{◌≡◌, ℕ, ◌<◌, false, length, List as Items};
+ghost use Rattle.flow_design.specs.{declared.plan.Plan.Plan, declared.state.ModuleState.ModuleState, StaticRules.FitsEngine};
+ghost use Rattle.event_timing.specs.{Core.Core, Actions.Action, Actions.ActsAll, Actions.IsNoRunOf, Actions.runs, Agreement.IsAgreed};
 ghost use Rattle.timing_bridge.specs.Designs.{design, lockstep_run};
-ghost use Rattle.run_ahead.specs.declared.mail.Task.{Task};
-ghost use Rattle.run_ahead.specs.declared.mail.Burst.{Burst};
-ghost use Rattle.run_ahead.specs.Mails.{IsBurst, task_left};
+ghost use Rattle.run_ahead.specs.{declared.mail.Task.Task, declared.mail.Burst.Burst, Mails.IsBurst, Mails.task_left};
 ghost use Rattle.sim_core.specs.Tasks.{IsTaskOf, IsTaskFor, IsTaskLeft, rest_of};
-ghost use Rattle.std.specs.Prelude.{List as Items};
 
 /// What is lent of a core is a task for it, and stays one while other modules act. A burst on a task for a core is as many
 /// permitted Runs of the module as it has marks. They lead to a core at whose newest mark the burst's run stands, with what is left

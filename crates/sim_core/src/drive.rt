@@ -1,12 +1,9 @@
 //! All that is left to do.
 ghost use Rattle.std.specs.Prelude.{◌≡◌, ℕ, ◌<◌, ◌≤◌, ◌⊎◌, true, false, length, slice_index_or, IfOk, IfSome, IsNone, OnErr};
-ghost use Rattle.event_timing.specs.Actions.{MayRun};
-ghost use Rattle.event_timing.specs.Agreement.{AllVerified};
+ghost use Rattle.event_timing.specs.{Actions.MayRun, Agreement.AllVerified};
 ghost use Rattle.engine_view.specs.Cursors.{turns_left};
 ghost use Rattle.timing_bridge.specs.Designs.{design};
-ghost use Rattle.sim_core.specs.Views.{theory_of};
-ghost use Rattle.sim_core.specs.Turns.{IsStill};
-ghost use Rattle.sim_core.specs.Drives.{Goes, HasDriven, visits_left};
+ghost use Rattle.sim_core.specs.{Views.theory_of, Turns.IsStill, Drives.Goes, Drives.HasDriven, Drives.visits_left};
 
 use crate::machine::Core;
 use crate::visit::Visit;

@@ -5,12 +5,9 @@ ghost use Rattle.event_graph.specs.Lanes.{cycle_bound, timed_below};
 ghost use Rattle.event_timing.specs.Actions.{IsFinal};
 ghost use Rattle.timing_bridge.specs.Designs.{design};
 ghost use Rattle.engine_view.specs.Turns.{IsSomeCore};
-ghost use Rattle.retime.specs.Rounds.{cycles_in, steps_in};
-ghost use Rattle.retime.specs.Touched.{IsEditIn};
-ghost use Rattle.cycle_changes.specs.Changed.{HasChanged};
-ghost use Rattle.cycle_changes.specs.Moved.{moved_in};
-ghost use Rattle.sim_core.specs.Views.{theory_of};
-ghost use Rattle.sim_core.specs.Edits.{IsEdited, IsTrueGuard};
+ghost use Rattle.retime.specs.{Rounds.cycles_in, Rounds.steps_in, Touched.IsEditIn};
+ghost use Rattle.cycle_changes.specs.{Changed.HasChanged, Moved.moved_in};
+ghost use Rattle.sim_core.specs.{Views.theory_of, Edits.IsEdited, Edits.IsTrueGuard};
 
 use crate::machine::Core;
 use cycle_changes::{Changes, retime_changes};

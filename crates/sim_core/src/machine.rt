@@ -3,12 +3,8 @@ ghost use Rattle.std.specs.Prelude.{◌≡◌, ℕ, ◌<◌, length};
 ghost use Rattle.flow_design.specs.StaticRules.{FitsEngine};
 ghost use Rattle.event_timing.specs.Agreement.{IsAgreed};
 ghost use Rattle.timing_bridge.specs.Designs.{design, lockstep_run};
-ghost use Rattle.engine_view.specs.Held.{emitted_of};
-ghost use Rattle.engine_view.specs.Rooms.{query_bound};
-ghost use Rattle.engine_view.specs.Shown.{IsSound, queries_before};
-ghost use Rattle.sim_core.specs.Opening.{ports_to};
-ghost use Rattle.sim_core.specs.Readers.{AreReaders};
-ghost use Rattle.sim_core.specs.Views.{theory_of};
+ghost use Rattle.engine_view.specs.{Held.emitted_of, Rooms.query_bound, Shown.IsSound, Shown.queries_before};
+ghost use Rattle.sim_core.specs.{Opening.ports_to, Readers.AreReaders, Views.theory_of};
 
 use crate::due::Due;
 use crate::unread::Unread;

@@ -1,16 +1,11 @@
 //! A core at the beginning.
-ghost use Rattle.std.specs.Prelude.{◌≡◌, ℕ, ◌<◌, true, false, None, map, length, replicate, IfOk, IfSome};
-ghost use Rattle.std.specs.Prelude.{slice_index_or, slice_set};
-ghost use Rattle.flow_design.specs.StaticRules.{FitsEngine};
-ghost use Rattle.flow_design.specs.Words.{cut_to};
-ghost use Rattle.event_timing.specs.Core.{opening_core};
-ghost use Rattle.event_timing.specs.Agreement.{AllVerified};
+ghost use Rattle.std.specs.Prelude.{◌≡◌, ℕ, ◌<◌, true, false, None, map, length, replicate, IfOk, IfSome, slice_index_or, slice_set};
+ghost use Rattle.flow_design.specs.{StaticRules.FitsEngine, Words.cut_to};
+ghost use Rattle.event_timing.specs.{Core.opening_core, Agreement.AllVerified};
 ghost use Rattle.timing_bridge.specs.Designs.{design};
 ghost use Rattle.lockstep_defs.specs.OwnRun.{Own};
-ghost use Rattle.module_interp.specs.OwnRests.{first_rest};
-ghost use Rattle.module_interp.specs.Runs.{StandsAt, waits};
-ghost use Rattle.sim_core.specs.Opening.{kind_in, kinds_of};
-ghost use Rattle.sim_core.specs.Opening.{AreFirstRuns, AreLeft, AreOlderRuns};
+ghost use Rattle.module_interp.specs.{OwnRests.first_rest, Runs.StandsAt, Runs.waits};
+ghost use Rattle.sim_core.specs.Opening.{kind_in, kinds_of, AreFirstRuns, AreLeft, AreOlderRuns};
 ghost use Rattle.sim_core.specs.Views.{theory_of};
 
 use crate::due::Due;

@@ -1,8 +1,6 @@
 //! Which module pops, or pushes, each channel.
-ghost use Rattle.std.specs.Prelude.{◌<◌, nat_eq, IfOk};
-ghost use Rattle.std.specs.List.{list_any};
-ghost use Rattle.flow_design.specs.Operations.{used_port};
-ghost use Rattle.flow_design.specs.StaticRules.{uses, is_port, FitsEngine};
+ghost use Rattle.std.specs.{Prelude.◌<◌, Prelude.nat_eq, Prelude.IfOk, List.list_any};
+ghost use Rattle.flow_design.specs.{Operations.used_port, StaticRules.uses, StaticRules.is_port, StaticRules.FitsEngine};
 ghost use Rattle.sim_core.specs.Readers.{port_at, AreNoted, AreUsers};
 
 use flow_design::{Module, Op, Plan, Timed};

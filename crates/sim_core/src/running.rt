@@ -1,11 +1,9 @@
 //! Runs of the modules.
 ghost use Rattle.std.specs.Prelude.{◌≡◌, ◌<◌, true, false, length, slice_index_or, slice_set, IfOk, IfSome, IsNone, OnOk, OnErr};
-ghost use Rattle.event_timing.specs.Actions.{Acts, MayRun};
-ghost use Rattle.event_timing.specs.Actions.Action.{Run};
+ghost use Rattle.event_timing.specs.{Actions.Acts, Actions.MayRun, Actions.Action.Run};
 ghost use Rattle.timing_bridge.specs.Designs.{design};
 ghost use Rattle.module_interp.specs.Runs.{waits};
-ghost use Rattle.sim_core.specs.Views.{theory_of};
-ghost use Rattle.sim_core.specs.Runs.{IsAnswered, IsOut};
+ghost use Rattle.sim_core.specs.{Views.theory_of, Runs.IsAnswered, Runs.IsOut};
 
 use crate::back::emit_mark;
 use crate::beside::spread;

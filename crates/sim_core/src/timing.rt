@@ -1,13 +1,9 @@
 //! The turn in which a thread gives steps cycles, and the test whether a core is final.
 ghost use Rattle.std.specs.Prelude.{◌≡◌, ℕ, ◌<◌, true, false, length, Some};
-ghost use Rattle.event_timing.specs.Actions.{IsDetermined, IsFinal, MayEarliest, MayRun};
-ghost use Rattle.event_timing.specs.Agreement.{AllVerified};
+ghost use Rattle.event_timing.specs.{Actions.IsDetermined, Actions.IsFinal, Actions.MayEarliest, Actions.MayRun, Agreement.AllVerified};
 ghost use Rattle.timing_bridge.specs.Designs.{design};
-ghost use Rattle.turn_history.specs.Rounds.{earliest_of, timings};
-ghost use Rattle.turn_history.specs.Turns.{NoTiming};
-ghost use Rattle.sim_core.specs.Views.{theory_of};
-ghost use Rattle.sim_core.specs.Drives.{Goes};
-ghost use Rattle.sim_core.specs.Timings.{HasMore, IsTimed, IsUntimable};
+ghost use Rattle.turn_history.specs.{Rounds.earliest_of, Rounds.timings, Turns.NoTiming};
+ghost use Rattle.sim_core.specs.{Views.theory_of, Drives.Goes, Timings.HasMore, Timings.IsTimed, Timings.IsUntimable};
 
 use crate::machine::Core;
 use engine_view::{Cursor, Timing};

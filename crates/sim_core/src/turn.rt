@@ -5,8 +5,7 @@ ghost use Rattle.time_engine.specs.Conditions.{HasAccesses, HasPlaces};
 ghost use Rattle.event_timing.specs.Actions.{IsQuiet, MayAssign, MayEarliest};
 ghost use Rattle.engine_view.specs.Turns.{ticks_of};
 ghost use Rattle.timing_bridge.specs.Designs.{design};
-ghost use Rattle.sim_core.specs.Views.{theory_of};
-ghost use Rattle.sim_core.specs.Turns.{HasTurned, HasAnsweredLeast, IsFirstEarliest};
+ghost use Rattle.sim_core.specs.{Views.theory_of, Turns.HasTurned, Turns.HasAnsweredLeast, Turns.IsFirstEarliest};
 ghost use Rattle.sim_core.specs.Candidates.{AreCandidates, IsCandidate, IsListed};
 
 use crate::beside::{ask_after, spread, wake_after};

@@ -3,9 +3,7 @@ ghost use Rattle.std.specs.Prelude.{◌≡◌, ℕ, ◌<◌, true, false, length
 ghost use Rattle.event_timing.specs.Actions.{MayRun};
 ghost use Rattle.timing_bridge.specs.Designs.{design};
 ghost use Rattle.module_interp.specs.declared.run.ModuleRun.{ModuleRun as RunOf};
-ghost use Rattle.sim_core.specs.Runs.{IsOut};
-ghost use Rattle.sim_core.specs.Views.{theory_of};
-ghost use Rattle.sim_core.specs.Drives.{Goes, GoesOn, HasTimed, HasVisited};
+ghost use Rattle.sim_core.specs.{Runs.IsOut, Views.theory_of, Drives.Goes, Drives.GoesOn, Drives.HasTimed, Drives.HasVisited};
 
 use crate::machine::Core;
 use engine_view::Timing;

@@ -2,9 +2,7 @@
 ghost use Rattle.std.specs.Prelude.{◌≡◌, ◌++◌, ◌<◌, ℕ, eqb, [], length, replicate, slice_index_or, IfOk, OnOk};
 ghost use Rattle.flow_word.specs.declared.access.Side.TheVariants.{Push};
 ghost use Rattle.flow_design.specs.StaticRules.{FitsEngine};
-ghost use Rattle.sim_core.specs.Opening.{port_where, AreOwnPorts};
-ghost use Rattle.sim_core.specs.Readers.{AreReaders, AreUsers};
-ghost use Rattle.sim_core.specs.Runs.{IsWired};
+ghost use Rattle.sim_core.specs.{Opening.port_where, Opening.AreOwnPorts, Readers.AreReaders, Readers.AreUsers, Runs.IsWired};
 
 use crate::beside::find_beside;
 use crate::bodies::find_body_lengths;

@@ -1,31 +1,22 @@
 -- What a call answers, from what its turn did.
-use Rattle.std.proofs.Common.{◌≡◌, inl, inr, ℕ, ◌+◌, ◌<◌, refl, sym, ap, ◌∙◌, subst, append_assoc, append-nil}
-use Rattle.std.proofs.Common.{List, [], ◌∷◌, ◌++◌, Some, Bool, true, false, length}
+use Rattle.std.proofs.Common.{◌≡◌, inl, inr, ℕ, ◌+◌, ◌<◌, refl, sym, ap, ◌∙◌, subst, append_assoc, append-nil, List, [], ◌∷◌, ◌++◌, Some}
+use Rattle.std.proofs.Common.{Bool, true, false, length}
 use Rattle.std.specs.Coded.{le_prop}
 use mathlib.Core.Logic.{∥∥₁_elim, ∥∥₁_map}
 use mathlib.Core.List.{IsPrefix}
-use Rattle.flow_design.specs.declared.plan.Plan.{Plan}
-use Rattle.flow_design.specs.declared.state.ModuleState.{ModuleState}
-use Rattle.flow_design.specs.StaticRules.{FitsEngine}
+use Rattle.flow_design.specs.{declared.plan.Plan.Plan, declared.state.ModuleState.ModuleState, StaticRules.FitsEngine}
 use Rattle.timing_bridge.specs.Designs.{design}
-use Rattle.turn_lock.specs.declared.view.View.{View}
-use Rattle.turn_lock.specs.Entries.{entries_of, Owns}
-use Rattle.turn_lock.specs.Turns.{BeginsTurn, EndsTurn, Continues}
-use Rattle.turn_history.specs.declared.turn.HubTurn.{HubTurn}
+use Rattle.turn_lock.specs.{declared.view.View.View, Entries.entries_of, Entries.Owns, Turns.BeginsTurn, Turns.EndsTurn, Turns.Continues}
+use Rattle.turn_history.specs.{declared.turn.HubTurn.HubTurn, declared.entry.HubEntry.HubEntry, declared.entry.HubEntry.TheVariants.Turn}
+use Rattle.turn_history.specs.{Turned.Turned, Turned.lent_at, Turned.after_short, Turns.TurnsOf, Turns.AreOfOthers, Histories.turned_by}
 use Rattle.turn_history.specs.declared.turn.HubTurn.TheVariants.{Lent, Ran, Timed, Short}
-use Rattle.turn_history.specs.declared.entry.HubEntry.{HubEntry}
-use Rattle.turn_history.specs.declared.entry.HubEntry.TheVariants.{Turn}
-use Rattle.turn_history.specs.Turned.{Turned, lent_at, after_short}
-use Rattle.turn_history.specs.Turns.{TurnsOf, AreOfOthers}
-use Rattle.turn_history.specs.Histories.{turned_by}
 use Rattle.turn_history.specs.Entries.{bearer, history_of, Stands}
-use Rattle.sim_hub.specs.declared.answer.Desk.{Desk}
-use Rattle.sim_hub.specs.declared.answer.Desk.TheVariants as desk
-use Rattle.sim_hub.specs.declared.answer.PerfAnswer.{PerfAnswer}
-use Rattle.sim_hub.specs.declared.answer.PerfAnswer.TheVariants as perf
+use Rattle.sim_hub.specs.{declared.answer.Desk.Desk, declared.answer.PerfAnswer.PerfAnswer}
 use Rattle.sim_hub.specs.Places.{Behind, IsLegal, IsPlace, HasModule, HasModules, HasAdded, HasLooked, HasNoDesk, IsLater}
 use Rattle.sim_hub.specs.Hubs.{IsHeld, IsIdle, IsFinished, WasShort, HadMemory, FoundShort, DeskIs, PerfIs, ReturnIs}
 use Rattle.sim_hub.specs.Steps.{Adds, ShortIs, LendingIs, BackIs, TimingIs, MayAdd, IsEnd}
+use Rattle.sim_hub.specs.declared.answer.Desk.TheVariants as desk
+use Rattle.sim_hub.specs.declared.answer.PerfAnswer.TheVariants as perf
 use Rattle.sim_hub.proofs.Histories.{plan_since, turns_since, others_later, lent_first, stands_next, mapped_some}
 use Rattle.sim_hub.proofs.Keeping.{history-snoc, same_entries}
 

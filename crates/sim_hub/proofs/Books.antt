@@ -1,12 +1,8 @@
 -- The ledger in books that are borrowed or closed.
 use Rattle.std.proofs.Common.{◌≡◌, ◌∙◌, sym, ap, subst, List}
-use Rattle.turn_lock.specs.declared.view.View.{View}
-use Rattle.turn_lock.specs.Turns.{ShowsAll}
-use Rattle.turn_history.specs.declared.entry.HubEntry.{HubEntry}
-use Rattle.turn_history.specs.Entries.{bearer}
-use Rattle.sim_hub.specs.declared.kept.Books.{Books}
-use Rattle.sim_hub.specs.declared.ledger.Ledger.{Ledger}
-use Rattle.sim_hub.specs.Ledgers.{entries_in}
+use Rattle.turn_lock.specs.{declared.view.View.View, Turns.ShowsAll}
+use Rattle.turn_history.specs.{declared.entry.HubEntry.HubEntry, Entries.bearer}
+use Rattle.sim_hub.specs.{declared.kept.Books.Books, declared.ledger.Ledger.Ledger, Ledgers.entries_in}
 
 -- what holds of the entries of books holds of those of the ledger that is borrowed from them
 pub of_borrowed : (P : List HubEntry → Type 0) {l : Ledger} {lent books : Books} → l ≡ lent.ledger.value → lent ≡ books

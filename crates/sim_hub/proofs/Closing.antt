@@ -1,35 +1,24 @@
 -- What was seen, once the hub is closed.
-use Rattle.std.proofs.Common.{◌≡◌, ℕ, ◌+◌, ◌<◌, ◌≤◌, inl, inr, refl, sym, ap, ◌∙◌, subst, arith}
-use Rattle.std.proofs.Common.{List, [], ◌∷◌, ◌++◌, false, length, map, pred, sub-one, append-nil}
+use Rattle.std.proofs.Common.{◌≡◌, ℕ, ◌+◌, ◌<◌, ◌≤◌, inl, inr, refl, sym, ap, ◌∙◌, subst, arith, List, [], ◌∷◌, ◌++◌, false, length, map}
+use Rattle.std.proofs.Common.{pred, sub-one, append-nil}
+use Rattle.std.proofs.{lemmas.Grind.merely, lemmas.List.nil_from_length}
 use Rattle.std.specs.Coded.{le_prop}
-use Rattle.std.proofs.lemmas.Grind.{merely}
-use Rattle.std.proofs.lemmas.List.{nil_from_length}
 use mathlib.Core.List.{IsPrefix}
 use mathlib.Core.Logic.{∥∥₁_elim, ∥∥₁_map}
-use Rattle.flow_design.specs.StaticRules.{FitsEngine}
-use Rattle.flow_design.specs.declared.plan.Plan.{Plan}
-use Rattle.flow_design.specs.declared.state.ModuleState.{ModuleState}
+use Rattle.flow_design.specs.{StaticRules.FitsEngine, declared.plan.Plan.Plan, declared.state.ModuleState.ModuleState}
 use Rattle.event_timing.specs.Actions.{IsFinal}
 use Rattle.timing_bridge.specs.Designs.{design}
-use Rattle.turn_lock.specs.declared.view.View.{View}
-use Rattle.turn_lock.specs.Entries.{entries_of}
-use Rattle.turn_lock.specs.Passes.{TableId}
+use Rattle.turn_lock.specs.{declared.view.View.View, Entries.entries_of, Passes.TableId}
 use Rattle.turn_lock.specs.Turns.{AreAllMade, ShowsAll, ShowsEach, ShowsPass}
-use Rattle.turn_lock.proofs.Histories.{none_later, prefix_self}
-use Rattle.turn_lock.proofs.Joins.{after_joins, shows_each}
-use Rattle.turn_history.specs.declared.entry.HubEntry.{HubEntry}
-use Rattle.turn_history.specs.Turned.{Turned, opening_turned}
+use Rattle.turn_lock.proofs.{Histories.none_later, Histories.prefix_self, Joins.after_joins, Joins.shows_each}
+use Rattle.turn_history.specs.{declared.entry.HubEntry.HubEntry, Turned.Turned, Turned.opening_turned}
 use Rattle.turn_history.specs.Entries.{bearer, history_of, Stands}
 use Rattle.turn_history.proofs.Lending.{final_stays}
-use Rattle.sim_hub.specs.declared.pass.ModulePass.{ModulePass}
-use Rattle.sim_hub.specs.declared.pass.PerfPass.{PerfPass}
-use Rattle.sim_hub.specs.Places.{HasModule, HasModules, HasNoDesk, IsLegal}
+use Rattle.sim_hub.specs.{declared.pass.ModulePass.ModulePass, declared.pass.PerfPass.PerfPass, Places.HasModule, Places.HasModules}
+use Rattle.sim_hub.specs.{Places.HasNoDesk, Places.IsLegal, Steps.ComesHome, Closings.AreFrom, Closings.HasEachModule, Closings.IsWhole}
 use Rattle.sim_hub.specs.Hubs.{IsOverAt, module_of, module_hub, module_view, perf_view}
-use Rattle.sim_hub.specs.Steps.{ComesHome}
-use Rattle.sim_hub.specs.Closings.{AreFrom, HasEachModule, IsWhole}
-use Rattle.sim_hub.proofs.Lists.{get_mapped, get_snoc}
+use Rattle.sim_hub.proofs.{Lists.get_mapped, Lists.get_snoc, Answering.modules_later}
 use Rattle.sim_hub.proofs.Histories.{plan_since, turns_since, short_stays}
-use Rattle.sim_hub.proofs.Answering.{modules_later}
 
 -- once all is over it stays so: until memory is wanted the core is final
 pub final_since : (p : Plan) (fits : FitsEngine p) (seen log : List HubEntry) (now : Turned ModuleState) → Stands p log now

@@ -1,27 +1,16 @@
 -- A burst on the desk that is out, by the time that it comes back.
 use Rattle.std.proofs.Common.{◌≡◌, ℕ, ◌+◌, ◌<◌, sym, subst, arith, false, Some, List, length, inl, inr}
 use Rattle.std.proofs.lemmas.Bool.{cases_Bool}
-use Rattle.flow_design.specs.declared.plan.Plan.{Plan}
-use Rattle.flow_design.specs.declared.state.ModuleState.{ModuleState}
-use Rattle.flow_design.specs.StaticRules.{FitsEngine}
-use Rattle.event_timing.specs.Core.{Core}
-use Rattle.event_timing.specs.Agreement.{IsAgreed}
+use Rattle.flow_design.specs.{declared.plan.Plan.Plan, declared.state.ModuleState.ModuleState, StaticRules.FitsEngine}
+use Rattle.event_timing.specs.{Core.Core, Agreement.IsAgreed}
 use Rattle.event_timing.proofs.Beside.{others_grow}
 use Rattle.timing_bridge.specs.Designs.{design, lockstep_run}
 use Rattle.timing_bridge.proofs.History.{plan_is_design, run_is_history}
-use Rattle.module_interp.specs.declared.run.ModuleRun.{ModuleRun}
-use Rattle.module_interp.specs.Runs.{StandsAt, waits}
-use Rattle.run_ahead.specs.declared.mail.Task.{Task}
-use Rattle.run_ahead.specs.declared.mail.Burst.{Burst}
-use Rattle.run_ahead.specs.Mails.{IsBurst}
-use Rattle.run_ahead.specs.Working.{StandsSomewhere}
-use Rattle.sim_core.specs.Runs.{IsRunOf, rest_behind}
-use Rattle.sim_core.specs.Tasks.{IsTaskOf, IsTaskFor, committed, rest_of}
-use Rattle.sim_core.proofs.Committed.{committed_waits, committed_goes}
-use Rattle.sim_core.proofs.Tasks.{task_for, task_stays, burst_has_marks}
-use Rattle.turn_history.specs.declared.turn.HubTurn.{HubTurn}
-use Rattle.turn_history.specs.Turned.{Turned, lent_at}
-use Rattle.turn_history.specs.Turns.{TurnsOf, AreOfOthers}
+use Rattle.module_interp.specs.{declared.run.ModuleRun.ModuleRun, Runs.StandsAt, Runs.waits}
+use Rattle.run_ahead.specs.{declared.mail.Task.Task, declared.mail.Burst.Burst, Mails.IsBurst, Working.StandsSomewhere}
+use Rattle.sim_core.specs.{Runs.IsRunOf, Runs.rest_behind, Tasks.IsTaskOf, Tasks.IsTaskFor, Tasks.committed, Tasks.rest_of}
+use Rattle.sim_core.proofs.{Committed.committed_waits, Committed.committed_goes, Tasks.task_for, Tasks.task_stays, Tasks.burst_has_marks}
+use Rattle.turn_history.specs.{declared.turn.HubTurn.HubTurn, Turned.Turned, Turned.lent_at, Turns.TurnsOf, Turns.AreOfOthers}
 use Rattle.turn_history.proofs.Lending.{turns_beside}
 use Rattle.sim_hub.specs.Hubs.{IsBurstOn}
 

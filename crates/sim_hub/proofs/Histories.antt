@@ -1,29 +1,21 @@
 -- What two looks at one history say of each other.
-use Rattle.std.proofs.Common.{◌≡◌, ℕ, zero, suc, ◌⊎◌, inl, inr, refl, sym, ap, ◌∙◌, subst}
-use Rattle.std.proofs.Common.{List, [], ◌∷◌, ◌++◌, Option, Some, None, Bool, true, false, cond, eq-eqb, ne_eqb}
-use Rattle.std.specs.Prelude.{get_or, slice_set, map}
+use Rattle.std.proofs.Common.{◌≡◌, ℕ, zero, suc, ◌⊎◌, inl, inr, refl, sym, ap, ◌∙◌, subst, List, [], ◌∷◌, ◌++◌, Option, Some, None, Bool}
+use Rattle.std.proofs.Common.{true, false, cond, eq-eqb, ne_eqb}
 use Rattle.std.proofs.Math.ListN.{get_or-map}
+use Rattle.std.specs.Prelude.{get_or, slice_set, map}
 use mathlib.Core.List.{IsPrefix}
-use Rattle.flow_design.specs.declared.plan.Plan.{Plan}
-use Rattle.flow_design.specs.declared.state.ModuleState.{ModuleState}
-use Rattle.flow_design.specs.StaticRules.{FitsEngine}
+use Rattle.flow_design.specs.{declared.plan.Plan.Plan, declared.state.ModuleState.ModuleState, StaticRules.FitsEngine}
 use Rattle.event_timing.specs.Machines.{Design}
 use Rattle.timing_bridge.specs.Designs.{design, lockstep_run}
 use Rattle.timing_bridge.proofs.History.{plan_is_design, run_is_history}
 use Rattle.turn_lock.specs.Entries.{bears, entries_of}
-use Rattle.turn_history.specs.declared.turn.HubTurn.{HubTurn}
+use Rattle.turn_history.specs.{declared.turn.HubTurn.HubTurn, declared.entry.HubEntry.HubEntry, Rounds.then_on, Replays.turns_on}
+use Rattle.turn_history.specs.{Histories.standing_of, Histories.turned_by, Entries.bearer, Entries.history_of, Entries.Stands}
 use Rattle.turn_history.specs.declared.turn.HubTurn.TheVariants.{Lent, Ran, Timed, Short}
-use Rattle.turn_history.specs.declared.entry.HubEntry.{HubEntry}
 use Rattle.turn_history.specs.declared.entry.HubEntry.TheVariants.{Opened, Turn}
 use Rattle.turn_history.specs.Turned.{Turned, lent_at, is_lent_to, not_to, opening_turned}
 use Rattle.turn_history.specs.Turns.{IsTurnOf, TurnsOf, AreOfOthers, taker}
-use Rattle.turn_history.specs.Rounds.{then_on}
-use Rattle.turn_history.specs.Replays.{turns_on}
-use Rattle.turn_history.specs.Histories.{standing_of, turned_by}
-use Rattle.turn_history.specs.Entries.{bearer, history_of, Stands}
-use Rattle.turn_history.proofs.Plans.{history_is, history_agrees, history_verified}
-use Rattle.turn_history.proofs.Legal.{turns_are}
-use Rattle.turn_history.proofs.Turning.{turns_join}
+use Rattle.turn_history.proofs.{Plans.history_is, Plans.history_agrees, Plans.history_verified, Legal.turns_are, Turning.turns_join}
 use Rattle.turn_lock.proofs.Histories.{prefix_self}
 use Rattle.sim_hub.specs.Places.{Behind}
 use Rattle.flow_word.proofs.Ranges.{some_is}

@@ -1,26 +1,19 @@
 -- What a turn keeps of a ledger.
-use Rattle.std.proofs.Common.{◌≡◌, inl, inr, ℕ, zero, suc, ◌+◌, ◌-◌, ◌<◌, ◌≤◌, refl, sym, ap, ◌∙◌, subst, arith}
-use Rattle.std.proofs.Common.{List, [], ◌∷◌, ◌++◌, Option, Some, None, Bool, true, false, length}
-use Rattle.std.specs.Prelude.{slice_set, slice_index_or, is_some, unwrap_or}
+use Rattle.std.proofs.Common.{◌≡◌, inl, inr, ℕ, zero, suc, ◌+◌, ◌-◌, ◌<◌, ◌≤◌, refl, sym, ap, ◌∙◌, subst, arith, List, [], ◌∷◌, ◌++◌}
+use Rattle.std.proofs.Common.{Option, Some, None, Bool, true, false, length}
 use Rattle.std.proofs.lemmas.Bool.{cases_eq}
 use Rattle.std.proofs.lemmas.List.{length-set, length-map, length-replicate, map-append, get_or-set_same, get_or-set_other}
-use Rattle.flow_design.specs.StaticRules.{FitsEngine}
-use Rattle.flow_design.specs.declared.plan.Plan.{Plan}
-use Rattle.flow_design.specs.declared.state.ModuleState.{ModuleState}
-use Rattle.event_timing.specs.Core.{opening_core}
-use Rattle.event_timing.specs.Agreement.{AllVerified}
+use Rattle.std.specs.Prelude.{slice_set, slice_index_or, is_some, unwrap_or}
+use Rattle.flow_design.specs.{StaticRules.FitsEngine, declared.plan.Plan.Plan, declared.state.ModuleState.ModuleState}
+use Rattle.event_timing.specs.{Core.opening_core, Agreement.AllVerified}
 use Rattle.timing_bridge.specs.Designs.{design}
 use Rattle.turn_lock.specs.Entries.{entries_of}
 use Rattle.turn_lock.proofs.Histories.{Some-same, entries_other}
-use Rattle.sim_core.specs.Views.{CoreView, theory_of}
-use Rattle.sim_core.specs.Drives.{AreOwn}
-use Rattle.turn_history.specs.declared.turn.HubTurn.{HubTurn}
-use Rattle.turn_history.specs.declared.entry.HubEntry.{HubEntry}
+use Rattle.sim_core.specs.{Views.CoreView, Views.theory_of, Drives.AreOwn}
+use Rattle.turn_history.specs.{declared.turn.HubTurn.HubTurn, declared.entry.HubEntry.HubEntry, Turns.taker, Histories.standing_of}
+use Rattle.turn_history.specs.{Histories.turned_by, Entries.bearer, Entries.history_of, Entries.Stands}
 use Rattle.turn_history.specs.declared.entry.HubEntry.TheVariants.{Opened, Turn}
 use Rattle.turn_history.specs.Turned.{Turned, lent_at, opening_turned, after_lent, after_ran, after_timed, after_short}
-use Rattle.turn_history.specs.Turns.{taker}
-use Rattle.turn_history.specs.Histories.{standing_of, turned_by}
-use Rattle.turn_history.specs.Entries.{bearer, history_of, Stands}
 use Rattle.turn_history.proofs.Plans.{history_is, history_verified}
 use Rattle.sim_hub.specs.Places.{IsLegal, Behind, HasDesk}
 use Rattle.sim_hub.specs.Kept.{IsKept, Matches, behind, lent_count, spare}

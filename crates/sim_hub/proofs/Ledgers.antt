@@ -1,41 +1,24 @@
 -- What each kind of turn leaves of a ledger.
-use Rattle.std.proofs.Common.{◌≡◌, ℕ, ◌+◌, ◌-◌, ◌<◌, ◌≤◌, inl, inr, refl, sym, ap, ◌∙◌, subst, arith}
-use Rattle.std.proofs.Common.{List, [], ◌∷◌, ◌++◌, Option, Some, None, Bool, true, false, length, length-append}
+use Rattle.std.proofs.Common.{◌≡◌, ℕ, ◌+◌, ◌-◌, ◌<◌, ◌≤◌, inl, inr, refl, sym, ap, ◌∙◌, subst, arith, List, [], ◌∷◌, ◌++◌, Option, Some}
+use Rattle.std.proofs.Common.{None, Bool, true, false, length, length-append}
+use Rattle.std.proofs.{lemmas.Bool.cases_Bool, lemmas.List.get_or-set_same}
 use Rattle.std.specs.Prelude.{slice_index_or, slice_set}
-use Rattle.std.proofs.lemmas.Bool.{cases_Bool}
-use Rattle.std.proofs.lemmas.List.{get_or-set_same}
 use mathlib.Core.Logic.{∥∥₁_elim}
-use Rattle.flow_design.specs.StaticRules.{FitsEngine}
-use Rattle.flow_design.specs.declared.plan.Plan.{Plan}
-use Rattle.flow_design.specs.declared.state.ModuleState.{ModuleState}
-use Rattle.event_timing.specs.Core.{Core}
-use Rattle.event_timing.specs.Actions.{ActsAll, MayEarliest, MayRun, IsFinal, runs}
+use Rattle.flow_design.specs.{StaticRules.FitsEngine, declared.plan.Plan.Plan, declared.state.ModuleState.ModuleState}
+use Rattle.event_timing.specs.{Core.Core, Actions.ActsAll, Actions.MayEarliest, Actions.MayRun, Actions.IsFinal, Actions.runs}
 use Rattle.timing_bridge.specs.Designs.{design}
-use Rattle.run_ahead.specs.declared.mail.Task.{Task}
-use Rattle.run_ahead.specs.declared.mail.Burst.{Burst}
-use Rattle.run_ahead.specs.Mails.{IsBurst}
-use Rattle.sim_core.specs.Views.{CoreView, theory_of}
-use Rattle.sim_core.specs.Tasks.{IsTaskOf, IsTaskFor, IsBurstOf, rest_of}
-use Rattle.turn_history.specs.declared.turn.HubTurn.{HubTurn}
+use Rattle.run_ahead.specs.{declared.mail.Task.Task, declared.mail.Burst.Burst, Mails.IsBurst}
+use Rattle.sim_core.specs.{Views.CoreView, Views.theory_of, Tasks.IsTaskOf, Tasks.IsTaskFor, Tasks.IsBurstOf, Tasks.rest_of}
+use Rattle.turn_history.specs.{declared.turn.HubTurn.HubTurn, Turns.AreOfOthers, Turns.NoTiming, Histories.turned_by, Entries.history_of}
+use Rattle.turn_history.specs.{declared.entry.HubEntry.HubEntry, Turned.lent_at, Turned.after_lent, Turned.after_ran, Turned.after_timed}
 use Rattle.turn_history.specs.declared.turn.HubTurn.TheVariants.{Lent, Ran, Timed}
-use Rattle.turn_history.specs.declared.entry.HubEntry.{HubEntry}
-use Rattle.turn_history.specs.Turns.{AreOfOthers, NoTiming}
-use Rattle.turn_history.specs.Turned.{lent_at, after_lent, after_ran, after_timed}
-use Rattle.turn_history.specs.Histories.{turned_by}
-use Rattle.turn_history.specs.Entries.{history_of}
-use Rattle.turn_history.proofs.Plans.{history_is, history_agrees}
-use Rattle.turn_history.proofs.Lending.{turns_beside}
-use Rattle.turn_history.proofs.Turning.{lent_fits, ran_fits}
+use Rattle.turn_history.proofs.{Plans.history_is, Plans.history_agrees, Lending.turns_beside, Turning.lent_fits, Turning.ran_fits}
 use Rattle.sim_hub.specs.declared.answer.Desk.TheVariants as desk
-use Rattle.sim_hub.specs.Kept.{IsKept, behind, spare}
-use Rattle.sim_hub.specs.Places.{Behind, HasNoDesk}
+use Rattle.sim_hub.specs.{Kept.IsKept, Kept.behind, Kept.spare, Places.Behind, Places.HasNoDesk}
 use Rattle.sim_hub.specs.Hubs.{HadMemory, IsDesk, IsFinished, IsHeld, IsIdle, OutAt, WasShort}
 use Rattle.sim_hub.specs.Steps.{Adds, ComesHome, ComesBack}
-use Rattle.sim_hub.proofs.Lists.{set_none, within_some}
-use Rattle.sim_hub.proofs.Histories.{behind_at}
-use Rattle.sim_hub.proofs.Keeping.{lent_out, kept_stands, kept_behind, kept_next}
-use Rattle.sim_hub.proofs.Keeping.{lent_matches, ran_matches, timed_matches}
-use Rattle.sim_hub.proofs.Desks.{task_runs, burst_back, burst_marks}
+use Rattle.sim_hub.proofs.{Lists.set_none, Lists.within_some, Histories.behind_at, Desks.task_runs, Desks.burst_back, Desks.burst_marks}
+use Rattle.sim_hub.proofs.Keeping.{lent_out, kept_stands, kept_behind, kept_next, lent_matches, ran_matches, timed_matches}
 use Rattle.sim_hub.proofs.Answering.{stands_more, module_inside, come_back, home_since}
 
 module _ (core : CoreView) (turns : List HubTurn) (out : ℕ) (short : Bool) (capacity : ℕ) (k : IsKept core turns out short capacity) where

@@ -4,9 +4,7 @@ use Rattle.flow_design.specs.declared.plan.Plan.{Plan}
 use Rattle.timing_bridge.specs.Designs.{design}
 use Rattle.turn_history.specs.Turned.{opening_turned}
 use Rattle.turn_lock.specs.Passes.{TableId}
-use Rattle.sim_hub.specs.declared.pass.ModulePass.{ModulePass}
-use Rattle.sim_hub.specs.Hubs.{module_of}
-use Rattle.sim_hub.specs.Closings.{AreNew, AllHome}
+use Rattle.sim_hub.specs.{declared.pass.ModulePass.ModulePass, Hubs.module_of, Closings.AreNew, Closings.AllHome}
 use Rattle.sim_hub.proofs.Lists.{none_replicated}
 
 -- no desk is out

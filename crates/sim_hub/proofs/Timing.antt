@@ -1,16 +1,11 @@
 -- What the performance pass does in a turn, as a turn that is computed.
 use Rattle.std.proofs.Common.{◌≡◌, ℕ, ◌≤◌, sym, ap, ◌∙◌, subst, Some, None, Bool, true, false, cond}
 use Rattle.std.specs.Prelude.{is_none}
-use Rattle.flow_design.specs.declared.plan.Plan.{Plan}
-use Rattle.flow_design.specs.declared.state.ModuleState.{ModuleState}
-use Rattle.event_timing.specs.Machines.{Design}
-use Rattle.event_timing.specs.Core.{Core}
-use Rattle.event_timing.specs.Permitted.{IsInside}
+use Rattle.flow_design.specs.{declared.plan.Plan.Plan, declared.state.ModuleState.ModuleState}
+use Rattle.event_timing.specs.{Machines.Design, Core.Core, Permitted.IsInside}
 use Rattle.timing_bridge.specs.Designs.{design}
-use Rattle.turn_history.specs.declared.turn.HubTurn.TheVariants.{Timed}
-use Rattle.turn_history.specs.Turned.{Turned, after_timed}
+use Rattle.turn_history.specs.{declared.turn.HubTurn.TheVariants.Timed, Turned.Turned, Turned.after_timed, Histories.turned_by}
 use Rattle.turn_history.specs.Rounds.{next_timing, timings, earliest_of}
-use Rattle.turn_history.specs.Histories.{turned_by}
 use Rattle.turn_history.proofs.Turning.{timed_fits, earliest_fits}
 
 -- where nothing was done the core is the same

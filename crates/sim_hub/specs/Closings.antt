@@ -1,24 +1,16 @@
 -- Opening and closing a hub.
 use Rattle.std.specs.Prelude.{◌≡◌, ℕ, ◌+◌, ◌<◌, List, [], false, Some, slice_get}
 use mathlib.Core.List.{IsPrefix}
-use Rattle.flow_design.specs.declared.plan.Plan.{Plan}
-use Rattle.flow_design.specs.declared.state.ModuleState.{ModuleState}
-use Rattle.turn_lock.specs.Entries.{entries_of}
-use Rattle.turn_lock.specs.Passes.{TableId}
+use Rattle.flow_design.specs.{declared.plan.Plan.Plan, declared.state.ModuleState.ModuleState}
+use Rattle.turn_lock.specs.{Entries.entries_of, Passes.TableId}
 use Rattle.event_timing.specs.Actions.{IsFinal}
 use Rattle.timing_bridge.specs.Designs.{design}
-use Rattle.sim_core.specs.Views.{theory_of}
-use Rattle.sim_core.specs.Drives.{AreOwn}
-use Rattle.turn_history.specs.declared.entry.HubEntry.{HubEntry}
-use Rattle.turn_history.specs.Entries.{bearer, history_of, Stands}
-use Rattle.turn_history.specs.Turned.{Turned}
-use Rattle.sim_hub.specs.declared.pass.PerfPass.{PerfPass}
-use Rattle.sim_hub.specs.declared.pass.ModulePass.{ModulePass}
-use Rattle.sim_hub.specs.declared.answer.Threaded.{Threaded}
-use Rattle.sim_hub.specs.declared.answer.Closed.{Closed}
-use Rattle.sim_hub.specs.declared.answer.Closed.TheVariants as closed
-use Rattle.sim_hub.specs.Places.{Behind, HasNoDeskOut, IsLegal}
+use Rattle.sim_core.specs.{Views.theory_of, Drives.AreOwn}
+use Rattle.turn_history.specs.{declared.entry.HubEntry.HubEntry, Entries.bearer, Entries.history_of, Entries.Stands, Turned.Turned}
+use Rattle.sim_hub.specs.{declared.pass.PerfPass.PerfPass, declared.pass.ModulePass.ModulePass, declared.answer.Threaded.Threaded}
+use Rattle.sim_hub.specs.{declared.answer.Closed.Closed, Places.Behind, Places.HasNoDeskOut, Places.IsLegal}
 use Rattle.sim_hub.specs.Hubs.{module_of, module_hub, module_view, perf_view, WasShort}
+use Rattle.sim_hub.specs.declared.answer.Closed.TheVariants as closed
 
 -- these passes are of this hub
 abbrev pub AreOfHub : TableId → List ModulePass → Type 0

@@ -1,30 +1,20 @@
 -- What the answers of a hub mean.
 use Rattle.std.specs.Prelude.{◌≡◌, ◌⊎◌, ℕ, ◌+◌, List, length, Bool, true, false}
-use Rattle.flow_design.specs.declared.plan.Plan.{Plan}
-use Rattle.flow_design.specs.declared.state.ModuleState.{ModuleState}
+use Rattle.flow_design.specs.{declared.plan.Plan.Plan, declared.state.ModuleState.ModuleState}
 use Rattle.lockstep_defs.specs.OwnRun.{Own}
 use Rattle.module_interp.specs.Runs.{StandsAt}
-use Rattle.turn_lock.specs.declared.view.View.{View}
-use Rattle.turn_lock.specs.Passes.{TableId, pass_lock, lock_id, view_of}
+use Rattle.turn_lock.specs.{declared.view.View.View, Passes.TableId, Passes.pass_lock, Passes.lock_id, Passes.view_of}
 use Rattle.event_timing.specs.Actions.{MayRun, MayEarliest, IsFinal}
 use Rattle.timing_bridge.specs.Designs.{design}
-use Rattle.run_ahead.specs.declared.mail.Task.{Task}
-use Rattle.run_ahead.specs.declared.mail.Burst.{Burst}
-use Rattle.run_ahead.specs.Mails.{IsBurst}
-use Rattle.run_ahead.specs.Working.{StandsSomewhere}
+use Rattle.run_ahead.specs.{declared.mail.Task.Task, declared.mail.Burst.Burst, Mails.IsBurst, Working.StandsSomewhere}
 use Rattle.sim_core.specs.Tasks.{IsTaskOf}
-use Rattle.turn_history.specs.declared.entry.HubEntry.{HubEntry}
+use Rattle.turn_history.specs.{declared.entry.HubEntry.HubEntry, Turned.Turned, Turns.NoTiming}
 use Rattle.turn_history.specs.declared.turn.HubTurn.TheVariants.{Lent, Ran, Timed, Short}
-use Rattle.turn_history.specs.Turned.{Turned}
-use Rattle.turn_history.specs.Turns.{NoTiming}
-use Rattle.sim_hub.specs.declared.hub.Hub.{Hub}
-use Rattle.sim_hub.specs.declared.pass.PerfPass.{PerfPass}
-use Rattle.sim_hub.specs.declared.pass.ModulePass.{ModulePass}
-use Rattle.sim_hub.specs.declared.answer.Desk.{Desk}
-use Rattle.sim_hub.specs.declared.answer.Desk.TheVariants as desk
-use Rattle.sim_hub.specs.declared.answer.PerfAnswer.{PerfAnswer}
-use Rattle.sim_hub.specs.declared.answer.PerfAnswer.TheVariants as perf
+use Rattle.sim_hub.specs.{declared.hub.Hub.Hub, declared.pass.PerfPass.PerfPass, declared.pass.ModulePass.ModulePass}
+use Rattle.sim_hub.specs.{declared.answer.Desk.Desk, declared.answer.PerfAnswer.PerfAnswer}
 use Rattle.sim_hub.specs.Places.{Behind, HasAdded, HasLooked, HasDesk, HasNoDesk}
+use Rattle.sim_hub.specs.declared.answer.Desk.TheVariants as desk
+use Rattle.sim_hub.specs.declared.answer.PerfAnswer.TheVariants as perf
 
 -- the identity of a hub
 abbrev pub hub_id : Hub → TableId

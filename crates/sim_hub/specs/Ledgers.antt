@@ -1,9 +1,7 @@
 -- The history of a ledger.
 use Rattle.std.specs.Prelude.{List}
-use Rattle.turn_history.specs.declared.entry.HubEntry.{HubEntry}
-use Rattle.turn_history.specs.Entries.{history_of}
-use Rattle.sim_hub.specs.declared.kept.Books.{Books}
-use Rattle.sim_hub.specs.declared.ledger.Ledger.{Ledger}
+use Rattle.turn_history.specs.{declared.entry.HubEntry.HubEntry, Entries.history_of}
+use Rattle.sim_hub.specs.{declared.kept.Books.Books, declared.ledger.Ledger.Ledger}
 
 -- the history of a ledger: the opening of its plan, and all turns since
 abbrev pub entries_in : Ledger → List HubEntry

@@ -1,16 +1,10 @@
 -- What a pass of a hub knows, between two turns and after one.
 use Rattle.std.specs.Prelude.{◌≡◌, ℕ, ◌+◌, ◌<◌, List, [], ◌∷◌, ◌++◌, length, Some}
 use mathlib.Core.List.{IsPrefix}
-use Rattle.flow_design.specs.declared.plan.Plan.{Plan}
-use Rattle.flow_design.specs.declared.state.ModuleState.{ModuleState}
-use Rattle.turn_lock.specs.declared.view.View.{View}
-use Rattle.turn_lock.specs.Entries.{entries_of}
-use Rattle.turn_lock.specs.Turns.{BeginsTurn, EndsTurn}
-use Rattle.turn_history.specs.declared.entry.HubEntry.{HubEntry}
-use Rattle.turn_history.specs.declared.entry.HubEntry.TheVariants.{Turn}
-use Rattle.turn_history.specs.declared.turn.HubTurn.{HubTurn}
-use Rattle.turn_history.specs.Entries.{bearer, Stands}
-use Rattle.turn_history.specs.Turned.{Turned, lent_at}
+use Rattle.flow_design.specs.{declared.plan.Plan.Plan, declared.state.ModuleState.ModuleState}
+use Rattle.turn_lock.specs.{declared.view.View.View, Entries.entries_of, Turns.BeginsTurn, Turns.EndsTurn}
+use Rattle.turn_history.specs.{declared.entry.HubEntry.HubEntry, declared.entry.HubEntry.TheVariants.Turn, declared.turn.HubTurn.HubTurn}
+use Rattle.turn_history.specs.{Entries.bearer, Entries.Stands, Turned.Turned, Turned.lent_at}
 
 -- the history is a legal one of a plan that the engine takes
 pub record IsLegal (seen : List HubEntry) : Type 0 where

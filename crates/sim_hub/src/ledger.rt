@@ -1,6 +1,5 @@
 //! What the turn lock of a hub protects.
-ghost use Rattle.std.specs.Prelude.{vec_capacity};
-ghost use Rattle.std.specs.Coded.{codes};
+ghost use Rattle.std.specs.{Prelude.vec_capacity, Coded.codes};
 ghost use Rattle.std.proofs.Props.{props};
 ghost use Rattle.sim_hub.specs.Kept.{IsKept};
 

@@ -1,14 +1,9 @@
 -- What was written of a text, and what is pending of it.
 use Rattle.std.proofs.Common.{◌≡◌, ◌∙◌, ap, ap₂, sym, refl, subst, arith, ℕ, zero, suc, ◌+◌, ◌-◌, ◌≤◌, min, List, [], ◌∷◌, ◌++◌, zero-add}
 use Rattle.std.proofs.Common.{length, map, take, drop, append-nil, append_assoc, None, Some}
-use Rattle.std.proofs.lemmas.Grind.{common_steps}
-use Rattle.std.proofs.lemmas.List.{map-append, take-append-drop}
-use Rattle.std.proofs.lemmas.List.Concat.{flat_map-append}
-use Rattle.std.specs.declared.option.Option.{Option}
-use Rattle.std.specs.Io.KnownBytes.{Appends}
-use Rattle.std.specs.List.{flat_map, range_with_len}
-use Rattle.sim_io.specs.Causes.{AppendsPrefix}
-use Rattle.sim_io.specs.Telling.{IsTold}
+use Rattle.std.proofs.{lemmas.Grind.common_steps, lemmas.List.map-append, lemmas.List.take-append-drop, lemmas.List.Concat.flat_map-append}
+use Rattle.std.specs.{declared.option.Option.Option, Io.KnownBytes.Appends, List.flat_map, List.range_with_len}
+use Rattle.sim_io.specs.{Causes.AppendsPrefix, Telling.IsTold}
 use Rattle.sim_io.proofs.Pieces.{appends_both}
 
 -- ---- what was appended

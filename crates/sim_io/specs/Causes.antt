@@ -1,7 +1,6 @@
 -- Why a source or a sink may fail, and what a run of many calls does to its bytes.
 use Rattle.std.specs.Prelude.{◌≡◌, ℕ, ◌+◌, ◌^◌, ◌-◌, ◌≤◌, min, List, ◌++◌, length, take, Result, OnErr}
-use Rattle.std.specs.declared.option.Option.{Option}
-use Rattle.std.specs.Io.KnownBytes.{Consumes, Appends}
+use Rattle.std.specs.{declared.option.Option.Option, Io.KnownBytes.Consumes, Io.KnownBytes.Appends}
 
 -- the count rose, or stands at the greatest u64
 abbrev pub Rose : ℕ → ℕ → Type 0

@@ -1,7 +1,6 @@
 -- What contracts see of std's readers and writers as sources and sinks.
 use Rattle.std.specs.Prelude.{ℕ, Bool}
-use Rattle.sim_io.specs.declared.std_ends.StdSource.{StdSource}
-use Rattle.sim_io.specs.declared.std_ends.StdSink.{StdSink}
+use Rattle.sim_io.specs.{declared.std_ends.StdSource.StdSource, declared.std_ends.StdSink.StdSink}
 
 -- the reader of a source
 abbrev pub reader_of : {R : Type 0} → StdSource R → R

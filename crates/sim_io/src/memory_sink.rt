@@ -1,7 +1,6 @@
 //! A sink in memory.
 ghost use Rattle.std.specs.Prelude.{◌≡◌, ◌≤◌, ◌<◌, ◌+◌, ◌↔◌, ◌++◌, true, false, IfOk, IsErr, OnOk, OnErr, Contains, Some, length, take};
-ghost use Rattle.std.specs.Io.{WritesAtMost};
-ghost use Rattle.std.specs.Io.KnownBytes.{WriteAppends, Keeps};
+ghost use Rattle.std.specs.{Io.WritesAtMost, Io.KnownBytes.WriteAppends, Io.KnownBytes.Keeps};
 ghost use Rattle.sim_io.specs.Causes.{HasCause};
 ghost use Rattle.sim_io.specs.Ends.{opened_sink, taken, after_put, after_failed_put, after_finish, after_failed_finish, FailsPut};
 

@@ -1,6 +1,5 @@
 //! Writing all of a text.
-ghost use Rattle.std.specs.Prelude.{◌≡◌, ◌<◌, false, length, OnOk, OnErr};
-ghost use Rattle.std.specs.Io.KnownBytes.{Appends};
+ghost use Rattle.std.specs.{Prelude.◌≡◌, Prelude.◌<◌, Prelude.false, Prelude.length, Prelude.OnOk, Prelude.OnErr, Io.KnownBytes.Appends};
 ghost use Rattle.sim_io.specs.Causes.{HasCause, AppendsPrefix};
 
 use crate::traits::Sink;

@@ -1,30 +1,19 @@
 -- The clocks in which a module moves, and those in which it stands still by each cause, add up.
-use Rattle.std.proofs.Common.{◌≡◌, ◌≢◌, ℕ, zero, suc, ◌+◌, ◌-◌, ◌<◌, ◌≤◌, List, [], ◌∷◌, refl, sym, ap, ◌∙◌, arith, Bool, true}
-use Rattle.std.proofs.Common.{false, cond, subst}
-use Rattle.std.proofs.Common.{Some, None, Option, length, inl, inr, ◌⊎◌}
-use Rattle.std.specs.List.{range_with_len, sum_by, find, AllByRecursion}
+use Rattle.std.proofs.Common.{◌≡◌, ◌≢◌, ℕ, zero, suc, ◌+◌, ◌-◌, ◌<◌, ◌≤◌, List, [], ◌∷◌, refl, sym, ap, ◌∙◌, arith, Bool, true, false, cond}
+use Rattle.std.proofs.Common.{subst, Some, None, Option, length, inl, inr, ◌⊎◌}
 use Rattle.std.proofs.lemmas.Bool.{cases_lt, eq-eqb, ne_eqb}
 use Rattle.std.proofs.lemmas.List.Sums.{sum_by_push, sum_by-cons}
-use Rattle.flow_word.specs.declared.access.Port.{Port}
-use Rattle.flow_word.specs.declared.access.Side.{Side}
+use Rattle.std.specs.List.{range_with_len, sum_by, find, AllByRecursion}
+use Rattle.flow_word.specs.{declared.access.Port.Port, declared.access.Side.Side}
 use Rattle.flow_word.specs.declared.access.Side.TheVariants.{Pop, Push}
-use Rattle.flow_design.specs.declared.plan.Plan.{Plan}
-use Rattle.flow_design.specs.declared.state.Request.{Request}
-use Rattle.flow_design.specs.StaticRules.{FitsEngine}
-use Rattle.lockstep_defs.specs.Machine.{is_over}
-use Rattle.lockstep_defs.specs.Channels.{stalls}
+use Rattle.flow_design.specs.{declared.plan.Plan.Plan, declared.state.Request.Request, StaticRules.FitsEngine, Reports.clock_of}
+use Rattle.lockstep_defs.specs.{Machine.is_over, Channels.stalls, Ports.StandsAtPort, Verdict.verdict}
 use Rattle.lockstep_defs.specs.Lockstep.{requests_of, state, state_at}
-use Rattle.lockstep_defs.specs.Ports.{StandsAtPort}
-use Rattle.lockstep_defs.specs.Verdict.{verdict}
-use Rattle.flow_design.specs.Reports.{clock_of}
 use Rattle.timing_bridge.proofs.Requests.{stand}
-use Rattle.stall_spans.specs.declared.span.Doing.{Doing}
+use Rattle.stall_spans.specs.{declared.span.Doing.Doing, Doings.doing, Doings.doing_by, Doings.blocker}
 use Rattle.stall_spans.specs.declared.span.Doing.TheVariants.{Moves, Still}
-use Rattle.stall_spans.specs.Doings.{doing, doing_by, blocker}
-use Rattle.stall_spans.specs.Totals.{is_moving, is_still, is_still_at, clocks_in, moved_clocks, still_clocks, still_clocks_at}
-use Rattle.stall_spans.specs.Totals.{IsOverFrom}
-use Rattle.stall_spans.proofs.Counting.{clocks_none, clocks_done, clocks_over}
-use Rattle.stall_spans.proofs.Existing.{none_stays}
+use Rattle.stall_spans.specs.Totals.{is_moving, is_still, is_still_at, clocks_in, moved_clocks, still_clocks, still_clocks_at, IsOverFrom}
+use Rattle.stall_spans.proofs.{Counting.clocks_none, Counting.clocks_done, Counting.clocks_over, Existing.none_stays}
 use Rattle.flow_word.proofs.Ranges.{range_more}
 
 -- ---- up to the clock in which it is over

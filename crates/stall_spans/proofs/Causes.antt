@@ -1,35 +1,23 @@
 -- What a final core of a plan tells of a module in a clock is what the lockstep machine does.
-use Rattle.std.proofs.Common.{◌≡◌, ℕ, ◌<◌, ◌≤◌, List, [], ◌∷◌, map, Bool, true, false, not, ◌&&◌, cond, refl, sym, ◌∙◌, ap}
-use Rattle.std.proofs.Common.{arith, Some, None}
-use Rattle.std.specs.List.{find, list_any, AllByRecursion}
+use Rattle.std.proofs.Common.{◌≡◌, ℕ, ◌<◌, ◌≤◌, List, [], ◌∷◌, map, Bool, true, false, not, ◌&&◌, cond, refl, sym, ◌∙◌, ap, arith, Some}
+use Rattle.std.proofs.Common.{None}
 use Rattle.std.proofs.lemmas.Bool.{cond-true, cond-false, and_parts, or_parts, le-ltb}
+use Rattle.std.specs.List.{find, list_any, AllByRecursion}
 use Rattle.flow_word.specs.Kinds.{is_blocking}
-use Rattle.flow_design.specs.declared.plan.Plan.{Plan}
+use Rattle.flow_design.specs.{declared.plan.Plan.Plan, declared.state.Request.Request, StaticRules.FitsEngine}
 use Rattle.flow_design.specs.declared.state.ModuleState.{ModuleState}
-use Rattle.flow_design.specs.declared.state.Request.{Request}
-use Rattle.flow_design.specs.StaticRules.{FitsEngine}
-use Rattle.lockstep_defs.specs.Machine.{is_over}
-use Rattle.lockstep_defs.specs.Channels.{stalls}
-use Rattle.lockstep_defs.specs.Lockstep.{requests_of, moves, state, state_at}
-use Rattle.event_timing.specs.Machines.{Each}
-use Rattle.event_timing.specs.Histories as counted
-use Rattle.event_timing.specs.Steps.{done}
-use Rattle.event_timing.specs.Views.{from}
-use Rattle.event_timing.specs.Enablers.{answer}
-use Rattle.event_timing.specs.Core.{Core, view}
-use Rattle.event_timing.specs.Actions.{IsFinal}
+use Rattle.lockstep_defs.specs.{Machine.is_over, Channels.stalls, Lockstep.requests_of, Lockstep.moves, Lockstep.state, Lockstep.state_at}
+use Rattle.event_timing.specs.{Machines.Each, Steps.done, Views.from, Enablers.answer, Core.Core, Core.view, Actions.IsFinal}
 use Rattle.event_timing.specs.Agreement.{IsAgreed}
-use Rattle.event_timing.proofs.Agreement.{stuck_ended}
+use Rattle.event_timing.specs.Histories as counted
+use Rattle.event_timing.proofs.{Agreement.stuck_ended, Fronts.agrees}
 use Rattle.timing_bridge.specs.Designs.{design, lockstep_run, seen}
-use Rattle.timing_bridge.proofs.Alike.{Alike, alike}
+use Rattle.timing_bridge.proofs.{Alike.Alike, Alike.alike, Settling.find_alike}
 use Rattle.timing_bridge.proofs.History.{plan_is_design, run_is_history, moves_same}
-use Rattle.stall_spans.specs.declared.span.Doing.TheVariants.{Moves}
-use Rattle.stall_spans.specs.Doings.{doing_by, blocker, doing}
+use Rattle.stall_spans.specs.{declared.span.Doing.TheVariants.Moves, Doings.doing_by, Doings.blocker, Doings.doing}
 use Rattle.stall_spans.specs.CoreDoings.{known_in, arrives, waits_in, core_blocker, waits_at, doing_at, core_doing}
-use Rattle.event_timing.proofs.Fronts.{agrees}
 use Rattle.stall_spans.proofs.Placed.{arrives_before}
 use Rattle.stall_spans.proofs.Waits.{moves_early, waits_right, ends_right, step_clocks, last_clocks, cycle_moves}
-use Rattle.timing_bridge.proofs.Settling.{find_alike}
 
 -- ---- lists
 

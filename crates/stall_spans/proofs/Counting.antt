@@ -1,12 +1,9 @@
 -- In how many clocks something is done, clock by clock.
-use Rattle.std.proofs.Common.{◌≡◌, ℕ, suc, ◌+◌, refl, ap, ◌∙◌, arith, Bool, cond}
-use Rattle.std.proofs.Common.{Some, None, Option, zero-add}
-use Rattle.std.specs.List.{range_with_len, count_by}
+use Rattle.std.proofs.Common.{◌≡◌, ℕ, suc, ◌+◌, refl, ap, ◌∙◌, arith, Bool, cond, Some, None, Option, zero-add}
 use Rattle.std.proofs.lemmas.List.Sums.{sum_by_push}
+use Rattle.std.specs.List.{range_with_len, count_by}
 use Rattle.flow_design.specs.declared.plan.Plan.{Plan}
-use Rattle.stall_spans.specs.declared.span.Doing.{Doing}
-use Rattle.stall_spans.specs.Doings.{doing}
-use Rattle.stall_spans.specs.Totals.{passes, clocks_in}
+use Rattle.stall_spans.specs.{declared.span.Doing.Doing, Doings.doing, Totals.passes, Totals.clocks_in}
 use Rattle.flow_word.proofs.Ranges.{range_more}
 
 pub clocks_none : (test : Doing → Bool) (p : Plan) (i : ℕ) → clocks_in test p i 0 ≡ 0

@@ -1,18 +1,13 @@
 -- Spans cover each clock in which something is done, and each goes on where the one before it is over.
-use Rattle.std.proofs.Common.{◌≡◌, ◌≢◌, ℕ, zero, suc, ◌+◌, ◌-◌, ◌<◌, ◌≤◌, List, refl, sym, ap, ◌∙◌, subst, arith, ◌⊎◌, inl, inr}
-use Rattle.std.proofs.Common.{Some, None, Option, get_or, length}
+use Rattle.std.proofs.Common.{◌≡◌, ◌≢◌, ℕ, zero, suc, ◌+◌, ◌-◌, ◌<◌, ◌≤◌, List, refl, sym, ap, ◌∙◌, subst, arith, ◌⊎◌, inl, inr, Some, None}
+use Rattle.std.proofs.Common.{Option, get_or, length}
+use Rattle.std.proofs.{lemmas.Bool.cases_lt, lemmas.List.get_or_default}
 use Rattle.std.specs.Prelude.{Contains}
-use Rattle.std.proofs.lemmas.Bool.{cases_lt}
-use Rattle.std.proofs.lemmas.List.{get_or_default}
 use Rattle.flow_design.specs.declared.plan.Plan.{Plan}
-use Rattle.stall_spans.specs.declared.span.Span.{Span}
-use Rattle.stall_spans.specs.declared.span.Doing.{Doing}
-use Rattle.stall_spans.specs.Doings.{doing}
+use Rattle.stall_spans.specs.{declared.span.Span.Span, declared.span.Doing.Doing, Doings.doing, Spans.IsSpan, Spans.AreSpansBelow}
 use Rattle.stall_spans.specs.Covers.{HasClock, GoesOnFrom}
-use Rattle.stall_spans.specs.Spans.{IsSpan, AreSpansBelow}
-use Rattle.stall_spans.proofs.Lists.{span}
+use Rattle.stall_spans.proofs.{Lists.span, Existing.same_doing, Existing.none_stays}
 use Rattle.stall_spans.proofs.Extending.{Does, some_same, some_none}
-use Rattle.stall_spans.proofs.Existing.{same_doing, none_stays}
 
 -- ---- the span of a clock
 

@@ -1,29 +1,21 @@
 -- There are spans below each clock.
 use Rattle.std.proofs.Common.{◌≡◌, ◌≢◌, ℕ, zero, suc, ◌+◌, ◌-◌, ◌<◌, ◌≤◌, List, [], ◌∷◌, ◌++◌, refl, sym, ap, ◌∙◌, subst, arith, ◌⊎◌, inl}
-use Rattle.std.proofs.Common.{inr}
-use Rattle.std.proofs.Common.{Some, None, Option, Bool, true, false, not, ◌&&◌, cond, length, ap₂}
+use Rattle.std.proofs.Common.{inr, Some, None, Option, Bool, true, false, not, ◌&&◌, cond, length, ap₂}
 use Rattle.std.proofs.lemmas.Bool.{cases_lt, cases_eq, cond-false}
-use Rattle.std.proofs.lemmas.List.{get_or_past}
-use Rattle.flow_word.specs.declared.access.Port.{Port}
-use Rattle.flow_word.specs.declared.access.Side.{Side}
+use Rattle.std.proofs.{lemmas.List.get_or_past, lemmas.List.Sums.sum_by_push}
+use Rattle.flow_word.specs.{declared.access.Port.Port, declared.access.Side.Side}
 use Rattle.flow_word.specs.declared.access.Side.TheVariants.{Pop, Push}
 use Rattle.flow_design.specs.declared.plan.Plan.{Plan}
-use Rattle.lockstep_defs.specs.Machine.{is_over, nobody}
-use Rattle.lockstep_defs.specs.Channels.{stalls}
+use Rattle.lockstep_defs.specs.{Machine.is_over, Machine.nobody, Channels.stalls}
 use Rattle.lockstep_defs.specs.Lockstep.{moves, state, state_at, requests_of}
 use Rattle.std.specs.List.{list_any}
 use Rattle.lockstep_defs.proofs.Agrees.{all_modules, state_at-suc}
-use Rattle.stall_spans.specs.declared.span.Span.{Span}
-use Rattle.stall_spans.specs.declared.span.Doing.{Doing}
+use Rattle.stall_spans.specs.{declared.span.Span.Span, declared.span.Doing.Doing, Doings.doing, Doings.doing_by, Doings.blocker}
+use Rattle.stall_spans.specs.{Spans.AreSpansBelow, Totals.is_moving, Totals.clocks_in, Totals.span_clocks, Totals.spans_clocks}
 use Rattle.stall_spans.specs.declared.span.Doing.TheVariants.{Moves, Still}
-use Rattle.stall_spans.specs.Doings.{doing, doing_by, blocker}
-use Rattle.stall_spans.specs.Spans.{AreSpansBelow}
-use Rattle.stall_spans.proofs.Lists.{span, span_is, member_last}
+use Rattle.stall_spans.proofs.{Lists.span, Lists.span_is, Lists.member_last, Causes.over-doing}
 use Rattle.stall_spans.proofs.Extending.{Listed, listed_spans, only_spans, span_more, span_longer, span_over, span_none, Does, some_same}
-use Rattle.stall_spans.specs.Totals.{is_moving, clocks_in, span_clocks, spans_clocks}
 use Rattle.stall_spans.proofs.Counting.{clocks_none, clocks_over, clocks_done}
-use Rattle.std.proofs.lemmas.List.Sums.{sum_by_push}
-use Rattle.stall_spans.proofs.Causes.{over-doing}
 
 -- ---- a module that is over stays so
 

@@ -1,13 +1,9 @@
 -- Spans that go on from where they come to.
-use Rattle.std.proofs.Common.{◌≡◌, ◌≢◌, ℕ, suc, ◌+◌, ◌-◌, ◌<◌, List, [], ◌∷◌, ◌++◌, refl, sym, ap, ◌∙◌, subst, arith, length}
-use Rattle.std.proofs.Common.{take, get_or}
+use Rattle.std.proofs.Common.{◌≡◌, ◌≢◌, ℕ, suc, ◌+◌, ◌-◌, ◌<◌, List, [], ◌∷◌, ◌++◌, refl, sym, ap, ◌∙◌, subst, arith, length, take, get_or}
 use Rattle.std.proofs.Common.{Some, inl, inr}
 use Rattle.std.proofs.lemmas.Bool.{cases_lt}
 use Rattle.flow_design.specs.declared.plan.Plan.{Plan}
-use Rattle.stall_spans.specs.declared.span.Span.{Span}
-use Rattle.stall_spans.specs.declared.span.Doing.{Doing}
-use Rattle.stall_spans.specs.Doings.{doing}
-use Rattle.stall_spans.specs.Spans.{AreSpansBelow}
+use Rattle.stall_spans.specs.{declared.span.Span.Span, declared.span.Doing.Doing, Doings.doing, Spans.AreSpansBelow}
 use Rattle.stall_spans.specs.Coming.{last_span, reached, Comes, Does}
 use Rattle.stall_spans.proofs.Lists.{span, Member, member_last}
 use Rattle.stall_spans.proofs.Extending.{Listed, listed_spans, spans_listed, span_more, span_longer, some_same}

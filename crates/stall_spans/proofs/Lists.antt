@@ -1,10 +1,8 @@
 -- Lists of spans in order.
 use Rattle.std.proofs.Common.{◌≡◌, ℕ, zero, suc, ◌<◌, ◌≤◌, List, [], ◌∷◌, ◌++◌, refl, sym, ap, ap₂, ◌∙◌, subst, arith, ◌⊎◌, inl, inr}
-use Rattle.std.specs.List.{AllByRecursion, AllPairs, Contains}
 use Rattle.std.proofs.lemmas.List.Elements.{All-from_recursion, recursion_from_All}
-use Rattle.stall_spans.specs.declared.span.Span.{Span}
-use Rattle.stall_spans.specs.declared.span.Doing.{Doing}
-use Rattle.stall_spans.specs.Spans.{IsBefore}
+use Rattle.std.specs.List.{AllByRecursion, AllPairs, Contains}
+use Rattle.stall_spans.specs.{declared.span.Span.Span, declared.span.Doing.Doing, Spans.IsBefore}
 
 abbrev pub span : ℕ → ℕ → Doing → Span
 span first until doing = record { first = first; until = until; doing = doing }

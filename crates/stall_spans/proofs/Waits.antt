@@ -2,17 +2,10 @@
 use Rattle.std.proofs.Common.{◌≡◌, ℕ, ◌<◌, ◌≤◌, true, List, [], ◌∷◌, sym, ◌∙◌, arith}
 use Rattle.event_timing.specs.Machines.{Design, IsDesign, Access, Each, ready}
 use Rattle.event_timing.specs.Histories.{Trace, IsHistory, moves, is_possible}
-use Rattle.event_timing.specs.Steps.{done}
-use Rattle.event_timing.specs.Views.{View, Agrees, from, own, tally}
-use Rattle.event_timing.specs.Enablers.{Known, answer}
-use Rattle.event_timing.specs.Core.{Core, view, core_accesses, core_reply}
-use Rattle.event_timing.specs.Agreement.{IsAgreed}
-use Rattle.event_timing.specs.Actions.{IsFinal}
+use Rattle.event_timing.specs.{Steps.done, Views.View, Views.Agrees, Views.from, Views.own, Views.tally, Enablers.Known, Enablers.answer}
+use Rattle.event_timing.specs.{Core.Core, Core.view, Core.core_accesses, Core.core_reply, Agreement.IsAgreed, Actions.IsFinal}
 use Rattle.event_timing.proofs.Threshold.{taken_view, Means, known_means}
-use Rattle.event_timing.proofs.Candidate.{EachMeans}
-use Rattle.event_timing.proofs.Earliest.{answer_late}
-use Rattle.event_timing.proofs.Fronts.{agrees}
-use Rattle.event_timing.proofs.Agreement.{final_complete}
+use Rattle.event_timing.proofs.{Candidate.EachMeans, Earliest.answer_late, Fronts.agrees, Agreement.final_complete}
 use Rattle.stall_spans.specs.CoreDoings.{known_in, arrives}
 use Rattle.stall_spans.proofs.Placed.{moves_before, stands_at, at_step, at_last, moves_then}
 

@@ -1,11 +1,8 @@
 -- Spans that go up to a clock.
 use Rattle.std.specs.Prelude.{ℕ, ◌≡◌, ◌-◌, ◌<◌, ◌≤◌, List, length, slice_index_or, Some}
 use Rattle.flow_design.specs.declared.plan.Plan.{Plan}
-use Rattle.stall_spans.specs.declared.span.Doing.{Doing}
+use Rattle.stall_spans.specs.{declared.span.Doing.Doing, declared.span.Span.Span, Doings.doing, Spans.AreSpansBelow}
 use Rattle.stall_spans.specs.declared.span.Doing.TheVariants.{Moves}
-use Rattle.stall_spans.specs.declared.span.Span.{Span}
-use Rattle.stall_spans.specs.Doings.{doing}
-use Rattle.stall_spans.specs.Spans.{AreSpansBelow}
 
 -- the last of these spans, or a span without a clock where there is none
 abbrev pub last_span : List Span → Span

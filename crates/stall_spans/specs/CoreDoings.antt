@@ -1,16 +1,11 @@
 -- What a core tells about a module's clocks, by its steps and accesses.
 use Rattle.std.specs.Prelude.{ℕ, ◌+◌, Bool, not, ◌&&◌, Option, Some, None, find}
 use Rattle.flow_word.specs.Kinds.{is_blocking}
-use Rattle.flow_design.specs.declared.plan.Plan.{Plan}
-use Rattle.flow_design.specs.declared.state.ModuleState.{ModuleState}
-use Rattle.flow_design.specs.declared.state.Request.{Request}
+use Rattle.flow_design.specs.{declared.plan.Plan.Plan, declared.state.ModuleState.ModuleState, declared.state.Request.Request}
 use Rattle.lockstep_defs.specs.Lockstep.{requests_of}
-use Rattle.event_timing.specs.Machines.{Design, Access}
-use Rattle.event_timing.specs.Views.{View, tally, from, own}
-use Rattle.event_timing.specs.Enablers.{Known, known, answer}
-use Rattle.event_timing.specs.Core.{Core, core_reply, core_accesses, view}
-use Rattle.stall_spans.specs.declared.span.Doing.{Doing}
-use Rattle.stall_spans.specs.declared.span.Doing.TheVariants.{Moves, Still}
+use Rattle.event_timing.specs.{Machines.Design, Machines.Access, Views.View, Views.tally, Views.from, Views.own, Enablers.Known}
+use Rattle.event_timing.specs.{Enablers.known, Enablers.answer, Core.Core, Core.core_reply, Core.core_accesses, Core.view}
+use Rattle.stall_spans.specs.{declared.span.Doing.Doing, declared.span.Doing.TheVariants.Moves, declared.span.Doing.TheVariants.Still}
 use Rattle.timing_bridge.specs.Designs.{design, seen}
 
 -- what is known of an access of module m's step k

@@ -1,10 +1,8 @@
 -- The spans of a module.
 use Rattle.std.specs.Prelude.{ℕ, ◌≡◌, ◌≢◌, ◌+◌, ◌<◌, ◌≤◌, ◌↔◌, Some, List, AllPairs, Contains}
-use Rattle.flow_design.specs.declared.plan.Plan.{Plan}
+use Rattle.flow_design.specs.{declared.plan.Plan.Plan, Reports.clock_of}
 use Rattle.lockstep_defs.specs.Verdict.{verdict}
-use Rattle.flow_design.specs.Reports.{clock_of}
-use Rattle.stall_spans.specs.declared.span.Span.{Span}
-use Rattle.stall_spans.specs.Doings.{doing}
+use Rattle.stall_spans.specs.{declared.span.Span.Span, Doings.doing}
 
 -- a maximal interval of clocks below `end` in which module i does the same throughout
 pub record IsSpan (p : Plan) (i end : ℕ) (s : Span) : Type 0 where

@@ -1,15 +1,10 @@
 //! The laws of spans.
-ghost use Rattle.std.specs.Prelude.{ℕ, ◌≡◌, ◌≢◌, ◌+◌, ◌<◌, Bool, None, Contains, length, slice_index_or, sum_by};
-ghost use Rattle.std.specs.Prelude.{List as Items};
+ghost use Rattle.std.specs.Prelude.{ℕ, ◌≡◌, ◌≢◌, ◌+◌, ◌<◌, Bool, None, Contains, length, slice_index_or, sum_by, List as Items};
 ghost use Rattle.std.specs.List.{AllAdjacentBelow, range_with_len};
 ghost use Rattle.flow_word.specs.declared.access.Side.TheVariants.{Pop, Push};
-ghost use Rattle.flow_design.specs.declared.plan.Plan.{Plan};
-ghost use Rattle.flow_design.specs.StaticRules.{FitsEngine};
-ghost use Rattle.stall_spans.specs.declared.span.Doing.{Doing};
-ghost use Rattle.stall_spans.specs.declared.span.Span.{Span};
-ghost use Rattle.stall_spans.specs.Doings.{doing};
+ghost use Rattle.flow_design.specs.{declared.plan.Plan.Plan, StaticRules.FitsEngine};
+ghost use Rattle.stall_spans.specs.{declared.span.Doing.Doing, declared.span.Span.Span, Doings.doing, Spans.AreSpansBelow};
 ghost use Rattle.stall_spans.specs.Covers.{HasClock, GoesOnFrom};
-ghost use Rattle.stall_spans.specs.Spans.{AreSpansBelow};
 ghost use Rattle.stall_spans.specs.Totals.{clocks_in, moved_clocks, still_clocks, still_clocks_at, spans_clocks, IsOverFrom};
 
 /// A module has exactly one list of spans below a clock.

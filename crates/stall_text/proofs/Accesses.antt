@@ -1,38 +1,24 @@
 -- The clocks in which elements were moved at a port, by the operations of the history.
 use Rattle.std.proofs.Common.{◌≡◌, ℕ, zero, suc, ◌+◌, ◌<◌, ◌≤◌, List, [], ◌∷◌, ◌++◌, map, length, drop, Bool, true, false, ◌&&◌, ◌==◌, cond}
 use Rattle.std.proofs.Common.{refl, sym, ◌∙◌, ap, ap₂, subst, arith, slice_get, inl, inr, ltb, length-append, is_some, eqb}
-use Rattle.std.specs.Prelude.{AllPairs, All, length}
-use Rattle.std.specs.List.{flat_map, filter, AllByRecursion}
-use Rattle.std.proofs.Math.Seq.{drop-append_seam}
-use Rattle.std.proofs.lemmas.Bool.{cases_eq, eq-eqb, ne_eqb, lt-ltb, le-ltb}
-use Rattle.std.proofs.lemmas.List.{map-append}
-use Rattle.std.proofs.lemmas.List.Concat.{flat_map-append}
-use Rattle.std.proofs.lemmas.List.Elements.{filter-append, All-from_recursion}
-use Rattle.std.proofs.lemmas.List.Sums.{sum_by-append, sum_by-cons}
-use Rattle.flow_word.specs.declared.access.Kind.{Kind}
+use Rattle.std.proofs.{Math.Seq.drop-append_seam, lemmas.Bool.cases_eq, lemmas.Bool.eq-eqb, lemmas.Bool.ne_eqb, lemmas.Bool.lt-ltb}
+use Rattle.std.proofs.{lemmas.Bool.le-ltb, lemmas.List.map-append, lemmas.List.Concat.flat_map-append, lemmas.List.Elements.filter-append}
+use Rattle.std.proofs.{lemmas.List.Elements.All-from_recursion, lemmas.List.Sums.sum_by-append, lemmas.List.Sums.sum_by-cons}
+use Rattle.std.specs.{Prelude.AllPairs, Prelude.All, Prelude.length, List.flat_map, List.filter, List.AllByRecursion}
+use Rattle.flow_word.specs.{declared.access.Kind.Kind, declared.access.Port.Port, declared.access.Side.Side, Kinds.side_of, Kinds.same_side}
 use Rattle.flow_word.specs.declared.access.Kind.TheVariants.{Read, Write, TryRead, TryWrite, Empty, Full}
-use Rattle.flow_word.specs.declared.access.Port.{Port}
-use Rattle.flow_word.specs.declared.access.Side.{Side}
 use Rattle.flow_word.specs.declared.access.Side.TheVariants.{Pop, Push}
-use Rattle.flow_word.specs.Kinds.{side_of, same_side}
-use Rattle.flow_design.specs.declared.plan.Plan.{Plan}
-use Rattle.flow_design.specs.declared.state.ModuleState.{ModuleState}
-use Rattle.flow_design.specs.declared.state.Element.{Element}
-use Rattle.flow_design.specs.declared.state.Request.{Request}
-use Rattle.flow_design.specs.StaticRules.{FitsEngine}
-use Rattle.lockstep_defs.specs.Machine.{is_yes, value_in}
+use Rattle.flow_design.specs.{declared.plan.Plan.Plan, declared.state.ModuleState.ModuleState, declared.state.Element.Element}
+use Rattle.flow_design.specs.{declared.state.Request.Request, StaticRules.FitsEngine}
+use Rattle.lockstep_defs.specs.{Machine.is_yes, Machine.value_in, Ports.StandsAtPort}
 use Rattle.lockstep_defs.specs.Channels.{HistoryStep, Exchange, moved_value, moved, popped_value, pushed_value}
 use Rattle.lockstep_defs.specs.Lockstep.{requests_of, moves, answered, step_with, step_of, steps_in, numbered, state, history}
-use Rattle.lockstep_defs.specs.Ports.{StandsAtPort}
-use Rattle.lockstep_defs.proofs.Queue.{all-append}
-use Rattle.lockstep_defs.proofs.Order.{history_numbers}
+use Rattle.lockstep_defs.proofs.{Queue.all-append, Order.history_numbers}
 use Rattle.timing_bridge.proofs.Requests.{stand}
-use Rattle.fifo_fills.specs.Passed.{Act, acts_in, acts_before, acts, moved_in}
-use Rattle.fifo_fills.specs.Fills.{last_clock}
+use Rattle.fifo_fills.specs.{Passed.Act, Passed.acts_in, Passed.acts_before, Passed.acts, Passed.moved_in, Fills.last_clock}
 use Rattle.fifo_fills.proofs.Acts.{acts-zero, acts-suc, begins, early, late, moved_are}
 use Rattle.port_clocks.specs.Leads.{before}
-use Rattle.sim_core.specs.AccessLog.{logged, logged_in, log_of}
-use Rattle.sim_core.specs.declared.access_log.LoggedAccess.{LoggedAccess}
+use Rattle.sim_core.specs.{AccessLog.logged, AccessLog.logged_in, AccessLog.log_of, declared.access_log.LoggedAccess.LoggedAccess}
 use Rattle.stall_text.specs.Stalls.{moved_at, clocks_of}
 
 abbrev pub logged_act : Act → LoggedAccess

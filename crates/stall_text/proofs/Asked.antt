@@ -1,25 +1,18 @@
 -- The queries of a kind on each channel, access by access.
 use Rattle.std.proofs.Common.{◌≡◌, ◌≢◌, ℕ, ◌+◌, ◌^◌, ◌≤◌, ◌<◌, List, [], ◌∷◌, ◌++◌, length, take, set, replicate, Bool, true, false, ◌&&◌}
-use Rattle.std.proofs.Common.{◌==◌, cond}
-use Rattle.std.proofs.Common.{refl, sym, ◌∙◌, ap, ap₂, subst, arith, get_or, inl, inr, eqb, length-append, length-set}
-use Rattle.std.specs.Prelude.{count_by}
-use Rattle.std.specs.List.{filter, AllByRecursion}
+use Rattle.std.proofs.Common.{◌==◌, cond, refl, sym, ◌∙◌, ap, ap₂, subst, arith, get_or, inl, inr, eqb, length-append, length-set}
 use Rattle.std.proofs.lemmas.Bool.{cases_eq, eq-eqb, ne_eqb, and_parts, eqb-true}
 use Rattle.std.proofs.lemmas.List.{append-nil, length-take-le, take_more, get_or-set_same, get_or-set_other, get_or-replicate}
 use Rattle.std.proofs.lemmas.List.{length-replicate}
 use Rattle.std.proofs.lemmas.List.Elements.{filter-append}
 use Rattle.std.proofs.lemmas.List.Sums.{count_by-le-length, length-filter, sum_by_push}
-use Rattle.flow_word.specs.declared.access.Kind.{Kind}
+use Rattle.std.specs.{Prelude.count_by, List.filter, List.AllByRecursion}
+use Rattle.flow_word.specs.{declared.access.Kind.Kind, declared.access.Side.Side, Kinds.side_of}
 use Rattle.flow_word.specs.declared.access.Kind.TheVariants.{TryRead, TryWrite, Empty, Full}
-use Rattle.flow_word.specs.declared.access.Side.{Side}
-use Rattle.flow_word.specs.Kinds.{side_of}
-use Rattle.flow_design.specs.declared.plan.Plan.{Plan}
-use Rattle.flow_design.specs.StaticRules.{FitsEngine}
+use Rattle.flow_design.specs.{declared.plan.Plan.Plan, StaticRules.FitsEngine}
 use Rattle.lockstep_defs.specs.Ports.{owner}
-use Rattle.report_text.specs.Lines.{Token}
-use Rattle.report_text.specs.ReportText.{module_name, channel_name}
-use Rattle.sim_core.specs.AccessLog.{log_of}
-use Rattle.sim_core.specs.declared.access_log.LoggedAccess.{LoggedAccess}
+use Rattle.report_text.specs.{Lines.Token, ReportText.module_name, ReportText.channel_name}
+use Rattle.sim_core.specs.{AccessLog.log_of, declared.access_log.LoggedAccess.LoggedAccess}
 use Rattle.stall_text.specs.declared.queries.Queries.{Queries}
 use Rattle.stall_text.specs.Polls.{asks, is_missed, query_lines, same_query, tries_of}
 use Rattle.stall_text.specs.Polling.{asked_at, asked_by, own_queries, queries_in, unasked, AreAsked}

@@ -1,30 +1,22 @@
 -- How full a FIFO is, by the clocks in which elements were pushed on it and popped off it.
 use Rattle.std.proofs.Common.{◌≡◌, ℕ, zero, suc, ◌+◌, ◌-◌, ◌<◌, ◌≤◌, ◌^◌, List, [], ◌∷◌, map, length, Bool, true, false, ◌&&◌, not, cond}
-use Rattle.std.proofs.Common.{max}
-use Rattle.std.proofs.Common.{refl, sym, ◌∙◌, ap, ap₂, arith, get_or, ltb, leb, inl, inr, length-append}
-use Rattle.std.specs.Prelude.{All, AllPairs}
-use Rattle.std.specs.List.{fold, range_with_len, count_by}
+use Rattle.std.proofs.Common.{max, refl, sym, ◌∙◌, ap, ap₂, arith, get_or, ltb, leb, inl, inr, length-append}
 use Rattle.std.proofs.lemmas.Bool.{cases_lt, lt-ltb, le-ltb, le-leb, lt-leb}
-use Rattle.std.proofs.lemmas.List.{length-map, get_or-map}
-use Rattle.std.proofs.lemmas.List.Sums.{sum_by-cons}
+use Rattle.std.proofs.{lemmas.List.length-map, lemmas.List.get_or-map, lemmas.List.Sums.sum_by-cons}
+use Rattle.std.specs.{Prelude.All, Prelude.AllPairs, List.fold, List.range_with_len, List.count_by}
 use Rattle.flow_word.specs.declared.access.Side.TheVariants.{Pop, Push}
-use Rattle.flow_design.specs.declared.design.ChannelKind.{ChannelKind}
+use Rattle.flow_design.specs.{declared.design.ChannelKind.ChannelKind, declared.plan.Plan.Plan, declared.state.Element.Element}
 use Rattle.flow_design.specs.declared.design.ChannelKind.TheVariants.{Source, Sink, Fifo}
 use Rattle.flow_design.specs.declared.limits.TheConstants.{CYCLES, FIFO_DELAY, FIFO_DEPTH}
-use Rattle.flow_design.specs.declared.plan.Plan.{Plan}
-use Rattle.flow_design.specs.declared.state.Element.{Element}
 use Rattle.flow_design.specs.Plans.{is_fifo, kind_at, delay_at, delay_of}
 use Rattle.flow_design.specs.StaticRules.{AreEntriesSound, FitsEngine}
 use Rattle.lockstep_defs.specs.Channels.{moved, values, contents_of, is_empty, is_full}
-use Rattle.lockstep_defs.specs.Lockstep.{state, history}
-use Rattle.lockstep_defs.specs.Laws.{all_in}
+use Rattle.lockstep_defs.specs.{Lockstep.state, Lockstep.history, Laws.all_in}
 use Rattle.lockstep_defs.proofs.Counts.{is_counted, delay_positive, fifo_opens_empty}
 use Rattle.fifo_fills.specs.Fills.{fill, last_clock}
-use Rattle.port_clocks.specs.Leads.{before, is_ahead, ahead_clocks, most_ahead}
-use Rattle.port_clocks.specs.Clocks.{ArePortClocks}
+use Rattle.port_clocks.specs.{Leads.before, Leads.is_ahead, Leads.ahead_clocks, Leads.most_ahead, Clocks.ArePortClocks}
 use Rattle.port_clocks.proofs.Filled.{fill_told}
-use Rattle.stall_text.specs.Stalls.{most, empty_clocks, full_clocks}
-use Rattle.stall_text.specs.Filling.{later, empty_by}
+use Rattle.stall_text.specs.{Stalls.most, Stalls.empty_clocks, Stalls.full_clocks, Filling.later, Filling.empty_by}
 
 -- ---- clocks that come later
 

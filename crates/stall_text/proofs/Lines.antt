@@ -1,19 +1,13 @@
 -- Lines that grow.
 use Rattle.std.proofs.Common.{◌≡◌, ◌≢◌, ℕ, zero, suc, ◌+◌, ◌<◌, List, [], ◌∷◌, ◌++◌, refl, sym, ap, ap₂, ◌∙◌, arith, length, get_or}
-use Rattle.std.proofs.Common.{append_assoc}
-use Rattle.std.proofs.Common.{Bool, true, false, cond, map}
-use Rattle.std.specs.Prelude.{codes, decimal}
-use Rattle.std.specs.List.{flat_map, filter, range_with_len}
-use Rattle.std.proofs.lemmas.Bool.{ne_eqb}
-use Rattle.std.proofs.lemmas.List.{append-nil, map-append}
-use Rattle.std.proofs.lemmas.List.Elements.{filter-append}
-use Rattle.flow_word.specs.declared.access.Side.{Side}
+use Rattle.std.proofs.Common.{append_assoc, Bool, true, false, cond, map}
+use Rattle.std.proofs.{lemmas.Bool.ne_eqb, lemmas.List.append-nil, lemmas.List.map-append, lemmas.List.Elements.filter-append}
+use Rattle.std.specs.{Prelude.codes, Prelude.decimal, List.flat_map, List.filter, List.range_with_len}
+use Rattle.flow_word.specs.{declared.access.Side.Side, declared.access.Kind.Kind, Kinds.is_blocking}
 use Rattle.flow_word.specs.declared.access.Side.TheVariants.{Pop, Push}
+use Rattle.flow_word.specs.declared.access.Kind.TheVariants.{TryRead, TryWrite, Empty, Full}
 use Rattle.report_text.specs.Lines.{Token, line, text_of_lines}
 use Rattle.report_text.proofs.LineLemmas.{line_of_five, text-append, numbers_more}
-use Rattle.flow_word.specs.declared.access.Kind.{Kind}
-use Rattle.flow_word.specs.declared.access.Kind.TheVariants.{TryRead, TryWrite, Empty, Full}
-use Rattle.flow_word.specs.Kinds.{is_blocking}
 use Rattle.stall_text.specs.Polls.{query_word, query_lines, at_each_query}
 use Rattle.stall_text.specs.StallText.{side_word, cause_word, cause_lines, port_lines, last_of, at_each_side}
 use Rattle.flow_word.proofs.Ranges.{range_last}

@@ -1,27 +1,21 @@
 -- How a module polls, access by access.
-use Rattle.std.proofs.Common.{◌≡◌, ◌≢◌, ℕ, zero, suc, ◌+◌, ◌^◌, ◌≤◌, ◌<◌, List, [], ◌∷◌, ◌++◌, length, take, set, replicate, Bool}
-use Rattle.std.proofs.Common.{true, false}
-use Rattle.std.proofs.Common.{◌&&◌, ◌||◌, ◌==◌, not, cond, fold, Option, Some, None, refl, sym, ◌∙◌, ap, ap₂, subst, arith, get_or, inl}
-use Rattle.std.proofs.Common.{inr}
-use Rattle.std.proofs.Common.{append_assoc, length-set}
-use Rattle.std.specs.Prelude.{count_by}
-use Rattle.std.specs.List.{filter, list_any, range_with_len, AllByRecursion}
+use Rattle.std.proofs.Common.{◌≡◌, ◌≢◌, ℕ, zero, suc, ◌+◌, ◌^◌, ◌≤◌, ◌<◌, List, [], ◌∷◌, ◌++◌, length, take, set, replicate, Bool, true}
+use Rattle.std.proofs.Common.{false, ◌&&◌, ◌||◌, ◌==◌, not, cond, fold, Option, Some, None, refl, sym, ◌∙◌, ap, ap₂, subst, arith, get_or}
+use Rattle.std.proofs.Common.{inl, inr, append_assoc, length-set}
 use Rattle.std.proofs.lemmas.Bool.{cases_eq, eq-eqb, ne_eqb}
 use Rattle.std.proofs.lemmas.List.{append-nil, length-take-le, take_more, get_or-set_same, get_or-set_other, get_or-replicate}
 use Rattle.std.proofs.lemmas.List.{length-replicate}
-use Rattle.std.proofs.lemmas.List.Elements.{filter-append}
-use Rattle.std.proofs.lemmas.List.Folds.{list_any-append}
+use Rattle.std.proofs.{lemmas.List.Elements.filter-append, lemmas.List.Folds.list_any-append}
 use Rattle.std.proofs.lemmas.List.Sums.{count_by-le-length, fold-append, length-filter, sum_by-cons}
+use Rattle.std.specs.{Prelude.count_by, List.filter, List.list_any, List.range_with_len, List.AllByRecursion}
 use Rattle.lockstep_defs.proofs.Queue.{all-append}
 use Rattle.flow_design.specs.declared.plan.Plan.{Plan}
-use Rattle.fifo_fills.specs.Fills.{last_clock}
-use Rattle.fifo_fills.specs.Passed.{acts}
+use Rattle.fifo_fills.specs.{Fills.last_clock, Passed.acts}
 use Rattle.fifo_fills.proofs.Acts.{early}
 use Rattle.sim_core.specs.declared.access_log.LoggedAccess.{LoggedAccess}
-use Rattle.stall_text.specs.declared.polls.Polling.{Polling}
+use Rattle.stall_text.specs.{declared.polls.Polling.Polling, Stalls.clocks_of}
 use Rattle.stall_text.specs.Polls.{is_missed, is_of, accesses_of, polls_in, polled_clocks}
 use Rattle.stall_text.specs.Polling.{unpolled, one_if, polled_so_far, is_last, polling_with, polling_of, ArePollings}
-use Rattle.stall_text.specs.Stalls.{clocks_of}
 use Rattle.stall_text.proofs.Accesses.{Climbs, climbs, clock_list, all_clocks, log_is}
 
 -- ---- counts that differ in one clock

@@ -1,25 +1,15 @@
 -- The clocks of spans, span by span.
 use Rattle.std.proofs.Common.{◌≡◌, ℕ, ◌<◌, ◌≤◌, List, ◌^◌, ap, ◌∙◌, arith, length, get_or, Bool, Some}
-use Rattle.std.specs.Prelude.{All}
-use Rattle.std.specs.List.{range_with_len}
-use Rattle.std.proofs.lemmas.List.{get_or_default}
-use Rattle.std.proofs.lemmas.List.Sums.{count_by-le-length}
-use Rattle.std.proofs.lemmas.List.FromFn.{length-range_with_len}
-use Rattle.flow_design.specs.declared.plan.Plan.{Plan}
-use Rattle.flow_design.specs.StaticRules.{FitsEngine}
+use Rattle.std.proofs.{lemmas.List.get_or_default, lemmas.List.Sums.count_by-le-length, lemmas.List.FromFn.length-range_with_len}
+use Rattle.std.specs.{Prelude.All, List.range_with_len}
+use Rattle.flow_design.specs.{declared.plan.Plan.Plan, StaticRules.FitsEngine}
 use Rattle.fifo_fills.specs.Fills.{last_clock}
 use Rattle.flow_word.specs.declared.access.Side.{Side}
-use Rattle.stall_spans.specs.declared.span.Doing.{Doing}
+use Rattle.stall_spans.specs.{declared.span.Doing.Doing, declared.span.Span.Span, Doings.doing, Spans.AreSpans}
 use Rattle.stall_spans.specs.declared.span.Doing.TheVariants.{Moves, Still}
-use Rattle.stall_spans.specs.declared.span.Span.{Span}
-use Rattle.stall_spans.specs.Doings.{doing}
-use Rattle.stall_spans.specs.Spans.{AreSpans}
 use Rattle.stall_spans.specs.Totals.{spans_clocks, is_still_at, passes, clocks_in, still_clocks_at}
-use Rattle.stall_spans.proofs.Existing.{counted_spans}
+use Rattle.stall_spans.proofs.{Existing.counted_spans, Adding.cause_inside, Lists.contains_member, Extending.spans_listed}
 use Rattle.fifo_fills.proofs.Ending.{last_within}
-use Rattle.stall_spans.proofs.Adding.{cause_inside}
-use Rattle.stall_spans.proofs.Lists.{contains_member}
-use Rattle.stall_spans.proofs.Extending.{spans_listed}
 use Rattle.stall_text.specs.Causes.{IsInside}
 
 -- of each channel the clocks in which the module stands still at this side

@@ -1,25 +1,17 @@
 -- Whose accesses those of a log are, and the clocks of each port.
-use Rattle.std.proofs.Common.{◌≡◌, ◌≢◌, ℕ, ◌+◌, ◌-◌, List, [], ◌∷◌, ◌++◌, map, Bool, true, false, ◌&&◌, ◌==◌, cond}
-use Rattle.std.proofs.Common.{refl, sym, ◌∙◌, ap, ap₂, subst, arith, inl, inr, is_some, eqb}
-use Rattle.std.specs.Prelude.{IfOk, Result, Ok, Err}
-use Rattle.std.specs.List.{filter, AllByRecursion}
+use Rattle.std.proofs.Common.{◌≡◌, ◌≢◌, ℕ, ◌+◌, ◌-◌, List, [], ◌∷◌, ◌++◌, map, Bool, true, false, ◌&&◌, ◌==◌, cond, refl, sym, ◌∙◌, ap, ap₂}
+use Rattle.std.proofs.Common.{subst, arith, inl, inr, is_some, eqb}
 use Rattle.std.proofs.lemmas.Bool.{cases_eq, eq-eqb, ne_eqb, and_parts, eqb-true}
-use Rattle.flow_word.specs.declared.access.Port.{Port}
-use Rattle.flow_word.specs.declared.access.Side.{Side}
-use Rattle.flow_word.specs.Kinds.{side_of, same_side}
-use Rattle.flow_design.specs.declared.plan.Plan.{Plan}
-use Rattle.flow_design.specs.StaticRules.{FitsEngine, same_port}
+use Rattle.std.specs.{Prelude.IfOk, Prelude.Result, Prelude.Ok, Prelude.Err, List.filter, List.AllByRecursion}
+use Rattle.flow_word.specs.{declared.access.Port.Port, declared.access.Side.Side, Kinds.side_of, Kinds.same_side}
+use Rattle.flow_design.specs.{declared.plan.Plan.Plan, StaticRules.FitsEngine, StaticRules.same_port}
 use Rattle.lockstep_defs.specs.Ports.{owner}
 use Rattle.event_timing.proofs.OwnRuns.{same_side_is}
-use Rattle.fifo_fills.specs.Passed.{Act, acts, acts_before}
-use Rattle.fifo_fills.specs.Fills.{last_clock, moved_before}
-use Rattle.port_clocks.specs.Leads.{before}
-use Rattle.port_clocks.specs.Clocks.{ArePortClocks}
+use Rattle.fifo_fills.specs.{Passed.Act, Passed.acts, Passed.acts_before, Fills.last_clock, Fills.moved_before}
+use Rattle.port_clocks.specs.{Leads.before, Clocks.ArePortClocks}
 use Rattle.port_clocks.proofs.Filled.{one_list}
-use Rattle.sim_core.specs.AccessLog.{log_of}
-use Rattle.sim_core.specs.declared.access_log.LoggedAccess.{LoggedAccess}
-use Rattle.stall_text.specs.Stalls.{moved_at, clocks_of, port_clocks}
-use Rattle.stall_text.specs.Polling.{last_module}
+use Rattle.sim_core.specs.{AccessLog.log_of, declared.access_log.LoggedAccess.LoggedAccess}
+use Rattle.stall_text.specs.{Stalls.moved_at, Stalls.clocks_of, Stalls.port_clocks, Polling.last_module}
 use Rattle.stall_text.proofs.Accesses.{on, logged_act, log_is, clock_list, counted_before, list_rises, list_below, ActStands, all_stand}
 
 -- ---- the last access

@@ -1,42 +1,29 @@
 -- The whole text, and the lines of a module and of a FIFO.
-use Rattle.std.proofs.Common.{◌≡◌, ℕ, ◌+◌, ◌<◌, ◌≤◌, Bool, true, false, Option, Some, None, cond, is_some, List, [], ◌++◌, refl, sym, ap, ap₂}
-use Rattle.std.proofs.Common.{◌∙◌, arith, length, map, get_or, append_assoc, subst}
+use Rattle.std.proofs.Common.{◌≡◌, ℕ, ◌+◌, ◌<◌, ◌≤◌, Bool, true, false, Option, Some, None, cond, is_some, List, [], ◌++◌, refl, sym, ap}
+use Rattle.std.proofs.Common.{ap₂, ◌∙◌, arith, length, map, get_or, append_assoc, subst}
 use Rattle.std.specs.Prelude.{codes, IfOk, IfSome, Result, Ok, Err}
 use Rattle.std.specs.List.{flat_map, range_with_len}
-use Rattle.flow_word.specs.declared.access.Side.{Side}
+use Rattle.flow_word.specs.{declared.access.Side.Side, declared.access.Kind.Kind, Kinds.is_blocking}
 use Rattle.flow_word.specs.declared.access.Side.TheVariants.{Pop, Push}
-use Rattle.flow_word.specs.declared.access.Kind.{Kind}
 use Rattle.flow_word.specs.declared.access.Kind.TheVariants.{Read, Write, TryRead, TryWrite, Empty, Full}
-use Rattle.flow_word.specs.Kinds.{is_blocking}
-use Rattle.flow_design.specs.declared.design.ChannelKind.{ChannelKind}
-use Rattle.flow_design.specs.declared.design.ChannelKind.TheVariants.{Fifo}
-use Rattle.flow_design.specs.declared.limits.TheConstants.{CYCLES}
-use Rattle.flow_design.specs.declared.plan.Plan.{Plan}
-use Rattle.flow_design.specs.declared.report.Verdict.{Verdict}
-use Rattle.flow_design.specs.Plans.{delay_at, delay_of, is_fifo, kind_at}
-use Rattle.flow_design.specs.StaticRules.{FitsEngine}
+use Rattle.flow_design.specs.{declared.design.ChannelKind.ChannelKind, declared.design.ChannelKind.TheVariants.Fifo}
+use Rattle.flow_design.specs.{declared.limits.TheConstants.CYCLES, declared.plan.Plan.Plan, declared.report.Verdict.Verdict, Plans.delay_at}
+use Rattle.flow_design.specs.{Plans.delay_of, Plans.is_fifo, Plans.kind_at, StaticRules.FitsEngine}
 use Rattle.lockstep_defs.specs.Verdict.{verdict}
-use Rattle.sim_core.specs.AccessLog.{log_of}
-use Rattle.sim_core.specs.declared.access_log.LoggedAccess.{LoggedAccess}
+use Rattle.sim_core.specs.{AccessLog.log_of, declared.access_log.LoggedAccess.LoggedAccess}
 use Rattle.report_text.specs.Lines.{Token, line, text_of_lines, verdict_tokens}
 use Rattle.report_text.specs.ReportText.{module_name, channel_name}
 use Rattle.report_text.proofs.LineLemmas.{text-append, numbers_more}
 use Rattle.fifo_fills.specs.Fills.{fifos, last_clock}
 use Rattle.fifo_fills.proofs.Ending.{last_within}
-use Rattle.port_clocks.specs.Leads.{most_ahead, ahead_clocks}
-use Rattle.port_clocks.specs.Clocks.{ArePortClocks}
+use Rattle.port_clocks.specs.{Leads.most_ahead, Leads.ahead_clocks, Clocks.ArePortClocks}
 use Rattle.stall_spans.specs.Totals.{moved_clocks, still_clocks, still_clocks_at}
-use Rattle.stall_text.specs.declared.fifos.Filling.{Filling}
-use Rattle.stall_text.specs.declared.polls.Polls.{Polls}
+use Rattle.stall_text.specs.{declared.fifos.Filling.Filling, declared.polls.Polls.Polls, Causes.causes_by, Filling.empty_by}
+use Rattle.stall_text.specs.{Filling.IsFilling, Polls.poll_lines, Polls.polls_lines, Polls.tries_of}
 use Rattle.stall_text.specs.StallText.{module_tokens, cause_lines, at_each_side, causes_of, ports_of, clock_lines, module_lines}
 use Rattle.stall_text.specs.StallText.{fifo_tokens, fifo_line, stalls_text}
-use Rattle.stall_text.specs.Causes.{causes_by}
-use Rattle.stall_text.specs.Filling.{empty_by, IsFilling}
-use Rattle.stall_text.specs.Polls.{poll_lines, polls_lines, tries_of}
 use Rattle.stall_text.specs.Polling.{ArePollings, ArePollsOf, AreQueries, HavePolls, all_queries, polled_so_far, polling_lines}
-use Rattle.stall_text.proofs.Lines.{same_sides, same_queries, two_more}
-use Rattle.stall_text.proofs.Asked.{own_tries}
-use Rattle.stall_text.proofs.Polled.{polled_is}
+use Rattle.stall_text.proofs.{Lines.same_sides, Lines.same_queries, Lines.two_more, Asked.own_tries, Polled.polled_is}
 use Rattle.stall_text.proofs.Fills.{most_is, empty_clocks_are, full_clocks_are}
 
 pub clock_few : (p : Plan) → FitsEngine p → (clock : ℕ) → clock ≡ last_clock p → clock ≤ CYCLES

@@ -2,8 +2,7 @@
 use Rattle.std.specs.Prelude.{ℕ, ◌≡◌, ◌+◌, ◌-◌, List, map}
 use Rattle.flow_design.specs.declared.plan.Plan.{Plan}
 use Rattle.port_clocks.specs.Leads.{ahead_clocks}
-use Rattle.stall_text.specs.declared.fifos.Filling.{Filling}
-use Rattle.stall_text.specs.Stalls.{most, empty_clocks, full_clocks}
+use Rattle.stall_text.specs.{declared.fifos.Filling.Filling, Stalls.most, Stalls.empty_clocks, Stalls.full_clocks}
 
 -- each of these clocks, `by` clocks later
 abbrev pub later : ℕ → List ℕ → List ℕ

@@ -1,16 +1,13 @@
 -- The text of `stalls`.
 use Rattle.std.specs.Prelude.{ℕ, ◌==◌, Bool, if◌then◌else◌, List, [], ◌∷◌, ◌++◌, map, length, codes, decimal}
 use Rattle.std.specs.List.{flat_map, range_with_len}
-use Rattle.flow_word.specs.declared.access.Side.{Side}
-use Rattle.flow_word.specs.declared.access.Side.TheVariants.{Pop, Push}
+use Rattle.flow_word.specs.{declared.access.Side.Side, declared.access.Side.TheVariants.Pop, declared.access.Side.TheVariants.Push}
 use Rattle.flow_design.specs.declared.plan.Plan.{Plan}
 use Rattle.lockstep_defs.specs.Verdict.{verdict}
-use Rattle.report_text.specs.Lines.{Token, text_of_lines, verdict_tokens}
-use Rattle.report_text.specs.ReportText.{module_name, channel_name}
+use Rattle.report_text.specs.{Lines.Token, Lines.text_of_lines, Lines.verdict_tokens, ReportText.module_name, ReportText.channel_name}
 use Rattle.fifo_fills.specs.Fills.{fifos}
 use Rattle.stall_spans.specs.Totals.{moved_clocks, still_clocks, still_clocks_at}
-use Rattle.stall_text.specs.Stalls.{port_clocks, most, empty_clocks, full_clocks}
-use Rattle.stall_text.specs.Polls.{poll_lines}
+use Rattle.stall_text.specs.{Stalls.port_clocks, Stalls.most, Stalls.empty_clocks, Stalls.full_clocks, Polls.poll_lines}
 
 abbrev pub side_word : Side → Token
 side_word Pop = codes "pop"

@@ -1,6 +1,5 @@
 //! The lines of each module's clocks, and of the causes of its stalls.
-ghost use Rattle.std.specs.Prelude.{ℕ, ◌≡◌, ◌<◌, ◌≤◌, ◌^◌, ◌+◌, ◌++◌, Bool, length, slice_index};
-ghost use Rattle.std.specs.Prelude.{All, IfOk, OnOk};
+ghost use Rattle.std.specs.Prelude.{ℕ, ◌≡◌, ◌<◌, ◌≤◌, ◌^◌, ◌+◌, ◌++◌, Bool, length, slice_index, All, IfOk, OnOk};
 ghost use Rattle.report_text.specs.Lines.{line, text_of_lines};
 ghost use Rattle.report_text.specs.ReportText.{channel_name as channel_in, module_name as module_in};
 ghost use Rattle.stall_spans.specs.declared.span.Doing.{Doing};

@@ -1,6 +1,5 @@
 //! The lines that tell how full each FIFO is.
-ghost use Rattle.std.specs.Prelude.{◌≡◌, ◌<◌, ◌≤◌, ◌++◌, [], true, if◌then◌else◌, length, map, slice_index};
-ghost use Rattle.std.specs.Prelude.{All, IfOk, OnOk};
+ghost use Rattle.std.specs.Prelude.{◌≡◌, ◌<◌, ◌≤◌, ◌++◌, [], true, if◌then◌else◌, length, map, slice_index, All, IfOk, OnOk};
 ghost use Rattle.event_timing.specs.Actions.{IsFinal};
 ghost use Rattle.timing_bridge.specs.Designs.{design};
 ghost use Rattle.flow_design.specs.declared.limits.TheConstants.{CYCLES, FIFO_DELAY, FIFO_DEPTH};
@@ -10,8 +9,7 @@ ghost use Rattle.fifo_fills.specs.Fills.{fifos, last_clock};
 ghost use Rattle.sim_core.specs.Views.{theory_of};
 ghost use Rattle.port_clocks.specs.Leads as counts;
 ghost use Rattle.port_clocks.specs.Leads.{AreClocks};
-ghost use Rattle.stall_text.specs.StallText.{fifo_line, fifo_tokens};
-ghost use Rattle.stall_text.specs.Filling.{IsFilling, later, empty_by};
+ghost use Rattle.stall_text.specs.{StallText.fifo_line, StallText.fifo_tokens, Filling.IsFilling, Filling.later, Filling.empty_by};
 
 use flow_design::ChannelKind;
 use flow_word::{List, OutOfMemory, Port, Side, Words};

@@ -1,13 +1,11 @@
 //! How modules poll.
-ghost use Rattle.std.specs.Prelude.{◌≡◌, ◌<◌, ◌^◌, ◌++◌, length, replicate, slice_index_or, slice_set};
-ghost use Rattle.std.specs.Prelude.{All, IfOk, IfSome, OnOk, is_some};
+ghost use Rattle.std.specs.Prelude.{◌≡◌, ◌<◌, ◌^◌, ◌++◌, length, replicate, slice_index_or, slice_set, All, IfOk, IfSome, OnOk, is_some};
 ghost use Rattle.event_timing.specs.Actions.{IsFinal};
 ghost use Rattle.timing_bridge.specs.Designs.{design as design_of};
 ghost use Rattle.report_text.specs.Lines.{text_of_lines};
 ghost use Rattle.sim_core.specs.Views.{theory_of};
-ghost use Rattle.stall_text.specs.Polls.{polls_lines};
-ghost use Rattle.stall_text.specs.Polling.{ArePollings, ArePollsOf, HavePolls, kept_lines, polling_lines, unpolled};
-ghost use Rattle.stall_text.specs.Polling.{polled_so_far as polled, polling_with};
+ghost use Rattle.stall_text.specs.{Polls.polls_lines, Polling.ArePollings, Polling.ArePollsOf, Polling.HavePolls, Polling.kept_lines};
+ghost use Rattle.stall_text.specs.{Polling.polling_lines, Polling.unpolled, Polling.polled_so_far as polled, Polling.polling_with};
 
 use crate::queries::{AllQueries, all_queries, is_missed, print_queries};
 use flow_design::Design;

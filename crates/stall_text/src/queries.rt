@@ -1,6 +1,5 @@
 //! The queries of each kind on each channel, and their lines.
-ghost use Rattle.std.specs.Prelude.{◌≡◌, ◌≢◌, ◌<◌, ◌+◌, ◌^◌, ◌++◌, length, replicate, slice_set, slice_index_or};
-ghost use Rattle.std.specs.Prelude.{All, IfOk, OnOk};
+ghost use Rattle.std.specs.Prelude.{◌≡◌, ◌≢◌, ◌<◌, ◌+◌, ◌^◌, ◌++◌, length, replicate, slice_set, slice_index_or, All, IfOk, OnOk};
 ghost use Rattle.report_text.specs.Lines.{text_of_lines};
 ghost use Rattle.stall_text.specs.Polls as form;
 ghost use Rattle.stall_text.specs.Polling.{asked_by, unasked, own_queries, AreAsked, AreQueries, HaveChannels, all_queries as queries_in};

@@ -6,9 +6,8 @@ ghost use Rattle.timing_bridge.specs.Designs.{design as design_of};
 ghost use Rattle.sim_core.specs.Views.{theory_of};
 ghost use Rattle.fifo_fills.specs.Fills.{last_clock};
 ghost use Rattle.report_text.specs.Lines.{text_of_lines};
-ghost use Rattle.stall_text.specs.StallText.{module_lines};
+ghost use Rattle.stall_text.specs.{StallText.module_lines, Polling.ArePollsOf};
 ghost use Rattle.stall_text.specs.StallText as form;
-ghost use Rattle.stall_text.specs.Polling.{ArePollsOf};
 
 use crate::causes::{clocks_of, print_causes, print_clocks, still_clocks};
 use crate::fifos::print_fifos;

@@ -1,27 +1,14 @@
 -- What a walk has done begins the history, where all other steps come later.
-use Rattle.std.proofs.Common.{◌≡◌, ℕ, zero, suc, ◌+◌, ◌-◌, ◌<◌, ◌≤◌, List, [], ◌∷◌, ◌++◌, map, length, sym, ◌∙◌, ap, ap₂, refl}
-use Rattle.std.proofs.Common.{arith, inl, inr, ◌⊎◌, Bool, true, false, cond, get_or, eqb, leb, ltb, ◌||◌, ◌&&◌, length-append}
-use Rattle.std.specs.Prelude.{slice_index, All, AllPairs, ◌==◌}
-use Rattle.std.specs.List.{range_with_len, filter}
-use Rattle.std.proofs.lemmas.Bool.{cases_lt}
-use Rattle.std.proofs.lemmas.Bool.Decides.{nat_tests}
+use Rattle.std.proofs.Common.{◌≡◌, ℕ, zero, suc, ◌+◌, ◌-◌, ◌<◌, ◌≤◌, List, [], ◌∷◌, ◌++◌, map, length, sym, ◌∙◌, ap, ap₂, refl, arith, inl}
+use Rattle.std.proofs.Common.{inr, ◌⊎◌, Bool, true, false, cond, get_or, eqb, leb, ltb, ◌||◌, ◌&&◌, length-append}
+use Rattle.std.proofs.{lemmas.Bool.cases_lt, lemmas.Bool.Decides.nat_tests, lemmas.List.Kept.AllPairs-filter}
 use Rattle.std.proofs.lemmas.List.{get_or_append_left, get_or-append_right, map-append}
 use Rattle.std.proofs.lemmas.List.Elements.{filter-append, filter_passes, All-head, All-tail, All-weaker, All-filter}
-use Rattle.std.proofs.lemmas.List.Kept.{AllPairs-filter}
-use Rattle.flow_design.specs.declared.plan.Plan.{Plan}
-use Rattle.flow_design.specs.declared.state.ModuleState.{ModuleState}
-use Rattle.flow_design.specs.StaticRules.{FitsEngine}
-use Rattle.flow_design.specs.Reports.{clock_of}
-use Rattle.lockstep_defs.specs.Channels.{HistoryStep}
-use Rattle.lockstep_defs.specs.Lockstep.{history}
-use Rattle.lockstep_defs.specs.Laws.{IsBefore}
-use Rattle.lockstep_defs.specs.Report.{steps_of}
-use Rattle.lockstep_defs.specs.Verdict.{verdict}
-use Rattle.event_timing.specs.Core.{Core}
-use Rattle.event_timing.specs.Actions.{IsFinal}
-use Rattle.event_timing.specs.Agreement.{IsAgreed}
-use Rattle.timing_bridge.specs.Designs.{design, lockstep_run}
-use Rattle.timing_bridge.specs.CoreReports.{core_step}
+use Rattle.std.specs.{Prelude.slice_index, Prelude.All, Prelude.AllPairs, Prelude.◌==◌, List.range_with_len, List.filter}
+use Rattle.flow_design.specs.{declared.plan.Plan.Plan, declared.state.ModuleState.ModuleState, StaticRules.FitsEngine, Reports.clock_of}
+use Rattle.lockstep_defs.specs.{Channels.HistoryStep, Lockstep.history, Laws.IsBefore, Report.steps_of, Verdict.verdict}
+use Rattle.event_timing.specs.{Core.Core, Actions.IsFinal, Agreement.IsAgreed}
+use Rattle.timing_bridge.specs.{Designs.design, Designs.lockstep_run, CoreReports.core_step}
 use Rattle.timing_bridge.proofs.InOrder.{history_in_order, only_in_order, reported_history}
 use Rattle.step_order.specs.Walks.{IsEarly, IsWalked, AreLate}
 

@@ -1,28 +1,16 @@
 -- One step more, a later clock, and the end.
-use Rattle.std.proofs.Common.{◌≡◌, ℕ, suc, ◌+◌, ◌<◌, ◌≤◌, List, [], ◌∷◌, ◌++◌, map, length, sym, ◌∙◌, ap, ap₂}
-use Rattle.std.proofs.Common.{arith, inl, inr, ◌⊎◌}
+use Rattle.std.proofs.Common.{◌≡◌, ℕ, suc, ◌+◌, ◌<◌, ◌≤◌, List, [], ◌∷◌, ◌++◌, map, length, sym, ◌∙◌, ap, ap₂, arith, inl, inr, ◌⊎◌}
+use Rattle.std.proofs.{lemmas.Bool.cases_eq, lemmas.Bool.cases_lt, lemmas.Bool.Decides.nat_tests}
+use Rattle.std.proofs.lemmas.List.{length_push, get_or_append_left, get_or_push, get_or-set_same, get_or-set_other, get_or-replicate}
+use Rattle.std.proofs.lemmas.List.{get_or_past, map-append, length-replicate, append-nil}
+use Rattle.std.proofs.lemmas.List.Elements.{filter-append, All-weaker}
 use Rattle.std.specs.Prelude.{◌≢◌, slice_index, slice_set, replicate, All, AllPairs, ◌==◌}
 use Rattle.std.specs.List.{range_with_len}
-use Rattle.std.proofs.lemmas.Bool.{cases_eq, cases_lt}
-use Rattle.std.proofs.lemmas.Bool.Decides.{nat_tests}
-use Rattle.std.proofs.lemmas.List.{length_push, get_or_append_left, get_or_push, get_or-set_same, get_or-set_other, get_or-replicate, get_or_past}
-use Rattle.std.proofs.lemmas.List.{map-append, length-replicate, append-nil}
-use Rattle.std.proofs.lemmas.List.Elements.{filter-append, All-weaker}
 use Rattle.flow_word.proofs.Ranges.{range_last}
-use Rattle.flow_design.specs.declared.plan.Plan.{Plan}
-use Rattle.flow_design.specs.declared.state.ModuleState.{ModuleState}
-use Rattle.flow_design.specs.StaticRules.{FitsEngine}
-use Rattle.flow_design.specs.Reports.{clock_of}
-use Rattle.lockstep_defs.specs.Channels.{HistoryStep}
-use Rattle.lockstep_defs.specs.Lockstep.{history}
-use Rattle.lockstep_defs.specs.Laws.{IsBefore}
-use Rattle.lockstep_defs.specs.Report.{steps_of}
-use Rattle.lockstep_defs.specs.Verdict.{verdict}
-use Rattle.event_timing.specs.Core.{Core}
-use Rattle.event_timing.specs.Actions.{IsFinal}
-use Rattle.event_timing.specs.Agreement.{IsAgreed}
-use Rattle.timing_bridge.specs.Designs.{design, lockstep_run}
-use Rattle.timing_bridge.specs.CoreReports.{core_step}
+use Rattle.flow_design.specs.{declared.plan.Plan.Plan, declared.state.ModuleState.ModuleState, StaticRules.FitsEngine, Reports.clock_of}
+use Rattle.lockstep_defs.specs.{Channels.HistoryStep, Lockstep.history, Laws.IsBefore, Report.steps_of, Verdict.verdict}
+use Rattle.event_timing.specs.{Core.Core, Actions.IsFinal, Agreement.IsAgreed}
+use Rattle.timing_bridge.specs.{Designs.design, Designs.lockstep_run, CoreReports.core_step}
 use Rattle.timing_bridge.proofs.InOrder.{only_in_order, reported_history}
 use Rattle.step_order.specs.Walks.{IsEarly, IsWalked}
 

@@ -1,17 +1,10 @@
 //! The laws of walks, for any plan `p` that the engine takes.
 ghost use Rattle.std.specs.Prelude.{◌≡◌, ℕ, suc, ◌+◌, ◌<◌, ◌≤◌, [], ◌∷◌, ◌++◌, List as Items, length, slice_index, slice_set, replicate};
-ghost use Rattle.flow_design.specs.declared.plan.Plan.{Plan};
+ghost use Rattle.flow_design.specs.{declared.plan.Plan.Plan, StaticRules.FitsEngine, Reports.clock_of};
 ghost use Rattle.flow_design.specs.declared.state.ModuleState.{ModuleState};
-ghost use Rattle.flow_design.specs.StaticRules.{FitsEngine};
-ghost use Rattle.flow_design.specs.Reports.{clock_of};
-ghost use Rattle.lockstep_defs.specs.Channels.{HistoryStep};
-ghost use Rattle.lockstep_defs.specs.Lockstep.{history};
-ghost use Rattle.lockstep_defs.specs.Verdict.{verdict};
-ghost use Rattle.event_timing.specs.Core.{Core};
-ghost use Rattle.event_timing.specs.Actions.{IsFinal};
-ghost use Rattle.event_timing.specs.Agreement.{IsAgreed};
-ghost use Rattle.timing_bridge.specs.Designs.{design, lockstep_run};
-ghost use Rattle.timing_bridge.specs.CoreReports.{core_step};
+ghost use Rattle.lockstep_defs.specs.{Channels.HistoryStep, Lockstep.history, Verdict.verdict};
+ghost use Rattle.event_timing.specs.{Core.Core, Actions.IsFinal, Agreement.IsAgreed};
+ghost use Rattle.timing_bridge.specs.{Designs.design, Designs.lockstep_run, CoreReports.core_step};
 ghost use Rattle.step_order.specs.Walks.{IsWalked, AreLate};
 
 /// A walk begins with no step. It may pass the next step of a module in its clock, if it is not beyond that module. It may skip

@@ -1,29 +1,19 @@
 -- What a walk keeps as it gives a step, passes a module and begins a round, and what it has given at its end.
-use Rattle.std.proofs.Common.{◌≡◌, ◌≢◌, ℕ, suc, ◌+◌, ◌<◌, ◌≤◌, List, [], ◌∷◌, ◌++◌, map, length, get_or, set, min, replicate}
-use Rattle.std.proofs.Common.{zero-add, refl, sym, ◌∙◌, ap, subst, arith, inl, inr, Option, Some, None, length-set, zero, ◌-◌, ◌⊎◌}
-use Rattle.std.specs.Prelude.{All, IsNone, sum_by}
-use Rattle.std.specs.List.{range_with_len}
-use Rattle.std.proofs.lemmas.Bool.{cases_eq, cases_lt}
-use Rattle.std.proofs.lemmas.List.{get_or_default, get_or_past, get_or-set_same}
-use Rattle.std.proofs.lemmas.List.{get_or-set_other, get_or-replicate, length-map, length-replicate}
-use Rattle.std.proofs.lemmas.List.{map-append}
+use Rattle.std.proofs.Common.{◌≡◌, ◌≢◌, ℕ, suc, ◌+◌, ◌<◌, ◌≤◌, List, [], ◌∷◌, ◌++◌, map, length, get_or, set, min, replicate, zero-add}
+use Rattle.std.proofs.Common.{refl, sym, ◌∙◌, ap, subst, arith, inl, inr, Option, Some, None, length-set, zero, ◌-◌, ◌⊎◌}
+use Rattle.std.proofs.{lemmas.Bool.cases_eq, lemmas.Bool.cases_lt, lemmas.List.Sums.sum_by-cons, lemmas.List.Sums.sum_by-set}
+use Rattle.std.proofs.lemmas.List.{get_or_default, get_or_past, get_or-set_same, get_or-set_other, get_or-replicate, length-map}
+use Rattle.std.proofs.lemmas.List.{length-replicate, map-append}
 use Rattle.std.proofs.lemmas.List.FromFn.{get_or-map-range_with_len, length-range_with_len}
-use Rattle.std.proofs.lemmas.List.Sums.{sum_by-cons, sum_by-set}
-use Rattle.flow_design.specs.declared.plan.Plan.{Plan}
-use Rattle.flow_design.specs.declared.state.Advance.{Advance}
+use Rattle.std.specs.{Prelude.All, Prelude.IsNone, Prelude.sum_by, List.range_with_len}
+use Rattle.flow_design.specs.{declared.plan.Plan.Plan, declared.state.Advance.Advance, Reports.clock_of}
 use Rattle.flow_design.specs.declared.state.ModuleState.{ModuleState}
-use Rattle.flow_design.specs.Reports.{clock_of}
-use Rattle.lockstep_defs.specs.Channels.{HistoryStep}
-use Rattle.lockstep_defs.specs.Lockstep.{history}
-use Rattle.lockstep_defs.specs.Verdict.{verdict}
+use Rattle.lockstep_defs.specs.{Channels.HistoryStep, Lockstep.history, Verdict.verdict}
 use Rattle.event_graph.specs.Lanes.{Lane, IsSoundLane, cycle_bound, lane_at, no_lane}
 use Rattle.event_timing.specs.Core.{Core}
-use Rattle.timing_bridge.specs.Designs.{design}
-use Rattle.timing_bridge.specs.CoreReports.{core_step, steps_at}
+use Rattle.timing_bridge.specs.{Designs.design, CoreReports.core_step, CoreReports.steps_at}
 use Rattle.engine_view.specs.Held.{Held, core_of}
-use Rattle.engine_report.specs.declared.events.TimedStep.{TimedStep}
-use Rattle.engine_report.specs.Finished.{IsFinished}
-use Rattle.engine_report.specs.Keys.{place_of, IsTimedKey}
+use Rattle.engine_report.specs.{declared.events.TimedStep.TimedStep, Finished.IsFinished, Keys.place_of, Keys.IsTimedKey}
 use Rattle.step_order.specs.Walks.{IsWalked}
 use Rattle.step_order.proofs.Leading.{walk_leads}
 use Rattle.step_order.proofs.Walking.{walk_begins, walk_passes, walk_skips, walk_goes_on, walk_ends}

@@ -1,13 +1,12 @@
 -- Where a walk over the steps of a graph is, and what it has given.
-use Rattle.std.specs.Prelude.{ℕ, ◌≡◌, ◌-◌, ◌<◌, ◌≤◌, ◌^◌, List, [], ◌∷◌, ◌++◌, Option, Some, None, length, map, sum, sum_by, slice_index, slice_index_or}
+use Rattle.std.specs.Prelude.{ℕ, ◌≡◌, ◌-◌, ◌<◌, ◌≤◌, ◌^◌, List, [], ◌∷◌, ◌++◌, Option, Some, None, length, map, sum, sum_by, slice_index}
+use Rattle.std.specs.Prelude.{slice_index_or}
 use Rattle.std.specs.List.{range_with_len}
 use Rattle.flow_design.specs.declared.plan.Plan.{Plan}
 use Rattle.event_graph.specs.Lanes.{Lane, lane_at}
-use Rattle.timing_bridge.specs.Designs.{design}
-use Rattle.timing_bridge.specs.CoreReports.{steps_at}
+use Rattle.timing_bridge.specs.{Designs.design, CoreReports.steps_at}
 use Rattle.engine_view.specs.Held.{Held, core_of}
-use Rattle.engine_report.specs.declared.events.TimedStep.{TimedStep}
-use Rattle.engine_report.specs.Keys.{place_of, IsTimedKey}
+use Rattle.engine_report.specs.{declared.events.TimedStep.TimedStep, Keys.place_of, Keys.IsTimedKey}
 use Rattle.step_order.specs.Walks.{IsWalked}
 use Rattle.step_walk.specs.declared.walk.StepWalk.{StepWalk}
 

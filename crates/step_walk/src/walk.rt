@@ -1,16 +1,11 @@
 //! A walk over the steps of a graph.
 ghost use Rattle.std.specs.Prelude.{◌≡◌, ◌+◌, ◌<◌, ◌∷◌, ◌++◌, [], ℕ, length, map, is_some, IfOk, IfSome, IsNone, List as Items, Option};
 ghost use Rattle.std.specs.Prelude.{◌^◌, Some, min, slice_index, slice_set};
-ghost use Rattle.flow_design.specs.declared.plan.Plan.{Plan};
-ghost use Rattle.flow_design.specs.declared.state.Advance.{Advance};
-ghost use Rattle.flow_design.specs.Reports.{clock_of};
-ghost use Rattle.lockstep_defs.specs.Lockstep.{history};
-ghost use Rattle.lockstep_defs.specs.Verdict.{verdict};
-ghost use Rattle.timing_bridge.specs.Designs.{design};
-ghost use Rattle.timing_bridge.specs.CoreReports.{steps_at};
+ghost use Rattle.flow_design.specs.{declared.plan.Plan.Plan, declared.state.Advance.Advance, Reports.clock_of};
+ghost use Rattle.lockstep_defs.specs.{Lockstep.history, Verdict.verdict};
+ghost use Rattle.timing_bridge.specs.{Designs.design, CoreReports.steps_at};
 ghost use Rattle.engine_view.specs.Held.{Held, core_of};
-ghost use Rattle.engine_report.specs.Finished.{IsFinished};
-ghost use Rattle.engine_report.specs.Keys.{place_of, IsTimedKey};
+ghost use Rattle.engine_report.specs.{Finished.IsFinished, Keys.place_of, Keys.IsTimedKey};
 ghost use Rattle.step_walk.specs.Walking.{never, next_cycle, first_cycles, left, IsWalk, HasGiven, FoundIn};
 
 use engine_report::TimedStep;

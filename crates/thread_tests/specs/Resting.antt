@@ -1,9 +1,7 @@
 -- The passes of a hub between two turns.
 use Rattle.std.specs.Prelude.{◌≡◌, List}
 use Rattle.turn_lock.specs.Passes.{TableId}
-use Rattle.sim_hub.specs.declared.pass.PerfPass.{PerfPass}
-use Rattle.sim_hub.specs.declared.pass.ModulePass.{ModulePass}
-use Rattle.sim_hub.specs.Hubs.{perf_hub}
+use Rattle.sim_hub.specs.{declared.pass.PerfPass.PerfPass, declared.pass.ModulePass.ModulePass, Hubs.perf_hub}
 use Rattle.sim_hub.specs.Closings.{AreOfHub, AllHome, HasEachModule}
 
 -- the performance pass is of this hub, and so are the passes of all its modules, in some order, with no desk borrowed

@@ -1,10 +1,8 @@
 -- How many of the accesses are queries, one access after the other.
 use Rattle.std.proofs.Common.{◌≡◌, refl, ap, ◌∙◌, ℕ, ◌+◌, ◌<◌, ◌≤◌, Bool, true, false, cond, not, List, length, take, get_or}
+use Rattle.std.proofs.{lemmas.List.take_all, lemmas.List.Filters.length-filter_more}
 use Rattle.std.specs.Prelude.{filter}
-use Rattle.std.proofs.lemmas.List.{take_all}
-use Rattle.std.proofs.lemmas.List.Filters.{length-filter_more}
-use Rattle.flow_word.specs.Kinds.{is_blocking}
-use Rattle.flow_word.specs.declared.access.Access.{Access}
+use Rattle.flow_word.specs.{Kinds.is_blocking, declared.access.Access.Access}
 
 one_where : (b : Bool) → cond {A = ℕ} (not b) 1 0 ≡ cond b 0 1
 one_where true = refl

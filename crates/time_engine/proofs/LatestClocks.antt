@@ -1,15 +1,11 @@
 -- The latest of clocks, one access after the other.
 use Rattle.std.proofs.Common.{◌≡◌, refl, ap, ◌∙◌, ℕ, ◌+◌, ◌<◌, ◌≤◌, max, length, get_or, take, true, false, List, [], ◌∷◌, ◌++◌, arith}
-use Rattle.std.specs.Prelude.{filter}
-use Rattle.std.specs.List.{filter_map}
-use Rattle.std.proofs.lemmas.List.{take_more}
-use Rattle.std.proofs.lemmas.List.Elements.{filter-append, filter_map-append}
-use Rattle.flow_word.specs.declared.access.Access.{Access}
+use Rattle.std.proofs.{lemmas.List.take_more, lemmas.List.Elements.filter-append, lemmas.List.Elements.filter_map-append}
+use Rattle.std.specs.{Prelude.filter, List.filter_map}
+use Rattle.flow_word.specs.{declared.access.Access.Access, Kinds.is_blocking}
 use Rattle.event_graph.specs.Lanes.{Lane}
 use Rattle.fifo_table.specs.Channels.{Channel}
-use Rattle.time_engine.specs.declared.known.Known.TheVariants.{From}
-use Rattle.flow_word.specs.Kinds.{is_blocking}
-use Rattle.time_engine.specs.Possible.{when_possible}
+use Rattle.time_engine.specs.{declared.known.Known.TheVariants.From, Possible.when_possible}
 use Rattle.time_engine.specs.Cycles.{known_clock, clocks_of, latest}
 
 latest-append : (xs ys : List ℕ) → latest (xs ++ ys) ≡ max (latest xs) (latest ys)

@@ -1,16 +1,12 @@
 -- The cycle of a module's first step without a cycle.
-use Rattle.std.specs.Prelude.{◌≡◌, ℕ, ◌+◌, ◌<◌, max, not, Bool, ◌&&◌, if◌then◌else◌, List, [], ◌∷◌, length, filter, position}
-use Rattle.std.specs.Prelude.{Option, None, Some, unwrap_or, is_some, is_none, option_and_then, slice_get}
-use Rattle.std.specs.List.{filter_map}
-use Rattle.std.specs.Option.{ForSome}
-use Rattle.flow_word.specs.declared.access.Access.{Access}
-use Rattle.flow_word.specs.declared.access.Step.{Step}
-use Rattle.flow_word.specs.Kinds.{is_blocking}
+use Rattle.std.specs.Prelude.{◌≡◌, ℕ, ◌+◌, ◌<◌, max, not, Bool, ◌&&◌, if◌then◌else◌, List, [], ◌∷◌, length, filter, position, Option, None}
+use Rattle.std.specs.Prelude.{Some, unwrap_or, is_some, is_none, option_and_then, slice_get}
+use Rattle.std.specs.{List.filter_map, Option.ForSome}
+use Rattle.flow_word.specs.{declared.access.Access.Access, declared.access.Step.Step, Kinds.is_blocking}
 use Rattle.event_graph.specs.Lanes.{Lane, lane_at, last_cycle, cycle_bound}
 use Rattle.fifo_table.specs.Channels.{Channel}
-use Rattle.time_engine.specs.declared.known.Known.{Known}
+use Rattle.time_engine.specs.{declared.known.Known.Known, Possible.when_possible}
 use Rattle.time_engine.specs.declared.known.Known.TheVariants.{From, Never, Unknown}
-use Rattle.time_engine.specs.Possible.{when_possible}
 
 -- ---- the accesses of a step
 

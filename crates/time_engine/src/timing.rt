@@ -1,10 +1,8 @@
 //! The cycle of a module's first step without a cycle.
-ghost use Rattle.std.specs.Prelude.{◌≡◌, ℕ, List, All, ◌+◌, ◌^◌, ◌<◌, ◌≤◌, ◌↔◌, ◌∷◌, [], length, filter, not, cond, slice_index};
-ghost use Rattle.std.specs.Prelude.{position};
+ghost use Rattle.std.specs.Prelude.{◌≡◌, ℕ, List, All, ◌+◌, ◌^◌, ◌<◌, ◌≤◌, ◌↔◌, ◌∷◌, [], length, filter, not, cond, slice_index, position};
 ghost use Rattle.std.specs.Prelude.{unwrap_or, is_none, None, Some, IfSome, IfOk, OnOk, IfErr, IsSomeAnd};
 ghost use Rattle.flow_word.specs.Kinds.{is_blocking};
-ghost use Rattle.event_graph.specs.Lanes.{IsSoundLane, lane_at, cycle_bound, with_cycle};
-ghost use Rattle.event_graph.specs.Lanes.{last_cycle as last_of};
+ghost use Rattle.event_graph.specs.Lanes.{IsSoundLane, lane_at, cycle_bound, with_cycle, last_cycle as last_of};
 ghost use Rattle.time_engine.specs.Conditions.{IsAccess, HasAccesses, HasPlaces};
 ghost use Rattle.time_engine.specs.Cycles.{is_waiting, clocks_of, open_step, first_waiting, determined, MayTake, MayTakeWith};
 ghost use Rattle.time_engine.specs.Cycles.{latest as latest_of};

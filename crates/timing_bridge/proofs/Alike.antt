@@ -1,32 +1,19 @@
 -- What is possible by the contents is possible by counts, and what is told and moved is the same.
-use Rattle.std.proofs.Common.{◌≡◌, ℕ, suc, ◌+◌, ◌-◌, ◌<◌, List, [], ◌∷◌, ◌++◌, map, length, get_or, Bool, false, ◌||◌, ◌&&◌, not}
-use Rattle.std.proofs.Common.{cond, refl, sym, ◌∙◌, ap, ap₂, arith, ◌==◌, ltb, length-append, add-zero}
+use Rattle.std.proofs.Common.{◌≡◌, ℕ, suc, ◌+◌, ◌-◌, ◌<◌, List, [], ◌∷◌, ◌++◌, map, length, get_or, Bool, false, ◌||◌, ◌&&◌, not, cond}
+use Rattle.std.proofs.Common.{refl, sym, ◌∙◌, ap, ap₂, arith, ◌==◌, ltb, length-append, add-zero}
+use Rattle.std.proofs.{lemmas.Bool.or_parts, lemmas.List.get_or-drop}
 use Rattle.std.specs.List.{list_any, AllByRecursion}
-use Rattle.std.proofs.lemmas.Bool.{or_parts}
-use Rattle.std.proofs.lemmas.List.{get_or-drop}
 use Rattle.event_timing.proofs.Values.{length_values}
-use Rattle.flow_word.specs.declared.access.Side.{Side}
-use Rattle.flow_word.specs.declared.access.Side.TheVariants.{Pop, Push}
-use Rattle.flow_word.specs.Kinds.{same_side, side_of, is_blocking, is_taking}
-use Rattle.flow_word.specs.declared.access.Kind.{Kind}
-use Rattle.flow_design.specs.declared.plan.Plan.{Plan}
-use Rattle.flow_design.specs.declared.state.Element.{Element}
-use Rattle.flow_design.specs.declared.state.ModuleState.{ModuleState}
-use Rattle.flow_design.specs.declared.state.Request.{Request}
-use Rattle.flow_design.specs.declared.state.Reply.{Reply}
-use Rattle.flow_design.specs.Plans.{delay_at}
-use Rattle.flow_design.specs.StaticRules.{FitsEngine}
-use Rattle.lockstep_defs.specs.Machine.{is_yes, value_in}
+use Rattle.flow_word.specs.{declared.access.Side.Side, declared.access.Side.TheVariants.Pop, declared.access.Side.TheVariants.Push}
+use Rattle.flow_word.specs.{Kinds.same_side, Kinds.side_of, Kinds.is_blocking, Kinds.is_taking, declared.access.Kind.Kind}
+use Rattle.flow_design.specs.{declared.plan.Plan.Plan, declared.state.Element.Element, declared.state.ModuleState.ModuleState}
+use Rattle.flow_design.specs.{declared.state.Request.Request, declared.state.Reply.Reply, Plans.delay_at, StaticRules.FitsEngine}
+use Rattle.lockstep_defs.specs.{Machine.is_yes, Machine.value_in, Ports.StandsAtPort, Laws.all_in}
 use Rattle.lockstep_defs.specs.Channels.{front, values, is_possible, stalls, reply, reply_by, popped_value, pushed_value, moved_by, moved}
 use Rattle.lockstep_defs.specs.Channels.{contents_of}
 use Rattle.lockstep_defs.specs.Lockstep.{requests_of, answered, state, history}
-use Rattle.lockstep_defs.specs.Ports.{StandsAtPort}
-use Rattle.lockstep_defs.specs.Laws.{all_in}
-use Rattle.lockstep_defs.proofs.Queue.{contents_are, channel_count}
-use Rattle.lockstep_defs.proofs.Rules.{keeps_ports}
-use Rattle.lockstep_defs.proofs.Counts.{is_counted}
-use Rattle.event_timing.specs.Machines.{takes_in, values_in, took}
-use Rattle.event_timing.specs.Histories.{can_all, reply_to}
+use Rattle.lockstep_defs.proofs.{Queue.contents_are, Queue.channel_count, Rules.keeps_ports, Counts.is_counted}
+use Rattle.event_timing.specs.{Machines.takes_in, Machines.values_in, Machines.took, Histories.can_all, Histories.reply_to}
 use Rattle.timing_bridge.specs.Designs.{design, lockstep_run, seen, told, told_all}
 use Rattle.timing_bridge.proofs.Requests.{stand}
 use Rattle.event_timing.specs.Machines as theory

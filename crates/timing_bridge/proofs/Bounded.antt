@@ -1,20 +1,12 @@
 -- A module's own run has fewer steps than the operation limit.
 use Rattle.std.proofs.Common.{◌≡◌, ℕ, zero, suc, ◌+◌, ◌≤◌, ◌<◌, List, [], ◌∷◌, map, length, true, false, arith}
 use Rattle.std.specs.List.{filter_map}
-use Rattle.flow_design.specs.declared.design.Block.{Block}
-use Rattle.flow_design.specs.declared.design.Module.{Module}
-use Rattle.flow_design.specs.declared.design.Next.{Next}
-use Rattle.flow_design.specs.declared.plan.Plan.{Plan}
-use Rattle.flow_design.specs.declared.state.Due.{Due}
-use Rattle.flow_design.specs.declared.state.ModuleState.{ModuleState}
-use Rattle.flow_design.specs.declared.state.Reply.{Reply}
-use Rattle.flow_design.specs.Module.{block_of, due}
-use Rattle.flow_design.specs.StaticRules.{FitsEngine}
+use Rattle.flow_design.specs.{declared.design.Block.Block, declared.design.Module.Module, declared.design.Next.Next}
+use Rattle.flow_design.specs.{declared.plan.Plan.Plan, declared.state.Due.Due, declared.state.ModuleState.ModuleState}
+use Rattle.flow_design.specs.{declared.state.Reply.Reply, Module.block_of, Module.due, StaticRules.FitsEngine}
 use Rattle.lockstep_defs.specs.Machine.{requests, request_for, entered, ticked, decided, followed, finished, committed, move, is_over}
 use Rattle.lockstep_defs.specs.Lockstep.{module_at, requests_of}
-use Rattle.event_timing.specs.Machines.{skip, ready, is_some_access}
-use Rattle.event_timing.specs.Views.{own}
-use Rattle.event_timing.specs.Agreement.{IsBounded}
+use Rattle.event_timing.specs.{Machines.skip, Machines.ready, Machines.is_some_access, Views.own, Agreement.IsBounded}
 use Rattle.event_timing.proofs.OwnRuns.{own_fits}
 use Rattle.timing_bridge.specs.Designs.{design, seen, told_all, accesses_in}
 use Rattle.timing_bridge.proofs.History.{plan_is_design}

@@ -1,31 +1,19 @@
 -- An edit of the plan is the theory's edit of its design.
-use Rattle.std.proofs.lemmas.Bool.Decides.{nat_tests}
+use Rattle.std.proofs.{lemmas.Bool.Decides.nat_tests, lemmas.Bool.cases_eq}
 use Rattle.std.proofs.Common.{arith, ◌≡◌, ℕ, ◌≤◌, ◌<◌, List, length, true, ◌&&◌, cond, refl, sym, ◌∙◌, ap, subst, inl, inr, eqb}
-use Rattle.std.specs.Prelude.{slice_index}
-use Rattle.std.proofs.lemmas.Bool.{cases_eq}
 use Rattle.std.proofs.lemmas.List.{get_or-set_same, get_or-set_other, length-set, set-get_or}
-use Rattle.flow_word.specs.declared.access.Side.{Side}
-use Rattle.flow_word.specs.Kinds.{same_side}
+use Rattle.std.specs.Prelude.{slice_index}
+use Rattle.flow_word.specs.{declared.access.Side.Side, Kinds.same_side}
 use Rattle.flow_word.specs.declared.access.Side.TheVariants.{Pop, Push}
-use Rattle.flow_design.specs.declared.design.ChannelKind.{ChannelKind}
+use Rattle.flow_design.specs.{declared.design.ChannelKind.ChannelKind, declared.limits.TheConstants.FIFO_DEPTH, declared.plan.Edit.Edit}
+use Rattle.flow_design.specs.{declared.plan.Plan.Plan, declared.state.ModuleState.ModuleState}
 use Rattle.flow_design.specs.declared.design.ChannelKind.TheVariants.{Source, Sink, Fifo}
-use Rattle.flow_design.specs.declared.limits.TheConstants.{FIFO_DEPTH}
-use Rattle.flow_design.specs.declared.plan.Edit.{Edit}
-use Rattle.flow_design.specs.declared.plan.Plan.{Plan}
-use Rattle.flow_design.specs.declared.state.ModuleState.{ModuleState}
 use Rattle.flow_design.specs.Plans.{is_fifo, kind_at, with_depth, EditFits}
 use Rattle.flow_design.specs.StaticRules.{AreEntriesSound, IsChannelSound, FitsEngine}
-use Rattle.lockstep_defs.specs.Lockstep.{opening, moment}
-use Rattle.lockstep_defs.specs.Ports.{owner}
-use Rattle.lockstep_defs.specs.Quiet.{quiet, quiet_below, measure}
-use Rattle.event_timing.specs.Machines.{Design}
-use Rattle.event_timing.specs.Histories.{IsHistory}
-use Rattle.event_timing.specs.Core.{Core}
-use Rattle.event_timing.specs.Actions.{IsFinal}
-use Rattle.event_timing.specs.Agreement.{IsAgreed}
+use Rattle.lockstep_defs.specs.{Lockstep.opening, Lockstep.moment, Ports.owner, Quiet.quiet, Quiet.quiet_below, Quiet.measure}
+use Rattle.event_timing.specs.{Machines.Design, Histories.IsHistory, Core.Core, Actions.IsFinal, Agreement.IsAgreed}
 use Rattle.event_timing.specs.Edits.{edited, after_edit, IsUntouchedByCycles}
-use Rattle.event_timing.proofs.Editing.{edit_agrees}
-use Rattle.event_timing.proofs.Touched.{untouched}
+use Rattle.event_timing.proofs.{Editing.edit_agrees, Touched.untouched}
 use Rattle.timing_bridge.specs.Designs.{design, lag_in, lockstep_run, start_in}
 use Rattle.timing_bridge.proofs.History.{plan_is_design, run_is_history}
 

@@ -1,25 +1,15 @@
 -- The lockstep run of a plan is a history of its design.
 use Rattle.std.proofs.Common.{◌≡◌, ℕ, suc, ◌+◌, List, [], ◌++◌, map, length, Bool, true, false, ◌&&◌, not, ◌<◌, refl, sym, ◌∙◌, ap, arith}
 use Rattle.std.proofs.Common.{inl, inr, length-append, append_assoc}
-use Rattle.std.proofs.lemmas.Bool.{cases_lt, cond-false}
-use Rattle.std.proofs.lemmas.List.{append-nil, get_or_past}
-use Rattle.flow_word.specs.declared.access.Side.{Side}
-use Rattle.flow_word.specs.declared.access.Side.TheVariants.{Pop, Push}
-use Rattle.flow_design.specs.declared.plan.Plan.{Plan}
-use Rattle.flow_design.specs.declared.state.ModuleState.{ModuleState}
-use Rattle.flow_design.specs.Plans.{no_channel}
-use Rattle.flow_design.specs.StaticRules.{FitsEngine}
-use Rattle.lockstep_defs.specs.Machine.{nobody, is_over}
+use Rattle.std.proofs.{lemmas.Bool.cases_lt, lemmas.Bool.cond-false, lemmas.List.append-nil, lemmas.List.get_or_past}
+use Rattle.flow_word.specs.{declared.access.Side.Side, declared.access.Side.TheVariants.Pop, declared.access.Side.TheVariants.Push}
+use Rattle.flow_design.specs.{declared.plan.Plan.Plan, declared.state.ModuleState.ModuleState, Plans.no_channel, StaticRules.FitsEngine}
+use Rattle.lockstep_defs.specs.{Machine.nobody, Machine.is_over, Ports.owner, Quiet.fits}
 use Rattle.lockstep_defs.specs.Channels.{reply, moved, values, contents_of}
 use Rattle.lockstep_defs.specs.Lockstep.{requests_of, moves, next_state, opening, moment, state, state_at, history}
-use Rattle.lockstep_defs.specs.Ports.{owner}
-use Rattle.lockstep_defs.specs.Quiet.{fits}
-use Rattle.lockstep_defs.proofs.Settled.{history-zero}
-use Rattle.lockstep_defs.proofs.Counts.{delay_positive}
-use Rattle.lockstep_defs.proofs.Queue.{moved-nil, nothing_stalls}
+use Rattle.lockstep_defs.proofs.{Settled.history-zero, Counts.delay_positive, Queue.moved-nil, Queue.nothing_stalls}
 use Rattle.lockstep_defs.proofs.Agrees.{all_modules, state_at-suc}
-use Rattle.event_timing.specs.Machines.{IsDesign, takes_in, values_in}
-use Rattle.event_timing.specs.Histories.{IsHistory, replies}
+use Rattle.event_timing.specs.{Machines.IsDesign, Machines.takes_in, Machines.values_in, Histories.IsHistory, Histories.replies}
 use Rattle.timing_bridge.specs.Designs.{design, lag_in, lockstep_run, accesses_in, move_in, told_all}
 use Rattle.timing_bridge.proofs.Requests.{owned_in, open_in, one_taker}
 use Rattle.timing_bridge.proofs.Quiet.{quiet_lives, quiet_idle, quiet_ends, first_fits, next_fits, outside_over}

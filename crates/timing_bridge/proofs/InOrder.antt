@@ -1,26 +1,14 @@
 -- The steps of a final core in order are the history that the report tells.
 use Rattle.std.proofs.Common.{◌≡◌, ℕ, zero, suc, ◌+◌, ◌-◌, ◌<◌, true, false, ◌⊎◌, inl, inr, List, sym, ◌∙◌, ap, arith}
 use Rattle.std.proofs.lemmas.Bool.{cases_Bool, cases_eq}
-use Rattle.flow_design.specs.declared.plan.Plan.{Plan}
-use Rattle.flow_design.specs.declared.state.ModuleState.{ModuleState}
-use Rattle.flow_design.specs.StaticRules.{FitsEngine}
-use Rattle.lockstep_defs.specs.Channels.{HistoryStep}
-use Rattle.lockstep_defs.specs.Lockstep.{state, history}
+use Rattle.flow_design.specs.{declared.plan.Plan.Plan, declared.state.ModuleState.ModuleState, StaticRules.FitsEngine, Reports.clock_of}
+use Rattle.lockstep_defs.specs.{Channels.HistoryStep, Lockstep.state, Lockstep.history, Laws.NoneBefore}
 use Rattle.lockstep_defs.specs.Verdict.{is_settled, verdict}
-use Rattle.flow_design.specs.Reports.{clock_of}
-use Rattle.lockstep_defs.specs.Laws.{NoneBefore}
-use Rattle.lockstep_defs.proofs.Found.{verdict_found, verdict_none}
-use Rattle.lockstep_defs.proofs.Order.{in_order}
-use Rattle.lockstep_defs.proofs.Settled.{history_stays}
-use Rattle.event_timing.specs.Core.{Core}
-use Rattle.event_timing.specs.Actions.{IsFinal}
-use Rattle.event_timing.specs.Agreement.{IsAgreed}
+use Rattle.lockstep_defs.proofs.{Found.verdict_found, Found.verdict_none, Order.in_order, Settled.history_stays, Exits.clock_settled}
+use Rattle.event_timing.specs.{Core.Core, Actions.IsFinal, Agreement.IsAgreed}
 use Rattle.event_timing.proofs.FinalReport.{done_limit}
-use Rattle.timing_bridge.specs.Designs.{design, lockstep_run}
-use Rattle.timing_bridge.specs.CoreReports.{AreInOrder}
-use Rattle.timing_bridge.proofs.History.{plan_is_design, run_is_history}
-use Rattle.lockstep_defs.proofs.Exits.{clock_settled}
-use Rattle.timing_bridge.proofs.Steps.{all_steps, events_are}
+use Rattle.timing_bridge.specs.{Designs.design, Designs.lockstep_run, CoreReports.AreInOrder}
+use Rattle.timing_bridge.proofs.{History.plan_is_design, History.run_is_history, Steps.all_steps, Steps.events_are}
 
 module _ (p : Plan) (fits : FitsEngine p) (limit : ℕ) (x : Core ModuleState) (g : IsAgreed (design p) (lockstep_run p) limit x)
     (f : IsFinal (design p) limit x) where

@@ -1,23 +1,16 @@
 -- In one clock a side of a channel is moved by its owner alone.
 use Rattle.std.proofs.Common.{◌≡◌, ◌≢◌, ℕ, suc, ◌+◌, ◌-◌, ◌≤◌, ◌<◌, List, [], ◌∷◌, ◌++◌, map, get_or, Bool, true, false, cond, refl, sym}
 use Rattle.std.proofs.Common.{◌∙◌, ap, ap₂, arith, inl, inr, ◌==◌}
-use Rattle.std.specs.List.{flat_map, enumerate_from, AllByRecursion}
 use Rattle.std.proofs.lemmas.Bool.{cases_Bool, cases_eq, eqb-true, cond-true, cond-false}
 use Rattle.std.proofs.lemmas.List.{append-nil}
-use Rattle.flow_word.specs.declared.access.Side.{Side}
-use Rattle.flow_word.specs.declared.access.Kind.{Kind}
-use Rattle.flow_design.specs.declared.plan.Plan.{Plan}
-use Rattle.flow_design.specs.declared.state.Element.{Element}
-use Rattle.flow_design.specs.declared.state.ModuleState.{ModuleState}
-use Rattle.flow_design.specs.declared.state.Request.{Request}
-use Rattle.flow_design.specs.StaticRules.{FitsEngine}
-use Rattle.lockstep_defs.specs.Machine.{is_over, nobody}
-use Rattle.flow_word.specs.Kinds.{side_of}
+use Rattle.std.specs.List.{flat_map, enumerate_from, AllByRecursion}
+use Rattle.flow_word.specs.{declared.access.Side.Side, declared.access.Kind.Kind, Kinds.side_of}
+use Rattle.flow_design.specs.{declared.plan.Plan.Plan, declared.state.Element.Element, declared.state.ModuleState.ModuleState}
+use Rattle.flow_design.specs.{declared.state.Request.Request, StaticRules.FitsEngine}
+use Rattle.lockstep_defs.specs.{Machine.is_over, Machine.nobody, Ports.owner, Ports.StandsAtPort}
 use Rattle.lockstep_defs.specs.Channels.{is_possible, front, reply, reply_by, moved_value, moved_by, moved, contents_of}
 use Rattle.lockstep_defs.specs.Lockstep.{numbered, requests_of, moves, answered, step_with, step_of, steps_in, state, state_at, history}
-use Rattle.lockstep_defs.specs.Ports.{owner, StandsAtPort}
-use Rattle.lockstep_defs.proofs.Settled.{history-suc}
-use Rattle.lockstep_defs.proofs.Queue.{moved-nil, moved-append, moved-step}
+use Rattle.lockstep_defs.proofs.{Settled.history-suc, Queue.moved-nil, Queue.moved-append, Queue.moved-step}
 use Rattle.timing_bridge.proofs.Requests.{stand}
 
 pub nobody_moves : (p : Plan) (c : ℕ) (cs : List (List Element)) (i : ℕ) → moves p c cs (i, nobody) ≡ false

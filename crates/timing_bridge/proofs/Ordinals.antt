@@ -1,27 +1,18 @@
 -- The ordinals of a core's accesses: how many elements its earlier steps moved at a side of a channel.
 use Rattle.std.proofs.Common.{◌≡◌, ℕ, zero, suc, ◌+◌, ◌≤◌, ◌<◌, List, [], ◌∷◌, ◌++◌, map, length, Bool, true, false, ◌&&◌, not, cond, refl}
 use Rattle.std.proofs.Common.{sym, ◌∙◌, ap, ap₂, arith, length-append, ◌==◌}
-use Rattle.std.specs.List.{range_with_len}
 use Rattle.std.proofs.lemmas.List.{append-nil, map-append}
-use Rattle.flow_word.specs.declared.access.Side.{Side}
-use Rattle.flow_word.specs.declared.access.Side.TheVariants.{Pop}
+use Rattle.std.specs.List.{range_with_len}
+use Rattle.flow_word.specs.{declared.access.Side.Side, declared.access.Side.TheVariants.Pop, declared.access.Kind.Kind}
 use Rattle.flow_word.specs.Kinds.{same_side, side_of, is_blocking, is_taking}
-use Rattle.flow_word.specs.declared.access.Kind.{Kind}
-use Rattle.flow_design.specs.declared.plan.Plan.{Plan}
-use Rattle.flow_design.specs.declared.state.ModuleState.{ModuleState}
-use Rattle.flow_design.specs.declared.state.Request.{Request}
+use Rattle.flow_design.specs.{declared.plan.Plan.Plan, declared.state.ModuleState.ModuleState, declared.state.Request.Request}
 use Rattle.lockstep_defs.specs.Channels.{HistoryStep, reply_by, moved_value, moved_by, moved}
-use Rattle.lockstep_defs.specs.Lockstep.{requests_of}
-use Rattle.lockstep_defs.specs.OwnRun.{paired}
+use Rattle.lockstep_defs.specs.{Lockstep.requests_of, OwnRun.paired}
 use Rattle.lockstep_defs.proofs.Queue.{moved-nil, moved-append}
-use Rattle.event_timing.specs.Machines.{takes_in}
-use Rattle.event_timing.specs.Views.{tally}
+use Rattle.event_timing.specs.{Machines.takes_in, Views.tally, Agreement.FlagsFit, Agreement.AreOwnMarks}
 use Rattle.event_timing.specs.Core.{Core, core_accesses, core_tally, core_values, replies_of, core_reply}
-use Rattle.event_timing.specs.Agreement.{FlagsFit, AreOwnMarks}
-use Rattle.event_timing.proofs.OwnRuns.{tally_0, tally_more}
-use Rattle.event_timing.proofs.Fronts.{core_tally_is}
-use Rattle.timing_bridge.specs.Designs.{design, seen, told_all}
-use Rattle.timing_bridge.specs.CoreReports.{core_step}
+use Rattle.event_timing.proofs.{OwnRuns.tally_0, OwnRuns.tally_more, Fronts.core_tally_is}
+use Rattle.timing_bridge.specs.{Designs.design, Designs.seen, Designs.told_all, CoreReports.core_step}
 use Rattle.flow_word.proofs.Ranges.{range_more}
 
 -- ---- one step

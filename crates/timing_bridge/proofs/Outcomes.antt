@@ -1,40 +1,24 @@
 -- A module's next step in the history, and the outcomes of its queries there.
 use Rattle.std.proofs.Common.{◌≡◌, ℕ, zero, suc, ◌+◌, ◌-◌, ◌<◌, Bool, true, false, not, cond, List, [], ◌∷◌, ◌++◌, map, length, refl, sym}
 use Rattle.std.proofs.Common.{◌∙◌, ap, ap₂, arith, append_assoc, Some}
+use Rattle.std.proofs.{lemmas.List.append-nil, lemmas.List.Elements.filter-append}
 use Rattle.std.specs.List.{AllByRecursion, range_with_len}
-use Rattle.std.proofs.lemmas.List.{append-nil}
-use Rattle.std.proofs.lemmas.List.Elements.{filter-append}
-use Rattle.flow_word.specs.declared.access.Kind.{Kind}
-use Rattle.flow_word.specs.Kinds.{side_of, is_blocking}
-use Rattle.flow_design.specs.declared.plan.Plan.{Plan}
-use Rattle.flow_design.specs.declared.state.Element.{Element}
-use Rattle.flow_design.specs.declared.state.ModuleState.{ModuleState}
-use Rattle.flow_design.specs.declared.state.Request.{Request}
-use Rattle.flow_design.specs.StaticRules.{FitsEngine}
-use Rattle.lockstep_defs.specs.Machine.{is_yes}
+use Rattle.flow_word.specs.{declared.access.Kind.Kind, Kinds.side_of, Kinds.is_blocking}
+use Rattle.flow_design.specs.{declared.plan.Plan.Plan, declared.state.Element.Element, declared.state.ModuleState.ModuleState}
+use Rattle.flow_design.specs.{declared.state.Request.Request, StaticRules.FitsEngine}
+use Rattle.lockstep_defs.specs.{Machine.is_yes, Report.steps_of, Report.queries, Report.outcomes}
 use Rattle.lockstep_defs.specs.Channels.{HistoryStep, Exchange, is_possible, reply, reply_by, front, contents_of}
 use Rattle.lockstep_defs.specs.Lockstep.{requests_of, answered, steps_in, state, state_at, history}
-use Rattle.lockstep_defs.specs.Report.{steps_of, queries, outcomes}
-use Rattle.lockstep_defs.proofs.Settled.{history-suc}
-use Rattle.lockstep_defs.proofs.Agrees.{steps_of-suc}
-use Rattle.event_timing.specs.Machines.{ready}
-use Rattle.event_timing.specs.Views.{own}
-use Rattle.event_timing.specs.Enablers.{candidate}
+use Rattle.lockstep_defs.proofs.{Settled.history-suc, Agrees.steps_of-suc}
+use Rattle.event_timing.specs.{Machines.ready, Views.own, Enablers.candidate, Actions.MayAnswer, Actions.MayEarliest, Actions.new_flags}
 use Rattle.event_timing.specs.Core.{Core, core_reply, core_accesses, has_query, view}
-use Rattle.event_timing.specs.Actions.{MayAnswer, MayEarliest, new_flags}
 use Rattle.event_timing.specs.Agreement.{IsAgreed, IsStepAt, possible_all}
-use Rattle.event_timing.proofs.Agreement.{answer_found, earliest_found}
-use Rattle.event_timing.proofs.Answering.{first_emitted}
-use Rattle.event_timing.proofs.Candidate.{candidate_done, candidate_steps}
-use Rattle.event_timing.proofs.Fronts.{agrees}
-use Rattle.event_timing.proofs.OwnRuns.{rest_own, follows}
-use Rattle.event_timing.proofs.Standing.{step_ready}
-use Rattle.timing_bridge.specs.Designs.{design, lockstep_run, seen}
-use Rattle.timing_bridge.specs.CoreReports.{core_step, core_steps}
+use Rattle.event_timing.proofs.{Agreement.answer_found, Agreement.earliest_found, Answering.first_emitted, Candidate.candidate_done}
+use Rattle.event_timing.proofs.{Candidate.candidate_steps, Fronts.agrees, OwnRuns.rest_own, OwnRuns.follows, Standing.step_ready}
+use Rattle.timing_bridge.specs.{Designs.design, Designs.lockstep_run, Designs.seen, CoreReports.core_step, CoreReports.core_steps}
 use Rattle.timing_bridge.specs.Outcomes.{outcome_of, outcomes_by, first_requests, IsNextStep}
-use Rattle.timing_bridge.proofs.Alike.{Alike, alike}
+use Rattle.timing_bridge.proofs.{Alike.Alike, Alike.alike, Steps.done_at, Steps.a_step, Steps.steps_are}
 use Rattle.timing_bridge.proofs.History.{plan_is_design, run_is_history}
-use Rattle.timing_bridge.proofs.Steps.{done_at, a_step, steps_are}
 
 -- ---- outcomes by what is possible
 

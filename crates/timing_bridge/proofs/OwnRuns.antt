@@ -1,23 +1,15 @@
 -- A module's own run, local clock by local clock, is the theory's own run: its steps come after the quiet clocks.
 use Rattle.std.proofs.Common.{◌≡◌, ℕ, zero, suc, ◌+◌, ◌≤◌, ◌<◌, List, [], ◌∷◌, ◌++◌, length, get_or, true, false, refl, sym, ◌∙◌, ap, ap₂}
 use Rattle.std.proofs.Common.{subst, arith, length-append, zero-add}
-use Rattle.std.proofs.lemmas.Bool.{or_from, or_right}
-use Rattle.std.proofs.lemmas.List.{get_or-map}
+use Rattle.std.proofs.{lemmas.Bool.or_from, lemmas.Bool.or_right, lemmas.List.get_or-map}
 use Rattle.std.proofs.lemmas.List.FromFn.{length-map-range_with_len, get_or-map-range_with_len}
-use Rattle.flow_design.specs.declared.plan.Plan.{Plan}
+use Rattle.flow_design.specs.{declared.plan.Plan.Plan, declared.state.Reply.Reply, declared.state.Request.Request, StaticRules.FitsEngine}
 use Rattle.flow_design.specs.declared.state.ModuleState.{ModuleState}
-use Rattle.flow_design.specs.declared.state.Reply.{Reply}
-use Rattle.flow_design.specs.declared.state.Request.{Request}
-use Rattle.flow_design.specs.StaticRules.{FitsEngine}
-use Rattle.lockstep_defs.specs.Machine.{move, opened, nobody, is_over}
+use Rattle.lockstep_defs.specs.{Machine.move, Machine.opened, Machine.nobody, Machine.is_over, OwnRun.Own, OwnRun.OwnStep, OwnRun.own_after}
+use Rattle.lockstep_defs.specs.{OwnRun.own_next, Quiet.is_some_request, Quiet.rests, Quiet.quiet, Quiet.fits}
 use Rattle.lockstep_defs.specs.Lockstep.{no_module, module_at, requests_of}
-use Rattle.lockstep_defs.specs.OwnRun.{Own, OwnStep, own_after, own_next}
-use Rattle.lockstep_defs.specs.Quiet.{is_some_request, rests, quiet, fits}
 use Rattle.lockstep_defs.proofs.Agrees.{own_suc, next_grows}
-use Rattle.event_timing.specs.Machines.{skip, ready}
-use Rattle.event_timing.specs.Views.{own}
-use Rattle.event_timing.specs.Core.{Core, core_reply}
-use Rattle.event_timing.specs.Agreement.{AreOwnMarks}
+use Rattle.event_timing.specs.{Machines.skip, Machines.ready, Views.own, Core.Core, Core.core_reply, Agreement.AreOwnMarks}
 use Rattle.event_timing.proofs.OwnRuns.{own_0, own_more}
 use Rattle.timing_bridge.specs.Designs.{design, told_all, move_in}
 use Rattle.timing_bridge.specs.OwnRuns.{AreTold, core_replies, clocks_of_steps, IsOwnStep, AreOwnSteps, HasComeTo}

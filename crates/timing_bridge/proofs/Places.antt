@@ -1,19 +1,13 @@
 -- The steps of a core that are sorted by cycles and modules stand in order.
-use Rattle.std.proofs.lemmas.Bool.Decides.{nat_tests}
+use Rattle.std.proofs.{lemmas.Bool.Decides.nat_tests, lemmas.List.Elements.All-from_recursion, lemmas.List.Kept.AllPairs-cons}
+use Rattle.std.proofs.{lemmas.List.Sorted.sum_by-IsPermutation, lemmas.List.Sums.sum_by-cons}
 use Rattle.std.proofs.Common.{◌≡◌, ℕ, zero, suc, ◌+◌, ◌≤◌, ◌<◌, false, cond, ◌&&◌, ◌⊎◌, List, [], ◌∷◌, ◌++◌, map, length, get_or, eqb, refl}
 use Rattle.std.proofs.Common.{sym, ◌∙◌, ap, ap₂, subst, arith, zero-add}
 use Rattle.std.specs.Prelude.{IsSortedBy, AllPairs, flat_map, sum_by, ⊤}
 use Rattle.std.specs.List.{AllByRecursion, range_with_len}
-use Rattle.std.proofs.lemmas.List.Elements.{All-from_recursion}
-use Rattle.std.proofs.lemmas.List.Kept.{AllPairs-cons}
-use Rattle.std.proofs.lemmas.List.Sorted.{sum_by-IsPermutation}
-use Rattle.std.proofs.lemmas.List.Sums.{sum_by-cons}
-use Rattle.flow_design.specs.declared.plan.Plan.{Plan}
-use Rattle.flow_design.specs.declared.state.ModuleState.{ModuleState}
-use Rattle.lockstep_defs.specs.Report.{steps_of}
-use Rattle.lockstep_defs.specs.Laws.{IsBefore}
-use Rattle.event_timing.specs.Core.{Core}
-use Rattle.event_timing.specs.Agreement.{IsAgreed}
+use Rattle.flow_design.specs.{declared.plan.Plan.Plan, declared.state.ModuleState.ModuleState}
+use Rattle.lockstep_defs.specs.{Report.steps_of, Laws.IsBefore}
+use Rattle.event_timing.specs.{Core.Core, Agreement.IsAgreed}
 use Rattle.event_timing.proofs.Editing.{cycles_rise}
 use Rattle.timing_bridge.specs.Designs.{design, lockstep_run}
 use Rattle.timing_bridge.specs.CoreReports.{core_step, AreInOrder, core_places, comes_before, AreSorted, steps_at}

@@ -1,15 +1,10 @@
 -- The quiet clocks of a module are those that the theory wants.
 use Rattle.std.proofs.Common.{◌≡◌, ℕ, zero, suc, ◌≤◌, ◌<◌, List, [], ◌∷◌, map, length, Bool, true, false, ◌||◌, refl, ◌∙◌, ap, arith}
-use Rattle.std.proofs.lemmas.Bool.{or_parts}
-use Rattle.std.proofs.lemmas.List.{get_or-map, get_or_past, length-map}
-use Rattle.flow_design.specs.declared.plan.Plan.{Plan}
+use Rattle.std.proofs.{lemmas.Bool.or_parts, lemmas.List.get_or-map, lemmas.List.get_or_past, lemmas.List.length-map}
+use Rattle.flow_design.specs.{declared.plan.Plan.Plan, declared.state.Request.Request, declared.state.Reply.Reply, StaticRules.FitsEngine}
 use Rattle.flow_design.specs.declared.state.ModuleState.{ModuleState}
-use Rattle.flow_design.specs.declared.state.Request.{Request}
-use Rattle.flow_design.specs.declared.state.Reply.{Reply}
-use Rattle.flow_design.specs.StaticRules.{FitsEngine}
-use Rattle.lockstep_defs.specs.Machine.{opened, move, nobody, is_over}
-use Rattle.lockstep_defs.specs.Lockstep.{no_module, module_at, requests_of}
-use Rattle.lockstep_defs.specs.Quiet.{is_some_request, rests, quiet, fits}
+use Rattle.lockstep_defs.specs.{Machine.opened, Machine.move, Machine.nobody, Machine.is_over, Lockstep.no_module, Lockstep.module_at}
+use Rattle.lockstep_defs.specs.{Lockstep.requests_of, Quiet.is_some_request, Quiet.rests, Quiet.quiet, Quiet.fits}
 use Rattle.lockstep_defs.proofs.Resting.{fits_opened, fits_move, quiet_goes, quiet_rests}
 use Rattle.event_timing.specs.Machines.{skip, ready, is_some_access}
 use Rattle.timing_bridge.specs.Designs.{design, seen, told_all, accesses_in, move_in}

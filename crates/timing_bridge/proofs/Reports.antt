@@ -2,36 +2,21 @@
 use Rattle.std.proofs.lemmas.Bool.Decides.{nat_tests}
 use Rattle.std.proofs.Common.{◌≡◌, ℕ, zero, suc, ◌+◌, ◌≤◌, ◌<◌, List, [], ◌∷◌, map, length, true, false, ◌||◌, refl, sym, ◌∙◌, ap, ap₂}
 use Rattle.std.proofs.Common.{arith, inl, inr, Some, None}
-use Rattle.std.specs.Prelude.{nat_lt, is_some}
-use Rattle.std.specs.List.{filter_map, range_with_len, list_any}
 use Rattle.std.proofs.lemmas.Bool.{cases_lt, cases_Bool, cond_both, ltb-true, ltb-false, or_parts}
-use Rattle.flow_design.specs.declared.plan.Plan.{Plan}
-use Rattle.flow_design.specs.declared.report.Verdict.{Verdict}
-use Rattle.flow_design.specs.declared.report.Verdict.TheVariants.{Cycles}
-use Rattle.flow_design.specs.declared.state.ModuleState.{ModuleState}
-use Rattle.flow_design.specs.StaticRules.{FitsEngine}
-use Rattle.lockstep_defs.specs.Machine.{nobody}
-use Rattle.lockstep_defs.specs.Channels.{HistoryStep}
-use Rattle.lockstep_defs.specs.Lockstep.{state, history}
+use Rattle.std.specs.{Prelude.nat_lt, Prelude.is_some, List.filter_map, List.range_with_len, List.list_any}
+use Rattle.flow_design.specs.{declared.plan.Plan.Plan, declared.report.Verdict.Verdict, declared.report.Verdict.TheVariants.Cycles}
+use Rattle.flow_design.specs.{declared.state.ModuleState.ModuleState, StaticRules.FitsEngine, Reports.clock_of}
+use Rattle.lockstep_defs.specs.{Machine.nobody, Channels.HistoryStep, Lockstep.state, Lockstep.history}
 use Rattle.lockstep_defs.specs.Verdict.{settled_verdict, verdict, held_in, held}
-use Rattle.flow_design.specs.Reports.{clock_of}
 use Rattle.lockstep_defs.specs.Report.{steps_of, outcomes, events_of, answers_in, report_at, report}
-use Rattle.event_timing.specs.Steps.{done}
-use Rattle.event_timing.specs.Views.{own, from}
-use Rattle.event_timing.specs.Enablers.{candidate}
-use Rattle.event_timing.specs.Core.{Core, core_reply, view}
-use Rattle.event_timing.specs.Actions.{IsFinal}
-use Rattle.event_timing.specs.Agreement.{IsAgreed, IsUndetermined, stop}
-use Rattle.event_timing.proofs.OwnRuns.{own_0}
-use Rattle.event_timing.proofs.Verdict.{done_last}
-use Rattle.event_timing.proofs.FinalReport.{done_limit}
+use Rattle.event_timing.specs.{Steps.done, Views.own, Views.from, Enablers.candidate, Core.Core, Core.core_reply, Core.view}
+use Rattle.event_timing.specs.{Actions.IsFinal, Agreement.IsAgreed, Agreement.IsUndetermined, Agreement.stop}
+use Rattle.event_timing.proofs.{OwnRuns.own_0, Verdict.done_last, FinalReport.done_limit}
 use Rattle.timing_bridge.specs.Designs.{design, lockstep_run}
 use Rattle.timing_bridge.specs.CoreReports.{core_steps, AreInOrder, modules_of, core_states, last_stop, is_determined, core_verdict}
 use Rattle.timing_bridge.specs.CoreReports.{core_held_by, core_held, core_report}
-use Rattle.timing_bridge.proofs.Quiet.{nobody_quiet, opening_past, second_of}
-use Rattle.timing_bridge.proofs.History.{plan_is_design, run_is_history}
-use Rattle.timing_bridge.proofs.Steps.{all_steps, events_are}
-use Rattle.timing_bridge.proofs.Settling.{last_states, held_all, outputs_are}
+use Rattle.timing_bridge.proofs.{Quiet.nobody_quiet, Quiet.opening_past, Quiet.second_of, History.plan_is_design, History.run_is_history}
+use Rattle.timing_bridge.proofs.{Steps.all_steps, Steps.events_are, Settling.last_states, Settling.held_all, Settling.outputs_are}
 use Rattle.timing_bridge.proofs.Verdicts.{final_settled, final_cut, final_late}
 use Rattle.lockstep_defs.proofs.Exits.{clock_settled}
 

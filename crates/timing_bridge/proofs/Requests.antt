@@ -1,33 +1,20 @@
 -- The requests of a module as accesses of the theory: whose they are, and how many take.
 use Rattle.std.proofs.Common.{◌≡◌, ℕ, ◌+◌, ◌≤◌, List, [], ◌∷◌, map, length, Bool, true, false, ◌&&◌, cond, refl, sym, ◌∙◌, ap, ap₂, subst}
 use Rattle.std.proofs.Common.{arith, inl, inr, eqb}
-use Rattle.std.specs.List.{AllByRecursion, filter_map}
 use Rattle.std.proofs.lemmas.Bool.{cases_lt, cases_eq, eq-eqb, ne_eqb}
-use Rattle.std.proofs.lemmas.List.{get_or_past}
-use Rattle.std.proofs.lemmas.List.Elements.{recursion_from_All}
-use Rattle.flow_word.specs.declared.access.Kind.{Kind}
+use Rattle.std.proofs.{lemmas.List.get_or_past, lemmas.List.Elements.recursion_from_All}
+use Rattle.std.specs.List.{AllByRecursion, filter_map}
+use Rattle.flow_word.specs.{declared.access.Kind.Kind, declared.access.Side.Side, declared.access.Side.TheVariants.Pop}
+use Rattle.flow_word.specs.{declared.access.Side.TheVariants.Push, Kinds.other_side, Kinds.same_side, Kinds.side_of, Kinds.is_taking}
 use Rattle.flow_word.specs.declared.access.Kind.TheVariants.{Read, Write, TryRead, TryWrite, Empty, Full}
-use Rattle.flow_word.specs.declared.access.Side.{Side}
-use Rattle.flow_word.specs.declared.access.Side.TheVariants.{Pop, Push}
-use Rattle.flow_word.specs.Kinds.{other_side, same_side, side_of, is_taking}
-use Rattle.flow_design.specs.declared.design.ChannelKind.{ChannelKind}
+use Rattle.flow_design.specs.{declared.design.ChannelKind.ChannelKind, declared.design.Module.Module, declared.plan.Plan.Plan}
+use Rattle.flow_design.specs.{declared.state.Due.Due, declared.state.ModuleState.ModuleState, declared.state.Request.Request}
+use Rattle.flow_design.specs.{Operations.taken_port, Module.no_block, Module.block_of, Module.live_count, Module.due, Plans.kind_at}
 use Rattle.flow_design.specs.declared.design.ChannelKind.TheVariants.{Source, Sink, Fifo}
-use Rattle.flow_design.specs.declared.design.Module.{Module}
-use Rattle.flow_design.specs.declared.plan.Plan.{Plan}
-use Rattle.flow_design.specs.declared.state.Due.{Due}
-use Rattle.flow_design.specs.declared.state.ModuleState.{ModuleState}
-use Rattle.flow_design.specs.declared.state.Request.{Request}
-use Rattle.flow_design.specs.Operations.{taken_port}
-use Rattle.flow_design.specs.Module.{no_block, block_of, live_count, due}
-use Rattle.flow_design.specs.Plans.{kind_at}
 use Rattle.flow_design.specs.StaticRules.{FitsEngine, same_port, is_port}
-use Rattle.lockstep_defs.specs.Machine.{requests, request_for}
-use Rattle.lockstep_defs.specs.Lockstep.{no_module, module_at, requests_of}
-use Rattle.lockstep_defs.specs.Ports.{owner, is_taker, has_port, StandsAtPort}
-use Rattle.lockstep_defs.specs.States.{IsDueIn}
-use Rattle.lockstep_defs.proofs.Once.{takers_once}
-use Rattle.lockstep_defs.proofs.Rules.{keeps_ports}
-use Rattle.lockstep_defs.proofs.Standing.{due_in_range, requests_stand}
+use Rattle.lockstep_defs.specs.{Machine.requests, Machine.request_for, Lockstep.no_module, Lockstep.module_at, Lockstep.requests_of}
+use Rattle.lockstep_defs.specs.{Ports.owner, Ports.is_taker, Ports.has_port, Ports.StandsAtPort, States.IsDueIn}
+use Rattle.lockstep_defs.proofs.{Once.takers_once, Rules.keeps_ports, Standing.due_in_range, Standing.requests_stand}
 use Rattle.event_timing.specs.Machines.{Each, takes_at, takers}
 use Rattle.timing_bridge.specs.Designs.{seen, accesses_in, is_source}
 use Rattle.lockstep_defs.specs.Ports as ports

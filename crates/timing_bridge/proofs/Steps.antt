@@ -1,32 +1,19 @@
 -- A module's steps in the history are those that an agreeing core has.
-use Rattle.std.proofs.lemmas.Bool.Decides.{nat_tests}
+use Rattle.std.proofs.{lemmas.Bool.Decides.nat_tests, lemmas.List.append-nil, lemmas.List.map-append}
 use Rattle.std.proofs.Common.{◌≡◌, ℕ, zero, suc, ◌+◌, ◌≤◌, ◌<◌, List, [], ◌∷◌, ◌++◌, map, length, true, false, refl, sym, ◌∙◌, ap, ap₂}
 use Rattle.std.proofs.Common.{arith, ◌⊎◌, inl, inr}
-use Rattle.std.specs.List.{range_with_len, AllByRecursion}
 use Rattle.std.proofs.lemmas.Bool.{cases_Bool, cases_lt, cond-true}
-use Rattle.std.proofs.lemmas.List.{append-nil, map-append}
-use Rattle.flow_design.specs.declared.plan.Plan.{Plan}
-use Rattle.flow_design.specs.declared.state.Element.{Element}
-use Rattle.flow_design.specs.declared.state.ModuleState.{ModuleState}
-use Rattle.flow_design.specs.declared.state.Request.{Request}
-use Rattle.flow_design.specs.StaticRules.{FitsEngine}
-use Rattle.lockstep_defs.specs.Channels.{HistoryStep, Exchange}
+use Rattle.std.specs.List.{range_with_len, AllByRecursion}
+use Rattle.flow_design.specs.{declared.plan.Plan.Plan, declared.state.Element.Element, declared.state.ModuleState.ModuleState}
+use Rattle.flow_design.specs.{declared.state.Request.Request, StaticRules.FitsEngine}
+use Rattle.lockstep_defs.specs.{Channels.HistoryStep, Channels.Exchange, Report.steps_of, OwnRun.paired}
 use Rattle.lockstep_defs.specs.Lockstep.{requests_of, moves, answered, step_with, step_of, state, state_at, history}
-use Rattle.lockstep_defs.specs.Report.{steps_of}
-use Rattle.lockstep_defs.specs.OwnRun.{paired}
-use Rattle.lockstep_defs.proofs.Settled.{history-zero}
+use Rattle.lockstep_defs.proofs.{Settled.history-zero, Order.only_history, Order.history_numbers}
 use Rattle.lockstep_defs.proofs.Agrees.{steps_of-suc, paired_answered}
-use Rattle.lockstep_defs.proofs.Order.{only_history, history_numbers}
-use Rattle.event_timing.specs.Machines.{is_some_access, ready}
-use Rattle.event_timing.specs.Histories.{replies}
-use Rattle.event_timing.specs.Steps.{steps, done}
-use Rattle.event_timing.specs.Views.{own}
-use Rattle.event_timing.specs.Core.{Core, core_reply, view}
-use Rattle.event_timing.specs.Agreement.{IsAgreed}
-use Rattle.event_timing.proofs.Steps.{done_more, done_same, same_clock, done_mono}
-use Rattle.event_timing.proofs.OwnRuns.{rest_own, follows, done_0}
-use Rattle.event_timing.proofs.Standing.{step_ready, steps_moves, steps_some}
-use Rattle.event_timing.proofs.Fronts.{agrees}
+use Rattle.event_timing.specs.{Machines.is_some_access, Machines.ready, Histories.replies, Steps.steps, Steps.done, Views.own, Core.Core}
+use Rattle.event_timing.specs.{Core.core_reply, Core.view, Agreement.IsAgreed}
+use Rattle.event_timing.proofs.{Steps.done_more, Steps.done_same, Steps.same_clock, Steps.done_mono, OwnRuns.rest_own, OwnRuns.follows}
+use Rattle.event_timing.proofs.{OwnRuns.done_0, Standing.step_ready, Standing.steps_moves, Standing.steps_some, Fronts.agrees}
 use Rattle.timing_bridge.specs.Designs.{design, lockstep_run, seen, told_all}
 use Rattle.timing_bridge.specs.CoreReports.{core_step, core_steps, AreInOrder}
 use Rattle.timing_bridge.proofs.History.{plan_is_design, run_is_history, moves_same, replies_same}

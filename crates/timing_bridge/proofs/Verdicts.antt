@@ -1,26 +1,19 @@
 -- Settled clocks in the theory's words, and the verdict of a final core.
 use Rattle.std.proofs.Common.{◌≡◌, ℕ, zero, suc, ◌+◌, ◌-◌, ◌≤◌, ◌<◌, List, [], ◌∷◌, length, get_or, Bool, true, false, refl, sym, ◌∙◌, ap}
 use Rattle.std.proofs.Common.{arith, inl, inr, zero-add, Some}
+use Rattle.std.proofs.{lemmas.Bool.cases_lt, lemmas.Bool.or_parts, lemmas.List.get_or_past}
 use Rattle.std.specs.List.{list_any, enumerate_from}
-use Rattle.std.proofs.lemmas.Bool.{cases_lt, or_parts}
-use Rattle.std.proofs.lemmas.List.{get_or_past}
-use Rattle.flow_design.specs.declared.plan.Plan.{Plan}
+use Rattle.flow_design.specs.{declared.plan.Plan.Plan, declared.state.ModuleState.ModuleState, StaticRules.FitsEngine}
 use Rattle.flow_design.specs.declared.report.Verdict.TheVariants.{Cycles}
-use Rattle.flow_design.specs.declared.state.ModuleState.{ModuleState}
-use Rattle.flow_design.specs.StaticRules.{FitsEngine}
-use Rattle.lockstep_defs.specs.Machine.{nobody}
-use Rattle.lockstep_defs.specs.Lockstep.{moves, state}
+use Rattle.lockstep_defs.specs.{Machine.nobody, Lockstep.moves, Lockstep.state}
 use Rattle.lockstep_defs.specs.Verdict.{some_moves, is_settled, settled_verdict, verdict}
 use Rattle.lockstep_defs.proofs.Settled.{still_settled, settled_none, rests_settled}
 use Rattle.lockstep_defs.proofs.Found.{verdict_found, verdict_none}
-use Rattle.event_timing.specs.Enablers.{candidate}
-use Rattle.event_timing.specs.Core.{Core, view}
-use Rattle.event_timing.specs.Actions.{IsFinal}
+use Rattle.event_timing.specs.{Enablers.candidate, Core.Core, Core.view, Actions.IsFinal}
 use Rattle.event_timing.specs.Agreement.{IsAgreed, IsAtRest, IsUndetermined, stop}
 use Rattle.event_timing.proofs.Verdict.{rests, moved, determined_late}
 use Rattle.timing_bridge.specs.Designs.{design, lockstep_run}
-use Rattle.timing_bridge.proofs.Moved.{nobody_moves}
-use Rattle.timing_bridge.proofs.History.{plan_is_design, run_is_history, moves_same}
+use Rattle.timing_bridge.proofs.{Moved.nobody_moves, History.plan_is_design, History.run_is_history, History.moves_same}
 use Rattle.event_timing.specs.Histories as counted
 
 any_false : (test : ℕ × ModuleState → Bool) (n : ℕ) (xs : List ModuleState)

@@ -2,28 +2,17 @@
 use Rattle.std.specs.Prelude.{ℕ, zero, suc, max, is_some, Bool, true, false, not, ◌&&◌, ◌||◌, ◌≡◌, nat_lt, if◌then◌else◌, List, [], ◌++◌}
 use Rattle.std.specs.Prelude.{map, length, filter_map, find, Option, None, option_map, AllPairs, flat_map, ◌==◌, IsPermutation, IsSortedBy}
 use Rattle.std.specs.List.{range_with_len, list_any}
-use Rattle.flow_word.specs.declared.access.Side.TheVariants.{Push}
-use Rattle.flow_design.specs.declared.plan.Plan.{Plan}
-use Rattle.flow_design.specs.declared.report.Held.{Held}
-use Rattle.flow_design.specs.declared.report.Report.{Report}
-use Rattle.flow_design.specs.declared.report.Verdict.{Verdict}
+use Rattle.flow_word.specs.{declared.access.Side.TheVariants.Push, Kinds.is_blocking}
+use Rattle.flow_design.specs.{declared.plan.Plan.Plan, declared.report.Held.Held, declared.report.Report.Report}
+use Rattle.flow_design.specs.{declared.report.Verdict.Verdict, declared.state.ClockState.ClockState, declared.state.Request.Request}
 use Rattle.flow_design.specs.declared.report.Verdict.TheVariants.{Done, Deadlock, Cycles, Ops}
-use Rattle.flow_design.specs.declared.state.ClockState.{ClockState}
 use Rattle.flow_design.specs.declared.state.ModuleState.{ModuleState}
-use Rattle.flow_design.specs.declared.state.Request.{Request}
-use Rattle.flow_word.specs.Kinds.{is_blocking}
-use Rattle.lockstep_defs.specs.Channels.{HistoryStep, values, contents_of}
-use Rattle.lockstep_defs.specs.Lockstep.{requests_of, state}
-use Rattle.lockstep_defs.specs.Verdict.{settled_verdict, held_at}
+use Rattle.lockstep_defs.specs.{Channels.HistoryStep, Channels.values, Channels.contents_of, Lockstep.requests_of, Lockstep.state}
+use Rattle.lockstep_defs.specs.{Verdict.settled_verdict, Verdict.held_at, OwnRun.paired, Ports.owner, Laws.IsBefore}
 use Rattle.lockstep_defs.specs.Report.{steps_of, outcomes, events_of, sinks}
-use Rattle.lockstep_defs.specs.OwnRun.{paired}
-use Rattle.lockstep_defs.specs.Ports.{owner}
-use Rattle.lockstep_defs.specs.Laws.{IsBefore}
-use Rattle.event_timing.specs.Machines.{ready}
-use Rattle.event_timing.specs.Views.{own, pushed_in}
+use Rattle.event_timing.specs.{Machines.ready, Views.own, Views.pushed_in, Agreement.stop}
 use Rattle.event_timing.specs.Enablers.{Known, From, Never, Unknown, known_of, candidate}
 use Rattle.event_timing.specs.Core.{Core, core_reply, core_accesses, bare_replies, view}
-use Rattle.event_timing.specs.Agreement.{stop}
 use Rattle.timing_bridge.specs.Designs.{design, seen, told_all}
 
 -- ---- steps

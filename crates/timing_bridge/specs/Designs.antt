@@ -1,24 +1,16 @@
 -- The modules of a plan as machines of the theory, and the lockstep run as their history.
 use Rattle.std.specs.Prelude.{ℕ, Bool, true, false, not, ◌&&◌, List, [], ◌∷◌, map, length, slice_index, slice_index_or}
-use Rattle.flow_word.specs.declared.access.Side.{Side}
+use Rattle.flow_word.specs.{declared.access.Side.Side, Kinds.same_side, Kinds.side_of, Kinds.is_blocking, Kinds.is_taking}
 use Rattle.flow_word.specs.declared.access.Side.TheVariants.{Pop, Push}
-use Rattle.flow_design.specs.declared.design.ChannelKind.{ChannelKind}
+use Rattle.flow_design.specs.{declared.design.ChannelKind.ChannelKind, declared.plan.Plan.Plan, declared.state.ModuleState.ModuleState}
+use Rattle.flow_design.specs.{declared.state.Request.Request, declared.state.Reply.Reply, Plans.is_fifo, Plans.kind_at, Plans.delay_at}
 use Rattle.flow_design.specs.declared.design.ChannelKind.TheVariants.{Source, Sink, Fifo}
-use Rattle.flow_design.specs.declared.plan.Plan.{Plan}
-use Rattle.flow_design.specs.declared.state.ModuleState.{ModuleState}
-use Rattle.flow_design.specs.declared.state.Request.{Request}
-use Rattle.flow_design.specs.declared.state.Reply.{Reply}
-use Rattle.flow_design.specs.Plans.{is_fifo, kind_at, delay_at}
-use Rattle.lockstep_defs.specs.Machine.{opened, move, nobody, is_over}
-use Rattle.flow_word.specs.Kinds.{same_side, side_of, is_blocking, is_taking}
+use Rattle.lockstep_defs.specs.{Machine.opened, Machine.move, Machine.nobody, Machine.is_over, Quiet.quiet, Laws.all_in}
 use Rattle.lockstep_defs.specs.Channels.{reply_by, moved, values, contents_of}
 use Rattle.lockstep_defs.specs.Lockstep.{module_at, requests_of, state, state_at, history}
-use Rattle.lockstep_defs.specs.Quiet.{quiet}
 use Rattle.lockstep_defs.specs.Ports as ports
-use Rattle.lockstep_defs.specs.Laws.{all_in}
-use Rattle.event_timing.specs.Machines.{Design}
+use Rattle.event_timing.specs.{Machines.Design, Histories.Trace}
 use Rattle.event_timing.specs.Machines as theory
-use Rattle.event_timing.specs.Histories.{Trace}
 
 -- ---- requests and replies
 

@@ -1,14 +1,9 @@
 -- The outcomes of queries, by what is possible, and a module's next step in the history.
 use Rattle.std.specs.Prelude.{ℕ, Bool, ◌≡◌, if◌then◌else◌, List, [], ◌∷◌, ◌++◌, map}
-use Rattle.flow_word.specs.declared.access.Kind.{Kind}
-use Rattle.flow_word.specs.Kinds.{is_blocking}
-use Rattle.flow_design.specs.declared.plan.Plan.{Plan}
-use Rattle.flow_design.specs.declared.state.ModuleState.{ModuleState}
-use Rattle.flow_design.specs.declared.state.Request.{Request}
-use Rattle.lockstep_defs.specs.Machine.{is_yes}
+use Rattle.flow_word.specs.{declared.access.Kind.Kind, Kinds.is_blocking}
+use Rattle.flow_design.specs.{declared.plan.Plan.Plan, declared.state.ModuleState.ModuleState, declared.state.Request.Request}
+use Rattle.lockstep_defs.specs.{Machine.is_yes, Lockstep.requests_of, Lockstep.history, Report.steps_of}
 use Rattle.lockstep_defs.specs.Channels.{HistoryStep, reply_by}
-use Rattle.lockstep_defs.specs.Lockstep.{requests_of, history}
-use Rattle.lockstep_defs.specs.Report.{steps_of}
 use Rattle.event_timing.specs.Core.{Core}
 use Rattle.timing_bridge.specs.CoreReports.{core_steps}
 

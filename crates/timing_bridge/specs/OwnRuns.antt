@@ -1,16 +1,10 @@
 -- A module's own run, local clock by local clock, beside the theory's own run, step by step.
 use Rattle.std.specs.Prelude.{◌≡◌, ℕ, zero, suc, ◌+◌, ◌<◌, ◌≤◌, List, [], ◌∷◌, map, length, slice_index_or, ⊤}
 use Rattle.std.specs.List.{range_with_len}
-use Rattle.flow_design.specs.declared.plan.Plan.{Plan}
-use Rattle.flow_design.specs.declared.state.ModuleState.{ModuleState}
-use Rattle.flow_design.specs.declared.state.Reply.{Reply}
-use Rattle.lockstep_defs.specs.Lockstep.{requests_of}
-use Rattle.lockstep_defs.specs.OwnRun.{OwnStep, Own}
-use Rattle.lockstep_defs.specs.Quiet.{quiet}
-use Rattle.event_timing.specs.Machines.{skip, ready}
+use Rattle.flow_design.specs.{declared.plan.Plan.Plan, declared.state.ModuleState.ModuleState, declared.state.Reply.Reply}
+use Rattle.lockstep_defs.specs.{Lockstep.requests_of, OwnRun.OwnStep, OwnRun.Own, Quiet.quiet}
+use Rattle.event_timing.specs.{Machines.skip, Machines.ready, Views.own, Core.Core, Core.core_reply}
 use Rattle.event_timing.specs.Machines as theory
-use Rattle.event_timing.specs.Views.{own}
-use Rattle.event_timing.specs.Core.{Core, core_reply}
 use Rattle.timing_bridge.specs.Designs.{design, told_all}
 
 -- ---- replies

@@ -1,25 +1,18 @@
 -- The lines of the FIFOs.
-use Rattle.std.proofs.Common.{◌≡◌, ℕ, zero, suc, ◌+◌, ◌-◌, ◌<◌, ◌≤◌, List, [], ◌∷◌, ◌++◌, refl, sym, ap, ap₂, ◌∙◌, subst, arith}
-use Rattle.std.proofs.Common.{Bool, true, false, not, cond, ◌||◌, eqb, append_assoc, length}
-use Rattle.std.specs.Prelude.{codes}
-use Rattle.std.specs.List.{flat_map, filter, range_with_len, count_by}
-use Rattle.std.proofs.lemmas.Bool.{eq-eqb, ne_eqb}
-use Rattle.std.proofs.lemmas.List.{append-nil}
-use Rattle.std.proofs.lemmas.List.Concat.{flat_map-append}
+use Rattle.std.proofs.Common.{◌≡◌, ℕ, zero, suc, ◌+◌, ◌-◌, ◌<◌, ◌≤◌, List, [], ◌∷◌, ◌++◌, refl, sym, ap, ap₂, ◌∙◌, subst, arith, Bool, true}
+use Rattle.std.proofs.Common.{false, not, cond, ◌||◌, eqb, append_assoc, length}
+use Rattle.std.proofs.{lemmas.Bool.eq-eqb, lemmas.Bool.ne_eqb, lemmas.List.append-nil, lemmas.List.Concat.flat_map-append}
+use Rattle.std.specs.{Prelude.codes, List.flat_map, List.filter, List.range_with_len, List.count_by}
 use Rattle.flow_word.specs.declared.access.Side.TheVariants.{Pop, Push}
 use Rattle.flow_word.proofs.Ranges.{range_more}
-use Rattle.flow_design.specs.declared.design.ChannelKind.{ChannelKind}
+use Rattle.flow_design.specs.{declared.design.ChannelKind.ChannelKind, declared.plan.Plan.Plan, Plans.is_fifo, Plans.kind_at}
 use Rattle.flow_design.specs.declared.design.ChannelKind.TheVariants.{Source, Sink, Fifo}
-use Rattle.flow_design.specs.declared.plan.Plan.{Plan}
-use Rattle.flow_design.specs.Plans.{is_fifo, kind_at}
 use Rattle.flow_design.specs.StaticRules.{FitsEngine, users_wanted, uses}
 use Rattle.report_text.specs.ReportText.{channel_name}
 use Rattle.fifo_fills.specs.Fills.{fifos, fill, last_clock}
-use Rattle.port_clocks.specs.declared.walk.FifoWalk.{FifoWalk}
-use Rattle.port_clocks.specs.Walks.{IsFifoWalk, next_of}
+use Rattle.port_clocks.specs.{declared.walk.FifoWalk.FifoWalk, Walks.IsFifoWalk, Walks.next_of}
 use Rattle.port_clocks.proofs.Walking.{stands_before, walk_fill}
-use Rattle.trace_text.specs.Events.{fill_event, fill_events_at, fill_events}
-use Rattle.trace_text.specs.TraceText.{further}
+use Rattle.trace_text.specs.{Events.fill_event, Events.fill_events_at, Events.fill_events, TraceText.further}
 use Rattle.trace_text.proofs.Lines.{further-append, further-one, numbers_rest}
 
 -- ---- one FIFO

@@ -1,14 +1,10 @@
 -- Lines that grow.
-use Rattle.std.proofs.Common.{◌≡◌, ℕ, ◌+◌, ◌<◌, List, [], ◌∷◌, ◌++◌, refl, sym, ap, ◌∙◌, arith, map, length}
-use Rattle.std.proofs.Common.{take, get_or, append_assoc, Bool, cond, zero-add, add-one, ltb, ◌-◌, ◌≤◌}
-use Rattle.std.specs.Prelude.{codes}
-use Rattle.std.specs.List.{flat_map, filter, range_with_len}
-use Rattle.std.proofs.Math.Seq.{take-suc}
+use Rattle.std.proofs.Common.{◌≡◌, ℕ, ◌+◌, ◌<◌, List, [], ◌∷◌, ◌++◌, refl, sym, ap, ◌∙◌, arith, map, length, take, get_or, append_assoc}
+use Rattle.std.proofs.Common.{Bool, cond, zero-add, add-one, ltb, ◌-◌, ◌≤◌}
+use Rattle.std.proofs.{Math.Seq.take-suc, lemmas.List.Concat.flat_map-append, lemmas.List.Elements.filter-append, lemmas.Bool.lt-ltb}
 use Rattle.std.proofs.lemmas.List.{append-nil, map-append}
-use Rattle.std.proofs.lemmas.List.Concat.{flat_map-append}
-use Rattle.std.proofs.lemmas.List.Elements.{filter-append}
-use Rattle.std.proofs.lemmas.Bool.{lt-ltb}
 use Rattle.std.proofs.lemmas.List.FromFn.{map-range_with_len_more, length-map-range_with_len}
+use Rattle.std.specs.{Prelude.codes, List.flat_map, List.filter, List.range_with_len}
 use Rattle.trace_text.specs.TraceText.{further, lines_of}
 use Rattle.flow_word.proofs.Ranges.{range_more}
 use Rattle.sim_io.proofs.Pending.{numbered_rest}

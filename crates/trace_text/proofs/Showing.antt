@@ -1,25 +1,17 @@
 -- The list of a module's spans has exactly its spans, in order.
 use Rattle.std.proofs.Common.{◌≡◌, ◌≢◌, ℕ, zero, suc, ◌+◌, ◌-◌, ◌<◌, ◌≤◌, List, [], ◌∷◌, ◌++◌, refl, sym, ap, ap₂, ◌∙◌, subst, arith, ◌⊎◌}
-use Rattle.std.proofs.Common.{inl, inr}
-use Rattle.std.proofs.Common.{Some, None, Option, Bool, true, false, not, ◌&&◌, ◌||◌, cond, get_or, map, eqb, add-one}
-use Rattle.std.specs.Prelude.{unwrap_or, All}
-use Rattle.std.specs.List.{filter, range_with_len, prefix_len}
+use Rattle.std.proofs.Common.{inl, inr, Some, None, Option, Bool, true, false, not, ◌&&◌, ◌||◌, cond, get_or, map, eqb, add-one}
 use Rattle.std.proofs.lemmas.Bool.{cases_lt, cases_eq, cases_Bool, eq-eqb, ne_eqb, and_parts, eqb-true}
 use Rattle.std.proofs.lemmas.List.{append-nil, map-append, get_or_default}
 use Rattle.std.proofs.lemmas.List.FromFn.{length-range_with_len, get_or-range_with_len}
 use Rattle.std.proofs.lemmas.List.Sums.{prefix_len-le-length, prefix_len_is, prefix_len_passes, prefix_len_stops}
-use Rattle.flow_word.specs.declared.access.Port.{Port}
-use Rattle.flow_word.specs.declared.access.Side.{Side}
+use Rattle.std.specs.{Prelude.unwrap_or, Prelude.All, List.filter, List.range_with_len, List.prefix_len}
+use Rattle.flow_word.specs.{declared.access.Port.Port, declared.access.Side.Side, Kinds.same_side}
 use Rattle.flow_word.specs.declared.access.Side.TheVariants.{Pop, Push}
-use Rattle.flow_word.specs.Kinds.{same_side}
-use Rattle.flow_design.specs.declared.plan.Plan.{Plan}
-use Rattle.flow_design.specs.StaticRules.{FitsEngine, same_port}
+use Rattle.flow_design.specs.{declared.plan.Plan.Plan, StaticRules.FitsEngine, StaticRules.same_port}
 use Rattle.fifo_fills.specs.Fills.{last_clock}
-use Rattle.stall_spans.specs.declared.span.Span.{Span}
-use Rattle.stall_spans.specs.declared.span.Doing.{Doing}
+use Rattle.stall_spans.specs.{declared.span.Span.Span, declared.span.Doing.Doing, Doings.doing, Spans.IsSpan, Spans.AreSpans}
 use Rattle.stall_spans.specs.declared.span.Doing.TheVariants.{Moves, Still}
-use Rattle.stall_spans.specs.Doings.{doing}
-use Rattle.stall_spans.specs.Spans.{IsSpan, AreSpans}
 use Rattle.stall_spans.proofs.Adding.{cause_inside}
 use Rattle.stall_spans.proofs.Lists.{span_is, Member, member_left, member_last, member_cases, Rising, rising_more, contains_member}
 use Rattle.stall_spans.proofs.Extending.{Listed, listed_spans, spans_listed, only_spans, some_same}

@@ -1,19 +1,15 @@
 -- The whole text.
 use Rattle.std.proofs.Common.{◌≡◌, ℕ, ◌<◌, ◌^◌, List, [], ◌∷◌, ◌++◌, refl, sym, ap, ap₂, ◌∙◌, arith, length}
-use Rattle.std.specs.List.{flat_map, range_with_len}
 use Rattle.std.proofs.lemmas.List.FromFn.{length-map-range_with_len}
-use Rattle.flow_design.specs.declared.design.Module.{Module}
-use Rattle.flow_design.specs.declared.plan.Plan.{Plan}
+use Rattle.std.specs.List.{flat_map, range_with_len}
+use Rattle.flow_design.specs.{declared.design.Module.Module, declared.plan.Plan.Plan, StaticRules.FitsEngine, Reports.clock_of}
 use Rattle.flow_design.specs.declared.report.Verdict.{Verdict}
-use Rattle.flow_design.specs.StaticRules.{FitsEngine}
 use Rattle.lockstep_defs.specs.Verdict.{verdict}
-use Rattle.flow_design.specs.Reports.{clock_of}
 use Rattle.report_text.specs.ReportText.{module_name}
 use Rattle.fifo_fills.specs.Fills.{fifos, last_clock}
 use Rattle.trace_text.specs.Events.{name_event, names_of, span_events, fill_events}
 use Rattle.trace_text.specs.TraceText.{opening, closing, further, lines_of, trace_text}
-use Rattle.trace_text.proofs.Lines.{whole, whole_lines}
-use Rattle.trace_text.proofs.Filling.{no_fifos}
+use Rattle.trace_text.proofs.{Lines.whole, Lines.whole_lines, Filling.no_fifos}
 
 pub few_modules : (p : Plan) → FitsEngine p → length p.design.modules < 2 ^ 32
 few_modules p h = let c = h.module_count in omega arith

@@ -1,16 +1,12 @@
 -- The events of a trace: the modules' names, their spans, and what the FIFOs hold. One clock is written as one microsecond.
 use Rattle.std.specs.Prelude.{ℕ, ◌<◌, ◌+◌, ◌-◌, ◌==◌, ◌||◌, not, if◌then◌else◌, List, [], ◌∷◌, ◌++◌, map, length, codes, decimal}
 use Rattle.std.specs.List.{flat_map, range_with_len}
-use Rattle.flow_word.specs.declared.access.Side.{Side}
-use Rattle.flow_word.specs.declared.access.Side.TheVariants.{Pop, Push}
-use Rattle.flow_design.specs.declared.design.Design.{Design}
-use Rattle.flow_design.specs.declared.plan.Plan.{Plan}
-use Rattle.report_text.specs.Lines.{Token}
-use Rattle.report_text.specs.ReportText.{module_name, channel_name}
+use Rattle.flow_word.specs.{declared.access.Side.Side, declared.access.Side.TheVariants.Pop, declared.access.Side.TheVariants.Push}
+use Rattle.flow_design.specs.{declared.design.Design.Design, declared.plan.Plan.Plan}
+use Rattle.report_text.specs.{Lines.Token, ReportText.module_name, ReportText.channel_name}
 use Rattle.fifo_fills.specs.Fills.{fifos, fill, last_clock}
-use Rattle.stall_spans.specs.declared.span.Doing.{Doing}
+use Rattle.stall_spans.specs.{declared.span.Doing.Doing, declared.span.Span.Span}
 use Rattle.stall_spans.specs.declared.span.Doing.TheVariants.{Moves, Still}
-use Rattle.stall_spans.specs.declared.span.Span.{Span}
 use Rattle.trace_text.specs.Spans.{spans_of}
 
 -- ---- one event

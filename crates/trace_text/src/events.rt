@@ -1,8 +1,7 @@
 //! Writing single events of a trace, each on a line of its own.
-ghost use Rattle.std.specs.Prelude.{◌≡◌, ◌<◌, ◌≤◌, ◌+◌, ◌++◌, ◌∷◌, ◌==◌, [], not};
-ghost use Rattle.std.specs.Prelude.{if◌then◌else◌, codes, map, length, slice_index_or, All, IsErrOf, OnErr, OnOk};
-ghost use Rattle.sim_io.specs.Causes.{AppendsPrefix, Rose};
-ghost use Rattle.sim_io.specs.Telling.{IsTold};
+ghost use Rattle.std.specs.Prelude.{◌≡◌, ◌<◌, ◌≤◌, ◌+◌, ◌++◌, ◌∷◌, ◌==◌, [], not, if◌then◌else◌, codes, map, length, slice_index_or, All};
+ghost use Rattle.std.specs.Prelude.{IsErrOf, OnErr, OnOk};
+ghost use Rattle.sim_io.specs.{Causes.AppendsPrefix, Causes.Rose, Telling.IsTold};
 ghost use Rattle.report_text.specs.ReportText.{channel_name, module_name};
 ghost use Rattle.stall_spans.specs.declared.span.Doing.{Doing};
 ghost use Rattle.trace_text.specs.Events.{name_event, span_event, fill_event, doing_name, side_word, IsDrawn};

@@ -1,15 +1,13 @@
 //! Writing what each FIFO holds, clock by clock.
 ghost use Rattle.std.specs.Prelude.{◌≡◌, ◌<◌, ◌≤◌, ◌++◌, [], length, if◌then◌else◌, IsErrOf, IsTrue, OnErr, OnOk};
 ghost use Rattle.std.specs.List.{flat_map};
-ghost use Rattle.sim_io.specs.Causes.{AppendsPrefix, Rose};
-ghost use Rattle.sim_io.specs.Telling.{IsTold};
+ghost use Rattle.sim_io.specs.{Causes.AppendsPrefix, Causes.Rose, Telling.IsTold};
 ghost use Rattle.flow_design.specs.Plans.{is_fifo, kind_at};
 ghost use Rattle.event_timing.specs.Actions.{IsFinal};
 ghost use Rattle.timing_bridge.specs.Designs.{design as design_of};
 ghost use Rattle.sim_core.specs.Views.{theory_of};
 ghost use Rattle.fifo_fills.specs.Fills.{fifos, last_clock};
-ghost use Rattle.trace_text.specs.Events.{fill_events};
-ghost use Rattle.trace_text.specs.TraceText.{further};
+ghost use Rattle.trace_text.specs.{Events.fill_events, TraceText.further};
 
 use crate::events::{write_change, write_fill};
 use flow_word::List;

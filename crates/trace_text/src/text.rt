@@ -1,13 +1,11 @@
 //! The trace of a core's plan.
 ghost use Rattle.std.specs.Prelude.{◌≡◌, ◌++◌, ◌<◌, ◌≤◌, ◌^◌, map, length, IfOk, IsErrOf, OnErr, OnOk};
 ghost use Rattle.std.specs.List.{flat_map, range_with_len};
-ghost use Rattle.sim_io.specs.Causes.{AppendsPrefix, Rose};
-ghost use Rattle.sim_io.specs.Telling.{IsTold};
+ghost use Rattle.sim_io.specs.{Causes.AppendsPrefix, Causes.Rose, Telling.IsTold};
 ghost use Rattle.event_timing.specs.Actions.{IsFinal};
 ghost use Rattle.timing_bridge.specs.Designs.{design as design_of};
 ghost use Rattle.sim_core.specs.Views.{theory_of};
-ghost use Rattle.trace_text.specs.Events.{names_of, span_events};
-ghost use Rattle.trace_text.specs.TraceText.{further, lines_of};
+ghost use Rattle.trace_text.specs.{Events.names_of, Events.span_events, TraceText.further, TraceText.lines_of};
 ghost use Rattle.trace_text.specs.TraceText as form;
 
 use crate::events::{print_name, write_spans};

@@ -1,26 +1,19 @@
 -- What is done at one module changes nothing for another that shares no channel with it.
-use Rattle.std.proofs.Common.{◌≡◌, refl, sym, ap, ap₂, subst, ◌∙◌, ℕ, zero, suc, ◌+◌, ◌-◌, ◌<◌, ◌≤◌, arith}
-use Rattle.std.proofs.Common.{Bool, true, cond, ◌||◌, inl, inr, List, [], ◌∷◌, Option, Some, None}
-use Rattle.std.specs.Prelude.{ltb}
+use Rattle.std.proofs.Common.{◌≡◌, refl, sym, ap, ap₂, subst, ◌∙◌, ℕ, zero, suc, ◌+◌, ◌-◌, ◌<◌, ◌≤◌, arith, Bool, true, cond, ◌||◌, inl}
+use Rattle.std.proofs.Common.{inr, List, [], ◌∷◌, Option, Some, None}
 use Rattle.std.proofs.lemmas.Bool.{cases_Bool, cond-true, cond-false}
-use Rattle.flow_word.specs.declared.access.Side.{Side}
-use Rattle.flow_word.specs.Kinds.{other_side}
+use Rattle.std.specs.Prelude.{ltb}
+use Rattle.flow_word.specs.{declared.access.Side.Side, Kinds.other_side}
 use Rattle.event_timing.specs.Machines.{Access, Reply, Design, IsDesign, Each, takes_in}
-use Rattle.event_timing.specs.Histories.{Trace, IsHistory}
-use Rattle.event_timing.specs.Views.{tally, place, from, first_accesses}
+use Rattle.event_timing.specs.{Histories.Trace, Histories.IsHistory, Views.tally, Views.place, Views.from, Views.first_accesses}
+use Rattle.event_timing.specs.{Enablers.Known.From, Enablers.Known.Never, Actions.Action.Run, Agreement.IsAgreed}
 use Rattle.event_timing.specs.Core.{Core, bare_replies, core_accesses, core_reply, view}
 use Rattle.event_timing.specs.Enablers.{Known, known, known_of, candidate, bound, to_clock, reach, from_step, timed_place, all_decided}
-use Rattle.event_timing.specs.Enablers.Known.{From, Never}
 use Rattle.event_timing.specs.Actions.{ActsAll, IsDetermined, MayAssign, after_run, after_assign, after_answer, emit_over, runs}
-use Rattle.event_timing.specs.Actions.Action.{Run}
-use Rattle.event_timing.specs.Agreement.{IsAgreed}
 use Rattle.event_timing.specs.Permitted.{may_assign, may_answer, is_determined, is_before, decides}
-use Rattle.event_timing.proofs.Agreement.{acts_agree}
-use Rattle.event_timing.proofs.Assigning.{put_other, put_at_other, put_at_same}
-use Rattle.event_timing.proofs.Fronts.{tally_same, core_tally_is}
-use Rattle.event_timing.proofs.Running.{emit, old_at, run_cases}
-use Rattle.turn_history.specs.Apart.{AreApart}
-use Rattle.turn_history.specs.Rounds.{cycle_found, may_time, after_timing}
+use Rattle.event_timing.proofs.{Agreement.acts_agree, Assigning.put_other, Assigning.put_at_other, Assigning.put_at_same, Fronts.tally_same}
+use Rattle.event_timing.proofs.{Fronts.core_tally_is, Running.emit, Running.old_at, Running.run_cases}
+use Rattle.turn_history.specs.{Apart.AreApart, Rounds.cycle_found, Rounds.may_time, Rounds.after_timing}
 
 -- ---- lists of accesses
 

@@ -1,20 +1,12 @@
 -- A history that is computed is legal; what stands behind a legal one is reached by permitted actions.
 use Rattle.std.proofs.Common.{◌≡◌, ℕ, ap, Some, List, [], ◌∷◌, ◌++◌, inl, inr}
-use Rattle.event_timing.specs.Machines.{Design, IsDesign}
-use Rattle.event_timing.specs.Histories.{Trace, IsHistory}
-use Rattle.event_timing.specs.Actions.{Action, ActsAll, runs}
-use Rattle.event_timing.specs.Actions.Action.{Earliest}
-use Rattle.event_timing.specs.Agreement.{IsAgreed, AllVerified}
-use Rattle.event_timing.proofs.Agreement.{all_agree}
-use Rattle.event_timing.proofs.ActionBound.{all_rise}
-use Rattle.turn_history.specs.declared.turn.HubTurn.{HubTurn}
+use Rattle.event_timing.specs.{Machines.Design, Machines.IsDesign, Histories.Trace, Histories.IsHistory, Actions.Action, Actions.ActsAll}
+use Rattle.event_timing.specs.{Actions.runs, Actions.Action.Earliest, Agreement.IsAgreed, Agreement.AllVerified}
+use Rattle.event_timing.proofs.{Agreement.all_agree, ActionBound.all_rise}
+use Rattle.turn_history.specs.{declared.turn.HubTurn.HubTurn, Turned.Turned, Turns.IsTurnOf, Turns.TurnsOf}
 use Rattle.turn_history.specs.declared.turn.HubTurn.TheVariants.{Lent, Ran, Timed, Short}
-use Rattle.turn_history.specs.Turned.{Turned}
-use Rattle.turn_history.specs.Turns.{IsTurnOf, TurnsOf}
 use Rattle.turn_history.specs.Replays.{turn_on, turns_on}
-use Rattle.turn_history.proofs.Timings.{then_some}
-use Rattle.turn_history.proofs.Turning.{turn_is}
-use Rattle.turn_history.proofs.Lending.{acts_join}
+use Rattle.turn_history.proofs.{Timings.then_some, Turning.turn_is, Lending.acts_join}
 
 module _ {S : Type 0} (d : Design S) (limit : ℕ) where
   turn_acts : (v w : Turned S) (turn : HubTurn) → IsTurnOf d limit v turn w

@@ -1,17 +1,13 @@
 -- While a module is lent to a pass, the turns of others do no Run of it; and nothing is done behind a final core.
-use Rattle.std.proofs.Common.{◌≡◌, ℕ, zero, suc, ◌≤◌, inl, inr, refl, sym, ap}
-use Rattle.std.proofs.Common.{◌∙◌, subst, arith, Option, Some, None, List, [], ◌∷◌, ◌++◌, length}
+use Rattle.std.proofs.Common.{◌≡◌, ℕ, zero, suc, ◌≤◌, inl, inr, refl, sym, ap, ◌∙◌, subst, arith, Option, Some, None, List, [], ◌∷◌, ◌++◌}
+use Rattle.std.proofs.Common.{length}
+use Rattle.std.proofs.{lemmas.Bool.cond-false, lemmas.Bool.ne_eqb, lemmas.List.get_or-set_other, Math.ListN.get_or-map}
 use Rattle.std.specs.Prelude.{get_or, slice_set, map}
-use Rattle.std.proofs.lemmas.Bool.{cond-false, ne_eqb}
-use Rattle.std.proofs.lemmas.List.{get_or-set_other}
-use Rattle.std.proofs.Math.ListN.{get_or-map}
-use Rattle.event_timing.specs.Machines.{Design}
-use Rattle.event_timing.specs.Core.{Core}
+use Rattle.event_timing.specs.{Machines.Design, Core.Core}
 use Rattle.event_timing.specs.Actions.{Action, Acts, ActsAll, IsNoRunOf, IsFinal, runs}
 use Rattle.event_timing.specs.Actions.Action.{Run, Assign, Answer, Earliest}
-use Rattle.turn_history.specs.declared.turn.HubTurn.{HubTurn}
+use Rattle.turn_history.specs.{declared.turn.HubTurn.HubTurn, Turned.Turned, Turned.lent_at, Turned.is_lent_to, Turned.not_to}
 use Rattle.turn_history.specs.declared.turn.HubTurn.TheVariants.{Lent, Ran, Timed, Short}
-use Rattle.turn_history.specs.Turned.{Turned, lent_at, is_lent_to, not_to}
 use Rattle.turn_history.specs.Turns.{AreTimings, IsTurnOf, TurnsOf, taker, AreOfOthers}
 
 -- ---- lists of actions

@@ -2,9 +2,7 @@
 use Rattle.std.proofs.Common.{◌≡◌, ℕ, zero, suc, ◌<◌, ◌≤◌, Bool, true, false, ◌||◌, ap, ap₂, ◌∙◌, cond, arith, Option, Some, None, inl, inr}
 use Rattle.std.proofs.lemmas.Bool.{cases_Bool, cond-true, cond-false, both_ways, or_cases}
 use Rattle.std.specs.Option.{is_none}
-use Rattle.event_timing.specs.Machines.{Design}
-use Rattle.event_timing.specs.Enablers.{candidate}
-use Rattle.event_timing.specs.Core.{Core, view}
+use Rattle.event_timing.specs.{Machines.Design, Enablers.candidate, Core.Core, Core.view}
 use Rattle.event_timing.specs.Actions.{MayAssign, MayAnswer, MayEarliest, after_assign, after_answer}
 use Rattle.event_timing.specs.Permitted.{IsInside, may_assign, may_answer, may_earliest}
 use Rattle.event_timing.proofs.Deciding.{assign_decided, answer_decided, earliest_decided}

@@ -1,20 +1,13 @@
 -- The histories of a plan.
 use Rattle.std.proofs.Common.{◌≡◌, Some, List}
-use Rattle.flow_design.specs.declared.plan.Plan.{Plan}
-use Rattle.flow_design.specs.declared.state.ModuleState.{ModuleState}
-use Rattle.flow_design.specs.StaticRules.{FitsEngine}
-use Rattle.event_timing.specs.Core.{opening_core}
-use Rattle.event_timing.specs.Agreement.{IsAgreed, AllVerified}
-use Rattle.event_timing.proofs.Agreement.{opening_agrees}
-use Rattle.event_timing.proofs.ActionBound.{all_rise, none_assumed}
+use Rattle.flow_design.specs.{declared.plan.Plan.Plan, declared.state.ModuleState.ModuleState, StaticRules.FitsEngine}
+use Rattle.event_timing.specs.{Core.opening_core, Agreement.IsAgreed, Agreement.AllVerified}
+use Rattle.event_timing.proofs.{Agreement.opening_agrees, ActionBound.all_rise, ActionBound.none_assumed}
 use Rattle.timing_bridge.specs.Designs.{design, lockstep_run}
-use Rattle.timing_bridge.proofs.History.{plan_is_design, run_is_history}
-use Rattle.timing_bridge.proofs.Orders.{reached_agrees}
-use Rattle.turn_history.specs.declared.turn.HubTurn.{HubTurn}
-use Rattle.turn_history.specs.Turned.{Turned, opening_turned}
+use Rattle.timing_bridge.proofs.{History.plan_is_design, History.run_is_history, Orders.reached_agrees}
+use Rattle.turn_history.specs.{declared.turn.HubTurn.HubTurn, Turned.Turned, Turned.opening_turned}
 use Rattle.turn_history.specs.Histories.{IsHistoryOf, IsTurn, standing_of, turned_by}
-use Rattle.turn_history.proofs.Turning.{turn_is}
-use Rattle.turn_history.proofs.Legal.{turns_act, turns_are}
+use Rattle.turn_history.proofs.{Turning.turn_is, Legal.turns_act, Legal.turns_are}
 
 module _ (p : Plan) (fits : FitsEngine p) where
   opening_agreed : IsAgreed (design p) (lockstep_run p) p.cycles (opening_core (design p))

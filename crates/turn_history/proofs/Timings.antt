@@ -1,21 +1,13 @@
 -- Assigns and Answers, Earliest and Runs: what is computed are permitted actions.
-use Rattle.std.proofs.Common.{◌≡◌, ℕ, zero, suc, ◌<◌, ◌⊎◌, Bool, true, false, cond, ◌||◌, inl}
-use Rattle.std.proofs.Common.{inr, refl, sym, ap, ◌∙◌, subst, arith, Option, Some, None, [], ◌∷◌}
+use Rattle.std.proofs.Common.{◌≡◌, ℕ, zero, suc, ◌<◌, ◌⊎◌, Bool, true, false, cond, ◌||◌, inl, inr, refl, sym, ap, ◌∙◌, subst, arith}
+use Rattle.std.proofs.Common.{Option, Some, None, [], ◌∷◌}
 use Rattle.std.proofs.lemmas.Bool.{cases_Bool, cases_lt, cond-true, cond-false, both_ways, or_cases}
-use Rattle.std.specs.Option.{is_none}
-use Rattle.std.specs.Prelude.{unwrap_or}
-use Rattle.event_timing.specs.Machines.{Design, IsDesign}
-use Rattle.event_timing.specs.Histories.{Trace, IsHistory}
-use Rattle.event_timing.specs.Enablers.{candidate}
-use Rattle.event_timing.specs.Core.{Core, view}
-use Rattle.event_timing.specs.Actions.{Acts, ActsAll, MayAssign, MayAnswer, MayEarliest, runs}
-use Rattle.event_timing.specs.Actions.{after_run, after_assign, after_answer}
-use Rattle.event_timing.specs.Actions.Action.{Assign, Answer}
-use Rattle.event_timing.specs.Agreement.{IsAgreed, AllVerified}
+use Rattle.std.specs.{Option.is_none, Prelude.unwrap_or}
+use Rattle.event_timing.specs.{Machines.Design, Machines.IsDesign, Histories.Trace, Histories.IsHistory, Enablers.candidate, Core.Core}
+use Rattle.event_timing.specs.{Core.view, Actions.Action.Assign, Actions.Action.Answer, Agreement.IsAgreed, Agreement.AllVerified}
+use Rattle.event_timing.specs.Actions.{Acts, ActsAll, MayAssign, MayAnswer, MayEarliest, runs, after_run, after_assign, after_answer}
 use Rattle.event_timing.specs.Permitted.{IsInside, may_run, may_assign, may_answer, may_earliest}
-use Rattle.event_timing.proofs.Agreement.{all_agree}
-use Rattle.event_timing.proofs.ActionBound.{all_rise, never_found}
-use Rattle.event_timing.proofs.Answering.{first_emitted}
+use Rattle.event_timing.proofs.{Agreement.all_agree, ActionBound.all_rise, ActionBound.never_found, Answering.first_emitted}
 use Rattle.event_timing.proofs.Deciding.{run_decided, assign_decided, answer_decided, earliest_decided}
 use Rattle.turn_history.specs.Turns.{NoTiming, IsTimedTo, IsEarliestTo}
 use Rattle.turn_history.specs.Rounds.{cycle_found, may_time, after_timing, next_timing, timings, first_earliest, earliest_of, runs_of}

@@ -1,21 +1,15 @@
 -- A turn that is computed is legal, and which turns are computed.
-use Rattle.std.proofs.Common.{◌≡◌, ℕ, ◌≤◌, ◌⊎◌, Bool, true, false, not, cond, ◌&&◌, eqb, ltb, inl}
-use Rattle.std.proofs.Common.{inr, refl, sym, ap, ◌∙◌, subst, arith, Option, Some, None, List, [], ◌∷◌, ◌++◌}
+use Rattle.std.proofs.Common.{◌≡◌, ℕ, ◌≤◌, ◌⊎◌, Bool, true, false, not, cond, ◌&&◌, eqb, ltb, inl, inr, refl, sym, ap, ◌∙◌, subst, arith}
+use Rattle.std.proofs.Common.{Option, Some, None, List, [], ◌∷◌, ◌++◌}
 use Rattle.std.proofs.lemmas.Bool.{cond-true, and_parts, and_from, not-true, not_from_false, eqb-true, eq-eqb, ltb-true, lt-ltb}
 use Rattle.std.specs.Option.{is_none, option_or, option_map}
-use Rattle.event_timing.specs.Machines.{Design, IsDesign}
-use Rattle.event_timing.specs.Histories.{Trace, IsHistory}
-use Rattle.event_timing.specs.Core.{Core}
-use Rattle.event_timing.specs.Actions.{ActsAll, runs}
-use Rattle.event_timing.specs.Agreement.{IsAgreed, AllVerified}
-use Rattle.event_timing.specs.Permitted.{IsInside, may_run}
+use Rattle.event_timing.specs.{Machines.Design, Machines.IsDesign, Histories.Trace, Histories.IsHistory, Core.Core, Actions.ActsAll}
+use Rattle.event_timing.specs.{Actions.runs, Agreement.IsAgreed, Agreement.AllVerified, Permitted.IsInside, Permitted.may_run}
 use Rattle.event_timing.proofs.Deciding.{run_decided}
-use Rattle.turn_history.specs.declared.turn.HubTurn.{HubTurn}
+use Rattle.turn_history.specs.{declared.turn.HubTurn.HubTurn, Turns.IsTimedTo, Turns.IsEarliestTo, Turns.IsTurnOf, Rounds.then_on}
+use Rattle.turn_history.specs.{Rounds.timings, Rounds.earliest_of, Rounds.runs_of, Replays.turn_on, Replays.turns_on}
 use Rattle.turn_history.specs.declared.turn.HubTurn.TheVariants.{Lent, Ran, Timed, Short}
 use Rattle.turn_history.specs.Turned.{Turned, lent_at, is_lent_to, after_lent, after_ran, after_timed, after_short}
-use Rattle.turn_history.specs.Turns.{IsTimedTo, IsEarliestTo, IsTurnOf}
-use Rattle.turn_history.specs.Rounds.{then_on, timings, earliest_of, runs_of}
-use Rattle.turn_history.specs.Replays.{turn_on, turns_on}
 use Rattle.turn_history.proofs.Timings.{none_is, timings_are, earliest_is, earliest_alone, acts_are_runs, runs_are_acts}
 
 -- ---- options and tests

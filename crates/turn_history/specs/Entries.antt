@@ -1,13 +1,9 @@
 -- The history of a hub: the plan at whose opening it began, and the turns since.
 use Rattle.std.specs.Prelude.{◌≡◌, ℕ, List, ◌∷◌, map, Option, None, Some}
-use Rattle.flow_design.specs.declared.plan.Plan.{Plan}
-use Rattle.flow_design.specs.declared.state.ModuleState.{ModuleState}
+use Rattle.flow_design.specs.{declared.plan.Plan.Plan, declared.state.ModuleState.ModuleState}
 use Rattle.turn_history.specs.declared.entry.HubEntry.{HubEntry}
 use Rattle.turn_history.specs.declared.entry.HubEntry.TheVariants.{Opened, Turn}
-use Rattle.turn_history.specs.declared.turn.HubTurn.{HubTurn}
-use Rattle.turn_history.specs.Turned.{Turned}
-use Rattle.turn_history.specs.Turns.{taker}
-use Rattle.turn_history.specs.Histories.{standing_of}
+use Rattle.turn_history.specs.{declared.turn.HubTurn.HubTurn, Turned.Turned, Turns.taker, Histories.standing_of}
 
 -- the number of the pass that an entry bears; the opening bears none
 abbrev pub bearer : HubEntry → Option ℕ

@@ -1,12 +1,9 @@
 -- The legal histories of a plan: as a relation, and computed.
 use Rattle.std.specs.Prelude.{List, Option}
-use Rattle.flow_design.specs.declared.plan.Plan.{Plan}
-use Rattle.flow_design.specs.declared.state.ModuleState.{ModuleState}
+use Rattle.flow_design.specs.{declared.plan.Plan.Plan, declared.state.ModuleState.ModuleState}
 use Rattle.timing_bridge.specs.Designs.{design}
-use Rattle.turn_history.specs.declared.turn.HubTurn.{HubTurn}
+use Rattle.turn_history.specs.{declared.turn.HubTurn.HubTurn, Turns.IsTurnOf, Turns.TurnsOf, Replays.turn_on, Replays.turns_on}
 use Rattle.turn_history.specs.Turned.{Turned, opening_turned}
-use Rattle.turn_history.specs.Turns.{IsTurnOf, TurnsOf}
-use Rattle.turn_history.specs.Replays.{turn_on, turns_on}
 
 abbrev pub IsTurn : Plan → Turned ModuleState → HubTurn → Turned ModuleState → Type 0
 IsTurn p v turn w = IsTurnOf (design p) p.cycles v turn w

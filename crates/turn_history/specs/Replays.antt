@@ -1,12 +1,10 @@
 -- Legal histories of turns, computed: where a history leads is a function of it.
 use Rattle.std.specs.Prelude.{ℕ, not, ◌&&◌, cond, eqb, ltb, List, [], ◌∷◌, Option, None, Some, is_none}
 use Rattle.std.specs.Option.{option_or, option_map}
-use Rattle.event_timing.specs.Machines.{Design}
-use Rattle.event_timing.specs.Permitted.{may_run}
-use Rattle.turn_history.specs.declared.turn.HubTurn.{HubTurn}
+use Rattle.event_timing.specs.{Machines.Design, Permitted.may_run}
+use Rattle.turn_history.specs.{declared.turn.HubTurn.HubTurn, Rounds.then_on, Rounds.timings, Rounds.earliest_of, Rounds.runs_of}
 use Rattle.turn_history.specs.declared.turn.HubTurn.TheVariants.{Lent, Ran, Timed, Short}
 use Rattle.turn_history.specs.Turned.{Turned, lent_at, is_lent_to, after_lent, after_ran, after_timed, after_short}
-use Rattle.turn_history.specs.Rounds.{then_on, timings, earliest_of, runs_of}
 
 -- where one more turn leads; none where it is not legal
 abbrev pub turn_on : {S : Type 0} → Design S → ℕ → Turned S → HubTurn → Option (Turned S)

@@ -1,7 +1,6 @@
 -- Legal histories of turns as a relation: what each turn is, as actions of the core.
 use Rattle.std.specs.Prelude.{◌≡◌, ℕ, ◌<◌, ◌≤◌, ◌⊎◌, ⊤, false, List, [], ◌∷◌, length, None, Some}
-use Rattle.event_timing.specs.Machines.{Design}
-use Rattle.event_timing.specs.Core.{Core}
+use Rattle.event_timing.specs.{Machines.Design, Core.Core}
 use Rattle.event_timing.specs.Actions.{Action, ActsAll, MayRun, MayAssign, MayAnswer, MayEarliest, IsOpen, runs}
 use Rattle.event_timing.specs.Actions.Action.{Run, Assign, Answer, Earliest}
 use Rattle.turn_history.specs.declared.turn.HubTurn.{HubTurn}

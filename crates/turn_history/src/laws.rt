@@ -1,21 +1,14 @@
 //! The laws of turns, for any design `d` over states of any type `S`, any history `h` of its lockstep machine, and any plan `p`.
 ghost use Rattle.std.specs.Prelude.{◌≡◌, ℕ, ◌≤◌, List, [], ◌∷◌, ◌++◌, false, None, Some};
-ghost use Rattle.flow_design.specs.declared.plan.Plan.{Plan};
-ghost use Rattle.flow_design.specs.declared.state.ModuleState.{ModuleState};
-ghost use Rattle.flow_design.specs.StaticRules.{FitsEngine};
+ghost use Rattle.flow_design.specs.{declared.plan.Plan.Plan, declared.state.ModuleState.ModuleState, StaticRules.FitsEngine};
 ghost use Rattle.timing_bridge.specs.Designs.{design, lockstep_run};
-ghost use Rattle.event_timing.specs.Machines.{Design, IsDesign};
-ghost use Rattle.event_timing.specs.Histories.{Trace, IsHistory};
-ghost use Rattle.event_timing.specs.Core.{Core};
+ghost use Rattle.event_timing.specs.{Machines.Design, Machines.IsDesign, Histories.Trace, Histories.IsHistory, Core.Core};
+ghost use Rattle.event_timing.specs.{Agreement.IsAgreed, Agreement.AllVerified, Permitted.IsInside};
 ghost use Rattle.event_timing.specs.Actions.{Action, ActsAll, IsNoRunOf, IsFinal};
-ghost use Rattle.event_timing.specs.Agreement.{IsAgreed, AllVerified};
-ghost use Rattle.event_timing.specs.Permitted.{IsInside};
-ghost use Rattle.turn_history.specs.declared.turn.HubTurn.{HubTurn};
+ghost use Rattle.turn_history.specs.{declared.turn.HubTurn.HubTurn, Turned.Turned, Turned.lent_at, Turned.after_timed, Rounds.then_on};
+ghost use Rattle.turn_history.specs.{Rounds.timings, Rounds.earliest_of, Replays.turn_on, Replays.turns_on};
 ghost use Rattle.turn_history.specs.declared.turn.HubTurn.TheVariants.{Lent, Ran, Timed, Short};
-ghost use Rattle.turn_history.specs.Turned.{Turned, lent_at, after_timed};
-ghost use Rattle.turn_history.specs.Rounds.{then_on, timings, earliest_of};
 ghost use Rattle.turn_history.specs.Turns.{IsTurnOf, TurnsOf, AreOfOthers, taker};
-ghost use Rattle.turn_history.specs.Replays.{turn_on, turns_on};
 ghost use Rattle.turn_history.specs.Histories.{IsHistoryOf, IsTurn, standing_of, turned_by};
 
 /// A turn that the computed test accepts is legal. The test accepts each legal lending, each legal return, and each legal turn in

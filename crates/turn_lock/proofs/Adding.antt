@@ -7,11 +7,8 @@ use mathlib.Core.List.{IsPrefix}
 use lib.ListN.{get_elem?}
 use Rattle.atomic_table.specs.Table.{State, Me, step, keeps, Allows}
 use Rattle.atomic_table.proofs.Lists.{at_last}
-use Rattle.turn_lock.specs.declared.view.View.{View}
+use Rattle.turn_lock.specs.{declared.view.View.View, Views.after_entry, Rule.Story, Rule.Knows, Rule.Ruled, Steps.Added}
 use Rattle.turn_lock.specs.Entries.{entries_of, Owns}
-use Rattle.turn_lock.specs.Views.{after_entry}
-use Rattle.turn_lock.specs.Rule.{Story, Knows, Ruled}
-use Rattle.turn_lock.specs.Steps.{Added}
 use Rattle.turn_lock.proofs.Histories.{prefix_self, prefix_more, entries_mine, entries_other}
 use Rattle.turn_lock.proofs.Seats.{same_seat, seats_stay, mark_stays}
 

@@ -7,12 +7,8 @@ use lib.ListN.{get_elem?}
 use Rattle.atomic_table.specs.Table.{State, Me, step, gives, Allows}
 use Rattle.atomic_table.proofs.Lists.{set_here}
 use Rattle.turn_lock.specs.declared.view.View.{View}
-use Rattle.turn_lock.specs.Entries.{entries_of}
-use Rattle.turn_lock.specs.Views.{after_turn}
-use Rattle.turn_lock.specs.Rule.{Knows, Ruled}
-use Rattle.turn_lock.specs.Steps.{Freed, CanEnd}
-use Rattle.turn_lock.proofs.Histories.{prefix_self}
-use Rattle.turn_lock.proofs.Seats.{seats_stay, unmarked}
+use Rattle.turn_lock.specs.{Entries.entries_of, Views.after_turn, Rule.Knows, Rule.Ruled, Steps.Freed, Steps.CanEnd}
+use Rattle.turn_lock.proofs.{Histories.prefix_self, Seats.seats_stay, Seats.unmarked}
 
 module _ {K E : Type 0} (history : K → List E) (bearer : E → Option ℕ) (passes : ℕ) where
   abbrev Rule : State (Option K) (View E) → Type 0

@@ -2,14 +2,11 @@
 use Rattle.std.proofs.Common.{◌≡◌, ◌≢◌, ◌⊎◌, ℕ, zero, suc, ◌+◌, ◌≤◌, List, [], ◌∷◌, ◌++◌, length, Option, Some, None, Bool, true, false}
 use Rattle.std.proofs.Common.{cond, nat_le, if◌then◌else◌, sym, refl, ap, ◌∙◌, inl, inr, ⊎_elim, append_assoc, append-nil, length-append}
 use Rattle.std.proofs.Common.{eq-eqb, ne_eqb, arith}
-use Rattle.std.proofs.lemmas.List.{nil_from_length}
-use Rattle.std.proofs.lemmas.List.Elements.{filter-append}
-use Rattle.std.proofs.lemmas.Bool.{leb-true}
+use Rattle.std.proofs.{lemmas.List.nil_from_length, lemmas.List.Elements.filter-append, lemmas.Bool.leb-true}
 use mathlib.Core.List.{IsPrefix}
 use mathlib.Core.Option.{some, some-injective, some-ne-none}
 use lib.ListN.{get_elem?}
-use Rattle.turn_lock.specs.Entries.{bears, entries_of}
-use Rattle.turn_lock.specs.Views.{longer}
+use Rattle.turn_lock.specs.{Entries.bears, Entries.entries_of, Views.longer}
 
 module _ {A : Type 0} where
   pub prefix_self : (xs : List A) → IsPrefix xs xs

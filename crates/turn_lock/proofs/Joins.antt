@@ -5,10 +5,7 @@ use mathlib.Core.Option.{some}
 use mathlib.Core.List.{IsPrefix}
 use lib.ListN.{get_elem?}
 use Rattle.atomic_table.proofs.Lists.{at_longer, at_last}
-use Rattle.turn_lock.specs.declared.view.View.{View}
-use Rattle.turn_lock.specs.declared.view.Joined.{Joined}
-use Rattle.turn_lock.specs.Entries.{entries_of}
-use Rattle.turn_lock.specs.Views.{as_joined, after_join}
+use Rattle.turn_lock.specs.{declared.view.View.View, declared.view.Joined.Joined, Entries.entries_of, Views.as_joined, Views.after_join}
 use Rattle.turn_lock.specs.Turns.{AllJoined, Shows, ShowsAll, ShowsEach, AreAllMade}
 
 -- the first pass v, into which each of the passes was joined in turn

@@ -4,12 +4,9 @@ use Rattle.std.proofs.Common.{◌∙◌, ⊎_elim, arith, cond, eqb, eq-eqb, ne_
 use mathlib.Core.Option.{some}
 use lib.ListN.{get_elem?}
 use Rattle.atomic_table.specs.Table.{Splits}
-use Rattle.turn_lock.specs.declared.view.View.{View}
-use Rattle.turn_lock.specs.Entries.{entries_of}
+use Rattle.turn_lock.specs.{declared.view.View.View, Entries.entries_of, Rule.Story, Rule.Knows, Rule.Ruled}
 use Rattle.turn_lock.specs.Views.{after_split, split_off}
-use Rattle.turn_lock.specs.Rule.{Story, Knows, Ruled}
-use Rattle.turn_lock.proofs.Histories.{at_end, none_before}
-use Rattle.turn_lock.proofs.Seats.{same_seat, seats_stay, mark_stays, mark_later}
+use Rattle.turn_lock.proofs.{Histories.at_end, Histories.none_before, Seats.same_seat, Seats.seats_stay, Seats.mark_stays, Seats.mark_later}
 
 -- a `seat_of` that sends the number n to the seat j
 abbrev placed : (ℕ → ℕ) → ℕ → ℕ → ℕ → ℕ

@@ -9,14 +9,9 @@ use lib.ListN.{get_elem?}
 use lib.Seq.{set-get_or}
 use Rattle.atomic_table.specs.Table.{State, Me, step, keeps, takes, Allows}
 use Rattle.atomic_table.proofs.Lists.{set_here}
-use Rattle.turn_lock.specs.declared.view.View.{View}
-use Rattle.turn_lock.specs.Entries.{entries_of}
+use Rattle.turn_lock.specs.{declared.view.View.View, Entries.entries_of, Turns.Continues, Rule.Story, Rule.Knows, Rule.Ruled, Steps.Swapped}
 use Rattle.turn_lock.specs.Views.{as_holder, after_lost_tries}
-use Rattle.turn_lock.specs.Turns.{Continues}
-use Rattle.turn_lock.specs.Rule.{Story, Knows, Ruled}
-use Rattle.turn_lock.specs.Steps.{Swapped}
-use Rattle.turn_lock.proofs.Histories.{none_later}
-use Rattle.turn_lock.proofs.Seats.{inside, seats_stay, mark_stays, unmarked}
+use Rattle.turn_lock.proofs.{Histories.none_later, Seats.inside, Seats.seats_stay, Seats.mark_stays, Seats.unmarked}
 
 module _ {K E : Type 0} (history : K → List E) (bearer : E → Option ℕ) (passes : ℕ) where
   abbrev Rule : State (Option K) (View E) → Type 0

@@ -1,8 +1,7 @@
 -- What moves the two counts of a pass: the turns that it handed back, and the tries that it lost.
 use Rattle.std.specs.Prelude.{ℕ, zero, suc, ◌+◌, List, Option}
-use Rattle.turn_lock.specs.declared.view.View.{View}
+use Rattle.turn_lock.specs.{declared.view.View.View, Turns.BeginsTurn, Turns.EndsTurn}
 use Rattle.turn_lock.specs.Views.{after_split, after_lost_tries, after_join}
-use Rattle.turn_lock.specs.Turns.{BeginsTurn, EndsTurn}
 
 -- calls of the lock lead from pass v to pass w; in them this many turns were handed back, and this many tries were lost
 pub data IsLedBy {E : Type 0} (bearer : E → Option ℕ) (v : View E) : ℕ → ℕ → View E → Type 0 where

@@ -1,12 +1,8 @@
 -- What a clause says about a lock, its passes and its turns.
 use Rattle.std.specs.Prelude.{List}
 pub use Rattle.atomic_table.specs.Seated.{TableId}
-use Rattle.turn_lock.specs.declared.kept.Kept.{Ghosts}
-use Rattle.turn_lock.specs.declared.view.View.{View}
-use Rattle.turn_lock.specs.declared.pass.TurnLock.{TurnLock}
-use Rattle.turn_lock.specs.declared.pass.Pass.{Pass}
-use Rattle.turn_lock.specs.declared.pass.Turn.{Turn}
-use Rattle.turn_lock.specs.declared.pass.Tried.{Tried}
+use Rattle.turn_lock.specs.{declared.kept.Kept.Ghosts, declared.view.View.View, declared.pass.TurnLock.TurnLock, declared.pass.Pass.Pass}
+use Rattle.turn_lock.specs.{declared.pass.Turn.Turn, declared.pass.Tried.Tried}
 use Rattle.turn_lock.specs.declared.pass.Tried.TheVariants.{Won, Lost}
 
 -- the identity of a lock

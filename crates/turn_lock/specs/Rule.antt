@@ -5,9 +5,7 @@ use mathlib.Core.Option as maybe
 use mathlib.Core.List.{IsPrefix}
 use lib.ListN.{get_elem?}
 use Rattle.atomic_table.specs.Table.{State}
-use Rattle.turn_lock.specs.declared.view.View.{View}
-use Rattle.turn_lock.specs.declared.view.Joined.{Joined}
-use Rattle.turn_lock.specs.Entries.{entries_of}
+use Rattle.turn_lock.specs.{declared.view.View.View, declared.view.Joined.Joined, Entries.entries_of}
 
 -- what the rule speaks of beside the table: the value's history, how many passes the first one made, those that were joined into
 -- it, the seat that holds the turn or held it last, and the seat of the pass with each number

@@ -1,9 +1,8 @@
 -- What a step on a word tells the seat that makes it.
 use Rattle.std.specs.Prelude.{◌≡◌, ◌≢◌, ℕ, List, [], ◌∷◌, ◌++◌, Option, Some, true, false}
 use Rattle.atomic_table.specs.Table.{Me, Step}
-use Rattle.turn_lock.specs.declared.view.View.{View}
+use Rattle.turn_lock.specs.{declared.view.View.View, Turns.Continues}
 use Rattle.turn_lock.specs.Views.{as_holder, after_lost_tries, after_entry, after_turn}
-use Rattle.turn_lock.specs.Turns.{Continues}
 
 -- a seat: its view, and the slots that are lent to it
 abbrev pub Seated : Type 0 → Type 0 → Type 0

@@ -3,9 +3,7 @@ use Rattle.std.specs.Prelude.{◌≡◌, ℕ, ◌+◌, ◌<◌, ◌≤◌, List,
 use mathlib.Core.Option.{some}
 use mathlib.Core.List.{IsPrefix}
 use lib.ListN.{get_elem?}
-use Rattle.turn_lock.specs.declared.view.View.{View}
-use Rattle.turn_lock.specs.declared.view.Joined.{Joined}
-use Rattle.turn_lock.specs.Entries.{entries_of, Owns}
+use Rattle.turn_lock.specs.{declared.view.View.View, declared.view.Joined.Joined, Entries.entries_of, Entries.Owns}
 
 -- v and w are views of the same pass, with the same passes made and joined
 pub record IsSamePass {E : Type 0} (v w : View E) : Type 0 where

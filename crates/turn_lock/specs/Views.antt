@@ -1,7 +1,6 @@
 -- What a pass knows, before and after each kind of step.
 use Rattle.std.specs.Prelude.{ℕ, ◌+◌, List, [], ◌∷◌, ◌++◌, length, Bool, true, false, if◌then◌else◌, nat_le}
-use Rattle.turn_lock.specs.declared.view.View.{View}
-use Rattle.turn_lock.specs.declared.view.Joined.{Joined}
+use Rattle.turn_lock.specs.{declared.view.View.View, declared.view.Joined.Joined}
 
 module _ {E : Type 0} where
   -- a pass between turns: with its number, for how many passes the lock was made, what it has seen, and whether it is settled

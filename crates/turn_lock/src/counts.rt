@@ -1,7 +1,6 @@
 //! The law of the two counts of a pass.
 ghost use Rattle.std.specs.Prelude.{◌≡◌, ℕ, ◌+◌};
-ghost use Rattle.turn_lock.specs.declared.view.View.{View};
-ghost use Rattle.turn_lock.specs.Counts.{IsLedBy};
+ghost use Rattle.turn_lock.specs.{declared.view.View.View, Counts.IsLedBy};
 
 use crate::kept::Kept;
 

@@ -1,7 +1,6 @@
 //! The value of a turn. It has a file of its own: a clause names the row of `Turn`, which the file that declares `Turn` cannot
 //! import.
-ghost use Rattle.std.specs.Prelude.{◌≡◌};
-ghost use Rattle.std.specs.Borrow.{sem};
+ghost use Rattle.std.specs.{Prelude.◌≡◌, Borrow.sem};
 ghost use Rattle.turn_lock.specs.Lending.{LendsValue};
 
 use crate::kept::Kept;

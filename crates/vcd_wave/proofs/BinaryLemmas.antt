@@ -1,10 +1,7 @@
 -- Binary digits, by the number that is left when the last one is taken off.
-use Rattle.std.proofs.Common.{◌≡◌, ℕ, zero, suc, ◌+◌, ◌≤◌, ◌<◌, ◌/◌, ◌%◌, Bool, cond, List, [], ◌∷◌, ◌++◌, map}
-use Rattle.std.proofs.Common.{refl, sym, ◌∙◌, ap, arith}
+use Rattle.std.proofs.Common.{◌≡◌, ℕ, zero, suc, ◌+◌, ◌≤◌, ◌<◌, ◌/◌, ◌%◌, Bool, cond, List, [], ◌∷◌, ◌++◌, map, refl, sym, ◌∙◌, ap, arith}
+use Rattle.std.proofs.{lemmas.Bool.ne_eqb, lemmas.Int.Digits.digits_of_step, lemmas.List.map-append}
 use Rattle.std.specs.Int.Digits.{digits_of}
-use Rattle.std.proofs.lemmas.Bool.{ne_eqb}
-use Rattle.std.proofs.lemmas.Int.Digits.{digits_of_step}
-use Rattle.std.proofs.lemmas.List.{map-append}
 use Rattle.vcd_wave.specs.Binary.{binary}
 
 pub binary_above : (n : ℕ) → 0 < n → binary n ≡ map (λ d. 48 + d) (digits_of 2 n)

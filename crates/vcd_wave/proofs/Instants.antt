@@ -1,16 +1,13 @@
 -- The clocks of a wave, one after the other.
-use Rattle.std.proofs.Common.{◌≡◌, ◌≢◌, ℕ, zero, suc, ◌+◌, ◌-◌, ◌≤◌, ◌<◌, ◌&&◌, Bool, false, not, cond, List, [], ◌∷◌, ◌++◌}
-use Rattle.std.proofs.Common.{refl, sym, ◌∙◌, ap, ap₂, subst, arith, append_assoc, nat_lt, ◌⊎◌, inl, inr}
+use Rattle.std.proofs.Common.{◌≡◌, ◌≢◌, ℕ, zero, suc, ◌+◌, ◌-◌, ◌≤◌, ◌<◌, ◌&&◌, Bool, false, not, cond, List, [], ◌∷◌, ◌++◌, refl, sym, ◌∙◌}
+use Rattle.std.proofs.Common.{ap, ap₂, subst, arith, append_assoc, nat_lt, ◌⊎◌, inl, inr}
+use Rattle.std.proofs.{lemmas.Bool.cases_lt, lemmas.Bool.lt-ltb, lemmas.List.append-nil, lemmas.List.Concat.flat_map-append}
 use Rattle.std.specs.List.{flat_map, range_with_len}
-use Rattle.std.proofs.lemmas.Bool.{cases_lt, lt-ltb}
-use Rattle.std.proofs.lemmas.List.{append-nil}
-use Rattle.std.proofs.lemmas.List.Concat.{flat_map-append}
 use Rattle.flow_design.specs.declared.plan.Plan.{Plan}
 use Rattle.fifo_fills.specs.Fills.{fills, last_clock}
 use Rattle.report_text.specs.Lines.{line, text_of_lines}
-use Rattle.vcd_wave.specs.Wave.{Change, Instant, Wave, fifo_names, changes_between, instant_of, instant_at, instants_to, closing, wave_of}
-use Rattle.vcd_wave.specs.Wave.{has_some}
-use Rattle.vcd_wave.specs.WaveText.{time_tokens, instant_lines}
+use Rattle.vcd_wave.specs.{Wave.Change, Wave.Instant, Wave.Wave, Wave.fifo_names, Wave.changes_between, Wave.instant_of, Wave.instant_at}
+use Rattle.vcd_wave.specs.{Wave.instants_to, Wave.closing, Wave.wave_of, Wave.has_some, WaveText.time_tokens, WaveText.instant_lines}
 use Rattle.vcd_wave.proofs.LineLemmas.{range_push, none_same}
 use Rattle.report_text.proofs.LineLemmas.{text-append}
 use Rattle.sim_io.proofs.Pending.{numbered_rest}

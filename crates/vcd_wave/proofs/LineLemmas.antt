@@ -1,20 +1,15 @@
 -- The lines of the header, of clock 0 and of a clock, one after the other.
-use Rattle.std.proofs.Common.{◌≡◌, ℕ, zero, suc, ◌+◌, ◌≤◌, ◌<◌, ◌==◌, Bool, true, false, not, cond, List, [], ◌∷◌, ◌++◌, map, length}
-use Rattle.std.proofs.Common.{take}
-use Rattle.std.proofs.Common.{refl, sym, ◌∙◌, ap, ap₂, arith, get_or, append_assoc, length-append, add-zero, Result, Ok}
-use Rattle.std.proofs.Common.{Err, OnOk}
-use Rattle.std.specs.Prelude.{codes}
-use Rattle.std.specs.List.{filter, flat_map, range_with_len, enumerate_from}
+use Rattle.std.proofs.Common.{◌≡◌, ℕ, zero, suc, ◌+◌, ◌≤◌, ◌<◌, ◌==◌, Bool, true, false, not, cond, List, [], ◌∷◌, ◌++◌, map, length, take}
+use Rattle.std.proofs.Common.{refl, sym, ◌∙◌, ap, ap₂, arith, get_or, append_assoc, length-append, add-zero, Result, Ok, Err, OnOk}
 use Rattle.std.proofs.lemmas.Bool.{eq-eqb, ne_eqb}
 use Rattle.std.proofs.lemmas.List.{append-nil, map-append, take_more, length-take, length-map}
-use Rattle.flow_design.specs.declared.design.Channel.{Channel}
-use Rattle.flow_design.specs.Plans.{is_fifo}
+use Rattle.std.specs.{Prelude.codes, List.filter, List.flat_map, List.range_with_len, List.enumerate_from}
+use Rattle.flow_design.specs.{declared.design.Channel.Channel, Plans.is_fifo}
 use Rattle.report_text.specs.Lines.{Token, line, text_of_lines}
-use Rattle.vcd_wave.specs.declared.walk.FillChange.{FillChange}
-use Rattle.vcd_wave.specs.Walks.{change_of}
+use Rattle.vcd_wave.specs.{declared.walk.FillChange.FillChange, Walks.change_of}
 use Rattle.vcd_wave.specs.Wave.{Change, Instant, fifo_names, differs, changes_between, instant_of, has_some}
-use Rattle.report_text.proofs.LineLemmas.{line_of_four, text-append}
 use Rattle.vcd_wave.specs.WaveText.{code_of, var_tokens, time_tokens, change_tokens, instant_lines, opening, header_lines, wave_text}
+use Rattle.report_text.proofs.LineLemmas.{line_of_four, text-append}
 use Rattle.module_move.proofs.Readiness.{fewer_pass}
 
 -- ---- lines in general

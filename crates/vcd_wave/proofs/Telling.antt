@@ -1,11 +1,9 @@
 -- The wave of a plan tells the fill of each FIFO in each clock.
 use Rattle.std.proofs.Common.{◌≡◌, ◌≢◌, ℕ, zero, suc, ◌+◌, ◌-◌, ◌≤◌, ◌<◌, ◌==◌, ◌&&◌, Bool, true, false, not, cond, List, [], ◌∷◌, ◌++◌}
-use Rattle.std.proofs.Common.{map}
-use Rattle.std.proofs.Common.{length, get_or, refl, sym, ◌∙◌, ap, ap₂, subst, arith, nat_le, nat_lt, ◌⊎◌, inl, inr}
-use Rattle.std.specs.List.{filter}
+use Rattle.std.proofs.Common.{map, length, get_or, refl, sym, ◌∙◌, ap, ap₂, subst, arith, nat_le, nat_lt, ◌⊎◌, inl, inr}
 use Rattle.std.proofs.lemmas.Bool.{cases_lt, cases_eq, le-ltb, lt-ltb, ne_eqb, eq-eqb, eqb-true, le-leb, lt-leb}
-use Rattle.std.proofs.lemmas.List.{append-nil, length-map, map-append}
-use Rattle.std.proofs.lemmas.List.Concat.{flat_map-append}
+use Rattle.std.proofs.{lemmas.List.append-nil, lemmas.List.length-map, lemmas.List.map-append, lemmas.List.Concat.flat_map-append}
+use Rattle.std.specs.List.{filter}
 use Rattle.flow_design.specs.declared.plan.Plan.{Plan}
 use Rattle.fifo_fills.specs.Fills.{fifos, fill, fills, last_clock}
 use Rattle.vcd_wave.specs.Wave.{Change, Instant, differs, changes_between, instant_of, instant_at, instants_to, closing, wave_of, has_some}

@@ -1,21 +1,16 @@
 -- Walks over the clocks of all FIFOs, as they go on beside one another.
-use Rattle.std.proofs.Common.{◌≡◌, ◌≢◌, ℕ, ◌+◌, ◌-◌, ◌≤◌, ◌<◌, ◌==◌, Bool, true, false, not, cond, List, [], ◌∷◌, ◌++◌, map, length}
-use Rattle.std.proofs.Common.{refl, sym, ◌∙◌, ap, ap₂, subst, arith, get_or, set, min, fold, Option, Some, None, inl, inr}
-use Rattle.std.specs.Prelude.{All}
-use Rattle.std.specs.List.{filter, range_with_len}
-use Rattle.std.proofs.lemmas.Bool.{cases_eq, eq-eqb}
+use Rattle.std.proofs.Common.{◌≡◌, ◌≢◌, ℕ, ◌+◌, ◌-◌, ◌≤◌, ◌<◌, ◌==◌, Bool, true, false, not, cond, List, [], ◌∷◌, ◌++◌, map, length, refl}
+use Rattle.std.proofs.Common.{sym, ◌∙◌, ap, ap₂, subst, arith, get_or, set, min, fold, Option, Some, None, inl, inr}
+use Rattle.std.proofs.{lemmas.Bool.cases_eq, lemmas.Bool.eq-eqb, Math.Seq.map-set_same}
 use Rattle.std.proofs.lemmas.List.{length-map, length-set, get_or-map, get_or-set_same, get_or-set_other}
 use Rattle.std.proofs.lemmas.List.Elements.{All-cons, All-nil, All-head, All-tail}
-use Rattle.std.proofs.Math.Seq.{map-set_same}
-use Rattle.flow_design.specs.declared.plan.Plan.{Plan}
-use Rattle.flow_design.specs.StaticRules.{FitsEngine}
+use Rattle.std.specs.{Prelude.All, List.filter, List.range_with_len}
+use Rattle.flow_design.specs.{declared.plan.Plan.Plan, StaticRules.FitsEngine}
 use Rattle.fifo_fills.specs.Fills.{fifos, fill, fills, last_clock}
 use Rattle.fifo_fills.proofs.Ending.{last_within}
-use Rattle.port_clocks.specs.declared.walk.FifoWalk.{FifoWalk}
-use Rattle.port_clocks.specs.Walks.{never, next_of}
+use Rattle.port_clocks.specs.{declared.walk.FifoWalk.FifoWalk, Walks.never, Walks.next_of}
 use Rattle.port_clocks.proofs.Walking.{walk_fill}
-use Rattle.vcd_wave.specs.declared.walk.FillChange.{FillChange}
-use Rattle.vcd_wave.specs.Wave.{Change, changes_between}
+use Rattle.vcd_wave.specs.{declared.walk.FillChange.FillChange, Wave.Change, Wave.changes_between}
 use Rattle.vcd_wave.specs.Walks.{StandsBy, AreWalks, least_next, other_fill, change_of, change_if}
 use Rattle.vcd_wave.proofs.LineLemmas.{changes_to, changes_more, filter-append, range_push}
 use Rattle.vcd_wave.proofs.Instants.{AreSame}

@@ -1,35 +1,24 @@
 -- The wave of a plan is a wave of its FIFOs, and ends in the verdict's clock.
 use Rattle.std.proofs.Common.{◌≡◌, ◌≢◌, ℕ, zero, suc, ◌+◌, ◌-◌, ◌^◌, ◌≤◌, ◌<◌, ◌&&◌, Bool, true, false, not, cond, List, [], ◌∷◌, ◌++◌, map}
 use Rattle.std.proofs.Common.{length, get_or, refl, sym, ◌∙◌, ap, subst, arith, nat_lt, ◌⊎◌, inl, inr, length-append}
-use Rattle.std.specs.Prelude.{IsTrue}
-use Rattle.std.specs.List.{filter, range_with_len, AllByRecursion, All, AllPairs}
 use Rattle.std.proofs.lemmas.Bool.{cases_lt, lt-ltb, le-ltb}
 use Rattle.std.proofs.lemmas.List.{append-nil, length-map, map-append, get_or_append_left, get_or_default}
 use Rattle.std.proofs.lemmas.List.Elements.{All-from_recursion, recursion_from_All}
-use Rattle.flow_design.specs.declared.design.Channel.{Channel}
-use Rattle.flow_design.specs.declared.design.ChannelKind.{ChannelKind}
+use Rattle.std.specs.{Prelude.IsTrue, List.filter, List.range_with_len, List.AllByRecursion, List.All, List.AllPairs}
+use Rattle.flow_design.specs.{declared.design.Channel.Channel, declared.design.ChannelKind.ChannelKind}
+use Rattle.flow_design.specs.{declared.limits.TheConstants.FIFO_DEPTH, declared.plan.Plan.Plan, Names.is_name, Plans.is_fifo}
+use Rattle.flow_design.specs.{Plans.no_channel, Plans.kind_at, StaticRules.AreEntriesSound, StaticRules.FitsEngine}
 use Rattle.flow_design.specs.declared.design.ChannelKind.TheVariants.{Source, Sink, Fifo}
-use Rattle.flow_design.specs.declared.limits.TheConstants.{FIFO_DEPTH}
-use Rattle.flow_design.specs.declared.plan.Plan.{Plan}
-use Rattle.flow_design.specs.Names.{is_name}
-use Rattle.flow_design.specs.Plans.{is_fifo, no_channel, kind_at}
-use Rattle.flow_design.specs.StaticRules.{AreEntriesSound, FitsEngine}
 use Rattle.fifo_fills.specs.Fills.{fifos, fill, fills, last_clock}
-use Rattle.fifo_fills.proofs.Ending.{last_within}
-use Rattle.fifo_fills.proofs.Counting.{within_depth, counted}
-use Rattle.fifo_fills.proofs.Numbers.{counted_numbers}
+use Rattle.fifo_fills.proofs.{Ending.last_within, Counting.within_depth, Counting.counted, Numbers.counted_numbers, Acts.all_map}
 use Rattle.flow_word.specs.declared.access.Side.TheVariants.{Push}
 use Rattle.lockstep_defs.specs.Channels.{moved}
-use Rattle.lockstep_defs.proofs.Settled.{history-zero}
-use Rattle.lockstep_defs.proofs.Queue.{moved-nil}
-use Rattle.lockstep_defs.proofs.Queue.{all-append}
+use Rattle.lockstep_defs.proofs.{Settled.history-zero, Queue.moved-nil, Queue.all-append}
 use Rattle.vcd_wave.specs.Wave.{Change, Instant, fifo_names, differs, changes_between, instant_of, instant_at, instants_to, closing}
 use Rattle.vcd_wave.specs.Wave.{wave_of, has_some}
 use Rattle.vcd_wave.specs.Told.{last_or, told_in, last_told, Varies, IsChange, IsWave}
-use Rattle.vcd_wave.proofs.LineLemmas.{changes_to, changes_more}
+use Rattle.vcd_wave.proofs.{LineLemmas.changes_to, LineLemmas.changes_more, Telling.tells_up_to, Telling.told-append, Telling.last_push}
 use Rattle.vcd_wave.proofs.Instants.{instants_zero, instants_more, later_is}
-use Rattle.vcd_wave.proofs.Telling.{tells_up_to, told-append, last_push}
-use Rattle.fifo_fills.proofs.Acts.{all_map}
 
 -- ---- lists in order
 

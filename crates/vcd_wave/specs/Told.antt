@@ -3,8 +3,7 @@ use Rattle.std.specs.Prelude.{ℕ, ◌≡◌, ◌≢◌, ◌+◌, ◌^◌, ◌<�
 use Rattle.std.specs.Prelude.{All, AllPairs}
 use Rattle.std.specs.List.{flat_map}
 use Rattle.flow_design.specs.Names.{is_name}
-use Rattle.vcd_wave.specs.Wave.{Change, Instant, Wave}
-use Rattle.vcd_wave.specs.WaveText.{wave_text}
+use Rattle.vcd_wave.specs.{Wave.Change, Wave.Instant, Wave.Wave, WaveText.wave_text}
 
 -- ---- what FIFOs hold
 

@@ -2,10 +2,8 @@
 use Rattle.std.specs.Prelude.{ℕ, ◌≡◌, ◌≤◌, ◌==◌, min, fold, if◌then◌else◌, Option, Some, None, List, [], ◌∷◌, All, map}
 use Rattle.flow_design.specs.declared.plan.Plan.{Plan}
 use Rattle.fifo_fills.specs.Fills.{fifos}
-use Rattle.port_clocks.specs.declared.walk.FifoWalk.{FifoWalk}
-use Rattle.port_clocks.specs.Walks.{IsFifoWalk, never, next_of}
-use Rattle.vcd_wave.specs.declared.walk.FillChange.{FillChange}
-use Rattle.vcd_wave.specs.Wave.{Change}
+use Rattle.port_clocks.specs.{declared.walk.FifoWalk.FifoWalk, Walks.IsFifoWalk, Walks.never, Walks.next_of}
+use Rattle.vcd_wave.specs.{declared.walk.FillChange.FillChange, Wave.Change}
 
 -- the walk may be taken to be at this clock: from its own clock up to this one nothing is popped or pushed
 pub record StandsBy (p : Plan) (clock : ℕ) (walk : FifoWalk) : Type 0 where

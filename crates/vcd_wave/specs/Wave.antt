@@ -2,9 +2,7 @@
 use Rattle.std.specs.Prelude.{ℕ, ◌-◌, ◌==◌, ◌&&◌, Bool, true, false, not, nat_lt, if◌then◌else◌, List, [], ◌∷◌, ◌++◌, map, filter, length}
 use Rattle.std.specs.Prelude.{slice_index}
 use Rattle.std.specs.List.{flat_map, range_with_len}
-use Rattle.flow_design.specs.declared.design.Channel.{Channel}
-use Rattle.flow_design.specs.declared.plan.Plan.{Plan}
-use Rattle.flow_design.specs.Plans.{is_fifo}
+use Rattle.flow_design.specs.{declared.design.Channel.Channel, declared.plan.Plan.Plan, Plans.is_fifo}
 use Rattle.fifo_fills.specs.Fills.{fills, last_clock}
 
 -- the FIFO with this number, counted from 0 in order of declaration, holds this many elements from now on

@@ -2,8 +2,7 @@
 use Rattle.std.specs.Prelude.{ℕ, List, [], ◌∷◌, ◌++◌, map, length, codes, decimal}
 use Rattle.std.specs.List.{flat_map, range_with_len, enumerate_from}
 use Rattle.report_text.specs.Lines.{Token, text_of_lines}
-use Rattle.vcd_wave.specs.Binary.{binary}
-use Rattle.vcd_wave.specs.Wave.{Change, Instant, Wave}
+use Rattle.vcd_wave.specs.{Binary.binary, Wave.Change, Wave.Instant, Wave.Wave}
 
 -- the name of the FIFO with this number in the text: `fI`
 abbrev pub code_of : ℕ → Token

@@ -1,11 +1,8 @@
 //! The law of waves.
 ghost use Rattle.std.specs.Prelude.{◌≡◌, ℕ, ◌<◌, ◌≤◌, length, slice_index};
-ghost use Rattle.flow_design.specs.declared.plan.Plan.{Plan};
-ghost use Rattle.flow_design.specs.StaticRules.{FitsEngine};
+ghost use Rattle.flow_design.specs.{declared.plan.Plan.Plan, StaticRules.FitsEngine};
 ghost use Rattle.fifo_fills.specs.Fills.{fifos, fills, last_clock};
-ghost use Rattle.vcd_wave.specs.Wave.{wave_of};
-ghost use Rattle.vcd_wave.specs.WaveText.{wave_text};
-ghost use Rattle.vcd_wave.specs.Told.{IsWave, TellsFill, told_fill, last_told};
+ghost use Rattle.vcd_wave.specs.{Wave.wave_of, WaveText.wave_text, Told.IsWave, Told.TellsFill, Told.told_fill, Told.last_told};
 
 /// The wave of a plan is a wave of its FIFOs. It ends in the verdict's clock, and tells what each FIFO holds in each clock up to
 /// that one.

@@ -1,11 +1,9 @@
 //! The lines of a wave.
 ghost use Rattle.std.specs.Prelude.{◌≡◌, ◌≤◌, ◌∷◌, ◌++◌, decimal, map, length, OnOk, OnErr, IfOk, IsErrOf};
 ghost use Rattle.std.specs.List.{flat_map, enumerate_from};
-ghost use Rattle.sim_io.specs.Causes.{AppendsPrefix, Rose};
-ghost use Rattle.sim_io.specs.Telling.{IsTold};
+ghost use Rattle.sim_io.specs.{Causes.AppendsPrefix, Causes.Rose, Telling.IsTold};
 ghost use Rattle.report_text.specs.Lines.{line, text_of_lines};
-ghost use Rattle.vcd_wave.specs.Wave.{fifo_names, has_some, instant_of};
-ghost use Rattle.vcd_wave.specs.Walks.{change_of};
+ghost use Rattle.vcd_wave.specs.{Wave.fifo_names, Wave.has_some, Wave.instant_of, Walks.change_of};
 ghost use Rattle.vcd_wave.specs.WaveText.{code_of, var_tokens, time_tokens, change_tokens, header_lines, opening, instant_lines};
 
 use crate::binary::push_binary;

@@ -1,12 +1,8 @@
 -- Texts that are cut at a byte, and numbers that are read back from their digits.
-use Rattle.std.proofs.Common.{◌≡◌, ◌≢◌, ℕ, zero, suc, ◌+◌, ◌^◌, ◌<◌, true, false, List, [], ◌∷◌, ◌++◌, map}
-use Rattle.std.proofs.Common.{refl, sym, ◌∙◌, ap, ap₂, subst, arith, get_or}
-use Rattle.std.specs.Prelude.{decimal, IsTrue}
-use Rattle.std.specs.List.{list_all}
-use Rattle.std.specs.Int.Digits.{digits_of, number_from_digits}
-use Rattle.std.proofs.lemmas.Bool.{and_parts}
-use Rattle.std.proofs.lemmas.Fmt.{decimal_digit, decimal-digits_of}
-use Rattle.std.proofs.lemmas.Int.Digits.{number_digits_of}
+use Rattle.std.proofs.Common.{◌≡◌, ◌≢◌, ℕ, zero, suc, ◌+◌, ◌^◌, ◌<◌, true, false, List, [], ◌∷◌, ◌++◌, map, refl, sym, ◌∙◌, ap, ap₂, subst}
+use Rattle.std.proofs.Common.{arith, get_or}
+use Rattle.std.proofs.{lemmas.Bool.and_parts, lemmas.Fmt.decimal_digit, lemmas.Fmt.decimal-digits_of, lemmas.Int.Digits.number_digits_of}
+use Rattle.std.specs.{Prelude.decimal, Prelude.IsTrue, List.list_all, Int.Digits.digits_of, Int.Digits.number_from_digits}
 use Rattle.flow_design.specs.Names.{is_name, is_name_byte, begins_with_letter}
 use Rattle.vcd_wave.specs.Binary.{binary}
 use Rattle.vcd_wave.proofs.BinaryLemmas.{binary_small, binary_above}

@@ -1,19 +1,14 @@
 -- What stands before the later clocks.
-use Rattle.std.proofs.Common.{◌≡◌, ℕ, suc, ◌+◌, ◌-◌, ◌^◌, ◌<◌, ◌≤◌, true, false, List, [], ◌∷◌, ◌++◌, length, take, drop, nat_eq, ◌⊎◌}
-use Rattle.std.proofs.Common.{inl, inr}
-use Rattle.std.proofs.Common.{refl, sym, ◌∙◌, ap, ap₂, arith, subst, get_or, append_assoc, length-append}
-use Rattle.std.specs.Prelude.{IsTrue, codes, decimal}
-use Rattle.std.specs.Cmp.Lexicographic.{same_text, other_text, pointwise}
-use Rattle.std.proofs.lemmas.List.{take-append-drop, append_cancel_left}
+use Rattle.std.proofs.Common.{◌≡◌, ℕ, suc, ◌+◌, ◌-◌, ◌^◌, ◌<◌, ◌≤◌, true, false, List, [], ◌∷◌, ◌++◌, length, take, drop, nat_eq, ◌⊎◌, inl}
+use Rattle.std.proofs.Common.{inr, refl, sym, ◌∙◌, ap, ap₂, arith, subst, get_or, append_assoc, length-append}
+use Rattle.std.proofs.lemmas.List.{take-append-drop, append_cancel_left, take_rest}
 use Rattle.std.proofs.Math.Seq.{take-append_seam, drop-append_seam}
-use Rattle.std.proofs.lemmas.List.{take_rest}
-use Rattle.std.specs.List.{AllByRecursion}
+use Rattle.std.specs.{Prelude.IsTrue, Prelude.codes, Prelude.decimal, List.AllByRecursion}
+use Rattle.std.specs.Cmp.Lexicographic.{same_text, other_text, pointwise}
 use Rattle.flow_design.specs.Names.{is_name}
-use Rattle.wave_reader.specs.Digits.{numeral}
-use Rattle.wave_reader.specs.Headers.{named, Names, empty_text, empty_from}
-use Rattle.wave_reader.proofs.Cutting.{cut, name_lacks}
+use Rattle.wave_reader.specs.{Digits.numeral, Headers.named, Headers.Names, Headers.empty_text, Headers.empty_from}
+use Rattle.wave_reader.proofs.{Cutting.cut, Cutting.name_lacks, OneWave.vars_from, OneWave.var_parts, OneWave.change_parts}
 use Rattle.wave_reader.proofs.Numerals.{numeral_binary, numeral_decimal, lacks_each}
-use Rattle.wave_reader.proofs.OneWave.{vars_from, var_parts, change_parts}
 
 pub front_is : (text front : List ℕ) → true ≡ pointwise nat_eq front (take (length front) text)
     → text ≡ front ++ drop (length front) text

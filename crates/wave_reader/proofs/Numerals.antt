@@ -1,13 +1,10 @@
 -- Digits that are read are those of the number that they give.
 use Rattle.std.proofs.Common.{◌≡◌, ℕ, zero, suc, ◌+◌, ◌-◌, ◌*◌, ◌/◌, ◌%◌, ◌^◌, ◌≤◌, ◌<◌, Bool, cond, List, [], ◌∷◌, ◌++◌, Option, None}
-use Rattle.std.proofs.Common.{Some}
-use Rattle.std.proofs.Common.{refl, sym, ◌∙◌, ap, arith, append_assoc, get_or, append-nil, eq-eqb, length, subst, ⊎_elim}
-use Rattle.std.specs.Int.Digits.{digits_of, number_from_digits_after, AllBelowBase}
-use Rattle.std.proofs.lemmas.Bool.{ne_eqb, cases_eq}
+use Rattle.std.proofs.Common.{Some, refl, sym, ◌∙◌, ap, arith, append_assoc, get_or, append-nil, eq-eqb, length, subst, ⊎_elim}
+use Rattle.std.proofs.{lemmas.Bool.ne_eqb, lemmas.Bool.cases_eq, lemmas.List.map-append}
 use Rattle.std.proofs.lemmas.Int.Digits.{digits_of_step, number_digits_of, number_after_ge, all_below_base_digits_of, first_digits_of}
-use Rattle.std.proofs.lemmas.List.{map-append}
 use Rattle.std.proofs.lemmas.Fmt.{decimal_digit, decimal-digits_of}
-use Rattle.std.specs.Prelude.{decimal}
+use Rattle.std.specs.{Int.Digits.digits_of, Int.Digits.number_from_digits_after, Int.Digits.AllBelowBase, Prelude.decimal}
 use Rattle.vcd_wave.specs.Binary.{binary}
 use Rattle.wave_reader.proofs.Cutting.{shown, shown_lacks, Lacks, cut}
 use Rattle.wave_reader.specs.Digits.{numeral, one_digit, on_some, digits_read, number_read}

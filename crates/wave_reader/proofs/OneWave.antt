@@ -1,18 +1,13 @@
 -- A text is the text of one wave at most.
-use Rattle.std.proofs.Common.{◌≡◌, ◌≢◌, ℕ, ◌+◌, ◌^◌, ◌≤◌, ◌<◌, List, [], ◌∷◌, ◌++◌, map, length}
-use Rattle.std.proofs.Common.{refl, sym, ◌∙◌, ap, ap₂, arith, get_or, append_assoc, length-append}
-use Rattle.std.specs.Prelude.{codes, decimal, IsTrue}
-use Rattle.std.specs.List.{flat_map, enumerate_from, All, AllByRecursion}
-use Rattle.std.proofs.lemmas.Grind.{common_steps}
-use Rattle.std.proofs.lemmas.List.{append_cancel_left}
+use Rattle.std.proofs.Common.{◌≡◌, ◌≢◌, ℕ, ◌+◌, ◌^◌, ◌≤◌, ◌<◌, List, [], ◌∷◌, ◌++◌, map, length, refl, sym, ◌∙◌, ap, ap₂, arith, get_or}
+use Rattle.std.proofs.Common.{append_assoc, length-append}
+use Rattle.std.proofs.{lemmas.Grind.common_steps, lemmas.List.append_cancel_left, lemmas.Fmt.decimal_injective}
 use Rattle.std.proofs.lemmas.List.Elements.{recursion_from_All}
-use Rattle.std.proofs.lemmas.Fmt.{decimal_injective}
+use Rattle.std.specs.{Prelude.codes, Prelude.decimal, Prelude.IsTrue, List.flat_map, List.enumerate_from, List.All, List.AllByRecursion}
 use Rattle.flow_design.specs.Names.{is_name}
 use Rattle.report_text.specs.Lines.{Token, line, text_of_lines}
-use Rattle.vcd_wave.specs.Binary.{binary}
-use Rattle.vcd_wave.specs.Wave.{Change, Instant, Wave}
+use Rattle.vcd_wave.specs.{Binary.binary, Wave.Change, Wave.Instant, Wave.Wave, Told.IsChange, Told.IsWave}
 use Rattle.vcd_wave.specs.WaveText.{code_of, var_tokens, time_tokens, change_tokens, instant_lines, opening, header_lines, wave_text}
-use Rattle.vcd_wave.specs.Told.{IsChange, IsWave}
 use Rattle.wave_reader.proofs.Cutting.{Lacks, cut, decimal_lacks, binary_lacks, binary_same, name_lacks}
 use Rattle.fifo_fills.proofs.Acts.{all_map}
 use Rattle.report_text.proofs.LineLemmas.{text-append}

@@ -1,17 +1,12 @@
 -- Lines in order are those of waves.
 use Rattle.std.proofs.Common.{◌≡◌, ◌≢◌, ℕ, zero, suc, ◌+◌, ◌^◌, ◌<◌, ◌≤◌, Bool, true, false, cond, eqb, leb, List, [], ◌∷◌, ◌++◌, map}
-use Rattle.std.proofs.Common.{length, Some, inl, inr}
-use Rattle.std.proofs.Common.{refl, sym, ◌∙◌, ap, arith, subst, get_or, eq-eqb}
-use Rattle.std.specs.List.{filter, All, AllByRecursion, AllPairs}
-use Rattle.std.proofs.lemmas.List.Kept.{AllPairs-cons}
+use Rattle.std.proofs.Common.{length, Some, inl, inr, refl, sym, ◌∙◌, ap, arith, subst, get_or, eq-eqb}
+use Rattle.std.proofs.{lemmas.List.Kept.AllPairs-cons, lemmas.Bool.cases_eq, lemmas.Bool.ne_eqb, lemmas.Bool.Decides.leb_tells}
 use Rattle.std.proofs.lemmas.List.Elements.{recursion_from_All, All-from_recursion}
-use Rattle.std.proofs.lemmas.Bool.{cases_eq, ne_eqb}
-use Rattle.std.proofs.lemmas.Bool.Decides.{leb_tells}
-use Rattle.vcd_wave.specs.Wave.{Change, Instant}
-use Rattle.vcd_wave.specs.Told.{last_or, told_in, Varies, IsChange}
+use Rattle.std.specs.List.{filter, All, AllByRecursion, AllPairs}
+use Rattle.vcd_wave.specs.{Wave.Change, Wave.Instant, Told.last_or, Told.told_in, Told.Varies, Told.IsChange}
 use Rattle.wave_reader.specs.Scans.{change_step, time_step, ChangesLead, InstantsLead}
-use Rattle.wave_reader.specs.declared.scan.Asked.{Asked}
-use Rattle.wave_reader.specs.declared.scan.Scan.{Scan}
+use Rattle.wave_reader.specs.{declared.scan.Asked.Asked, declared.scan.Scan.Scan}
 use Rattle.fifo_fills.proofs.Acts.{all_map as each}
 
 -- ---- one change

@@ -1,18 +1,11 @@
 -- What the text of a plan's wave tells, and what it does not.
 use Rattle.std.proofs.Common.{◌≡◌, ℕ, ◌^◌, ◌≤◌, ◌<◌, List, length, get_or, refl, sym, ◌∙◌, ap, arith}
+use Rattle.std.proofs.{lemmas.List.length-map, lemmas.List.Sums.length-filter, lemmas.List.Sums.count_by-le-length}
 use Rattle.std.specs.List.{filter}
-use Rattle.std.proofs.lemmas.List.{length-map}
-use Rattle.std.proofs.lemmas.List.Sums.{length-filter, count_by-le-length}
-use Rattle.flow_design.specs.declared.design.Channel.{Channel}
-use Rattle.flow_design.specs.declared.plan.Plan.{Plan}
-use Rattle.flow_design.specs.StaticRules.{FitsEngine}
-use Rattle.flow_design.specs.Plans.{is_fifo}
+use Rattle.flow_design.specs.{declared.design.Channel.Channel, declared.plan.Plan.Plan, StaticRules.FitsEngine, Plans.is_fifo}
 use Rattle.fifo_fills.specs.Fills.{fifos, fills, last_clock}
-use Rattle.vcd_wave.specs.Wave.{Wave, wave_of}
-use Rattle.vcd_wave.specs.WaveText.{wave_text}
-use Rattle.vcd_wave.specs.Told.{TellsFill, told_fill, last_told}
-use Rattle.vcd_wave.proofs.Telling.{told_fill_is}
-use Rattle.vcd_wave.proofs.Waves.{is_wave, count_is, last_is_told, first_empty}
+use Rattle.vcd_wave.specs.{Wave.Wave, Wave.wave_of, WaveText.wave_text, Told.TellsFill, Told.told_fill, Told.last_told}
+use Rattle.vcd_wave.proofs.{Telling.told_fill_is, Waves.is_wave, Waves.count_is, Waves.last_is_told, Waves.first_empty}
 use Rattle.wave_reader.proofs.OneWave.{one_wave, names_long}
 
 pub one_fill : (text : List ℕ) → length text < 2 ^ 64 → (i c a b : ℕ) → TellsFill text i c a → TellsFill text i c b → a ≡ b

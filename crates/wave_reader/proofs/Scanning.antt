@@ -1,13 +1,10 @@
 -- Lines that lead on.
-use Rattle.std.proofs.Common.{◌≡◌, ℕ, ◌^◌, ◌<◌, List, [], ◌∷◌, ◌++◌, None, Some, length}
-use Rattle.std.proofs.Common.{refl, sym, ◌∙◌, ap, ap₂, arith, subst, length-append}
+use Rattle.std.proofs.Common.{◌≡◌, ℕ, ◌^◌, ◌<◌, List, [], ◌∷◌, ◌++◌, None, Some, length, refl, sym, ◌∙◌, ap, ap₂, arith, subst}
+use Rattle.std.proofs.Common.{length-append}
 use Rattle.vcd_wave.specs.Wave.{Change as WaveChange, Instant}
-use Rattle.wave_reader.specs.Digits.{numeral}
+use Rattle.wave_reader.specs.{Digits.numeral, declared.lines.Line.Line, declared.scan.Asked.Asked, declared.scan.Scan.Scan}
 use Rattle.wave_reader.specs.Scans.{begun, Fits, step, ChangesLead, InstantsLead, Leads}
-use Rattle.wave_reader.specs.declared.lines.Line.{Line}
 use Rattle.wave_reader.specs.declared.lines.Line.TheVariants.{Time, Change}
-use Rattle.wave_reader.specs.declared.scan.Asked.{Asked}
-use Rattle.wave_reader.specs.declared.scan.Scan.{Scan}
 use Rattle.wave_reader.proofs.Numerals.{numeral_binary, numeral_decimal}
 use Rattle.wave_reader.proofs.OneWave.{changes_text, instants_text, change_parts, instant_parts}
 

@@ -1,20 +1,15 @@
 -- A text that is read is that of a wave, and each text of a wave is read.
-use Rattle.std.proofs.Common.{◌≡◌, ℕ, zero, suc, ◌+◌, ◌^◌, ◌<◌, ◌≤◌, List, [], ◌∷◌, ◌++◌, map, length}
-use Rattle.std.proofs.Common.{refl, sym, ◌∙◌, ap, ap₂, arith, subst}
-use Rattle.std.specs.Prelude.{IsTrue, codes}
-use Rattle.std.specs.List.{All, AllByRecursion, AllPairs, range_with_len}
-use Rattle.std.proofs.lemmas.List.Elements.{recursion_from_All, All-from_recursion}
-use Rattle.std.proofs.lemmas.Fmt.{decimal_digit}
+use Rattle.std.proofs.Common.{◌≡◌, ℕ, zero, suc, ◌+◌, ◌^◌, ◌<◌, ◌≤◌, List, [], ◌∷◌, ◌++◌, map, length, refl, sym, ◌∙◌, ap, ap₂, arith}
+use Rattle.std.proofs.Common.{subst}
+use Rattle.std.proofs.{lemmas.List.Elements.recursion_from_All, lemmas.List.Elements.All-from_recursion, lemmas.Fmt.decimal_digit}
+use Rattle.std.specs.{Prelude.IsTrue, Prelude.codes, List.All, List.AllByRecursion, List.AllPairs, List.range_with_len}
 use Rattle.flow_design.specs.Names.{is_name}
 use Rattle.vcd_wave.specs.Wave.{Change, Instant, Wave}
-use Rattle.vcd_wave.specs.Told.{IsChange, TellsFill, Varies, told_in, told_fill}
-use Rattle.wave_reader.specs.Headers.{Headed, empty_from, empty_text}
+use Rattle.vcd_wave.specs.Told.{IsChange, TellsFill, Varies, told_in, told_fill, last_or}
+use Rattle.wave_reader.specs.{Headers.Headed, Headers.empty_from, Headers.empty_text, declared.scan.Asked.Asked, declared.scan.Scan.Scan}
 use Rattle.wave_reader.specs.Scans.{ChangesLead, InstantsLead, Leads, LeadsFor, opening_scan}
-use Rattle.wave_reader.specs.declared.scan.Asked.{Asked}
-use Rattle.wave_reader.specs.declared.scan.Scan.{Scan}
-use Rattle.wave_reader.proofs.OneWave.{changes_text, instants_text, opening_text, vars_from, scope, end_of_scope, wave_parts}
-use Rattle.wave_reader.proofs.OneWave.{names_long, instants_same, IsTimed, IsWritten, both, timed}
-use Rattle.vcd_wave.specs.Told.{last_or}
+use Rattle.wave_reader.proofs.OneWave.{changes_text, instants_text, opening_text, vars_from, scope, end_of_scope, wave_parts, names_long}
+use Rattle.wave_reader.proofs.OneWave.{instants_same, IsTimed, IsWritten, both, timed}
 use Rattle.wave_reader.proofs.Orders.{changes_told, InstantsTold, instants_told, instants_go}
 use Rattle.fifo_fills.proofs.Acts.{all_map}
 

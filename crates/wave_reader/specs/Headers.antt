@@ -3,8 +3,7 @@ use Rattle.std.specs.Prelude.{ℕ, ◌≡◌, ◌+◌, zero, suc, IsTrue, List, 
 use Rattle.std.specs.List.{enumerate_from, AllByRecursion}
 use Rattle.flow_design.specs.Names.{is_name}
 use Rattle.report_text.specs.Lines.{text_of_lines}
-use Rattle.vcd_wave.specs.Wave.{Change}
-use Rattle.vcd_wave.specs.WaveText.{var_tokens, change_tokens}
+use Rattle.vcd_wave.specs.{Wave.Change, WaveText.var_tokens, WaveText.change_tokens}
 use Rattle.wave_reader.specs.Digits.{numeral}
 
 -- a text that begins with the line that declares FIFO n under this name

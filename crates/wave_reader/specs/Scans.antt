@@ -1,15 +1,11 @@
 -- The clocks and changes of a wave, read in order, for one FIFO.
-use Rattle.std.specs.Prelude.{ℕ, ◌≡◌, ◌+◌, ◌^◌, ◌<◌, ◌==◌, ◌&&◌, not, nat_le, nat_lt, true, false, if◌then◌else◌, List, [], ◌∷◌, ◌++◌}
-use Rattle.std.specs.Prelude.{map, Option, None, Some}
+use Rattle.std.specs.Prelude.{ℕ, ◌≡◌, ◌+◌, ◌^◌, ◌<◌, ◌==◌, ◌&&◌, not, nat_le, nat_lt, true, false, if◌then◌else◌, List, [], ◌∷◌, ◌++◌, map}
+use Rattle.std.specs.Prelude.{Option, None, Some}
 use Rattle.std.specs.List.{flat_map}
 use Rattle.report_text.specs.Lines.{text_of_lines}
-use Rattle.vcd_wave.specs.Wave.{Change as WaveChange, Instant}
-use Rattle.vcd_wave.specs.WaveText.{change_tokens, instant_lines}
-use Rattle.wave_reader.specs.Digits.{numeral}
-use Rattle.wave_reader.specs.declared.lines.Line.{Line}
+use Rattle.vcd_wave.specs.{Wave.Change as WaveChange, Wave.Instant, WaveText.change_tokens, WaveText.instant_lines}
+use Rattle.wave_reader.specs.{Digits.numeral, declared.lines.Line.Line, declared.scan.Asked.Asked, declared.scan.Scan.Scan}
 use Rattle.wave_reader.specs.declared.lines.Line.TheVariants.{Time, Change}
-use Rattle.wave_reader.specs.declared.scan.Asked.{Asked}
-use Rattle.wave_reader.specs.declared.scan.Scan.{Scan}
 
 -- a text that begins with this line
 abbrev pub begun : Line → List ℕ → List ℕ

@@ -1,8 +1,7 @@
 //! Reading what comes in a wave before its later clocks.
 ghost use Rattle.std.specs.Prelude.{◌≡◌, ◌<◌, ◌^◌, ◌∷◌, ◌++◌, ℕ, List, IfSome, MatchOption, IsTrue, length};
 ghost use Rattle.flow_design.specs.Names.{is_name};
-ghost use Rattle.wave_reader.specs.Digits.{numeral};
-ghost use Rattle.wave_reader.specs.Headers.{named, Names, Headed, empty_text};
+ghost use Rattle.wave_reader.specs.{Digits.numeral, Headers.named, Headers.Names, Headers.Headed, Headers.empty_text};
 
 use crate::numbers::{cut, number_before};
 use flow_design::is_name;

@@ -1,11 +1,8 @@
 //! The laws of reading waves.
 ghost use Rattle.std.specs.Prelude.{◌≡◌, ℕ, ◌<◌, ◌^◌, ◌↔◌, List, length};
-ghost use Rattle.flow_design.specs.declared.plan.Plan.{Plan};
-ghost use Rattle.flow_design.specs.StaticRules.{FitsEngine};
+ghost use Rattle.flow_design.specs.{declared.plan.Plan.Plan, StaticRules.FitsEngine};
 ghost use Rattle.fifo_fills.specs.Fills.{HasFill};
-ghost use Rattle.vcd_wave.specs.Wave.{Wave, wave_of};
-ghost use Rattle.vcd_wave.specs.WaveText.{wave_text};
-ghost use Rattle.vcd_wave.specs.Told.{IsWave, TellsFill};
+ghost use Rattle.vcd_wave.specs.{Wave.Wave, Wave.wave_of, WaveText.wave_text, Told.IsWave, Told.TellsFill};
 
 /// A text is the text of at most one wave, so it tells at most one number for each FIFO in each clock. The text of a plan's wave
 /// tells exactly what the plan's FIFOs hold in the clocks up to the verdict's: nothing about later clocks, and nothing about other

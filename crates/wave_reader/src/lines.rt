@@ -1,8 +1,6 @@
 //! Reading the lines of a wave after its header.
 ghost use Rattle.std.specs.Prelude.{◌≡◌, ℕ, ◌<◌, ◌^◌, List, ◌∷◌, ◌++◌, IfSome, MatchOption};
-ghost use Rattle.wave_reader.specs.Digits.{numeral};
-ghost use Rattle.wave_reader.specs.Scans.{begun, Fits};
-ghost use Rattle.wave_reader.specs.declared.lines.Line.{Line as Shown};
+ghost use Rattle.wave_reader.specs.{Digits.numeral, Scans.begun, Scans.Fits, declared.lines.Line.Line as Shown};
 
 use crate::numbers::number_before;
 

@@ -1,26 +1,19 @@
 -- That each text has an answer, and what holds of what was read.
 use Rattle.std.proofs.Common.{◌≡◌, ◌∙◌, ap, subst, sym, refl, arith, ℕ, ◌≤◌, Bool, List, ◌++◌, [], length, None, Some, IfSome, Result, Ok}
 use Rattle.std.proofs.Common.{Err, length-append, append-nil}
-use Rattle.std.specs.declared.option.Option.{Option}
-use Rattle.std.specs.Prelude.{IfOk, IsErr}
 use Rattle.std.proofs.lemmas.Result.{IfOk-from_err}
+use Rattle.std.specs.{declared.option.Option.Option, Prelude.IfOk, Prelude.IsErr, Io.KnownBytes.Consumes, Io.KnownBytes.IsAtEnd}
 use Rattle.flow_design.proofs.Failing.{on_err}
-use Rattle.std.specs.Io.KnownBytes.{Consumes, IsAtEnd}
-use Rattle.sim_io.specs.Causes.{AppendsPrefix, LosesCount}
-use Rattle.sim_io.specs.Telling.{IsTold}
+use Rattle.sim_io.specs.{Causes.AppendsPrefix, Causes.LosesCount, Telling.IsTold}
 use Rattle.sim_io.proofs.Pending.{prefix_none, told_none}
 use Rattle.flow_design.specs.declared.session.Statement.{Statement}
-use Rattle.flow_grammar.specs.declared.fault.TextFault.{TextFault}
-use Rattle.flow_grammar.specs.Text.{Said, StandsFor, HasFault}
+use Rattle.flow_grammar.specs.{declared.fault.TextFault.TextFault, Text.Said, Text.StandsFor, Text.HasFault}
 use Rattle.flow_check.specs.Checked.{fault_of}
-use Rattle.cli_words.specs.declared.Command.{Command}
+use Rattle.cli_words.specs.{declared.Command.Command, declared.Asked.Asked}
 use Rattle.cli_words.specs.declared.Command.TheVariants.{Of, Gen}
-use Rattle.cli_words.specs.declared.Asked.{Asked}
-use Rattle.whole_answer.specs.declared.answer.Answer.{Answer}
-use Rattle.whole_answer.specs.Made.{refused_words, refused, made, generated}
+use Rattle.whole_answer.specs.{declared.answer.Answer.Answer, Made.refused_words, Made.refused, Made.made, Made.generated}
+use Rattle.whole_answer.specs.{Answer.AnswersSession.misfit, Answer.AnswersSession.fit, Answer.AnswersText.misread, Answer.AnswersText.read}
 use Rattle.whole_answer.specs.Answer.{AnswersSession, AnswersText, AnswersCommand, IsRest, Begins}
-use Rattle.whole_answer.specs.Answer.AnswersSession.{misfit, fit}
-use Rattle.whole_answer.specs.Answer.AnswersText.{misread, read}
 
 -- ---- the answer to a session
 

@@ -1,15 +1,12 @@
 -- The first point that none beats is the best one.
 use Rattle.std.proofs.Common.{◌≡◌, refl, sym, ◌∙◌, ap, ap₂, subst, arith, ℕ, zero, suc, ◌<◌, ◌≤◌, ◌==◌, ◌&&◌, ◌||◌, not, Bool, true, false}
 use Rattle.std.proofs.Common.{List, [], ◌∷◌, length, get_or, sum, nat_lt, None, Some, ◌⊎◌, inl, inr}
-use Rattle.std.specs.Prelude.{find}
-use Rattle.std.specs.List.{list_any}
 use Rattle.std.proofs.lemmas.Bool.{cases_lt, le-ltb, lt-ltb, eq-eqb, eqb-true}
+use Rattle.std.specs.{Prelude.find, List.list_any}
 use Rattle.flow_design.specs.declared.report.Verdict.{Verdict}
 use Rattle.flow_design.specs.declared.report.Verdict.TheVariants.{Done, Deadlock, Cycles, Ops}
-use Rattle.depth_sweep.specs.declared.point.Point.{Point}
-use Rattle.depth_sweep.specs.Best.{IsBest, IsDoneAt, point_at, no_point}
-use Rattle.whole_answer.specs.Job.{is_done, ending_of}
-use Rattle.whole_answer.specs.Further.{is_done_at, beats, best_of}
+use Rattle.depth_sweep.specs.{declared.point.Point.Point, Best.IsBest, Best.IsDoneAt, Best.point_at, Best.no_point}
+use Rattle.whole_answer.specs.{Job.is_done, Job.ending_of, Further.is_done_at, Further.beats, Further.best_of}
 
 -- ---- lists
 

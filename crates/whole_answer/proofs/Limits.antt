@@ -1,15 +1,10 @@
 -- A plan under other limits.
-use Rattle.std.proofs.Common.{ℕ, ◌≤◌, ◌^◌, Option, None, Some}
+use Rattle.std.proofs.{Common.ℕ, Common.◌≤◌, Common.◌^◌, Common.Option, Common.None, Common.Some, Math.Nat.le_trans}
 use Rattle.std.specs.Prelude.{unwrap_or}
-use Rattle.std.proofs.Math.Nat.{le_trans}
-use Rattle.flow_design.specs.declared.limits.Scale.{Scale}
-use Rattle.flow_design.specs.declared.plan.Plan.{Plan}
-use Rattle.flow_design.specs.Limits.{limits_at}
-use Rattle.flow_design.specs.StaticRules.{FitsEngine}
+use Rattle.flow_design.specs.{declared.limits.Scale.Scale, declared.plan.Plan.Plan, Limits.limits_at, StaticRules.FitsEngine}
 use Rattle.flow_check.specs.Scales.{KeepsScale}
 use Rattle.flow_check.proofs.Scales.{limits_most, at_pace}
-use Rattle.cli_words.specs.declared.Options.{Options}
-use Rattle.cli_words.specs.CommandWords.{AreLimits, IsLimit}
+use Rattle.cli_words.specs.{declared.Options.Options, CommandWords.AreLimits, CommandWords.IsLimit}
 use Rattle.whole_answer.specs.Made.{with_limits}
 
 -- the limit that is given, and else the plan's own

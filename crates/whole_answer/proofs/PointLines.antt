@@ -1,8 +1,7 @@
 -- The line of a point.
 use Rattle.std.proofs.Common.{◌≡◌, ◌∙◌, sym, ap, ℕ, List, [], ◌∷◌, ◌++◌, map, append_assoc, append-nil, arith}
 use Rattle.std.proofs.lemmas.Grind.{common_steps}
-use Rattle.std.specs.Fmt.{decimal}
-use Rattle.std.specs.List.{join_with_byte}
+use Rattle.std.specs.{Fmt.decimal, List.join_with_byte}
 use Rattle.report_text.specs.Lines.{Token, line, spaced, text_of_lines}
 
 regroup : (token x xs a b : List ℕ)

@@ -2,11 +2,8 @@
 use Rattle.std.proofs.Common.{◌≡◌, sym, ◌∙◌, Bool, true, false, true≢false, cond, ap, ℕ, List, get_or}
 use Rattle.std.proofs.lemmas.Bool.{false_from_ne_true, true_from_ne_false}
 use Rattle.std.proofs.lemmas.List.Folds.{list_any_at, list_any_none}
-use Rattle.std.specs.Prelude.{All}
-use Rattle.std.specs.List.{list_any}
-use Rattle.flow_design.specs.declared.design.Block.{Block}
-use Rattle.flow_design.specs.declared.design.Module.{Module}
-use Rattle.flow_design.specs.declared.plan.Plan.{Plan}
+use Rattle.std.specs.{Prelude.All, List.list_any}
+use Rattle.flow_design.specs.{declared.design.Block.Block, declared.design.Module.Module, declared.plan.Plan.Plan}
 use Rattle.lockstep_defs.specs.Laws.{is_query}
 use Rattle.depth_order.specs.Depths.{AsksNothing}
 use Rattle.whole_answer.specs.Further.{has_query, fewest_bits, least_told, not_taken}

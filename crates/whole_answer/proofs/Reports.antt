@@ -1,37 +1,23 @@
 -- A job, report after report.
 use Rattle.std.proofs.Common.{◌≡◌, refl, sym, ◌∙◌, ap, ap₂, subst, arith, ℕ, suc, ◌+◌, ◌-◌, ◌<◌, ◌≤◌, Bool, true, false, cond, List, []}
 use Rattle.std.proofs.Common.{◌∷◌, ◌++◌, length, map, take, get_or, All, add-one, append-nil, append_assoc}
-use Rattle.std.specs.Prelude.{if◌then◌else◌, flat_map}
-use Rattle.std.specs.declared.option.Option.{Option}
-use Rattle.std.specs.Io.KnownBytes.{Appends}
-use Rattle.std.specs.List.{range_with_len, enumerate_from}
 use Rattle.std.proofs.lemmas.List.{map-append, take_more, flat_map_more, length-map}
-use Rattle.std.proofs.lemmas.List.Concat.{flat_map-append}
-use Rattle.std.proofs.lemmas.List.FromFn.{length-enumerate_from}
-use Rattle.std.proofs.lemmas.List.Elements.{All-get_or}
-use Rattle.flow_design.specs.declared.plan.Plan.{Plan}
-use Rattle.flow_design.specs.declared.plan.Edit.{Edit}
-use Rattle.flow_design.specs.declared.design.Design.{Design}
-use Rattle.flow_design.specs.declared.report.Report.{Report}
-use Rattle.flow_design.specs.Plans.{with_depth, EditFits}
-use Rattle.flow_design.specs.StaticRules.{FitsEngine}
+use Rattle.std.proofs.{lemmas.List.Concat.flat_map-append, lemmas.List.FromFn.length-enumerate_from, lemmas.List.Elements.All-get_or}
+use Rattle.std.specs.{Prelude.if◌then◌else◌, Prelude.flat_map, declared.option.Option.Option, Io.KnownBytes.Appends}
+use Rattle.std.specs.List.{range_with_len, enumerate_from}
+use Rattle.flow_design.specs.{declared.plan.Plan.Plan, declared.plan.Edit.Edit, declared.design.Design.Design}
+use Rattle.flow_design.specs.{declared.report.Report.Report, Plans.with_depth, Plans.EditFits, StaticRules.FitsEngine}
 use Rattle.lockstep_defs.specs.Report.{report}
 use Rattle.engine_report.specs.Finished.{report_with}
-use Rattle.outcome_guard.specs.declared.count.RunCount.{RunCount}
-use Rattle.outcome_guard.specs.Edits.{depth_after, plan_after}
+use Rattle.outcome_guard.specs.{declared.count.RunCount.RunCount, Edits.depth_after, Edits.plan_after}
 use Rattle.outcome_guard.specs.Runs.{all_go_on, next_counts, counts_after, first_counts}
-use Rattle.report_text.specs.Lines.{line, runs_tokens}
-use Rattle.report_text.specs.ReportText.{report_text_of}
+use Rattle.report_text.specs.{Lines.line, Lines.runs_tokens, ReportText.report_text_of}
 use Rattle.sim_io.specs.Causes.{AppendsPrefix}
-use Rattle.sim_io.proofs.Pieces.{appends_both}
-use Rattle.sim_io.proofs.Pending.{prefix_of_longer, prefix_longer, prefix_after, range_both}
-use Rattle.whole_answer.specs.declared.answer.Answer.{Answer}
-use Rattle.whole_answer.specs.declared.ending.Ending.{Ending}
+use Rattle.sim_io.proofs.{Pieces.appends_both, Pending.prefix_of_longer, Pending.prefix_longer, Pending.prefix_after, Pending.range_both}
+use Rattle.whole_answer.specs.{declared.answer.Answer.Answer, declared.ending.Ending.Ending, Answer.IsRest, Job.plan_at, Job.report_at}
+use Rattle.whole_answer.specs.{Job.first_numbers, Job.texts_of, Job.counts_in, Job.ending_of, Job.is_done, Job.first_not_done}
+use Rattle.whole_answer.specs.{Job.endings_of, Job.job, Going.Told, Going.told_of, Going.first_told, Going.more_told, Going.IsGoing}
 use Rattle.whole_answer.specs.declared.ending.Ending.TheVariants.{Done, Words, Text, Deadlock, Cycles, Ops}
-use Rattle.whole_answer.specs.Answer.{IsRest}
-use Rattle.whole_answer.specs.Job.{plan_at, report_at, first_numbers, texts_of, counts_in, ending_of, is_done, first_not_done, endings_of}
-use Rattle.whole_answer.specs.Job.{job}
-use Rattle.whole_answer.specs.Going.{Told, told_of, first_told, more_told, IsGoing}
 use Rattle.flow_word.proofs.Ranges.{range_more}
 
 -- ---- lists that grow at their end

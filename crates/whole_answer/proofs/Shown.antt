@@ -1,18 +1,11 @@
 -- What is shown of a plan, of which a part was written.
 use Rattle.std.proofs.Common.{◌≡◌, ◌∙◌, ap, subst, ℕ, List}
 use Rattle.std.specs.declared.option.Option.{Option}
-use Rattle.flow_design.specs.declared.plan.Plan.{Plan}
-use Rattle.flow_design.specs.declared.report.Verdict.{Verdict}
-use Rattle.lockstep_defs.specs.Report.{report}
-use Rattle.lockstep_defs.specs.Verdict.{verdict}
-use Rattle.sim_io.specs.Causes.{AppendsPrefix}
-use Rattle.sim_io.specs.Telling.{IsTold}
-use Rattle.cli_words.specs.declared.Options.{Options}
-use Rattle.cli_words.specs.declared.View.{View}
-use Rattle.whole_answer.specs.declared.ending.Ending.{Ending}
-use Rattle.whole_answer.specs.Answer.{IsRest}
-use Rattle.whole_answer.specs.Job.{ending_of}
-use Rattle.whole_answer.specs.Views.{shown, view_text}
+use Rattle.flow_design.specs.{declared.plan.Plan.Plan, declared.report.Verdict.Verdict}
+use Rattle.lockstep_defs.specs.{Report.report, Verdict.verdict}
+use Rattle.sim_io.specs.{Causes.AppendsPrefix, Telling.IsTold}
+use Rattle.cli_words.specs.{declared.Options.Options, declared.View.View}
+use Rattle.whole_answer.specs.{declared.ending.Ending.Ending, Answer.IsRest, Job.ending_of, Views.shown, Views.view_text}
 
 -- the rest of the text, and the ending
 pub shown_rest : (view : View) (o : Options) (p q : Plan) (old new : Option (List ℕ)) (text : List ℕ) (v : Verdict) (s : Ending) → q ≡ p

@@ -1,8 +1,7 @@
 -- Sums modulo 2^64.
 use Rattle.std.proofs.Common.{◌≡◌, ◌∙◌, ap, sym, ℕ, ◌+◌, ◌<◌, ◌%◌, ◌^◌, List, take, get_or, length}
+use Rattle.std.proofs.{Math.Nat.mod-add-mod, lemmas.List.Sums.sum_by_more}
 use Rattle.std.specs.Prelude.{sum_by}
-use Rattle.std.proofs.Math.Nat.{mod-add-mod}
-use Rattle.std.proofs.lemmas.List.Sums.{sum_by_more}
 
 -- the sum of the values before one, and that one
 pub one_more : (values : List ℕ) (i : ℕ) → i < length values

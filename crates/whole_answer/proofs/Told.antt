@@ -1,16 +1,12 @@
 -- What was told: where writing or finishing failed, and where the rest of an answer is told.
 use Rattle.std.proofs.Common.{◌≡◌, ◌∙◌, ap, subst, arith, Bool, ℕ, List, length, take, None, Some, Ok, Err}
 use Rattle.std.proofs.lemmas.Grind.{common_steps}
-use Rattle.std.specs.declared.option.Option.{Option}
-use Rattle.std.specs.Io.KnownBytes.{Appends, Keeps}
+use Rattle.std.specs.{declared.option.Option.Option, Io.KnownBytes.Appends, Io.KnownBytes.Keeps}
 use Rattle.sim_io.specs.Causes.{AppendsPrefix}
-use Rattle.whole_answer.specs.declared.answer.Answer.{Answer}
-use Rattle.sim_io.proofs.Pieces.{appends_both}
-use Rattle.sim_io.proofs.Pending.{prefix_after}
-use Rattle.whole_answer.specs.Exit.{status_of}
-use Rattle.whole_answer.specs.declared.status.Status.{Status}
+use Rattle.whole_answer.specs.{declared.answer.Answer.Answer, Exit.status_of, declared.status.Status.Status}
 use Rattle.whole_answer.specs.declared.status.Status.TheVariants.{WriteFault}
 use Rattle.whole_answer.specs.Answer.{Answers, Begins, IsAnswer, IsRest, Tells, TellsAnswer}
+use Rattle.sim_io.proofs.{Pieces.appends_both, Pending.prefix_after}
 
 pub appends_kept : (a b c : Option (List ℕ)) (xs : List ℕ) → Appends a b xs → Keeps b c → Appends a c xs
 appends_kept None b c xs p q = tt

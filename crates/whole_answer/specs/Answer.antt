@@ -1,20 +1,14 @@
 -- The whole answer to the program's words and the bytes of its input.
 use Rattle.std.specs.Prelude.{◌≡◌, ◌≤◌, ℕ, Bool, true, false, List, Option, Some, None, Result, IfOk, OnErr}
 use Rattle.std.specs.Io.KnownBytes.{Appends}
-use Rattle.sim_io.specs.Causes.{AppendsPrefix, Rose}
-use Rattle.sim_io.specs.Telling.{IsTold}
+use Rattle.sim_io.specs.{Causes.AppendsPrefix, Causes.Rose, Telling.IsTold}
 use Rattle.flow_design.specs.declared.session.Statement.{Statement}
-use Rattle.flow_grammar.specs.declared.fault.TextFault.{TextFault}
-use Rattle.flow_grammar.specs.Text.{StandsFor, HasFault}
+use Rattle.flow_grammar.specs.{declared.fault.TextFault.TextFault, Text.StandsFor, Text.HasFault}
 use Rattle.flow_check.specs.Checked.{fault_of}
-use Rattle.cli_words.specs.CommandWords.{accepted}
-use Rattle.cli_words.specs.declared.Asked.{Asked}
-use Rattle.cli_words.specs.declared.Command.{Command}
+use Rattle.cli_words.specs.{CommandWords.accepted, declared.Asked.Asked, declared.Command.Command}
 use Rattle.cli_words.specs.declared.Command.TheVariants.{Of, Gen}
-use Rattle.whole_answer.specs.declared.answer.Answer.{Answer}
+use Rattle.whole_answer.specs.{declared.answer.Answer.Answer, Exit.status_of, declared.status.Status.Status}
 use Rattle.whole_answer.specs.Made.{refused_words, refused, made, generated}
-use Rattle.whole_answer.specs.Exit.{status_of}
-use Rattle.whole_answer.specs.declared.status.Status.{Status}
 use Rattle.whole_answer.specs.declared.status.Status.TheVariants.{ReadFault, WriteFault, Memory}
 
 -- ---- the answer to a session, and to a text

@@ -1,9 +1,8 @@
 -- The program's exit status.
 use Rattle.std.specs.Prelude.{ℕ}
-use Rattle.whole_answer.specs.declared.ending.Ending.{Ending}
-use Rattle.whole_answer.specs.declared.ending.Ending.TheVariants as ending
-use Rattle.whole_answer.specs.declared.status.Status.{Status}
+use Rattle.whole_answer.specs.{declared.ending.Ending.Ending, declared.status.Status.Status}
 use Rattle.whole_answer.specs.declared.status.Status.TheVariants.{Done, Words, Text, Deadlock, Cycles, Ops, ReadFault, WriteFault, Memory}
+use Rattle.whole_answer.specs.declared.ending.Ending.TheVariants as ending
 
 -- the status of an answer that was written whole
 abbrev pub status_of : Ending → Status

@@ -1,33 +1,20 @@
 -- The answers to the commands that do more than simulate: `advise`, `order`, `sweep`, `size` and `least`.
-use Rattle.std.specs.Prelude.{ℕ, ◌==◌, ◌&&◌, ◌||◌, not, Bool, nat_lt, if◌then◌else◌, List, [], ◌∷◌, ◌++◌, Option, None, Some}
-use Rattle.std.specs.Prelude.{codes, decimal, find, length, map, sum}
+use Rattle.std.specs.Prelude.{ℕ, ◌==◌, ◌&&◌, ◌||◌, not, Bool, nat_lt, if◌then◌else◌, List, [], ◌∷◌, ◌++◌, Option, None, Some, codes}
+use Rattle.std.specs.Prelude.{decimal, find, length, map, sum}
 use Rattle.std.specs.List.{list_any, range_with_len}
-use Rattle.flow_design.specs.declared.design.Design.{Design}
-use Rattle.flow_design.specs.declared.plan.Plan.{Plan}
-use Rattle.flow_design.specs.declared.report.Verdict.{Verdict}
+use Rattle.flow_design.specs.{declared.design.Design.Design, declared.plan.Plan.Plan, declared.report.Verdict.Verdict, Reports.clock_of}
 use Rattle.flow_design.specs.declared.report.Verdict.TheVariants as verdict
-use Rattle.lockstep_defs.specs.Laws.{is_query}
-use Rattle.lockstep_defs.specs.Report.{report}
-use Rattle.flow_design.specs.Reports.{clock_of}
-use Rattle.serial_order.specs.declared.order.Used.{Used}
+use Rattle.lockstep_defs.specs.{Laws.is_query, Report.report}
+use Rattle.serial_order.specs.{declared.order.Used.Used, declared.order.Order.Order, Orders.order_of}
 use Rattle.serial_order.specs.declared.order.Used.TheVariants as used
-use Rattle.serial_order.specs.declared.order.Order.{Order}
 use Rattle.serial_order.specs.declared.order.Order.TheVariants as order
-use Rattle.serial_order.specs.Orders.{order_of}
-use Rattle.depth_sweep.specs.declared.point.Point.{Point}
-use Rattle.depth_sweep.specs.Grid.{grid_of, most_points, point}
-use Rattle.depth_advice.specs.Advice.{advised, wide}
-use Rattle.depth_advice.specs.DepthLines.{depth_lines}
-use Rattle.least_depths.specs.Least.{sizes}
-use Rattle.least_depths.specs.SizeText.{size_text}
-use Rattle.least_memory.specs.Least.{leasts}
-use Rattle.least_memory.specs.LeastText.{least_text}
-use Rattle.report_text.specs.Lines.{line, text_of_lines, Token, verdict_tokens}
-use Rattle.report_text.specs.ReportText.{module_name}
-use Rattle.whole_answer.specs.declared.answer.Answer.{Answer}
-use Rattle.whole_answer.specs.declared.ending.Ending.{Ending}
+use Rattle.depth_sweep.specs.{declared.point.Point.Point, Grid.grid_of, Grid.most_points, Grid.point}
+use Rattle.depth_advice.specs.{Advice.advised, Advice.wide, DepthLines.depth_lines}
+use Rattle.least_depths.specs.{Least.sizes, SizeText.size_text}
+use Rattle.least_memory.specs.{Least.leasts, LeastText.least_text}
+use Rattle.report_text.specs.{Lines.line, Lines.text_of_lines, Lines.Token, Lines.verdict_tokens, ReportText.module_name}
+use Rattle.whole_answer.specs.{declared.answer.Answer.Answer, declared.ending.Ending.Ending, Job.is_done, Job.ending_of}
 use Rattle.whole_answer.specs.declared.ending.Ending.TheVariants.{Done, Text}
-use Rattle.whole_answer.specs.Job.{is_done, ending_of}
 
 -- ---- `advise`
 

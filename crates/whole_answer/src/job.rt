@@ -2,14 +2,11 @@
 ghost use Rattle.std.specs.Prelude.{◌≡◌, ◌≤◌, All, IfOk, IsErrOf, OnErr, OnOk};
 ghost use Rattle.std.specs.Io.KnownBytes.{Appends};
 ghost use Rattle.sim_io.specs.Causes.{AppendsPrefix, Rose};
-ghost use Rattle.flow_design.specs.Plans.{EditFits};
-ghost use Rattle.flow_design.specs.StaticRules.{FitsEngine};
+ghost use Rattle.flow_design.specs.{Plans.EditFits, StaticRules.FitsEngine};
 ghost use Rattle.lockstep_defs.specs.Report.{report};
 ghost use Rattle.engine_report.specs.Finished.{report_with};
-ghost use Rattle.report_text.specs.Lines.{line, runs_tokens};
-ghost use Rattle.report_text.specs.ReportText.{report_text_of};
-ghost use Rattle.whole_answer.specs.Job.{job};
-ghost use Rattle.whole_answer.specs.Answer.{IsRest};
+ghost use Rattle.report_text.specs.{Lines.line, Lines.runs_tokens, ReportText.report_text_of};
+ghost use Rattle.whole_answer.specs.{Job.job, Answer.IsRest};
 
 use crate::answer::Answer;
 use crate::ending::Ending;

@@ -1,13 +1,10 @@
 //! The laws of the whole answer, and of reports without their events.
 ghost use Rattle.std.specs.Prelude.{◌≡◌, ℕ, Bool, List};
-ghost use Rattle.whole_answer.specs.declared.answer.Answer.{Answer};
-ghost use Rattle.flow_design.specs.declared.plan.Plan.{Plan};
-ghost use Rattle.flow_design.specs.StaticRules.{FitsEngine};
-ghost use Rattle.lockstep_defs.specs.Laws.{HasNumbersOf};
-ghost use Rattle.lockstep_defs.specs.Report.{report};
+ghost use Rattle.whole_answer.specs.{declared.answer.Answer.Answer, Answer.Answers, Answer.AnswersText};
+ghost use Rattle.flow_design.specs.{declared.plan.Plan.Plan, StaticRules.FitsEngine};
+ghost use Rattle.lockstep_defs.specs.{Laws.HasNumbersOf, Report.report};
 ghost use Rattle.engine_report.specs.Finished.{report_with};
 ghost use Rattle.report_text.specs.ReportText.{report_text_of};
-ghost use Rattle.whole_answer.specs.Answer.{Answers, AnswersText};
 ghost use Rattle.cli_words.specs.declared.Asked.{Asked};
 
 use flow_grammar::one_answer as one_reading;

@@ -1,13 +1,11 @@
 //! The answers to the commands that show a simulation.
 ghost use Rattle.std.specs.Prelude.{◌≤◌, IfOk, IsErrOf, OnErr};
-ghost use Rattle.sim_io.specs.Causes.{AppendsPrefix, Rose};
-ghost use Rattle.sim_io.specs.Telling.{IsTold};
+ghost use Rattle.sim_io.specs.{Causes.AppendsPrefix, Causes.Rose, Telling.IsTold};
 ghost use Rattle.flow_design.specs.StaticRules.{FitsEngine};
 ghost use Rattle.event_timing.specs.Actions.{IsFinal};
 ghost use Rattle.timing_bridge.specs.Designs.{design};
 ghost use Rattle.sim_core.specs.Views.{theory_of};
-ghost use Rattle.whole_answer.specs.Answer.{IsRest};
-ghost use Rattle.whole_answer.specs.Views.{shown, view_text};
+ghost use Rattle.whole_answer.specs.{Answer.IsRest, Views.shown, Views.view_text};
 
 use crate::answer::Answer;
 use crate::ending::Ending;

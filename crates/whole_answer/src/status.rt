@@ -1,7 +1,6 @@
 //! How the program ends.
 ghost use Rattle.std.specs.Prelude.{◌≡◌};
-ghost use Rattle.whole_answer.specs.Answer.{IsAnswer};
-ghost use Rattle.whole_answer.specs.Exit.{exit_number, status_of};
+ghost use Rattle.whole_answer.specs.{Answer.IsAnswer, Exit.exit_number, Exit.status_of};
 
 use crate::ending::Ending;
 

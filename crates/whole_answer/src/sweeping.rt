@@ -3,8 +3,8 @@ ghost use Rattle.std.specs.Prelude.{◌≡◌, ◌≤◌, ◌∷◌, ◌++◌, [
 ghost use Rattle.std.specs.List.{list_any};
 ghost use Rattle.flow_design.specs.StaticRules.{FitsEngine};
 ghost use Rattle.report_text.specs.Lines.{line, text_of_lines};
-ghost use Rattle.whole_answer.specs.Further.{best_of, best_tokens, first_ending, is_done_at, not_taken, point_tokens, points_ending};
-ghost use Rattle.whole_answer.specs.Further.{swept, told_points, verdict_words};
+ghost use Rattle.whole_answer.specs.Further.{best_of, best_tokens, first_ending, is_done_at, not_taken, point_tokens, points_ending, swept};
+ghost use Rattle.whole_answer.specs.Further.{told_points, verdict_words};
 
 use crate::answer::Answer;
 use crate::ending::Ending;

@@ -2,13 +2,9 @@
 ghost use Rattle.std.specs.Prelude.{◌≡◌, ℕ, ◌+◌, ◌<◌, ◌≤◌, [], true, false, length, IfOk};
 ghost use Rattle.event_timing.specs.Core.{opening_core};
 ghost use Rattle.timing_bridge.specs.Designs.{design};
-ghost use Rattle.sim_core.specs.Drives.{AreOwn};
-ghost use Rattle.sim_core.specs.Views.{theory_of};
-ghost use Rattle.turn_history.specs.declared.turn.HubTurn.TheVariants.{Short};
-ghost use Rattle.turn_history.specs.Entries.{history_of};
-ghost use Rattle.sim_hub.specs.Places.{HasDesk, HasNoDesk};
-ghost use Rattle.sim_hub.specs.Hubs.{OutAt};
-ghost use Rattle.sim_hub.specs.Ledgers.{entries_in};
+ghost use Rattle.sim_core.specs.{Drives.AreOwn, Views.theory_of};
+ghost use Rattle.turn_history.specs.{declared.turn.HubTurn.TheVariants.Short, Entries.history_of};
+ghost use Rattle.sim_hub.specs.{Places.HasDesk, Places.HasNoDesk, Hubs.OutAt, Ledgers.entries_in};
 ghost use Rattle.sim_hub.specs.Steps.{Adds, BackIs, ComesBack, ComesHome, LendingIs};
 
 use super::Ledger;

@@ -1,16 +1,12 @@
 //! The turns of the performance pass.
 ghost use Rattle.std.specs.Prelude.{◌≡◌, ℕ, ◌<◌, false, Some};
 ghost use Rattle.flow_design.specs.declared.state.ModuleState.{ModuleState};
-ghost use Rattle.event_timing.specs.Actions.{MayEarliest};
-ghost use Rattle.event_timing.specs.Agreement.{AllVerified};
+ghost use Rattle.event_timing.specs.{Actions.MayEarliest, Agreement.AllVerified};
 ghost use Rattle.timing_bridge.specs.Designs.{design};
 ghost use Rattle.sim_core.specs.Views.{theory_of};
 ghost use Rattle.turn_history.specs.declared.turn.HubTurn.TheVariants.{Timed};
-ghost use Rattle.turn_history.specs.Histories.{turned_by};
-ghost use Rattle.turn_history.specs.Turned.{Turned, after_timed};
-ghost use Rattle.turn_history.specs.Turns.{NoTiming};
-ghost use Rattle.sim_hub.specs.Ledgers.{entries_in};
-ghost use Rattle.sim_hub.specs.Steps.{TimingIs};
+ghost use Rattle.turn_history.specs.{Histories.turned_by, Turned.Turned, Turned.after_timed, Turns.NoTiming};
+ghost use Rattle.sim_hub.specs.{Ledgers.entries_in, Steps.TimingIs};
 
 use super::Ledger;
 use crate::answer::PerfAnswer;

@@ -1,9 +1,7 @@
 use Rattle.std.proofs.Common.{◌≡◌, ◌∙◌, ℕ, ◌+◌, ◌<◌, ◌≤◌, ◌++◌, [], ◌∷◌, List, length, get_or, ap, subst, arith}
 use Rattle.std.proofs.lemmas.List.{length_push, get_or_default}
-use Rattle.flow_design.specs.declared.design.Timed.{Timed}
-use Rattle.flow_design.specs.Module.{no_operation, operation_at}
-use Rattle.block_code.specs.declared.code.Guarded.{Guarded}
-use Rattle.block_code.specs.Actions.{IsActionOf, action_room}
+use Rattle.flow_design.specs.{declared.design.Timed.Timed, Module.no_operation, Module.operation_at}
+use Rattle.block_code.specs.{declared.code.Guarded.Guarded, Actions.IsActionOf, Actions.action_room}
 use Rattle.block_code.proofs.Codes.{each_more}
 use Rattle.block_code.proofs.code.code_of.Goals as goal
 

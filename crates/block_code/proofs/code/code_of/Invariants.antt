@@ -1,7 +1,6 @@
 use Rattle.std.proofs.Common.{◌≡◌, ◌≤◌, ℕ, ◌<◌, length, get_or}
 use Rattle.flow_design.specs.Module.{operation_at}
-use Rattle.block_code.specs.declared.code.Guarded.{Guarded}
-use Rattle.block_code.specs.Actions.{IsActionOf, action_room}
+use Rattle.block_code.specs.{declared.code.Guarded.Guarded, Actions.IsActionOf, Actions.action_room}
 use Rattle.block_code.proofs.code.code_of.Given as goal
 
 -- the actions of the operations so far

@@ -1,11 +1,9 @@
 use Rattle.std.proofs.Common.{◌≡◌, ◌∙◌, ℕ, ◌+◌, List, length, get_or, sym, ap, subst}
-use Rattle.std.specs.Prelude.{All}
 use Rattle.std.proofs.lemmas.List.{length_push, get_or_default}
-use Rattle.flow_design.specs.declared.design.Block.{Block}
-use Rattle.flow_design.specs.Module.{no_block, block_at}
+use Rattle.std.specs.Prelude.{All}
+use Rattle.flow_design.specs.{declared.design.Block.Block, Module.no_block, Module.block_at}
 use Rattle.block_schedule.specs.Schedules.{KeepsLimits}
-use Rattle.block_code.specs.declared.code.BlockCode.{BlockCode}
-use Rattle.block_code.specs.Codes.{IsBlockCodeOf}
+use Rattle.block_code.specs.{declared.code.BlockCode.BlockCode, Codes.IsBlockCodeOf}
 use Rattle.block_code.proofs.Codes.{each_more}
 use Rattle.block_code.proofs.code.codes_of.Goals as goal
 

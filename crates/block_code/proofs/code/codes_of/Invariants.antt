@@ -1,7 +1,6 @@
 use Rattle.std.proofs.Common.{◌≡◌, ℕ, ◌<◌, length, get_or}
 use Rattle.flow_design.specs.Module.{block_at}
-use Rattle.block_code.specs.declared.code.BlockCode.{BlockCode}
-use Rattle.block_code.specs.Codes.{IsBlockCodeOf}
+use Rattle.block_code.specs.{declared.code.BlockCode.BlockCode, Codes.IsBlockCodeOf}
 use Rattle.block_code.proofs.code.codes_of.Given as goal
 
 -- the code of the blocks so far

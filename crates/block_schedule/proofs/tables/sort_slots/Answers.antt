@@ -1,5 +1,4 @@
-use Rattle.std.proofs.Common.{rules}
-use Rattle.std.proofs.lemmas.List.Sorted.{IsNonDecreasingBy-from_sort_by_key, answers_always}
+use Rattle.std.proofs.{Common.rules, lemmas.List.Sorted.IsNonDecreasingBy-from_sort_by_key, lemmas.List.Sorted.answers_always}
 use Rattle.block_schedule.specs.declared.tables.Slot.{Slot}
 use Rattle.block_schedule.proofs.tables.sort_slots.Goals as goal
 

@@ -1,9 +1,7 @@
 use Rattle.std.proofs.Common.{◌≡◌, ◌∙◌, ap, ap₂, refl, subst, map}
 use Rattle.cli_words.proofs.ParsedLemmas.{rows_by}
 use Rattle.std.specs.Prelude.{string_bytes}
-use Rattle.clap.specs.Simple.{app_of, with_rule}
-use Rattle.clap.specs.Kinds.{FailsBy}
-use Rattle.clap.specs.Faults.{fault_of, is_simple_and_free}
+use Rattle.clap.specs.{Simple.app_of, Simple.with_rule, Kinds.FailsBy, Faults.fault_of, Faults.is_simple_and_free}
 use Rattle.cli_words.specs.Parser.{parser}
 use Rattle.cli_words.proofs.parser.matches.Goals as goal
 

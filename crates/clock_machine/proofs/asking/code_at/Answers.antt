@@ -1,9 +1,7 @@
 use Rattle.std.proofs.Common.{◌≡◌, ◌<◌, ℕ, ◌∙◌, List, length, sym, ap, subst, arith, get_or}
-use Rattle.flow_design.specs.declared.plan.Plan.{Plan}
-use Rattle.flow_design.specs.Module.{block_of}
+use Rattle.flow_design.specs.{declared.plan.Plan.Plan, Module.block_of}
 use Rattle.lockstep_defs.specs.Lockstep.{module_at}
-use Rattle.block_code.specs.declared.code.BlockCode.{BlockCode}
-use Rattle.block_code.specs.Codes.{IsBlockCodeOf, AreCodesOf}
+use Rattle.block_code.specs.{declared.code.BlockCode.BlockCode, Codes.IsBlockCodeOf, Codes.AreCodesOf}
 use Rattle.clock_machine.specs.Parts.{AreCodes}
 use Rattle.clock_machine.proofs.asking.code_at.Goals as goal
 

@@ -1,8 +1,6 @@
 use Rattle.std.proofs.Common.{◌≡◌, ◌∙◌, sym, subst, ap}
-use Rattle.flow_design.specs.declared.design.Module.{Module}
-use Rattle.flow_design.specs.Module.{block_of}
-use Rattle.lockstep_defs.specs.Lockstep.{no_module}
-use Rattle.lockstep_defs.specs.Machine.{requests}
+use Rattle.flow_design.specs.{declared.design.Module.Module, Module.block_of}
+use Rattle.lockstep_defs.specs.{Lockstep.no_module, Machine.requests}
 use Rattle.block_code.specs.Codes.{IsBlockCodeOf}
 use Rattle.module_move.specs.Sound.{HasCode}
 use Rattle.clock_machine.proofs.asking.note_one.Goals as goal

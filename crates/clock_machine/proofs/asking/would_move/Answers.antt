@@ -1,8 +1,7 @@
 use Rattle.std.proofs.Common.{◌∙◌, List, not, true, false, sym, ap, arith}
 use Rattle.std.specs.List.{list_any}
 use Rattle.flow_design.specs.declared.state.Request.{Request}
-use Rattle.lockstep_defs.specs.Channels.{all_ready, stalls}
-use Rattle.lockstep_defs.specs.Lockstep.{state_at}
+use Rattle.lockstep_defs.specs.{Channels.all_ready, Channels.stalls, Lockstep.state_at}
 use Rattle.clock_machine.proofs.Moving.{over_stays, moves_by_stalls}
 use Rattle.clock_machine.proofs.Sleeping.{asks_nothing, asked_in, runs_in, reseated, seated_sound}
 use Rattle.clock_machine.proofs.asking.would_move.Goals as goal

@@ -1,11 +1,7 @@
 use Rattle.std.proofs.Common.{ap, length, ◌∙◌, arith}
 use Rattle.std.specs.List.{filter_map}
-use Rattle.lockstep_defs.specs.Machine.{nobody}
-use Rattle.lockstep_defs.specs.Channels.{all_ready}
-use Rattle.lockstep_defs.specs.Lockstep.{numbered}
-use Rattle.lockstep_defs.specs.Verdict.{held_by}
-use Rattle.clock_machine.proofs.Fronts.{kept_more, numbered_all}
-use Rattle.clock_machine.proofs.Moving.{held_ever}
+use Rattle.lockstep_defs.specs.{Machine.nobody, Channels.all_ready, Lockstep.numbered, Verdict.held_by}
+use Rattle.clock_machine.proofs.{Fronts.kept_more, Fronts.numbered_all, Moving.held_ever}
 use Rattle.clock_machine.proofs.ending.hold_all.Goals as goal
 
 pub loop-i-preserved : goal.loop-i-preserved

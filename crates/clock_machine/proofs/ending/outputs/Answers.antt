@@ -1,7 +1,6 @@
 use Rattle.std.proofs.Common.{arith, ap, ◌∙◌}
-use Rattle.flow_design.specs.Plans.{kind_at}
+use Rattle.flow_design.specs.Plans.{kind_at, is_sink}
 use Rattle.lockstep_defs.specs.Channels.{values, contents_of}
-use Rattle.flow_design.specs.Plans.{is_sink}
 use Rattle.clock_machine.proofs.Fronts.{passed_more}
 use Rattle.clock_machine.proofs.ending.outputs.Goals as goal
 

@@ -1,13 +1,11 @@
 use Rattle.std.proofs.Common.{◌≡◌, ◌∙◌, ◌+◌, ◌++◌, [], ◌∷◌, ℕ, List, length, ap, sym, subst, arith}
-use Rattle.std.specs.Prelude.{All}
 use Rattle.std.proofs.lemmas.List.{length_push}
-use Rattle.flow_design.specs.declared.design.Channel.{Channel}
-use Rattle.flow_design.specs.declared.design.Module.{Module}
+use Rattle.std.specs.Prelude.{All}
+use Rattle.flow_design.specs.{declared.design.Channel.Channel, declared.design.Module.Module}
 use Rattle.lockstep_defs.specs.Lockstep.{module_at, no_module}
 use Rattle.block_schedule.specs.Schedules.{KeepsLimits}
 use Rattle.block_schedule.proofs.Limits.{blocks_keep_limits}
-use Rattle.block_code.specs.declared.code.BlockCode.{BlockCode}
-use Rattle.block_code.specs.Codes.{AreCodesOf}
+use Rattle.block_code.specs.{declared.code.BlockCode.BlockCode, Codes.AreCodesOf}
 use Rattle.block_code.proofs.Codes.{each_more}
 use Rattle.clock_machine.proofs.opening.codes_of_all.Goals as goal
 

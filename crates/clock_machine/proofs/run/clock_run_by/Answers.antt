@@ -1,18 +1,11 @@
 use Rattle.std.proofs.Common.{◌≡◌, ◌+◌, ◌≤◌, ℕ, List, Bool, true, sym, ap, subst, refl, ◌∙◌, arith}
-use Rattle.flow_design.specs.declared.plan.Plan.{Plan}
-use Rattle.flow_design.specs.declared.report.EventLine.{EventLine}
-use Rattle.flow_design.specs.declared.report.Report.{Report}
-use Rattle.flow_design.specs.declared.report.Verdict.{Verdict}
+use Rattle.flow_design.specs.{declared.plan.Plan.Plan, declared.report.EventLine.EventLine, declared.report.Report.Report}
+use Rattle.flow_design.specs.{declared.report.Verdict.Verdict, declared.state.ClockState.ClockState}
 use Rattle.flow_design.specs.declared.report.Verdict.TheVariants.{Cycles}
-use Rattle.flow_design.specs.declared.state.ClockState.{ClockState}
-use Rattle.lockstep_defs.specs.Channels.{HistoryStep}
-use Rattle.lockstep_defs.specs.Laws.{NoneBefore}
-use Rattle.lockstep_defs.specs.Lockstep.{state, history}
-use Rattle.lockstep_defs.specs.Report.{events_of, report}
+use Rattle.lockstep_defs.specs.{Channels.HistoryStep, Laws.NoneBefore, Lockstep.state, Lockstep.history, Report.events_of, Report.report}
 use Rattle.lockstep_defs.specs.Verdict.{settled_verdict, is_settled}
 use Rattle.lockstep_defs.proofs.Exits.{IsAt, settled_exit, cycles_exit}
-use Rattle.clock_machine.specs.declared.run.Run.{Run}
-use Rattle.clock_machine.specs.Parts.{kept, report_from}
+use Rattle.clock_machine.specs.{declared.run.Run.Run, Parts.kept, Parts.report_from}
 use Rattle.clock_machine.proofs.Kept.{kept_report}
 use Rattle.clock_machine.proofs.Coming.{come_at, none_next, settled_state, settled_fit, same_later, told_at}
 use Rattle.clock_machine.proofs.run.clock_run_by.Goals as goal

@@ -1,13 +1,8 @@
-use Rattle.std.proofs.Common.{◌≡◌, ℕ, ◌+◌, ◌≤◌, ◌∙◌, List, map, refl, sym, ap, subst, arith, false}
+use Rattle.std.proofs.Common.{◌≡◌, ℕ, ◌+◌, ◌≤◌, ◌∙◌, List, map, refl, sym, ap, subst, arith, false, Bool, true, not}
 use Rattle.std.proofs.lemmas.List.{append-nil}
-use Rattle.flow_design.specs.declared.design.Module.{Module}
-use Rattle.flow_design.specs.declared.state.ModuleState.{ModuleState}
-use Rattle.flow_design.specs.declared.state.Reply.{Reply}
-use Rattle.flow_design.specs.declared.state.Request.{Request}
-use Rattle.flow_design.specs.declared.state.Element.{Element}
-use Rattle.flow_design.specs.declared.plan.Plan.{Plan}
-use Rattle.lockstep_defs.specs.Machine.{is_over, move}
-use Rattle.lockstep_defs.specs.Channels.{reply, stalls}
+use Rattle.flow_design.specs.{declared.design.Module.Module, declared.state.ModuleState.ModuleState, declared.state.Reply.Reply}
+use Rattle.flow_design.specs.{declared.state.Request.Request, declared.state.Element.Element, declared.plan.Plan.Plan}
+use Rattle.lockstep_defs.specs.{Machine.is_over, Machine.move, Channels.reply, Channels.stalls}
 use Rattle.lockstep_defs.specs.Lockstep.{no_module, module_at, requests_of, state, state_at}
 use Rattle.lockstep_defs.proofs.Agrees.{below_limit}
 use Rattle.block_code.specs.declared.noted.Noted.{Noted}
@@ -15,9 +10,7 @@ use Rattle.module_move.specs.Sound.{CanCommit}
 use Rattle.clock_machine.proofs.Sleeping.{awake, stays, has_moved, moved_state, moves_by_requests, asked_in, runs_in, seated_sound}
 use Rattle.clock_machine.proofs.Steps.{IsAnswered, given_done, given_outcomes}
 use Rattle.std.specs.List.{list_any}
-use Rattle.std.proofs.Common.{Bool, true, not}
-use Rattle.clock_machine.specs.Seats.{IsSeated}
-use Rattle.clock_machine.specs.declared.seat.Seat.{Seat}
+use Rattle.clock_machine.specs.{Seats.IsSeated, declared.seat.Seat.Seat}
 use Rattle.clock_machine.proofs.turn.act.Goals as goal
 
 -- what is asked of a module that is awake and runs, and whether it moves

@@ -1,15 +1,11 @@
-use Rattle.std.proofs.Math.Seq.{take-append_seam}
-use Rattle.std.proofs.Common.{ℕ, List, length, ◌≡◌, ◌++◌, ◌∷◌, [], refl, sym, ap, ◌∙◌, Bool, true, false, cond}
-use Rattle.std.proofs.Common.{Option, Some, None, get_or, map, take}
-use Rattle.std.specs.Prelude.{is_some}
-use Rattle.std.specs.List.{list_any}
+use Rattle.std.proofs.{Math.Seq.take-append_seam, lemmas.List.Folds.list_any-append}
+use Rattle.std.proofs.Common.{ℕ, List, length, ◌≡◌, ◌++◌, ◌∷◌, [], refl, sym, ap, ◌∙◌, Bool, true, false, cond, Option, Some, None, get_or}
+use Rattle.std.proofs.Common.{map, take}
 use Rattle.std.proofs.lemmas.List.{take_more, map_more, append-nil}
-use Rattle.std.proofs.lemmas.List.Folds.{list_any-append}
+use Rattle.std.specs.{Prelude.is_some, List.list_any}
 use Rattle.flow_word.specs.declared.access.Kind.TheVariants.{Read}
-use Rattle.flow_design.specs.declared.state.Reply.{Reply}
-use Rattle.flow_design.specs.declared.state.Request.{Request}
-use Rattle.lockstep_defs.specs.Channels.{stalls, reply}
-use Rattle.lockstep_defs.specs.Lockstep.{answered}
+use Rattle.flow_design.specs.{declared.state.Reply.Reply, declared.state.Request.Request}
+use Rattle.lockstep_defs.specs.{Channels.stalls, Channels.reply, Lockstep.answered}
 use Rattle.clock_machine.specs.Parts.{outcomes_in, popped, pushed}
 use Rattle.clock_machine.proofs.Listed.{added, outcomes_add, popped_adds, pushed_adds}
 use Rattle.clock_machine.proofs.turn.answer.Goals as goal

@@ -1,7 +1,5 @@
 use Rattle.std.proofs.Common.{◌≡◌, ℕ, ◌∙◌, ◌+◌, ◌-◌, suc, refl, ap, arith}
-use Rattle.flow_design.specs.declared.design.Module.{Module}
-use Rattle.flow_design.specs.declared.state.ModuleState.{ModuleState}
-use Rattle.flow_design.specs.Module.{block_of}
+use Rattle.flow_design.specs.{declared.design.Module.Module, declared.state.ModuleState.ModuleState, Module.block_of}
 use Rattle.lockstep_defs.specs.Lockstep.{module_at}
 use Rattle.lockstep_defs.proofs.Agrees.{below_limit}
 use Rattle.module_move.specs.Moves.{ticked_to, gone_on}

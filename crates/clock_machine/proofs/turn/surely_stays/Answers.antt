@@ -1,7 +1,6 @@
 use Rattle.std.proofs.Common.{◌∙◌, true, false, not, sym, ap}
 use Rattle.lockstep_defs.specs.Lockstep.{state, state_at}
-use Rattle.clock_machine.proofs.Moving.{over_stays}
-use Rattle.clock_machine.proofs.Sleeping.{moves_by_requests, asked_in, runs_in}
+use Rattle.clock_machine.proofs.{Moving.over_stays, Sleeping.moves_by_requests, Sleeping.asked_in, Sleeping.runs_in}
 use Rattle.clock_machine.proofs.turn.surely_stays.Goals as goal
 
 pub returns-then-is_over-clause-stays : goal.returns-then-is_over-clause-stays

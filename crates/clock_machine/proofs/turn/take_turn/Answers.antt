@@ -1,9 +1,7 @@
 use Rattle.std.proofs.Common.{◌≡◌, ◌∙◌, ◌++◌, List, [], Bool, false, refl, sym, subst, arith}
 use Rattle.std.proofs.lemmas.List.{append-nil}
-use Rattle.lockstep_defs.specs.Channels.{HistoryStep}
-use Rattle.lockstep_defs.specs.Report.{outcomes}
-use Rattle.clock_machine.specs.Clocks.{HasDone, HasMoved}
-use Rattle.clock_machine.specs.declared.seat.Round.{Round}
+use Rattle.lockstep_defs.specs.{Channels.HistoryStep, Report.outcomes}
+use Rattle.clock_machine.specs.{Clocks.HasDone, Clocks.HasMoved, declared.seat.Round.Round}
 use Rattle.clock_machine.proofs.Sleeping.{sleeping, sleeps_on, stays, reseated, seated_sound}
 use Rattle.clock_machine.proofs.Steps.{none_done, step_is}
 use Rattle.clock_machine.proofs.turn.take_turn.Goals as goal

@@ -1,18 +1,12 @@
 use Rattle.std.proofs.Common.{◌≡◌, ℕ, ◌∙◌, ◌&&◌, List, Bool, true, false, not, length, get_or, refl, sym, ap, subst, arith}
-use Rattle.std.specs.List.{list_any}
 use Rattle.std.proofs.lemmas.List.{get_or_default}
-use Rattle.flow_design.specs.declared.plan.Plan.{Plan}
-use Rattle.flow_design.specs.declared.state.ClockState.{ClockState}
-use Rattle.flow_design.specs.declared.state.Element.{Element}
+use Rattle.std.specs.List.{list_any}
+use Rattle.flow_design.specs.{declared.plan.Plan.Plan, declared.state.ClockState.ClockState, declared.state.Element.Element}
 use Rattle.flow_design.specs.declared.state.ModuleState.{ModuleState}
-use Rattle.lockstep_defs.specs.Channels.{all_ready}
-use Rattle.lockstep_defs.specs.Machine.{nobody}
+use Rattle.lockstep_defs.specs.{Channels.all_ready, Machine.nobody, Verdict.some_moves, Verdict.is_settled}
 use Rattle.lockstep_defs.specs.Lockstep.{moves, state, state_at}
-use Rattle.lockstep_defs.specs.Verdict.{some_moves, is_settled}
-use Rattle.lockstep_defs.proofs.Agrees.{all_modules}
-use Rattle.lockstep_defs.proofs.Settled.{settled_from, same_stalls, some_alike}
-use Rattle.clock_machine.specs.declared.seat.Seat.{Seat}
-use Rattle.clock_machine.specs.Seats.{IsSeated, no_seat}
+use Rattle.lockstep_defs.proofs.{Agrees.all_modules, Settled.settled_from, Settled.same_stalls, Settled.some_alike}
+use Rattle.clock_machine.specs.{declared.seat.Seat.Seat, Seats.IsSeated, Seats.no_seat}
 use Rattle.clock_machine.proofs.Fronts.{none_more, some_at, numbered_all, all_known}
 use Rattle.clock_machine.proofs.turns.is_settled.Goals as goal
 

@@ -1,8 +1,6 @@
 use Rattle.std.proofs.Common.{◌≡◌, ℕ, ◌<◌, false, length, take, get_or}
 use Rattle.std.specs.List.{list_any}
-use Rattle.lockstep_defs.specs.Channels.{all_ready}
-use Rattle.lockstep_defs.specs.Machine.{nobody}
-use Rattle.lockstep_defs.specs.Lockstep.{numbered, moves, state}
+use Rattle.lockstep_defs.specs.{Channels.all_ready, Machine.nobody, Lockstep.numbered, Lockstep.moves, Lockstep.state}
 use Rattle.clock_machine.specs.Seats.{IsSeated, no_seat}
 use Rattle.clock_machine.proofs.turns.is_settled.Given as goal
 

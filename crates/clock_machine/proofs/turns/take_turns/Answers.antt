@@ -1,22 +1,16 @@
-use Rattle.std.proofs.Common.{◌≡◌, ℕ, ◌+◌, ◌<◌, ◌≤◌, ◌++◌, ◌∷◌, ◌||◌, ◌∙◌, List, [], Bool, true, false, length}
-use Rattle.std.proofs.Common.{take, get_or, refl, sym, ap, subst, arith, inl, inr}
-use Rattle.std.proofs.Math.ListN.{set}
-use Rattle.std.specs.List.{list_any, flat_map}
+use Rattle.std.proofs.Common.{◌≡◌, ℕ, ◌+◌, ◌<◌, ◌≤◌, ◌++◌, ◌∷◌, ◌||◌, ◌∙◌, List, [], Bool, true, false, length, take, get_or, refl, sym, ap}
+use Rattle.std.proofs.Common.{subst, arith, inl, inr}
+use Rattle.std.proofs.{Math.ListN.set, lemmas.List.Concat.flat_map-append, lemmas.List.Folds.list_any-append}
 use Rattle.std.proofs.lemmas.List.{append-nil, get_or_default, get_or-set_same, get_or-set_other}
-use Rattle.std.proofs.lemmas.List.Concat.{flat_map-append}
-use Rattle.std.proofs.lemmas.List.Folds.{list_any-append}
-use Rattle.flow_design.specs.declared.plan.Plan.{Plan}
-use Rattle.flow_design.specs.declared.state.Element.{Element}
-use Rattle.lockstep_defs.specs.Machine.{nobody}
+use Rattle.std.specs.List.{list_any, flat_map}
+use Rattle.flow_design.specs.{declared.plan.Plan.Plan, declared.state.Element.Element}
+use Rattle.lockstep_defs.specs.{Machine.nobody, Report.outcomes}
 use Rattle.lockstep_defs.specs.Lockstep.{numbered, moves, state, state_at, step_of, steps_in}
-use Rattle.lockstep_defs.specs.Report.{outcomes}
 use Rattle.lockstep_defs.proofs.Agrees.{all_modules}
-use Rattle.clock_machine.specs.Clocks.{HasDone, step_at, does_move}
-use Rattle.clock_machine.specs.Seats.{IsSeated, no_seat}
-use Rattle.clock_machine.proofs.Fronts.{numbered_more, numbered_all, below_or_at}
-use Rattle.clock_machine.proofs.Steps.{done_more}
-use Rattle.clock_machine.proofs.turns.take_turns.Goals as goal
+use Rattle.clock_machine.specs.{Clocks.HasDone, Clocks.step_at, Clocks.does_move, Seats.IsSeated, Seats.no_seat}
+use Rattle.clock_machine.proofs.{Fronts.numbered_more, Fronts.numbered_all, Fronts.below_or_at, Steps.done_more}
 use Rattle.clock_machine.proofs.turns.take_turns.Goals.{then-moving, else-moving}
+use Rattle.clock_machine.proofs.turns.take_turns.Goals as goal
 
 -- one module more
 any_more : (p : Plan) (clock i : ℕ) (before now next : Bool) → i < length (state p clock).modules

@@ -1,10 +1,7 @@
 use Rattle.std.proofs.Common.{◌≡◌, ℕ, ◌+◌, ◌<◌, ◌≤◌, ◌++◌, [], length, take, get_or}
 use Rattle.std.specs.List.{list_any, flat_map}
-use Rattle.lockstep_defs.specs.Machine.{nobody}
-use Rattle.lockstep_defs.specs.Lockstep.{numbered, moves, state, step_of}
-use Rattle.lockstep_defs.specs.Report.{outcomes}
-use Rattle.clock_machine.specs.Clocks.{HasDone, step_at}
-use Rattle.clock_machine.specs.Seats.{IsSeated, no_seat}
+use Rattle.lockstep_defs.specs.{Machine.nobody, Lockstep.numbered, Lockstep.moves, Lockstep.state, Lockstep.step_of, Report.outcomes}
+use Rattle.clock_machine.specs.{Clocks.HasDone, Clocks.step_at, Seats.IsSeated, Seats.no_seat}
 use Rattle.clock_machine.proofs.turns.take_turns.Given as goal
 
 -- the modules so far have had their turns

@@ -1,7 +1,5 @@
-use Rattle.std.proofs.Common.{sym, ap, ◌∙◌, ℕ, arith}
-use Rattle.std.specs.Prelude.{Result}
-use Rattle.std.specs.Result.{result_err}
-use Rattle.std.proofs.lemmas.Bool.Decides.{nat_tests}
+use Rattle.std.proofs.{Common.sym, Common.ap, Common.◌∙◌, Common.ℕ, Common.arith, lemmas.Bool.Decides.nat_tests}
+use Rattle.std.specs.{Prelude.Result, Result.result_err}
 use Rattle.timing_bridge.specs.Designs.{design}
 use Rattle.sim_core.specs.Views.{theory_of}
 use Rattle.core_actions.specs.declared.actions.Cause.{Cause}

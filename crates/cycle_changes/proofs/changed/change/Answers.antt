@@ -3,8 +3,7 @@ use Rattle.flow_design.specs.declared.plan.Edit.{Edit}
 use Rattle.fifo_table.specs.Channels.{channel_at, depth_of}
 use Rattle.retime.proofs.Cutting.{sound_lanes_of}
 use Rattle.cycle_changes.proofs.Changing.{depth_stands, none_put, put_edited, other_cycles, no_room_lost}
-use Rattle.cycle_changes.proofs.Moving.{moved_same}
-use Rattle.cycle_changes.proofs.SomeCores.{some_core}
+use Rattle.cycle_changes.proofs.{Moving.moved_same, SomeCores.some_core}
 use Rattle.cycle_changes.proofs.changed.change.Goals as goal
 
 pub put_found-requires-clause-sound : goal.put_found-requires-clause-sound

@@ -1,5 +1,4 @@
-use Rattle.std.proofs.Common.{nat_lt, arith}
-use Rattle.std.proofs.lemmas.List.Sums.{length-filter, count_by-le-length}
+use Rattle.std.proofs.{Common.nat_lt, Common.arith, lemmas.List.Sums.length-filter, lemmas.List.Sums.count_by-le-length}
 use Rattle.event_graph.specs.Lanes.{lane_at}
 use Rattle.cycle_changes.proofs.changed.left_of.Goals as goal
 

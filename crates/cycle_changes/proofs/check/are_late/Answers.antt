@@ -1,6 +1,5 @@
 use Rattle.std.proofs.Common.{◌≡◌, ap, sym, subst, ◌∙◌, ℕ, arith, inl, inr, Some, None}
-use Rattle.std.proofs.lemmas.Bool.{cases_lt}
-use Rattle.std.proofs.lemmas.List.{get_or_past}
+use Rattle.std.proofs.{lemmas.Bool.cases_lt, lemmas.List.get_or_past}
 use Rattle.event_graph.specs.Lanes.{Lane, lane_at, no_lane}
 use Rattle.time_engine.specs.Cycles.{determined, open_step}
 use Rattle.engine_view.proofs.Bounds.{determined_at}

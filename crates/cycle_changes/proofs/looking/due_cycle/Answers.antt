@@ -1,9 +1,7 @@
-use Rattle.std.proofs.Common.{refl, ap, subst, []}
+use Rattle.std.proofs.{Common.refl, Common.ap, Common.subst, Common.[], lemmas.Option.get_or_from_slice_get}
 use Rattle.std.specs.Prelude.{All}
-use Rattle.std.proofs.lemmas.Option.{get_or_from_slice_get}
 use Rattle.flow_word.specs.declared.access.Step.{Step}
-use Rattle.event_graph.specs.Lanes.{lane_at, no_lane}
-use Rattle.event_graph.specs.Packed.{in_lane}
+use Rattle.event_graph.specs.{Lanes.lane_at, Lanes.no_lane, Packed.in_lane}
 use Rattle.time_engine.specs.Conditions.{IsAccess}
 use Rattle.engine_view.specs.Held.{held}
 use Rattle.cycle_changes.proofs.HeldSteps.{step_is, looked_at, not_looked}

@@ -1,12 +1,10 @@
 use Rattle.std.proofs.Common.{sym, subst, ◌∙◌, ℕ, ◌-◌, ◌<◌, ◌≤◌, [], arith}
 use Rattle.std.proofs.lemmas.Option.{slice_get-get_or}
 use Rattle.fifo_table.specs.Channels.{channel_at, places_of}
-use Rattle.engine_view.specs.Emitted.{place_of}
-use Rattle.engine_view.specs.Engines.{held_in}
-use Rattle.engine_view.specs.Turns.{first_of}
+use Rattle.engine_view.specs.{Emitted.place_of, Engines.held_in, Turns.first_of}
 use Rattle.cycle_changes.proofs.Reaching.{as_after, as_before, as_owner, as_there, has_owner, looked_between}
-use Rattle.cycle_changes.proofs.reach.are_right_at.Goals as goal
 use Rattle.cycle_changes.proofs.reach.are_right_at.Goals.{in-Some-taker, in-None-taker}
+use Rattle.cycle_changes.proofs.reach.are_right_at.Goals as goal
 
 pub are_right_in-requires-clause-owner : goal.are_right_in-requires-clause-owner
 are_right_in-requires-clause-owner c =

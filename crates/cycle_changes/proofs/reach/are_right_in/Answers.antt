@@ -1,9 +1,6 @@
-use Rattle.std.proofs.Common.{sym, subst, ℕ, arith, inl, inr, []}
-use Rattle.std.proofs.lemmas.Bool.{cases_eq}
-use Rattle.engine_view.specs.Held.{step_of}
-use Rattle.engine_view.specs.Engines.{held_in}
-use Rattle.cycle_changes.specs.Looks.{IsLooked}
-use Rattle.cycle_changes.specs.Around.{StandsSomewhere}
+use Rattle.std.proofs.{Common.sym, Common.subst, Common.ℕ, Common.arith, Common.inl, Common.inr, Common.[], lemmas.Bool.cases_eq}
+use Rattle.engine_view.specs.{Held.step_of, Engines.held_in}
+use Rattle.cycle_changes.specs.{Looks.IsLooked, Around.StandsSomewhere}
 use Rattle.cycle_changes.proofs.reach.are_right_in.Goals as goal
 
 pub loop-step-preserved : goal.loop-step-preserved

@@ -1,8 +1,6 @@
 use Rattle.std.proofs.Common.{ℕ, ◌<◌, ◌≤◌, []}
-use Rattle.engine_view.specs.Held.{step_of}
-use Rattle.engine_view.specs.Engines.{held_in}
-use Rattle.cycle_changes.specs.Looks.{IsLooked}
-use Rattle.cycle_changes.specs.Around.{StandsSomewhere}
+use Rattle.engine_view.specs.{Held.step_of, Engines.held_in}
+use Rattle.cycle_changes.specs.{Looks.IsLooked, Around.StandsSomewhere}
 use Rattle.cycle_changes.proofs.reach.are_right_in.Given as goal
 
 abbrev pub invariant-loop-step : goal.invariant-loop-step

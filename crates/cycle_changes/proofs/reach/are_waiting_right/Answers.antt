@@ -1,14 +1,9 @@
 use Rattle.std.proofs.Common.{sym, ap, ◌∙◌, [], arith}
-use Rattle.flow_word.specs.Kinds.{side_of, other_side}
-use Rattle.flow_word.specs.declared.access.Access.{Access}
-use Rattle.flow_word.specs.declared.access.Step.{Step}
+use Rattle.flow_word.specs.{Kinds.side_of, Kinds.other_side, declared.access.Access.Access, declared.access.Step.Step}
 use Rattle.event_graph.specs.Packed.{whole}
 use Rattle.engine_view.specs.Engines.{held_in}
-use Rattle.cycle_changes.proofs.HeldSteps.{step_is}
+use Rattle.cycle_changes.proofs.{HeldSteps.step_is, Reaching.waits_some, SoFar.all_more, SoFar.all_there, Waiting.no_access}
 use Rattle.cycle_changes.specs.Around.{AreLooked, WaitsAt}
-use Rattle.cycle_changes.proofs.Reaching.{waits_some}
-use Rattle.cycle_changes.proofs.SoFar.{all_more, all_there}
-use Rattle.cycle_changes.proofs.Waiting.{no_access}
 use Rattle.cycle_changes.proofs.reach.are_waiting_right.Goals as goal
 
 pub loop-access-preserved : goal.loop-access-preserved

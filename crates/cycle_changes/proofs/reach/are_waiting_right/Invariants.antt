@@ -1,7 +1,6 @@
 use Rattle.std.proofs.Common.{[], take}
 use Rattle.std.specs.Prelude.{All}
-use Rattle.flow_word.specs.Kinds.{side_of, other_side}
-use Rattle.flow_word.specs.declared.access.Access.{Access}
+use Rattle.flow_word.specs.{Kinds.side_of, Kinds.other_side, declared.access.Access.Access}
 use Rattle.engine_view.specs.Engines.{held_in}
 use Rattle.cycle_changes.specs.Around.{AreLooked, WaitsAt}
 use Rattle.cycle_changes.proofs.reach.are_waiting_right.Given as goal

@@ -1,6 +1,5 @@
 use Rattle.std.proofs.Common.{[], sym, ap, ◌∙◌, List, length, ◌<◌, subst, get_or}
-use Rattle.flow_word.specs.declared.access.Access.{Access}
-use Rattle.flow_word.specs.declared.access.Step.{Step}
+use Rattle.flow_word.specs.{declared.access.Access.Access, declared.access.Step.Step}
 use Rattle.engine_view.specs.Engines.{held_in}
 use Rattle.cycle_changes.specs.Around.{StandsAt}
 use Rattle.cycle_changes.proofs.HeldSteps.{step_is}

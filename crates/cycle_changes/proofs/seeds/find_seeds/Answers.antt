@@ -1,15 +1,10 @@
 use Rattle.std.proofs.Common.{◌≡◌, refl, sym, subst, ◌∙◌, ℕ, ◌<◌, ◌⊎◌, List, [], ◌∷◌, arith, inl, inr, Some, slice_get}
-use Rattle.std.specs.Prelude.{Contains}
 use Rattle.std.proofs.lemmas.Bool.{cases_eq}
-use Rattle.flow_word.specs.declared.access.Place.{Place}
-use Rattle.flow_word.specs.declared.access.Side.TheVariants.{Push}
+use Rattle.std.specs.Prelude.{Contains}
+use Rattle.flow_word.specs.{declared.access.Place.Place, declared.access.Side.TheVariants.Push}
 use Rattle.fifo_table.specs.Channels.{channel_at, first_module, places_of}
-use Rattle.engine_view.specs.Emitted.{place_of}
-use Rattle.engine_view.specs.Held.{step_of}
-use Rattle.engine_view.specs.Engines.{held_in}
-use Rattle.engine_view.specs.Turns.{first_of}
-use Rattle.cycle_changes.specs.Looks.{IsLooked}
-use Rattle.cycle_changes.specs.Around.{StandsSomewhere}
+use Rattle.engine_view.specs.{Emitted.place_of, Held.step_of, Engines.held_in, Turns.first_of}
+use Rattle.cycle_changes.specs.{Looks.IsLooked, Around.StandsSomewhere}
 use Rattle.cycle_changes.proofs.Reaching.{as_owner, has_owner}
 use Rattle.cycle_changes.proofs.seeds.find_seeds.Goals as goal
 

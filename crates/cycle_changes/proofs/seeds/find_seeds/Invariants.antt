@@ -1,11 +1,8 @@
 use Rattle.std.proofs.Common.{ℕ, ◌<◌, ◌⊎◌, []}
 use Rattle.std.specs.Prelude.{Contains}
 use Rattle.flow_word.specs.declared.access.Side.TheVariants.{Push}
-use Rattle.engine_view.specs.Emitted.{place_of}
-use Rattle.engine_view.specs.Held.{step_of}
-use Rattle.engine_view.specs.Engines.{held_in}
-use Rattle.cycle_changes.specs.Looks.{IsLooked}
-use Rattle.cycle_changes.specs.Around.{StandsSomewhere}
+use Rattle.engine_view.specs.{Emitted.place_of, Held.step_of, Engines.held_in}
+use Rattle.cycle_changes.specs.{Looks.IsLooked, Around.StandsSomewhere}
 use Rattle.cycle_changes.proofs.seeds.find_seeds.Given as goal
 
 abbrev pub invariant-loop-step : goal.invariant-loop-step

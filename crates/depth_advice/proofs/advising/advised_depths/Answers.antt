@@ -1,10 +1,7 @@
-use Rattle.std.proofs.Common.{◌∙◌, ap, sym, subst}
-use Rattle.std.proofs.lemmas.Result.{IfOk-weaker}
-use Rattle.flow_design.specs.declared.plan.Plan.{Plan}
-use Rattle.flow_design.specs.StaticRules.{FitsEngine}
+use Rattle.std.proofs.{Common.◌∙◌, Common.ap, Common.sym, Common.subst, lemmas.Result.IfOk-weaker}
+use Rattle.flow_design.specs.{declared.plan.Plan.Plan, StaticRules.FitsEngine}
 use Rattle.lockstep_defs.specs.Report.{report}
-use Rattle.depth_advice.proofs.Depths.{wide_fits}
-use Rattle.depth_advice.proofs.Finding.{advised_by}
+use Rattle.depth_advice.proofs.{Depths.wide_fits, Finding.advised_by}
 use Rattle.depth_advice.proofs.advising.advised_depths.Goals as goal
 
 pub run_plan-requires-after_bounds : goal.run_plan-requires-after_bounds

@@ -1,9 +1,7 @@
-use Rattle.std.proofs.Common.{sym, ap, ◌∙◌, subst}
+use Rattle.std.proofs.{Common.sym, Common.ap, Common.◌∙◌, Common.subst, lemmas.Option.get_or_from_slice_get}
 use Rattle.std.specs.Prelude.{All}
-use Rattle.std.proofs.lemmas.Option.{get_or_from_slice_get}
 use Rattle.flow_word.specs.declared.access.Step.{Step}
-use Rattle.event_graph.specs.Lanes.{lane_at, no_lane}
-use Rattle.event_graph.specs.Packed.{whole}
+use Rattle.event_graph.specs.{Lanes.lane_at, Lanes.no_lane, Packed.whole}
 use Rattle.time_engine.specs.Conditions.{IsAccess}
 use Rattle.depth_bounds.proofs.latest.latest_of.Goals as goal
 

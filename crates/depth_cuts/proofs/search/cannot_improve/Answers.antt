@@ -1,7 +1,5 @@
-use Rattle.std.proofs.Common.{sym, subst}
-use Rattle.std.proofs.Common.{Option}
-use Rattle.depth_cuts.specs.declared.order.Choice.{Choice}
-use Rattle.depth_cuts.specs.Searching.{IsKept, IsSearched}
+use Rattle.std.proofs.Common.{sym, subst, Option}
+use Rattle.depth_cuts.specs.{declared.order.Choice.Choice, Searching.IsKept, Searching.IsSearched}
 use Rattle.depth_cuts.proofs.Found.{none_better}
 use Rattle.depth_cuts.proofs.search.cannot_improve.Goals as goal
 

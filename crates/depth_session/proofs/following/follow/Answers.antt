@@ -1,11 +1,9 @@
 use Rattle.std.proofs.Common.{sym, ap, subst, ◌∙◌, ◌+◌, Bool, List, arith}
 use Rattle.flow_design.specs.declared.plan.Plan.{Plan}
 use Rattle.lockstep_defs.specs.Report.{report}
-use Rattle.outcome_guard.specs.declared.guard.Guard.{Guard}
-use Rattle.outcome_guard.specs.declared.count.RunCount.{RunCount}
+use Rattle.outcome_guard.specs.{declared.guard.Guard.Guard, declared.count.RunCount.RunCount}
 use Rattle.sim_core.specs.Records.{HasOtherAnswer, recorded_in}
-use Rattle.depth_session.specs.Records.{RepeatsAnswers, counted}
-use Rattle.depth_session.specs.Settled.{HasGoneOn, count_of}
+use Rattle.depth_session.specs.{Records.RepeatsAnswers, Records.counted, Settled.HasGoneOn, Settled.count_of}
 use Rattle.depth_order.specs.Depths.{AsksNothing}
 use Rattle.depth_order.proofs.Silent.{no_answers}
 use Rattle.depth_session.proofs.Behind.{none_answered, counts_on, counts_again, no_less, none_added, none_other, same_logs}

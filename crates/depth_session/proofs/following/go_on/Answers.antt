@@ -1,8 +1,6 @@
-use Rattle.std.proofs.Common.{◌∙◌, subst}
-use Rattle.std.proofs.lemmas.Result.{IfOk-weaker, on_err_weaker}
+use Rattle.std.proofs.{Common.◌∙◌, Common.subst, lemmas.Result.IfOk-weaker, lemmas.Result.on_err_weaker}
 use Rattle.outcome_guard.specs.declared.guard.Guard.{Guard}
-use Rattle.sim_core.specs.Drives.{HasDriven}
-use Rattle.sim_core.specs.Edits.{IsEdited}
+use Rattle.sim_core.specs.{Drives.HasDriven, Edits.IsEdited}
 use Rattle.depth_session.specs.Settled.{HasGoneOn}
 use Rattle.depth_session.proofs.Behind.{differs_at_once, went_on, driven}
 use Rattle.depth_session.proofs.following.go_on.Goals as goal

@@ -1,7 +1,6 @@
 use Rattle.std.proofs.Common.{sym, subst}
 use Rattle.flow_design.specs.declared.plan.Plan.{Plan}
-use Rattle.event_timing.specs.Actions.{IsFinal}
-use Rattle.event_timing.specs.Agreement.{AllVerified}
+use Rattle.event_timing.specs.{Actions.IsFinal, Agreement.AllVerified}
 use Rattle.timing_bridge.specs.Designs.{design}
 use Rattle.sim_core.specs.Views.{theory_of}
 use Rattle.depth_session.proofs.runner.run_by_threads.Goals as goal

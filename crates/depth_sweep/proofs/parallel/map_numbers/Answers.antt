@@ -1,18 +1,12 @@
 use Rattle.std.proofs.Common.{◌≡◌, ◌∙◌, ap, subst, arith, ℕ, ◌<◌, ◌-◌, List, [], length, get_or, map, Global}
-use Rattle.std.specs.List.{range_with_len, AllZip}
-use Rattle.std.proofs.lemmas.List.FromFn.{length-range_with_len, get_or-range_with_len}
-use Rattle.rayon.specs.Lists.{min_len_base, range_start, range_end}
-use Rattle.rayon.specs.Numbers.{nat_range}
+use Rattle.std.proofs.{lemmas.List.FromFn.length-range_with_len, lemmas.List.FromFn.get_or-range_with_len, Crossing.crosses}
+use Rattle.std.specs.{List.range_with_len, List.AllZip, Borrow.Bor}
+use Rattle.rayon.specs.{Lists.min_len_base, Lists.range_start, Lists.range_end, Numbers.nat_range}
 use Rattle.rayon.proofs.ListFacts.{IfOk-then}
-use Rattle.std.specs.Borrow.{Bor}
 use Rattle.flow_design.specs.declared.plan.Plan.{Plan}
-use Rattle.depth_sweep.specs.declared.shape.Shape.{Shape}
-use Rattle.depth_sweep.specs.Grid.{grid, point}
-use Rattle.depth_sweep.proofs.Grids.{all_places}
-use Rattle.depth_sweep.proofs.Found.{IsFound, all_found}
+use Rattle.depth_sweep.specs.{declared.shape.Shape.Shape, Grid.grid, Grid.point}
+use Rattle.depth_sweep.proofs.{Grids.all_places, Found.IsFound, Found.all_found, Crossing.plan_sync}
 use denote.Param.Send.{sendable}
-use Rattle.std.proofs.Crossing.{crosses}
-use Rattle.depth_sweep.proofs.Crossing.{plan_sync}
 use Rattle.depth_sweep.proofs.parallel.map_numbers.Goals as goal
 
 pub map-requires-send-F : goal.map-requires-send-F

@@ -1,5 +1,4 @@
-use Rattle.std.proofs.Common.{arith, ◌+◌, ◌-◌, ◌/◌}
-use Rattle.std.proofs.lemmas.Nat.{mod_below}
+use Rattle.std.proofs.{Common.arith, Common.◌+◌, Common.◌-◌, Common.◌/◌, lemmas.Nat.mod_below}
 use Rattle.depth_sweep.proofs.Grids.{next_unit, next_some, one_depth_more, no_fifo_left}
 use Rattle.depth_sweep.proofs.shape.depths_at.Goals as goal
 

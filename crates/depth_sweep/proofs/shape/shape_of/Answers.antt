@@ -1,7 +1,5 @@
 use Rattle.std.proofs.Common.{◌∙◌, sym, ap, subst, ℕ, ◌≤◌, length, Option, SomeIff}
-use Rattle.depth_sweep.specs.Grid.{grid}
-use Rattle.depth_sweep.specs.declared.shape.Shape.{Shape}
-use Rattle.depth_sweep.specs.declared.shape.TheConstants.{MOST_POINTS}
+use Rattle.depth_sweep.specs.{Grid.grid, declared.shape.Shape.Shape, declared.shape.TheConstants.MOST_POINTS}
 use Rattle.depth_sweep.proofs.Grids.{power_long}
 use Rattle.depth_sweep.proofs.shape.shape_of.Goals as goal
 

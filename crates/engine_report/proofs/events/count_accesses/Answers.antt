@@ -1,8 +1,5 @@
-use Rattle.std.proofs.Common.{get_or, arith}
-use Rattle.std.proofs.lemmas.Grind.{common_steps}
-use Rattle.std.proofs.lemmas.Option.{get_or_from_slice_get}
-use Rattle.event_graph.specs.Packed.{whole}
-use Rattle.event_graph.specs.Lanes.{lane_at}
+use Rattle.std.proofs.{Common.get_or, Common.arith, lemmas.Grind.common_steps, lemmas.Option.get_or_from_slice_get}
+use Rattle.event_graph.specs.{Packed.whole, Lanes.lane_at}
 use Rattle.engine_view.specs.Held.{no_step}
 use Rattle.engine_report.specs.declared.events.TimedStep.{TimedStep}
 use Rattle.engine_report.proofs.events.count_accesses.Goals as goal

@@ -1,6 +1,5 @@
 use Rattle.std.proofs.Common.{◌≡◌, ◌+◌, ◌-◌, ◌^◌, fold, length, min, take}
-use Rattle.engine_report.specs.Read.{step_at}
-use Rattle.engine_report.specs.Keys.{place_of}
+use Rattle.engine_report.specs.{Read.step_at, Keys.place_of}
 use Rattle.engine_report.proofs.events.count_accesses.Given as goal
 
 abbrev pub invariant-loop-key : goal.invariant-loop-key

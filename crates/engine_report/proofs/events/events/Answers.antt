@@ -1,10 +1,6 @@
-use Rattle.std.proofs.Common.{sym, ap, ◌∙◌, map, arith}
+use Rattle.std.proofs.{Common.sym, Common.ap, Common.◌∙◌, Common.map, Common.arith, lemmas.List.take_all, lemmas.List.Folds.flat_map-map}
 use Rattle.std.specs.List.{flat_map}
-use Rattle.std.proofs.lemmas.List.{take_all}
-use Rattle.std.proofs.lemmas.List.Folds.{flat_map-map}
-use Rattle.engine_report.specs.declared.events.TimedStep.{TimedStep}
-use Rattle.engine_report.specs.Read.{events_at}
-use Rattle.engine_report.specs.Keys.{place_of}
+use Rattle.engine_report.specs.{declared.events.TimedStep.TimedStep, Read.events_at, Keys.place_of}
 use Rattle.engine_report.proofs.events.events.Goals as goal
 
 pub returns : goal.returns

@@ -1,5 +1,4 @@
-use Rattle.std.proofs.Common.{arith}
-use Rattle.std.proofs.lemmas.Option.{unwrap_or-slice_get}
+use Rattle.std.proofs.{Common.arith, lemmas.Option.unwrap_or-slice_get}
 use Rattle.engine_report.proofs.events.timed_step.Goals as goal
 
 pub returns : goal.returns

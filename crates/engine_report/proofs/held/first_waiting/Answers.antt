@@ -1,6 +1,5 @@
 use Rattle.std.proofs.Common.{sym}
-use Rattle.flow_word.specs.declared.access.Access.{Access}
-use Rattle.flow_word.specs.declared.access.Kind.TheVariants.{Read}
+use Rattle.flow_word.specs.{declared.access.Access.Access, declared.access.Kind.TheVariants.Read}
 use Rattle.engine_report.proofs.Loops.{first_found, none_found}
 use Rattle.engine_report.proofs.held.first_waiting.Goals as goal
 

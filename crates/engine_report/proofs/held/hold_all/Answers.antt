@@ -1,8 +1,6 @@
-use Rattle.std.proofs.Common.{arith}
-use Rattle.std.proofs.lemmas.Grind.{common_steps}
-use Rattle.engine_report.proofs.Loops.{found_more}
+use Rattle.std.proofs.{Common.arith, lemmas.Grind.common_steps}
+use Rattle.engine_report.proofs.{Loops.found_more, held.hold_all.Goals.in-Some+in_ok-push, held.hold_all.Goals.in_default}
 use Rattle.engine_report.proofs.held.hold_all.Goals as goal
-use Rattle.engine_report.proofs.held.hold_all.Goals.{in-Some+in_ok-push, in_default}
 
 pub loop-owner-preserved : goal.loop-owner-preserved
 loop-owner-preserved c =

@@ -1,17 +1,15 @@
 use Rattle.std.proofs.Common.{ap, ◌<◌, sym, subst, ◌∙◌, length, arith}
-use Rattle.std.proofs.lemmas.List.{length-map, get_or-map}
-use Rattle.std.proofs.lemmas.Grind.{common_steps}
+use Rattle.std.proofs.{lemmas.List.length-map, lemmas.List.get_or-map, lemmas.Grind.common_steps}
 use Rattle.std.proofs.lemmas.Option.{get_or_from_slice_get, slice_get-get_or, slice_get_within}
-use Rattle.fifo_table.specs.declared.channel.Pushed.{Pushed}
+use Rattle.fifo_table.specs.{declared.channel.Pushed.Pushed, Channels.channel_at, Channels.unused}
 use Rattle.fifo_table.specs.declared.channel.TableChannel.TheVariants.{Sink}
 use Rattle.flow_word.specs.declared.access.Side.TheVariants.{Push}
-use Rattle.fifo_table.specs.Channels.{channel_at, unused}
 use Rattle.event_graph.specs.Lanes.{HasStep, cycle_of}
 use Rattle.std.specs.Prelude.{is_some}
 use Rattle.engine_report.proofs.Loops.{front_more}
-use Rattle.engine_report.proofs.outputs.timed_values.Goals as goal
 use Rattle.engine_report.proofs.outputs.timed_values.Goals.{else-loop-before-test, then-loop-before-test+in_default}
 use Rattle.engine_report.proofs.outputs.timed_values.Goals.{then-loop-before-test+in-Some+then-is_none}
+use Rattle.engine_report.proofs.outputs.timed_values.Goals as goal
 
 abbrev no_push : Pushed
 no_push = record { at = record { «module» = 0; step = 0 }; value = 0 }

@@ -1,8 +1,7 @@
 use Rattle.std.proofs.Common.{map}
 use Rattle.std.specs.Prelude.{is_some}
 use Rattle.timing_bridge.specs.Designs.{design}
-use Rattle.engine_view.specs.Held.{core_of}
-use Rattle.engine_view.specs.Engines.{held_in}
+use Rattle.engine_view.specs.{Held.core_of, Engines.held_in}
 use Rattle.engine_report.proofs.Whole.{report_is}
 use Rattle.engine_report.proofs.report.report_of.Goals as goal
 

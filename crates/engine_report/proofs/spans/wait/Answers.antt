@@ -1,5 +1,4 @@
-use Rattle.flow_word.specs.declared.access.Access.{Access}
-use Rattle.flow_word.specs.declared.access.Kind.TheVariants.{Read}
+use Rattle.flow_word.specs.{declared.access.Access.Access, declared.access.Kind.TheVariants.Read}
 use Rattle.std.proofs.Common.{rules}
 use Rattle.engine_report.proofs.Waiting.{waited_more}
 use Rattle.engine_report.proofs.spans.wait.Goals as goal

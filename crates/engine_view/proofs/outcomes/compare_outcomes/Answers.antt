@@ -1,8 +1,6 @@
 use Rattle.std.proofs.Common.{◌≡◌, refl, get_or}
-use Rattle.flow_word.specs.declared.access.Access.{Access}
-use Rattle.flow_word.specs.declared.access.Kind.TheVariants.{Read}
-use Rattle.query_log.specs.Logs.{log_at}
-use Rattle.query_log.specs.declared.query.Query.{Query}
+use Rattle.flow_word.specs.{declared.access.Access.Access, declared.access.Kind.TheVariants.Read}
+use Rattle.query_log.specs.{Logs.log_at, declared.query.Query.Query}
 use Rattle.engine_view.proofs.Comparing.{compares_more, compares_not}
 use Rattle.engine_view.proofs.outcomes.compare_outcomes.Goals as goal
 

@@ -1,6 +1,5 @@
 use Rattle.std.proofs.Common.{sym, ◌∙◌}
-use Rattle.flow_word.specs.declared.access.Access.{Access}
-use Rattle.flow_word.specs.declared.access.Kind.TheVariants.{Read}
+use Rattle.flow_word.specs.{declared.access.Access.Access, declared.access.Kind.TheVariants.Read}
 use Rattle.engine_view.proofs.Writing.{writes_not, writes_one}
 use Rattle.engine_view.proofs.outcomes.write_outcomes.Goals.{then-not-is_blocking, else-not-is_blocking}
 use Rattle.engine_view.proofs.outcomes.write_outcomes.Goals as goal

@@ -1,6 +1,5 @@
 use Rattle.event_graph.proofs.Packing.{few_kept, whole_kept}
-use Rattle.std.proofs.Common.{◌≡◌, ◌++◌, ◌∷◌, [], ◌∙◌, arith}
-use Rattle.std.proofs.lemmas.Grind.{common_steps}
+use Rattle.std.proofs.{Common.◌≡◌, Common.◌++◌, Common.◌∷◌, Common.[], Common.◌∙◌, Common.arith, lemmas.Grind.common_steps}
 use Rattle.event_graph.proofs.steps.keep.Goals as goal
 
 pub returns-then-is_few-clause-kept : goal.returns-then-is_few-clause-kept

@@ -1,6 +1,5 @@
 use Rattle.std.proofs.Common.{suc}
-use Rattle.event_timing.proofs.Answering.{answer_grows}
-use Rattle.event_timing.proofs.Beside.{run_grows, assign_grows, actions_grow, others_grow}
+use Rattle.event_timing.proofs.{Answering.answer_grows, Beside.run_grows, Beside.assign_grows, Beside.actions_grow, Beside.others_grow}
 use Rattle.event_timing.proofs.Growing.{settled_old, settled_all, settled_less, tally_grow, reply_grow, there_grow, own_grow}
 use Rattle.event_timing.proofs.laws.cores_grow.Goals as goal
 

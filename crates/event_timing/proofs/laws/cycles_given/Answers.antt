@@ -1,6 +1,4 @@
-use Rattle.event_timing.proofs.Cost.{cycles_given, edit_cost}
-use Rattle.event_timing.proofs.Editing.{edit_agrees, edit_design}
-use Rattle.event_timing.proofs.Touched.{untouched}
+use Rattle.event_timing.proofs.{Cost.cycles_given, Cost.edit_cost, Editing.edit_agrees, Editing.edit_design, Touched.untouched}
 use Rattle.event_timing.proofs.laws.cycles_given.Goals as goal
 
 pub returns-clause-given : goal.returns-clause-given

@@ -1,5 +1,4 @@
-use Rattle.event_timing.proofs.Editing.{edit_agrees, edit_design, same_depth}
-use Rattle.event_timing.proofs.Touched.{untouched}
+use Rattle.event_timing.proofs.{Editing.edit_agrees, Editing.edit_design, Editing.same_depth, Touched.untouched}
 use Rattle.event_timing.proofs.laws.edited_cores.Goals as goal
 
 pub returns-clause-same_depth : goal.returns-clause-same_depth

@@ -1,5 +1,4 @@
-use Rattle.event_timing.proofs.Agreement.{final_complete}
-use Rattle.event_timing.proofs.Verdict.{rests, moved, determined_late}
+use Rattle.event_timing.proofs.{Agreement.final_complete, Verdict.rests, Verdict.moved, Verdict.determined_late}
 use Rattle.event_timing.proofs.laws.final_cores.Goals as goal
 
 pub returns-clause-complete : goal.returns-clause-complete

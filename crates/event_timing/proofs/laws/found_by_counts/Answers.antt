@@ -1,7 +1,5 @@
-use Rattle.event_timing.proofs.Agreement.{answer_found, earliest_found}
+use Rattle.event_timing.proofs.{Agreement.answer_found, Agreement.earliest_found, Fronts.agrees, OwnRuns.place_unique}
 use Rattle.event_timing.proofs.Candidate.{candidate_done, candidate_steps}
-use Rattle.event_timing.proofs.Fronts.{agrees}
-use Rattle.event_timing.proofs.OwnRuns.{place_unique}
 use Rattle.event_timing.specs.Core.{view}
 use Rattle.event_timing.proofs.laws.found_by_counts.Goals as goal
 

@@ -1,8 +1,5 @@
 use Rattle.std.proofs.Common.{arith}
-use Rattle.event_timing.proofs.Answering.{answer_marks}
-use Rattle.event_timing.proofs.Assigning.{assign_marks}
-use Rattle.event_timing.proofs.Editing.{edit_marks}
-use Rattle.event_timing.proofs.Marking.{all_marks}
+use Rattle.event_timing.proofs.{Answering.answer_marks, Assigning.assign_marks, Editing.edit_marks, Marking.all_marks}
 use Rattle.event_timing.proofs.Running.{run_marks, newest_own}
 use Rattle.event_timing.proofs.laws.marks_stay.Goals as goal
 

@@ -1,5 +1,4 @@
-use Rattle.event_timing.proofs.ActionBound.{all_rise, none_assumed, never_found}
-use Rattle.event_timing.proofs.Verified.{verified_happens}
+use Rattle.event_timing.proofs.{ActionBound.all_rise, ActionBound.none_assumed, ActionBound.never_found, Verified.verified_happens}
 use Rattle.event_timing.proofs.laws.verified_outcomes.Goals as goal
 
 pub returns-clause-opening : goal.returns-clause-opening

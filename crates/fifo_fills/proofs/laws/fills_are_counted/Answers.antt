@@ -1,5 +1,4 @@
-use Rattle.fifo_fills.proofs.Counting.{counted, within_depth}
-use Rattle.fifo_fills.proofs.Ending.{last_within}
+use Rattle.fifo_fills.proofs.{Counting.counted, Counting.within_depth, Ending.last_within}
 use Rattle.fifo_fills.proofs.laws.fills_are_counted.Goals as goal
 
 pub returns-clause-counted : goal.returns-clause-counted

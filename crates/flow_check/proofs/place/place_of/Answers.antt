@@ -1,7 +1,6 @@
 use Rattle.std.proofs.Common.{◌≡◌, ◌∙◌, ◌+◌, sym, ap, subst, get_or, false}
 use Rattle.flow_design.specs.declared.session.Statement.{Statement}
-use Rattle.flow_check.specs.declared.place.Counts.{Counts}
-use Rattle.flow_check.specs.Places.{counts_more, item_behind, is_item}
+use Rattle.flow_check.specs.{declared.place.Counts.Counts, Places.counts_more, Places.item_behind, Places.is_item}
 use Rattle.flow_check.proofs.Counting.{IsSought, sought_more}
 use Rattle.flow_check.proofs.place.place_of.Goals as goal
 

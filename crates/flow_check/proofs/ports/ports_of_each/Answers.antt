@@ -1,8 +1,6 @@
 use Rattle.std.proofs.Common.{◌++◌, ◌∷◌, ◌∙◌, [], List, Bool, ap, sym, map, take, ℕ, add-one}
-use Rattle.std.proofs.Math.Seq.{take-suc}
-use Rattle.std.proofs.lemmas.List.{map-append}
-use Rattle.flow_design.specs.declared.design.Module.{Module}
-use Rattle.flow_design.specs.StaticRules.{uses}
+use Rattle.std.proofs.{Math.Seq.take-suc, lemmas.List.map-append}
+use Rattle.flow_design.specs.{declared.design.Module.Module, StaticRules.uses}
 use Rattle.flow_check.specs.Ports.{has}
 use Rattle.flow_check.proofs.ports.ports_of_each.Goals as goal
 

@@ -1,18 +1,11 @@
 use Rattle.std.proofs.Common.{◌≡◌, ◌∙◌, sym, subst, ℕ, List, None}
 use Rattle.std.specs.List.{All}
-use Rattle.flow_design.specs.declared.session.Statement.{Statement}
-use Rattle.flow_design.specs.declared.plan.Plan.{Plan}
-use Rattle.flow_design.specs.declared.plan.Edit.{Edit}
-use Rattle.flow_design.specs.declared.limits.Scale.{Scale}
-use Rattle.flow_design.specs.Plans.{EditFits}
-use Rattle.flow_design.specs.StaticRules.{FitsEngine}
+use Rattle.flow_design.specs.{declared.session.Statement.Statement, declared.plan.Plan.Plan, declared.plan.Edit.Edit}
+use Rattle.flow_design.specs.{declared.limits.Scale.Scale, Plans.EditFits, StaticRules.FitsEngine}
 use Rattle.flow_grammar.specs.Rules.{KeepsReadingRules}
 use Rattle.session_plan.specs.Plans.{plan_of}
-use Rattle.flow_check.specs.Checked.{at_line, fault_of}
-use Rattle.flow_check.specs.Rules.{checking_fault}
-use Rattle.flow_check.specs.Scales.{KeepsScale}
-use Rattle.flow_check.proofs.Reading.{edits_fit, plan_read}
-use Rattle.flow_check.proofs.Fits.{fits, none_mapped}
+use Rattle.flow_check.specs.{Checked.at_line, Checked.fault_of, Rules.checking_fault, Scales.KeepsScale}
+use Rattle.flow_check.proofs.{Reading.edits_fit, Reading.plan_read, Fits.fits, Fits.none_mapped}
 use Rattle.flow_check.proofs.session.check.Goals as goal
 
 -- the plan of a session that was read and has no fault

@@ -1,6 +1,5 @@
 use Rattle.std.proofs.Common.{◌≡◌, ℕ, ◌+◌, ◌<◌, drop, count_by, length, slice_index}
-use Rattle.flow_check.specs.Ports.{has}
-use Rattle.flow_check.specs.Users.{port_at, AreAlike}
+use Rattle.flow_check.specs.{Ports.has, Users.port_at, Users.AreAlike}
 use Rattle.flow_check.proofs.users.count_users.Given as goal
 
 -- with the modules that are left they are all counted

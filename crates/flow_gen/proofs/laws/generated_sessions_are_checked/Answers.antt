@@ -1,6 +1,5 @@
 use Rattle.flow_design.specs.declared.limits.Scale.TheVariants.{Standard}
-use Rattle.flow_gen.proofs.Checking.{checked, faultless}
-use Rattle.flow_gen.proofs.Reading.{kept}
+use Rattle.flow_gen.proofs.{Checking.checked, Checking.faultless, Reading.kept}
 use Rattle.flow_gen.proofs.laws.generated_sessions_are_checked.Goals as goal
 
 pub returns : goal.returns

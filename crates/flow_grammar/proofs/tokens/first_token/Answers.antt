@@ -1,5 +1,4 @@
-use Rattle.std.proofs.Common.{◌∙◌, arith}
-use Rattle.std.proofs.lemmas.Bool.Decides.{nat_tests}
+use Rattle.std.proofs.{Common.◌∙◌, Common.arith, lemmas.Bool.Decides.nat_tests}
 use Rattle.flow_grammar.proofs.TokenLemmas.{finds, no_token, from_comment, from_token}
 use Rattle.flow_grammar.proofs.tokens.first_token.Goals as goal
 

@@ -1,8 +1,6 @@
 use Rattle.std.proofs.Common.{◌≡◌, ℕ, List, [], ◌∷◌, Option, Some, refl, sym, ◌∙◌, subst, arith}
-use Rattle.turn_lock.specs.declared.view.View.{View}
+use Rattle.turn_lock.specs.{declared.view.View.View, Passes.view_of, Turns.AllJoined, Turns.ShowsAll, Turns.AreAllMade}
 use Rattle.leaf_tests.specs.declared.locks.Entry.{Entry}
-use Rattle.turn_lock.specs.Passes.{view_of}
-use Rattle.turn_lock.specs.Turns.{AllJoined, ShowsAll, AreAllMade}
 use Rattle.turn_lock.proofs.Joins.{all_joined, shows_each}
 use Rattle.leaf_tests.proofs.locks.close_both.Goals as goal
 

@@ -1,13 +1,11 @@
 use Rattle.std.proofs.Common.{◌≡◌, ◌∙◌, refl, sym, ap, subst, arith, ℕ, ◌+◌, List}
-use Rattle.flow_design.specs.declared.plan.Plan.{Plan}
-use Rattle.flow_design.specs.Plans.{with_depth}
+use Rattle.flow_design.specs.{declared.plan.Plan.Plan, Plans.with_depth}
 use Rattle.std.specs.Prelude.{slice_index}
-use Rattle.least_depths.specs.Halving.{middle}
-use Rattle.least_depths.specs.Lowering.{is_in_time}
-use Rattle.least_depths.proofs.Trying.{IsHalving, alike_quiet, begun, same_time, halves_lower, halves_upper, halving_ends, tries_so_far, alike_fits}
-use Rattle.least_depths.proofs.Sessions.{edited_plan, edited_runs}
+use Rattle.least_depths.specs.{Halving.middle, Lowering.is_in_time}
+use Rattle.least_depths.proofs.{Trying.IsHalving, Trying.alike_quiet, Trying.begun, Trying.same_time, Trying.halves_lower}
+use Rattle.least_depths.proofs.{Trying.halves_upper, Trying.halving_ends, Trying.tries_so_far, Trying.alike_fits, Sessions.edited_plan}
+use Rattle.least_depths.proofs.{Sessions.edited_runs, halving.lower.Goals.then-branch, halving.lower.Goals.else-branch}
 use Rattle.least_depths.proofs.halving.lower.Goals as goal
-use Rattle.least_depths.proofs.halving.lower.Goals.{then-branch, else-branch}
 
 pub loop-least-init : goal.loop-least-init
 loop-least-init g c =

@@ -1,13 +1,12 @@
 use Rattle.std.proofs.Common.{◌∙◌, sym, ap, subst, arith, refl, ℕ, ◌+◌, ◌*◌, ◌≤◌, length}
-use Rattle.flow_design.specs.declared.plan.Plan.{Plan}
-use Rattle.flow_design.specs.declared.limits.TheConstants.{FIFO_DEPTH}
+use Rattle.flow_design.specs.{declared.plan.Plan.Plan, declared.limits.TheConstants.FIFO_DEPTH}
 use Rattle.depth_session.specs.Sessions.{Session}
 use Rattle.depth_order.specs.Depths.{AsksNothing}
 use Rattle.least_depths.specs.Lowering.{Lowered, least_for, lowered}
 use Rattle.least_depths.proofs.Channels.{same_channels, next_depth, fifo_plan, fifo_tries, tries_within, other_lowered}
 use Rattle.least_depths.proofs.Known.{lowered_fits, quiet_lowered}
-use Rattle.least_depths.proofs.halving.lower_all.Goals as goal
 use Rattle.least_depths.proofs.halving.lower_all.Goals.{then-is_fifo+in_ok-tries, else-is_fifo}
+use Rattle.least_depths.proofs.halving.lower_all.Goals as goal
 
 pub loop-channel-init : goal.loop-channel-init
 unfolding lowered

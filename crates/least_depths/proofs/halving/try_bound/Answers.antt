@@ -1,6 +1,5 @@
 use Rattle.std.proofs.Common.{◌∙◌, sym, arith}
-use Rattle.least_depths.proofs.Trying.{edited_alike}
-use Rattle.least_depths.proofs.Known.{known_timely}
+use Rattle.least_depths.proofs.{Trying.edited_alike, Known.known_timely}
 use Rattle.least_depths.proofs.halving.try_bound.Goals as goal
 
 pub returns-then-branch-clause-alike : goal.returns-then-branch-clause-alike

@@ -1,7 +1,6 @@
 use Rattle.std.proofs.Common.{length}
 use Rattle.least_depths.specs.Lowering.{lowered}
-use Rattle.least_depths.proofs.Least.{lowered_first, none_lower}
-use Rattle.least_depths.proofs.Few.{few_in_all}
+use Rattle.least_depths.proofs.{Least.lowered_first, Least.none_lower, Few.few_in_all}
 use Rattle.least_depths.proofs.laws.lowered_depths_are_least.Goals as goal
 
 pub returns-clause-depths : goal.returns-clause-depths

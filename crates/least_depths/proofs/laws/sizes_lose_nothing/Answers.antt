@@ -1,7 +1,6 @@
 use Rattle.depth_advice.specs.Advice.{advised}
 use Rattle.least_depths.specs.Least.{sizes}
-use Rattle.least_depths.proofs.Depths.{same_depths}
-use Rattle.least_depths.proofs.Sized.{advised_sized, kept, least}
+use Rattle.least_depths.proofs.{Depths.same_depths, Sized.advised_sized, Sized.kept, Sized.least}
 use Rattle.least_depths.proofs.laws.sizes_lose_nothing.Goals as goal
 
 pub returns-clause-within : goal.returns-clause-within

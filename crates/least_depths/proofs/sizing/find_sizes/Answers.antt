@@ -6,8 +6,8 @@ use Rattle.depth_order.specs.Depths.{with_depths}
 use Rattle.depth_order.proofs.Plans.{depths_fit}
 use Rattle.depth_advice.specs.Advice.{advised}
 use Rattle.depth_advice.proofs.Depths.{advised_depths}
-use Rattle.least_depths.proofs.Sized.{advised_verdict, done_sizes, other_end, left_sizes, two_runs, one_run}
-use Rattle.least_depths.proofs.Sized.{one_run_more, clock_within, end_in_time}
+use Rattle.least_depths.proofs.Sized.{advised_verdict, done_sizes, other_end, left_sizes, two_runs, one_run, one_run_more, clock_within}
+use Rattle.least_depths.proofs.Sized.{end_in_time}
 use Rattle.least_depths.proofs.sizing.find_sizes.Goals as goal
 
 pub lower_depths-requires-clause-fits : goal.lower_depths-requires-clause-fits

@@ -3,9 +3,7 @@ use Rattle.lockstep_defs.specs.Verdict.{verdict}
 use Rattle.depth_order.specs.Depths.{with_depths, AreDepths, IsDoneBy}
 use Rattle.depth_cuts.specs.declared.cuts.Cut.{Cut}
 use Rattle.least_memory.specs.Needed.{IsNeeded, IsOutcome, IsTimely}
-use Rattle.least_memory.proofs.Needed.{cheapest_depths}
-use Rattle.least_memory.proofs.Shown.{one_more_needed}
-use Rattle.least_memory.proofs.Least.{cheapest_least}
+use Rattle.least_memory.proofs.{Needed.cheapest_depths, Shown.one_more_needed, Least.cheapest_least}
 use Rattle.least_memory.proofs.finding.fewest_bits.Goals as goal
 
 pub try_depths-requires-clause-depths : goal.try_depths-requires-clause-depths

@@ -4,8 +4,7 @@ use Rattle.depth_order.specs.Depths.{with_depths}
 use Rattle.depth_advice.specs.Advice.{wide}
 use Rattle.depth_advice.proofs.Finding.{advised_by, follows_ok, verdict_told}
 use Rattle.least_depths.proofs.Sized.{clock_within, other_end}
-use Rattle.least_memory.specs.Least.{least_by, leasts}
-use Rattle.least_memory.specs.declared.finding.Leasts.{Leasts}
+use Rattle.least_memory.specs.{Least.least_by, Least.leasts, declared.finding.Leasts.Leasts}
 use Rattle.least_memory.proofs.Least.{advised_verdict, done_leasts, left_leasts, wide_deepest, wide_fit}
 use Rattle.least_memory.proofs.finding.find_least.Goals as goal
 

@@ -1,8 +1,7 @@
 use Rattle.std.proofs.Common.{arith}
 use Rattle.lockstep_defs.specs.Lockstep.{state}
-use Rattle.lockstep_defs.proofs.Counts.{is_counted}
+use Rattle.lockstep_defs.proofs.{Counts.is_counted, Rules.keeps_ports}
 use Rattle.lockstep_defs.proofs.Queue.{moves_once, conserved, pops_in_order, channel_count}
-use Rattle.lockstep_defs.proofs.Rules.{keeps_ports}
 use Rattle.lockstep_defs.proofs.laws.channels_are_queues.Goals as goal
 
 pub returns-clause-once : goal.returns-clause-once

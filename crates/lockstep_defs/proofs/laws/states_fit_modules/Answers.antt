@@ -1,6 +1,4 @@
-use Rattle.lockstep_defs.proofs.Once.{takers_once, asks_once}
-use Rattle.lockstep_defs.proofs.Rules.{keeps_ports}
-use Rattle.lockstep_defs.proofs.Standing.{due_in_range, requests_stand}
+use Rattle.lockstep_defs.proofs.{Once.takers_once, Once.asks_once, Rules.keeps_ports, Standing.due_in_range, Standing.requests_stand}
 use Rattle.lockstep_defs.proofs.States.{opened_state, move_state, history_state}
 use Rattle.lockstep_defs.proofs.laws.states_fit_modules.Goals as goal
 

@@ -4,13 +4,10 @@ use Rattle.event_graph.specs.Lanes.{Lane, IsSoundLane}
 use Rattle.flow_design.specs.declared.plan.Plan.{Plan}
 use Rattle.flow_design.proofs.Failing.{on_err}
 use Rattle.lockstep_defs.specs.Channels.{HistoryStep}
-use Rattle.engine_report.specs.declared.events.TimedStep.{TimedStep}
-use Rattle.engine_report.specs.Keys.{IsTimedKey}
-use Rattle.sim_core.specs.declared.access_log.LoggedAccess.{LoggedAccess}
-use Rattle.sim_core.specs.AccessLog.{logged_at}
+use Rattle.engine_report.specs.{declared.events.TimedStep.TimedStep, Keys.IsTimedKey}
+use Rattle.sim_core.specs.{declared.access_log.LoggedAccess.LoggedAccess, AccessLog.logged_at}
 use Rattle.sim_io.proofs.Pending.{prefix_as, prefix_none, told_as, told_more, told_none, told_prefix, told_prefix_more}
-use Rattle.step_walk.specs.declared.walk.StepWalk.{StepWalk}
-use Rattle.step_walk.specs.Walking.{IsWalk, HasGiven}
+use Rattle.step_walk.specs.{declared.walk.StepWalk.StepWalk, Walking.IsWalk, Walking.HasGiven}
 use Rattle.log_text.specs.LogText.{IsNamed}
 use Rattle.log_text.proofs.Lines.{step_lines, history_lines}
 use Rattle.log_text.proofs.Stepping.{step_read, rest_of, step_named, text_more}

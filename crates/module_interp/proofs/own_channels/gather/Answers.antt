@@ -1,7 +1,5 @@
-use Rattle.std.proofs.Common.{subst, take}
+use Rattle.std.proofs.{Common.subst, Common.take, lemmas.List.take_all, lemmas.List.Elements.All-more, lemmas.List.Elements.All-weaker}
 use Rattle.std.specs.Prelude.{All}
-use Rattle.std.proofs.lemmas.List.{take_all}
-use Rattle.std.proofs.lemmas.List.Elements.{All-more, All-weaker}
 use Rattle.flow_design.specs.declared.design.Timed.{Timed}
 use Rattle.module_interp.specs.OwnChannels.{IsGathered}
 use Rattle.module_interp.proofs.Gathered.{gathered_more}

@@ -1,11 +1,8 @@
-use Rattle.std.proofs.Common.{◌≡◌, refl, ap, subst, ◌∙◌, get_or, List, drop, []}
+use Rattle.std.proofs.Common.{◌≡◌, refl, ap, subst, ◌∙◌, get_or, List, drop, [], arith}
 use Rattle.std.proofs.lemmas.Grind.{common_steps}
 use Rattle.std.specs.Prelude.{fold}
-use Rattle.std.proofs.Common.{arith}
 use Rattle.lockstep_defs.specs.Machine.{stored}
-use Rattle.block_code.specs.declared.code.Guarded.{Guarded}
-use Rattle.block_code.specs.declared.noted.Noted.{Noted}
-use Rattle.block_code.specs.Notes.{effects_by}
+use Rattle.block_code.specs.{declared.code.Guarded.Guarded, declared.noted.Noted.Noted, Notes.effects_by}
 use Rattle.module_move.proofs.Writing.{writing_more}
 use Rattle.module_move.proofs.commits.commit_all.Goals as goal
 

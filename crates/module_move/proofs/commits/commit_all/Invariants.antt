@@ -1,11 +1,8 @@
 use Rattle.std.proofs.Common.{◌≡◌, List, drop}
 use Rattle.std.specs.Prelude.{fold}
-use Rattle.flow_design.specs.declared.design.Block.{Block}
-use Rattle.flow_design.specs.declared.design.Channel.{Channel}
-use Rattle.flow_design.specs.declared.design.Module.{Module}
+use Rattle.flow_design.specs.{declared.design.Block.Block, declared.design.Channel.Channel, declared.design.Module.Module}
 use Rattle.lockstep_defs.specs.Machine.{stored}
-use Rattle.block_code.specs.Codes.{IsBlockCodeOf}
-use Rattle.block_code.specs.Notes.{effects_by}
+use Rattle.block_code.specs.{Codes.IsBlockCodeOf, Notes.effects_by}
 use Rattle.module_move.proofs.commits.commit_all.Given as goal
 
 -- writing what is left gives what writing all gives

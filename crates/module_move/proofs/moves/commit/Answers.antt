@@ -1,15 +1,11 @@
 use Rattle.std.proofs.Common.{◌≡◌, ◌∙◌, ap, arith, ℕ, ◌+◌, length}
 use Rattle.std.specs.Prelude.{List, fold}
-use Rattle.flow_design.specs.declared.design.Module.{Module}
+use Rattle.flow_design.specs.{declared.design.Module.Module, declared.state.Reply.Reply, Module.block_of}
 use Rattle.flow_design.specs.declared.state.ModuleState.{ModuleState}
-use Rattle.flow_design.specs.declared.state.Reply.{Reply}
-use Rattle.flow_design.specs.Module.{block_of}
 use Rattle.lockstep_defs.specs.Machine.{stored}
 use Rattle.lockstep_defs.proofs.Moves.{all_keep}
-use Rattle.block_code.specs.declared.noted.Noted.{Noted}
-use Rattle.block_code.specs.Notes.{effects_by}
-use Rattle.module_move.proofs.Moving.{counted_is}
-use Rattle.module_move.proofs.Noted.{few_noted, noted_inside}
+use Rattle.block_code.specs.{declared.noted.Noted.Noted, Notes.effects_by}
+use Rattle.module_move.proofs.{Moving.counted_is, Noted.few_noted, Noted.noted_inside}
 use Rattle.module_move.proofs.moves.commit.Goals as goal
 
 pub commit_all-requires : goal.commit_all-requires

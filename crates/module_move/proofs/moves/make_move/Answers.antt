@@ -1,11 +1,9 @@
 use Rattle.std.proofs.Common.{◌≡◌, sym, ◌∙◌, subst, length}
 use Rattle.flow_design.specs.declared.state.ModuleState.{ModuleState}
-use Rattle.lockstep_defs.specs.Machine.{move}
-use Rattle.lockstep_defs.specs.States.{IsStateOf}
+use Rattle.lockstep_defs.specs.{Machine.move, States.IsStateOf}
 use Rattle.lockstep_defs.proofs.States.{move_state}
-use Rattle.module_move.proofs.Moving.{moved_is}
+use Rattle.module_move.proofs.{Moving.moved_is, moves.make_move.Goals.In_ok-go_on}
 use Rattle.module_move.proofs.moves.make_move.Goals as goal
-use Rattle.module_move.proofs.moves.make_move.Goals.{In_ok-go_on}
 
 moved : (c : In_ok-go_on) → c.go_on.new.state ≡ move c.args.of.now c.args.state.now c.args.replies.now
 moved c =

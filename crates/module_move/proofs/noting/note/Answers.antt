@@ -2,10 +2,8 @@ use Rattle.std.proofs.Common.{◌≡◌, ◌∙◌, ap, subst, sym, length, List
 use Rattle.std.proofs.lemmas.List.{length-map}
 use Rattle.flow_design.specs.declared.limits.TheConstants.{LIVE_ITERATIONS, OPERATIONS}
 use Rattle.flow_design.specs.Module.{block_of, due}
-use Rattle.block_code.specs.declared.noted.Noted.{Noted}
-use Rattle.block_code.specs.Notes.{noted_for}
-use Rattle.module_move.proofs.Asked.{asked_is}
-use Rattle.module_move.proofs.Readiness.{few_due}
+use Rattle.block_code.specs.{declared.noted.Noted.Noted, Notes.noted_for}
+use Rattle.module_move.proofs.{Asked.asked_is, Readiness.few_due}
 use Rattle.module_move.proofs.noting.note.Goals as goal
 
 pub returns-clause-asked : goal.returns-clause-asked

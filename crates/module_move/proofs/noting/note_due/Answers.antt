@@ -1,15 +1,11 @@
 use Rattle.std.proofs.Common.{◌≡◌, ◌∙◌, ◌-◌, ◌++◌, ◌<◌, ap, sym, arith, List, [], ℕ, map, length}
 use Rattle.std.specs.List.{filter_map}
-use Rattle.flow_design.specs.declared.design.Module.{Module}
-use Rattle.flow_design.specs.declared.state.Due.{Due}
-use Rattle.flow_design.specs.declared.state.ModuleState.{ModuleState}
+use Rattle.flow_design.specs.{declared.design.Module.Module, declared.state.Due.Due, declared.state.ModuleState.ModuleState}
 use Rattle.flow_design.specs.Module.{block_of, interval, live_count, ages_down, due}
 use Rattle.block_schedule.specs.Schedules.{due_at_ages}
 use Rattle.block_code.specs.Notes.{noted_for}
 use Rattle.module_move.specs.Moves.{asked_by, passing}
-use Rattle.module_move.proofs.Ages.{oldest_age}
-use Rattle.module_move.proofs.Readiness.{few_are_live}
-use Rattle.module_move.proofs.Looking.{due_by_phase}
+use Rattle.module_move.proofs.{Ages.oldest_age, Readiness.few_are_live, Looking.due_by_phase}
 use Rattle.module_move.proofs.noting.note_due.Goals as goal
 
 -- what was noted of those that pass is of all that are due

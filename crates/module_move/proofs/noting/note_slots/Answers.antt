@@ -1,15 +1,11 @@
 use Rattle.std.proofs.Common.{◌≡◌, ◌∙◌, ap, arith, ℕ, ◌-◌, ◌++◌, List, map, get_or}
+use Rattle.std.proofs.{lemmas.List.get_or_default, lemmas.List.map-append, lemmas.List.Elements.filter_map-append}
 use Rattle.std.specs.List.{filter_map}
-use Rattle.std.proofs.lemmas.List.{get_or_default, map-append}
-use Rattle.std.proofs.lemmas.List.Elements.{filter_map-append}
-use Rattle.flow_design.specs.declared.state.Request.{Request}
-use Rattle.flow_design.specs.Module.{block_of, operation_at, temps_of, passes}
+use Rattle.flow_design.specs.{declared.state.Request.Request, Module.block_of, Module.operation_at, Module.temps_of, Module.passes}
 use Rattle.block_schedule.specs.declared.tables.Slot.{Slot}
-use Rattle.block_code.specs.declared.code.Guarded.{Guarded}
-use Rattle.block_code.specs.Notes.{noted_for}
+use Rattle.block_code.specs.{declared.code.Guarded.Guarded, Notes.noted_for}
 use Rattle.module_move.specs.Moves.{asked_by}
-use Rattle.module_move.proofs.Looking.{passing_more}
-use Rattle.module_move.proofs.Asked.{asked_once, action_at}
+use Rattle.module_move.proofs.{Looking.passing_more, Asked.asked_once, Asked.action_at}
 use Rattle.module_move.proofs.noting.note_slots.Goals as goal
 
 abbrev none : Slot

@@ -1,5 +1,4 @@
-use Rattle.std.proofs.Common.{ap, ◌∙◌, arith}
-use Rattle.std.proofs.lemmas.Bool.{leb-true}
+use Rattle.std.proofs.{Common.ap, Common.◌∙◌, Common.arith, lemmas.Bool.leb-true}
 use Rattle.path_check.specs.Waits.{cycle_at, moves_behind, edited}
 use Rattle.path_check.proofs.Ends.{path_ends_late}
 use Rattle.path_check.proofs.paths.ends_after.Goals as goal

@@ -1,5 +1,4 @@
-use Rattle.std.proofs.Common.{ℕ, ap₂}
-use Rattle.std.proofs.lemmas.Bool.{eqb-true}
+use Rattle.std.proofs.{Common.ℕ, Common.ap₂, lemmas.Bool.eqb-true}
 use Rattle.flow_word.specs.declared.access.Place.{Place}
 use Rattle.path_check.proofs.paths.is_same.Goals as goal
 

@@ -1,9 +1,8 @@
 use Rattle.std.proofs.Common.{◌≡◌, suc, sym, ap, ◌∙◌, subst, arith}
-use Rattle.std.specs.Prelude.{All}
 use Rattle.std.proofs.lemmas.Option.{get_or_from_slice_get}
+use Rattle.std.specs.Prelude.{All}
 use Rattle.flow_word.specs.declared.access.Step.{Step}
-use Rattle.event_graph.specs.Lanes.{lane_at, no_lane}
-use Rattle.event_graph.specs.Packed.{whole}
+use Rattle.event_graph.specs.{Lanes.lane_at, Lanes.no_lane, Packed.whole}
 use Rattle.time_engine.specs.Conditions.{IsAccess}
 use Rattle.engine_view.specs.Held.{no_step}
 use Rattle.path_check.specs.Waits.{edited}

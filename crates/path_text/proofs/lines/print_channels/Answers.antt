@@ -1,9 +1,7 @@
 use Rattle.std.proofs.Common.{◌∙◌, ap, ℕ, List, ◌++◌, slice_index}
 use Rattle.flow_word.specs.declared.access.Side.TheVariants.{Pop, Push}
-use Rattle.report_text.specs.Lines.{text_of_lines}
-use Rattle.report_text.specs.ReportText.{channel_name}
-use Rattle.path_text.specs.Counts.{at_sides}
-use Rattle.path_text.specs.PathText.{cross_lines, lines_at, poll_lines}
+use Rattle.report_text.specs.{Lines.text_of_lines, ReportText.channel_name}
+use Rattle.path_text.specs.{Counts.at_sides, PathText.cross_lines, PathText.lines_at, PathText.poll_lines}
 use Rattle.path_text.proofs.Printed.{two_groups}
 use Rattle.path_text.proofs.lines.print_channels.Goals as goal
 use Rattle.report_text.proofs.LineLemmas.{numbers_more}

@@ -1,6 +1,5 @@
 use Rattle.std.proofs.Common.{◌∙◌, ap, ℕ, List, ◌++◌, slice_index}
-use Rattle.report_text.specs.Lines.{text_of_lines}
-use Rattle.report_text.specs.ReportText.{module_name}
+use Rattle.report_text.specs.{Lines.text_of_lines, ReportText.module_name}
 use Rattle.path_text.specs.PathText.{spend_lines}
 use Rattle.path_text.proofs.lines.print_modules.Goals as goal
 use Rattle.report_text.proofs.LineLemmas.{numbers_more}

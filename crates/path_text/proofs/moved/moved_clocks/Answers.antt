@@ -1,8 +1,8 @@
 use Rattle.std.proofs.Common.{◌∙◌, sym, subst, take, ◌+◌}
 use Rattle.path_text.specs.Finds.{AreMoved}
 use Rattle.path_text.proofs.MovedClocks.{moved_none, moved_no, moved_yes}
-use Rattle.path_text.proofs.moved.moved_clocks.Goals as goal
 use Rattle.path_text.proofs.moved.moved_clocks.Goals.{then-is_moved+in_ok-push_clock, else-is_moved}
+use Rattle.path_text.proofs.moved.moved_clocks.Goals as goal
 
 pub loop-access-init : goal.loop-access-init
 loop-access-init c = moved_none c.args.side c.args.channels c.in_ok-clocks.clocks c.in_ok-clocks.ensures

@@ -1,7 +1,6 @@
 use Rattle.std.proofs.Common.{◌≡◌, ℕ, suc, ◌-◌, sym, ◌∙◌, arith, subst, drop}
 use Rattle.std.specs.List.{filter}
-use Rattle.path_text.specs.Polls.{latest}
-use Rattle.path_text.specs.Finds.{find_clock, is_within}
+use Rattle.path_text.specs.{Polls.latest, Finds.find_clock, Finds.is_within}
 use Rattle.path_text.proofs.Searched.{ahead_is, no_find, none_beyond}
 use Rattle.path_text.proofs.search.latest.Goals as goal
 

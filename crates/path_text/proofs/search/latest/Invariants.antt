@@ -1,7 +1,6 @@
 use Rattle.std.proofs.Common.{◌≡◌, drop}
 use Rattle.std.specs.List.{filter}
-use Rattle.path_text.specs.Polls.{latest}
-use Rattle.path_text.specs.Finds.{find_clock, is_within}
+use Rattle.path_text.specs.{Polls.latest, Finds.find_clock, Finds.is_within}
 use Rattle.path_text.proofs.search.latest.Given as goal
 
 abbrev pub invariant-loop-at : goal.invariant-loop-at

@@ -1,18 +1,13 @@
 use Rattle.std.proofs.Common.{◌∙◌, ap, ap₂, sym, subst, arith, ℕ, ◌<◌, ◌^◌, List, ◌++◌, length}
 use Rattle.std.specs.Prelude.{All, sum_by}
-use Rattle.flow_design.specs.declared.plan.Plan.{Plan}
-use Rattle.flow_design.specs.declared.report.Verdict.{Verdict}
-use Rattle.flow_design.specs.StaticRules.{FitsEngine}
+use Rattle.flow_design.specs.{declared.plan.Plan.Plan, declared.report.Verdict.Verdict, StaticRules.FitsEngine, Reports.clock_of}
 use Rattle.lockstep_defs.specs.Verdict.{verdict}
-use Rattle.flow_design.specs.Reports.{clock_of}
 use Rattle.stall_spans.specs.declared.span.Span.{Span}
-use Rattle.path_text.specs.Walks.{HasSpans}
+use Rattle.path_text.specs.{Walks.HasSpans, declared.link.Polled.Polled, PathText.count_lines, PathText.link_lines}
 use Rattle.path_text.specs.Polls.{AreAccesses, links_in, polled_path, polls_in}
-use Rattle.path_text.specs.declared.link.Polled.{Polled}
+use Rattle.path_text.specs.Counts.{clocks_of, waiting, AreLinksOf, ArePollsOf}
 use Rattle.depth_order.specs.declared.link.Link.{Link}
 use Rattle.report_text.specs.Lines.{line, text_of_lines, verdict_tokens}
-use Rattle.path_text.specs.Counts.{clocks_of, waiting, AreLinksOf, ArePollsOf}
-use Rattle.path_text.specs.PathText.{count_lines, link_lines}
 use Rattle.path_text.proofs.Told.{links_told, polls_told, told_few, told_links_are, told_log, told_polls_are}
 use Rattle.path_text.proofs.Whole.{verdict_is, few_modules, few_channels, movers_inside, whole_path}
 use Rattle.path_text.proofs.text.path_text.Goals as goal

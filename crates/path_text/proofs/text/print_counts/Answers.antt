@@ -3,9 +3,8 @@ use Rattle.std.specs.Prelude.{OnOk}
 use Rattle.flow_word.specs.declared.access.Side.TheVariants.{Pop, Push}
 use Rattle.report_text.specs.Lines.{text_of_lines}
 use Rattle.depth_order.specs.declared.link.Link.{Link}
-use Rattle.path_text.specs.declared.link.Polled.{Polled}
+use Rattle.path_text.specs.{declared.link.Polled.Polled, PathText.module_lines, PathText.channel_lines}
 use Rattle.path_text.specs.Counts.{clocks_in, clocks_waited, crossings, at_sides, times_polled}
-use Rattle.path_text.specs.PathText.{module_lines, channel_lines}
 use Rattle.path_text.proofs.Printed.{two_groups, modules_same, channels_same}
 use Rattle.path_text.proofs.text.print_counts.Goals as goal
 

@@ -2,8 +2,7 @@ use Rattle.std.proofs.Common.{◌∙◌, ap, subst, arith, ℕ, ◌<◌, List, l
 use Rattle.std.specs.Prelude.{IfSome, Option}
 use Rattle.flow_word.specs.declared.access.Port.{Port}
 use Rattle.flow_word.specs.declared.access.Side.TheVariants as side
-use Rattle.flow_design.specs.declared.design.Channel.{Channel}
-use Rattle.flow_design.specs.Plans.{delay_of}
+use Rattle.flow_design.specs.{declared.design.Channel.Channel, Plans.delay_of}
 use Rattle.path_text.proofs.Owned.{owners_count, before_pop, before_push, channel_is}
 use Rattle.path_text.proofs.walk.before_link.Goals as goal
 

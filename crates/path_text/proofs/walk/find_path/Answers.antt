@@ -3,14 +3,10 @@ use Rattle.std.specs.Prelude.{IfSome}
 use Rattle.lockstep_defs.specs.Verdict.{verdict}
 use Rattle.flow_design.specs.Reports.{clock_of}
 use Rattle.timing_bridge.specs.Designs.{lag_in}
-use Rattle.path_text.specs.declared.link.PolledLink.{PolledLink}
-use Rattle.path_text.specs.Walks.{IsLastMove, link_at}
-use Rattle.path_text.proofs.Doings.{mover_inside}
-use Rattle.path_text.proofs.SpanLinks.{spans_sorted}
+use Rattle.path_text.specs.{declared.link.PolledLink.PolledLink, Walks.IsLastMove, Walks.link_at}
+use Rattle.path_text.proofs.{Doings.mover_inside, SpanLinks.spans_sorted, Found.step_is, Walked.spans_at, Walked.walk_begins}
 use Rattle.path_text.proofs.Chains.{crossing_inside, crossing_later}
 use Rattle.path_text.proofs.Followed.{IsWalk, left, polled_crossing, polled_inside, walk_on}
-use Rattle.path_text.proofs.Found.{step_is}
-use Rattle.path_text.proofs.Walked.{spans_at, walk_begins}
 use Rattle.path_text.proofs.walk.find_path.Goals as goal
 
 pub loop-next-init : goal.loop-next-init

@@ -1,7 +1,7 @@
 use Rattle.std.proofs.Common.{◌≡◌, ◌+◌, length, sym, subst, arith, ◌∙◌}
 use Rattle.port_clocks.proofs.Most.{IsMostOf, none_yet, one_ahead, none_ahead, most_is}
-use Rattle.port_clocks.proofs.leads.most_ahead.Goals as goal
 use Rattle.port_clocks.proofs.leads.most_ahead.Goals.{then-is_after, else-is_after}
+use Rattle.port_clocks.proofs.leads.most_ahead.Goals as goal
 
 pub loop-at-init : goal.loop-at-init
 loop-at-init c = none_yet c.args.first.now c.args.second.now

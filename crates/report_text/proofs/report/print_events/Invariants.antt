@@ -1,6 +1,5 @@
 use Rattle.std.proofs.Common.{◌≡◌, ◌++◌, map, take}
-use Rattle.report_text.specs.Lines.{text_of_lines}
-use Rattle.report_text.specs.ReportText.{event_tokens}
+use Rattle.report_text.specs.{Lines.text_of_lines, ReportText.event_tokens}
 use Rattle.report_text.proofs.report.print_events.Given as goal
 
 abbrev pub invariant-loop-event : goal.invariant-loop-event

@@ -1,7 +1,6 @@
 use Rattle.std.proofs.Common.{ap, ◌∙◌}
 use Rattle.retime.specs.Rounds.{only_steps}
-use Rattle.retime.proofs.Counts.{steps_below}
-use Rattle.retime.proofs.Cutting.{some_cut, retimed, room_retimed}
+use Rattle.retime.proofs.{Counts.steps_below, Cutting.some_cut, Cutting.retimed, Cutting.room_retimed}
 use Rattle.retime.proofs.retimed.retime.Goals as goal
 
 pub time_all-requires-clause-core : goal.time_all-requires-clause-core

@@ -1,6 +1,5 @@
-use Rattle.right_records.proofs.Enabled.{around, enabled, is_between}
+use Rattle.right_records.proofs.{Enabled.around, Enabled.enabled, Enabled.is_between, Standing.rise}
 use Rattle.right_records.proofs.Local.{beside_right, slack_right, still_right}
-use Rattle.right_records.proofs.Standing.{rise}
 use Rattle.right_records.specs.Records.{IsRight, with_cycles}
 use Rattle.right_records.proofs.laws.local_changes.Goals as goal
 

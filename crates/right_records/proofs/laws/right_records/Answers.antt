@@ -1,6 +1,4 @@
-use Rattle.right_records.proofs.Final.{right_final}
-use Rattle.right_records.proofs.Onward.{final_record}
-use Rattle.right_records.proofs.Recording.{right_agrees}
+use Rattle.right_records.proofs.{Final.right_final, Onward.final_record, Recording.right_agrees}
 use Rattle.right_records.proofs.laws.right_records.Goals as goal
 
 pub returns-clause-agrees : goal.returns-clause-agrees

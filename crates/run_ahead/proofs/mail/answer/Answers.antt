@@ -1,7 +1,7 @@
 use Rattle.std.proofs.Common.{rules, ◌≡◌, ap, sym, ◌∙◌, List, None, length}
+use Rattle.std.proofs.lemmas.Bool.{cond-true}
 use Rattle.flow_design.specs.declared.state.Reply.{Reply}
 use Rattle.module_interp.specs.OwnRests.{accesses_at}
-use Rattle.std.proofs.lemmas.Bool.{cond-true}
 use Rattle.run_ahead.specs.Mails.{next_value, replies_in, none_taken}
 use Rattle.run_ahead.proofs.Finding.{replies_length, replies_fit, replies_left}
 use Rattle.run_ahead.proofs.mail.answer.Goals as goal

@@ -1,10 +1,7 @@
 use Rattle.std.proofs.Common.{sym, ap, ◌∙◌, true, false}
-use Rattle.module_interp.specs.OwnRests.{next_rest, accesses_at}
-use Rattle.module_interp.specs.Runs.{waits}
-use Rattle.run_ahead.specs.Mails.{none_taken, taken_after}
-use Rattle.run_ahead.specs.Working.{task_of}
-use Rattle.run_ahead.proofs.Finding.{left_none}
-use Rattle.run_ahead.proofs.Going.{begin_waiting, begin_fed, begin_going}
+use Rattle.module_interp.specs.{OwnRests.next_rest, OwnRests.accesses_at, Runs.waits}
+use Rattle.run_ahead.specs.{Mails.none_taken, Mails.taken_after, Working.task_of}
+use Rattle.run_ahead.proofs.{Finding.left_none, Going.begin_waiting, Going.begin_fed, Going.begin_going}
 use Rattle.run_ahead.proofs.mail.begin.Goals.{then-is_waiting+in-Ok-true, else-is_waiting}
 use Rattle.run_ahead.proofs.mail.begin.Goals as goal
 

@@ -1,7 +1,6 @@
 use Rattle.std.proofs.Common.{refl}
 use Rattle.run_ahead.specs.Working.{task_of}
-use Rattle.run_ahead.proofs.Finding.{left_none}
-use Rattle.run_ahead.proofs.Going.{so_far_none, stop_short, stop_over, stop_waiting, go_more}
+use Rattle.run_ahead.proofs.{Finding.left_none, Going.so_far_none, Going.stop_short, Going.stop_over, Going.stop_waiting, Going.go_more}
 use Rattle.run_ahead.proofs.mail.go_on.Goals as goal
 
 pub returns-in-Err : goal.returns-in-Err

@@ -1,8 +1,7 @@
 use Rattle.std.proofs.Common.{◌≡◌, ap, subst, suc, ℕ, ◌+◌, sym, ◌∙◌, ◌<◌, length, arith}
-use Rattle.run_ahead.specs.declared.mail.Mail.{Mail}
-use Rattle.run_ahead.specs.Mails.{values_on}
-use Rattle.run_ahead.proofs.Finding.{IsTaking, taking_more, taking_on, taking_all, drop_next}
 use Rattle.std.proofs.Math.Seq.{drop-cons}
+use Rattle.run_ahead.specs.{declared.mail.Mail.Mail, Mails.values_on}
+use Rattle.run_ahead.proofs.Finding.{IsTaking, taking_more, taking_on, taking_all, drop_next}
 use Rattle.run_ahead.proofs.mail.take_values.Goals.{then-takes, else-takes}
 use Rattle.run_ahead.proofs.mail.take_values.Goals as goal
 

@@ -1,6 +1,5 @@
 use Rattle.std.proofs.Common.{◌≡◌}
-use Rattle.sim_hub.specs.Places.{HasNoDeskOut}
-use Rattle.sim_hub.specs.Hubs.{IsOfHub, module_of, module_view}
+use Rattle.sim_hub.specs.{Places.HasNoDeskOut, Hubs.IsOfHub, Hubs.module_of, Hubs.module_view}
 use Rattle.run_threads.proofs.drive.drive.Given as goal
 
 abbrev pub invariant-loop : goal.invariant-loop

@@ -1,7 +1,6 @@
 use Rattle.std.proofs.Common.{◌≡◌, length}
 use Rattle.sim_hub.specs.Hubs.{IsPerfOf, perf_view}
-use Rattle.run_threads.specs.Leading.{HasGoneOn}
-use Rattle.run_threads.specs.Slots.{AreSlots}
+use Rattle.run_threads.specs.{Leading.HasGoneOn, Slots.AreSlots}
 use Rattle.run_threads.proofs.lead.lead.Given as goal
 
 abbrev pub invariant-loop : goal.invariant-loop

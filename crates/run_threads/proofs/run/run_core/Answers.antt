@@ -1,11 +1,8 @@
-use Rattle.std.proofs.Common.{◌≡◌, [], length, ap, sym, ◌∙◌, subst}
+use Rattle.std.proofs.{Common.◌≡◌, Common.[], Common.length, Common.ap, Common.sym, Common.◌∙◌, Common.subst, lemmas.List.length-map}
 use mathlib.Core.List.{IsPrefix}
-use Rattle.std.proofs.lemmas.List.{length-map}
 use Rattle.turn_history.specs.Entries.{history_of}
-use Rattle.sim_hub.specs.Hubs.{perf_view}
-use Rattle.sim_hub.specs.Closings.{IsRun, ClosedIs}
-use Rattle.run_threads.specs.declared.drive.Seat.{Seat}
-use Rattle.run_threads.specs.Slots.{AreHere}
+use Rattle.sim_hub.specs.{Hubs.perf_view, Closings.IsRun, Closings.ClosedIs}
+use Rattle.run_threads.specs.{declared.drive.Seat.Seat, Slots.AreHere}
 use Rattle.run_threads.proofs.Openings.{prefix_trans, one_plan}
 use Rattle.run_threads.proofs.Places.{new_here, here_own, here_home, here_each}
 use Rattle.run_threads.proofs.run.run_core.Goals as goal

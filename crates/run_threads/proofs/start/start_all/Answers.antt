@@ -1,10 +1,7 @@
-use Rattle.std.proofs.Common.{arith, List, [], ◌∷◌, ◌++◌, ◌≡◌, Some, length, slice_get, ap, sym, ◌∙◌, subst, append_assoc}
-use Rattle.std.proofs.Common.{length-append}
+use Rattle.std.proofs.Common.{arith, List, [], ◌∷◌, ◌++◌, ◌≡◌, Some, length, slice_get, ap, sym, ◌∙◌, subst, append_assoc, length-append}
 use Rattle.sim_hub.specs.Hubs.{module_of}
-use Rattle.run_threads.specs.declared.drive.Seat.{Seat}
-use Rattle.run_threads.specs.Slots.{SlotIs, AreSlots, passes_in}
-use Rattle.run_threads.proofs.Lists.{all-snoc}
-use Rattle.run_threads.proofs.Places.{home_at, seat_here}
+use Rattle.run_threads.specs.{declared.drive.Seat.Seat, Slots.SlotIs, Slots.AreSlots, Slots.passes_in}
+use Rattle.run_threads.proofs.{Lists.all-snoc, Places.home_at, Places.seat_here}
 use Rattle.run_threads.proofs.start.start_all.Goals as goal
 
 -- the pass of the next seat

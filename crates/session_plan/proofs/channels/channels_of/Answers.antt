@@ -1,5 +1,4 @@
-use Rattle.std.proofs.Common.{arith, append-nil}
-use Rattle.std.proofs.Math.ListN.{drop_of_length-le}
+use Rattle.std.proofs.{Common.arith, Common.append-nil, Math.ListN.drop_of_length-le}
 use Rattle.session_plan.proofs.Counts.{names_long}
 use Rattle.session_plan.proofs.channels.channels_of.Goals as goal
 

@@ -1,6 +1,5 @@
 use Rattle.std.proofs.Common.{◌≡◌, ◌++◌, drop, map}
-use Rattle.session_plan.specs.Plans.{module_of}
-use Rattle.session_plan.specs.Sections.{sections}
+use Rattle.session_plan.specs.{Plans.module_of, Sections.sections}
 use Rattle.session_plan.specs.declared.section.Level.TheVariants as level
 use Rattle.session_plan.proofs.modules.modules_of.Given as goal
 

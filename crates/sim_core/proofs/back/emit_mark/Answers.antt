@@ -1,10 +1,7 @@
 use Rattle.std.proofs.Common.{sym, subst, ◌∙◌, List, Option, length}
-use Rattle.flow_design.specs.declared.plan.Plan.{Plan}
-use Rattle.flow_design.specs.declared.state.Advance.TheVariants.{Step}
-use Rattle.module_interp.specs.declared.run.ModuleRun.{ModuleRun}
-use Rattle.module_interp.specs.Runs.{IsSoundMark}
-use Rattle.sim_core.specs.Returned.{CanGoOn, IsNextMark, core_in}
-use Rattle.sim_core.specs.Runs.{rest_behind}
+use Rattle.flow_design.specs.{declared.plan.Plan.Plan, declared.state.Advance.TheVariants.Step}
+use Rattle.module_interp.specs.{declared.run.ModuleRun.ModuleRun, Runs.IsSoundMark}
+use Rattle.sim_core.specs.{Returned.CanGoOn, Returned.IsNextMark, Returned.core_in, Runs.rest_behind}
 use Rattle.sim_core.proofs.Emitting as emitting
 use Rattle.sim_core.proofs.back.emit_mark.Goals.{After-queries, In_ok-mark}
 use Rattle.sim_core.proofs.back.emit_mark.Goals as goal

@@ -1,6 +1,5 @@
 use Rattle.std.proofs.Common.{refl, ◌∙◌, ◌<◌, length, arith}
-use Rattle.sim_core.proofs.Asking.{beside_more, still_room}
-use Rattle.sim_core.proofs.Ports.{all_within}
+use Rattle.sim_core.proofs.{Asking.beside_more, Asking.still_room, Ports.all_within}
 use Rattle.sim_core.proofs.beside.find_beside.Goals as goal
 
 pub add_across-requires-clause-within : goal.add_across-requires-clause-within

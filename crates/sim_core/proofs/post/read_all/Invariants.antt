@@ -1,7 +1,6 @@
 use Rattle.std.proofs.Common.{◌≡◌, ℕ, List, map, take}
 use Rattle.module_interp.specs.Runs.{popped_in}
-use Rattle.sim_core.specs.Lent.{mailed}
-use Rattle.sim_core.specs.Unread.{AreUnread}
+use Rattle.sim_core.specs.{Lent.mailed, Unread.AreUnread}
 use Rattle.sim_core.proofs.post.read_all.Given as goal
 
 abbrev pub invariant-loop-channel : goal.invariant-loop-channel

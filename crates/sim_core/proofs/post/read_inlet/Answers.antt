@@ -1,5 +1,4 @@
-use Rattle.std.proofs.Common.{◌∙◌, ℕ, drop, sym, ap, arith}
-use Rattle.std.proofs.lemmas.Result.{IfOk-weaker}
+use Rattle.std.proofs.{Common.◌∙◌, Common.ℕ, Common.drop, Common.sym, Common.ap, Common.arith, lemmas.Result.IfOk-weaker}
 use Rattle.module_interp.specs.Runs.{popped_in}
 use Rattle.engine_view.specs.Held.{values_at}
 use Rattle.sim_core.proofs.Reading.{own_values, others_values}

@@ -1,6 +1,5 @@
 use Rattle.sim_core.proofs.Led.{outcomes_led, no_run_led, differ_led}
-use Rattle.sim_core.proofs.Reported.{answers_are, all_verified}
-use Rattle.sim_core.proofs.Verified.{verified_begin}
+use Rattle.sim_core.proofs.{Reported.answers_are, Reported.all_verified, Verified.verified_begin}
 use Rattle.sim_core.proofs.records.records_are_answers.Goals as goal
 
 pub returns : goal.returns

@@ -1,12 +1,9 @@
 use Rattle.std.proofs.Common.{◌≡◌, ◌∙◌, ℕ, ◌+◌, ◌<◌, ◌≤◌, ◌⊎◌, inl, inr, List, length, get_or, set, refl, arith}
 use Rattle.std.proofs.lemmas.Bool.{cases_eq, cases_lt}
 use Rattle.std.proofs.lemmas.List.{length-set, get_or-set_same, get_or-set_other}
-use Rattle.event_graph.specs.Lanes.{Lane}
-use Rattle.event_graph.specs.declared.candidate.Candidate.{Candidate}
-use Rattle.event_graph.specs.declared.candidate.Candidate.TheVariants.{Nothing}
+use Rattle.event_graph.specs.{Lanes.Lane, declared.candidate.Candidate.Candidate, declared.candidate.Candidate.TheVariants.Nothing}
 use Rattle.fifo_table.specs.Channels.{Channel}
-use Rattle.sim_core.specs.Candidates.{IsCandidate, IsListed}
-use Rattle.sim_core.specs.declared.due.Due.{Due}
+use Rattle.sim_core.specs.{Candidates.IsCandidate, Candidates.IsListed, declared.due.Due.Due}
 use Rattle.sim_core.proofs.turn.list_candidates.Goals as goal
 
 -- one candidate more

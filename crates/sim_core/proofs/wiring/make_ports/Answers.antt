@@ -1,10 +1,8 @@
-use Rattle.std.proofs.Common.{◌≡◌, ◌∙◌, sym, ap, ap₂, ℕ, ◌+◌, ◌<◌, length, List}
-use Rattle.std.proofs.Common.{[], ◌∷◌, ◌++◌, suc, append-nil, append_assoc, arith, eqb, slice_index}
-use Rattle.std.specs.Prelude.{flat_map}
-use Rattle.std.specs.List.{range_with_len}
+use Rattle.std.proofs.Common.{◌≡◌, ◌∙◌, sym, ap, ap₂, ℕ, ◌+◌, ◌<◌, length, List, [], ◌∷◌, ◌++◌, suc, append-nil, append_assoc, arith, eqb}
+use Rattle.std.proofs.Common.{slice_index}
 use Rattle.std.proofs.lemmas.List.Concat.{flat_map-append}
-use Rattle.flow_word.specs.declared.access.Port.{Port}
-use Rattle.flow_word.specs.declared.access.Side.TheVariants.{Pop, Push}
+use Rattle.std.specs.{Prelude.flat_map, List.range_with_len}
+use Rattle.flow_word.specs.{declared.access.Port.Port, declared.access.Side.TheVariants.Pop, declared.access.Side.TheVariants.Push}
 use Rattle.flow_design.specs.declared.plan.Plan.{Plan}
 use Rattle.timing_bridge.specs.Designs.{design}
 use Rattle.sim_core.specs.Opening.{port_where, ports_at, ports_to}

@@ -1,5 +1,4 @@
-use Rattle.std.proofs.Common.{arith, ◌+◌, ◌-◌, length}
-use Rattle.std.proofs.lemmas.Grind.{common_steps}
+use Rattle.std.proofs.{Common.arith, Common.◌+◌, Common.◌-◌, Common.length, lemmas.Grind.common_steps}
 use Rattle.sim_io.proofs.Pieces.{loses_more}
 use Rattle.sim_io.proofs.reading.read_all.Goals as goal
 

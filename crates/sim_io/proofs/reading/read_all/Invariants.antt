@@ -1,7 +1,5 @@
 use Rattle.std.proofs.Common.{ℕ, List, ◌+◌, ◌-◌, ◌≤◌, ◌≡◌, length}
-use Rattle.std.specs.Prelude.{vec_len}
-use Rattle.std.specs.declared.option.Option.{Option}
-use Rattle.std.specs.Io.KnownBytes.{Consumes}
+use Rattle.std.specs.{Prelude.vec_len, declared.option.Option.Option, Io.KnownBytes.Consumes}
 use Rattle.sim_io.proofs.reading.read_all.Given as goal
 
 -- what was read so far, the count of faults, and the room of the chunk

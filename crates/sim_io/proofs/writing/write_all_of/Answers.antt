@@ -1,5 +1,4 @@
-use Rattle.std.proofs.Common.{arith}
-use Rattle.std.proofs.lemmas.Grind.{common_steps}
+use Rattle.std.proofs.{Common.arith, lemmas.Grind.common_steps}
 use Rattle.sim_io.proofs.Pieces.{appends_more}
 use Rattle.sim_io.proofs.writing.write_all_of.Goals as goal
 

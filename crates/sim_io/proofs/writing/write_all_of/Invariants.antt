@@ -1,6 +1,5 @@
 use Rattle.std.proofs.Common.{ℕ, List, Bool, ◌-◌, ◌≤◌, ◌<◌, ◌≡◌, length, take, false}
-use Rattle.std.specs.declared.option.Option.{Option}
-use Rattle.std.specs.Io.KnownBytes.{Appends}
+use Rattle.std.specs.{declared.option.Option.Option, Io.KnownBytes.Appends}
 use Rattle.sim_io.proofs.writing.write_all_of.Given as goal
 
 -- what was written so far, the count of faults, and the mark

@@ -1,5 +1,4 @@
-use Rattle.stall_spans.proofs.Existing.{counted_spans}
-use Rattle.stall_spans.proofs.Adding.{over_from, causes_add_up}
+use Rattle.stall_spans.proofs.{Existing.counted_spans, Adding.over_from, Adding.causes_add_up}
 use Rattle.stall_spans.proofs.laws.clocks_add_up.Goals as goal
 
 pub returns-clause-spans : goal.returns-clause-spans

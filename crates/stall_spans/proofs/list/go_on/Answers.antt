@@ -1,5 +1,4 @@
-use Rattle.std.proofs.Common.{rules, arith, subst, sym}
-use Rattle.std.proofs.lemmas.Result.{on_ok_weaker}
+use Rattle.std.proofs.{Common.rules, Common.arith, Common.subst, Common.sym, lemmas.Result.on_ok_weaker}
 use Rattle.stall_spans.specs.Coming.{Comes}
 use Rattle.stall_spans.proofs.Going.{comes_more, comes_longer}
 use Rattle.stall_spans.proofs.list.go_on.Goals as goal

@@ -1,7 +1,6 @@
 use Rattle.std.proofs.Common.{◌≡◌, ◌++◌}
 use Rattle.report_text.specs.Lines.{text_of_lines}
-use Rattle.stall_text.specs.StallText.{at_each_side}
-use Rattle.stall_text.specs.Causes.{causes_by}
+use Rattle.stall_text.specs.{StallText.at_each_side, Causes.causes_by}
 use Rattle.stall_text.proofs.causes.print_causes.Given as goal
 
 abbrev pub invariant-loop-number : goal.invariant-loop-number

@@ -1,5 +1,4 @@
-use Rattle.std.proofs.Common.{◌≡◌, ◌+◌, length, arith}
-use Rattle.std.proofs.lemmas.Result.{on_ok_weaker}
+use Rattle.std.proofs.{Common.◌≡◌, Common.◌+◌, Common.length, Common.arith, lemmas.Result.on_ok_weaker}
 use Rattle.stall_text.proofs.Lines.{port_line}
 use Rattle.stall_text.proofs.ports.print_port.Goals as goal
 

@@ -1,8 +1,8 @@
 use Rattle.std.proofs.Common.{◌∙◌, ◌<◌, ◌^◌, sym, subst, take, ◌+◌, length, rules}
 use Rattle.stall_text.specs.Polling.{AreAsked}
 use Rattle.stall_text.proofs.Asked.{asked_none, asked_no, asked_yes, asked_room}
-use Rattle.stall_text.proofs.queries.queries_at.Goals as goal
 use Rattle.stall_text.proofs.queries.queries_at.Goals.{then-same_query, else-same_query}
+use Rattle.stall_text.proofs.queries.queries_at.Goals as goal
 
 pub loop-access-init : goal.loop-access-init
 loop-access-init c = asked_none c.args.channels c.args.kind c.in_ok-queries.queries c.in_ok-queries.ensures

@@ -1,22 +1,15 @@
 use Rattle.std.proofs.Common.{◌∙◌, ap, subst, sym, List, ℕ, ◌++◌, ◌<◌, ◌≤◌, ◌^◌, length, Bool}
-use Rattle.std.specs.Prelude.{All}
 use Rattle.std.proofs.lemmas.Result.{on_ok_weaker}
+use Rattle.std.specs.Prelude.{All}
 use Rattle.flow_word.specs.declared.access.Side.TheVariants.{Pop, Push}
-use Rattle.flow_design.specs.declared.design.Channel.{Channel}
-use Rattle.flow_design.specs.declared.plan.Plan.{Plan}
+use Rattle.flow_design.specs.{declared.design.Channel.Channel, declared.plan.Plan.Plan}
 use Rattle.fifo_fills.specs.Fills.{last_clock}
-use Rattle.report_text.specs.Lines.{line, text_of_lines}
-use Rattle.report_text.specs.ReportText.{module_name}
-use Rattle.stall_spans.specs.declared.span.Doing.{Doing}
-use Rattle.stall_spans.specs.declared.span.Span.{Span}
-use Rattle.stall_spans.specs.Totals.{spans_clocks, is_moving, is_still}
-use Rattle.stall_spans.proofs.Existing.{counted_spans}
-use Rattle.stall_text.specs.StallText.{module_tokens, at_each_side}
-use Rattle.stall_text.specs.Causes.{IsInside, causes_by}
-use Rattle.stall_text.proofs.Totals.{spans_inside, spans_few, still_is}
-use Rattle.stall_text.proofs.Whole.{module_text}
+use Rattle.report_text.specs.{Lines.line, Lines.text_of_lines, ReportText.module_name}
+use Rattle.stall_spans.specs.{declared.span.Doing.Doing, declared.span.Span.Span, Totals.spans_clocks, Totals.is_moving, Totals.is_still}
+use Rattle.stall_spans.proofs.{Existing.counted_spans, Extending.spans_order}
+use Rattle.stall_text.specs.{StallText.module_tokens, StallText.at_each_side, Causes.IsInside, Causes.causes_by}
+use Rattle.stall_text.proofs.{Totals.spans_inside, Totals.spans_few, Totals.still_is, Whole.module_text}
 use Rattle.stall_text.proofs.text.print_module.Goals as goal
-use Rattle.stall_spans.proofs.Extending.{spans_order}
 
 pub still_clocks-requires-clause-order : goal.still_clocks-requires-clause-order
 still_clocks-requires-clause-order c =

@@ -1,9 +1,7 @@
-use Rattle.std.proofs.Common.{◌≡◌, ◌≤◌, length, arith, Some}
-use Rattle.std.proofs.lemmas.Option.{slice_get_past}
-use Rattle.event_graph.specs.Lanes.{lane_at}
+use Rattle.std.proofs.{Common.◌≡◌, Common.◌≤◌, Common.length, Common.arith, Common.Some, lemmas.Option.slice_get_past}
+use Rattle.event_graph.specs.{Lanes.lane_at, Packed.in_lane}
 use Rattle.time_engine.specs.Cycles.{open_step, clocks_of}
 use Rattle.time_engine.proofs.Candidates.{says_nothing, says_waits, says_at, says_beyond, may_take}
-use Rattle.event_graph.specs.Packed.{in_lane}
 use Rattle.time_engine.proofs.timing.candidate_and_queries.Goals as goal
 
 pub returns-then-first-len : goal.returns-then-first-len

@@ -3,8 +3,7 @@ use Rattle.std.proofs.lemmas.Option.{slice_get_within, get_or_from_slice_get}
 use Rattle.time_engine.specs.Cycles.{is_waiting}
 use Rattle.time_engine.proofs.First.{none_more, position_found, position_none}
 use Rattle.time_engine.proofs.LatestClocks.{latest_none, clocks_of-none, latest_next}
-use Rattle.time_engine.proofs.Counting.{queries_next, queries_all}
-use Rattle.time_engine.proofs.timing.latest_and_queries.Goals.{After-at-access}
+use Rattle.time_engine.proofs.{Counting.queries_next, Counting.queries_all, timing.latest_and_queries.Goals.After-at-access}
 use Rattle.time_engine.proofs.timing.latest_and_queries.Goals as goal
 
 pub loop-number-init : goal.loop-number-init

@@ -1,7 +1,6 @@
 use Rattle.std.proofs.Common.{◌≡◌, ℕ, ◌<◌, ◌≤◌, ◌∷◌, take, get_or, length, not, false}
 use Rattle.std.specs.Prelude.{filter}
-use Rattle.flow_word.specs.Kinds.{is_blocking}
-use Rattle.flow_word.specs.declared.access.Access.{Access}
+use Rattle.flow_word.specs.{Kinds.is_blocking, declared.access.Access.Access}
 use Rattle.time_engine.specs.Cycles.{is_waiting, clocks_of, latest}
 use Rattle.time_engine.proofs.timing.latest_and_queries.Given as goal
 

@@ -1,5 +1,4 @@
-use Rattle.timing_bridge.proofs.Orders.{reached_agrees}
-use Rattle.timing_bridge.proofs.Reports.{every_report}
+use Rattle.timing_bridge.proofs.{Orders.reached_agrees, Reports.every_report}
 use Rattle.timing_bridge.proofs.laws.every_report.Goals as goal
 
 pub returns-clause-reached : goal.returns-clause-reached

@@ -1,5 +1,4 @@
-use Rattle.timing_bridge.proofs.Bounded.{plan_is_bounded}
-use Rattle.timing_bridge.proofs.History.{plan_is_design, run_is_history}
+use Rattle.timing_bridge.proofs.{Bounded.plan_is_bounded, History.plan_is_design, History.run_is_history}
 use Rattle.timing_bridge.proofs.laws.plans_are_designs.Goals as goal
 
 pub returns-clause-design : goal.returns-clause-design

@@ -1,5 +1,4 @@
-use Rattle.timing_bridge.proofs.InOrder.{history_in_order, only_in_order, reported_history}
-use Rattle.timing_bridge.proofs.Places.{sorted_steps}
+use Rattle.timing_bridge.proofs.{InOrder.history_in_order, InOrder.only_in_order, InOrder.reported_history, Places.sorted_steps}
 use Rattle.timing_bridge.proofs.laws.steps_in_order.Goals as goal
 
 pub returns-clause-history : goal.returns-clause-history

@@ -1,15 +1,11 @@
 use Rattle.std.proofs.Common.{◌≡◌, ◌∙◌, ap, arith, cond, refl, ℕ, ◌+◌, ◌-◌, List, ◌++◌, [], length}
 use Rattle.std.specs.List.{flat_map, range_with_len}
-use Rattle.flow_design.specs.declared.plan.Plan.{Plan}
-use Rattle.flow_design.specs.Plans.{is_fifo, kind_at}
-use Rattle.flow_design.specs.Reports.{clock_of}
+use Rattle.flow_design.specs.{declared.plan.Plan.Plan, Plans.is_fifo, Plans.kind_at, Reports.clock_of}
 use Rattle.flow_design.proofs.Failing.{on_err}
 use Rattle.fifo_fills.specs.Fills.{last_clock}
 use Rattle.sim_io.proofs.Pending.{prefix_as, told_as, told_more, told_prefix_more}
-use Rattle.trace_text.specs.Events.{fill_events}
-use Rattle.trace_text.specs.TraceText.{further}
-use Rattle.trace_text.proofs.Filling.{channel_events, all_channels}
-use Rattle.trace_text.proofs.Lines.{numbers_more, numbers_rest}
+use Rattle.trace_text.specs.{Events.fill_events, TraceText.further}
+use Rattle.trace_text.proofs.{Filling.channel_events, Filling.all_channels, Lines.numbers_more, Lines.numbers_rest}
 use Rattle.trace_text.proofs.fills.write_counters.Goals as goal
 
 -- the lines of one channel more, up to the last clock

@@ -1,11 +1,9 @@
 use Rattle.std.proofs.Common.{◌∙◌, ◌≡◌, ap, sym, List, ℕ, Bool, cond, ◌++◌, ◌∷◌, [], ltb}
-use Rattle.std.proofs.lemmas.Bool.{lt-ltb, le-ltb}
-use Rattle.std.proofs.lemmas.List.{append-nil}
+use Rattle.std.proofs.{lemmas.Bool.lt-ltb, lemmas.Bool.le-ltb, lemmas.List.append-nil}
 use Rattle.report_text.specs.ReportText.{module_name}
 use Rattle.trace_text.specs.Events.{name_event}
-use Rattle.trace_text.proofs.Lines.{names_more}
+use Rattle.trace_text.proofs.{Lines.names_more, text.print_names.Goals.then-number-gt0+in_ok-push, text.print_names.Goals.else-number-gt0}
 use Rattle.trace_text.proofs.text.print_names.Goals as goal
-use Rattle.trace_text.proofs.text.print_names.Goals.{then-number-gt0+in_ok-push, else-number-gt0}
 
 pub loop-number-preserved : goal.loop-number-preserved
 loop-number-preserved c =

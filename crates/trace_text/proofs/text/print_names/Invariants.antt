@@ -1,8 +1,7 @@
 use Rattle.std.proofs.Common.{◌≡◌, ◌++◌, map}
 use Rattle.std.specs.List.{range_with_len}
 use Rattle.report_text.specs.ReportText.{module_name}
-use Rattle.trace_text.specs.Events.{name_event}
-use Rattle.trace_text.specs.TraceText.{lines_of}
+use Rattle.trace_text.specs.{Events.name_event, TraceText.lines_of}
 use Rattle.trace_text.proofs.text.print_names.Given as goal
 
 abbrev pub invariant-loop-number : goal.invariant-loop-number

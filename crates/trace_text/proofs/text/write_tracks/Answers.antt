@@ -1,16 +1,12 @@
 use Rattle.std.proofs.Common.{◌≡◌, ◌∙◌, ap, ap₂, subst, sym, refl, arith, ℕ, ◌+◌, ◌-◌, List, map, length, ◌++◌, ◌≤◌}
-use Rattle.std.specs.Prelude.{All}
-use Rattle.std.specs.List.{flat_map, range_with_len}
+use Rattle.std.specs.{Prelude.All, List.flat_map, List.range_with_len}
 use Rattle.flow_design.specs.declared.plan.Plan.{Plan}
 use Rattle.flow_design.proofs.Failing.{on_err}
 use Rattle.sim_io.proofs.Pending.{prefix_as, told_as, told_more, told_prefix, told_prefix_more}
-use Rattle.stall_spans.specs.declared.span.Span.{Span}
-use Rattle.stall_spans.specs.Spans.{AreSpans}
+use Rattle.stall_spans.specs.{declared.span.Span.Span, Spans.AreSpans}
 use Rattle.stall_spans.proofs.Extending.{spans_order}
-use Rattle.trace_text.specs.Events.{span_event, span_events, IsDrawn}
-use Rattle.trace_text.specs.TraceText.{further}
-use Rattle.trace_text.proofs.Lines.{numbers_more, numbers_rest}
-use Rattle.trace_text.proofs.Showing.{spans_are, spans_drawn}
+use Rattle.trace_text.specs.{Events.span_event, Events.span_events, Events.IsDrawn, TraceText.further}
+use Rattle.trace_text.proofs.{Lines.numbers_more, Lines.numbers_rest, Showing.spans_are, Showing.spans_drawn}
 use Rattle.trace_text.proofs.text.write_tracks.Goals as goal
 
 pub write_spans-requires-clause-order : goal.write_spans-requires-clause-order

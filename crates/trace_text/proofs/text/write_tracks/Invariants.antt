@@ -1,7 +1,6 @@
 use Rattle.std.proofs.Common.{◌≤◌, ◌++◌}
 use Rattle.std.specs.List.{flat_map, range_with_len}
-use Rattle.trace_text.specs.Events.{span_events}
-use Rattle.trace_text.specs.TraceText.{further}
+use Rattle.trace_text.specs.{Events.span_events, TraceText.further}
 use Rattle.sim_io.specs.Telling.{IsTold}
 use Rattle.trace_text.proofs.text.write_tracks.Given as goal
 

@@ -1,5 +1,4 @@
-use Rattle.turn_history.proofs.Turning.{turns_join}
-use Rattle.turn_history.proofs.Lending.{final_turn, final_stays}
+use Rattle.turn_history.proofs.{Turning.turns_join, Lending.final_turn, Lending.final_stays}
 use Rattle.turn_history.proofs.laws.histories_grow.Goals as goal
 
 pub returns-clause-joined : goal.returns-clause-joined

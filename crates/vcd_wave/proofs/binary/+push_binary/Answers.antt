@@ -1,7 +1,6 @@
 use Rattle.std.proofs.Common.{ℕ, List, ◌∷◌, [], ◌++◌, ◌+◌, ◌%◌, ◌/◌, ◌∙◌, ap, sym, append_assoc}
 use Rattle.vcd_wave.specs.Binary.{binary}
-use Rattle.vcd_wave.proofs.BinaryLemmas.{binary_small, binary_step}
-use Rattle.vcd_wave.proofs.LineLemmas.{on_ok}
+use Rattle.vcd_wave.proofs.{BinaryLemmas.binary_small, BinaryLemmas.binary_step, LineLemmas.on_ok}
 use Rattle.vcd_wave.proofs.binary.+push_binary.Goals as goal
 use Rattle.vcd_wave.proofs.binary.+push_binary.Goals.{then-number-gt1+in_ok-push_binary, else-number-gt1}
 

@@ -1,7 +1,6 @@
 use Rattle.std.proofs.Common.{◌∙◌, ap, ◌++◌, List, ℕ, get_or}
 use Rattle.report_text.specs.Lines.{line}
-use Rattle.vcd_wave.specs.Walks.{change_of}
-use Rattle.vcd_wave.specs.WaveText.{change_tokens}
+use Rattle.vcd_wave.specs.{Walks.change_of, WaveText.change_tokens}
 use Rattle.vcd_wave.proofs.LineLemmas.{changes_push}
 use Rattle.vcd_wave.proofs.lines.print_changes.Goals as goal
 

@@ -1,7 +1,6 @@
 use Rattle.std.proofs.Common.{◌≡◌, ◌++◌, map, take}
 use Rattle.report_text.specs.Lines.{text_of_lines}
-use Rattle.vcd_wave.specs.Walks.{change_of}
-use Rattle.vcd_wave.specs.WaveText.{change_tokens}
+use Rattle.vcd_wave.specs.{Walks.change_of, WaveText.change_tokens}
 use Rattle.vcd_wave.proofs.lines.print_changes.Given as goal
 
 abbrev pub invariant-loop-change : goal.invariant-loop-change

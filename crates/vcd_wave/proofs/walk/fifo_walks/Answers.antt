@@ -1,17 +1,12 @@
-use Rattle.std.proofs.Common.{◌≡◌, ◌∙◌, ◌<◌, ap, ap₂, sym, subst, arith, ℕ, List}
-use Rattle.std.proofs.Common.{Bool, true, false, cond, ◌++◌, ◌∷◌, [], get_or, map, length}
-use Rattle.std.specs.Prelude.{All}
-use Rattle.std.specs.List.{filter, range_with_len}
-use Rattle.std.proofs.lemmas.List.{append-nil, get_or_default, map-append}
-use Rattle.std.proofs.lemmas.List.Elements.{All-push}
-use Rattle.flow_design.specs.declared.design.Channel.{Channel}
-use Rattle.flow_design.specs.declared.plan.Plan.{Plan}
-use Rattle.flow_design.specs.Plans.{is_fifo, kind_at, no_channel}
+use Rattle.std.proofs.Common.{◌≡◌, ◌∙◌, ◌<◌, ap, ap₂, sym, subst, arith, ℕ, List, Bool, true, false, cond, ◌++◌, ◌∷◌, [], get_or, map}
+use Rattle.std.proofs.Common.{length}
+use Rattle.std.proofs.{lemmas.List.append-nil, lemmas.List.get_or_default, lemmas.List.map-append, lemmas.List.Elements.All-push}
+use Rattle.std.specs.{Prelude.All, List.filter, List.range_with_len}
+use Rattle.flow_design.specs.{declared.design.Channel.Channel, declared.plan.Plan.Plan, Plans.is_fifo, Plans.kind_at, Plans.no_channel}
 use Rattle.port_clocks.specs.declared.walk.FifoWalk.{FifoWalk}
 use Rattle.vcd_wave.specs.Walks.{StandsBy}
-use Rattle.vcd_wave.proofs.Walking.{chosen_more}
+use Rattle.vcd_wave.proofs.{Walking.chosen_more, walk.fifo_walks.Goals.then-is_fifo+in_ok-push, walk.fifo_walks.Goals.else-is_fifo}
 use Rattle.vcd_wave.proofs.walk.fifo_walks.Goals as goal
-use Rattle.vcd_wave.proofs.walk.fifo_walks.Goals.{then-is_fifo+in_ok-push, else-is_fifo}
 
 abbrev channel_of : FifoWalk → ℕ
 channel_of w = w.channel

@@ -1,7 +1,6 @@
 use Rattle.std.proofs.Common.{◌≡◌, ◌∙◌, sym, ap, arith, true, false, Some, ℕ}
 use Rattle.wave_reader.specs.declared.scan.Asked.{Asked}
-use Rattle.wave_reader.proofs.Plans.{one_fill}
-use Rattle.wave_reader.proofs.Wholes.{tells, back, found}
+use Rattle.wave_reader.proofs.{Plans.one_fill, Wholes.tells, Wholes.back, Wholes.found}
 use Rattle.wave_reader.proofs.fill.wave_fill.Goals as goal
 
 pub returns-in_err-count-clause-all : goal.returns-in_err-count-clause-all

@@ -1,8 +1,7 @@
 use Rattle.std.proofs.Common.{◌≡◌, ◌∙◌, sym, ap, List, ◌∷◌, ◌++◌, ℕ, true, false}
 use Rattle.std.specs.Prelude.{codes}
 use Rattle.flow_design.specs.Names.{is_name}
-use Rattle.wave_reader.proofs.Fronts.{name_cut}
-use Rattle.wave_reader.proofs.Numerals.{no_number}
+use Rattle.wave_reader.proofs.{Fronts.name_cut, Numerals.no_number}
 use Rattle.wave_reader.proofs.header.behind_name.Goals as goal
 
 abbrev pub end_of_line : List ℕ → List ℕ → List ℕ

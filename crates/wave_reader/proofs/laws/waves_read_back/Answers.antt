@@ -1,9 +1,6 @@
 use Rattle.std.proofs.Common.{subst, sym}
-use Rattle.vcd_wave.specs.Wave.{wave_of}
-use Rattle.vcd_wave.specs.WaveText.{wave_text}
-use Rattle.vcd_wave.specs.Told.{TellsFill}
-use Rattle.wave_reader.proofs.OneWave.{one_wave}
-use Rattle.wave_reader.proofs.Plans.{one_fill, tells_it, tells_only, declared_is, within_is}
+use Rattle.vcd_wave.specs.{Wave.wave_of, WaveText.wave_text, Told.TellsFill}
+use Rattle.wave_reader.proofs.{OneWave.one_wave, Plans.one_fill, Plans.tells_it, Plans.tells_only, Plans.declared_is, Plans.within_is}
 use Rattle.wave_reader.proofs.laws.waves_read_back.Goals as goal
 
 pub returns-clause-one_wave : goal.returns-clause-one_wave

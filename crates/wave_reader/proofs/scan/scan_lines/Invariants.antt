@@ -1,6 +1,5 @@
 use Rattle.std.proofs.Common.{length}
-use Rattle.wave_reader.specs.declared.scan.Scan.{Scan as State}
-use Rattle.wave_reader.specs.Scans.{opening_scan, Leads}
+use Rattle.wave_reader.specs.{declared.scan.Scan.Scan as State, Scans.opening_scan, Scans.Leads}
 use Rattle.wave_reader.proofs.scan.scan_lines.Given as goal
 
 abbrev pub invariant-loop-rest : goal.invariant-loop-rest

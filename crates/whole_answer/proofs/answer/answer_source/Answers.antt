@@ -1,11 +1,7 @@
 use Rattle.std.proofs.Common.{ap, refl, arith, Ok, Err, inl, ℕ, ◌+◌, ◌<◌, length}
 use Rattle.flow_design.specs.Limits.{limits_at}
-use Rattle.flow_grammar.specs.declared.fault.TextFault.{TextFault}
-use Rattle.flow_grammar.specs.declared.fault.Code.TheVariants.{TooLong}
-use Rattle.whole_answer.specs.declared.answer.Unanswered.{Unanswered}
-use Rattle.whole_answer.specs.Answer.{AnswersText}
-use Rattle.whole_answer.specs.Answer.AnswersText.{misread}
-use Rattle.whole_answer.specs.Made.{refused}
+use Rattle.flow_grammar.specs.{declared.fault.TextFault.TextFault, declared.fault.Code.TheVariants.TooLong}
+use Rattle.whole_answer.specs.{declared.answer.Unanswered.Unanswered, Answer.AnswersText, Answer.AnswersText.misread, Made.refused}
 use Rattle.whole_answer.proofs.Answering.{of_each, of_long, begins_as_err, begins_as_ok, begins_fails, begins_not, begins_read}
 use Rattle.whole_answer.proofs.Answering.{begins_whole}
 use Rattle.whole_answer.proofs.answer.answer_source.Goals as goal

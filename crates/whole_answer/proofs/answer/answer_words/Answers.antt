@@ -1,8 +1,7 @@
 use Rattle.std.proofs.Common.{ap, sym, subst, refl, Ok, Err, Option}
 use Rattle.std.specs.Prelude.{map, string_bytes, []}
 use Rattle.cli_words.specs.declared.Command.{Command}
-use Rattle.whole_answer.specs.Answer.{Answers, AnswersCommand}
-use Rattle.whole_answer.specs.Made.{refused_words}
+use Rattle.whole_answer.specs.{Answer.Answers, Answer.AnswersCommand, Made.refused_words}
 use Rattle.whole_answer.proofs.Answering.{of_each, begins_fails, begins_not, begins_whole}
 use Rattle.whole_answer.proofs.answer.answer_words.Goals as goal
 

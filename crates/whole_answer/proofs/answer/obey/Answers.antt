@@ -1,8 +1,7 @@
 use Rattle.std.proofs.Common.{refl, Ok, []}
 use Rattle.cli_words.specs.declared.Command.TheVariants.{Gen}
 use Rattle.std.specs.Prelude.{Some}
-use Rattle.whole_answer.specs.Answer.{AnswersCommand}
-use Rattle.whole_answer.specs.Made.{generated}
+use Rattle.whole_answer.specs.{Answer.AnswersCommand, Made.generated}
 use Rattle.whole_answer.proofs.Answering.{of_each, begins_fails, begins_whole}
 use Rattle.whole_answer.proofs.answer.obey.Goals as goal
 

@@ -1,20 +1,13 @@
 use Rattle.std.proofs.Common.{◌≡◌, ◌∙◌, sym, subst, refl, ap, arith, ℕ, ◌+◌, ◌≤◌, List}
-use Rattle.std.specs.Prelude.{Bool, if◌then◌else◌}
-use Rattle.std.specs.declared.option.Option.{Option}
-use Rattle.std.specs.Io.KnownBytes.{Appends}
-use Rattle.flow_design.specs.declared.plan.Plan.{Plan}
-use Rattle.flow_design.specs.declared.report.Report.{Report}
-use Rattle.flow_design.specs.StaticRules.{FitsEngine}
+use Rattle.std.specs.{Prelude.Bool, Prelude.if◌then◌else◌, declared.option.Option.Option, Io.KnownBytes.Appends}
+use Rattle.flow_design.specs.{declared.plan.Plan.Plan, declared.report.Report.Report, StaticRules.FitsEngine}
 use Rattle.lockstep_defs.specs.Report.{report}
 use Rattle.outcome_guard.specs.Runs.{next_counts}
 use Rattle.depth_session.specs.Sessions.{Session, opened, with_edit}
-use Rattle.report_text.specs.Lines.{line, runs_tokens}
-use Rattle.report_text.specs.ReportText.{report_text_of}
+use Rattle.report_text.specs.{Lines.line, Lines.runs_tokens, ReportText.report_text_of}
 use Rattle.sim_io.specs.Causes.{AppendsPrefix}
 use Rattle.sim_io.proofs.Pending.{prefix_none}
-use Rattle.whole_answer.specs.Going.{Told, IsGoing, told_of}
-use Rattle.whole_answer.specs.Job.{ending_of, is_done}
-use Rattle.whole_answer.specs.declared.ending.Ending.{Ending}
+use Rattle.whole_answer.specs.{Going.Told, Going.IsGoing, Going.told_of, Job.ending_of, Job.is_done, declared.ending.Ending.Ending}
 use Rattle.whole_answer.proofs.Reports.{begins, goes_on, still_fits, next_plan, ends, edit_at, fits_there, first_is, more_is, first_plan}
 use Rattle.whole_answer.proofs.Reports.{stops, stops_first, stops_inside, same_verdict}
 use Rattle.flow_design.proofs.Failing.{on_err}

@@ -1,8 +1,7 @@
 use Rattle.std.proofs.Common.{◌≡◌, ◌∙◌, ap, arith, ℕ, List, length, map}
 use Rattle.std.specs.List.{range_with_len}
 use Rattle.report_text.specs.Lines.{text_of_lines}
-use Rattle.whole_answer.specs.declared.ending.Ending.TheVariants.{Done}
-use Rattle.whole_answer.specs.Further.{order_tokens, ordered}
+use Rattle.whole_answer.specs.{declared.ending.Ending.TheVariants.Done, Further.order_tokens, Further.ordered}
 use Rattle.whole_answer.proofs.FurtherLines.{lines_more}
 use Rattle.whole_answer.proofs.ordering.order_modules.Goals as goal
 

@@ -3,8 +3,7 @@ use Rattle.std.proofs.lemmas.Bool.{cases_Bool}
 use Rattle.flow_design.specs.declared.state.Advance.{Advance}
 use Rattle.module_interp.specs.Runs.{waits}
 use Rattle.run_ahead.specs.Mails.{IsBurst}
-use Rattle.run_ahead.proofs.Finding.{left_none}
-use Rattle.run_ahead.proofs.Going.{begin_waiting, begin_going}
+use Rattle.run_ahead.proofs.{Finding.left_none, Going.begin_waiting, Going.begin_going}
 use Rattle.answer_tests.proofs.gates.SecondIsShortGate.burst.Goals as goal
 
 -- a task that comes back as it was is a burst that ended for want of memory

@@ -1,7 +1,6 @@
 use Rattle.std.proofs.Common.{◌∙◌, ◌+◌, ◌-◌, ap, sym, subst, arith, ℕ, List, map}
 use Rattle.std.specs.Prelude.{All, slice_range}
-use Rattle.block_schedule.specs.declared.tables.Slot.{Slot}
-use Rattle.block_schedule.specs.Schedules.{placed, IsSlotOf}
+use Rattle.block_schedule.specs.{declared.tables.Slot.Slot, Schedules.placed, Schedules.IsSlotOf}
 use Rattle.block_schedule.proofs.Due.{same_bound, newest_rank, in_one_phase, many_ranks, due_is, slots_inside}
 use Rattle.block_schedule.proofs.schedule.Schedule.due.Goals as goal
 

@@ -1,5 +1,4 @@
-use Rattle.std.proofs.Common.{arith}
-use Rattle.std.proofs.Math.Nat.{div-le_self}
+use Rattle.std.proofs.{Common.arith, Math.Nat.div-le_self}
 use Rattle.block_schedule.proofs.Live.{live_by_most, newest_alone}
 use Rattle.block_schedule.proofs.schedule.Schedule.live_count.Goals as goal
 

@@ -3,15 +3,10 @@ use Rattle.std.proofs.lemmas.Bool.{and_parts}
 use Rattle.query_log.specs.Logs.{log_at}
 use Rattle.time_engine.specs.Cycles.{MayTake, determined}
 use Rattle.time_engine.proofs.Candidates.{determined_takes}
-use Rattle.engine_view.specs.Held.{step_of, are_among}
-use Rattle.engine_view.specs.Engines.{held_in}
-use Rattle.engine_view.specs.Turns.{first_of}
-use Rattle.engine_view.proofs.Bounds.{candidate_is}
-use Rattle.engine_view.proofs.Leaving.{less_assigned}
-use Rattle.engine_view.proofs.Turning.{IsFirst}
-use Rattle.engine_view.proofs.Turning as turning
-use Rattle.engine_view.proofs.engine.Engine.assign_first.Given.{Over}
+use Rattle.engine_view.specs.{Held.step_of, Held.are_among, Engines.held_in, Turns.first_of}
+use Rattle.engine_view.proofs.{Bounds.candidate_is, Leaving.less_assigned, Turning.IsFirst, engine.Engine.assign_first.Given.Over}
 use Rattle.engine_view.proofs.engine.Engine.assign_first.Goals.{Start}
+use Rattle.engine_view.proofs.Turning as turning
 use Rattle.engine_view.proofs.engine.Engine.assign_first.Goals as goal
 
 -- what stands of the step, whatever modules are over

@@ -1,21 +1,14 @@
 use Rattle.std.proofs.Common.{◌≡◌, refl, sym, ap, ◌∙◌, ℕ, Bool, List, [], arith}
 use Rattle.std.proofs.lemmas.List.{get_or-set_other}
 use Rattle.flow_design.specs.declared.state.ModuleState.{ModuleState}
-use Rattle.flow_word.specs.declared.access.Access.{Access}
-use Rattle.flow_word.specs.declared.access.Step.{Step}
+use Rattle.flow_word.specs.{declared.access.Access.Access, declared.access.Step.Step}
 use Rattle.event_timing.specs.Machines.{Design, IsDesign}
 use Rattle.query_log.specs.Logs.{no_log}
-use Rattle.engine_view.specs.Held.{step_of, queries_in}
-use Rattle.engine_view.specs.Engines.{held_in}
-use Rattle.engine_view.specs.Kept.{IsKept}
-use Rattle.engine_view.specs.Turns.{first_of}
-use Rattle.engine_view.proofs.Unsure.{IsUnsure, answered_on}
-use Rattle.engine_view.proofs.Roomy.{few_queries}
-use Rattle.engine_view.proofs.Resolving.{first_is}
-use Rattle.engine_view.proofs.Confirming.{unsure_in, recorded_in}
+use Rattle.engine_view.specs.{Held.step_of, Held.queries_in, Engines.held_in, Kept.IsKept, Turns.first_of}
+use Rattle.engine_view.proofs.{Unsure.IsUnsure, Unsure.answered_on, Roomy.few_queries, Resolving.first_is, Confirming.unsure_in}
+use Rattle.engine_view.proofs.{Confirming.recorded_in, engine.Engine.confirm_outcomes.Goals.After-step-step}
 use Rattle.engine_view.proofs.Confirming as confirming
 use Rattle.event_graph.specs.Packed.{whole}
-use Rattle.engine_view.proofs.engine.Engine.confirm_outcomes.Goals.{After-step-step}
 use Rattle.engine_view.proofs.engine.Engine.confirm_outcomes.Goals as goal
 
 -- the module's first step without a cycle

@@ -1,5 +1,4 @@
-use Rattle.std.proofs.Common.{refl, drop, arith, rules}
-use Rattle.std.proofs.lemmas.List.{get_or_read}
+use Rattle.std.proofs.{Common.refl, Common.drop, Common.arith, Common.rules, lemmas.List.get_or_read}
 use Rattle.query_log.specs.Logs.{log_at}
 use Rattle.engine_view.proofs.Adding.{done_first}
 use Rattle.engine_view.proofs.engine.Engine.emit_few.Goals as goal

@@ -1,16 +1,10 @@
 use Rattle.std.proofs.Common.{refl, sym, ap, ◌∙◌, Bool, List, [], inl, arith}
 use Rattle.flow_word.specs.declared.access.Step.{Step}
-use Rattle.event_graph.specs.Lanes.{no_lane}
-use Rattle.engine_view.specs.Held.{no_step}
-use Rattle.engine_view.specs.Engines.{held_in}
-use Rattle.engine_view.specs.Turns.{first_of}
-use Rattle.engine_view.proofs.Leaving.{less_answered}
-use Rattle.engine_view.proofs.Unsure.{verified_now}
-use Rattle.engine_view.proofs.Turning.{IsFirst, is_first}
+use Rattle.event_graph.specs.{Lanes.no_lane, Packed.whole}
+use Rattle.engine_view.specs.{Held.no_step, Engines.held_in, Turns.first_of}
+use Rattle.engine_view.proofs.{Leaving.less_answered, Unsure.verified_now, Turning.IsFirst, Turning.is_first}
+use Rattle.engine_view.proofs.{engine.Engine.time_asking.Given.Over, engine.Engine.time_asking.Goals.After-step-first}
 use Rattle.engine_view.proofs.Turning as turning
-use Rattle.event_graph.specs.Packed.{whole}
-use Rattle.engine_view.proofs.engine.Engine.time_asking.Given.{Over}
-use Rattle.engine_view.proofs.engine.Engine.time_asking.Goals.{After-step-first}
 use Rattle.engine_view.proofs.engine.Engine.time_asking.Goals as goal
 
 first : (g : Over) (c : After-step-first g) (over : List Bool)

@@ -1,9 +1,6 @@
-use Rattle.std.proofs.Common.{◌<◌, length}
-use Rattle.std.proofs.Math.Seq.{map-set_same}
-use Rattle.std.proofs.lemmas.List.{length-set, length-map}
+use Rattle.std.proofs.{Common.◌<◌, Common.length, Math.Seq.map-set_same, lemmas.List.length-set, lemmas.List.length-map}
 use Rattle.std.proofs.lemmas.Result.{on_ok_weaker, on_err_weaker}
-use Rattle.event_graph.specs.Lanes.{Lane, no_lane, longer}
-use Rattle.event_graph.specs.Roomed.{RoomedLane}
+use Rattle.event_graph.specs.{Lanes.Lane, Lanes.no_lane, Lanes.longer, Roomed.RoomedLane}
 use Rattle.flow_word.proofs.Changed.{shown_set}
 use Rattle.event_graph.proofs.Growth.{all_sound, used_place}
 use Rattle.event_graph.proofs.graph.Graph.push_step.Goals as goal

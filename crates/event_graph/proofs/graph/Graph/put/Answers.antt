@@ -1,8 +1,5 @@
-use Rattle.std.proofs.Common.{◌<◌, length}
-use Rattle.std.proofs.Math.Seq.{map-set_same}
-use Rattle.std.proofs.lemmas.List.{length-set, length-map}
-use Rattle.event_graph.specs.Lanes.{Lane, no_lane, put_in}
-use Rattle.event_graph.specs.Roomed.{RoomedLane}
+use Rattle.std.proofs.{Common.◌<◌, Common.length, Math.Seq.map-set_same, lemmas.List.length-set, lemmas.List.length-map}
+use Rattle.event_graph.specs.{Lanes.Lane, Lanes.no_lane, Lanes.put_in, Roomed.RoomedLane}
 use Rattle.flow_word.proofs.Changed.{shown_set}
 use Rattle.event_graph.proofs.Growth.{all_sound}
 use Rattle.event_graph.proofs.graph.Graph.put.Goals as goal

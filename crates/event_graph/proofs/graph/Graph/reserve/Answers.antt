@@ -1,7 +1,5 @@
-use Rattle.std.proofs.Common.{◌<◌, length}
-use Rattle.std.proofs.Math.Seq.{map-set_same}
+use Rattle.std.proofs.{Common.◌<◌, Common.length, Math.Seq.map-set_same, lemmas.Result.on_ok_weaker}
 use Rattle.std.proofs.lemmas.List.{length-set, length-map}
-use Rattle.std.proofs.lemmas.Result.{on_ok_weaker}
 use Rattle.event_graph.specs.Roomed.{RoomedLane}
 use Rattle.flow_word.proofs.Changed.{shown_new, shown_kept}
 use Rattle.event_graph.proofs.Growth.{all_sound}

@@ -1,7 +1,5 @@
-use Rattle.std.proofs.Common.{◌<◌, length}
-use Rattle.std.proofs.lemmas.List.{length-set, length-map}
-use Rattle.event_graph.specs.Lanes.{Lane, no_lane, timed}
-use Rattle.event_graph.specs.Roomed.{RoomedLane}
+use Rattle.std.proofs.{Common.◌<◌, Common.length, lemmas.List.length-set, lemmas.List.length-map}
+use Rattle.event_graph.specs.{Lanes.Lane, Lanes.no_lane, Lanes.timed, Roomed.RoomedLane}
 use Rattle.flow_word.proofs.Changed.{shown_set, shown_kept}
 use Rattle.event_graph.proofs.Growth.{all_sound}
 use Rattle.event_graph.proofs.graph.Graph.set_cycle.Goals as goal

@@ -1,5 +1,4 @@
-use Rattle.std.proofs.Common.{arith, ap, length, length-append}
-use Rattle.std.proofs.lemmas.Grind.{common_steps}
+use Rattle.std.proofs.{Common.arith, Common.ap, Common.length, Common.length-append, lemmas.Grind.common_steps}
 use Rattle.event_graph.proofs.Growth.{longer_sound}
 use Rattle.event_graph.proofs.lane.RoomyLane.push_step.Goals as goal
 

@@ -1,7 +1,6 @@
 use Rattle.std.proofs.Common.{[], ◌∷◌, arith, length, ap, length-append}
 use Rattle.event_graph.proofs.Packing.{few_kept, opened_with, inside_with}
-use Rattle.event_graph.specs.Packed.{whole, IsKept}
-use Rattle.event_graph.specs.declared.steps.Head.{Head}
+use Rattle.event_graph.specs.{Packed.whole, Packed.IsKept, declared.steps.Head.Head}
 use Rattle.event_graph.proofs.steps.StepList.push_few.Goals as goal
 
 -- the head of the step

@@ -1,5 +1,4 @@
-use Rattle.std.proofs.Common.{arith}
-use Rattle.std.proofs.lemmas.Option.{slice_get-map}
+use Rattle.std.proofs.{Common.arith, lemmas.Option.slice_get-map}
 use Rattle.fifo_table.specs.declared.channel.Pushed.{Pushed}
 use Rattle.fifo_table.proofs.pushes.Pushes.get.Goals as goal
 

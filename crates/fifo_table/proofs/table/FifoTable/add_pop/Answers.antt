@@ -1,11 +1,7 @@
 use Rattle.std.proofs.Common.{refl, ap, List, ◌++◌, [], ◌∷◌, ◌<◌, length, arith}
-use Rattle.std.proofs.Math.Seq.{map-set_same}
-use Rattle.std.proofs.lemmas.List.{length-map}
-use Rattle.std.proofs.lemmas.Result.{on_ok_weaker, on_err_weaker}
-use Rattle.fifo_table.specs.declared.channel.RoomyChannel.{RoomyChannel}
-use Rattle.fifo_table.specs.Channels.{Channel, unused}
+use Rattle.std.proofs.{Math.Seq.map-set_same, lemmas.List.length-map, lemmas.Result.on_ok_weaker, lemmas.Result.on_err_weaker}
+use Rattle.fifo_table.specs.{declared.channel.RoomyChannel.RoomyChannel, Channels.Channel, Channels.unused, Roomed.channel_of}
 use Rattle.fifo_table.specs.declared.channel.TableChannel.TheVariants.{Sink}
-use Rattle.fifo_table.specs.Roomed.{channel_of}
 use Rattle.flow_word.proofs.Changed.{shown_set, shown_old, shown_new, shown_other}
 use Rattle.fifo_table.proofs.SoundKinds.{replaced, read_kind}
 use Rattle.flow_word.specs.declared.access.Place.{Place}

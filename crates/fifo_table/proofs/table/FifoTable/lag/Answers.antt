@@ -1,5 +1,4 @@
-use Rattle.std.proofs.Common.{◌<◌, length}
-use Rattle.std.proofs.lemmas.List.{length-map}
+use Rattle.std.proofs.{Common.◌<◌, Common.length, lemmas.List.length-map}
 use Rattle.fifo_table.proofs.SoundKinds.{read_kind, lag_least, lag_most}
 use Rattle.fifo_table.proofs.table.FifoTable.lag.Goals as goal
 

@@ -1,7 +1,5 @@
-use Rattle.std.proofs.Common.{ap, length, arith}
-use Rattle.std.proofs.lemmas.List.{take_all, length-map}
-use Rattle.fifo_table.specs.Channels.{unused}
-use Rattle.fifo_table.specs.Roomed.{channel_of}
+use Rattle.std.proofs.{Common.ap, Common.length, Common.arith, lemmas.List.take_all, lemmas.List.length-map}
+use Rattle.fifo_table.specs.{Channels.unused, Roomed.channel_of}
 use Rattle.fifo_table.proofs.SoundKinds.{made_sound}
 use Rattle.fifo_table.proofs.table.FifoTable.new.Goals as goal
 

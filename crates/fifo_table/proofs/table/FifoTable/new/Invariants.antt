@@ -1,6 +1,5 @@
 use Rattle.std.proofs.Common.{◌≡◌, map, take}
-use Rattle.fifo_table.specs.Channels.{unused}
-use Rattle.fifo_table.specs.Roomed.{channels_of}
+use Rattle.fifo_table.specs.{Channels.unused, Roomed.channels_of}
 use Rattle.fifo_table.proofs.table.FifoTable.new.Given as goal
 
 -- the channels so far were made

@@ -1,10 +1,6 @@
-use Rattle.std.proofs.Common.{refl, ◌<◌, length}
-use Rattle.std.proofs.Math.Seq.{map-set_same}
-use Rattle.std.proofs.lemmas.List.{length-map}
-use Rattle.fifo_table.specs.declared.channel.RoomyChannel.{RoomyChannel}
-use Rattle.fifo_table.specs.Channels.{Channel, unused, deepened}
-use Rattle.fifo_table.specs.declared.channel.TableChannel.TheVariants.{Sink}
-use Rattle.fifo_table.specs.Roomed.{channel_of}
+use Rattle.std.proofs.{Common.refl, Common.◌<◌, Common.length, Math.Seq.map-set_same, lemmas.List.length-map}
+use Rattle.fifo_table.specs.{declared.channel.RoomyChannel.RoomyChannel, Channels.Channel, Channels.unused, Channels.deepened}
+use Rattle.fifo_table.specs.{declared.channel.TableChannel.TheVariants.Sink, Roomed.channel_of}
 use Rattle.flow_word.proofs.Changed.{shown_set}
 use Rattle.fifo_table.proofs.SoundKinds.{replaced, read_kind, deepened_sound}
 use Rattle.fifo_table.proofs.table.FifoTable.set_depth.Goals as goal

@@ -1,6 +1,5 @@
 use Rattle.std.proofs.Common.{◌∙◌, sym, ap, ℕ, List, [], ◌∷◌, ◌++◌}
-use Rattle.flow_design.proofs.Failing.{on_err}
-use Rattle.flow_design.proofs.Rings.{not_started, started_there}
+use Rattle.flow_design.proofs.{Failing.on_err, Rings.not_started, Rings.started_there}
 use Rattle.flow_design.proofs.temps.LiveTemps.start.Goals as goal
 
 pub returns-in_err-zero-clause-unchanged : goal.returns-in_err-zero-clause-unchanged

@@ -1,17 +1,11 @@
 use Rattle.std.proofs.Common.{◌≡◌, ◌∙◌, ap, subst, sym, arith, ℕ, List, length, take, get_or, eqb}
-use Rattle.std.specs.Prelude.{All, Contains}
-use Rattle.std.specs.List.Sorted.{IsStrictlyIncreasing}
-use Rattle.std.proofs.lemmas.List.{take_all}
+use Rattle.std.proofs.{lemmas.List.take_all, lemmas.List.Filters.dedup_is, lemmas.List.Kept.Contains-dedup_nat}
+use Rattle.std.proofs.{lemmas.List.Sorted.Contains-permutation, lemmas.Map.Keys.IsStrictlyIncreasing-dedup}
 use Rattle.std.proofs.lemmas.List.Elements.{All-more, All-weaker}
-use Rattle.std.proofs.lemmas.List.Filters.{dedup_is}
-use Rattle.std.proofs.lemmas.List.Kept.{Contains-dedup_nat}
-use Rattle.std.proofs.lemmas.List.Sorted.{Contains-permutation}
-use Rattle.std.proofs.lemmas.Map.Keys.{IsStrictlyIncreasing-dedup}
-use Rattle.flow_design.specs.declared.design.Block.{Block}
-use Rattle.flow_design.specs.declared.design.Timed.{Timed}
+use Rattle.std.specs.{Prelude.All, Prelude.Contains, List.Sorted.IsStrictlyIncreasing}
+use Rattle.flow_design.specs.{declared.design.Block.Block, declared.design.Timed.Timed}
 use Rattle.module_interp.specs.OwnChannels.{IsGathered}
-use Rattle.module_interp.proofs.Gathered.{gathered_more, used_gathered}
-use Rattle.module_interp.proofs.Places.{position_inside}
+use Rattle.module_interp.proofs.{Gathered.gathered_more, Gathered.used_gathered, Places.position_inside}
 use Rattle.module_interp.proofs.own_channels.OwnChannels.new.Goals as goal
 
 pub loop-block-preserved : goal.loop-block-preserved

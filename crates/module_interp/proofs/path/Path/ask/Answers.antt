@@ -1,6 +1,5 @@
 use Rattle.std.proofs.Common.{arith}
-use Rattle.module_interp.proofs.Timing.{module_sound}
-use Rattle.module_interp.proofs.Ways.{has_begun, code_read}
+use Rattle.module_interp.proofs.{Timing.module_sound, Ways.has_begun, Ways.code_read}
 use Rattle.module_interp.proofs.path.Path.ask.Goals as goal
 
 pub note-requires-clause-sound : goal.note-requires-clause-sound

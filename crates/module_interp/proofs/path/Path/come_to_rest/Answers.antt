@@ -1,5 +1,4 @@
-use Rattle.module_interp.proofs.Keeping.{still_path}
-use Rattle.module_interp.proofs.Ways.{then}
+use Rattle.module_interp.proofs.{Keeping.still_path, Ways.then}
 use Rattle.module_interp.proofs.path.Path.come_to_rest.Goals as goal
 
 pub returns-in_err-rests-clause-kept : goal.returns-in_err-rests-clause-kept

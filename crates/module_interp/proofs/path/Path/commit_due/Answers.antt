@@ -1,12 +1,9 @@
 use Rattle.std.proofs.Common.{◌≡◌, ◌∙◌, arith, List, get_or}
-use Rattle.block_code.specs.declared.code.BlockCode.{BlockCode}
-use Rattle.block_code.specs.declared.noted.Noted.{Noted}
+use Rattle.block_code.specs.{declared.code.BlockCode.BlockCode, declared.noted.Noted.Noted}
 use Rattle.module_move.specs.Sound.{CanCommit}
 use Rattle.module_move.proofs.Moving.{moved_is}
-use Rattle.module_interp.specs.declared.path.Path.{Path}
-use Rattle.module_interp.specs.Paths.{CanAnswer, IsPath}
-use Rattle.module_interp.proofs.Timing.{module_sound}
-use Rattle.module_interp.proofs.Ways.{code_read}
+use Rattle.module_interp.specs.{declared.path.Path.Path, Paths.CanAnswer, Paths.IsPath}
+use Rattle.module_interp.proofs.{Timing.module_sound, Ways.code_read}
 use Rattle.module_interp.proofs.path.Path.commit_due.Goals as goal
 
 can_commit : (x : Path) (path : IsPath x) → CanAnswer x → (xs : List BlockCode) (d : BlockCode) → xs ≡ x.codes

@@ -1,5 +1,4 @@
-use Rattle.module_interp.proofs.Keeping.{still_path}
-use Rattle.module_interp.proofs.Ways.{then}
+use Rattle.module_interp.proofs.{Keeping.still_path, Ways.then}
 use Rattle.module_interp.proofs.path.Path.go_a_way.Goals as goal
 
 pub stands_still-requires-clause-path : goal.stands_still-requires-clause-path

@@ -1,5 +1,4 @@
-use Rattle.module_interp.proofs.Keeping.{still_path}
-use Rattle.module_interp.proofs.Ways.{looked_up, then}
+use Rattle.module_interp.proofs.{Keeping.still_path, Ways.looked_up, Ways.then}
 use Rattle.module_interp.proofs.path.Path.stands_still.Goals as goal
 
 pub returns-in_err-ask-clause-kept : goal.returns-in_err-ask-clause-kept

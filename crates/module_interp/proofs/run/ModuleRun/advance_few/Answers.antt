@@ -1,7 +1,5 @@
 use Rattle.std.proofs.Common.{arith}
-use Rattle.module_interp.proofs.Advancing.{at_step}
-use Rattle.module_interp.proofs.Feeding.{asked_stage}
-use Rattle.module_interp.proofs.Sound.{small_queries, small_accesses}
+use Rattle.module_interp.proofs.{Advancing.at_step, Feeding.asked_stage, Sound.small_queries, Sound.small_accesses}
 use Rattle.module_interp.proofs.run.ModuleRun.advance_few.Goals as goal
 
 pub list-requires-clause-step : goal.list-requires-clause-step

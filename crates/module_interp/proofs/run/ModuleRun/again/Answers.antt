@@ -1,9 +1,7 @@
 use Rattle.std.proofs.Common.{sym, subst}
 use Rattle.lockstep_defs.specs.Lockstep.{module_at}
-use Rattle.module_interp.specs.OwnRests.{done_in}
-use Rattle.module_interp.specs.Paths.{IsPathOf}
-use Rattle.module_interp.proofs.Opening.{first_stands}
-use Rattle.module_interp.proofs.Tallies.{same_ports}
+use Rattle.module_interp.specs.{OwnRests.done_in, Paths.IsPathOf}
+use Rattle.module_interp.proofs.{Opening.first_stands, Tallies.same_ports}
 use Rattle.module_interp.proofs.run.ModuleRun.again.Goals as goal
 
 pub returns-clause-stands : goal.returns-clause-stands

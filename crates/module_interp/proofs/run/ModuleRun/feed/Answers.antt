@@ -2,11 +2,8 @@ use Rattle.std.proofs.Common.{◌≡◌, ◌+◌, ◌^◌, ◌<◌, ◌++◌, �
 use Rattle.std.specs.Prelude.{All}
 use Rattle.flow_design.specs.declared.state.Request.{Request}
 use Rattle.flow_word.specs.Kinds.{side_of}
-use Rattle.lockstep_defs.specs.Lockstep.{module_at}
-use Rattle.lockstep_defs.specs.OwnRun.{paired}
-use Rattle.module_interp.specs.OwnRests.{done_in}
-use Rattle.module_interp.specs.Paths.{CanAnswer, IsPathOf, IsTallyOf, HasPort}
-use Rattle.module_interp.specs.declared.path.Path.{Path}
+use Rattle.lockstep_defs.specs.{Lockstep.module_at, OwnRun.paired}
+use Rattle.module_interp.specs.{OwnRests.done_in, Paths.CanAnswer, Paths.IsPathOf, Paths.IsTallyOf, Paths.HasPort, declared.path.Path.Path}
 use Rattle.module_interp.proofs.Tallies.{same_ports}
 use Rattle.module_interp.proofs.Feeding.{HasCommitted, asked_stage, waits_at, can_count, fed_stands}
 use Rattle.module_interp.proofs.run.ModuleRun.feed.Goals as goal

@@ -1,8 +1,7 @@
 use Rattle.std.proofs.Common.{sym, ◌∙◌}
 use Rattle.module_interp.specs.OwnRests.{done_in}
-use Rattle.module_interp.proofs.Listing.{few_before, listed_stands, listed_mark, listed_sound}
+use Rattle.module_interp.proofs.{Listing.few_before, Listing.listed_stands, Listing.listed_mark, Listing.listed_sound, Sound.sound_mark}
 use Rattle.module_interp.proofs.Listing as listing
-use Rattle.module_interp.proofs.Sound.{sound_mark}
 use Rattle.module_interp.proofs.run.ModuleRun.give.Goals as goal
 
 pub returns-then-path-clause-stands : goal.returns-then-path-clause-stands

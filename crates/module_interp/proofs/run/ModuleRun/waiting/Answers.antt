@@ -1,7 +1,5 @@
 use Rattle.std.proofs.Common.{ap, sym, ◌∙◌}
-use Rattle.module_interp.specs.declared.path.Path.{Path}
-use Rattle.module_interp.specs.OwnRests.{accesses_at}
-use Rattle.module_interp.specs.Runs.{is_asked, waits}
+use Rattle.module_interp.specs.{declared.path.Path.Path, OwnRests.accesses_at, Runs.is_asked, Runs.waits}
 use Rattle.module_interp.proofs.Sound.{some_accesses, some_wait}
 use Rattle.module_interp.proofs.run.ModuleRun.waiting.Goals as goal
 

@@ -1,6 +1,5 @@
 use Rattle.std.proofs.Common.{◌∙◌, sym, subst, arith}
-use Rattle.flow_word.specs.declared.access.Side.{Side}
-use Rattle.flow_word.specs.declared.access.Side.TheVariants.{Pop, Push}
+use Rattle.flow_word.specs.{declared.access.Side.Side, declared.access.Side.TheVariants.Pop, declared.access.Side.TheVariants.Push}
 use Rattle.lockstep_defs.specs.Machine.{value_in}
 use Rattle.module_interp.specs.Paths.{HasPort}
 use Rattle.module_interp.proofs.Tallies.{moved_few, counted_here, popped_same, pushed_same}

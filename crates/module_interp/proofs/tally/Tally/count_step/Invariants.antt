@@ -1,6 +1,5 @@
 use Rattle.std.proofs.Common.{◌≡◌, ◌++◌, List, take}
-use Rattle.lockstep_defs.specs.Channels.{Exchange}
-use Rattle.lockstep_defs.specs.OwnRun.{paired}
+use Rattle.lockstep_defs.specs.{Channels.Exchange, OwnRun.paired}
 use Rattle.module_interp.specs.Paths.{IsTallyOf}
 use Rattle.module_interp.proofs.tally.Tally.count_step.Given as goal
 

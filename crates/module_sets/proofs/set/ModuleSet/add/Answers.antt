@@ -1,6 +1,5 @@
 use Rattle.std.proofs.Common.{arith}
-use Rattle.module_sets.proofs.Bits.{one_at}
-use Rattle.module_sets.proofs.Words.{added}
+use Rattle.module_sets.proofs.{Bits.one_at, Words.added}
 use Rattle.module_sets.proofs.set.ModuleSet.add.Goals as goal
 
 pub returns : goal.returns

@@ -1,6 +1,5 @@
-use Rattle.std.proofs.Common.{ℕ, List, sym, subst}
+use Rattle.std.proofs.{Common.ℕ, Common.List, Common.sym, Common.subst, lemmas.List.length-replicate}
 use Rattle.module_sets.specs.Sets.{Has}
-use Rattle.std.proofs.lemmas.List.{length-replicate}
 use Rattle.module_sets.proofs.Words.{all_in}
 use Rattle.module_sets.proofs.set.ModuleSet.fill.Goals as goal
 

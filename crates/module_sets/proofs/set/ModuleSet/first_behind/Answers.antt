@@ -1,5 +1,4 @@
-use Rattle.std.proofs.Common.{arith, ◌*◌, ◌<◌, length, inl, inr, refl}
-use Rattle.std.proofs.lemmas.Bool.{cases_lt}
+use Rattle.std.proofs.{Common.arith, Common.◌*◌, Common.◌<◌, Common.length, Common.inl, Common.inr, Common.refl, lemmas.Bool.cases_lt}
 use Rattle.module_sets.proofs.Words.{first_is, none_is, none_beyond, read}
 use Rattle.module_sets.proofs.set.ModuleSet.first_behind.Goals as goal
 

@@ -1,5 +1,4 @@
-use Rattle.std.proofs.Common.{arith, ◌/◌}
-use Rattle.std.proofs.lemmas.Bool.{eqb-true, eqb-false}
+use Rattle.std.proofs.{Common.arith, Common.◌/◌, lemmas.Bool.eqb-true, lemmas.Bool.eqb-false}
 use Rattle.module_sets.proofs.Words.{has, bit_in, none_beyond, read}
 use Rattle.module_sets.proofs.set.ModuleSet.has.Goals as goal
 

@@ -1,6 +1,5 @@
 use Rattle.std.proofs.Common.{arith, ◌/◌}
-use Rattle.module_sets.proofs.Bits.{one_at}
-use Rattle.module_sets.proofs.Words.{removed, not_there, read}
+use Rattle.module_sets.proofs.{Bits.one_at, Words.removed, Words.not_there, Words.read}
 use Rattle.module_sets.proofs.set.ModuleSet.remove.Goals as goal
 
 pub returns-then-word-len : goal.returns-then-word-len

@@ -1,7 +1,5 @@
-use Rattle.std.proofs.Common.{◌<◌, length, arith}
-use Rattle.std.proofs.lemmas.List.{length-map}
-use Rattle.query_log.specs.declared.roomy.RoomyLog.{RoomyLog}
-use Rattle.query_log.specs.Logs.{Log, no_log, answered, log_of}
+use Rattle.std.proofs.{Common.◌<◌, Common.length, Common.arith, lemmas.List.length-map}
+use Rattle.query_log.specs.{declared.roomy.RoomyLog.RoomyLog, Logs.Log, Logs.no_log, Logs.answered, Logs.log_of}
 use Rattle.flow_word.proofs.Changed.{shown_set, shown_old, shown_new, shown_other}
 use Rattle.query_log.proofs.SoundLogs.{replaced, read_sound, read_log, answered_sound}
 use Rattle.query_log.proofs.log.QueryLog.add.Goals as goal

@@ -1,8 +1,5 @@
-use Rattle.std.proofs.Common.{refl, ◌+◌, ◌<◌, length, arith}
-use Rattle.std.proofs.Math.Seq.{map-set_same}
-use Rattle.std.proofs.lemmas.List.{length-map}
-use Rattle.query_log.specs.declared.roomy.RoomyLog.{RoomyLog}
-use Rattle.query_log.specs.Logs.{Log, no_log, log_of}
+use Rattle.std.proofs.{Common.refl, Common.◌+◌, Common.◌<◌, Common.length, Common.arith, Math.Seq.map-set_same, lemmas.List.length-map}
+use Rattle.query_log.specs.{declared.roomy.RoomyLog.RoomyLog, Logs.Log, Logs.no_log, Logs.log_of}
 use Rattle.flow_word.proofs.Changed.{shown_set}
 use Rattle.query_log.proofs.SoundLogs.{replaced, read_log}
 use Rattle.query_log.proofs.log.QueryLog.verify_next.Goals as goal

@@ -1,10 +1,7 @@
-use Rattle.std.proofs.Common.{rules, ◌≡◌, ◌++◌, ◌∷◌, [], ap, List, map, length, Some, None, arith, Bor, cond}
-use Rattle.std.proofs.Common.{length-append}
-use Rattle.std.specs.Option.{option_or}
-use Rattle.std.specs.Str.{bytes_eq}
+use Rattle.std.proofs.Common.{rules, ◌≡◌, ◌++◌, ◌∷◌, [], ap, List, map, length, Some, None, arith, Bor, cond, length-append}
 use Rattle.std.proofs.lemmas.List.{length-map, map-append}
-use Rattle.session_plan.specs.Names.{Name}
-use Rattle.session_plan.specs.NameTables.{number_at}
+use Rattle.std.specs.{Option.option_or, Str.bytes_eq}
+use Rattle.session_plan.specs.{Names.Name, NameTables.number_at}
 use Rattle.session_plan.proofs.NameLemmas.{place_behind}
 use Rattle.session_plan.proofs.names.Names.add.Goals as goal
 

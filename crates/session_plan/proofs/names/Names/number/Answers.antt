@@ -1,5 +1,4 @@
-use Rattle.std.proofs.Common.{map, arith}
-use Rattle.std.proofs.lemmas.List.{length-map}
+use Rattle.std.proofs.{Common.map, Common.arith, lemmas.List.length-map}
 use Rattle.session_plan.proofs.NameLemmas.{place_below}
 use Rattle.session_plan.proofs.names.Names.number.Goals as goal
 

@@ -1,15 +1,11 @@
 use Rattle.std.proofs.Common.{◌≤◌, ◌∙◌, sym, ap, subst, List, length, arith}
-use Rattle.std.specs.Prelude.{All, flat_map}
 use Rattle.std.proofs.lemmas.List.{take_all}
+use Rattle.std.specs.Prelude.{All, flat_map}
 use Rattle.event_timing.specs.Actions.{IsFinal}
 use Rattle.timing_bridge.specs.Designs.{design}
-use Rattle.engine_report.specs.declared.events.TimedStep.{TimedStep}
-use Rattle.engine_report.specs.Keys.{IsTimedKey}
-use Rattle.engine_view.specs.Held.{Held}
-use Rattle.engine_view.specs.Engines.{held_in}
-use Rattle.sim_core.specs.AccessLog.{logged_at}
-use Rattle.sim_core.specs.Runs.{over_of}
-use Rattle.sim_core.specs.Views.{CoreView, theory_of}
+use Rattle.engine_report.specs.{declared.events.TimedStep.TimedStep, Keys.IsTimedKey}
+use Rattle.engine_view.specs.{Held.Held, Engines.held_in}
+use Rattle.sim_core.specs.{AccessLog.logged_at, Runs.over_of, Views.CoreView, Views.theory_of}
 use Rattle.sim_core.proofs.AccessLogs as log
 use Rattle.sim_core.proofs.machine.Core.access_log.Goals as goal
 

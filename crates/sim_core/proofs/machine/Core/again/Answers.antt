@@ -2,8 +2,7 @@ use Rattle.std.proofs.Common.{◌≡◌, ◌∙◌, ap, subst, sym, IfOk}
 use Rattle.flow_design.specs.declared.plan.Plan.{Plan}
 use Rattle.event_timing.specs.Core.{opening_core}
 use Rattle.timing_bridge.specs.Designs.{design}
-use Rattle.sim_core.specs.Opening.{AreOlderRuns}
-use Rattle.sim_core.specs.Views.{CoreView, theory_of}
+use Rattle.sim_core.specs.{Opening.AreOlderRuns, Views.CoreView, Views.theory_of}
 use Rattle.sim_core.proofs.Beginning.{core_runs, stored_left}
 use Rattle.sim_core.proofs.machine.Core.again.Goals as goal
 

@@ -1,7 +1,5 @@
 use Rattle.std.proofs.Common.{ap, refl, arith}
-use Rattle.engine_view.specs.declared.engine.Engine.{Engine}
-use Rattle.engine_view.specs.declared.turn.Timing.TheVariants.{Assigned}
-use Rattle.engine_view.specs.Taking.{kinds_in}
+use Rattle.engine_view.specs.{declared.engine.Engine.Engine, declared.turn.Timing.TheVariants.Assigned, Taking.kinds_in}
 use Rattle.sim_core.proofs.Timed as timed
 use Rattle.sim_core.proofs.machine.Core.assign.Goals as goal
 

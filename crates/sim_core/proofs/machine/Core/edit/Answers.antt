@@ -3,17 +3,11 @@ use Rattle.flow_design.specs.Plans.{EditFits, with_depth}
 use Rattle.event_timing.specs.Actions.{IsFinal}
 use Rattle.timing_bridge.specs.Designs.{design}
 use Rattle.retime.specs.Edits.{IsEditFrom}
-use Rattle.engine_view.specs.Held.{core_of}
-use Rattle.engine_view.specs.declared.engine.Engine.{Engine}
-use Rattle.engine_view.specs.Engines.{held_in}
-use Rattle.sim_core.specs.Runs.{lent_of, over_of}
-use Rattle.sim_core.specs.Views.{CoreView}
+use Rattle.engine_view.specs.{Held.core_of, declared.engine.Engine.Engine, Engines.held_in}
+use Rattle.sim_core.specs.{Runs.lent_of, Runs.over_of, Views.CoreView}
 use Rattle.sim_core.proofs.EditedRuns.{channel_inside, fifo_there, edit_in}
+use Rattle.sim_core.proofs.{Editing.IsRetiming, Turning.some_core, machine.Core.edit.Given.Over, machine.Core.edit.Goals.After-retime}
 use Rattle.sim_core.proofs.Editing as editing
-use Rattle.sim_core.proofs.Editing.{IsRetiming}
-use Rattle.sim_core.proofs.Turning.{some_core}
-use Rattle.sim_core.proofs.machine.Core.edit.Given.{Over}
-use Rattle.sim_core.proofs.machine.Core.edit.Goals.{After-retime}
 use Rattle.sim_core.proofs.machine.Core.edit.Goals as goal
 
 pub depth-requires-clause-channel : goal.depth-requires-clause-channel

@@ -1,20 +1,14 @@
 use Rattle.std.proofs.Common.{◌≡◌, refl, subst, ℕ, ◌<◌, List, Option, length, arith}
-use Rattle.flow_design.specs.declared.plan.Plan.{Plan}
-use Rattle.flow_design.specs.declared.state.Advance.{Advance}
+use Rattle.flow_design.specs.{declared.plan.Plan.Plan, declared.state.Advance.Advance}
 use Rattle.module_interp.specs.declared.run.ModuleRun.{ModuleRun}
-use Rattle.event_timing.specs.Actions.{Acts, ActsAll}
-use Rattle.event_timing.specs.Actions.Action.{Run}
+use Rattle.event_timing.specs.{Actions.Acts, Actions.ActsAll, Actions.Action.Run}
 use Rattle.event_timing.specs.Actions as actions
 use Rattle.timing_bridge.specs.Designs.{design}
-use Rattle.engine_view.specs.Held.{Held, core_of}
-use Rattle.engine_view.specs.declared.engine.Engine.{Engine}
-use Rattle.engine_view.specs.Engines.{held_in}
-use Rattle.sim_core.specs.Returned.{CanGoOn, core_in}
-use Rattle.sim_core.specs.Runs.{IsCore, over_of}
+use Rattle.engine_view.specs.{Held.Held, Held.core_of, declared.engine.Engine.Engine, Engines.held_in}
+use Rattle.sim_core.specs.{Returned.CanGoOn, Returned.core_in, Runs.IsCore, Runs.over_of}
 use Rattle.sim_core.proofs.Lending as lending
-use Rattle.sim_core.proofs.QueryRoom.{bodies_told}
+use Rattle.sim_core.proofs.{QueryRoom.bodies_told, machine.Core.emit_next.Goals.In_ok-make_room}
 use Rattle.sim_core.proofs.Roomed as roomed
-use Rattle.sim_core.proofs.machine.Core.emit_next.Goals.{In_ok-make_room}
 use Rattle.sim_core.proofs.machine.Core.emit_next.Goals as goal
 
 -- with room for the next mark

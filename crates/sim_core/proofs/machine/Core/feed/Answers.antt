@@ -2,8 +2,7 @@ use Rattle.std.proofs.Common.{true, ◌≡◌, refl, sym, ◌∙◌, ◌-◌, �
 use Rattle.flow_word.specs.declared.access.Step.{Step}
 use Rattle.timing_bridge.specs.Designs.{design}
 use Rattle.module_interp.specs.Runs.{waits}
-use Rattle.engine_view.specs.Held.{Held, core_of, step_of, emitted_of}
-use Rattle.engine_view.specs.Engines.{held_in}
+use Rattle.engine_view.specs.{Held.Held, Held.core_of, Held.step_of, Held.emitted_of, Engines.held_in}
 use Rattle.sim_core.specs.Runs.{IsRunOf, over_of}
 use Rattle.sim_core.proofs.Fed as fed
 use Rattle.sim_core.proofs.machine.Core.feed.Goals.{After-waiting}

@@ -1,6 +1,5 @@
 use Rattle.std.proofs.Common.{◌≡◌, suc, ◌<◌, sym, ap, ◌∙◌, length, is_some, not, arith}
-use Rattle.engine_view.specs.Held.{Held, emitted_of}
-use Rattle.engine_view.specs.Engines.{held_in}
+use Rattle.engine_view.specs.{Held.Held, Held.emitted_of, Engines.held_in}
 use Rattle.sim_core.specs.Runs.{over_of}
 use Rattle.sim_core.proofs.Fed as fed
 use Rattle.sim_core.proofs.machine.Core.is_answered.Goals.{After-step-step}

@@ -1,5 +1,4 @@
-use Rattle.std.proofs.Common.{subst, ℕ, inl, inr, arith}
-use Rattle.std.proofs.lemmas.Bool.{cases_lt}
+use Rattle.std.proofs.{Common.subst, Common.ℕ, Common.inl, Common.inr, Common.arith, lemmas.Bool.cases_lt}
 use Rattle.sim_core.specs.Timings.{HasMore}
 use Rattle.sim_core.proofs.TimingRounds as timing
 use Rattle.sim_core.proofs.machine.Core.is_final.Goals as goal

@@ -1,7 +1,6 @@
 use Rattle.std.proofs.Common.{ap, List, length, arith}
 use Rattle.flow_word.specs.declared.access.Access.{Access}
-use Rattle.engine_view.specs.Held.{Held}
-use Rattle.engine_view.specs.Engines.{held_in}
+use Rattle.engine_view.specs.{Held.Held, Engines.held_in}
 use Rattle.sim_core.specs.Runs.{over_of}
 use Rattle.sim_core.proofs.AccessLogs as log
 use Rattle.event_graph.specs.Packed.{whole}

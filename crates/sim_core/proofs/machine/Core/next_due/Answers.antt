@@ -1,10 +1,7 @@
 use Rattle.std.proofs.Common.{◌≡◌, ℕ, ◌<◌, ◌≤◌, Option, None, Some, length, arith}
 use Rattle.std.specs.Prelude.{IfSome}
 use Rattle.engine_view.specs.Engines.{held_in}
-use Rattle.sim_core.specs.declared.due.Due.{Due}
-use Rattle.sim_core.specs.Runs.{lent_of, over_of}
-use Rattle.sim_core.specs.Turns.{IsStill}
-use Rattle.sim_core.specs.Views.{CoreView, theory_of}
+use Rattle.sim_core.specs.{declared.due.Due.Due, Runs.lent_of, Runs.over_of, Turns.IsStill, Views.CoreView, Views.theory_of}
 use Rattle.sim_core.specs.Waking.{AreDue, IsOutside}
 use Rattle.sim_core.proofs.Waking.{still_outside}
 use Rattle.sim_core.proofs.machine.Core.next_due.Goals as goal

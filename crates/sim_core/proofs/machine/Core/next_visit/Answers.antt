@@ -1,5 +1,4 @@
-use Rattle.std.proofs.Common.{refl, ◌+◌, ◌<◌, inl, inr, arith}
-use Rattle.std.proofs.lemmas.Bool.{cases_lt}
+use Rattle.std.proofs.{Common.refl, Common.◌+◌, Common.◌<◌, Common.inl, Common.inr, Common.arith, lemmas.Bool.cases_lt}
 use Rattle.sim_core.proofs.Rounds.{visits_fall, visits_pass}
 use Rattle.sim_core.proofs.machine.Core.next_visit.Goals as goal
 

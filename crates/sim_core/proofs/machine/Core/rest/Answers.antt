@@ -1,6 +1,5 @@
 use Rattle.std.proofs.Common.{refl}
-use Rattle.sim_core.proofs.Listing.{listed_fewer}
-use Rattle.sim_core.proofs.Waking.{waking_less}
+use Rattle.sim_core.proofs.{Listing.listed_fewer, Waking.waking_less}
 use Rattle.sim_core.proofs.machine.Core.rest.Goals as goal
 
 pub invariant_of-self : goal.invariant_of-self

@@ -1,7 +1,6 @@
 use Rattle.std.proofs.lemmas.Result.{IfOk-weaker, on_err_weaker}
-use Rattle.sim_core.proofs.Lending.{IsRoundTrip}
+use Rattle.sim_core.proofs.{Lending.IsRoundTrip, machine.Core.run.Goals.After-put_back}
 use Rattle.sim_core.proofs.Lending as lending
-use Rattle.sim_core.proofs.machine.Core.run.Goals.{After-put_back}
 use Rattle.sim_core.proofs.machine.Core.run.Goals as goal
 
 trip : (c : After-put_back) → IsRoundTrip c.args.self.now c.take_out.new.self c.run_with-ran.new.self c.put_back.new.self c.args.owner

@@ -1,8 +1,6 @@
 use Rattle.std.proofs.lemmas.Result.{IfOk-weaker, on_err_weaker}
-use Rattle.sim_core.proofs.Lending.{IsRoundTrip}
+use Rattle.sim_core.proofs.{Lending.IsRoundTrip, machine.Core.run_on.Given.Over, machine.Core.run_on.Goals.After-put_back}
 use Rattle.sim_core.proofs.Lending as lending
-use Rattle.sim_core.proofs.machine.Core.run_on.Given.{Over}
-use Rattle.sim_core.proofs.machine.Core.run_on.Goals.{After-put_back}
 use Rattle.sim_core.proofs.machine.Core.run_on.Goals as goal
 
 trip : (g : Over) (c : After-put_back g) → IsRoundTrip c.args.self.now c.take_out.new.self c.run_stretch-ran.new.self

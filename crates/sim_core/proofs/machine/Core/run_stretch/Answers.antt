@@ -1,7 +1,6 @@
 use Rattle.std.proofs.Common.{refl, sym, subst}
 use Rattle.std.specs.Prelude.{Result, Ok, Err, OnErr}
-use Rattle.sim_core.specs.Views.{CoreView}
-use Rattle.sim_core.specs.Drives.{Goes}
+use Rattle.sim_core.specs.{Views.CoreView, Drives.Goes}
 use Rattle.sim_core.proofs.Rounds as rounds
 use Rattle.sim_core.proofs.machine.Core.run_stretch.Goals as goal
 

@@ -1,5 +1,4 @@
-use Rattle.sim_core.specs.Drives.{GoesOn}
-use Rattle.sim_core.specs.Runs.{IsOut}
+use Rattle.sim_core.specs.{Drives.GoesOn, Runs.IsOut}
 use Rattle.sim_core.proofs.machine.Core.run_stretch.Given as goal
 
 abbrev pub invariant-loop : goal.invariant-loop

@@ -1,17 +1,14 @@
-use Rattle.std.proofs.Common.{Option, ap, sym, subst, ◌∙◌, ◌<◌, length}
+use Rattle.std.proofs.{Common.Option, Common.ap, Common.sym, Common.subst, Common.◌∙◌, Common.◌<◌, Common.length, lemmas.Result.IfOk-weaker}
 use Rattle.std.specs.Prelude.{List as Items, IfOk}
-use Rattle.std.proofs.lemmas.Result.{IfOk-weaker}
-use Rattle.flow_design.specs.declared.state.Advance.{Advance}
+use Rattle.flow_design.specs.{declared.state.Advance.Advance, Reports.clock_of}
 use Rattle.lockstep_defs.specs.Verdict.{verdict}
-use Rattle.flow_design.specs.Reports.{clock_of}
 use Rattle.event_timing.specs.Actions.{IsFinal}
 use Rattle.timing_bridge.specs.Designs.{design}
 use Rattle.engine_view.specs.Engines.{held_in}
 use Rattle.engine_report.specs.Finished.{IsFinished}
 use Rattle.stall_spans.specs.Spans.{AreSpans}
 use Rattle.engine_report.proofs.Stepping.{has_module}
-use Rattle.sim_core.specs.Runs.{over_of}
-use Rattle.sim_core.specs.Views.{CoreView, theory_of}
+use Rattle.sim_core.specs.{Runs.over_of, Views.CoreView, Views.theory_of}
 use Rattle.sim_core.proofs.Ending.{finished}
 use Rattle.sim_core.proofs.machine.Core.spans.Goals as goal
 

@@ -1,26 +1,17 @@
 use Rattle.std.proofs.Common.{◌≡◌, List, refl, ap, subst, ◌<◌, false, length, slice_set, Option, arith}
-use Rattle.flow_design.specs.declared.plan.Plan.{Plan}
-use Rattle.flow_design.specs.declared.state.Advance.{Advance}
+use Rattle.flow_design.specs.{declared.plan.Plan.Plan, declared.state.Advance.Advance}
 use Rattle.module_interp.specs.declared.run.ModuleRun.{ModuleRun}
-use Rattle.event_timing.specs.Core.{core_values}
-use Rattle.event_timing.specs.Actions.{ActsAll}
+use Rattle.event_timing.specs.{Core.core_values, Actions.ActsAll}
 use Rattle.event_timing.specs.Actions as actions
 use Rattle.timing_bridge.specs.Designs.{design}
-use Rattle.engine_view.specs.Held.{Held, core_of}
-use Rattle.engine_view.specs.declared.engine.Engine.{Engine}
-use Rattle.engine_view.specs.Engines.{held_in}
+use Rattle.engine_view.specs.{Held.Held, Held.core_of, declared.engine.Engine.Engine, Engines.held_in}
 use Rattle.run_ahead.specs.Mails.{task_left}
-use Rattle.sim_core.specs.Returned.{AreReturned, core_in}
-use Rattle.sim_core.specs.Runs.{over_of, IsCore}
-use Rattle.sim_core.specs.Views.{CoreView, theory_of}
-use Rattle.sim_core.proofs.Asking.{asking_more}
-use Rattle.sim_core.proofs.Waking.{waking_more}
+use Rattle.sim_core.specs.{Returned.AreReturned, Returned.core_in, Runs.over_of, Runs.IsCore, Views.CoreView, Views.theory_of}
+use Rattle.sim_core.proofs.{Asking.asking_more, Waking.waking_more, Listing.listed_roomed, QueryRoom.bodies_told}
+use Rattle.sim_core.proofs.machine.Core.take_back.Goals.{In_ok-make_room_for}
 use Rattle.sim_core.proofs.Lends as lends
-use Rattle.sim_core.proofs.Listing.{listed_roomed}
-use Rattle.sim_core.proofs.QueryRoom.{bodies_told}
 use Rattle.sim_core.proofs.Returning as returning
 use Rattle.sim_core.proofs.Roomed as roomed
-use Rattle.sim_core.proofs.machine.Core.take_back.Goals.{In_ok-make_room_for}
 use Rattle.sim_core.proofs.machine.Core.take_back.Goals as goal
 
 -- ---- with room for the burst

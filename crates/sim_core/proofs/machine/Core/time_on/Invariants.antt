@@ -1,6 +1,5 @@
 use Rattle.module_interp.specs.declared.run.ModuleRun.{ModuleRun}
-use Rattle.sim_core.specs.Drives.{GoesOn}
-use Rattle.sim_core.specs.Runs.{IsOut}
+use Rattle.sim_core.specs.{Drives.GoesOn, Runs.IsOut}
 use Rattle.sim_core.proofs.machine.Core.time_on.Given as goal
 
 abbrev pub invariant-loop : goal.invariant-loop

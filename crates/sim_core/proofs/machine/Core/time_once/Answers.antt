@@ -1,17 +1,12 @@
 use Rattle.std.proofs.Common.{refl, sym, subst}
-use Rattle.flow_design.specs.declared.plan.Plan.{Plan}
-use Rattle.flow_design.specs.StaticRules.{FitsEngine}
+use Rattle.flow_design.specs.{declared.plan.Plan.Plan, StaticRules.FitsEngine}
 use Rattle.turn_history.proofs.Timings.{no_timing_at}
-use Rattle.event_timing.specs.Actions.{MayAssign}
-use Rattle.event_timing.specs.Agreement.{IsAgreed}
+use Rattle.event_timing.specs.{Actions.MayAssign, Agreement.IsAgreed}
 use Rattle.timing_bridge.specs.Designs.{design, lockstep_run}
-use Rattle.engine_view.specs.Turns.{IsIdle}
-use Rattle.engine_view.specs.declared.turn.Timing.TheVariants.{Assigned, Answered}
-use Rattle.sim_core.specs.Drives.{GoesOn}
-use Rattle.sim_core.specs.Views.{CoreView, theory_of}
+use Rattle.engine_view.specs.{Turns.IsIdle, declared.turn.Timing.TheVariants.Assigned, declared.turn.Timing.TheVariants.Answered}
+use Rattle.sim_core.specs.{Drives.GoesOn, Views.CoreView, Views.theory_of}
 use Rattle.sim_core.proofs.Rounds as rounds
-use Rattle.sim_core.proofs.machine.Core.time_once.Given.{Over}
-use Rattle.sim_core.proofs.machine.Core.time_once.Goals.{In-Answered}
+use Rattle.sim_core.proofs.{machine.Core.time_once.Given.Over, machine.Core.time_once.Goals.In-Answered}
 use Rattle.sim_core.proofs.machine.Core.time_once.Goals as goal
 
 pub returns-then-not-has-clause-timed : goal.returns-then-not-has-clause-timed

@@ -1,6 +1,5 @@
 use Rattle.std.proofs.Common.{subst}
-use Rattle.sim_core.specs.Timings.{IsUntimable}
-use Rattle.sim_core.specs.Views.{CoreView}
+use Rattle.sim_core.specs.{Timings.IsUntimable, Views.CoreView}
 use Rattle.sim_core.proofs.TimingRounds as timing
 use Rattle.sim_core.proofs.machine.Core.time_one.Goals as goal
 

@@ -1,17 +1,9 @@
 use Rattle.std.proofs.Common.{◌≡◌, ◌+◌, ℕ, Bool, List, sym, subst, ◌∙◌}
-use Rattle.turn_lock.specs.declared.view.View.{View}
-use Rattle.turn_lock.specs.Passes.{view_of, turn_view}
-use Rattle.turn_lock.specs.Turns.{BeginsTurn}
-use Rattle.turn_history.specs.declared.entry.HubEntry.{HubEntry}
-use Rattle.turn_history.specs.Entries.{bearer}
-use Rattle.sim_hub.specs.declared.ledger.Ledger.{Ledger}
-use Rattle.sim_hub.specs.Ledgers.{entries_in}
-use Rattle.sim_hub.specs.Places.{IsLater, IsLegal}
-use Rattle.sim_hub.specs.declared.answer.Desk.{Desk}
-use Rattle.sim_hub.specs.Hubs.{OutAt}
-use Rattle.sim_hub.specs.Steps.{ComesHome, LendingIs, MayAdd, IsEnd}
-use Rattle.sim_hub.proofs.Books.{of_borrowed, of_books}
-use Rattle.sim_hub.proofs.Keeping.{kept_legal}
+use Rattle.turn_lock.specs.{declared.view.View.View, Passes.view_of, Passes.turn_view, Turns.BeginsTurn}
+use Rattle.turn_history.specs.{declared.entry.HubEntry.HubEntry, Entries.bearer}
+use Rattle.sim_hub.specs.{declared.ledger.Ledger.Ledger, Ledgers.entries_in, Places.IsLater, Places.IsLegal, declared.answer.Desk.Desk}
+use Rattle.sim_hub.specs.{Hubs.OutAt, Steps.ComesHome, Steps.LendingIs, Steps.MayAdd, Steps.IsEnd}
+use Rattle.sim_hub.proofs.{Books.of_borrowed, Books.of_books, Keeping.kept_legal}
 use Rattle.sim_hub.proofs.Answering.{lending_adds, is_later, desk_answer, end_seen, module_later}
 use Rattle.sim_hub.proofs.hub.Hub.borrow_desk.Goals as goal
 

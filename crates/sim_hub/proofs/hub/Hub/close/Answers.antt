@@ -1,19 +1,10 @@
-use Rattle.std.proofs.Common.{rules, arith, List, [], ◌∷◌, ◌++◌}
-use Rattle.std.proofs.Common.{map, refl, sym, ap, ◌∙◌, subst, append_assoc}
+use Rattle.std.proofs.Common.{rules, arith, List, [], ◌∷◌, ◌++◌, map, refl, sym, ap, ◌∙◌, subst, append_assoc}
 use Rattle.std.proofs.lemmas.List.{map-append}
-use Rattle.turn_lock.specs.declared.view.View.{View}
-use Rattle.turn_lock.specs.Passes.{view_of}
-use Rattle.turn_lock.specs.Turns.{AllJoined}
-use Rattle.turn_lock.specs.Views.{after_join}
+use Rattle.turn_lock.specs.{declared.view.View.View, Passes.view_of, Turns.AllJoined, Views.after_join}
 use Rattle.turn_lock.proofs.Joins.{after_joins, after_joins-snoc, joins_keep, all_joined}
 use Rattle.turn_history.specs.declared.entry.HubEntry.{HubEntry}
-use Rattle.sim_hub.specs.declared.pass.ModulePass.{ModulePass}
-use Rattle.sim_hub.specs.Ledgers.{entries_in}
-use Rattle.sim_hub.specs.Hubs.{module_view}
-use Rattle.sim_hub.proofs.Lists.{get_mapped}
-use Rattle.sim_hub.proofs.Books.{shown_ledger}
-use Rattle.sim_hub.specs.Kept.{behind}
-use Rattle.sim_hub.proofs.Keeping.{kept_legal, kept_stands}
+use Rattle.sim_hub.specs.{declared.pass.ModulePass.ModulePass, Ledgers.entries_in, Hubs.module_view, Kept.behind}
+use Rattle.sim_hub.proofs.{Lists.get_mapped, Books.shown_ledger, Keeping.kept_legal, Keeping.kept_stands}
 use Rattle.sim_hub.proofs.Closing.{all_made, comes_home, joined_all, made_count, shown_each, whole}
 use Rattle.sim_hub.proofs.hub.Hub.close.Goals as goal
 

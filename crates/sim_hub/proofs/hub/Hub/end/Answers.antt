@@ -1,15 +1,9 @@
-use Rattle.std.proofs.Common.{◌∙◌, sym, subst, Bool, List, [], ◌∷◌}
-use Rattle.std.proofs.lemmas.Grind.{merely}
-use Rattle.turn_lock.specs.Passes.{view_of, turn_view, begun_at}
-use Rattle.turn_lock.specs.Turns.{EndsTurn}
-use Rattle.turn_history.specs.declared.entry.HubEntry.{HubEntry}
-use Rattle.turn_history.specs.declared.entry.HubEntry.TheVariants.{Turn}
-use Rattle.sim_hub.specs.Ledgers.{entries_in}
-use Rattle.sim_hub.specs.Steps.{MayAdd}
-use Rattle.sim_hub.proofs.Keeping.{kept_legal}
-use Rattle.sim_hub.proofs.Answering.{ended_place}
+use Rattle.std.proofs.{Common.◌∙◌, Common.sym, Common.subst, Common.Bool, Common.List, Common.[], Common.◌∷◌, lemmas.Grind.merely}
+use Rattle.turn_lock.specs.{Passes.view_of, Passes.turn_view, Passes.begun_at, Turns.EndsTurn}
+use Rattle.turn_history.specs.{declared.entry.HubEntry.HubEntry, declared.entry.HubEntry.TheVariants.Turn}
+use Rattle.sim_hub.specs.{Ledgers.entries_in, Steps.MayAdd}
+use Rattle.sim_hub.proofs.{Keeping.kept_legal, Answering.ended_place, hub.Hub.end.Goals.then-added, hub.Hub.end.Goals.else-added}
 use Rattle.sim_hub.proofs.hub.Hub.end.Goals as goal
-use Rattle.sim_hub.proofs.hub.Hub.end.Goals.{then-added, else-added}
 
 pub invariant_of-result : goal.invariant_of-result
 invariant_of-result c =

@@ -2,12 +2,9 @@ use Rattle.std.proofs.Common.{ℕ, List, sym, subst, ◌∙◌}
 use mathlib.Core.Logic.{∥∥₁_map}
 use Rattle.turn_lock.specs.Passes.{view_of, turn_view}
 use Rattle.turn_history.specs.declared.entry.HubEntry.{HubEntry}
-use Rattle.sim_hub.specs.declared.ledger.Ledger.{Ledger}
-use Rattle.sim_hub.specs.Ledgers.{entries_in}
-use Rattle.sim_hub.specs.Places.{HasModules, IsLegal}
+use Rattle.sim_hub.specs.{declared.ledger.Ledger.Ledger, Ledgers.entries_in, Places.HasModules, Places.IsLegal}
 use Rattle.sim_hub.specs.Steps.{TimingIs, MayAdd, IsEnd}
-use Rattle.sim_hub.proofs.Books.{of_books}
-use Rattle.sim_hub.proofs.Keeping.{kept_legal}
+use Rattle.sim_hub.proofs.{Books.of_books, Keeping.kept_legal}
 use Rattle.sim_hub.proofs.Answering.{timing_adds, is_later, perf_answer, end_seen, modules_later}
 use Rattle.sim_hub.proofs.hub.Hub.perf_turn.Goals as goal
 

@@ -1,12 +1,9 @@
 use Rattle.std.proofs.Common.{◌+◌, ℕ, true, List, length, sym, subst, ◌∙◌}
 use Rattle.turn_lock.specs.Passes.{view_of, turn_view}
 use Rattle.turn_history.specs.declared.entry.HubEntry.{HubEntry}
-use Rattle.sim_hub.specs.declared.ledger.Ledger.{Ledger}
-use Rattle.sim_hub.specs.Ledgers.{entries_in}
-use Rattle.sim_hub.specs.Places.{HasNoDesk, IsLegal}
+use Rattle.sim_hub.specs.{declared.ledger.Ledger.Ledger, Ledgers.entries_in, Places.HasNoDesk, Places.IsLegal}
 use Rattle.sim_hub.specs.Steps.{BackIs, ComesBack, MayAdd, IsEnd}
-use Rattle.sim_hub.proofs.Books.{of_borrowed, of_books}
-use Rattle.sim_hub.proofs.Keeping.{kept_legal}
+use Rattle.sim_hub.proofs.{Books.of_borrowed, Books.of_books, Keeping.kept_legal}
 use Rattle.sim_hub.proofs.Answering.{back_adds, is_later, back_answer, end_seen, module_later}
 use Rattle.sim_hub.proofs.hub.Hub.return_desk.Goals as goal
 

@@ -1,5 +1,4 @@
-use Rattle.std.proofs.Common.{refl, sym, subst, ◌∙◌, ℕ}
-use Rattle.std.proofs.lemmas.Grind.{merely}
+use Rattle.std.proofs.{Common.refl, Common.sym, Common.subst, Common.◌∙◌, Common.ℕ, lemmas.Grind.merely}
 use mathlib.Core.Logic.{∥∥₁_map}
 use Rattle.turn_lock.specs.Passes.{view_of}
 use Rattle.sim_hub.specs.Places.{HasModules}

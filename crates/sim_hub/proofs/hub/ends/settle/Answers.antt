@@ -1,9 +1,7 @@
 use Rattle.std.proofs.Common.{refl, sym, ◌∙◌}
 use Rattle.turn_history.specs.Entries.{history_of}
 use Rattle.sim_hub.specs.Kept.{behind}
-use Rattle.sim_hub.proofs.Keeping.{kept_stands}
-use Rattle.sim_hub.proofs.Ledgers.{owner_own, was_short}
-use Rattle.sim_hub.proofs.Closing.{final_since}
+use Rattle.sim_hub.proofs.{Keeping.kept_stands, Ledgers.owner_own, Ledgers.was_short, Closing.final_since}
 use Rattle.sim_hub.proofs.hub.ends.settle.Goals as goal
 
 pub returns-then-short : goal.returns-then-short

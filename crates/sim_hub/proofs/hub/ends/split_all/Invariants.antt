@@ -1,7 +1,6 @@
 use Rattle.std.proofs.Common.{◌≡◌, length}
 use Rattle.turn_lock.specs.Passes.{view_of, pass_lock}
-use Rattle.sim_hub.specs.Places.{IsFirst}
-use Rattle.sim_hub.specs.Closings.{AreFrom}
+use Rattle.sim_hub.specs.{Places.IsFirst, Closings.AreFrom}
 use Rattle.sim_hub.proofs.hub.ends.split_all.Given as goal
 
 abbrev pub invariant-loop-made : goal.invariant-loop-made

@@ -1,12 +1,8 @@
 use Rattle.std.proofs.Common.{arith, rules, refl, sym, ap, subst, length, vec_capacity, ◌≡◌, ◌+◌, ◌≤◌, ◌∙◌, ◌++◌, ◌∷◌, [], ℕ, List, Some}
-use Rattle.turn_history.specs.declared.turn.HubTurn.{HubTurn}
-use Rattle.turn_history.specs.declared.turn.HubTurn.TheVariants.{Lent}
-use Rattle.turn_history.specs.Turned.{lent_at}
-use Rattle.turn_history.specs.Entries.{history_of}
+use Rattle.turn_history.specs.{declared.turn.HubTurn.HubTurn, declared.turn.HubTurn.TheVariants.Lent, Turned.lent_at, Entries.history_of}
 use Rattle.sim_core.specs.Views.{theory_of}
 use Rattle.sim_hub.specs.Places.{HasNoDesk}
-use Rattle.sim_hub.proofs.Keeping.{adds_turn, kept_same, same_entries}
-use Rattle.sim_hub.proofs.Answering.{home_behind_short, short_added}
+use Rattle.sim_hub.proofs.{Keeping.adds_turn, Keeping.kept_same, Keeping.same_entries, Answering.home_behind_short, Answering.short_added}
 use Rattle.sim_hub.proofs.Ledgers.{owner_inside, owner_home, desk_here, kept_lending, out_lending, is_finished, is_held}
 use Rattle.sim_hub.proofs.ledger.Ledger.lend.Goals as goal
 

@@ -1,11 +1,8 @@
 use Rattle.std.proofs.Common.{arith, refl, sym, ap, subst, length, ◌≡◌, ◌+◌, ◌∙◌, ◌++◌, ◌∷◌, [], ℕ, Some}
-use Rattle.turn_history.specs.declared.turn.HubTurn.TheVariants.{Ran}
-use Rattle.turn_history.specs.Turned.{lent_at}
-use Rattle.sim_hub.specs.Kept.{behind}
-use Rattle.sim_hub.specs.Places.{HasDesk}
-use Rattle.sim_hub.proofs.Lists.{within_some}
+use Rattle.turn_history.specs.{declared.turn.HubTurn.TheVariants.Ran, Turned.lent_at}
+use Rattle.sim_hub.specs.{Kept.behind, Places.HasDesk}
+use Rattle.sim_hub.proofs.{Lists.within_some, Ledgers.burst_is, Ledgers.home_ran, Ledgers.kept_ran}
 use Rattle.sim_hub.proofs.Keeping.{adds_turn, kept_behind, kept_some, same_entries}
-use Rattle.sim_hub.proofs.Ledgers.{burst_is, home_ran, kept_ran}
 use Rattle.sim_hub.proofs.ledger.Ledger.take_back.Goals as goal
 
 pub give_up-requires-clause-out : goal.give_up-requires-clause-out

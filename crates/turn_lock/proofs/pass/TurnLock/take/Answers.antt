@@ -1,7 +1,5 @@
 use Rattle.std.proofs.Common.{rules, ◌≡◌, ◌+◌, ℕ, List, Option, ap, ◌∙◌, arith}
-use Rattle.turn_lock.specs.declared.view.View.{View}
-use Rattle.turn_lock.specs.Views.{after_lost_tries}
-use Rattle.turn_lock.specs.Turns.{BeginsTurn}
+use Rattle.turn_lock.specs.{declared.view.View.View, Views.after_lost_tries, Turns.BeginsTurn}
 use Rattle.turn_lock.proofs.pass.TurnLock.take.Goals as goal
 
 -- a try that won after others that were lost

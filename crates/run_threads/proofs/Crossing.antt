@@ -28,9 +28,9 @@ use Rattle.module_interp.proofs.path.Stage.TheSendSync as stage
 use Rattle.module_interp.proofs.tally.Tally.TheSendSync as tally
 use Rattle.module_interp.specs.contracts.path.Path as path
 use Rattle.module_interp.specs.contracts.run.ModuleRun as run
-use Rattle.event_graph.proofs.candidate.Candidate.TheSendSync as candidate
+use Rattle.candidate_list.proofs.list.CandidateList.TheSendSync as candidates
 use Rattle.engine_view.proofs.engine.Engine.TheSendSync as held
-use Rattle.module_sets.proofs.set.ModuleSet.TheSendSync as set
+use Rattle.sim_core.proofs.due.Due.TheSendSync as due
 use Rattle.sim_core.proofs.machine.Scratch.TheSendSync as scratch
 use Rattle.sim_core.proofs.unread.Unread.TheSendSync as unread
 use Rattle.sim_core.proofs.wiring.Wiring.TheSendSync as wiring
@@ -140,10 +140,7 @@ core_field =
               wiring.the_field_send,
               (
                 list.the_send _ unread.the_send,
-                (
-                  set.the_send,
-                  ((search (candidate.the_send, crosses, sendable) depth 30 fits 5000), (scratch.the_field_send, tt)),
-                ),
+                (due.the_field_send, (candidates.the_send, (scratch.the_field_send, tt))),
               ),
             ),
           ),

@@ -34,9 +34,6 @@ done_is Text e = absurd cc
 done_is Deadlock e = absurd cc
 done_is Cycles e = absurd cc
 done_is Ops e = absurd cc
-done_is ReadFault e = absurd cc
-done_is WriteFault e = absurd cc
-done_is Memory e = absurd cc
 
 ending_more : (ss : List Ending) (s : Ending) → first_not_done (ss ++ s ∷ []) ≡ (if is_done (first_not_done ss) then s else first_not_done
     ss)

@@ -5,7 +5,7 @@ ghost use Rattle.whole_answer.specs.Further.{advice};
 
 use crate::answer::Answer;
 use crate::ending::Ending;
-use depth_advice::{advised_depths, print_depths};
+use depth_advice::{advised_depths, advised_depths_never_block, print_depths};
 use depth_session::ThreadRunner;
 use flow_design::{Plan, copy_plan};
 use flow_word::{List, OutOfMemory};
@@ -27,6 +27,7 @@ pub(crate) fn advise_depths<R: Threads + Wait + Sync, G: Gate + Sync>(
     requires { FitsEngine plan }
     ensures { IfOk result (λ whole. whole ≡ advice plan) }
 {
+    advised_depths_never_block();
     let own = copy_plan(alloc, &plan)?;
     let found = advised_depths(rt, alloc, own, &mut ThreadRunner::new(gate))?;
     let mut text = List::from_slice(alloc, b"advise\n")?;

@@ -6,9 +6,9 @@ use Rattle.std.specs.Prelude.{ℕ, ◌^◌, option_and_then, nat_lt, not, Result
 use Rattle.flow_design.specs.Limits.{limits_at}
 use Rattle.flow_word.specs.{Number.number_of, declared.number.NumberFault.NumberFault}
 use Rattle.cli_words.specs.{declared.Command.Command, declared.rules.CommandName.CommandName}
-use Rattle.cli_words.specs.CommandWords.{Key, Cycles, Ops, Slack, Said, Text, Word, End, Events, Polls, Large, Lone, Takes, Has, Positional}
-use Rattle.cli_words.specs.CommandWords.{Unknown, after_word, command_by, command_named, command_of, limit_in, name_of, said_from, scale_of}
-use Rattle.cli_words.specs.CommandWords.{slack_in, with_option, with_positionals, word_of}
+use Rattle.cli_words.specs.CommandWords.{Key, Cycles, Ops, Slack, Arguments, Text, Word, End, Events, Polls, Large, Lone, Takes, Has}
+use Rattle.cli_words.specs.CommandWords.{Positional, Unknown, after_word, command_by, command_named, command_of, limit_in, name_of}
+use Rattle.cli_words.specs.CommandWords.{said_from, scale_of, slack_in, with_option, with_positionals, meaning_of}
 use Rattle.cli_words.specs.declared.rules.CommandName.TheVariants as name
 
 -- the digits write a number
@@ -22,14 +22,14 @@ is_number None = true
 is_number (Some text) = is_written (number_of text)
 
 -- the values of the options are numbers, in bounds or not
-abbrev pub has_values : Said → Bool
+abbrev pub has_values : Arguments → Bool
 has_values said = is_number said.cycles && (is_number said.ops && is_number said.slack)
 
 -- they are none, or there are more than three positionals
-abbrev pub is_doomed : Said → Bool
+abbrev pub is_doomed : Arguments → Bool
 is_doomed said = not (has_values said) || nat_lt 3 (length said.positionals)
 
-abbrev pub given : Option Said → Option Command
+abbrev pub given : Option Arguments → Option Command
 given = option_and_then command_of
 
 no_limit : (high : ℕ) (value : Option Text) → is_number value ≡ false → limit_in high value ≡ None
@@ -39,7 +39,7 @@ no_slack : (value : Option Text) → is_number value ≡ false → slack_in valu
 no_slack value bad = grind arith
 
 -- no command takes options whose values are no numbers
-options_fail : (said : Said) (rest : List Text) → has_values said ≡ false → (n : CommandName) → command_named said rest n ≡ None
+options_fail : (said : Arguments) (rest : List Text) → has_values said ≡ false → (n : CommandName) → command_named said rest n ≡ None
 options_fail said rest bad n =
     let cycles = no_limit (10 ^ 15) said.cycles in
     let ops = no_limit (limits_at (scale_of said)).counted_operations said.ops in
@@ -53,16 +53,16 @@ options_fail said rest bad n =
     by n cycles ops slack = grind arith
 
 -- no command has three further positionals
-many_fail : (said : Said) (b c d : Text) (rest : List Text) (n : CommandName) → command_named said (b ∷ c ∷ d ∷ rest) n ≡ None
+many_fail : (said : Arguments) (b c d : Text) (rest : List Text) (n : CommandName) → command_named said (b ∷ c ∷ d ∷ rest) n ≡ None
 many_fail said b c d rest name.Check = grind arith
 many_fail said b c d rest n = grind arith
 
-named_none : (said : Said) (rest : List Text) → not (has_values said) || nat_lt 2 (length rest) ≡ true
+named_none : (said : Arguments) (rest : List Text) → not (has_values said) || nat_lt 2 (length rest) ≡ true
     → (n : CommandName) → command_named said rest n ≡ None
 named_none said (b ∷ c ∷ d ∷ rest) h n = many_fail said b c d rest n
 named_none said rest h n = options_fail said rest (grind (arith, nat_tests)) n
 
-pub doomed_none : (said : Said) → is_doomed said ≡ true → command_of said ≡ None
+pub doomed_none : (said : Arguments) → is_doomed said ≡ true → command_of said ≡ None
 doomed_none said d = by said.positionals d
   where
     by_name : (rest : List Text) (o : Option CommandName) → ((n : CommandName) → command_named said rest n ≡ None)
@@ -75,13 +75,13 @@ doomed_none said d = by said.positionals d
     by (word ∷ rest) h = by_name rest (name_of word) (named_none said rest (grind (arith, nat_tests)))
 
 -- whatever follows, what is doomed gives no command
-pub doomed_stays : (words : List Text) (waiting : Option Key) (said : Said) → is_doomed said ≡ true
+pub doomed_stays : (words : List Text) (waiting : Option Key) (said : Arguments) → is_doomed said ≡ true
     → given (said_from waiting said words) ≡ None
 doomed_stays [] None said d = doomed_none said d
 doomed_stays [] (Some key) said d = refl
-doomed_stays (word ∷ rest) None said d = by (word_of word) (doomed_stays rest)
+doomed_stays (word ∷ rest) None said d = by (meaning_of word) (doomed_stays rest)
   where
-    by : (w : Word) → ((waiting : Option Key) (now : Said) → is_doomed now ≡ true → given (said_from waiting now rest) ≡ None)
+    by : (w : Word) → ((waiting : Option Key) (now : Arguments) → is_doomed now ≡ true → given (said_from waiting now rest) ≡ None)
         → given (after_word w word rest said (λ waiting now. said_from waiting now rest)) ≡ None
     by End stays = doomed_none (with_positionals rest said) (grind (arith, nat_tests, length-append said.positionals rest))
     by (Lone Events) stays = let used = stays None (record said { events = true }) (grind arith) in grind arith
@@ -106,12 +106,12 @@ abbrev pub hyphen : Text
 hyphen = 45 ∷ []
 
 -- as the value of an option it makes what is said one that can give no command
-pub hyphen_dooms : (k : Key) (said now : Said) → with_option k hyphen said ≡ Some now → is_doomed now ≡ true
+pub hyphen_dooms : (k : Key) (said now : Arguments) → with_option k hyphen said ≡ Some now → is_doomed now ≡ true
 hyphen_dooms k said now e = by k e
   where
-    taken : (b : Bool) (next : Said) → cond b None (Some next) ≡ Some now → is_doomed next ≡ true → is_doomed now ≡ true
+    taken : (b : Bool) (next : Arguments) → cond b None (Some next) ≡ Some now → is_doomed next ≡ true → is_doomed now ≡ true
     taken true next q d = absurd cc
-    taken false next q d = let same : next ≡ now = cc in subst (λ (x : Said). is_doomed x ≡ true) same d
+    taken false next q d = let same : next ≡ now = cc in subst (λ (x : Arguments). is_doomed x ≡ true) same d
 
     by : (k : Key) → with_option k hyphen said ≡ Some now → is_doomed now ≡ true
     by Cycles q = taken (is_some said.cycles) _ q refl

@@ -10,7 +10,7 @@ use Rattle.clap.specs.Simple.{App, HasMatchesOf, is_simple, matches_of}
 use Rattle.clap.specs.declared.error.kind.ErrorKind.TheVariants as kind
 use Rattle.clap.proofs.WalkLemmas.{first_value-rows, one_text-rows}
 use Rattle.cli_words.specs.{Parser.parser, declared.parser.Given.Given, declared.WordFault.WordFault}
-use Rattle.cli_words.specs.CommandWords.{Events, Large, Polls, Said, accepted, command_of}
+use Rattle.cli_words.specs.CommandWords.{Events, Large, Polls, Arguments, accepted, command_of}
 use Rattle.cli_words.specs.Given.{IsGivenBy, positionals_of, said_of, text_of}
 use Rattle.cli_words.specs.declared.WordFault.TheVariants as fault
 use Rattle.cli_words.proofs.RowLemmas.{AtCommand, AtCycles, AtOps, AtSlack, AtSecond, AtThird}
@@ -37,7 +37,7 @@ three (a ∷ b ∷ c ∷ d ∷ rest) few = absurd (omega arith)
 
 said_by : (e e' l l' b b' : Bool) (c c' o o' s s' : Option Text) (p q r : Option Text) (ps : List Text) → e ≡ e' → l ≡ l' → b ≡ b'
     → c ≡ c' → o ≡ o' → s ≡ s' → p ≡ slice_get ps 0 → q ≡ slice_get ps 1 → r ≡ slice_get ps 2 → length ps ≤ 3
-    → ◌≡◌ {A = Said} (record { events = e; polls = l; large = b; cycles = c; ops = o; slack = s; positionals = positionals_of p q r })
+    → ◌≡◌ {A = Arguments} (record { events = e; polls = l; large = b; cycles = c; ops = o; slack = s; positionals = positionals_of p q r })
     (record { events = e'; polls = l'; large = b'; cycles = c'; ops = o'; slack = s'; positionals = ps })
 said_by e e' l l' b b' c c' o o' s s' p q r ps he hl hb hc ho hs hp hq hr few =
     let at : positionals_of p q r ≡ ps = (λ i. positionals_of (hp i) (hq i) (hr i)) ∙ three ps few in

@@ -8,7 +8,7 @@ use Rattle.clap.specs.{Walk.first_of, Walk.has_row, Walk.idle, Walk.is_empty, Wa
 use Rattle.clap.specs.{Walk.row_text, Walk.with_default, declared.parser.matches.ValueSource.TheVariants.DefaultValue}
 use Rattle.clap.proofs.{FaultLemmas.leaf_fault, SimpleLemmas.is_nil}
 use Rattle.cli_words.specs.Parser.{parser}
-use Rattle.cli_words.specs.CommandWords.{Events, Flag, Large, Polls, Said, Text, accepted, command_of, nothing, said_from}
+use Rattle.cli_words.specs.CommandWords.{Events, Flag, Large, Polls, Arguments, Text, accepted, command_of, no_arguments, said_from}
 use Rattle.cli_words.proofs.RowLemmas.{AtEvents, AtLarge, AtPolls, Rows, Slot, has_row-row_at, id_of, missing, other, own, row_at, rules}
 use Rattle.cli_words.proofs.RowLemmas.{text_said, value_row}
 use Rattle.cli_words.proofs.WalkSteps.{AtMostThree, Ends, Holds, at, clear, end_of, fails, fault_at, first_clear, flag_at, passes, rows_in}
@@ -67,12 +67,12 @@ slot_of Events = AtEvents
 slot_of Polls = AtPolls
 slot_of Large = AtLarge
 
-abbrev flag_said : Said → Flag → Bool
+abbrev flag_said : Arguments → Flag → Bool
 flag_said said Events = said.events
 flag_said said Polls = said.polls
 flag_said said Large = said.large
 
-pub record Final (said : Said) (rows : List Row) : Type 0 where
+pub record Final (said : Arguments) (rows : List Row) : Type 0 where
   pub flags : (f : Flag) → one_of (id_of (slot_of f)) rows ≡ Some (bool_text (flag_said said f))
   pub values : (k : Slot) → bytes_eq (codes "events") (id_of k) ≡ false → bytes_eq (codes "polls") (id_of k) ≡ false
       → bytes_eq (codes "large") (id_of k) ≡ false → first_of (id_of k) rows ≡ text_said said k
@@ -112,7 +112,7 @@ completes id self false rows e =
       others = λ other_id differs. other other_id (no_row id) rows differs;
     })
 
-final : (said : Said) (rows : List Row) → Rows said rows → Final said (completed rows)
+final : (said : Arguments) (rows : List Row) → Rows said rows → Final said (completed rows)
 final said rows h =
     let events = completes (codes "events") refl said.events rows (h AtEvents) in
     let first = defaulted Events rows in
@@ -142,13 +142,13 @@ final said rows h =
 -- the parser refuses the words, which are not accepted, or takes them and has what they said
 pub data Agrees (words : List Text) : Type 0 where
   refuses : (fault_of parser words ≡ [] → ⊥) → accepted words ≡ None → Agrees words
-  takes : (said : Said) → AtMostThree said → fault_of parser words ≡ [] → Final said (matches_of parser words)
+  takes : (said : Arguments) → AtMostThree said → fault_of parser words ≡ [] → Final said (matches_of parser words)
       → accepted words ≡ command_of said → Agrees words
 
-starts : Holds nothing nothing_held
+starts : Holds no_arguments nothing_held
 starts = record { skip = refl; settles = refl; rows = none_yet }
   where
-    none_yet : Rows nothing []
+    none_yet : Rows no_arguments []
     none_yet AtEvents = refl
     none_yet AtPolls = refl
     none_yet AtLarge = refl
@@ -165,9 +165,9 @@ last words = rows_in (end_of (at idle 1 false nothing_held) words)
 
 pub agrees : (words : List Text) → AllByRecursion IsUtf8 words → Agrees words
 unfolding accepted
-agrees words u = go ((both_read words u).0 nothing nothing_held starts (omega arith))
+agrees words u = go ((both_read words u).0 no_arguments nothing_held starts (omega arith))
   where
-    go : Ends (at idle 1 false nothing_held) words (said_from None nothing words) → Agrees words
+    go : Ends (at idle 1 false nothing_held) words (said_from None no_arguments words) → Agrees words
     go (fails f none) =
         refuses (λ e. let all = sym (fault_is words) ∙ e in f (first_clear _ _ all) (first_clear _ _ (second_clear _ _ all))) none
     go (passes said none held few same) =

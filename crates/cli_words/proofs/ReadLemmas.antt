@@ -6,7 +6,7 @@ use Rattle.std.specs.{Prelude.option_and_then, List.AllByRecursion, Str.IsUtf8}
 use Rattle.clap.specs.Walk.{Held, Row, Rule, Walk, arg_by_long, idle, option, reacted, used, walked}
 use Rattle.clap.specs.{Kinds.or_else, Faults.turn_fault, Faults.use_fault, Faults.walk_fault}
 use Rattle.clap.specs.declared.error.kind.ErrorKind.TheVariants as kind
-use Rattle.cli_words.specs.CommandWords.{Cycles, Events, Key, Large, Ops, Polls, Positional, Said, Slack, Text, Word, after_word}
+use Rattle.cli_words.specs.CommandWords.{Cycles, Events, Key, Large, Ops, Polls, Positional, Arguments, Slack, Text, Word, after_word}
 use Rattle.cli_words.specs.CommandWords.{command_of, option_named, said_from, Flag, with_flag, with_option, with_positionals}
 use Rattle.cli_words.proofs.RowLemmas.{Rows, rules, top}
 use Rattle.cli_words.proofs.AcceptedLemmas.{given, doomed_none, doomed_stays, hyphen, hyphen_dooms}
@@ -20,7 +20,7 @@ use Rattle.cli_words.proofs.WordLemmas.{turn_taken, view, waiting_for, walked_pl
 
 -- ---- after `--`
 
-trails : (words : List Text) (said : Said) (h : Held) → Holds said h → AtMostThree said
+trails : (words : List Text) (said : Arguments) (h : Held) → Holds said h → AtMostThree said
     → Ends (behind_end said h) words (Some (with_positionals words said))
 unfolding walk_fault walked
 trails [] said h holds few =
@@ -50,19 +50,19 @@ trails (w ∷ ws) said h holds few =
 
 abbrev Reads : List Text → Type 0
 Reads words =
-    (said : Said) (h : Held) → Holds said h → AtMostThree said
+    (said : Arguments) (h : Held) → Holds said h → AtMostThree said
     → Ends (between said h) words (said_from None said words)
 
 abbrev Awaits : List Text → Type 0
 Awaits words =
-    (key : Key) (said : Said) (rows : List Row) (skip : ℕ) → skip ≡ 0 → Rows said rows → AtMostThree said
+    (key : Key) (said : Arguments) (rows : List Row) (skip : ℕ) → skip ≡ 0 → Rows said rows → AtMostThree said
     → Ends (awaiting key said rows skip) words (said_from (Some key) said words)
 
 -- what is read after a word
-abbrev rest_of : List Text → Option Key → Said → Option Said
+abbrev rest_of : List Text → Option Key → Arguments → Option Arguments
 rest_of rest waiting now = said_from waiting now rest
 
-plain_step : (word : Text) (rest : List Text) (said : Said) (h : Held) → Holds said h → AtMostThree said
+plain_step : (word : Text) (rest : List Text) (said : Arguments) (h : Held) → Holds said h → AtMostThree said
     → Reads rest → IsPlain word
     → Ends (between said h) (word ∷ rest) (after_word Positional word rest said (rest_of rest))
 plain_step word rest said h holds few reads plain =
@@ -84,19 +84,19 @@ plain_step word rest said h holds few reads plain =
 -- ---- a long word
 
 -- what is said after an option is used, where the positionals stay
-onward : (rest : List Text) (said : Said) → AtMostThree said → Reads rest → (now : Said) (x : Held)
+onward : (rest : List Text) (said : Arguments) → AtMostThree said → Reads rest → (now : Arguments) (x : Held)
     → now.positionals ≡ said.positionals → Holds now x
     → Ends (between said x) rest (said_from None now rest)
 onward rest said few reads now x same held =
     subst (λ ps. Ends (at idle (suc (length ps)) false x) rest (said_from None now rest)) same
     (reads now x held (subst (λ ps. length ps ≤ 3) (sym same) few))
 
-module _ (word : Text) (rest : List Text) (said : Said) (h : Held) (holds : Holds said h)
+module _ (word : Text) (rest : List Text) (said : Arguments) (h : Held) (holds : Holds said h)
     (few : AtMostThree said) (reads : Reads rest) where
   abbrev p : ℕ
   p = suc (length said.positionals)
 
-  abbrev here : Option Said → Type 0
+  abbrev here : Option Arguments → Type 0
   here o = Ends (at idle p false h) (word ∷ rest) o
 
   abbrev Turns : Option Rule → Option Text → Type 0
@@ -113,7 +113,7 @@ module _ (word : Text) (rest : List Text) (said : Said) (h : Held) (holds : Hold
   turned Slack t = refl
 
   -- an option that is used, by whatever it takes
-  used_here : (a : Rule) (values : List Text) (next : Option Said) → Used a values next said (rows_in h)
+  used_here : (a : Rule) (values : List Text) (next : Option Arguments) → Used a values next said (rows_in h)
       → turn_fault top [] (at idle p false h) word ≡ or_else (or_else (settle_at h) (use_fault false a values (rows_in h))) []
       → walked rules [] (at idle p false h) word ≡ at idle p false (reacted rules a values h)
       → here (option_and_then (rest_of rest None) next)
@@ -188,7 +188,7 @@ module _ (word : Text) (rest : List Text) (said : Said) (h : Held) (holds : Hold
       (ap (λ x. given (after_word x word rest said (rest_of rest))) ew)
 
 -- `--`
-end_step : (rest : List Text) (said : Said) (h : Held) → Holds said h → AtMostThree said
+end_step : (rest : List Text) (said : Arguments) (h : Held) → Holds said h → AtMostThree said
     → Ends (between said h) ((45 ∷ 45 ∷ []) ∷ rest) (said_from None said ((45 ∷ 45 ∷ []) ∷ rest))
 unfolding walked
 end_step rest said h holds few =
@@ -215,7 +215,7 @@ read_word word rest u (short y ys ne) reads awaits said h holds few =
     (ap (λ w. given (after_word w (45 ∷ y ∷ ys) rest said (rest_of rest))) (short_unknown y ys ne))
 
 -- what is said gives no command either way
-refused_anyway : (w : Walk) (rest : List Text) (o : Option Said) → given o ≡ None → Ends w rest o
+refused_anyway : (w : Walk) (rest : List Text) (o : Option Arguments) → given o ≡ None → Ends w rest o
     → Ends w rest None
 refused_anyway w rest o none (fails f n) = fails f refl
 refused_anyway w rest o none (passes t e held few same) = passes t e held few (sym none ∙ same)
@@ -232,7 +232,7 @@ settled_rows_are Cycles word rows skip = refl
 settled_rows_are Ops word rows skip = refl
 settled_rows_are Slack word rows skip = refl
 
-module _ (word : Text) (rest : List Text) (u : AllByRecursion IsUtf8 rest) (k : Key) (said : Said)
+module _ (word : Text) (rest : List Text) (u : AllByRecursion IsUtf8 rest) (k : Key) (said : Arguments)
     (rows : List Row) (skip : ℕ) (zero_skip : skip ≡ 0) (said_rows : Rows said rows)
     (few : AtMostThree said) (reads : Reads rest) where
   abbrev now_at : Held → Walk
@@ -260,13 +260,13 @@ module _ (word : Text) (rest : List Text) (u : AllByRecursion IsUtf8 rest) (k : 
   taken_dash : word ≡ hyphen → Ends (now_at (with_word k word rows skip)) rest None
   taken_dash e = refused_anyway _ rest _ (doomed (with_option k word said) refl) taken_rest
     where
-      doomed : (o : Option Said) → with_option k word said ≡ o
+      doomed : (o : Option Arguments) → with_option k word said ≡ o
           → given (option_and_then (rest_of rest None) o) ≡ None
       doomed None f = refl
       doomed (Some now) f =
           doomed_stays rest None now (hyphen_dooms k said now (sym (ap (λ w. with_option k w said) e) ∙ f))
 
-  taken : (o : Option Said) → IsPlain word → Ends (now_at (with_word k word rows skip)) rest o
+  taken : (o : Option Arguments) → IsPlain word → Ends (now_at (with_word k word rows skip)) rest o
       → Ends (awaiting k said rows skip) (word ∷ rest) o
   taken o is after =
       step_passes _ (now_at (with_word k word rows skip)) word rest o (turn_taken k _ word rows skip is)

@@ -5,7 +5,7 @@ use Rattle.std.specs.{Prelude.slice_get, Prelude.find, Str.bytes_eq}
 use Rattle.clap.specs.Walk.{Rule, Row, Text, at_row, has_row, more_values, with_values, without}
 use Rattle.clap.specs.{Simple.Shape, Simple.built, declared.builder.value_parser.Reading.TheVariants.AsWritten}
 use Rattle.clap.specs.declared.parser.matches.ValueSource.TheVariants.{CommandLine}
-use Rattle.cli_words.specs.{Parser.parser, CommandWords.Said}
+use Rattle.cli_words.specs.{Parser.parser, CommandWords.Arguments}
 
 abbrev pub top : Shape
 top = (built parser).top
@@ -71,7 +71,7 @@ id_of AtSecond = codes "second"
 id_of AtThird = codes "third"
 
 -- the text that was said for it
-abbrev pub text_said : Said → Slot → Option Text
+abbrev pub text_said : Arguments → Slot → Option Text
 text_said said AtEvents = cond said.events (Some (codes "true")) None
 text_said said AtPolls = cond said.polls (Some (codes "true")) None
 text_said said AtLarge = cond said.large (Some (codes "true")) None
@@ -86,18 +86,18 @@ abbrev pub value_row : Text → Option Text → Option Row
 value_row id = option_map (row id)
 
 -- the rows are those of what was said
-abbrev pub Rows : Said → List Row → Type 0
+abbrev pub Rows : Arguments → List Row → Type 0
 Rows said rows = (k : Slot) → row_at (id_of k) rows ≡ value_row (id_of k) (text_said said k)
 
 -- what was said for the other slots is as it was
-abbrev pub SameBut : Slot → Said → Said → Type 0
+abbrev pub SameBut : Slot → Arguments → Arguments → Type 0
 SameBut k said now = (j : Slot) → bytes_eq (id_of k) (id_of j) ≡ false → text_said now j ≡ text_said said j
 
 slot_is : (k j : Slot) → bytes_eq (id_of k) (id_of j) ≡ true → k ≡ j
 slot_is k j e = grind arith
 
 -- a row for a slot for which nothing was said
-pub rows_more : (k : Slot) (v : Text) (said now : Said) (rows : List Row) → Rows said rows → text_said said k ≡ None
+pub rows_more : (k : Slot) (v : Text) (said now : Arguments) (rows : List Row) → Rows said rows → text_said said k ≡ None
     → text_said now k ≡ Some v → SameBut k said now → Rows now (rows ++ row (id_of k) v ∷ [])
 rows_more k v said now rows h none some same j =
     let there = h j in let kept = same j in let is = slot_is k j in
@@ -106,26 +106,26 @@ rows_more k v said now rows h none some same j =
 
 -- ---- what each use leaves as it was
 
-pub events_same : (said : Said) → SameBut AtEvents said (record said { events = true })
+pub events_same : (said : Arguments) → SameBut AtEvents said (record said { events = true })
 events_same said j e = grind arith
 
-pub polls_same : (said : Said) → SameBut AtPolls said (record said { polls = true })
+pub polls_same : (said : Arguments) → SameBut AtPolls said (record said { polls = true })
 polls_same said j e = grind arith
 
-pub large_same : (said : Said) → SameBut AtLarge said (record said { large = true })
+pub large_same : (said : Arguments) → SameBut AtLarge said (record said { large = true })
 large_same said j e = grind arith
 
-pub cycles_same : (said : Said) (v : Text) → SameBut AtCycles said (record said { cycles = Some v })
+pub cycles_same : (said : Arguments) (v : Text) → SameBut AtCycles said (record said { cycles = Some v })
 cycles_same said v j e = grind arith
 
-pub ops_same : (said : Said) (v : Text) → SameBut AtOps said (record said { ops = Some v })
+pub ops_same : (said : Arguments) (v : Text) → SameBut AtOps said (record said { ops = Some v })
 ops_same said v j e = grind arith
 
-pub slack_same : (said : Said) (v : Text) → SameBut AtSlack said (record said { slack = Some v })
+pub slack_same : (said : Arguments) (v : Text) → SameBut AtSlack said (record said { slack = Some v })
 slack_same said v j e = grind arith
 
 module _ (events polls large : Bool) (cycles ops slack : Option Text) where
-  abbrev pub having : List Text → Said
+  abbrev pub having : List Text → Arguments
   having ps = record { events = events; polls = polls; large = large; cycles = cycles; ops = ops; slack = slack; positionals = ps }
 
   pub first_same : (v : Text) → SameBut AtCommand (having []) (having (v ∷ []))

@@ -10,8 +10,8 @@ use Rattle.clap.specs.declared.parser.matches.ValueSource.TheVariants.{CommandLi
 use Rattle.clap.specs.Faults.{positional_fault, settle_fault, step_fault, turn_fault, use_fault, walk_fault}
 use Rattle.clap.specs.declared.error.kind.ErrorKind.TheVariants as kind
 use Rattle.cli_words.specs.Parser.{cycles_rule, events_rule, large_rule, ops_rule, polls_rule, slack_rule}
-use Rattle.cli_words.specs.CommandWords.{Cycles, Events, Flag, Key, Large, Ops, Polls, Said, Slack, Text, Unknown, Word, command_of}
-use Rattle.cli_words.specs.CommandWords.{option_named, with_flag, with_option, with_positionals, with_value, without_value}
+use Rattle.cli_words.specs.CommandWords.{Cycles, Events, Flag, Key, Large, Ops, Polls, Arguments, Slack, Text, Unknown, Word, command_of}
+use Rattle.cli_words.specs.CommandWords.{option_named, with_flag, with_option, with_positionals, taking_value, without_value}
 use Rattle.cli_words.proofs.RowLemmas.{AtCommand, AtCycles, AtEvents, AtLarge, AtOps, AtPolls, AtSecond, AtSlack, AtThird, Rows, added}
 use Rattle.cli_words.proofs.RowLemmas.{cycles_same, events_same, large_same, polls_same, first_same, has_row-row_at, having as said_with}
 use Rattle.cli_words.proofs.RowLemmas.{ops_same, row_at, rows_more, rules, second_same, slack_same, SameBut, Slot, id_of, row, text_said}
@@ -57,32 +57,32 @@ abbrev pub Fails : Walk → List Text → Type 0
 Fails w words = fault_at w words ≡ [] → settle_at (end_of w words) ≡ [] → ⊥
 
 -- what is held is what was said
-pub record Holds (said : Said) (h : Held) : Type 0 where
+pub record Holds (said : Arguments) (h : Held) : Type 0 where
   pub skip : h.skip ≡ 0
   pub settles : settle_at h ≡ []
   pub rows : Rows said (settled_rows rules h.pending h.rows)
 
-abbrev pub AtMostThree : Said → Type 0
+abbrev pub AtMostThree : Arguments → Type 0
 AtMostThree said = length said.positionals ≤ 3
 
 -- the parser refuses the words, which give no command, or takes them for what they said
-pub data Ends (w : Walk) (words : List Text) (o : Option Said) : Type 0 where
+pub data Ends (w : Walk) (words : List Text) (o : Option Arguments) : Type 0 where
   fails : Fails w words → given o ≡ None → Ends w words o
-  passes : (t : Said) → fault_at w words ≡ [] → Holds t (end_of w words) → AtMostThree t
+  passes : (t : Arguments) → fault_at w words ≡ [] → Holds t (end_of w words) → AtMostThree t
       → given o ≡ command_of t → Ends w words o
 
-passes_on : (w : Walk) (word : Text) (rest : List Text) (o : Option Said) → turn_fault top [] w word ≡ []
+passes_on : (w : Walk) (word : Text) (rest : List Text) (o : Option Arguments) → turn_fault top [] w word ≡ []
     → Ends (walked rules [] w word) rest o → Ends w (word ∷ rest) o
 unfolding walk_fault
 passes_on w word rest o turn (fails f none) = fails (λ e settled. f (second_clear _ _ e) settled) none
 passes_on w word rest o turn (passes t e holds few same) = passes t (clear _ _ turn e) holds few same
 
-pub step_passes : (w after : Walk) (word : Text) (rest : List Text) (o : Option Said)
+pub step_passes : (w after : Walk) (word : Text) (rest : List Text) (o : Option Arguments)
     → turn_fault top [] w word ≡ [] → walked rules [] w word ≡ after
     → Ends after rest o → Ends w (word ∷ rest) o
 step_passes w after word rest o turn is h = passes_on w word rest o turn (subst (λ y. Ends y rest o) (sym is) h)
 
-pub step_fails : (w : Walk) (word : Text) (rest : List Text) (o : Option Said)
+pub step_fails : (w : Walk) (word : Text) (rest : List Text) (o : Option Arguments)
     → (turn_fault top [] w word ≡ [] → ⊥) → given o ≡ None → Ends w (word ∷ rest) o
 unfolding walk_fault
 step_fails w word rest o bad none = fails (λ e settled. bad (first_clear _ _ e)) none
@@ -105,7 +105,7 @@ rule_at Slack = filled slack_rule
 -- what a long name comes to, on both sides
 pub data Named (v : Option Text) (o : Option Rule) (w : Word) : Type 0 where
   flag : (f : Flag) → o ≡ Some (flag_at f) → w ≡ without_value f v → Named v o w
-  keyed : (k : Key) → o ≡ Some (rule_at k) → w ≡ with_value k v → Named v o w
+  keyed : (k : Key) → o ≡ Some (rule_at k) → w ≡ taking_value k v → Named v o w
   unnamed : o ≡ None → w ≡ Unknown → Named v o w
 
 pub named : (n : Text) (v : Option Text) → Named v (arg_by_long rules n) (option_named (45 ∷ 45 ∷ n) v)
@@ -116,8 +116,8 @@ named n v = go (bytes_eq (codes "events") n) (bytes_eq (codes "polls") n) (bytes
         → Named v (cond (a || false) (Some (flag_at Events)) (cond (p || false) (Some (flag_at Polls))
         (cond (l || false) (Some (flag_at Large)) (cond (b || false) (Some (rule_at Cycles)) (cond (c || false) (Some (rule_at Ops))
         (cond (d || false) (Some (rule_at Slack)) None))))))
-        (cond a (without_value Events v) (cond p (without_value Polls v) (cond l (without_value Large v) (cond b (with_value Cycles v)
-        (cond c (with_value Ops v) (cond d (with_value Slack v) Unknown))))))
+        (cond a (without_value Events v) (cond p (without_value Polls v) (cond l (without_value Large v) (cond b (taking_value Cycles v)
+        (cond c (taking_value Ops v) (cond d (taking_value Slack v) Unknown))))))
     go true p l b c d = flag Events refl refl
     go false true l b c d = flag Polls refl refl
     go false false true b c d = flag Large refl refl
@@ -131,12 +131,12 @@ rows_in h = settled_rows rules h.pending h.rows
 
 -- an option with its value, used where the rows are these
 -- what gives `next` is used over these rows, where it was not given yet
-pub data Used (a : Rule) (values : List Text) (next : Option Said) (said : Said) (rows : List Row) : Type 0 where
+pub data Used (a : Rule) (values : List Text) (next : Option Arguments) (said : Arguments) (rows : List Row) : Type 0 where
   repeated : (use_fault false a values rows ≡ [] → ⊥) → next ≡ None → Used a values next said rows
-  unused : (now : Said) → next ≡ Some now → use_fault false a values rows ≡ [] → Rows now (used a values rows)
+  unused : (now : Arguments) → next ≡ Some now → use_fault false a values rows ≡ [] → Rows now (used a values rows)
       → now.positionals ≡ said.positionals → Used a values next said rows
 
-used_at : (a : Rule) (values : List Text) (k : Slot) (v : Text) (said now : Said) (rows : List Row) → Rows said rows
+used_at : (a : Rule) (values : List Text) (k : Slot) (v : Text) (said now : Arguments) (rows : List Row) → Rows said rows
     → SameBut k said now → text_said now k ≡ Some v → now.positionals ≡ said.positionals
     → use_fault false a values rows ≡ cond (has_row (id_of k) rows) (kind.ArgumentConflict ∷ []) []
     → used a values rows ≡ with_values (id_of k) AsWritten CommandLine (v ∷ []) (without (id_of k) rows)
@@ -153,7 +153,7 @@ used_at a values k v said now rows h same some positionals fault_is rows_are = g
         (subst (Rows now) (sym (rows_are ∙ added (id_of k) v rows (h k ∙ ap (value_row (id_of k)) e)))
         (rows_more k v said now rows h e some same)) positionals
 
-pub using : (k : Key) (v : Text) (said : Said) (rows : List Row) → Rows said rows
+pub using : (k : Key) (v : Text) (said : Arguments) (rows : List Row) → Rows said rows
     → Used (rule_at k) (v ∷ []) (with_option k v said) said rows
 using Cycles v said rows h =
     used_at (rule_at Cycles) (v ∷ []) AtCycles v said (record said { cycles = Some v }) rows h (cycles_same said v) refl refl
@@ -165,28 +165,28 @@ using Slack v said rows h =
     (grind arith) refl
 
 -- a flag that was said already is not said again
-once : (b : Bool) (now : Said) → cond (is_some (cond b (Some (codes "true")) None)) None (Some now) ≡ cond b None (Some now)
+once : (b : Bool) (now : Arguments) → cond (is_some (cond b (Some (codes "true")) None)) None (Some now) ≡ cond b None (Some now)
 once true now = refl
 once false now = refl
 
-pub flagging : (f : Flag) (said : Said) (rows : List Row) → Rows said rows → Used (flag_at f) [] (with_flag f said) said rows
+pub flagging : (f : Flag) (said : Arguments) (rows : List Row) → Rows said rows → Used (flag_at f) [] (with_flag f said) said rows
 flagging Events said rows h =
-    let now : Said = record said { events = true } in
-    subst (λ (o : Option Said). Used (flag_at Events) [] o said rows) (once said.events now)
+    let now : Arguments = record said { events = true } in
+    subst (λ (o : Option Arguments). Used (flag_at Events) [] o said rows) (once said.events now)
     (used_at (flag_at Events) [] AtEvents (codes "true") said now rows h (events_same said) refl refl (grind arith) refl)
 flagging Polls said rows h =
-    let now : Said = record said { polls = true } in
-    subst (λ (o : Option Said). Used (flag_at Polls) [] o said rows) (once said.polls now)
+    let now : Arguments = record said { polls = true } in
+    subst (λ (o : Option Arguments). Used (flag_at Polls) [] o said rows) (once said.polls now)
     (used_at (flag_at Polls) [] AtPolls (codes "true") said now rows h (polls_same said) refl refl (grind arith) refl)
 flagging Large said rows h =
-    let now : Said = record said { large = true } in
-    subst (λ (o : Option Said). Used (flag_at Large) [] o said rows) (once said.large now)
+    let now : Arguments = record said { large = true } in
+    subst (λ (o : Option Arguments). Used (flag_at Large) [] o said rows) (once said.large now)
     (used_at (flag_at Large) [] AtLarge (codes "true") said now rows h (large_same said) refl refl (grind arith) refl)
 
 -- ---- positionals
 
 -- a word that goes to the next positional, where there is one
-pub data Placed (said : Said) (is_trailing : Bool) (h : Held) (word : Text) : Type 0 where
+pub data Placed (said : Arguments) (is_trailing : Bool) (h : Held) (word : Text) : Type 0 where
   stray : (step_fault top (suc (length said.positionals)) h value ≡ [] → ⊥)
       → 3 < length (said.positionals ++ word ∷ []) → Placed said is_trailing h word
   placed : (now : Held) → step_fault top (suc (length said.positionals)) h value ≡ []
@@ -232,11 +232,12 @@ slot_passes : (id : Text) (i : ℕ) (word : Text) (rows : List Row) → has_row 
 slot_passes id i word rows e = ap (λ b. or_else (cond (b && true) (kind.ArgumentConflict ∷ []) []) []) e
 
 module _ (events polls large : Bool) (cycles ops slack : Option Text) (t : Bool) (h : Held) (word : Text) where
-  abbrev having : List Text → Said
+  abbrev having : List Text → Arguments
   having ps = said_with events polls large cycles ops slack ps
 
   -- the word is held for a slot for which nothing was said
-  held : (k : Slot) (i : ℕ) (said now : Said) → Holds said h → text_said said k ≡ None → text_said now k ≡ Some word → SameBut k said now
+  held : (k : Slot) (i : ℕ) (said now : Arguments) → Holds said h → text_said said k ≡ None → text_said now k ≡ Some word
+      → SameBut k said now
       → settle_at (holding (slot i (id_of k)) word h) ≡ use_fault false (slot i (id_of k)) (word ∷ []) (rows_in h)
       → rows_in (holding (slot i (id_of k)) word h)
       ≡ with_values (id_of k) AsWritten CommandLine (word ∷ []) (without (id_of k) (rows_in h))

@@ -10,18 +10,18 @@ use Rattle.clap.specs.Walk.{long_met, next, option, takes_values, Row, plain_wor
 use Rattle.clap.specs.Faults.{bundle_fault, bundle_step_fault, option_fault, flag_word_fault, flags_fault, long_fault, react_fault}
 use Rattle.clap.specs.Faults.{step_fault, turn_fault, walk_fault, word_fault}
 use Rattle.clap.specs.declared.error.kind.ErrorKind.TheVariants as kind
-use Rattle.cli_words.specs.CommandWords.{Cycles, Key, Ops, Positional, Said, Slack, Text, Unknown, begins_with_hyphen, is_equals}
-use Rattle.cli_words.specs.CommandWords.{option_named, value_in, word_of}
+use Rattle.cli_words.specs.CommandWords.{Cycles, Key, Ops, Positional, Arguments, Slack, Text, Unknown, begins_with_hyphen, is_equals}
+use Rattle.cli_words.specs.CommandWords.{option_named, text_after_equals, meaning_of}
 use Rattle.cli_words.proofs.{RowLemmas.rules, RowLemmas.top, AcceptedLemmas.hyphen}
 use Rattle.cli_words.proofs.WalkSteps.{Fails, at, first_clear, and_false, rule_at, settle_at, some_kind}
 
 -- ---- where the walk stands between two words
 
-abbrev pub between : Said → Held → Walk
+abbrev pub between : Arguments → Held → Walk
 between said h = at idle (suc (length said.positionals)) false h
 
 -- behind `--`
-abbrev pub behind_end : Said → Held → Walk
+abbrev pub behind_end : Arguments → Held → Walk
 behind_end said h = at idle (suc (length said.positionals)) true h
 
 -- ---- what a word looks like, to both
@@ -31,7 +31,7 @@ pub record IsPlain (word : Text) : Type 0 where
   pub other : bytes_eq word (45 ∷ 45 ∷ []) ≡ false
   pub long : long_of word ≡ None
   pub short : short_of word ≡ None
-  pub kind : word_of word ≡ Positional
+  pub kind : meaning_of word ≡ Positional
 
 -- no word of text has such a form that the flags after its hyphen are no characters
 abbrev HasFlags : ℕ → Text → Type 0
@@ -92,9 +92,9 @@ no_option : (y : ℕ) (ys : Text) (v : Option Text) → (y == 45) ≡ false → 
 no_option y ys v e = let more = before_more y ys in grind (arith, nat_tests)
 
 -- a short word is no option
-pub short_unknown : (y : ℕ) (ys : Text) → (y == 45) ≡ false → word_of (45 ∷ y ∷ ys) ≡ Unknown
+pub short_unknown : (y : ℕ) (ys : Text) → (y == 45) ≡ false → meaning_of (45 ∷ y ∷ ys) ≡ Unknown
 short_unknown y ys e =
-    let first = before_more 45 (y ∷ ys) refl in let none = no_option y ys (value_in (45 ∷ y ∷ ys)) e in grind (arith, nat_tests)
+    let first = before_more 45 (y ∷ ys) refl in let none = no_option y ys (text_after_equals (45 ∷ y ∷ ys)) e in grind (arith, nat_tests)
 
 -- the name and the value of a long word
 abbrev pub name_in : ℕ → Text → Text
@@ -104,7 +104,7 @@ abbrev pub own_value : ℕ → Text → Option Text
 own_value x xs = cond (has_byte 61 (x ∷ xs)) (Some (after_first is_equals (x ∷ xs))) None
 
 pub long_word_of : (x : ℕ) (xs : Text)
-    → word_of (45 ∷ 45 ∷ x ∷ xs) ≡ option_named (45 ∷ 45 ∷ name_in x xs) (own_value x xs)
+    → meaning_of (45 ∷ 45 ∷ x ∷ xs) ≡ option_named (45 ∷ 45 ∷ name_in x xs) (own_value x xs)
 long_word_of x xs =
     ap₂ option_named (before_more 45 (45 ∷ x ∷ xs) refl ∙ ap (λ n. 45 ∷ n) (before_more 45 (x ∷ xs) refl))
     (ap (λ v. cond (has_byte 61 (x ∷ xs)) (Some v) None)
@@ -132,7 +132,7 @@ abbrev pub waiting_for : Key → List Row → ℕ → Held
 waiting_for key rows skip = record { rows = rows; pending = Some ((rule_at key).id, []); skip = skip }
 
 -- an option waits for its value
-abbrev pub awaiting : Key → Said → List Row → ℕ → Walk
+abbrev pub awaiting : Key → Arguments → List Row → ℕ → Walk
 awaiting key said rows skip =
     at (option (rule_at key).id) (suc (length said.positionals)) false (waiting_for key rows skip)
 

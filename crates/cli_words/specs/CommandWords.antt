@@ -54,8 +54,8 @@ abbrev pub is_equals : ℕ → Bool
 is_equals c = c == 61
 
 -- what comes after the first `=` of a word, if it has one
-abbrev pub value_in : Text → Option Text
-value_in word =
+abbrev pub text_after_equals : Text → Option Text
+text_after_equals word =
     if list_any is_equals word then Some (after_first is_equals word) else None
 
 -- the word of an option that takes no value
@@ -64,9 +64,9 @@ without_value flag None = Lone flag
 without_value flag (Some value) = Unknown
 
 -- the word of an option that takes a value: after its `=`, or as the next word
-abbrev pub with_value : Key → Option Text → Word
-with_value key None = Takes key
-with_value key (Some value) = Has key value
+abbrev pub taking_value : Key → Option Text → Word
+taking_value key None = Takes key
+taking_value key (Some value) = Has key value
 
 -- the word of an option, by its name and what comes after its `=`
 abbrev pub option_named : Text → Option Text → Word
@@ -74,22 +74,22 @@ option_named name value =
     if bytes_eq (codes "--events") name then without_value Events value
     else if bytes_eq (codes "--polls") name then without_value Polls value
     else if bytes_eq (codes "--large") name then without_value Large value
-    else if bytes_eq (codes "--cycles") name then with_value Cycles value
-    else if bytes_eq (codes "--ops") name then with_value Ops value
-    else if bytes_eq (codes "--slack") name then with_value Slack value
+    else if bytes_eq (codes "--cycles") name then taking_value Cycles value
+    else if bytes_eq (codes "--ops") name then taking_value Ops value
+    else if bytes_eq (codes "--slack") name then taking_value Slack value
     else Unknown
 
 -- what a word means; a single hyphen is a positional
-abbrev pub word_of : Text → Word
-word_of word =
+abbrev pub meaning_of : Text → Word
+meaning_of word =
     if not (begins_with_hyphen word) || bytes_eq (codes "-") word then Positional
     else if bytes_eq (codes "--") word then End
-    else option_named (before_first is_equals word) (value_in word)
+    else option_named (before_first is_equals word) (text_after_equals word)
 
 -- ---- options and positionals
 
 -- what words have said: options and positionals
-pub record Said : Type 0 where
+pub record Arguments : Type 0 where
   pub events : Bool
   pub polls : Bool
   pub large : Bool
@@ -99,17 +99,17 @@ pub record Said : Type 0 where
   pub positionals : List Text
 
 -- what no words have said
-abbrev pub nothing : Said
-nothing = record { events = false; polls = false; large = false; cycles = None; ops = None; slack = None; positionals = [] }
+abbrev pub no_arguments : Arguments
+no_arguments = record { events = false; polls = false; large = false; cycles = None; ops = None; slack = None; positionals = [] }
 
 -- what is said with one more option without a value; none where it was said before
-abbrev pub with_flag : Flag → Said → Option Said
+abbrev pub with_flag : Flag → Arguments → Option Arguments
 with_flag Events said = if said.events then None else Some (record said { events = true })
 with_flag Polls said = if said.polls then None else Some (record said { polls = true })
 with_flag Large said = if said.large then None else Some (record said { large = true })
 
 -- what is said with one more option and its value; none where it was said before
-abbrev pub with_option : Key → Text → Said → Option Said
+abbrev pub with_option : Key → Text → Arguments → Option Arguments
 with_option Cycles value said =
     if is_some said.cycles then None else Some (record said { cycles = Some value })
 with_option Ops value said =
@@ -118,13 +118,13 @@ with_option Slack value said =
     if is_some said.slack then None else Some (record said { slack = Some value })
 
 -- what is said with further positionals, in the order of the words
-abbrev pub with_positionals : List Text → Said → Said
+abbrev pub with_positionals : List Text → Arguments → Arguments
 with_positionals words said = record said { positionals = said.positionals ++ words }
 
 -- what a word and those after it say: `next` reads the words after it, given the option that waits for its value and what was said
 -- so far; after `--` all words are positionals
-abbrev pub after_word : Word → Text → List Text → Said → (Option Key → Said → Option Said)
-    → Option Said
+abbrev pub after_word : Word → Text → List Text → Arguments → (Option Key → Arguments → Option Arguments)
+    → Option Arguments
 after_word End word rest said next = Some (with_positionals rest said)
 after_word (Lone flag) word rest said next = option_and_then (next None) (with_flag flag said)
 after_word (Takes key) word rest said next = next (Some key) said
@@ -134,11 +134,11 @@ after_word Positional word rest said next = next None (with_positionals (word �
 after_word Unknown word rest said next = None
 
 -- what words say, read from the first on; an option may wait for its value, which, as a word of its own, must not begin with `-`
-abbrev pub said_from : Option Key → Said → List Text → Option Said
+abbrev pub said_from : Option Key → Arguments → List Text → Option Arguments
 said_from None said [] = Some said
 said_from (Some key) said [] = None
 said_from None said (word ∷ rest) =
-    after_word (word_of word) word rest said (λ waiting now. said_from waiting now rest)
+    after_word (meaning_of word) word rest said (λ waiting now. said_from waiting now rest)
 said_from (Some key) said (value ∷ rest) =
     if begins_with_hyphen value then None
     else option_and_then (λ now. said_from None now rest) (with_option key value said)
@@ -188,29 +188,29 @@ no_more [] found = found
 no_more (word ∷ words) found = None
 
 -- the scale that the words choose: large where they have `--large`
-abbrev pub scale_of : Said → Scale
+abbrev pub scale_of : Arguments → Scale
 scale_of said = if said.large then scales.Large else scales.Standard
 
 -- the command that asks for this task
-abbrev pub asked : Said → Task → Command
+abbrev pub asked : Arguments → Task → Command
 asked said task = Of (record { scale = scale_of said; task = task })
 
 -- an option other than `--large` is given
-abbrev pub has_options : Said → Bool
+abbrev pub has_options : Arguments → Bool
 has_options said = said.events || (said.polls || (is_some said.cycles || (is_some said.ops || is_some said.slack)))
 
 -- what was found, if no option but `--large` is given
-abbrev pub without_option : {T : Type 0} → Said → Option T → Option T
+abbrev pub without_option : {T : Type 0} → Arguments → Option T → Option T
 without_option said found = if has_options said then None else found
 
 -- f of two values, if both are there
-abbrev pub both : {A B C : Type 0} → (A → B → C) → Option A → Option B → Option C
-both f None b = None
-both f (Some x) b = option_map (f x) b
+abbrev pub if_both : {A B C : Type 0} → (A → B → C) → Option A → Option B → Option C
+if_both f None b = None
+if_both f (Some x) b = option_map (f x) b
 
 -- the options that were said, if the cycle limit is 1 to 10^15 and the operation limit 1 to that of the scale
-abbrev pub options_of : Said → Option Options
-options_of said = both (λ cycles ops. record {
+abbrev pub options_of : Arguments → Option Options
+options_of said = if_both (λ cycles ops. record {
   events = said.events;
   polls = said.polls;
   cycles = cycles;
@@ -222,7 +222,7 @@ abbrev pub if_taken : {T : Type 0} → Bool → Bool → Option T → Option T
 if_taken takes given found = if given && not takes then None else found
 
 -- the options of a command that has no further positional and no `--slack`, and perhaps takes `--events` and `--polls`
-abbrev pub options_alone : Bool → Bool → Said → List Text → Option Options
+abbrev pub options_alone : Bool → Bool → Arguments → List Text → Option Options
 options_alone events polls said rest =
     if_taken events said.events (if_taken polls said.polls (if_taken false (is_some said.slack) (no_more rest (options_of said))))
 
@@ -240,7 +240,7 @@ tells_polls _ = false
 -- the command `gen` with its two positionals: a seed of 0 to 65,535, and 1 to 64 modules
 abbrev pub gen_of : List Text → Option Command
 gen_of (seed ∷ modules ∷ []) =
-    both (λ s m. Gen s m) (number_in 0 65_535 seed) (number_in 1 64 modules)
+    if_both (λ s m. Gen s m) (number_in 0 65_535 seed) (number_in 1 64 modules)
 gen_of _ = None
 
 -- two numbers of 1 to 64, of which the second is at least the first
@@ -248,10 +248,10 @@ abbrev pub range_in : Text → Text → Option (ℕ × ℕ)
 range_in lo hi = option_and_then (λ l. option_map (λ h. (l, h)) (number_in l 64 hi)) (number_in 1 64 lo)
 
 -- the command `sweep` with its two positionals, the least depth and the greatest
-abbrev pub sweep_of : Said → List Text → Option Command
+abbrev pub sweep_of : Arguments → List Text → Option Command
 sweep_of said (lo ∷ hi ∷ []) =
     if_taken false said.events (if_taken false said.polls (if_taken false (is_some said.slack)
-    (both (λ range o. asked said (Sweep range.0 range.1 o)) (range_in lo hi) (options_of said))))
+    (if_both (λ range o. asked said (Sweep range.0 range.1 o)) (range_in lo hi) (options_of said))))
 sweep_of said _ = None
 
 -- the value of `--slack`, of 0 to 10^15; 0 where it is not given
@@ -260,13 +260,13 @@ slack_in None = Some 0
 slack_in (Some text) = number_in 0 (10 ^ 15) text
 
 -- the command `size` or `least`, which takes `--slack` and has no further positional
-abbrev pub with_slack : (ℕ → Options → Task) → Said → List Text → Option Command
+abbrev pub with_slack : (ℕ → Options → Task) → Arguments → List Text → Option Command
 with_slack task said rest =
     if_taken false said.events (if_taken false said.polls
-    (no_more rest (both (λ slack o. asked said (task slack o)) (slack_in said.slack) (options_of said))))
+    (no_more rest (if_both (λ slack o. asked said (task slack o)) (slack_in said.slack) (options_of said))))
 
 -- the command with this name that options and further positionals give, if its rule accepts them
-abbrev pub command_named : Said → List Text → CommandName → Option Command
+abbrev pub command_named : Arguments → List Text → CommandName → Option Command
 command_named said rest (name.Simulate by) = option_map (λ o. asked said (Simulate by o)) (options_alone true false said rest)
 command_named said rest name.Check = without_option said (no_more rest (Some (asked said Check)))
 command_named said rest name.Gen = if_taken false said.large (without_option said (gen_of rest))
@@ -279,19 +279,19 @@ command_named said rest name.Size = with_slack Size said rest
 command_named said rest name.Least = with_slack Least said rest
 
 -- the command that options and positionals give, of which the first is its name
-abbrev pub command_by : Said → List Text → Option Command
+abbrev pub command_by : Arguments → List Text → Option Command
 command_by said [] = None
 command_by said (word ∷ rest) = option_and_then (command_named said rest) (name_of word)
 
 -- the command that words with these options and positionals are, if a rule accepts them
-abbrev pub command_of : Said → Option Command
+abbrev pub command_of : Arguments → Option Command
 command_of said = command_by said said.positionals
 
 -- ---- lists of words
 
 -- the command that a list of words is, if it is accepted
 unfoldable pub accepted : List Text → Option Command
-accepted words = option_and_then command_of (said_from None nothing words)
+accepted words = option_and_then command_of (said_from None no_arguments words)
 
 -- ---- ranges
 

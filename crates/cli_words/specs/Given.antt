@@ -2,7 +2,7 @@
 use Rattle.std.specs.Prelude.{◌≡◌, ◌∷◌, List, [], Option, Some, None, Result, Ok, Err, option_map, ⊤}
 use Rattle.std.specs.Borrow.{Bor}
 use Rattle.cli_words.specs.{declared.parser.Given.Given, declared.WordFault.WordFault}
-use Rattle.cli_words.specs.CommandWords.{Said, Text, accepted, command_of}
+use Rattle.cli_words.specs.CommandWords.{Arguments, Text, accepted, command_of}
 use Rattle.cli_words.specs.declared.WordFault.TheVariants as fault
 
 -- the bytes of a text, if there is one
@@ -10,14 +10,14 @@ abbrev pub text_of : Option (Bor Text) → Option Text
 text_of = option_map (λ s. s.now)
 
 -- the last positional, if there is one
-abbrev pub last_of : Option Text → List Text
-last_of None = []
-last_of (Some word) = word ∷ []
+abbrev pub last_positional : Option Text → List Text
+last_positional None = []
+last_positional (Some word) = word ∷ []
 
 -- the second and the third positional, as far as they are there
 abbrev pub further_of : Option Text → Option Text → List Text
 further_of None third = []
-further_of (Some word) third = word ∷ last_of third
+further_of (Some word) third = word ∷ last_positional third
 
 -- the positionals up to the first that is absent
 abbrev pub positionals_of : Option Text → Option Text → Option Text → List Text
@@ -25,7 +25,7 @@ positionals_of None second third = []
 positionals_of (Some word) second third = word ∷ further_of second third
 
 -- what the words said, by what the parser gives
-abbrev pub said_of : Given → Said
+abbrev pub said_of : Given → Arguments
 said_of g = record {
   events = g.events;
   polls = g.polls;
@@ -37,8 +37,8 @@ said_of g = record {
 }
 
 -- the positionals after the command's name
-abbrev pub rest_of : Given → List Text
-rest_of g = further_of (text_of g.second) (text_of g.third)
+abbrev pub further_positionals : Given → List Text
+further_positionals g = further_of (text_of g.second) (text_of g.third)
 
 -- the parser's answer is right: it gives the command that the words are, and refuses only words that are not accepted
 abbrev pub IsGivenBy : List Text → Result Given WordFault → Type 0

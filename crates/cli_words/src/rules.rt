@@ -3,7 +3,7 @@ ghost use Rattle.std.specs.Prelude.{◌≡◌, ◌≤◌, ◌^◌, ℕ, IfSome, 
 ghost use Rattle.cli_words.specs.CommandWords.{AreLimits, asked, IsInRange, IsLimit, command_of, gen_of, has_options, limit_in, name_of};
 ghost use Rattle.cli_words.specs.CommandWords.{no_more, number_in, options_alone, options_of, slack_in, sweep_of, tells_events, scale_of};
 ghost use Rattle.cli_words.specs.CommandWords.{tells_polls, with_slack, without_option};
-ghost use Rattle.cli_words.specs.Given.{rest_of, said_of, text_of};
+ghost use Rattle.cli_words.specs.Given.{further_positionals, said_of, text_of};
 
 use crate::parser::Given;
 use crate::{Asked, Command, Options, Simulator, Task, View};
@@ -125,7 +125,7 @@ fn has_options(given: &Given<'_>) -> bool
 
 /// The command that asks for a task which takes no option but `--large`, and no further positional. `None` where more is given.
 fn bare(given: &Given<'_>, task: Task) -> Option<Command>
-    ensures command { result ≡ without_option (said_of given.now) (no_more (rest_of given.now)
+    ensures command { result ≡ without_option (said_of given.now) (no_more (further_positionals given.now)
         (Some (asked (said_of given.now) task))) }
     ensures same { IfSome result (λ found. found ≡ asked (said_of given.now) task) }
 {
@@ -138,7 +138,7 @@ fn bare(given: &Given<'_>, task: Task) -> Option<Command>
 /// The options of a command that takes no further positional and no `--slack`, and perhaps `--events` and `--polls`. `None` where
 /// more is given, or a limit is out of its bounds.
 fn options_alone(given: &Given<'_>, takes_events: bool, takes_polls: bool) -> Option<Options>
-    ensures options { result ≡ options_alone takes_events takes_polls (said_of given.now) (rest_of given.now) }
+    ensures options { result ≡ options_alone takes_events takes_polls (said_of given.now) (further_positionals given.now) }
     ensures range { IfSome result (AreLimits (scale_of (said_of given.now))) }
 {
     let untaken = given.events && !takes_events || given.polls && !takes_polls;
@@ -188,7 +188,7 @@ fn limit(most: u64, text: Option<&str>) -> Option<Option<u64>>
 
 /// The command `gen`, with its seed and its number of modules. `None` where one is missing or out of its bounds.
 fn gen_of(given: &Given<'_>) -> Option<Command>
-    ensures command { result ≡ gen_of (rest_of given.now) }
+    ensures command { result ≡ gen_of (further_positionals given.now) }
     ensures range { IfSome result IsInRange }
 {
     let seed = number(0, MOST_SEED, given.second?)?;
@@ -198,7 +198,7 @@ fn gen_of(given: &Given<'_>) -> Option<Command>
 
 /// The command `sweep`, with its least and its greatest depth, and its limits. `None` where one is missing or out of its bounds.
 fn sweep_of(given: &Given<'_>) -> Option<Command>
-    ensures command { result ≡ sweep_of (said_of given.now) (rest_of given.now) }
+    ensures command { result ≡ sweep_of (said_of given.now) (further_positionals given.now) }
     ensures range { IfSome result IsInRange }
 {
     if given.events || given.polls || given.slack.is_some() {
@@ -213,7 +213,7 @@ fn sweep_of(given: &Given<'_>) -> Option<Command>
 /// The slack of a command that takes `--slack`, and its options. `None` where something else is given, or a number is out of its
 /// bounds.
 fn with_slack(given: &Given<'_>) -> Option<(u64, Options)>
-    ensures command { (task : ℕ → Options → Task) → with_slack task (said_of given.now) (rest_of given.now)
+    ensures command { (task : ℕ → Options → Task) → with_slack task (said_of given.now) (further_positionals given.now)
         ≡ option_map (λ found. asked (said_of given.now) (task found.0 found.1)) result }
     ensures range { IfSome result (λ found. (found.0 ≤ 10 ^ 15) × AreLimits (scale_of (said_of given.now)) found.1) }
 {

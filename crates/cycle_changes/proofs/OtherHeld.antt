@@ -13,14 +13,13 @@ use Rattle.query_log.specs.Logs.{Log, IsSoundLog, log_at, no_log}
 use Rattle.time_engine.specs.Conditions.{IsAccess, HasAccesses}
 use Rattle.event_timing.specs.{Machines.Design, Machines.ready, Views.own, Edits.edited, Edits.after_edit, Edits.kept}
 use Rattle.event_timing.specs.Core.{Core, core_tally, core_values}
-use Rattle.right_records.specs.Records.{with_cycles}
-use Rattle.right_records.proofs.{Keeping.kept_none, Marks.marks_on}
+use Rattle.cycle_changes.specs.{Records.with_cycles, Looks.cycle_held, OtherCycles.HasOtherCycles}
+use Rattle.cycle_changes.proofs.{Keeping.kept_none, Marks.marks_on}
 use Rattle.engine_view.specs.{Edited.IsCut, Kept.IsKept, Kept.IsNow, Rooms.HasRoom, Rooms.room_of, Rooms.pending}
 use Rattle.engine_view.specs.Held.{Held, step_of, no_step, emitted_of, seen, are_among, flags_by, replies_at, waited, core_of, values_at}
 use Rattle.engine_view.specs.Shown.{Shows, IsKind, AreTaken, AreWhole, queries_before}
 use Rattle.engine_view.proofs.{Answered.queries_zero, Answered.steps_only, Keeping.cut_now, Keeping.now_kept, Placing.places_from}
 use Rattle.engine_view.proofs.{Reading.IsRead, Reading.read_sound, Roomy.pending_same, Roomy.room_on}
-use Rattle.cycle_changes.specs.{Looks.cycle_held, OtherCycles.HasOtherCycles}
 
 -- a log without a verified outcome
 abbrev unsure : Log → Log

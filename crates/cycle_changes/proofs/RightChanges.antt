@@ -12,15 +12,15 @@ use Rattle.event_timing.specs.Machines as theory
 use Rattle.event_timing.specs.Machines.{Design, IsDesign, Each}
 use Rattle.event_timing.specs.{Core.Core, Core.core_accesses, Core.view, Enablers.candidate, Edits.edited}
 use Rattle.event_timing.proofs.{Editing.edit_design, OwnRuns.same_side_is}
-use Rattle.right_records.specs.Records.{IsRightRecord, IsRight, IsStill, IsBeside, IsChecked, IsIn, IsSaidAround, with_cycles, partner}
-use Rattle.right_records.specs.Records as records
-use Rattle.right_records.proofs.{Enabled.around, Onward.record_on}
+use Rattle.cycle_changes.specs.Records.{IsRightRecord, IsRight, IsStill, IsBeside, IsChecked, IsIn, IsSaidAround, with_cycles, partner}
+use Rattle.cycle_changes.specs.{Looks.IsLooked, Looks.cycle_held, OtherCycles.HasOtherCycles, Changed.AreRightChanges}
+use Rattle.cycle_changes.specs.Around.{IsLookedAround, StandsAt, WaitsFor}
+use Rattle.cycle_changes.specs.Records as records
+use Rattle.cycle_changes.proofs.{Enabled.around, Onward.record_on, OtherHeld.other_now, RightLooks.look_is}
+use Rattle.cycle_changes.proofs.Waiting.{event_found, no_access}
 use Rattle.engine_view.specs.{Emitted.place_of, Kept.IsKept, Kept.IsNow, declared.engine.Engine.Engine, Engines.held_in}
 use Rattle.engine_view.specs.Held.{Held, held, step_of, emitted_of, seen, core_of}
 use Rattle.engine_view.proofs.{Bounds.candidate_is, Knowing.timed_within}
-use Rattle.cycle_changes.specs.{Looks.IsLooked, Looks.cycle_held, OtherCycles.HasOtherCycles, Changed.AreRightChanges}
-use Rattle.cycle_changes.specs.Around.{IsLookedAround, StandsAt, WaitsFor}
-use Rattle.cycle_changes.proofs.{OtherHeld.other_now, RightLooks.look_is, Waiting.event_found, Waiting.no_access}
 
 -- ---- lists of accesses
 

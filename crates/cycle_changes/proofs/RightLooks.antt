@@ -11,8 +11,7 @@ use Rattle.engine_view.specs.Held.{Held, step_of, seen, core_of, waited, emitted
 use Rattle.engine_view.specs.{Shown.IsSound, Known.as_known, Known.found_flags}
 use Rattle.engine_view.proofs.Bounds.{bound_is, lane_apart, unless}
 use Rattle.engine_view.proofs.{Deciding.flags_found, Knowing.access_known_in, Knowing.timed_within}
-use Rattle.right_records.specs.Records.{IsRight, known_at}
-use Rattle.cycle_changes.specs.Looks.{IsLooked, cycle_before, looked, cycle_held}
+use Rattle.cycle_changes.specs.{Records.IsRight, Records.known_at, Looks.IsLooked, Looks.cycle_before, Looks.looked, Looks.cycle_held}
 
 arrives : (lane : Lane) (k gap : ℕ) → (0 < k → 1 ≤ gap)
     → cycle_before lane k + gap ≡ from (λ j. slice_index_or lane.cycles j 0) k + waited k gap

@@ -15,7 +15,7 @@ use Rattle.event_timing.specs.{Machines.Design, Machines.IsDesign, Machines.take
 use Rattle.event_timing.specs.Core.{Core, core_accesses, core_reply, core_tally, bare_replies}
 use Rattle.event_timing.proofs.{Fronts.core_tally_is, Values.takes_takers}
 use Rattle.event_timing.proofs.OwnRuns.{IsPlace, place_says, same_side_is, tally_more}
-use Rattle.right_records.specs.Records as records
+use Rattle.cycle_changes.specs.Records as records
 use Rattle.engine_view.specs.{Emitted.place_of, Shown.IsSound, Shown.IsKind, Shown.IsTakenAt}
 use Rattle.engine_view.specs.Held.{Held, step_of, emitted_of, seen, core_of}
 use Rattle.engine_view.proofs.Knowing.{timed_within}

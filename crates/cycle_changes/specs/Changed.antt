@@ -5,12 +5,11 @@ use Rattle.flow_word.specs.{declared.access.Place.Place, declared.access.Side.Si
 use Rattle.event_graph.specs.Lanes.{lane_at}
 use Rattle.fifo_table.specs.Channels.{with_depth}
 use Rattle.event_timing.specs.Edits.{edited}
-use Rattle.right_records.specs.Records.{IsRightRecord}
+use Rattle.cycle_changes.specs.{Records.IsRightRecord, Looks.IsLooked, Looks.cycle_held, OtherCycles.HasOtherCycles, Seeds.AreSeeds}
+use Rattle.cycle_changes.specs.Around.{IsLookedAround, AreLate}
 use Rattle.engine_view.specs.{Emitted.place_of, Held.held, Held.core_of, Kept.IsKept, Rooms.room_of, declared.engine.Engine.Engine}
 use Rattle.engine_view.specs.{Engines.held_in, Taking.kinds_in, Turns.IsSomeCore, Turns.OfEach}
 use Rattle.retime.specs.{Cuts.KeepsRoomEdited, Rounds.only_steps}
-use Rattle.cycle_changes.specs.{Looks.IsLooked, Looks.cycle_held, OtherCycles.HasOtherCycles, Seeds.AreSeeds}
-use Rattle.cycle_changes.specs.Around.{IsLookedAround, AreLate}
 
 -- for each design of which s is a right record, t is a right record of the design with the new depth
 abbrev pub StaysRight : Edit → ℕ → Engine → Engine → Type 0

@@ -6,3 +6,4 @@ pub mod Changed
 pub mod Moved
 pub mod Puts
 pub mod Found
+pub mod Records

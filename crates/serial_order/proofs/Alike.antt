@@ -12,7 +12,7 @@ use Rattle.flow_design.specs.Words.{variable, value, unary, extended}
 use Rattle.lockstep_defs.specs.{Machine.memory_of, Channels.moved_by}
 use Rattle.serial_order.specs.{declared.order.Used.Used, SerialRun.Progress}
 use Rattle.serial_order.specs.declared.order.Used.TheVariants.{Register, Memory, Reading, Writing}
-use Rattle.serial_order.specs.Uses.{names, is_named, is_this, is_among, is_use}
+use Rattle.serial_order.specs.Uses.{names, is_named, is_this, is_listed, is_use}
 use Rattle.serial_order.proofs.Outcomes.{ToVariable, Setting, outcome, exchange}
 
 -- ---- tests and lists
@@ -106,8 +106,8 @@ same_named : (c : Setting) (x y : Progress) (i j : ℕ) (t : Timed) (e : Expr �
 same_named c x y i j t e h named =
     same_value x.state.registers (temps_of x.state i) y.state.registers (temps_of y.state j) e
     (λ v is. same_variable c x y i j t h v
-    (or_right (is_this v t.guard) (is_named v (expressions_of t.op) || is_among v (places_of t.op))
-    (or_left (is_named v (expressions_of t.op)) (is_among v (places_of t.op)) (named v is))))
+    (or_right (is_this v t.guard) (is_named v (expressions_of t.op) || is_listed v (places_of t.op))
+    (or_left (is_named v (expressions_of t.op)) (is_listed v (places_of t.op)) (named v is))))
 
 pub same_outcome : (c : Setting) (x y : Progress) (i j age : ℕ) (g : Option ℕ) (op : Op ℕ)
     → IsOperationSound (length c.channels) c.owner (length c.block.temps) op

@@ -9,7 +9,7 @@ use Rattle.lockstep_defs.specs.{Machine.requests, Machine.move, Machine.is_over,
 use Rattle.lockstep_defs.specs.OwnRun.{OwnStep, Own, own_after, own_next, own, paired}
 use Rattle.flow_word.specs.declared.access.Side.TheVariants.{Pop, Push}
 use Rattle.serial_order.specs.declared.order.Used.TheVariants.{Register, Memory, Reading, Writing}
-use Rattle.serial_order.specs.SerialRun.{all_given, Progress, serial, AreGiven, done_by, EndsAlike, GetsAsFar}
+use Rattle.serial_order.specs.SerialRun.{all_given, Progress, serial, AreGiven, exchanges_of, EndsAlike, GetsAsFar}
 use Rattle.serial_order.proofs.{Outcomes.setting_of, Alike.only, Going.IsSerial, Fronts.end_front}
 use Rattle.serial_order.proofs.Runs.{IsBeside, goes, ends, moved, goes_further, opens}
 
@@ -32,7 +32,7 @@ given_before lists done (t ∷ ss) s h =
 -- ---- the own run as a run on lists
 
 abbrev flat : Own → Progress
-flat o = record { state = o.state; done = done_by o }
+flat o = record { state = o.state; done = exchanges_of o }
 
 over_ended : (limit : ℕ) (s : ModuleState) → s.ended ≡ true → is_over limit s ≡ true
 unfolding is_over
@@ -56,10 +56,10 @@ module _ (p : Plan) (i : ℕ) (lists : List (List ℕ)) (replies : List (List Re
       → AreGiven lists [] o.steps × (flat (own_after m o rs answers) ≡ moved_on (flat o))
   after_is o [] answers e h = (
     h,
-    ap (λ (done : List Exchange). record { state = move m o.state []; done = done }) (sym (append-nil (done_by o)))
+    ap (λ (done : List Exchange). record { state = move m o.state []; done = done }) (sym (append-nil (exchanges_of o)))
         ∙ ap (λ (rs : List Request). record {
-          state = move m o.state (all_given lists (done_by o) rs);
-          done = done_by o ++ paired rs (all_given lists (done_by o) rs);
+          state = move m o.state (all_given lists (exchanges_of o) rs);
+          done = exchanges_of o ++ paired rs (all_given lists (exchanges_of o) rs);
         }) (sym e),
   )
   after_is o (r ∷ rs) answers e h =
@@ -68,11 +68,11 @@ module _ (p : Plan) (i : ℕ) (lists : List (List ℕ)) (replies : List (List Re
         before.0,
         ap (λ (done : List Exchange). record { state = move m o.state answers; done = done })
             (flat_map-append (λ s. paired s.requests s.replies) o.steps (step ∷ [])
-            ∙ ap (λ (xs : List Exchange). done_by o ++ xs) (append-nil (paired (r ∷ rs) answers)))
-            ∙ (ap (λ (given : List Reply). record { state = move m o.state given; done = done_by o ++ paired (r ∷ rs) given }) before.1
+            ∙ ap (λ (xs : List Exchange). exchanges_of o ++ xs) (append-nil (paired (r ∷ rs) answers)))
+            ∙ (ap (λ (given : List Reply). record { state = move m o.state given; done = exchanges_of o ++ paired (r ∷ rs) given }) before.1
             ∙ ap (λ (rs : List Request). record {
-              state = move m o.state (all_given lists (done_by o) rs);
-              done = done_by o ++ paired rs (all_given lists (done_by o) rs);
+              state = move m o.state (all_given lists (exchanges_of o) rs);
+              done = exchanges_of o ++ paired rs (all_given lists (exchanges_of o) rs);
             }) (sym e)),
       )
 
@@ -144,7 +144,7 @@ module _ (p : Plan) (i : ℕ) (lists : List (List ℕ)) (replies : List (List Re
       by (ends k h) = (
         k,
         record {
-          pushes = λ f l. ([], sym (h.things (Writing f) l) ∙ sym (append-nil (moved_by Push f (done_by (own p i replies n)))));
-          pops = λ f l. ([], sym (h.things (Reading f) l) ∙ sym (append-nil (moved_by Pop f (done_by (own p i replies n)))));
+          pushes = λ f l. ([], sym (h.things (Writing f) l) ∙ sym (append-nil (moved_by Push f (exchanges_of (own p i replies n)))));
+          pops = λ f l. ([], sym (h.things (Reading f) l) ∙ sym (append-nil (moved_by Pop f (exchanges_of (own p i replies n)))));
         },
       )

@@ -10,7 +10,7 @@ use Rattle.lockstep_defs.specs.{Machine.requests, Channels.moved_by, OwnRun.pair
 use Rattle.lockstep_defs.proofs.Queue.{moved_by-append}
 use Rattle.serial_order.specs.{declared.order.Used.Used, Uses.writes}
 use Rattle.serial_order.specs.declared.order.Used.TheVariants.{Reading, Writing}
-use Rattle.serial_order.specs.SerialRun.{Progress, IsFront, all_given, alone_at, gone_on, iteration, iterated, serial}
+use Rattle.serial_order.specs.SerialRun.{Progress, IsFront, all_given, alone_at, moved_on, iteration, iterated, serial}
 use Rattle.serial_order.proofs.{Lists.Among, Alike.IsThing, Alike.held, Offsets.upto, Going.IsSerial, Runs.GoesBeside, Runs.from-suc}
 use Rattle.serial_order.proofs.Outcomes.{Setting, setting_of}
 use Rattle.serial_order.proofs.Windows.{IsNarrow, NotLater, AllEarlier, writes_used}
@@ -61,7 +61,7 @@ module _ (side : Side) (f : ℕ) (lists : List (List ℕ)) (channels : List Chan
   one_iteration x = by x.state.ended
     where
       by : (b : Bool) → IsFront (at_end x) (at_end (if b then x
-          else (let y = iteration lists channels m (block_of m x.state).len x in record y { state = gone_on m y.state })))
+          else (let y = iteration lists channels m (block_of m x.state).len x in record y { state = moved_on m y.state })))
       by true = front_same (at_end x)
       by false =
           subst (λ (xs : List ℕ). IsFront xs (at_end (iteration lists channels m (block_of m x.state).len x))) (no_offset x)
@@ -192,7 +192,7 @@ module _ (lists : List (List ℕ)) (channels : List Channel) (m : Module) (sound
     last_done =
         let y : Progress = iteration lists channels m (block_of m (from n).state).len (from n) in
         is_held (iterated lists channels m (from n))
-        ∙ (ap (λ (e : Bool). ended_here (if e then from n else record y { state = gone_on m y.state })) h.runs
+        ∙ (ap (λ (e : Bool). ended_here (if e then from n else record y { state = moved_on m y.state })) h.runs
         ∙ (ap (λ (q : Block). ended_here (iteration lists channels m q.len (from n))) (h.chain.stands n (omega arith)).block
         ∙ sym (is_held (upto c b.len (from n)))))
 

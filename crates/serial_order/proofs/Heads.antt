@@ -6,7 +6,7 @@ use Rattle.flow_design.specs.{declared.design.Timed.Timed, declared.design.Block
 use Rattle.flow_design.specs.declared.design.BlockKind.TheVariants.{Loop}
 use Rattle.serial_order.specs.{declared.order.Order.Order, declared.order.Used.Used}
 use Rattle.serial_order.specs.declared.order.Order.TheVariants.{Late, Wide}
-use Rattle.serial_order.specs.Orders.{head, numbers_where, is_late, lates_of, is_wide, things_of, wides_of, faults_by}
+use Rattle.serial_order.specs.Orders.{head, numbers_where, writes_late, lates_of, is_wide, things_of, wides_of, faults_by}
 
 -- none passes before number n
 abbrev pub NoneBefore : (Timed → Bool) → List Timed → ℕ → Type 0
@@ -50,22 +50,22 @@ head-map f (x ∷ xs) = refl
 
 pub head-loop : (channels : ℕ) (m : Module) (number ii again : ℕ) (ops : List Timed)
     → head (faults_by channels m number ops (Loop ii again))
-    ≡ option_or (option_map (Late number) (head (numbers_where (is_late ii again) ops)))
+    ≡ option_or (option_map (Late number) (head (numbers_where (writes_late ii again) ops)))
     (option_map (Wide number) (find (is_wide ii ops) (things_of channels m)))
 head-loop channels m number ii again ops =
     head-append (lates_of number ii again ops) (wides_of channels m number ii ops)
     ∙ rw (
-      head-map (Late number) (numbers_where (is_late ii again) ops),
+      head-map (Late number) (numbers_where (writes_late ii again) ops),
       head-map (Wide number) (filter (is_wide ii ops) (things_of channels m)),
       head-filter (is_wide ii ops) (things_of channels m),
     ) refl
 
 pub loop_late : (channels : ℕ) (m : Module) (number ii again : ℕ) (ops : List Timed) (op : ℕ)
-    → head (numbers_where (is_late ii again) ops) ≡ Some op
+    → head (numbers_where (writes_late ii again) ops) ≡ Some op
     → head (faults_by channels m number ops (Loop ii again)) ≡ Some (Late number op)
 loop_late channels m number ii again ops op e = head-loop channels m number ii again ops ∙ rw e refl
 
 pub loop_wide : (channels : ℕ) (m : Module) (number ii again : ℕ) (ops : List Timed) (o : Option Used)
-    → head (numbers_where (is_late ii again) ops) ≡ None → find (is_wide ii ops) (things_of channels m) ≡ o
+    → head (numbers_where (writes_late ii again) ops) ≡ None → find (is_wide ii ops) (things_of channels m) ≡ o
     → head (faults_by channels m number ops (Loop ii again)) ≡ option_map (Wide number) o
 loop_wide channels m number ii again ops o e f = head-loop channels m number ii again ops ∙ rw (e, f) refl

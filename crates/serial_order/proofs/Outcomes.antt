@@ -19,7 +19,7 @@ use Rattle.lockstep_defs.specs.Machine.{width_of, value_of, request_of, requests
 use Rattle.lockstep_defs.specs.Machine.{effects, stored}
 use Rattle.lockstep_defs.proofs.{Standing.due_in_range, Due.AreApart, Due.how_many, Due.due_once}
 use Rattle.serial_order.specs.Uses.{reading_end}
-use Rattle.serial_order.specs.SerialRun.{value_given, given, all_given, Progress, clock_made}
+use Rattle.serial_order.specs.SerialRun.{value_given, serial_reply, all_given, Progress, clock_made}
 use Rattle.serial_order.proofs.Exchanges.{pop_of, push_of, unmoved, pop_elsewhere, push_no_pop}
 use Rattle.serial_order.proofs.Lists.{Among, among_all, among_at}
 
@@ -95,7 +95,7 @@ due_done c x r d = done_by_op c x d.iteration (op_of c d) r
 
 -- the replies to requests, as if each came first in the local clock
 abbrev at_once : Setting → Progress → List Request → List Reply
-at_once c x reqs = map (given c.lists x.done) reqs
+at_once c x reqs = map (serial_reply c.lists x.done) reqs
 
 -- the machine's effects and exchanges of these, from r on
 abbrev machine_done : Setting → Progress → List Due → Progress → Progress

@@ -17,8 +17,8 @@ use Rattle.lockstep_defs.proofs.{Due.AreApart, Blocks.some_interval, Blocks.shor
 use Rattle.serial_order.specs.{Uses.reading_end, Uses.writes, Uses.is_use, declared.order.Used.Used, declared.order.Order.Order}
 use Rattle.serial_order.specs.declared.order.Used.TheVariants.{Register, Memory, Reading, Writing}
 use Rattle.serial_order.specs.declared.order.Order.TheVariants.{Serial, Query, Late, Wide}
-use Rattle.serial_order.specs.Orders.{head, numbers_where, queries_of, is_late, lates_of, offsets_of_use, first_use, last_use, is_wide}
-use Rattle.serial_order.specs.Orders.{things_of, faults_by, faults_of, all_faults}
+use Rattle.serial_order.specs.Orders.{head, numbers_where, query_orders, writes_late, lates_of, offsets_of_use, first_use, last_use}
+use Rattle.serial_order.specs.Orders.{is_wide, things_of, faults_by, faults_of, all_faults}
 use Rattle.serial_order.proofs.{Lists.Among, Lists.among_all, Outcomes.setting_of, Alike.IsThing, Going.IsSerial}
 use Rattle.serial_order.proofs.Windows.{writes_used, none_written}
 
@@ -43,14 +43,14 @@ faults-flat_map f (x ∷ xs) h = faults-append (f x) (flat_map f xs) (h x) (faul
 are_faults : (channels : ℕ) (m : Module) → AreFaults (all_faults channels m)
 are_faults channels m =
     faults-append _ _
-    (faults-flat_map queries_of (enumerate_from 0 m.blocks)
+    (faults-flat_map query_orders (enumerate_from 0 m.blocks)
     (λ b. faults-map (Query b.0) (numbers_where (λ t. is_query t.op) (b.1).ops) (λ n e. absurd cc)))
     (faults-flat_map (faults_of channels m) (enumerate_from 0 m.blocks) (λ b. by_kind b.0 (b.1).ops (b.1).kind))
   where
     by_kind : (n : ℕ) (ops : List Timed) (k : BlockKind) → AreFaults (faults_by channels m n ops k)
     by_kind n ops Plain = tt
     by_kind n ops (Loop ii again) =
-        faults-append _ _ (faults-map (Late n) (numbers_where (is_late ii again) ops) (λ o e. absurd cc))
+        faults-append _ _ (faults-map (Late n) (numbers_where (writes_late ii again) ops) (λ o e. absurd cc))
         (faults-map (Wide n) (filter (is_wide ii ops) (things_of channels m)) (λ u e. absurd cc))
 
 none_at_all : (os : List Order) → AreFaults os → unwrap_or (head os) Serial ≡ Serial → os ≡ []
@@ -228,7 +228,7 @@ are_apart f ii (t ∷ ts) h = (
 
 module _ (lists : List (List ℕ)) (channels : List Channel) (m : Module) (sound : IsModuleSound (length channels) m)
     (is : unwrap_or (head (all_faults (length channels) m)) Serial ≡ Serial) where
-  no_faults : (flat_map queries_of (enumerate_from 0 m.blocks) ≡ [])
+  no_faults : (flat_map query_orders (enumerate_from 0 m.blocks) ≡ [])
       × (flat_map (faults_of (length channels) m) (enumerate_from 0 m.blocks) ≡ [])
   no_faults = empty_parts _ _ (none_at_all (all_faults (length channels) m) (are_faults (length channels) m) is)
 
@@ -254,7 +254,7 @@ module _ (lists : List (List ℕ)) (channels : List Channel) (m : Module) (sound
       → (w : Timed) → Among w ops → writes (Register (again_of k)) w.op ≡ true → w.offset < interval_of k len
   early_by n len ops Plain e loop w w_in w_writes = absurd (true≢false (sym loop))
   early_by n len ops (Loop ii again) e loop w w_in w_writes =
-      let late = no_numbers (is_late ii again) ops (empty_map (Late n) _ (empty_parts (lates_of n ii again ops) _ e).0) w w_in in
+      let late = no_numbers (writes_late ii again) ops (empty_map (Late n) _ (empty_parts (lates_of n ii again ops) _ e).0) w w_in in
       leb-false ii w.offset (only_first (nat_le ii w.offset) (writes (Register again) w.op) w_writes late)
     where
       only_first : (x y : Bool) → y ≡ true → (x && y) ≡ false → x ≡ false
@@ -268,7 +268,7 @@ module _ (lists : List (List ℕ)) (channels : List Channel) (m : Module) (sound
   pub serial_blocks : (b : ℕ) → b < length m.blocks → IsSerial (setting_of lists channels m (block_at m b))
   serial_blocks b there =
       let here : IsBlockSound (length channels) m (block_at m b) = sound.blocks b no_block there in
-      let query = empty_blocks queries_of 0 m.blocks no_faults.0 b there in
+      let query = empty_blocks query_orders 0 m.blocks no_faults.0 b there in
       let fault = empty_blocks (faults_of (length channels) m) 0 m.blocks no_faults.1 b there in
       let operations = among_all (IsTimedSound (length channels) m (block_at m b)) (block_at m b).ops here.operations in
       let inside : (t : Timed) → Among t (block_at m b).ops

@@ -7,7 +7,7 @@ use Rattle.flow_design.specs.declared.expr.Op.TheVariants.{Set, Load, Store, Rea
 use Rattle.flow_design.specs.Module.{block_of, interval, live_count, temps_of}
 use Rattle.serial_order.specs.{declared.order.Used.Used, Orders.is_written_at, SerialRun.Progress}
 use Rattle.serial_order.specs.declared.order.Used.TheVariants.{Register, Memory, Reading, Writing}
-use Rattle.serial_order.specs.Uses.{writes, is_use, is_this, is_named, is_among}
+use Rattle.serial_order.specs.Uses.{writes, is_use, is_this, is_named, is_listed}
 use Rattle.serial_order.proofs.{Lists.Among, Outcomes.Setting, Alike.IsThing, Alike.held, Applied.Placed, Offsets.Stands, Offsets.upto}
 
 -- ---- writes are uses
@@ -15,7 +15,7 @@ use Rattle.serial_order.proofs.{Lists.Among, Outcomes.Setting, Alike.IsThing, Al
 op_writes_used : (u : Used) (t : Timed) (op : Op ℕ) → t.op ≡ op → writes u op ≡ true
     → is_use u (record { offset = t.offset; guard = t.guard; op = op }) ≡ true
 op_writes_used (Register x) t op e h =
-    or_right (is_this x t.guard) _ (or_right (is_named x (expressions_of op)) (is_among x (places_of op)) h)
+    or_right (is_this x t.guard) _ (or_right (is_named x (expressions_of op)) (is_listed x (places_of op)) h)
 op_writes_used (Memory n) t (Set v a) e h = absurd cc
 op_writes_used (Memory n) t (Load v k a) e h = absurd cc
 op_writes_used (Memory n) t (Store k a b) e h = h

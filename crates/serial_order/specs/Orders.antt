@@ -36,17 +36,17 @@ numbers_where test ops = map (λ t. t.0) (filter (λ t. test t.1) (enumerate_fro
 -- ---- first rule: no queries
 
 -- the query operations of a block, each by the numbers of the block and of the operation
-abbrev pub queries_of : ℕ × Block → List Order
-queries_of b = map (Query b.0) (numbers_where (λ t. is_query t.op) (b.1).ops)
+abbrev pub query_orders : ℕ × Block → List Order
+query_orders b = map (Query b.0) (numbers_where (λ t. is_query t.op) (b.1).ops)
 
 -- ---- second rule: the loop's register is written early
 
 -- the operation writes the loop's register at an offset of II or more
-abbrev pub is_late : ℕ → ℕ → Timed → Bool
-is_late ii again t = nat_le ii t.offset && writes (Register again) t.op
+abbrev pub writes_late : ℕ → ℕ → Timed → Bool
+writes_late ii again t = nat_le ii t.offset && writes (Register again) t.op
 
 abbrev pub lates_of : ℕ → ℕ → ℕ → List Timed → List Order
-lates_of number ii again ops = map (Late number) (numbers_where (is_late ii again) ops)
+lates_of number ii again ops = map (Late number) (numbers_where (writes_late ii again) ops)
 
 -- ---- third rule: iterations use a thing one after the other
 
@@ -97,7 +97,7 @@ faults_of channels m b = faults_by channels m b.0 (b.1).ops (b.1).kind
 -- all breaches of the rules in a module: first its queries, then block by block the breaches of the rules of loops
 abbrev pub all_faults : ℕ → Module → List Order
 all_faults channels m =
-    flat_map queries_of (enumerate_from 0 m.blocks) ++ flat_map (faults_of channels m) (enumerate_from 0 m.blocks)
+    flat_map query_orders (enumerate_from 0 m.blocks) ++ flat_map (faults_of channels m) (enumerate_from 0 m.blocks)
 
 -- the first breach of the rules in the module; `Serial` where there is none
 abbrev pub order_of : Design → ℕ → Order

@@ -17,14 +17,14 @@ abbrev pub value_given : List (List ℕ) → ℕ → ℕ → ℕ
 value_given lists f n = slice_index (slice_index_or lists f []) n
 
 -- the reply to a request after these exchanges: nothing waits, and a pop after n pops of its channel gives its n-th value
-abbrev pub given : List (List ℕ) → List Exchange → Request → Reply
-given lists done r = reply_by r.kind true (value_given lists r.channel (length (moved_by Pop r.channel done)))
+abbrev pub serial_reply : List (List ℕ) → List Exchange → Request → Reply
+serial_reply lists done r = reply_by r.kind true (value_given lists r.channel (length (moved_by Pop r.channel done)))
 
 -- the replies to the requests of a local clock, each after the exchanges of those before it
 abbrev pub all_given : List (List ℕ) → List Exchange → List Request → List Reply
 all_given lists done [] = []
 all_given lists done (r ∷ rs) =
-    let reply = given lists done r in reply ∷ all_given lists (done ++ record { request = r; reply = reply } ∷ []) rs
+    let reply = serial_reply lists done r in reply ∷ all_given lists (done ++ record { request = r; reply = reply } ∷ []) rs
 
 -- ---- the serial run
 
@@ -55,14 +55,14 @@ goes_again b s = is_loop b.kind && not (slice_index s.registers (again_of b.kind
 
 -- the state after an iteration: a loop starts another one while its register is not 0; otherwise the terminator leads to the next
 -- block
-abbrev pub gone_on : Module → ModuleState → ModuleState
-gone_on m s = if goes_again (block_of m s) s then s else followed m (block_of m s).next s
+abbrev pub moved_on : Module → ModuleState → ModuleState
+moved_on m s = if goes_again (block_of m s) s then s else followed m (block_of m s).next s
 
 -- the progress after one more iteration with all its offsets; a module that has ended stays as it is
 abbrev pub iterated : List (List ℕ) → List Channel → Module → Progress → Progress
 iterated lists channels m x =
     if x.state.ended then x
-    else (let y = iteration lists channels m (block_of m x.state).len x in record y { state = gone_on m y.state })
+    else (let y = iteration lists channels m (block_of m x.state).len x in record y { state = moved_on m y.state })
 
 -- the serial run of a module after this many iterations
 unfoldable pub serial : List (List ℕ) → List Channel → Module → ℕ → Progress
@@ -77,8 +77,8 @@ AreGiven lists done [] = Unit {0}
 AreGiven lists done (s ∷ ss) = (s.replies ≡ all_given lists done s.requests) × AreGiven lists (done ++ paired s.requests s.replies) ss
 
 -- what an own run has done at its channels
-abbrev pub done_by : Own → List Exchange
-done_by o = flat_map (λ s. paired s.requests s.replies) o.steps
+abbrev pub exchanges_of : Own → List Exchange
+exchanges_of o = flat_map (λ s. paired s.requests s.replies) o.steps
 
 -- ---- serial modules
 
@@ -86,8 +86,8 @@ done_by o = flat_map (λ s. paired s.requests s.replies) o.steps
 -- of pops, and the same registers and memories
 pub record EndsAlike (channels : ℕ) (x : Progress) (o : Own) : Type 0 where
   pub ended : IsTrue x.state.ended
-  pub pushes : (f : ℕ) → f < channels → moved_by Push f x.done ≡ moved_by Push f (done_by o)
-  pub pops : (f : ℕ) → f < channels → length (moved_by Pop f x.done) ≡ length (moved_by Pop f (done_by o))
+  pub pushes : (f : ℕ) → f < channels → moved_by Push f x.done ≡ moved_by Push f (exchanges_of o)
+  pub pops : (f : ℕ) → f < channels → length (moved_by Pop f x.done) ≡ length (moved_by Pop f (exchanges_of o))
   pub registers : x.state.registers ≡ o.state.registers
   pub memories : x.state.memories ≡ o.state.memories
 
@@ -106,8 +106,8 @@ IsFront front whole = (more : List ℕ) × (whole ≡ front ++ more)
 
 -- the serial run has done at least what the own run has: on each channel, the own run's pushes and pops are a prefix of its own
 pub record GetsAsFar (channels : ℕ) (x : Progress) (o : Own) : Type 0 where
-  pub pushes : (f : ℕ) → f < channels → IsFront (moved_by Push f (done_by o)) (moved_by Push f x.done)
-  pub pops : (f : ℕ) → f < channels → IsFront (moved_by Pop f (done_by o)) (moved_by Pop f x.done)
+  pub pushes : (f : ℕ) → f < channels → IsFront (moved_by Push f (exchanges_of o)) (moved_by Push f x.done)
+  pub pops : (f : ℕ) → f < channels → IsFront (moved_by Pop f (exchanges_of o)) (moved_by Pop f x.done)
 
 -- for all lists of values: at each point of the module's own run on them, the serial run gets at least as far
 abbrev pub KeepsToPlainLoops : Design → ℕ → Type 0

@@ -30,8 +30,8 @@ is_this n None = false
 is_this n (Some k) = k == n
 
 -- the register or temp is an item of the list
-abbrev pub is_among : ℕ → List ℕ → Bool
-is_among x xs = list_any (λ y. y == x) xs
+abbrev pub is_listed : ℕ → List ℕ → Bool
+is_listed x xs = list_any (λ y. y == x) xs
 
 -- ---- uses
 
@@ -56,14 +56,14 @@ writing_end f = record { side = Push; channel = f }
 
 -- the operation writes the thing: a pop writes the reading end of its channel, and a push the writing end
 abbrev pub writes : Used → Op ℕ → Bool
-writes (Register x) op = is_among x (places_of op)
+writes (Register x) op = is_listed x (places_of op)
 writes (Memory n) op = is_this n (stored_in op)
 writes (Reading f) op = is_port (reading_end f) (used_port op)
 writes (Writing f) op = is_port (writing_end f) (used_port op)
 
 -- the scheduled operation reads the thing, writes it or has it as its guard
 abbrev pub is_use : Used → Timed → Bool
-is_use (Register x) t = is_this x t.guard || (is_named x (expressions_of t.op) || is_among x (places_of t.op))
+is_use (Register x) t = is_this x t.guard || (is_named x (expressions_of t.op) || is_listed x (places_of t.op))
 is_use (Memory n) t = is_this n (memory_of t.op)
 is_use (Reading f) t = is_port (reading_end f) (port_of t.op)
 is_use (Writing f) t = is_port (writing_end f) (port_of t.op)

@@ -2,7 +2,7 @@
 ghost use Rattle.std.specs.Prelude.{◌≡◌, ◌<◌, ◌≤◌, ◌^◌, length, All};
 ghost use Rattle.std.specs.List.{enumerate_from, flat_map};
 ghost use Rattle.flow_design.specs.{declared.limits.TheConstants.CHANNELS, StaticRules.IsModuleSound};
-ghost use Rattle.serial_order.specs.Orders.{head, queries_of, faults_by, faults_of, all_faults, order_of, HasModule};
+ghost use Rattle.serial_order.specs.Orders.{head, query_orders, faults_by, faults_of, all_faults, order_of, HasModule};
 ghost use Rattle.serial_order.specs.SerialRun.{EqualsPlainLoops};
 
 use crate::order::Order;
@@ -13,7 +13,7 @@ use flow_design::{Block, BlockKind, Design, Module, Timed};
 fn query_of(blocks: &[Block]) -> Option<Order>
     requires blocks { length blocks.now < 2 ^ 32 }
     requires operations { All (λ b. length b.ops < 2 ^ 32) blocks.now }
-    ensures { result ≡ head (flat_map queries_of (enumerate_from 0 blocks.now)) }
+    ensures { result ≡ head (flat_map query_orders (enumerate_from 0 blocks.now)) }
 {
     for (number, block) in blocks.iter().enumerate() {
         if let Some(operation) = first_query(block.ops.as_slice()) {

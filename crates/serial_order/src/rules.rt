@@ -1,7 +1,7 @@
 //! The rules of serial modules: each function finds the first breach of one of them.
 ghost use Rattle.std.specs.Prelude.{◌≡◌, ◌<◌, ◌^◌, length, find};
 ghost use Rattle.lockstep_defs.specs.Laws.{is_query};
-ghost use Rattle.serial_order.specs.Orders.{head, numbers_where, is_late, first_use, last_use, is_written_at, is_wide, things};
+ghost use Rattle.serial_order.specs.Orders.{head, numbers_where, writes_late, first_use, last_use, is_written_at, is_wide, things};
 
 use crate::order::Used;
 use crate::uses::{is_use, writes};
@@ -32,7 +32,7 @@ pub(crate) fn first_query(ops: &[Timed]) -> Option<u32>
 
 /// Whether an operation writes the loop's register at an offset of II or more.
 fn is_late(timed: &Timed, ii: u64, again: u32) -> bool
-    ensures { result ≡ is_late ii again timed.now }
+    ensures { result ≡ writes_late ii again timed.now }
 {
     ii <= timed.offset && writes(&timed.op, Used::Register(again))
 }
@@ -40,7 +40,7 @@ fn is_late(timed: &Timed, ii: u64, again: u32) -> bool
 /// The number of the first operation of a loop that writes the loop's register at an offset of II or more. `None` where none does.
 pub(crate) fn first_late(ops: &[Timed], ii: u64, again: u32) -> Option<u32>
     requires { length ops.now < 2 ^ 32 }
-    ensures { result ≡ head (numbers_where (is_late ii again) ops.now) }
+    ensures { result ≡ head (numbers_where (writes_late ii again) ops.now) }
 {
     for (at, timed) in ops.iter().enumerate() {
         if is_late(timed, ii, again) {

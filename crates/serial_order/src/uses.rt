@@ -2,7 +2,7 @@
 ghost use Rattle.std.specs.Prelude.{◌≡◌};
 ghost use Rattle.flow_design.specs.Operations.{places_of, expressions_of, memory_of, port_of, used_port};
 ghost use Rattle.flow_design.specs.StaticRules.{is_port};
-ghost use Rattle.serial_order.specs.Uses.{names, is_named, is_among, is_this, stored_in, writes, is_use};
+ghost use Rattle.serial_order.specs.Uses.{names, is_named, is_listed, is_this, stored_in, writes, is_use};
 
 use crate::order::Used;
 use flow_design::{Expr, Op, Timed};
@@ -40,7 +40,7 @@ fn is_named(op: &Op<u32>, variable: u32) -> bool
 
 /// Whether an operation writes this register or temp.
 fn is_place(op: &Op<u32>, variable: u32) -> bool
-    ensures { result ≡ is_among variable (places_of op.now) }
+    ensures { result ≡ is_listed variable (places_of op.now) }
 {
     match op {
         Op::Set(x, _)

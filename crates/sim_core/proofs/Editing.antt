@@ -18,9 +18,8 @@ use Rattle.timing_bridge.specs.Designs.{design, lockstep_run}
 use Rattle.timing_bridge.proofs.{Edits.edited_fits, Edits.same_design, History.plan_is_design, History.run_is_history}
 use Rattle.engine_view.specs.{Held.core_of, Kept.IsKept, Rooms.IsRoomy, Shown.IsSound, Engines.held_in, Taking.kinds_in, Turns.IsSomeCore}
 use Rattle.engine_view.specs.declared.engine.Engine.{Engine}
-use Rattle.right_records.specs.Records.{IsRightRecord}
-use Rattle.right_records.proofs.{Final.right_final, Marks.marks_on, Onward.final_record, Recording.right_agrees}
-use Rattle.cycle_changes.specs.{Changed.HasChanged, Moved.moved_in}
+use Rattle.cycle_changes.specs.{Records.IsRightRecord, Changed.HasChanged, Moved.moved_in}
+use Rattle.cycle_changes.proofs.{Final.right_final, Marks.marks_on, Onward.final_record, Recording.right_agrees}
 use Rattle.retime.specs.{Cuts.HasRetimed, Cuts.KeepsRoomEdited, Edits.IsEditFrom, Edits.IsEditOf}
 use Rattle.retime.specs.Rounds.{LeadsAll, HasEnded, only_steps, cycles_in, steps_in}
 use Rattle.retime.specs.Touched.{AreInOrder, IsFirstTouched, IsNeverTouched}

@@ -14,11 +14,10 @@ use Rattle.event_timing.specs.Core.{Core}
 use Rattle.timing_bridge.specs.{Designs.design, CoreReports.core_step, CoreReports.steps_at}
 use Rattle.engine_view.specs.Held.{Held, core_of}
 use Rattle.engine_report.specs.{declared.events.TimedStep.TimedStep, Finished.IsFinished, Keys.place_of, Keys.IsTimedKey}
-use Rattle.step_order.specs.Walks.{IsWalked}
-use Rattle.step_order.proofs.Leading.{walk_leads}
-use Rattle.step_order.proofs.Walking.{walk_begins, walk_passes, walk_skips, walk_goes_on, walk_ends}
-use Rattle.step_walk.specs.declared.walk.StepWalk.{StepWalk}
+use Rattle.step_walk.specs.{Walks.IsWalked, declared.walk.StepWalk.StepWalk}
 use Rattle.step_walk.specs.Walking.{never, next_cycle, left, IsWalk, HasGiven, FoundIn}
+use Rattle.step_walk.proofs.Leading.{walk_leads}
+use Rattle.step_walk.proofs.Walking.{walk_begins, walk_passes, walk_skips, walk_goes_on, walk_ends}
 
 -- ---- the cycles of a lane
 

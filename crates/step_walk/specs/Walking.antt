@@ -7,8 +7,7 @@ use Rattle.event_graph.specs.Lanes.{Lane, lane_at}
 use Rattle.timing_bridge.specs.{Designs.design, CoreReports.steps_at}
 use Rattle.engine_view.specs.Held.{Held, core_of}
 use Rattle.engine_report.specs.{declared.events.TimedStep.TimedStep, Keys.place_of, Keys.IsTimedKey}
-use Rattle.step_order.specs.Walks.{IsWalked}
-use Rattle.step_walk.specs.declared.walk.StepWalk.{StepWalk}
+use Rattle.step_walk.specs.{Walks.IsWalked, declared.walk.StepWalk.StepWalk}
 
 -- a number that is later than each cycle
 abbrev pub never : ℕ

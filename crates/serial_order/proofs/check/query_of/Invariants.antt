@@ -1,6 +1,6 @@
-use Rattle.serial_order.specs.Orders.{queries_of}
+use Rattle.serial_order.specs.Orders.{query_orders}
 use Rattle.serial_order.proofs.Heads.{Nothing}
 use Rattle.serial_order.proofs.check.query_of.Given as goal
 
 abbrev pub invariant-loop-number : goal.invariant-loop-number
-invariant-loop-number l = Nothing queries_of l.blocks l.number
+invariant-loop-number l = Nothing query_orders l.blocks l.number

@@ -10,7 +10,7 @@ use Rattle.event_timing.specs.Core.{Core, core_accesses, core_reply, view}
 use Rattle.event_timing.proofs.{OwnRuns.IsPlace, OwnRuns.place_says, OwnRuns.tally_mono, Editing.kept_le, Editing.kept_same}
 use Rattle.event_timing.proofs.Threshold.{known_free, known_never, known_event, enabler}
 use Rattle.event_timing.proofs.Candidate.{both_parts, bound_blocks, bound_free}
-use Rattle.right_records.proofs.Keeping.{kept_beyond}
+use Rattle.cycle_changes.proofs.Keeping.{kept_beyond}
 
 -- the one is the other, or is not known, and by the other the access is not possible in clock t
 abbrev pub IsCut : ℕ → Known → Known → Type 0

@@ -5,8 +5,8 @@ use Rattle.std.proofs.lemmas.Bool.{cases_Bool}
 use Rattle.flow_word.specs.Kinds.{other_side}
 use Rattle.event_timing.specs.{Machines.Access, Machines.Design, Machines.Each, Views.from, Core.Core, Core.core_accesses, Core.core_reply}
 use Rattle.event_timing.proofs.OwnRuns.{place_says, tally_mono}
-use Rattle.right_records.specs.Records.{IsIn, IsBetween, IsSaidAround, IsStill, KeepsEnabler, is_free_at, IsTaking, count_at, enabler_at}
-use Rattle.right_records.specs.Records.{partner}
+use Rattle.cycle_changes.specs.Records.{IsIn, IsBetween, IsSaidAround, IsStill, KeepsEnabler, is_free_at, IsTaking, count_at, enabler_at}
+use Rattle.cycle_changes.specs.Records.{partner}
 
 module _ {S : Type 0} (d : Design S) (x : Core S) (m k : ℕ) (a : Access) where
   pub enabled : (e : ℕ) → enabler_at d x m k a ≡ Some e

@@ -1,6 +1,6 @@
-use Rattle.step_order.proofs.Walking.{walk_begins, walk_passes, walk_skips, walk_goes_on, walk_ends}
-use Rattle.step_order.proofs.Leading.{walk_leads}
-use Rattle.step_order.proofs.laws.walks_are_histories.Goals as goal
+use Rattle.step_walk.proofs.Walking.{walk_begins, walk_passes, walk_skips, walk_goes_on, walk_ends}
+use Rattle.step_walk.proofs.Leading.{walk_leads}
+use Rattle.step_walk.proofs.laws.walks_are_histories.Goals as goal
 
 pub returns-clause-begins : goal.returns-clause-begins
 returns-clause-begins c = walk_begins

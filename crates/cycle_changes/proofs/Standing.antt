@@ -7,9 +7,9 @@ use Rattle.event_timing.specs.{Actions.new_flags, Agreement.AreOwnMarks, Agreeme
 use Rattle.event_timing.specs.Enablers.{known_of, bound, candidate, reach, IsStuck}
 use Rattle.event_timing.proofs.{Candidate.candidate_parts, Candidate.candidate_from, Fronts.IsDone, Agreement.run_ended}
 use Rattle.event_timing.proofs.Editing.{kept_le, kept_same, time_from, edit_plain}
-use Rattle.right_records.specs.Records.{IsRight, IsRightRecord, known_at}
-use Rattle.right_records.proofs.{Keeping.Rise, Keeping.kept_beyond, Keeping.from_kept, Local.clock_parts, Marks.marks_cut}
-use Rattle.right_records.proofs.Cutting.{IsCut, cut_known, bound_down, bound_up, flags_cut}
+use Rattle.cycle_changes.specs.Records.{IsRight, IsRightRecord, known_at}
+use Rattle.cycle_changes.proofs.{Keeping.Rise, Keeping.kept_beyond, Keeping.from_kept, Local.clock_parts, Marks.marks_cut}
+use Rattle.cycle_changes.proofs.Cutting.{IsCut, cut_known, bound_down, bound_up, flags_cut}
 
 module _ {S : Type 0} (d : Design S) (x : Core S) (right : (m k : ℕ) → k < x.timed m → IsRight d x m k) where
   -- the cycle of a right step is later than the one before

@@ -10,7 +10,7 @@ use Rattle.lockstep_defs.specs.{Channels.HistoryStep, Lockstep.history, Laws.IsB
 use Rattle.event_timing.specs.{Core.Core, Actions.IsFinal, Agreement.IsAgreed}
 use Rattle.timing_bridge.specs.{Designs.design, Designs.lockstep_run, CoreReports.core_step}
 use Rattle.timing_bridge.proofs.InOrder.{history_in_order, only_in_order, reported_history}
-use Rattle.step_order.specs.Walks.{IsEarly, IsWalked, AreLate}
+use Rattle.step_walk.specs.Walks.{IsEarly, IsWalked, AreLate}
 
 -- ---- lists
 

@@ -1,5 +1,5 @@
-use Rattle.right_records.proofs.{Final.right_final, Onward.final_record, Recording.right_agrees}
-use Rattle.right_records.proofs.laws.right_records.Goals as goal
+use Rattle.cycle_changes.proofs.{Final.right_final, Onward.final_record, Recording.right_agrees}
+use Rattle.cycle_changes.proofs.record_laws.right_records.Goals as goal
 
 pub returns-clause-agrees : goal.returns-clause-agrees
 returns-clause-agrees g c = λ d h i y limit x r. right_agrees d h i y limit x r

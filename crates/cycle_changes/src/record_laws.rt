@@ -2,8 +2,8 @@
 ghost use Rattle.std.specs.Prelude.{Bool, ◌⊎◌, ◌≡◌, ℕ, ◌-◌, ◌<◌, ◌≤◌, Some};
 ghost use Rattle.event_timing.specs.{Machines.Access, Machines.Design, Machines.IsDesign, Histories.Trace, Histories.IsHistory, Core.Core};
 ghost use Rattle.event_timing.specs.{Core.view, Actions.IsFinal, Agreement.IsAgreed, Edits.edited, Enablers.candidate};
-ghost use Rattle.right_records.specs.Records.{IsRightRecord, IsRight, with_cycles, IsStill, IsBeside, IsChecked, HasSlack, IsTaking};
-ghost use Rattle.right_records.specs.Records.{enabler_at, partner, count_at, IsBetween, AreRightAround};
+ghost use Rattle.cycle_changes.specs.Records.{IsRightRecord, IsRight, with_cycles, IsStill, IsBeside, IsChecked, HasSlack, IsTaking};
+ghost use Rattle.cycle_changes.specs.Records.{enabler_at, partner, count_at, IsBetween, AreRightAround};
 ghost use Rattle.flow_word.specs.Kinds.{other_side};
 
 /// A record is right where each of its steps is right, and no module's next step is determined below the limit. A right record

@@ -1,7 +1,7 @@
-use Rattle.right_records.proofs.{Enabled.around, Enabled.enabled, Enabled.is_between, Standing.rise}
-use Rattle.right_records.proofs.Local.{beside_right, slack_right, still_right}
-use Rattle.right_records.specs.Records.{IsRight, with_cycles}
-use Rattle.right_records.proofs.laws.local_changes.Goals as goal
+use Rattle.cycle_changes.proofs.{Enabled.around, Enabled.enabled, Enabled.is_between, Standing.rise}
+use Rattle.cycle_changes.proofs.Local.{beside_right, slack_right, still_right}
+use Rattle.cycle_changes.specs.Records.{IsRight, with_cycles}
+use Rattle.cycle_changes.proofs.record_laws.local_changes.Goals as goal
 
 pub returns-clause-still : goal.returns-clause-still
 returns-clause-still g c = λ d x cycles m k s r. still_right d x cycles m k s r

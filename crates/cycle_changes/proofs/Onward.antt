@@ -3,8 +3,8 @@ use Rattle.std.proofs.Common.{◌≡◌, ℕ, ◌<◌, ◌≤◌, Some, arith}
 use Rattle.event_timing.specs.{Machines.Design, Machines.IsDesign, Histories.Trace, Histories.IsHistory, Enablers.candidate, Core.Core}
 use Rattle.event_timing.specs.{Core.view, Actions.IsFinal, Actions.MayRun, Agreement.IsAgreed, Edits.edited}
 use Rattle.event_timing.proofs.Verdict.{determined_late}
-use Rattle.right_records.specs.Records.{IsChecked, IsRight, IsRightRecord, with_cycles}
-use Rattle.right_records.proofs.{Beginning.final_right, Beginning.final_plain, Marks.marks_on, Local.beside_right, Local.still_right}
+use Rattle.cycle_changes.specs.Records.{IsChecked, IsRight, IsRightRecord, with_cycles}
+use Rattle.cycle_changes.proofs.{Beginning.final_right, Beginning.final_plain, Marks.marks_on, Local.beside_right, Local.still_right}
 
 module _ {S : Type 0} (d : Design S) (h : Trace S) (i : IsDesign d) (y : IsHistory d h) (limit : ℕ) (x : Core S) (a : IsAgreed d h limit x)
     (f : IsFinal d limit x) where

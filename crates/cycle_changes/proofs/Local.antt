@@ -8,8 +8,8 @@ use Rattle.event_timing.specs.Enablers.{Known, known, from_step, bound, flags_at
 use Rattle.event_timing.specs.Core.{Core, core_accesses, core_reply, view}
 use Rattle.event_timing.proofs.{OwnRuns.same_side_is, Candidate.bound_blocks, Candidate.bound_free, Candidate.both_parts}
 use Rattle.event_timing.proofs.Threshold.{known_free, known_never, known_event, enabler}
-use Rattle.right_records.specs.Records.{KeepsEnabler, IsRight, IsStill, IsBeside, IsSlack, HasSlack, known_at, with_cycles, enabler_at}
-use Rattle.right_records.specs.Records.{partner}
+use Rattle.cycle_changes.specs.Records.{KeepsEnabler, IsRight, IsStill, IsBeside, IsSlack, HasSlack, known_at, with_cycles, enabler_at}
+use Rattle.cycle_changes.specs.Records.{partner}
 
 -- ---- accesses of which the same is known
 

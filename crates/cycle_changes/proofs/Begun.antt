@@ -11,9 +11,9 @@ use Rattle.event_timing.specs.Core.{Core, core_accesses, core_reply, core_tally,
 use Rattle.event_timing.proofs.{Steps.done_mono, Steps.same_clock, Earliest.candidate_can, Earliest.flags_late, Earliest.step_determined}
 use Rattle.event_timing.proofs.{Fronts.IsDone, Fronts.agrees_done, Editing.kept_le, Editing.kept_below, Editing.kept_same}
 use Rattle.event_timing.proofs.Candidate.{first_means, candidate_done, candidate_steps, candidate_parts, candidate_ready}
-use Rattle.right_records.specs.Records.{IsRight, known_at}
-use Rattle.right_records.proofs.Keeping.{Rise, kept_beyond, from_kept, kept_fewer}
-use Rattle.right_records.proofs.{Marks.marks_cut, Cutting.IsCut, Cutting.cut_known, Cutting.bound_up, Cutting.flags_cut}
+use Rattle.cycle_changes.specs.Records.{IsRight, known_at}
+use Rattle.cycle_changes.proofs.Keeping.{Rise, kept_beyond, from_kept, kept_fewer}
+use Rattle.cycle_changes.proofs.{Marks.marks_cut, Cutting.IsCut, Cutting.cut_known, Cutting.bound_up, Cutting.flags_cut}
 
 -- ---- its outcomes
 

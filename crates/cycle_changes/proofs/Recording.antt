@@ -9,9 +9,9 @@ use Rattle.event_timing.specs.Core.{Core, core_accesses, core_reply, core_tally,
 use Rattle.event_timing.proofs.Candidate.{candidate_done, candidate_steps, candidate_ready}
 use Rattle.event_timing.proofs.{Earliest.earliest_right, Editing.kept_same, Editing.time_from, Fronts.IsDone, Fronts.agrees_done}
 use Rattle.event_timing.proofs.{Replying.core_fronts, Replying.replies_right, Sure.new_sure}
-use Rattle.right_records.specs.Records.{IsRightRecord}
-use Rattle.right_records.proofs.Keeping.{kept_none, kept_all, kept_more}
-use Rattle.right_records.proofs.Standing.{rise, cut_marks, cut_time, cut_stuck, next_determined, next_flags, stay_le}
+use Rattle.cycle_changes.specs.Records.{IsRightRecord}
+use Rattle.cycle_changes.proofs.Keeping.{kept_none, kept_all, kept_more}
+use Rattle.cycle_changes.proofs.Standing.{rise, cut_marks, cut_time, cut_stuck, next_determined, next_flags, stay_le}
 
 module _ {S : Type 0} (d : Design S) (h : Trace S) (i : IsDesign d) (y : IsHistory d h) (limit : ℕ) (x : Core S)
     (r : IsRightRecord d limit x) where

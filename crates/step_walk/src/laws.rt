@@ -5,7 +5,7 @@ ghost use Rattle.flow_design.specs.declared.state.ModuleState.{ModuleState};
 ghost use Rattle.lockstep_defs.specs.{Channels.HistoryStep, Lockstep.history, Verdict.verdict};
 ghost use Rattle.event_timing.specs.{Core.Core, Actions.IsFinal, Agreement.IsAgreed};
 ghost use Rattle.timing_bridge.specs.{Designs.design, Designs.lockstep_run, CoreReports.core_step};
-ghost use Rattle.step_order.specs.Walks.{IsWalked, AreLate};
+ghost use Rattle.step_walk.specs.Walks.{IsWalked, AreLate};
 
 /// A walk begins with no step. It may pass the next step of a module in its clock, if it is not beyond that module. It may skip
 /// modules, and go on to a later clock. Once it has passed all steps with a cycle of a final core, they are the history up to the

@@ -1,3 +1,4 @@
+pub mod Chained
 pub mod Forgetting
 pub mod Growth
 pub mod Kept

@@ -1,5 +1,5 @@
 -- A step more among those that are kept.
-use Rattle.std.proofs.Common.{◌≡◌, refl, subst, ap, ap₂, sym, ◌∙◌, ℕ, ◌+◌, ◌*◌, ◌/◌, ◌%◌, ◌^◌, ◌<◌, ◌≤◌, ◌==◌, ◌⊎◌, inl, inr, Bool, true}
+use Rattle.std.proofs.Common.{◌≡◌, refl, subst, ap, ap₂, sym, ◌∙◌, ℕ, zero, suc, ◌+◌, ◌*◌, ◌/◌, ◌%◌, ◌^◌, ◌<◌, ◌≤◌, ◌==◌, inl, inr, Bool, true}
 use Rattle.std.proofs.Common.{false, not, cond, List, [], ◌∷◌, ◌++◌, length, map, get_or, drop, arith, length-append}
 use Rattle.std.proofs.lemmas.List.{get_or_append_left, append-nil, map-append, drop-append-le, length-drop, drop_at}
 use Rattle.std.proofs.Math.Seq.{get_or-append_seam}
@@ -10,22 +10,14 @@ use Rattle.flow_word.specs.{declared.access.Access.Access, declared.access.Kind.
 use Rattle.flow_word.specs.declared.access.Kind.TheVariants.{Read, Write, TryRead, TryWrite, Empty, Full}
 use Rattle.event_graph.specs.declared.steps.Head.{Head}
 use Rattle.event_graph.specs.Words.{Fits, kind_of, code_of, is_kept, has_value, goes_on, upper, access_in, behind, accesses_in, HasAccess}
-use Rattle.event_graph.specs.Words.{word_of, words_of}
+use Rattle.event_graph.specs.Words.{HasAccesses, most_accesses, word_of, words_of}
+use Rattle.event_graph.proofs.Chained.{has_first, only, going_on}
 use Rattle.event_graph.specs.Packed.{nothing, opened, opened_at, packed, BeginsStep, IsInside, KeepsInside, IsKept}
 
 -- ---- what a step's words mean, by its word
 
-reads_one : (words : List ℕ) {a : Access} → access_in words ≡ a → goes_on (get_or words 0 0) ≡ false → accesses_in words ≡ a ∷ []
-reads_one words is one =
-    ap₂ (λ (x : Access) (t : Bool). x ∷ cond t (access_in (behind words) ∷ []) []) is one
-
-reads_two : (words : List ℕ) {a b : Access} → access_in words ≡ a → goes_on (get_or words 0 0) ≡ true → access_in (behind words) ≡ b
-    → accesses_in words ≡ a ∷ b ∷ []
-reads_two words {a} is two then =
-    ap₂ (λ (x : Access) (t : Bool). x ∷ cond t (access_in (behind words) ∷ []) []) is two ∙ ap (λ (y : Access). a ∷ y ∷ []) then
-
 opens_few : (words : List ℕ) (others : List Step) (head : Head) {items : List Access} → is_kept (get_or words 0 0) ≡ false
-    → accesses_in words ≡ items
+    → accesses_in most_accesses words ≡ items
     → opened_at words others head ≡ record { gap = head.gap; accesses = items; first_query = head.first_query }
 opens_few words others head few are =
     ap₂ (λ (t : Bool) (xs : List Access). cond t (get_or others (upper (get_or words 0 0)) nothing)
@@ -35,7 +27,7 @@ opens_kept : (words : List ℕ) (others : List Step) (head : Head) → is_kept (
     → opened_at words others head ≡ get_or others (upper (get_or words 0 0)) nothing
 opens_kept words others head kept =
     ap (λ (t : Bool). cond t (get_or others (upper (get_or words 0 0)) nothing)
-    (record { gap = head.gap; accesses = accesses_in words; first_query = head.first_query })) kept
+    (record { gap = head.gap; accesses = accesses_in most_accesses words; first_query = head.first_query })) kept
 
 -- ---- what stands at the front stays, with other words behind it
 
@@ -55,13 +47,46 @@ first_more (w ∷ ws) more here = refl
 has_more : (ws more : List ℕ) → HasAccess ws → HasAccess (ws ++ more)
 has_more ws more here = rw (first_more ws more here) (let l = length-append ws more in omega arith)
 
+-- the accesses of a step
+record AreSame (most : ℕ) (ws more : List ℕ) : Type 0 where
+  there : HasAccesses most (ws ++ more)
+  same : accesses_in most (ws ++ more) ≡ accesses_in most ws
+
+accesses_more : (most : ℕ) (ws more : List ℕ) → HasAccesses most ws → AreSame most ws more
+unfolding HasAccesses
+accesses_more zero ws more here = absurd here
+accesses_more (suc most) ws more here =
+    let first = ap goes_on (first_more ws more here.0) in
+    let (access, rest) = access_more ws more here.0 in
+    elim (cases_Bool (goes_on (get_or ws 0 0))) [
+      | inl on ↦
+          let others = accesses_more most (behind ws) more (here.1 on) in
+          let there : HasAccesses (suc most) (ws ++ more) =
+          (has_more ws more here.0, λ e. subst (HasAccesses most) (sym rest) others.there) in
+          record {
+            there = there;
+            same =
+                (going_on most (ws ++ more) there (first ∙ on)).others
+                ∙ (ap₂ (λ (x : Access) (xs : List Access). x ∷ xs) access (ap (accesses_in most) rest ∙ others.same)
+                ∙ sym (going_on most ws here on).others);
+          }
+      | inr last ↦
+          let there : HasAccesses (suc most) (ws ++ more) =
+          (has_more ws more here.0, λ e. absurd (both_ways _ last (sym first ∙ e))) in
+          record {
+            there = there;
+            same =
+                only (suc most) (ws ++ more) there (first ∙ last)
+                ∙ (ap (λ (x : Access). x ∷ []) access ∙ sym (only (suc most) ws here last));
+          }
+    ]
+
 begun_more : (ws more : List ℕ) (others steps : List Step) → BeginsStep ws others → BeginsStep (ws ++ more) (others ++ steps)
 begun_more ws more others steps begins =
     let first = first_more ws more begins.some in
-    let second = (access_more ws more begins.some).1 in
     record {
       some = has_more ws more begins.some;
-      two = λ e. rw second (has_more (behind ws) more (begins.two (rw first at e)));
+      accesses = (accesses_more most_accesses ws more begins.accesses).there;
       kept = λ e. rw first (let l = length-append others steps in let k = begins.kept (rw first at e) in omega arith);
     }
 
@@ -69,20 +94,14 @@ opened_more : (ws more : List ℕ) (others steps : List Step) (head : Head) → 
     → opened_at (ws ++ more) (others ++ steps) head ≡ opened_at ws others head
 opened_more ws more others steps head begins =
     let first = first_more ws more begins.some in
-    let (access, rest) = access_more ws more begins.some in
     elim (cases_Bool (is_kept (get_or ws 0 0))) [
       | inl kept ↦
           opens_kept (ws ++ more) (others ++ steps) head (rw first kept)
           ∙ (ap (λ (w : ℕ). get_or (others ++ steps) (upper w) nothing) first
           ∙ (get_or_append_left others steps nothing (upper (get_or ws 0 0)) (begins.kept kept) ∙ sym (opens_kept ws others head kept)))
       | inr few ↦
-          let same : accesses_in (ws ++ more) ≡ accesses_in ws = elim (cases_Bool (goes_on (get_or ws 0 0))) [
-            | inl two ↦
-                reads_two (ws ++ more) access (rw first two) (ap access_in rest ∙ (access_more (behind ws) more (begins.two two)).0)
-                ∙ sym (reads_two ws refl two refl)
-            | inr one ↦ reads_one (ws ++ more) access (rw first one) ∙ sym (reads_one ws refl one)
-          ] in
-          opens_few (ws ++ more) (others ++ steps) head (rw first few) same ∙ sym (opens_few ws others head few refl)
+          opens_few (ws ++ more) (others ++ steps) head (rw first few) (accesses_more most_accesses ws more begins.accesses).same
+          ∙ sym (opens_few ws others head few refl)
     ]
 
 -- where words and steps are added, what stood in the lists stays
@@ -193,36 +212,55 @@ record IsPackedAs (words : List ℕ) (others : List Step) (head : Head) (step : 
   begins : BeginsStep words others
   opens : opened_at words others head ≡ step
 
-few_packed : (items : List Access) (others : List Step) (head : Head) → (length items ≡ 1) ⊎ (length items ≡ 2) → All Fits items
-    → IsPackedAs (packed items) others head (record { gap = head.gap; accesses = items; first_query = head.first_query })
-few_packed [] others head some fits = absurd (elim some [ inl e ↦ omega (arith, e) | inr e ↦ omega (arith, e) ])
-few_packed (a ∷ []) others head some fits =
+-- words with one access alone
+has_one : (most : ℕ) (words : List ℕ) → HasAccess words → goes_on (get_or words 0 0) ≡ false → 0 < most → HasAccesses most words
+unfolding HasAccesses
+has_one zero words here ends some = absurd (omega arith)
+has_one (suc most) words here ends some = (here, λ e. absurd (both_ways _ ends e))
+
+-- the accesses that were packed are read back
+record AreRead (most : ℕ) (words : List ℕ) (items : List Access) : Type 0 where
+  there : HasAccesses most words
+  are : accesses_in most words ≡ items
+  first : is_kept (get_or words 0 0) ≡ false
+
+all_read : (most : ℕ) (a : Access) (items : List Access) → length items < most → All Fits (a ∷ items)
+    → AreRead most (packed (a ∷ items)) (a ∷ items)
+unfolding HasAccesses
+all_read zero a items few fits = absurd (omega arith)
+all_read (suc most) a [] few fits =
     let h = All-head Fits a [] fits in
     let one = read_alone a false h in
+    let last = goes_back a false h in
+    let there : HasAccesses (suc most) (words_of a false) = (one.there, λ e. absurd (both_ways _ last e)) in
     record {
-      begins = record {
-        some = one.there;
-        two = λ e. absurd (both_ways _ (goes_back a false h) e);
-        kept = λ e. absurd (both_ways _ (not_kept a false h) e);
-      };
-      opens = opens_few (words_of a false) others head (not_kept a false h) (reads_one (words_of a false) one.access (goes_back a false h));
+      there = there;
+      are = only (suc most) (words_of a false) there last ∙ ap (λ (x : Access). x ∷ []) one.access;
+      first = not_kept a false h;
     }
-few_packed (a ∷ b ∷ []) others head some fits =
-    let h = All-head Fits a (b ∷ []) fits in
-    let k = All-head Fits b [] (All-tail Fits a (b ∷ []) fits) in
-    let first = read_back a true h (words_of b false) in
-    let second = read_alone b false k in
-    let words = words_of a true ++ words_of b false in
+all_read (suc most) a (b ∷ items) few fits =
+    let h = All-head Fits a (b ∷ items) fits in
+    let one = read_back a true h (packed (b ∷ items)) in
+    let rest = all_read most b items (omega arith) (All-tail Fits a (b ∷ items) fits) in
+    let words = packed (a ∷ b ∷ items) in
+    let there : HasAccesses (suc most) words = (one.there, λ e. subst (HasAccesses most) (sym one.others) rest.there) in
     record {
-      begins = record {
-        some = first.there;
-        two = λ e. rw first.others second.there;
-        kept = λ e. absurd (both_ways _ (not_kept a true h) e);
-      };
-      opens = opens_few words others head (not_kept a true h)
-          (reads_two words first.access (goes_back a true h) (ap access_in first.others ∙ second.access));
+      there = there;
+      are =
+          (going_on most words there (goes_back a true h)).others
+          ∙ ap₂ (λ (x : Access) (xs : List Access). x ∷ xs) one.access (ap (accesses_in most) one.others ∙ rest.are);
+      first = not_kept a true h;
     }
-few_packed (a ∷ b ∷ d ∷ items) others head some fits = absurd (elim some [ inl e ↦ omega (arith, e) | inr e ↦ omega (arith, e) ])
+
+few_packed : (items : List Access) (others : List Step) (head : Head) → 1 ≤ length items → length items ≤ most_accesses → All Fits items
+    → IsPackedAs (packed items) others head (record { gap = head.gap; accesses = items; first_query = head.first_query })
+few_packed [] others head some few fits = absurd (omega (arith, some))
+few_packed (a ∷ items) others head some few fits =
+    let read = all_read most_accesses a items (omega arith) fits in
+    record {
+      begins = record { some = has_first most_accesses _ read.there; accesses = read.there; kept = λ e. absurd (both_ways _ read.first e) };
+      opens = opens_few (packed (a ∷ items)) others head read.first read.are;
+    }
 
 -- ---- a step more
 
@@ -265,11 +303,11 @@ is_kept_with words more words' others steps others' step head added joined at as
 
 -- a step of few accesses
 pub few_kept : (words words' : List ℕ) (others : List Step) (items : List Access) (head : Head) → words' ≡ words ++ packed items
-    → head.at ≡ length words → (length items ≡ 1) ⊎ (length items ≡ 2) → All Fits items
+    → head.at ≡ length words → 1 ≤ length items → length items ≤ most_accesses → All Fits items
     → IsKept words others words' others (record { gap = head.gap; accesses = items; first_query = head.first_query }) head
-few_kept words words' others items head added at some fits =
+few_kept words words' others items head added at some few fits =
     is_kept_with words (packed items) words' others [] others _ head added (sym (append-nil others)) at
-    (few_packed items others head some fits)
+    (few_packed items others head some few fits)
 
 -- a step that is kept as it is
 pub whole_kept : (words words' : List ℕ) (others others' : List Step) (word : ℕ) (step : Step) (head : Head) → words' ≡ words ++ word ∷ []
@@ -279,7 +317,7 @@ whole_kept words words' others others' word step head added joined at kept numbe
     is_kept_with words (word ∷ []) words' others (step ∷ []) others' step head added joined at (record {
       begins = record {
         some = rw alone (omega arith);
-        two = λ e. absurd (both_ways _ ends e);
+        accesses = has_one most_accesses (word ∷ []) (rw alone (omega arith)) ends (omega arith);
         kept = λ e. rw (number, joined) (let l = length-append others (step ∷ []) in omega arith);
       };
       opens = opens_kept (word ∷ []) others' head kept ∙ rw (number, joined) (get_or-append_seam others step [] nothing);

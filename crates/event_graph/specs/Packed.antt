@@ -1,9 +1,9 @@
 -- Steps in the form in which a lane keeps them, and the steps that they stand for.
-use Rattle.std.specs.Prelude.{◌≡◌, ◌⊎◌, ℕ, ◌+◌, ◌*◌, ◌<◌, ◌≤◌, ◌^◌, true, false, if◌then◌else◌, List, [], ◌∷◌, ◌++◌, length, drop}
+use Rattle.std.specs.Prelude.{◌≡◌, ℕ, ◌+◌, ◌*◌, ◌<◌, ◌≤◌, ◌^◌, true, false, if◌then◌else◌, List, [], ◌∷◌, ◌++◌, length, drop}
 use Rattle.std.specs.Prelude.{slice_index, slice_index_or, All}
 use Rattle.flow_word.specs.{Room.Roomed, declared.access.Access.Access, declared.access.Step.Step}
 use Rattle.event_graph.specs.{declared.steps.Head.Head, declared.view.StepView.StepView, declared.view.LaneStep.LaneStep}
-use Rattle.event_graph.specs.Words.{Fits, is_kept, goes_on, upper, accesses_in, behind, HasAccess, words_of}
+use Rattle.event_graph.specs.Words.{Fits, is_kept, upper, most_accesses, accesses_in, HasAccess, HasAccesses, words_of}
 
 -- the step that a view shows
 abbrev pub whole : StepView → Step
@@ -23,15 +23,16 @@ opened_at words others head =
     let word = slice_index words 0 in
     if is_kept word
     then slice_index_or others (upper word) nothing
-    else record { gap = head.gap; accesses = accesses_in words; first_query = head.first_query }
+    else record { gap = head.gap; accesses = accesses_in most_accesses words; first_query = head.first_query }
 
 -- the step with this head, among the words of all steps and the steps that are kept whole
 abbrev pub opened : List ℕ → List Step → Head → Step
 opened words others head = opened_at (drop head.at words) others head
 
--- the step has one access or two, its numbers fit 32 bits, and its accesses fit a word each
+-- the step has few accesses, at least one, its numbers fit 32 bits, and its accesses fit a word each
 pub record IsFewStep (step : Step) : Type 0 where
-  pub some : (length step.accesses ≡ 1) ⊎ (length step.accesses ≡ 2)
+  pub some : 1 ≤ length step.accesses
+  pub few : length step.accesses ≤ most_accesses
   pub gap : step.gap < 2 ^ 32
   pub first_query : step.first_query < 2 ^ 32
   pub fits : All Fits step.accesses
@@ -39,7 +40,7 @@ pub record IsFewStep (step : Step) : Type 0 where
 -- the words begin with those of a step
 pub record BeginsStep (words : List ℕ) (others : List Step) : Type 0 where
   pub some : HasAccess words
-  pub two : goes_on (slice_index words 0) ≡ true → HasAccess (behind words)
+  pub accesses : HasAccesses most_accesses words
   pub kept : is_kept (slice_index words 0) ≡ true → upper (slice_index words 0) < length others
 
 -- all words of the step with this head are there
@@ -67,9 +68,9 @@ pub record IsKept (words : List ℕ) (others : List Step) (words' : List ℕ) (o
 -- all words of each step are there, and there is room for `room` further steps
 pub record IsPacked (heads : Roomed Head) (words : Roomed ℕ) (others : Roomed Step) (room : ℕ) : Type 0 where
   pub inside : All (IsInside words.items others.items) heads.items
-  pub words_few : length words.items ≤ 4 * length heads.items
+  pub words_few : length words.items + 8 * room < 2 ^ 32
   pub others_few : length others.items ≤ length heads.items
   pub few : length heads.items + room < 2 ^ 30
   pub heads_room : room ≤ heads.room
-  pub words_room : 4 * room ≤ words.room
+  pub words_room : 8 * room ≤ words.room
   pub others_room : room ≤ others.room

@@ -1,6 +1,6 @@
 -- Accesses as words: a word says the kind, the channel and the ordinal, and what follows; the value follows where it is not 0.
-use Rattle.std.specs.Prelude.{ℕ, ◌+◌, ◌*◌, ◌/◌, ◌%◌, ◌^◌, ◌<◌, ◌≤◌, ◌==◌, Bool, not, if◌then◌else◌, List, [], ◌∷◌, length, drop}
-use Rattle.std.specs.Prelude.{slice_index, slice_index_or}
+use Rattle.std.specs.Prelude.{◌≡◌, ℕ, zero, suc, ◌+◌, ◌*◌, ◌/◌, ◌%◌, ◌^◌, ◌<◌, ◌≤◌, ◌==◌, Bool, true, not, if◌then◌else◌, List, [], ◌∷◌}
+use Rattle.std.specs.Prelude.{length, drop, slice_index, slice_index_or}
 use Rattle.std.specs.Int.{from_bool}
 use Rattle.flow_word.specs.{declared.access.Access.Access, declared.access.Kind.Kind}
 use Rattle.flow_word.specs.declared.access.Kind.TheVariants.{Read, Write, TryRead, TryWrite, Empty, Full}
@@ -52,13 +52,23 @@ access_in words =
 abbrev pub behind : List ℕ → List ℕ
 behind words = drop (size_of (slice_index words 0)) words
 
--- the accesses with which the words begin: one or two
-abbrev pub accesses_in : List ℕ → List Access
-accesses_in words = access_in words ∷ (if goes_on (slice_index words 0) then access_in (behind words) ∷ [] else [])
+-- the most accesses of a step that is kept as words
+abbrev pub most_accesses : ℕ
+most_accesses = 4
+
+-- the accesses with which the words begin, up to the first that does not go on; `most` of them at most
+unfoldable pub accesses_in : ℕ → List ℕ → List Access
+accesses_in zero words = []
+accesses_in (suc most) words = access_in words ∷ (if goes_on (slice_index words 0) then accesses_in most (behind words) else [])
 
 -- all words of the first access are there
 abbrev pub HasAccess : List ℕ → Type 0
 HasAccess words = size_of (slice_index words 0) ≤ length words
+
+-- all words of the accesses with which the words begin are there, and one of the first `most` does not go on
+unfoldable pub HasAccesses : ℕ → List ℕ → Type 0
+HasAccesses zero words = ⊥
+HasAccesses (suc most) words = HasAccess words × (goes_on (slice_index words 0) ≡ true → HasAccesses most (behind words))
 
 -- ---- an access as words
 

@@ -82,8 +82,8 @@ impl Graph {
         self.lanes[owner as usize].push_step(step)
     }
 
-    /// Adds a copy of a step at the end of a module's lane. The step has one access or two, and its numbers fit 32 bits. It succeeds
-    /// where the lane has room. After `OutOfMemory` the lanes are as they were.
+    /// Adds a copy of a step at the end of a module's lane. The step has one access to four, and its numbers fit 32 bits. It
+    /// succeeds where the lane has room. After `OutOfMemory` the lanes are as they were.
     #[inline(always)]
     pub fn push_few(&mut self, owner: u32, step: &StepView<'_>) -> Result<(), OutOfMemory>
         requires owner { owner < length self.old.lanes }

@@ -1,11 +1,14 @@
 //! The steps of a lane, each in as few bytes as it needs.
-ghost use Rattle.std.specs.Prelude.{◌≡◌, ◌+◌, ◌<◌, ◌≤◌, ◌^◌, [], ◌∷◌, ◌++◌, true, length, slice_get, slice_index, Some, ◌⊎◌, All, IsOk};
+ghost use Rattle.std.specs.Prelude.{◌≡◌, ◌+◌, ◌<◌, ◌≤◌, ◌^◌, [], ◌∷◌, ◌++◌, true, length, slice_get, Some, All, IsOk};
 ghost use Rattle.std.specs.Prelude.{OnOk, OnErr};
 ghost use Rattle.event_graph.specs.Packed.{whole, in_lane, packed, IsFewStep, IsKept};
-ghost use Rattle.event_graph.specs.Words.{Fits, HasAccess, behind, accesses_in, goes_on as goes_on_by};
+ghost use Rattle.event_graph.specs.Words.{Fits, HasAccesses, accesses_in, most_accesses};
 
 use crate::view::{AccessesView, LaneAccesses, LaneStep, StepView};
-use crate::words::{all_fit, goes_on, is_kept, kept_at, push_access, read_access, size_of, upper};
+use crate::words::{
+    MOST_ACCESSES, MOST_WORDS, all_fit, behind, goes_on, is_kept, kept_at, push_access, push_all,
+    read_access, read_all, upper,
+};
 use flow_word::{Access, OutOfMemory, RoomyList, Step};
 use std::alloc::Global;
 use std::marker::Model;
@@ -25,7 +28,7 @@ pub struct Head {
     pub at: u32,
 }
 
-/// A list of steps. A step with one access or two, whose numbers fit 32 bits and whose accesses fit a word each, is kept as a head
+/// A list of steps. A step with one access to four, whose numbers fit 32 bits and whose accesses fit a word each, is kept as a head
 /// and words. Any other step is kept whole in a list of its own, and its word has its number there.
 #[derive(Drop)]
 pub struct StepList {
@@ -117,10 +120,10 @@ impl StepList {
         if more <= self.room {
             return Ok(());
         }
-        if more > MOST_STEPS - self.heads.len() {
+        if more > MOST_STEPS - self.heads.len() || MOST_WORDS * more > MOST - self.words.len() {
             return Err(OutOfMemory);
         }
-        self.words.reserve(4 * more)?;
+        self.words.reserve(MOST_WORDS * more)?;
         self.others.reserve(more)?;
         self.heads.reserve(more)?;
         self.room = more;
@@ -142,8 +145,8 @@ impl StepList {
         Ok(())
     }
 
-    /// Adds a copy of a step at the end. The step has one access or two, its numbers fit 32 bits, and its accesses fit a word each. It
-    /// succeeds where there is room, and then uses one place of it. After `OutOfMemory` the steps are as they were.
+    /// Adds a copy of a step at the end. The step has one access to four, its numbers fit 32 bits, and its accesses fit a word each.
+    /// It succeeds where there is room, and then uses one place of it. After `OutOfMemory` the steps are as they were.
     #[inline(always)]
     pub fn push_few(&mut self, step: &StepView<'_>) -> Result<(), OutOfMemory>
         requires few { IsFewStep (whole step.now) }
@@ -190,28 +193,40 @@ fn look_kept(step: &Step) -> LaneStep<'_>
 /// The accesses of the step with which these words begin.
 #[inline(always)]
 fn read_accesses<'a>(words: &[u64]) -> AccessesView<'a>
-    requires some { HasAccess words.now }
-    requires two { goes_on_by (slice_index words.now 0) ≡ true → HasAccess (behind words.now) }
-    ensures { result ≡ accesses_in words.now }
+    requires { HasAccesses most_accesses words.now }
+    ensures { result ≡ accesses_in most_accesses words.now }
 {
     let first = read_access(words);
     if !goes_on(words[0]) {
         return AccessesView::one(first);
     }
-    let second = read_access(&words[size_of(words[0])..]);
-    AccessesView::two(first, second)
+    let rest = behind(words);
+    if !goes_on(rest[0]) {
+        return AccessesView::two(first, read_access(rest));
+    }
+    read_few(words)
+}
+
+/// As `read_accesses`, for words of any number of accesses.
+fn read_few<'a>(words: &[u64]) -> AccessesView<'a>
+    requires { HasAccesses most_accesses words.now }
+    ensures { result ≡ accesses_in most_accesses words.now }
+{
+    let mut items = [Access::default(); MOST_ACCESSES];
+    let count = read_all(words, &mut items, 0);
+    AccessesView::few(items, count)
 }
 
 /// Keeps a step beside the earlier ones, and answers its head. There must be room for it.
 fn keep(words: &mut RoomyList<u64>, others: &mut RoomyList<Step>, step: Step) -> Head
-    requires words_room { 4 ≤ words.old.room }
+    requires words_room { 8 ≤ words.old.room }
     requires others_room { 1 ≤ others.old.room }
     requires words_few { length words.old.items < 2 ^ 32 }
     requires others_few { length others.old.items < 2 ^ 32 }
     ensures kept { IsKept words.old.items others.old.items words.new.items others.new.items step result }
-    ensures words_more { length words.new.items ≤ length words.old.items + 4 }
+    ensures words_more { length words.new.items ≤ length words.old.items + 8 }
     ensures others_more { length others.new.items ≤ length others.old.items + 1 }
-    ensures words_room { words.old.room ≤ words.new.room + 4 }
+    ensures words_room { words.old.room ≤ words.new.room + 8 }
     ensures others_room { others.old.room ≤ others.new.room + 1 }
 {
     if is_few(&step) {
@@ -232,34 +247,38 @@ fn keep(words: &mut RoomyList<u64>, others: &mut RoomyList<Step>, step: Step) ->
     }
 }
 
-/// Whether a step has one access or two, its numbers fit 32 bits, and its accesses fit a word each.
+/// Whether a step has one access to four, its numbers fit 32 bits, and its accesses fit a word each.
 fn is_few(step: &Step) -> bool
     ensures { result ≡ true → IsFewStep step.now }
 {
     let accesses = step.accesses.as_slice();
-    (accesses.len() == 1 || accesses.len() == 2)
+    accesses.len() >= 1
+        && accesses.len() <= MOST_ACCESSES
         && step.gap <= MOST
         && step.first_query <= MOST
         && all_fit(accesses)
 }
 
-/// Adds the words of one access or two, and answers the place of the first word. There must be room for them.
+/// Adds the words of one access to four, and answers the place of the first word. There must be room for them.
 #[inline(always)]
 fn push_accesses(words: &mut RoomyList<u64>, items: &[Access]) -> u32
-    requires few { (length items.now ≡ 1) ⊎ (length items.now ≡ 2) }
+    requires some { 1 ≤ length items.now }
+    requires few { length items.now ≤ most_accesses }
     requires fit { All Fits items.now }
-    requires room { 4 ≤ words.old.room }
+    requires room { 8 ≤ words.old.room }
     requires words_few { length words.old.items < 2 ^ 32 }
     ensures at { result ≡ length words.old.items }
     ensures items { words.new.items ≡ words.old.items ++ packed items.now }
-    ensures more { length words.new.items ≤ length words.old.items + 4 }
-    ensures room { words.old.room ≤ words.new.room + 4 }
+    ensures more { length words.new.items ≤ length words.old.items + 8 }
+    ensures room { words.old.room ≤ words.new.room + 8 }
 {
     let at = words.len() as u32;
-    let more = items.len() == 2;
+    let more = items.len() > 1;
     push_access(words, items[0], more);
-    if more {
+    if items.len() == 2 {
         push_access(words, items[1], false);
+    } else if more {
+        push_all(words, &items[1..]);
     }
     at
 }

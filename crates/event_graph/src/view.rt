@@ -1,20 +1,21 @@
 //! Views of a step in its lane.
-ghost use Rattle.std.specs.Prelude.{◌≡◌, ◌<◌, true, [], ◌∷◌, length, slice_get, slice_index, Some};
-ghost use Rattle.event_graph.specs.Words.{HasAccess, behind, accesses_in, goes_on as goes_on_by};
+ghost use Rattle.std.specs.Prelude.{◌≡◌, ◌<◌, [], ◌∷◌, length, take, slice_get, Some};
+ghost use Rattle.event_graph.specs.Words.{HasAccesses, accesses_in, most_accesses};
 
-use crate::words::{goes_on, read_access, size_of};
+use crate::words::{MOST_ACCESSES, access_at, count_accesses};
 use flow_word::Access;
 use std::marker::Model;
 
-/// The accesses of a view: copies of one or two, or a slice.
+/// The accesses of a view: copies of one, of two, or of the first of a list, so many as are counted; or a slice.
 #[derive(Drop)]
 enum Held<'a> {
     One([Access; 1]),
     Two([Access; 2]),
+    Few([Access; MOST_ACCESSES], usize),
     Slice(&'a [Access]),
 }
 
-/// A view of the accesses of a step, in commit order. It has a copy of one or two accesses.
+/// A view of the accesses of a step, in commit order. It has a copy of the accesses where they are few.
 #[derive(Drop)]
 pub struct AccessesView<'a> {
     held: Held<'a>,
@@ -61,6 +62,16 @@ impl<'a> AccessesView<'a> {
         }
     }
 
+    /// A view that has copies of the first `count` of these accesses.
+    #[inline(always)]
+    pub(crate) fn few(items: [Access; MOST_ACCESSES], count: usize) -> AccessesView<'a>
+        ensures { result ≡ take count items }
+    {
+        AccessesView {
+            held: Held::Few(items, count),
+        }
+    }
+
     /// How many accesses there are.
     #[inline(always)]
     pub fn len(&self) -> u64
@@ -77,9 +88,17 @@ impl<'a> AccessesView<'a> {
         match &self.held {
             Held::One(items) => items,
             Held::Two(items) => items,
+            Held::Few(items, count) => first_of(items, *count),
             Held::Slice(items) => items,
         }
     }
+}
+
+/// The first `count` of these accesses.
+fn first_of(items: &[Access; MOST_ACCESSES], count: usize) -> &[Access]
+    ensures { result.now ≡ take count items.now }
+{
+    &items[..count.min(items.len())]
 }
 
 /// A view of a step in its lane.
@@ -122,9 +141,8 @@ impl<'a> LaneAccesses<'a> {
     /// A view of the accesses with which these words begin.
     #[inline(always)]
     pub(crate) fn of_words(words: &'a [u64]) -> LaneAccesses<'a>
-        requires some { HasAccess words.now }
-        requires two { goes_on_by (slice_index words.now 0) ≡ true → HasAccess (behind words.now) }
-        ensures { result ≡ accesses_in words.now }
+        requires { HasAccesses most_accesses words.now }
+        ensures { result ≡ accesses_in most_accesses words.now }
     {
         LaneAccesses {
             listed: Listed::Words(words),
@@ -147,7 +165,7 @@ impl<'a> LaneAccesses<'a> {
         ensures { result ≡ length self.now }
     {
         match &self.listed {
-            Listed::Words(words) => 1 + goes_on(words[0]) as usize,
+            Listed::Words(words) => count_accesses(words),
             Listed::Slice(items) => items.len(),
         }
     }
@@ -159,8 +177,7 @@ impl<'a> LaneAccesses<'a> {
         ensures { slice_get self.now number ≡ Some result }
     {
         match &self.listed {
-            Listed::Words(words) if number == 0 => read_access(words),
-            Listed::Words(words) => read_access(&words[size_of(words[0])..]),
+            Listed::Words(words) => access_at(words, number),
             Listed::Slice(items) => item_at(items, number),
         }
     }

@@ -3,10 +3,11 @@
 //! The lowest three bits of a word are the code of the access's kind. The next bit tells whether its value follows as a word, and
 //! the bit after it whether another access of the step follows. Then comes the channel, and in the upper half the ordinal. A value
 //! of 0 is left out. The code 6 stands for a step that is kept whole: its number is in the upper half.
-ghost use Rattle.std.specs.Prelude.{◌≡◌, ◌+◌, ◌<◌, ◌≤◌, ◌++◌, true, false, All};
+ghost use Rattle.std.specs.Prelude.{◌≡◌, ℕ, ◌+◌, ◌*◌, ◌<◌, ◌≤◌, ◌++◌, true, false, length, take, slice_get, Some, All};
 ghost use Rattle.event_graph.specs.Words.{Fits, is_kept as is_kept_by, has_value as has_value_by, goes_on as goes_on_by, upper as upper_by};
-ghost use Rattle.event_graph.specs.Words.{kind_of as kind_by, code_of as code_by, word_of as word_by, words_of, access_in};
-ghost use Rattle.event_graph.specs.Words.{size_of as size_by, HasAccess};
+ghost use Rattle.event_graph.specs.Words.{kind_of as kind_by, code_of as code_by, word_of as word_by, words_of, access_in, behind as behind_by};
+ghost use Rattle.event_graph.specs.Words.{size_of as size_by, HasAccess, HasAccesses, accesses_in, most_accesses};
+ghost use Rattle.event_graph.specs.Packed.{packed};
 
 use flow_word::{Access, Kind, RoomyList};
 
@@ -18,6 +19,12 @@ const UPPER: u64 = 0x1_0000_0000;
 
 /// One more than the greatest channel number that fits a word.
 const CHANNELS: u64 = 0x800_0000;
+
+/// The most accesses of a step that is kept as words.
+pub(crate) const MOST_ACCESSES: usize = 4;
+
+/// The most words that such a step takes.
+pub(crate) const MOST_WORDS: u64 = 8;
 
 /// Whether the word is that of a step that is kept whole.
 #[inline(always)]
@@ -94,10 +101,20 @@ fn code_of(kind: Kind) -> u64
 
 /// How many words the access takes of which this is the first.
 #[inline(always)]
-pub(crate) fn size_of(word: u64) -> usize
+fn size_of(word: u64) -> usize
     ensures { result ≡ size_by word }
 {
     1 + has_value(word) as usize
+}
+
+/// The words after the first access.
+#[inline(always)]
+pub(crate) fn behind(words: &[u64]) -> &[u64]
+    requires { HasAccess words.now }
+    ensures words { result.now ≡ behind_by words.now }
+    ensures fewer { length result.now < length words.now }
+{
+    &words[size_of(words[0])..]
 }
 
 /// The access with which these words begin.
@@ -113,6 +130,76 @@ pub(crate) fn read_access(words: &[u64]) -> Access
         ordinal: upper(word),
         value: if has_value(word) { words[1] } else { 0 },
     }
+}
+
+/// How many accesses these words begin with: those of one step.
+#[inline(always)]
+pub(crate) fn count_accesses(words: &[u64]) -> usize
+    requires { HasAccesses most_accesses words.now }
+    ensures { result ≡ length (accesses_in most_accesses words.now) }
+{
+    if !goes_on(words[0]) {
+        return 1;
+    }
+    let rest = behind(words);
+    if !goes_on(rest[0]) {
+        return 2;
+    }
+    1 + count_on(rest)
+}
+
+/// As `count_accesses`, for words of any number of accesses.
+fn count_on(words: &[u64]) -> usize
+    requires { (most : ℕ) × HasAccesses most words.now }
+    ensures count { (most : ℕ) → HasAccesses most words.now → result ≡ length (accesses_in most words.now) }
+    ensures few { result ≤ length words.now }
+{
+    if !goes_on(words[0]) {
+        return 1;
+    }
+    1 + count_on(behind(words))
+}
+
+/// The access with this number, counted from 0, among those with which the words begin.
+#[inline(always)]
+pub(crate) fn access_at(words: &[u64], number: usize) -> Access
+    requires words { HasAccesses most_accesses words.now }
+    requires number { number < length (accesses_in most_accesses words.now) }
+    ensures { slice_get (accesses_in most_accesses words.now) number ≡ Some result }
+{
+    if number == 0 {
+        return read_access(words);
+    }
+    let rest = behind(words);
+    if number == 1 {
+        return read_access(rest);
+    }
+    walk_to(rest, number - 1)
+}
+
+/// As `access_at`, for words of any number of accesses.
+fn walk_to(words: &[u64], number: usize) -> Access
+    requires { (most : ℕ) × (HasAccesses most words.now × (number < length (accesses_in most words.now))) }
+    ensures { (most : ℕ) → HasAccesses most words.now → number < length (accesses_in most words.now)
+        → slice_get (accesses_in most words.now) number ≡ Some result }
+{
+    if number == 0 {
+        return read_access(words);
+    }
+    walk_to(behind(words), number - 1)
+}
+
+/// Writes the accesses with which the words begin into the list, from a place on, and answers how many the list then has.
+pub(crate) fn read_all(words: &[u64], items: &mut [Access; MOST_ACCESSES], at: usize) -> usize
+    requires { (most : ℕ) × (HasAccesses most words.now × (at + length (accesses_in most words.now) ≤ most_accesses)) }
+    ensures { (most : ℕ) → HasAccesses most words.now → at + length (accesses_in most words.now) ≤ most_accesses
+        → take result items.new ≡ take at items.old ++ accesses_in most words.now }
+{
+    items[at] = read_access(words);
+    if !goes_on(words[0]) {
+        return at + 1;
+    }
+    read_all(behind(words), items, at + 1)
 }
 
 /// The first word of an access. `more` tells whether another access of its step follows.
@@ -139,6 +226,22 @@ pub(crate) fn push_access(words: &mut RoomyList<u64>, access: Access, more: bool
     let _ = words.push(word_of(access, more));
     if access.value != 0 {
         let _ = words.push(access.value);
+    }
+}
+
+/// Adds the words of these accesses. There must be room for them.
+pub(crate) fn push_all(words: &mut RoomyList<u64>, items: &[Access])
+    requires some { 1 ≤ length items.now }
+    requires fit { All Fits items.now }
+    requires room { 2 * length items.now ≤ words.old.room }
+    ensures items { words.new.items ≡ words.old.items ++ packed items.now }
+    ensures more { length words.new.items ≤ length words.old.items + 2 * length items.now }
+    ensures room { words.old.room ≤ words.new.room + 2 * length items.now }
+{
+    let more = items.len() > 1;
+    push_access(words, items[0], more);
+    if more {
+        push_all(words, &items[1..]);
     }
 }
 

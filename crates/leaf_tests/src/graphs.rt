@@ -137,15 +137,24 @@ fn steps_are_read_as_they_were_added(rt: HostRuntime) -> Result<(), Fail> {
     ];
     let three = [writes[0], query[0], writes[1]];
     let late = [access(Kind::Read, 5_000_000_000, 0)];
+    let four = [writes[1], query[0], access(Kind::Write, 10, 0), writes[0]];
+    let five = [query[0], writes[0], writes[1], query[0], writes[0]];
+    let late_last = [writes[0], query[0], late[0]];
     graph.push_step(0, step_with(rt.alloc(), 1, &query, 0)?)?;
     graph.push_step(0, step_with(rt.alloc(), 2, &writes, 1)?)?;
     graph.push_step(0, step_with(rt.alloc(), 3, &three, 3)?)?;
     graph.push_step(0, step_with(rt.alloc(), 5_000_000_000, &query, 6)?)?;
     graph.push_step(0, step_with(rt.alloc(), 4, &late, 7)?)?;
+    graph.push_step(0, step_with(rt.alloc(), 5, &four, 7)?)?;
+    graph.push_step(0, step_with(rt.alloc(), 6, &five, 9)?)?;
+    graph.push_step(0, step_with(rt.alloc(), 7, &late_last, 12)?)?;
     is_read(&rt, &graph, step_of(0), 1, &query, 0);
     is_read(&rt, &graph, step_of(1), 2, &writes, 1);
     is_read(&rt, &graph, step_of(2), 3, &three, 3);
     is_read(&rt, &graph, step_of(3), 5_000_000_000, &query, 6);
     is_read(&rt, &graph, step_of(4), 4, &late, 7);
+    is_read(&rt, &graph, step_of(5), 5, &four, 7);
+    is_read(&rt, &graph, step_of(6), 6, &five, 9);
+    is_read(&rt, &graph, step_of(7), 7, &late_last, 12);
     Ok(())
 }

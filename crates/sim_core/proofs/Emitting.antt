@@ -1,6 +1,6 @@
 -- A Run's next mark, emitted.
-use Rattle.std.proofs.Common.{◌≡◌, refl, sym, subst, ◌∙◌, ℕ, ◌≤◌, ◌⊎◌, inl, inr, false, List, length, set, Option, Some, arith}
-use Rattle.std.proofs.{lemmas.Bool.both_ways, lemmas.Bool.Decides.eqb_tells}
+use Rattle.std.proofs.Common.{◌≡◌, refl, sym, subst, ◌∙◌, ℕ, false, List, length, set, Option, Some, arith}
+use Rattle.std.proofs.lemmas.Bool.{both_ways}
 use Rattle.flow_word.specs.{declared.access.Access.Access, declared.access.Step.Step as StepOf}
 use Rattle.flow_design.specs.{declared.plan.Plan.Plan, declared.state.ModuleState.ModuleState, declared.state.Advance.Advance}
 use Rattle.flow_design.specs.declared.state.Advance.TheVariants.{Step, Ended, Spent}
@@ -28,14 +28,12 @@ pub as_listed : (run : ModuleRun) {gap : ℕ} {accesses : List Access} {first : 
     → Step (record { gap = gap; accesses = accesses; first_query = first }) ≡ Step (listed run)
 as_listed run e f g = rw (e, f, g) refl
 
-one_or_two : (n : ℕ) → 1 ≤ n → n ≤ 2 → (n ≡ 1) ⊎ (n ≡ 2)
-one_or_two n some most = elim (eqb_tells n 1) [ inl e ↦ inl e.1 | inr e ↦ let other = e.1 in inr (omega arith) ]
-
 pub as_few : (run : ModuleRun) {gap : ℕ} {accesses : List Access} {first : ℕ} → gap ≡ (listed run).gap
     → accesses ≡ (listed run).accesses → first ≡ (listed run).first_query → IsFew (listed run)
     → IsFewStep (record { gap = gap; accesses = accesses; first_query = first })
 as_few run e f g few = rw (e, f, g) (record {
-  some = one_or_two (length run.accesses) few.some few.most;
+  some = few.some;
+  few = omega (arith, few.most);
   gap = few.gap;
   first_query = few.first_query;
   fits = λ k d inside. let small = few.small k d inside in record { channel = small.channel; ordinal = small.ordinal };

@@ -6,7 +6,7 @@ pub returns-then-is_few-clause-kept : goal.returns-then-is_few-clause-kept
 returns-then-is_few-clause-kept c =
     let few = c.is_few.ensures c.if-is_few.true in
     few_kept c.args.words.now.items c.push_accesses.new.words.items c.args.others.now.items c.args.step.accesses _
-    (rw c.as_slice.ensures at c.push_accesses.ensures.items) c.push_accesses.ensures.at few.some few.fits
+    (rw c.as_slice.ensures at c.push_accesses.ensures.items) c.push_accesses.ensures.at few.some few.few few.fits
 
 pub returns-clause-kept : goal.returns-clause-kept
 returns-clause-kept c =

@@ -1,1 +1,1 @@
-pub mod Leasts
+pub mod Winners

@@ -1,52 +1,55 @@
 //! The first of the least among some candidates.
-ghost use Rattle.std.specs.Prelude.{◌≤◌, ◌<◌, ◌+◌, ◌*◌, ◌^◌, length};
-ghost use Rattle.query_resolve.specs.Earliest.{cycle_of};
-ghost use Rattle.candidate_list.specs.Blocks.{IsFound, IsLeast};
+ghost use Rattle.std.specs.Prelude.{◌≡◌, ◌*◌, ◌<◌, ◌≤◌, ℕ, length};
+ghost use Rattle.candidate_list.specs.Firsts.{AreWonBut, IsWinner, at_place, told};
 
 use event_graph::Candidate;
 
-/// How many candidates a block has.
-pub(crate) const BLOCK: usize = 32;
+/// A module and the cycle of its candidate.
+#[derive(Clone, Copy, Debug, PartialEq, Eq)]
+pub(crate) struct First {
+    pub(crate) cycle: u64,
+    pub(crate) owner: u32,
+}
 
-/// The first of the candidates with the least cycle, from this number on and below another, and that cycle. None where none has a cycle.
-pub(crate) fn first_in(candidates: &[Candidate], from: usize, to: usize) -> Option<(usize, u64)>
-    requires { to ≤ length candidates.now }
-    ensures { IsFound candidates.now from to result }
+/// A module with the cycle of its candidate. `None` where the candidate has none.
+pub(crate) fn told(owner: u32, candidate: Candidate) -> Option<First>
+    ensures { result ≡ told owner candidate }
 {
-    let mut first: Option<(usize, u64)> = None;
-    for at in from..to {
-        let Candidate::At(cycle) = candidates[at] else {
-            continue;
-        };
-        match first {
-            Some((_, least)) if least <= cycle => continue,
-            _ => first = Some((at, cycle)),
+    match candidate {
+        Candidate::At(cycle) => Some(First { cycle, owner }),
+        Candidate::Waits(_) | Candidate::Beyond | Candidate::Nothing => None,
+    }
+}
+
+/// The one of two that has the lesser cycle, or, where both have the same, the lower module.
+fn sooner(one: Option<First>, other: Option<First>) -> Option<First>
+    ensures { IsWinner one other result }
+{
+    match (one, other) {
+        (Some(a), Some(b)) => {
+            if a.cycle < b.cycle || (a.cycle == b.cycle && a.owner <= b.owner) {
+                one
+            } else {
+                other
+            }
         }
-    }
-    first
-}
-
-/// The first of a block with the least cycle, and that cycle. None where none has a cycle.
-pub(crate) fn first_in_block(candidates: &[Candidate], block: usize) -> Option<(usize, u64)>
-    requires { block < 2 ^ 32 }
-    ensures { IsFound candidates.now (32 * block) (32 * block + 32) result }
-{
-    let from = BLOCK * block;
-    let end = from + BLOCK;
-    if end < candidates.len() {
-        first_in(candidates, from, end)
-    } else {
-        first_in(candidates, from, candidates.len())
+        (Some(_), None) => one,
+        (None, _) => other,
     }
 }
 
-/// The least cycle of a block, as a candidate.
-pub(crate) fn least_of(candidates: &[Candidate], block: usize) -> Candidate
-    requires { block < 2 ^ 32 }
-    ensures { IsLeast candidates.now block (cycle_of result) }
+/// Finds the winners anew at a place, and then at each that depends on it. The other winners must be right.
+pub(crate) fn find_winners(places: &mut Vec<Option<First>>, count: usize, place: usize)
+    requires count { length places.old.items ≡ 2 * count }
+    requires place { place < count }
+    requires won { AreWonBut places.old.items count place }
+    ensures count { length places.new.items ≡ length places.old.items }
+    ensures begins { (j : ℕ) → count ≤ j → at_place places.new.items j ≡ at_place places.old.items j }
+    ensures won { AreWonBut places.new.items count 0 }
 {
-    match first_in_block(candidates, block) {
-        Some((_, cycle)) => Candidate::At(cycle),
-        None => Candidate::Nothing,
+    let mut at = place;
+    while at > 0 {
+        places[at] = sooner(places[2 * at], places[2 * at + 1]);
+        at /= 2;
     }
 }

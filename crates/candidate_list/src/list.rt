@@ -1,8 +1,8 @@
 //! A list of candidates that tells the first of the least.
-ghost use Rattle.std.specs.Prelude.{◌≡◌, ◌<◌, ◌^◌, ◌↔◌, ℕ, length, slice_set, All, None, IfOk, IfSome, IsNone};
+ghost use Rattle.std.specs.Prelude.{◌≡◌, ◌<◌, ◌↔◌, ℕ, length, slice_set, All, None, IfOk, IfSome, IsNone};
 ghost use Rattle.query_resolve.specs.Earliest.{cycle_of, IsEarliest};
 
-use crate::first::{BLOCK, first_in, first_in_block, least_of};
+use crate::first::{First, find_winners, told};
 use event_graph::Candidate;
 use flow_word::OutOfMemory;
 use std::alloc::Global;
@@ -10,24 +10,25 @@ use std::marker::Model;
 
 /// A candidate for each of some modules, in order of modules. Contracts see the list.
 ///
-/// Of each block of 32 the least cycle is kept: so a change looks at one block, and to find the first of the least takes a look at
-/// one cycle of each block, and at one block.
+/// The first of the least is found in rounds, in each of which the sooner one of two goes on to the next: so a change costs the
+/// logarithm of the modules, and the winner of all is known.
 #[derive(Drop)]
 pub struct CandidateList {
     candidates: Vec<Candidate>,
-    leasts: Vec<Candidate>,
+    /// Each place from 1 on has the winner of places `2 * place` and `2 * place + 1`. The modules begin at the upper half.
+    places: Vec<Option<First>>,
 }
 
 impl Model for CandidateList {
     ghost use Rattle.std.specs.Prelude.{List};
     ghost use Rattle.event_graph.specs.declared.candidate.Candidate.{Candidate};
-    ghost use Rattle.candidate_list.specs.Blocks.{HasLeasts};
+    ghost use Rattle.candidate_list.specs.Firsts.{HasWinners};
 
     ghost Value = { List Candidate };
 
     ghost view = { λ list. list.candidates.items };
 
-    ghost invariant = { λ list. HasLeasts list.candidates.items list.leasts.items };
+    ghost invariant = { λ list. HasWinners list.candidates.items list.places.items };
 }
 
 impl CandidateList {
@@ -36,8 +37,8 @@ impl CandidateList {
         ensures { IfOk result (λ list. length list ≡ count) }
     {
         let candidates = vec![in alloc; Candidate::Nothing; count as usize]?;
-        let leasts = vec![in alloc; Candidate::Nothing; (count / 32 + 1) as usize]?;
-        Ok(CandidateList { candidates, leasts })
+        let places = vec![in alloc; None; 2 * count as usize]?;
+        Ok(CandidateList { candidates, places })
     }
 
     /// Another candidate of a module. It takes no memory.
@@ -50,9 +51,9 @@ impl CandidateList {
             return;
         }
         self.candidates[at] = candidate;
-        let block = at / BLOCK;
-        let cycle = least_of(&self.candidates, block);
-        self.leasts[block] = cycle;
+        let count = self.candidates.len();
+        self.places[count + at] = told(owner, candidate);
+        find_winners(&mut self.places, count, (count + at) / 2);
     }
 
     /// The first module with the least cycle, and that cycle. None where no candidate has a cycle. It takes no memory.
@@ -60,9 +61,12 @@ impl CandidateList {
         ensures some { IfSome result (λ found. IsEarliest self.now found.0 found.1) }
         ensures none { IsNone result ↔ All (λ candidate. cycle_of candidate ≡ None) self.now }
     {
-        let leasts = self.leasts.as_slice();
-        let (block, _) = first_in(leasts, 0, leasts.len())?;
-        let (owner, cycle) = first_in_block(&self.candidates, block)?;
-        Some((owner as u32, cycle))
+        if self.places.len() < 2 {
+            return None;
+        }
+        match self.places[1] {
+            Some(first) => Some((first.owner, first.cycle)),
+            None => None,
+        }
     }
 }

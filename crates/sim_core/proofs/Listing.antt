@@ -1,9 +1,12 @@
 -- The candidate of a module that is neither asking nor unlisted is right, whatever was done.
-use Rattle.std.proofs.Common.{◌≡◌, refl, sym, ap, subst, ◌∙◌, ℕ, ◌<◌, inl, inr, true, arith, List, [], length, Some}
+use Rattle.std.proofs.Common.{◌≡◌, refl, sym, ap, subst, ◌∙◌, ℕ, ◌<◌, inl, inr, true, arith, List, [], length, None, Some}
 use Rattle.std.specs.Prelude.{slice_index_or}
 use Rattle.flow_design.specs.{declared.plan.Plan.Plan, declared.state.ModuleState.ModuleState, StaticRules.FitsEngine}
 use Rattle.module_sets.specs.{declared.mask.Mask.Mask, Sets.Has, Sets.HasMask, Sets.IsAdded}
 use Rattle.event_graph.specs.declared.candidate.Candidate.{Candidate}
+use Rattle.event_graph.specs.declared.candidate.Candidate.TheVariants.{Nothing}
+use Rattle.query_resolve.specs.Earliest.{cycle_of}
+use Rattle.event_timing.specs.Actions.{IsDetermined}
 use Rattle.event_timing.specs.{Core.Core, Core.view, Enablers.candidate, Actions.ActsAll, Actions.IsQuiet, Actions.runs, Agreement.IsAgreed}
 use Rattle.timing_bridge.specs.Designs.{design, lockstep_run}
 use Rattle.timing_bridge.proofs.History.{plan_is_design, run_is_history}
@@ -25,6 +28,17 @@ listed_all p x due candidates count room all full = record {
   room = room;
   right = λ n l (asks, listed) cycle. absurd (asks (full n (omega arith)));
 }
+
+-- where no candidate has a cycle, none of those listed is determined
+pub none_listed : (p : Plan) (x : Core ModuleState) (due : Due) (candidates : List Candidate) → AreListed p x due candidates
+    → ((k : ℕ) (d : Candidate) → k < length candidates → cycle_of (slice_index_or candidates k d) ≡ None) → (n : ℕ)
+    → n < length p.design.modules → IsListed due n → (c : ℕ) → IsDetermined (design p) p.cycles x n c → ⊥
+none_listed p x due candidates are none n l listed c determined =
+    let count = are.count in
+    no_cycle (sym (none n Nothing (omega arith)) ∙ ap cycle_of ((are.right n l listed c).1 determined))
+  where
+    no_cycle : None ≡ Some c → ⊥
+    no_cycle e = cc
 
 -- where nothing is permitted, none is asking
 pub asking_none : (p : Plan) (x : Core ModuleState) → IsQuiet (design p) p.cycles x → (asking : List ℕ) → HasRoom p asking

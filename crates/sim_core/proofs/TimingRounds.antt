@@ -1,7 +1,8 @@
 -- Rounds of Assigns and Answers, the Earliest behind them, and the end.
-use Rattle.std.proofs.Common.{◌≡◌, sym, ap, subst, ◌∙◌, ℕ, suc, ◌+◌, ◌*◌, ◌^◌, ◌<◌, ◌≤◌, ◌⊎◌, inl, inr, true, false, length, Some, None}
+use Rattle.std.proofs.Common.{◌≡◌, refl, sym, ap, subst, ◌∙◌, ℕ, zero, suc, ◌+◌, ◌*◌, ◌^◌, ◌<◌, ◌≤◌, ◌⊎◌, inl, inr, true, false, length, Option, Some, None}
 use Rattle.std.proofs.Common.{arith, mul-le-mul_right}
-use Rattle.std.proofs.lemmas.Bool.{cases_Bool}
+use Rattle.std.specs.Prelude.{IfSome}
+use Rattle.std.proofs.lemmas.Bool.{cases_Bool, cases_lt}
 use Rattle.flow_design.specs.declared.limits.TheConstants.{MODULES, COUNTED_OPERATIONS}
 use Rattle.flow_design.specs.{declared.plan.Plan.Plan, declared.state.ModuleState.ModuleState, StaticRules.FitsEngine}
 use Rattle.event_timing.specs.{Machines.Design, Enablers.known_of, Enablers.all_decided, Views.first_accesses, Core.Core, Core.view}
@@ -16,13 +17,11 @@ use Rattle.turn_history.specs.{Rounds.may_time, Rounds.after_timing, Rounds.next
 use Rattle.turn_history.proofs.{Onward.assigned_is, Onward.answered_is, Onward.idle_is, Onward.next_none, Onward.timings_none}
 use Rattle.turn_history.proofs.{Onward.timings_more, Onward.timings_on, Onward.timings_over, Onward.earliest_found, Timings.none_left_at}
 use Rattle.engine_view.specs.{declared.turn.Timing.Timing, Turns.is_progress, Turns.ticks_of}
-use Rattle.engine_view.specs.Cursors.{CursorView, IsNext, IsPassed, GoesRound}
 use Rattle.engine_view.specs.declared.turn.Timing.TheVariants as turn
 use Rattle.sim_core.specs.{Views.CoreView, Views.theory_of, Turns.HasTurned, Turns.HasAnsweredLeast, Turns.IsFirstEarliest}
-use Rattle.sim_core.specs.Timings.{IsUntimable, IsTimed, IsTimingRound, HasMore}
+use Rattle.sim_core.specs.Timings.{AreUntimable, IsNextFrom, IsUntimable, IsTimed, IsTimingRound, HasMore}
 use Rattle.sim_core.proofs.Rounds as rounds
 use Rattle.sim_core.proofs.Rounds.{to_do}
-use Rattle.engine_view.proofs.Cursors.{idle_more}
 
 -- ---- one action
 
@@ -66,8 +65,54 @@ rested r (inr e) = cc
 
 -- ---- the rounds
 
-module _ {first now : CoreView} {before ticks : ℕ} {cursor : CursorView} {done : ℕ}
-    (r : IsTimingRound first now before ticks cursor done) where
+pub untimable_on : (v : CoreView) (from at to : ℕ) → AreUntimable v from at → AreUntimable v at to → AreUntimable v from to
+untimable_on v from at to before behind n l u =
+    elim (cases_lt n at) [
+      | inl less ↦ before n l less
+      | inr more ↦ behind n more u
+    ]
+
+-- and of one more
+pub untimable_more : (v : CoreView) (at m : ℕ) → AreUntimable v at m → IsUntimable v m → AreUntimable v at (m + 1)
+untimable_more v at m before here n l u =
+    elim (cases_lt n m) [
+      | inl less ↦ before n l less
+      | inr more ↦ subst (IsUntimable v) (let e : m ≡ n = omega arith in e) here
+    ]
+
+-- what comes next, where none does from module `at` on
+pub next_over : (v w : CoreView) → w ≡ v → (at : ℕ) → at ≤ length v.plan.design.modules
+    → AreUntimable v at (length v.plan.design.modules) → (r : Option ℕ) → IfSome r (λ m. m < at)
+    → IfSome r (λ m. AreUntimable w 0 m) → IfSome r (λ m. IsNextFrom v at m)
+next_over v w same at l behind None below first = tt
+next_over v w same at l behind (Some m) below first =
+    (omega arith, inr (behind, subst (λ (u : CoreView). AreUntimable u 0 m) same first))
+
+-- where nothing is permitted of some modules, rounds go on behind them
+timings_past : {S : Type 0} (d : Design S) (limit n at m : ℕ) (x : Core S) → at ≤ m → m ≤ d.modules
+    → ((k : ℕ) → at ≤ k → k < m → may_time d limit x k ≡ false) → timings d limit n at x ≡ timings d limit n m x
+timings_past {S} d limit n at zero x l u none = let e : at ≡ zero = omega arith in ap (λ (k : ℕ). timings d limit n k x) e
+timings_past {S} d limit n at (suc m) x l u none =
+    elim (cases_lt m at) [
+      | inl less ↦ let e : at ≡ suc m = omega arith in ap (λ (k : ℕ). timings d limit n k x) e
+      | inr more ↦
+          timings_past d limit n at m x more (omega arith) (λ k p q. none k p (omega arith))
+          ∙ timings_on d limit n m x (omega arith) (none m more (omega arith))
+    ]
+
+pub begun : (v : CoreView) (ticks : ℕ) → IsAgreed (design v.plan) (lockstep_run v.plan) v.plan.cycles (theory_of v) → FitsEngine v.plan
+    → AllVerified (theory_of v) → IsTimingRound v v ticks ticks 0 0
+begun v ticks agreed fits verified = record {
+  goes = rounds.goes_same v ticks;
+  agreed = agreed;
+  fits = fits;
+  verified = verified;
+  at_most = omega arith;
+  rounds = λ more. let e : 0 + more ≡ more = omega arith in ap (λ (n : ℕ). timings (design v.plan) v.plan.cycles n 0 (theory_of v)) e;
+  few = omega arith;
+}
+
+module _ {first now : CoreView} {before ticks at done : ℕ} (r : IsTimingRound first now before ticks at done) where
   abbrev d : Design ModuleState
   d = design first.plan
 
@@ -79,9 +124,6 @@ module _ {first now : CoreView} {before ticks : ℕ} {cursor : CursorView} {done
 
   fits_now : FitsEngine now.plan
   fits_now = subst FitsEngine (sym r.goes.plan) r.fits
-
-  counted_first : cursor.count ≡ length first.plan.design.modules
-  counted_first = r.counted ∙ ap (λ (q : Plan). length q.design.modules) r.goes.plan
 
   pub verified_now : AllVerified (theory_of now)
   verified_now = rounds.goes_verified first now before ticks r.agreed r.fits r.goes r.verified
@@ -102,96 +144,74 @@ module _ {first now : CoreView} {before ticks : ℕ} {cursor : CursorView} {done
           let p : n * (3 * o + 1) ≤ MODULES * (3 * o + 1) = mul-le-mul_right (3 * o + 1) l in
           omega arith
 
-  pub went : {next : CoreView} {later m : ℕ} {cursor' : CursorView} → IsNext cursor m → IsTimed now ticks m next later
-      → cursor'.count ≡ cursor.count → cursor'.at ≡ cursor.at → ((n : ℕ) → IsPassed cursor' n → ⊥)
-      → IsTimingRound first next before later cursor' (done + 1)
-  went {next} {later} {m} {cursor'} n o count at none = record {
+  -- one action more, of the module that comes next
+  pub went : {next : CoreView} {later m : ℕ} → IsNextFrom now at m → IsTimed now ticks m next later
+      → IsTimingRound first next before later m (done + 1)
+  went {next} {later} {m} (inside, comes) o = record {
     goes = rounds.goes_join first now next before ticks later r.goes o.goes.goes;
     agreed = r.agreed;
     fits = r.fits;
     verified = r.verified;
-    counted = count ∙ r.counted ∙ ap (λ (q : Plan). length q.design.modules) (sym o.goes.goes.plan);
-    at_most = let l = r.at_most in omega arith;
-    idle = λ k passed. absurd (none k passed);
-    rounds = λ more. rw at (more_rounds more);
+    at_most = let e = ap (λ (q : Plan). length q.design.modules) o.goes.goes.plan in omega arith;
+    rounds = more_rounds;
     few =
         let rise = subst (λ (q : Plan). work (design q) (theory_of now) < work (design q) (theory_of next)) r.goes.plan o.goes.risen in
         let few = r.few in
         omega arith;
   }
     where
-      may : may_time d limit (theory_of now) cursor.at ≡ true
-      may = subst (λ (q : Plan). may_time (design q) q.cycles (theory_of now) cursor.at ≡ true) r.goes.plan (rw n.is at o.may)
+      same_count : length now.plan.design.modules ≡ length first.plan.design.modules
+      same_count = ap (λ (q : Plan). length q.design.modules) r.goes.plan
 
-      is : theory_of next ≡ after_timing d limit (theory_of now) cursor.at
-      is = subst (λ (q : Plan). theory_of next ≡ after_timing (design q) q.cycles (theory_of now) cursor.at) r.goes.plan (rw n.is at o.is)
+      may : may_time d limit (theory_of now) m ≡ true
+      may = subst (λ (q : Plan). may_time (design q) q.cycles (theory_of now) m ≡ true) r.goes.plan o.may
 
-      more_rounds : (more : ℕ) → timings d limit (done + 1 + more) 0 (theory_of first) ≡ timings d limit more cursor.at (theory_of next)
+      is : theory_of next ≡ after_timing d limit (theory_of now) m
+      is = subst (λ (q : Plan). theory_of next ≡ after_timing (design q) q.cycles (theory_of now) m) r.goes.plan o.is
+
+      idle : (from to : ℕ) → AreUntimable now from to → (k : ℕ) → from ≤ k → k < to → may_time d limit (theory_of now) k ≡ false
+      idle from to none k l u =
+          subst (λ (q : Plan). may_time (design q) q.cycles (theory_of now) k ≡ false) r.goes.plan (none k l u)
+
+      to_next : (n : ℕ) → ((at ≤ m) × AreUntimable now at m)
+          ⊎ (AreUntimable now at (length now.plan.design.modules) × AreUntimable now 0 m)
+          → timings d limit n at (theory_of now) ≡ timings d limit n m (theory_of now)
+      to_next n (inl (l, none)) =
+          let c = same_count in timings_past d limit n at m (theory_of now) l (omega arith) (idle at m none)
+      to_next n (inr (none, before_m)) =
+          let c = same_count in
+          let u = r.at_most in
+          timings_past d limit n at (length first.plan.design.modules) (theory_of now) (omega arith) (omega arith)
+          (λ k p q. idle at _ none k p (omega arith))
+          ∙ timings_over d limit n (theory_of now)
+          ∙ timings_past d limit n 0 m (theory_of now) (omega arith) (omega arith) (idle 0 m before_m)
+
+      more_rounds : (more : ℕ) → timings d limit (done + 1 + more) 0 (theory_of first) ≡ timings d limit more m (theory_of next)
       more_rounds more =
-          let count' = counted_first in
-          let inside = n.inside in
-          let same = n.is in
+          let c = same_count in
           let sum : done + 1 + more ≡ done + suc more = omega arith in
-          ap (λ (n : ℕ). timings d limit n 0 (theory_of first)) sum ∙ r.rounds (suc more)
-          ∙ timings_more d limit more cursor.at (theory_of now) (omega arith) may ∙ sym (ap (timings d limit more cursor.at) is)
+          ap (λ (n : ℕ). timings d limit n 0 (theory_of first)) sum ∙ r.rounds (suc more) ∙ to_next (suc more) comes
+          ∙ timings_more d limit more m (theory_of now) (omega arith) may ∙ sym (ap (timings d limit more m) is)
 
-  pub passed : {next : CoreView} {later m : ℕ} {cursor' : CursorView} → IsNext cursor m → next ≡ now → later ≡ ticks
-      → IsUntimable now m → cursor'.count ≡ cursor.count → GoesRound cursor cursor'
-      → ((k : ℕ) → IsPassed cursor' k → (k ≡ cursor.at) ⊎ IsPassed cursor k) → IsTimingRound first next before later cursor' done
-  passed {next} {later} {m} {cursor'} n same ticked none count goes more =
-      rw (same, ticked) (record {
-        goes = r.goes;
-        agreed = r.agreed;
-        fits = r.fits;
-        verified = r.verified;
-        counted = count ∙ r.counted;
-        at_most = elim goes [ inl (l, e) ↦ omega arith | inr (l, e) ↦ omega arith ];
-        idle = idle_more (IsUntimable now) cursor cursor' more (rw n.is at none) r.idle;
-        rounds = λ k. r.rounds k ∙ from_next k goes;
-        few = r.few;
-      })
-    where
-      idle_here : may_time d limit (theory_of now) cursor.at ≡ false
-      idle_here = subst (λ (q : Plan). may_time (design q) q.cycles (theory_of now) cursor.at ≡ false) r.goes.plan (rw n.is at none)
-
-      on : (more : ℕ) → timings d limit more cursor.at (theory_of now) ≡ timings d limit more (suc cursor.at) (theory_of now)
-      on more = let c = counted_first in let inside = n.inside in let same = n.is in timings_on d limit more cursor.at (theory_of now)
-          (omega arith) idle_here
-
-      from_next : (more : ℕ)
-          → ((cursor.at + 1 < cursor.count) × (cursor'.at ≡ cursor.at + 1)) ⊎ ((cursor.count ≤ cursor.at + 1) × (cursor'.at ≡ 0))
-          → timings d limit more cursor.at (theory_of now) ≡ timings d limit more cursor'.at (theory_of now)
-      from_next more (inl (l, e)) =
-          let e' : suc cursor.at ≡ cursor'.at = omega arith in on more ∙ ap (λ (n : ℕ). timings d limit more n (theory_of now)) e'
-      from_next more (inr (l, e)) =
-          let c = counted_first in
-          let e' : suc cursor.at ≡ length first.plan.design.modules = omega arith in
-          on more ∙ ap (λ (n : ℕ). timings d limit more n (theory_of now)) e' ∙ timings_over d limit more (theory_of now)
-          ∙ ap (λ (n : ℕ). timings d limit more n (theory_of now)) (sym e)
-
-  -- where all were passed, the rounds are over
-  module _ (all : (m : ℕ) → m < cursor.count → IsPassed cursor m) where
-    none_next : next_timing d limit (theory_of now) cursor.at ≡ None
-    none_next = next_none d limit cursor.at (theory_of now) below (λ m u. none m u)
-      where
-        below : cursor.at ≤ length first.plan.design.modules
-        below = let c = counted_first in let u = r.at_most in omega arith
-
-        none : (m : ℕ) → m < length first.plan.design.modules → may_time d limit (theory_of now) m ≡ false
-        none m u =
-            let c = counted_first in
-            subst (λ (q : Plan). may_time (design q) q.cycles (theory_of now) m ≡ false) r.goes.plan (r.idle m (all m (omega arith)))
+  -- where none comes next, the rounds are over
+  module _ (none : AreUntimable now 0 (length now.plan.design.modules)) where
+    none_next : next_timing d limit (theory_of now) at ≡ None
+    none_next =
+        let c = ap (λ (q : Plan). length q.design.modules) r.goes.plan in
+        let u = r.at_most in
+        next_none d limit at (theory_of now) (omega arith) (λ m l.
+        subst (λ (q : Plan). may_time (design q) q.cycles (theory_of now) m ≡ false) r.goes.plan (none m (omega arith) (omega arith)))
 
     pub all_rounds : timings d limit done 0 (theory_of first) ≡ Some (theory_of now)
     all_rounds =
         let sum : done ≡ done + 0 = omega arith in
-        ap (λ (n : ℕ). timings d limit n 0 (theory_of first)) sum ∙ r.rounds 0 ∙ timings_none d limit cursor.at (theory_of now) none_next
+        ap (λ (n : ℕ). timings d limit n 0 (theory_of first)) sum ∙ r.rounds 0 ∙ timings_none d limit at (theory_of now) none_next
 
     pub none_timed : NoTiming (design now.plan) now.plan.cycles (theory_of now)
     none_timed =
         none_left_at (design now.plan) (lockstep_run now.plan) (plan_is_design now.plan fits_now) (run_is_history now.plan fits_now)
-        now.plan.cycles (theory_of now) agreed_now cursor.at
-        (subst (λ (q : Plan). next_timing (design q) q.cycles (theory_of now) cursor.at ≡ None) (sym r.goes.plan) none_next)
+        now.plan.cycles (theory_of now) agreed_now at
+        (subst (λ (q : Plan). next_timing (design q) q.cycles (theory_of now) at ≡ None) (sym r.goes.plan) none_next)
 
   -- something that was done is a turn less
   pub went_on : {next : CoreView} {later m : ℕ} → IsTimed now ticks m next later → to_do next < to_do now

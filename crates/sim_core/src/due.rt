@@ -1,5 +1,5 @@
 //! Of which modules something may be permitted, and whose candidate may have changed.
-ghost use Rattle.std.specs.Prelude.{◌≡◌, ℕ, ◌<◌, ◌≤◌, ◌⊎◌, length, IfOk, IfSome, IsNone};
+ghost use Rattle.std.specs.Prelude.{◌≡◌, ℕ, ◌<◌, ◌≤◌, ◌⊎◌, false, length, IfOk, IfSome, IsNone};
 ghost use Rattle.module_sets.specs.Sets.{capacity};
 ghost use Rattle.sim_core.specs.Asking.{Lacks};
 
@@ -73,6 +73,20 @@ impl Due {
         first_of(&self.asking, &self.running, from, count)
     }
 
+    /// The first module from this one on, below a count; but where not `all` are sought, of those whose candidate may have changed.
+    /// None where there is none.
+    pub(crate) fn first_open(&self, from: u32, count: u32, all: bool) -> Option<u32>
+        ensures behind { IfSome result (λ m. from ≤ m) }
+        ensures below { IfSome result (λ m. m < count) }
+        ensures before { IfSome result (λ m. (n : ℕ) → from ≤ n → n < m → IsListed self.now n × (all ≡ false)) }
+        ensures none { IsNone result → (n : ℕ) → from ≤ n → n < count → IsListed self.now n × (all ≡ false) }
+    {
+        if !all {
+            return self.first_unlisted(from, count);
+        }
+        if from < count { Some(from) } else { None }
+    }
+
     /// The first module from this one on, below a count, whose candidate may have changed. None where there is none.
     pub(crate) fn first_unlisted(&self, from: u32, count: u32) -> Option<u32>
         ensures first { IfSome result (λ m. from ≤ m) }
@@ -94,6 +108,17 @@ fn first_of(one: &ModuleSet, other: &ModuleSet, from: u32, count: u32) -> Option
     let here = first_or(one, from, count);
     let there = first_or(other, from, count);
     let first = if here < there { here } else { there };
+    if first < count { Some(first) } else { None }
+}
+
+/// The first module of a set from this one on, below a count. None where there is none.
+pub(crate) fn first_below(set: &ModuleSet, from: u32, count: u32) -> Option<u32>
+    ensures behind { IfSome result (λ m. from ≤ m) }
+    ensures below { IfSome result (λ m. m < count) }
+    ensures before { IfSome result (λ m. (n : ℕ) → from ≤ n → n < m → Lacks set.now n) }
+    ensures none { IsNone result → (n : ℕ) → from ≤ n → n < count → Lacks set.now n }
+{
+    let first = first_or(set, from, count);
     if first < count { Some(first) } else { None }
 }
 

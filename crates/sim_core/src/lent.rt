@@ -53,6 +53,7 @@ impl Core {
         ensures no_memory { OnErr result (self.new ≡ self.old) }
     {
         if !self.may_run(owner) {
+            self.rest(owner);
             return Ok(None);
         }
         let Some(run) = self.take_out(owner) else {

@@ -131,6 +131,16 @@ impl Core {
         self.wiring.readers.as_slice()
     }
 
+    /// Tells what a core always keeps: it agrees with its plan. It does nothing.
+    #[inline(always)]
+    pub fn agrees(&self)
+        ensures agreed { IsAgreed (design self.now.plan) (lockstep_run self.now.plan) self.now.plan.cycles (theory_of self.now) }
+        ensures fits { FitsEngine self.now.plan }
+        ensures sound { IsSound (design self.now.plan) self.now.held }
+    {
+        let _modules = self.engine.graph.modules();
+    }
+
     /// How many modules there are.
     pub fn modules(&self) -> u32
         ensures count { result ≡ length self.now.plan.design.modules }

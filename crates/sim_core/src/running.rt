@@ -89,7 +89,7 @@ impl Core {
 
     /// Notes that no Run of a module is permitted.
     #[inline(always)]
-    fn rest(&mut self, owner: u32)
+    pub(crate) fn rest(&mut self, owner: u32)
         requires { MayRun (design self.old.plan) (theory_of self.old) owner → ⊥ }
         ensures { self.new ≡ self.old }
     {

@@ -1,21 +1,26 @@
 //! The turn in which a thread gives steps cycles, and the test whether a core is final.
-ghost use Rattle.std.specs.Prelude.{◌≡◌, ℕ, ◌<◌, true, false, length, Some};
+ghost use Rattle.std.specs.Prelude.{◌≡◌, ℕ, ◌<◌, ◌≤◌, ◌⊎◌, true, false, length, slice_index_or, IfSome, IsNone, Some};
 ghost use Rattle.event_timing.specs.{Actions.IsDetermined, Actions.IsFinal, Actions.MayEarliest, Actions.MayRun, Agreement.AllVerified};
 ghost use Rattle.timing_bridge.specs.Designs.{design};
 ghost use Rattle.turn_history.specs.{Rounds.earliest_of, Rounds.timings, Turns.NoTiming};
-ghost use Rattle.sim_core.specs.{Views.theory_of, Drives.Goes, Timings.HasMore, Timings.IsTimed, Timings.IsUntimable};
+ghost use Rattle.module_sets.specs.Sets.{Has, capacity};
+ghost use Rattle.sim_core.specs.{Views.theory_of, Drives.Goes, Timings.IsTimed, Timings.IsUntimable, Timings.AreUntimable};
+ghost use Rattle.sim_core.specs.Timings.{AreUnrunnable, IsNextFrom, IsReady};
 
+use crate::due::first_below;
 use crate::machine::Core;
-use engine_view::{Cursor, Timing};
+use engine_view::Timing;
 use event_graph::Candidate;
 use flow_word::Steps;
+use module_sets::ModuleSet;
 use outcome_guard::Guard;
 use std::sync::ledger::Ledger;
 use time_engine::candidate;
 
 impl Core {
     /// Does each permitted Assign and Answer, and answers how many they were. It goes over the modules in order, round after round,
-    /// and does at each all that it can. All outcomes must be verified. It takes no memory.
+    /// and does at each all that it can. All outcomes must be verified. It takes no memory, and looks only at modules of which
+    /// something may be permitted.
     pub fn time_all<L: Ledger>(&mut self, steps: &mut Steps<L>) -> u64
         requires { AllVerified (theory_of self.old) }
         ensures rounds { timings (design self.old.plan) self.old.plan.cycles result 0 (theory_of self.old) ≡ Some (theory_of self.new) }
@@ -23,17 +28,64 @@ impl Core {
         ensures none_left { NoTiming (design self.new.plan) self.new.plan.cycles (theory_of self.new) }
         ensures verified { AllVerified (theory_of self.new) }
     {
-        let mut cursor = Cursor::new(self.modules());
+        self.agrees();
+        let mut at = 0;
         let mut done = 0;
-        while let Some(at) = cursor.at() {
-            if self.time_one(at, steps) {
-                cursor.acted();
-                done += 1;
-            } else {
-                cursor.passed();
-            }
+        while let Some(owner) = self.time_next(at, steps) {
+            at = owner;
+            done += 1;
         }
         done
+    }
+
+    /// Does an Assign or Answer of the first module of which one is permitted, from this one on, and then from the first one on.
+    /// Returns the module.
+    fn time_next<L: Ledger>(&mut self, at: u32, steps: &mut Steps<L>) -> Option<u32>
+        requires at { at ≤ length self.old.plan.design.modules }
+        requires verified { AllVerified (theory_of self.old) }
+        ensures done { IfSome result (λ m. IsTimed self.old steps.old m self.new steps.new) }
+        ensures first { IfSome result (λ m. IsNextFrom self.old at m) }
+        ensures none { IsNone result → AreUntimable self.old 0 (length self.old.plan.design.modules) }
+        ensures unchanged { IsNone result → (self.new ≡ self.old) × (steps.new ≡ steps.old) }
+    {
+        let count = self.modules();
+        match self.time_from(at, count, steps) {
+            Some(owner) => Some(owner),
+            None => self.time_from(0, at, steps),
+        }
+    }
+
+    /// Does an Assign or Answer of the first module of which one is permitted, from this one on and below another. Returns the
+    /// module.
+    fn time_from<L: Ledger>(&mut self, from: u32, to: u32, steps: &mut Steps<L>) -> Option<u32>
+        requires to { to ≤ length self.old.plan.design.modules }
+        requires verified { AllVerified (theory_of self.old) }
+        ensures done { IfSome result (λ m. IsTimed self.old steps.old m self.new steps.new) }
+        ensures behind { IfSome result (λ m. from ≤ m) }
+        ensures below { IfSome result (λ m. m < to) }
+        ensures first { IfSome result (λ m. AreUntimable self.old from m) }
+        ensures none { IsNone result → AreUntimable self.old from to }
+        ensures unchanged { IsNone result → (self.new ≡ self.old) × (steps.new ≡ steps.old) }
+    {
+        let mut at = from;
+        while let Some(owner) = self.next_asking(at, to) {
+            if self.time_one(owner, steps) {
+                return Some(owner);
+            }
+            at = owner + 1;
+        }
+        None
+    }
+
+    /// The first module from this one on, below another, of which an Assign or an Answer may be permitted.
+    fn next_asking(&self, from: u32, to: u32) -> Option<u32>
+        requires { to ≤ length self.now.plan.design.modules }
+        ensures behind { IfSome result (λ m. from ≤ m) }
+        ensures below { IfSome result (λ m. m < to) }
+        ensures before { IfSome result (λ m. AreUntimable self.now from m) }
+        ensures none { IsNone result → AreUntimable self.now from to }
+    {
+        first_below(&self.due.asking, from, to)
     }
 
     /// Does one Assign or Answer of a module, if one is permitted. Returns whether one was done.
@@ -44,11 +96,7 @@ impl Core {
         ensures none { result ≡ false → IsUntimable self.old owner }
         ensures unchanged { result ≡ false → (self.new ≡ self.old) × (steps.new ≡ steps.old) }
     {
-        // This brings in what a core always keeps: it agrees with its plan.
-        let _count = self.modules();
-        if !self.due.asking.has(owner) {
-            return false;
-        }
+        self.agrees();
         match self.time(owner, steps) {
             Timing::Assigned(_) | Timing::Answered(_) => true,
             Timing::Differs(_) | Timing::Nothing => false,
@@ -69,8 +117,7 @@ impl Core {
         ensures lent { self.new.lent ≡ self.old.lent }
         ensures verified { AllVerified (theory_of self.new) }
     {
-        // This brings in what a core always keeps: it agrees with its plan.
-        let _count = self.modules();
+        self.agrees();
         if self.any_may_run() {
             return false;
         }
@@ -81,27 +128,60 @@ impl Core {
     }
 
     /// Whether the core is final: no action is permitted. It takes no memory, and stops at the first module that has something to
-    /// do.
+    /// do. It looks only at modules of which something may be permitted, unless some module waits for an Earliest.
     pub fn is_final(&self) -> bool
         ensures holds { result ≡ true → IsFinal (design self.now.plan) self.now.plan.cycles (theory_of self.now) }
         ensures fails { result ≡ false → IsFinal (design self.now.plan) self.now.plan.cycles (theory_of self.now) → ⊥ }
     {
-        for owner in 0..self.modules() {
-            if self.has_more(owner) {
-                return false;
-            }
-        }
-        true
+        self.agrees();
+        !self.any_may_run() && !self.any_has_cycle()
     }
 
-    /// Whether a Run of a module is permitted, or its first step without a cycle is determined, below the limit: it can then be
-    /// given its cycle, or its queries answered.
-    fn has_more(&self, owner: u32) -> bool
-        requires { owner < length self.now.plan.design.modules }
-        ensures some { result ≡ true → HasMore self.now owner }
-        ensures none { result ≡ false → HasMore self.now owner → ⊥ }
+    /// Whether a Run of some module is permitted.
+    fn any_may_run(&self) -> bool
+        ensures some { result ≡ true → (m : ℕ) × MayRun (design self.now.plan) (theory_of self.now) m }
+        ensures none { result ≡ false → (m : ℕ) → MayRun (design self.now.plan) (theory_of self.now) m → ⊥ }
     {
-        self.may_run(owner) || self.has_cycle(owner)
+        self.agrees();
+        let mut from = 0;
+        while let Some(owner) = self.next_running(from) {
+            if self.may_run(owner) {
+                return true;
+            }
+            from = owner + 1;
+        }
+        false
+    }
+
+    /// The first module from this one on of which a Run may be permitted.
+    fn next_running(&self, from: u32) -> Option<u32>
+        ensures behind { IfSome result (λ m. from ≤ m) }
+        ensures below { IfSome result (λ m. m < length self.now.plan.design.modules) }
+        ensures before { IfSome result (λ m. AreUnrunnable self.now from m) }
+        ensures none { IsNone result → AreUnrunnable self.now from (length self.now.plan.design.modules) }
+    {
+        first_below(&self.due.running, from, self.modules())
+    }
+
+    /// Whether the first step without a cycle of some module is determined, below the limit: it can then be given its cycle, or its
+    /// queries answered.
+    fn any_has_cycle(&self) -> bool
+        ensures some { result ≡ true → (m : ℕ) × ((c : ℕ)
+            × IsDetermined (design self.now.plan) self.now.plan.cycles (theory_of self.now) m c) }
+        ensures none { result ≡ false → (m c : ℕ) → m < length self.now.plan.design.modules
+            → IsDetermined (design self.now.plan) self.now.plan.cycles (theory_of self.now) m c → ⊥ }
+    {
+        // Where no listed cycle is there, only modules whose cycle may have changed have one.
+        let all = self.candidates.earliest().is_some();
+        let count = self.modules();
+        let mut from = 0;
+        while let Some(owner) = self.due.first_open(from, count, all) {
+            if self.has_cycle(owner) {
+                return true;
+            }
+            from = owner + 1;
+        }
+        false
     }
 
     /// Whether a module's first step without a cycle is determined, below the limit.
@@ -119,16 +199,45 @@ impl Core {
         )
     }
 
-    /// Whether a Run of some module is permitted.
-    fn any_may_run(&self) -> bool
-        ensures some { result ≡ true → (m : ℕ) × MayRun (design self.now.plan) (theory_of self.now) m }
-        ensures none { result ≡ false → (m : ℕ) → MayRun (design self.now.plan) (theory_of self.now) m → ⊥ }
+    /// Adds the modules to a set of which a Run is permitted and whose run is not lent, as far as the set has room for them.
+    pub fn add_ready(&mut self, ready: &mut ModuleSet)
+        ensures unchanged { self.new ≡ self.old }
+        ensures ready { (n : ℕ) → n < capacity ready.old → IsReady self.old n → Has ready.new n }
+        ensures kept { (n : ℕ) → Has ready.old n → Has ready.new n }
+        ensures only { (n : ℕ) → Has ready.new n → Has ready.old n ⊎ IsReady self.old n }
+        ensures room { length ready.new ≡ length ready.old }
     {
-        for owner in 0..self.modules() {
-            if self.may_run(owner) {
-                return true;
-            }
+        self.agrees();
+        let mut from = 0;
+        while let Some(owner) = self.next_running(from) {
+            self.add_one_ready(owner, ready);
+            from = owner + 1;
         }
-        false
+    }
+
+    /// Adds a module to a set, if a Run of it is permitted and its run is not lent. Where none is permitted, it is noted.
+    fn add_one_ready(&mut self, owner: u32, ready: &mut ModuleSet)
+        requires { owner < length self.old.plan.design.modules }
+        ensures unchanged { self.new ≡ self.old }
+        ensures ready { owner < capacity ready.old → IsReady self.old owner → Has ready.new owner }
+        ensures kept { (n : ℕ) → Has ready.old n → Has ready.new n }
+        ensures only { (n : ℕ) → Has ready.new n → Has ready.old n ⊎ IsReady self.old n }
+        ensures room { length ready.new ≡ length ready.old }
+    {
+        if !self.may_run(owner) {
+            self.rest(owner);
+            return;
+        }
+        if !self.is_lent(owner) {
+            ready.add(owner);
+        }
+    }
+
+    /// Whether a module's run is lent.
+    fn is_lent(&self, owner: u32) -> bool
+        requires { owner < length self.now.plan.design.modules }
+        ensures { result ≡ slice_index_or self.now.lent owner true }
+    {
+        self.runs[owner as usize].is_none()
     }
 }

@@ -6,6 +6,7 @@ ghost use Rattle.sim_hub.specs.Hubs.{module_of, module_view, perf_view, IsOfHub,
 use super::Hub;
 use crate::answer::{Desk, PerfAnswer};
 use crate::pass::{ModulePass, PerfPass};
+use module_sets::ModuleSet;
 use sim_core::Burst;
 use std::sync::Wait;
 
@@ -57,9 +58,40 @@ impl Hub {
         ensures later { IsLater (perf_view pass) (perf_view result.0) }
         ensures answer { PerfIs (perf_view pass) (perf_view result.0) result.1 }
     {
+        self.take_perf_turn(rt, pass, None)
+    }
+
+    /// Does a turn as `perf_turn` does. It adds to `ready` the modules of which a Run is permitted then and whose desk is not out, as
+    /// far as the set has room for them: so a caller can tell whom to wake.
+    pub fn perf_turn_telling<R: Wait>(
+        &self,
+        rt: &R,
+        pass: PerfPass,
+        ready: &mut ModuleSet,
+    ) -> (PerfPass, PerfAnswer)
+        requires own { IsPerfOf self.now pass }
+        ensures own { IsPerfOf self.now result.0 }
+        ensures later { IsLater (perf_view pass) (perf_view result.0) }
+        ensures answer { PerfIs (perf_view pass) (perf_view result.0) result.1 }
+    {
+        self.take_perf_turn(rt, pass, Some(ready))
+    }
+
+    /// Takes a turn of the performance pass, and tells the modules that are ready then, if that is asked for.
+    fn take_perf_turn<R: Wait>(
+        &self,
+        rt: &R,
+        pass: PerfPass,
+        ready: Option<&mut ModuleSet>,
+    ) -> (PerfPass, PerfAnswer)
+        requires own { IsPerfOf self.now pass }
+        ensures own { IsPerfOf self.now result.0 }
+        ensures later { IsLater (perf_view pass) (perf_view result.0) }
+        ensures answer { PerfIs (perf_view pass) (perf_view result.0) result.1 }
+    {
         let PerfPass { place } = pass;
         let mut turn = self.begin(rt, place);
-        let (answer, added) = turn.value_mut().ledger.time();
+        let (answer, added) = turn.value_mut().ledger.time(ready);
         let place = self.end(turn, 0, added);
         let pass = PerfPass { place };
         (pass, answer)

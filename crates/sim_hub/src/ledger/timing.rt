@@ -11,15 +11,28 @@ ghost use Rattle.sim_hub.specs.{Ledgers.entries_in, Steps.TimingIs};
 use super::Ledger;
 use crate::answer::PerfAnswer;
 use flow_word::Steps;
+use module_sets::ModuleSet;
 use sim_core::Core;
 use std::marker::Brand;
 use std::sync::ledger::{Blank, Ledger as Ticks};
 use turn_history::HubTurn;
 
 impl Ledger {
+    /// Takes a turn of the performance pass. If `ready` is there, it adds to it the modules of which a Run is permitted then and whose
+    /// desk is not out. The second answer tells whether a turn was added.
+    pub(crate) fn time(&mut self, ready: Option<&mut ModuleSet>) -> (PerfAnswer, bool)
+        ensures { TimingIs (entries_in self.old) (entries_in self.new) result.0 result.1 }
+    {
+        let answer = self.time_all();
+        if let Some(set) = ready {
+            self.core.add_ready(set);
+        }
+        answer
+    }
+
     /// Does each permitted Assign and Answer, round after round; or, where none is permitted, one Earliest, if it is permitted. The
     /// second answer tells whether a turn was added.
-    pub(crate) fn time(&mut self) -> (PerfAnswer, bool)
+    fn time_all(&mut self) -> (PerfAnswer, bool)
         ensures { TimingIs (entries_in self.old) (entries_in self.new) result.0 result.1 }
     {
         // This brings in what a core always keeps: it agrees with its plan.

@@ -1,16 +1,36 @@
-use Rattle.std.proofs.Common.{rules}
-use Rattle.candidate_list.proofs.Leasts.{earliest, none_at_all}
+use Rattle.std.proofs.Common.{arith, refl, sym, ◌≡◌, ◌∙◌, ◌<◌, length, None, Some}
+use Rattle.std.proofs.lemmas.List.{get_or_default}
+use Rattle.candidate_list.specs.declared.first.First.{First}
+use Rattle.candidate_list.specs.Firsts.{at_place}
+use Rattle.candidate_list.proofs.Winners.{earliest, none_at_all, some_one}
+use Rattle.candidate_list.proofs.list.CandidateList.earliest.Goals.{After-index}
 use Rattle.candidate_list.proofs.list.CandidateList.earliest.Goals as goal
 
-pub returns-in_err-block-clause-none : goal.returns-in_err-block-clause-none
-returns-in_err-block-clause-none c = (
-  rw (← c.self.view_is) (λ e k d l. none_at_all c.self.inside.candidates.items c.self.inside.leasts.items c.self.invariant
-      (rw c.as_slice-leasts.ensures.value at c.in_err-block.ensures) k d l),
-  λ all. search rules,
-)
+module _ (c : After-index) where
+  some : 1 < length c.self.inside.places.items
+  some = let len = c.len.ensures in let two = c.if-len-lt2.false in omega arith
 
-pub returns-clause-some : goal.returns-clause-some
-returns-clause-some c =
-    rw (← c.self.view_is) (earliest c.self.inside.candidates.items c.self.inside.leasts.items c.self.invariant c.in_ok-block.block
-    c.in_ok-block.field-0-1 c.in_ok-owner.owner c.in_ok-owner.cycle
-    (rw c.as_slice-leasts.ensures.value at c.in_ok-block.ensures) (rw c.deref.ensures.value at c.in_ok-owner.ensures))
+  top : at_place c.self.inside.places.items 1 ≡ c.index.result.now
+  top = get_or_default c.self.inside.places.items 1 None c.index.result.now some ∙ sym c.index.ensures
+
+pub returns-in-Some-clause-some : goal.returns-in-Some-clause-some
+returns-in-Some-clause-some c =
+    let at = (goal.at.returns-in-Some-clause-some c).After-index in
+    rw (← c.self.view_is) (earliest c.self.inside.candidates.items c.self.inside.places.items c.self.invariant c.in-Some.first (some at)
+    (top at ∙ c.in-Some.is))
+
+pub returns-in-Some-clause-none : goal.returns-in-Some-clause-none
+returns-in-Some-clause-none c =
+    let at = (goal.at.returns-in-Some-clause-none c).After-index in (
+      λ e. cc,
+      rw (← c.self.view_is) (λ all. absurd (some_one c.self.inside.candidates.items c.self.inside.places.items c.self.invariant
+          c.in-Some.first (some at) (top at ∙ c.in-Some.is) all)),
+    )
+
+pub returns-in-None-clause-none : goal.returns-in-None-clause-none
+returns-in-None-clause-none c =
+    let at = (goal.at.returns-in-None-clause-none c).After-index in (
+      rw (← c.self.view_is) (λ e. none_at_all c.self.inside.candidates.items c.self.inside.places.items c.self.invariant
+          (top at ∙ c.in-None.is)),
+      λ all. refl,
+    )

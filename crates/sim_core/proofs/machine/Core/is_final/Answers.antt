@@ -1,19 +1,24 @@
-use Rattle.std.proofs.{Common.subst, Common.ℕ, Common.inl, Common.inr, Common.arith, lemmas.Bool.cases_lt}
-use Rattle.sim_core.specs.Timings.{HasMore}
+use Rattle.std.proofs.Common.{◌≡◌, refl, Bool, true, false, not, inl, inr, rules}
 use Rattle.sim_core.proofs.TimingRounds as timing
 use Rattle.sim_core.proofs.machine.Core.is_final.Goals as goal
 
-pub returns-then-has_more-clause-fails : goal.returns-then-has_more-clause-fails
-returns-then-has_more-clause-fails c = λ e. timing.not_final c.args.self.now c.loop-owner.owner (c.has_more.ensures.some c.if-has_more.true)
+no_of : (b : Bool) → not b ≡ true → b ≡ false
+no_of true e = cc
+no_of false e = refl
 
-pub loop-owner-preserved : goal.loop-owner-preserved
-loop-owner-preserved c = λ m l.
-    elim (cases_lt m c.loop-owner.owner) [
-      | inl q ↦ c.loop-owner.invariant m q
-      | inr q ↦ subst (λ (n : ℕ). HasMore c.args.self.now n → ⊥) (omega arith) (c.has_more.ensures.none c.if-has_more.false)
-    ]
+yes_of : (b : Bool) → not b ≡ false → b ≡ true
+yes_of true e = refl
+yes_of false e = cc
 
-pub returns-clause-holds : goal.returns-clause-holds
-returns-clause-holds c = λ e.
-    timing.final_of c.args.self.now c.modules-owner-end.ensures.agreed.marks.inside (λ m l. c.loop-owner.invariant m
-    (let count = c.modules-owner-end.ensures.count in let test = c.loop-owner-test.false in omega arith))
+pub returns-then-not-any_may_run-clause-holds : goal.returns-then-not-any_may_run-clause-holds
+returns-then-not-any_may_run-clause-holds c = λ e.
+    let none : c.any_may_run.result ≡ false = search rules in
+    timing.final_of c.args.self.now c.agrees.ensures.agreed.marks.inside (λ m l more. elim more [
+      | inl may ↦ c.any_may_run.ensures.none none m may
+      | inr (k, at) ↦ c.any_has_cycle.ensures.none (no_of c.any_has_cycle.result e) m k l at
+    ])
+
+pub returns-then-not-any_may_run-clause-fails : goal.returns-then-not-any_may_run-clause-fails
+returns-then-not-any_may_run-clause-fails c = λ e.
+    let (m, (k, at)) = c.any_has_cycle.ensures.some (yes_of c.any_has_cycle.result e) in
+    timing.not_final c.args.self.now m (inr (k, at))

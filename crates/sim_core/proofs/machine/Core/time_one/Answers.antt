@@ -1,22 +1,14 @@
-use Rattle.std.proofs.Common.{subst}
-use Rattle.sim_core.specs.{Timings.IsUntimable, Views.CoreView}
 use Rattle.sim_core.proofs.TimingRounds as timing
 use Rattle.sim_core.proofs.machine.Core.time_one.Goals as goal
 
 pub returns-in-Assigned-clause-done : goal.returns-in-Assigned-clause-done
 returns-in-Assigned-clause-done g c = λ e.
     timing.was_timed c.args.self.now c.time.new.self c.args.owner c.args.steps.now c.time.ensures.plan c.time.ensures.lent
-    c.modules-count.ensures.agreed c.time.result c.time.new.steps c.time.ensures.done c.time.ensures.ticks
+    c.agrees.ensures.agreed c.time.result c.time.new.steps c.time.ensures.done c.time.ensures.ticks
     (timing.progressed c.time.result c.in-Assigned.is)
 
 pub returns-in-Differs-clause-none : goal.returns-in-Differs-clause-none
 returns-in-Differs-clause-none g c = λ e.
     (timing.not_timed c.args.self.now c.time.new.self c.args.owner c.args.steps.now c.time.ensures.plan c.time.ensures.lent
-    c.modules-count.ensures.agreed c.time.result c.time.new.steps c.requires.verified c.time.ensures.done c.time.ensures.ticks
+    c.agrees.ensures.agreed c.time.result c.time.new.steps c.requires.verified c.time.ensures.done c.time.ensures.ticks
     (timing.rested c.time.result c.in-Differs.is)).0
-
-pub returns-then-not-has-clause-none : goal.returns-then-not-has-clause-none
-returns-then-not-has-clause-none g c = λ e.
-    let inside = rw (← c.self.view_is) at c.requires.owner in
-    subst (λ (v : CoreView). IsUntimable v c.args.owner) c.self.view_is
-    (c.self.invariant.due_are.asking_are.idle c.args.owner inside (c.has.ensures.none c.if-not-has.true))

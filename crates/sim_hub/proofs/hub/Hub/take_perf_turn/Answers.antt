@@ -6,7 +6,7 @@ use Rattle.sim_hub.specs.{declared.ledger.Ledger.Ledger, Ledgers.entries_in, Pla
 use Rattle.sim_hub.specs.Steps.{TimingIs, MayAdd, IsEnd}
 use Rattle.sim_hub.proofs.{Books.of_books, Keeping.kept_legal}
 use Rattle.sim_hub.proofs.Answering.{timing_adds, is_later, perf_answer, end_seen, modules_later}
-use Rattle.sim_hub.proofs.hub.Hub.perf_turn.Goals as goal
+use Rattle.sim_hub.proofs.hub.Hub.take_perf_turn.Goals as goal
 
 pub end-place-requires-clause-number : goal.end-place-requires-clause-number
 end-place-requires-clause-number g c = c.begin-turn.ensures.turn.1.same.number ∙ c.args.pass.place.numbered ∙ c.args.pass.first

@@ -15,7 +15,7 @@ use Rattle.flow_design.specs.declared.plan.Edit.{Edit}
 use Rattle.query_log.specs.Logs.{RoomedLogs}
 use Rattle.retime.specs.Rounds.{only_steps}
 use Rattle.retime.proofs.Counts.{same_length, same_steps}
-use Rattle.cycle_changes.specs.{OtherCycles.HasOtherCycles, declared.changes.Put.Put, Changed.LosesNoRoom, Found.places_in}
+use Rattle.cycle_changes.specs.{OtherCycles.HasOtherCycles, declared.changes.Put.Put, Changed.LosesNoRoom, Found.put_places}
 use Rattle.cycle_changes.specs.Puts.{undone, ArePut, HasPut}
 use Rattle.cycle_changes.proofs.Putting.{no_puts, put_count, put_apart}
 
@@ -38,11 +38,11 @@ contains_more p ps q (k, l, e) = (suc k, omega arith, e)
 
 -- a step whose place is not among the puts has the cycle that it had
 undone_cycle : (ps : List Put) (lanes : List Lane) (m k : ℕ)
-    → (get_or (lane_at (undone ps lanes) m).cycles k 0 ≡ get_or (lane_at lanes m).cycles k 0) ⊎ Contains (places_in ps) (place_of m k)
+    → (get_or (lane_at (undone ps lanes) m).cycles k 0 ≡ get_or (lane_at lanes m).cycles k 0) ⊎ Contains (put_places ps) (place_of m k)
 undone_cycle [] lanes m k = inl refl
 undone_cycle (p ∷ ps) lanes m k =
     elim (undone_cycle ps lanes m k) [
-      | inr more ↦ inr (contains_more p.place (places_in ps) (place_of m k) more)
+      | inr more ↦ inr (contains_more p.place (put_places ps) (place_of m k) more)
       | inl same ↦ elim (eqb_tells m p.place.module) [
         | inr apart ↦ inl (put_apart (undone ps lanes) p.place p.old m k (λ (e, f). apart.1 e) ∙ same)
         | inl at ↦ elim (eqb_tells k p.place.step) [
@@ -60,7 +60,7 @@ pub record AreOther (first : List Lane) (puts : List Put) (now : List Lane) : Ty
   pub only : only_steps now ≡ only_steps first
   pub sound : All IsSoundLane now
   pub same : (m k : ℕ) → (get_or (lane_at now m).cycles k 0 ≡ get_or (lane_at first m).cycles k 0)
-      ⊎ Contains (places_in puts) (place_of m k)
+      ⊎ Contains (put_places puts) (place_of m k)
 
 pub puts_are_other : (first : List Lane) (puts : List Put) (now : List Lane) → ArePut first puts now → AreOther first puts now
 puts_are_other first puts now are =

@@ -5,27 +5,27 @@ use Rattle.std.proofs.lemmas.Bool.{cases_Bool}
 use Rattle.flow_word.specs.Kinds.{other_side}
 use Rattle.event_timing.specs.{Machines.Access, Machines.Design, Machines.Each, Views.from, Core.Core, Core.core_accesses, Core.core_reply}
 use Rattle.event_timing.proofs.OwnRuns.{place_says, tally_mono}
-use Rattle.cycle_changes.specs.Records.{IsIn, IsBetween, IsSaidAround, IsStill, KeepsEnabler, is_free_at, IsTaking, count_at, enabler_at}
-use Rattle.cycle_changes.specs.Records.{partner}
+use Rattle.cycle_changes.specs.Records.{IsAmong, IsBetween, IsSaidAround, IsStill, KeepsEnabler, is_free_at, IsTaking, count_before}
+use Rattle.cycle_changes.specs.Records.{enabling_step, partner}
 
 module _ {S : Type 0} (d : Design S) (x : Core S) (m k : ℕ) (a : Access) where
-  pub enabled : (e : ℕ) → enabler_at d x m k a ≡ Some e
-      → IsTaking d x (partner d a) (other_side a.side) a.channel (count_at d x m k a - d.start a.side a.channel) e
+  pub enabled : (e : ℕ) → enabling_step d x m k a ≡ Some e
+      → IsTaking d x (partner d a) (other_side a.side) a.channel (count_before d x m k a - d.start a.side a.channel) e
   enabled e f =
       let w : ℕ = partner d a in
-      let n : ℕ = count_at d x m k a - d.start a.side a.channel in
+      let n : ℕ = count_before d x m k a - d.start a.side a.channel in
       let (p, q, r) = rw f at (place_says (core_accesses d x w) (core_reply d x w) (other_side a.side) a.channel (x.timed w) n) in
       record { before = q; now = r }
 
   -- the step that takes with as many before it comes not earlier
-  pub not_after : (q : ℕ) → IsTaking d x m a.side a.channel (count_at d x m k a) q → k ≤ q
+  pub not_after : (q : ℕ) → IsTaking d x m a.side a.channel (count_before d x m k a) q → k ≤ q
   not_after q t = grind (arith, t.now, tally_mono (core_accesses d x m) (core_reply d x m) a.side a.channel (suc q) k)
 
   -- and the one that takes next before comes earlier
-  pub after_last : (p i : ℕ) → suc i ≡ count_at d x m k a → IsTaking d x m a.side a.channel i p → p < k
+  pub after_last : (p i : ℕ) → suc i ≡ count_before d x m k a → IsTaking d x m a.side a.channel i p → p < k
   after_last p i e t = grind (arith, t.before, tally_mono (core_accesses d x m) (core_reply d x m) a.side a.channel k p)
 
-  pub is_between : IsBetween d x m a.side a.channel (count_at d x m k a) k
+  pub is_between : IsBetween d x m a.side a.channel (count_before d x m k a) k
   is_between = record { last = after_last; next = not_after }
 
 -- ---- what is said around the steps whose cycles are others
@@ -33,8 +33,8 @@ module _ {S : Type 0} (d : Design S) (x : Core S) (m k : ℕ) (a : Access) where
 module _ {S : Type 0} (d : Design S) (x : Core S) (cycles : ℕ → ℕ → ℕ) (changed : ℕ → ℕ → Bool) (P : ℕ → ℕ → Type 0)
     (r : IsSaidAround d x cycles changed P) where
   module _ (m k : ℕ) (l : k < x.timed m) where
-    from_enabler : (a : Access) → IsIn a (core_accesses d x m k) → is_free_at d x m k a ≡ false → (o : Option ℕ)
-        → enabler_at d x m k a ≡ o → KeepsEnabler d x cycles m k a ⊎ P m k
+    from_enabler : (a : Access) → IsAmong a (core_accesses d x m k) → is_free_at d x m k a ≡ false → (o : Option ℕ)
+        → enabling_step d x m k a ≡ o → KeepsEnabler d x cycles m k a ⊎ P m k
     from_enabler a at waits None f = inl (λ w e g. let z = sym f ∙ g in cc)
     from_enabler a at waits (Some e) f =
         elim (cases_Bool (changed (partner d a) e)) [
@@ -43,10 +43,10 @@ module _ {S : Type 0} (d : Design S) (x : Core S) (cycles : ℕ → ℕ → ℕ)
           | inl y ↦ inr (r.enabled m k a l at waits e f y)
         ]
 
-    one : (a : Access) → IsIn a (core_accesses d x m k) → KeepsEnabler d x cycles m k a ⊎ P m k
+    one : (a : Access) → IsAmong a (core_accesses d x m k) → KeepsEnabler d x cycles m k a ⊎ P m k
     one a at = grind (arith, from_enabler a at)
 
-    each : (xs : List Access) → ((b : Access) → IsIn b xs → IsIn b (core_accesses d x m k))
+    each : (xs : List Access) → ((b : Access) → IsAmong b xs → IsAmong b (core_accesses d x m k))
         → Each (KeepsEnabler d x cycles m k) xs ⊎ P m k
     each [] within = inl tt
     each (a ∷ xs) within = grind (arith, one a (within a (inl refl)), each xs (λ b w. within b (inr w)))

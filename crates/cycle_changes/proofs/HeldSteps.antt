@@ -12,7 +12,7 @@ use Rattle.event_timing.specs.Machines.{Design}
 use Rattle.engine_view.specs.Held.{Held, step_of, no_step, emitted_of, flags_by, flags_of, core_of}
 use Rattle.engine_view.specs.{Known.found_flags, Rooms.query_bound, Shown.IsSound, Shown.queries_before}
 use Rattle.engine_view.proofs.{Emitted.queries_mono, Knowing.shown_inside}
-use Rattle.cycle_changes.specs.Looks.{cycle_before, looked}
+use Rattle.cycle_changes.specs.Looks.{previous_cycle, looked}
 
 pub step_is : (h : Held) (m k : ℕ) (step : Step) → slice_get (lane_at h.lanes m).steps k ≡ Some step → step_of h m k ≡ step
 step_is h m k step there = get_or_from_slice_get (lane_at h.lanes m).steps k step no_step there
@@ -36,26 +36,26 @@ module _ (h : Held) (m k : ℕ) (step : Step) (xs : List Access) (t : step_of h 
 
   looked_by : looked h m k
       ≡ cycle_unless (position (is_waiting h.lanes h.channels) xs)
-      (latest ((cycle_before (lane_at h.lanes m) k + step.gap) ∷ clocks_of h.lanes h.channels xs))
+      (latest ((previous_cycle (lane_at h.lanes m) k + step.gap) ∷ clocks_of h.lanes h.channels xs))
   looked_by =
       ap (λ (s : Step). cycle_unless (position (is_waiting h.lanes h.channels) s.accesses)
-      (latest ((cycle_before (lane_at h.lanes m) k + s.gap) ∷ clocks_of h.lanes h.channels s.accesses))) t
+      (latest ((previous_cycle (lane_at h.lanes m) k + s.gap) ∷ clocks_of h.lanes h.channels s.accesses))) t
       ∙ sym (ap (λ (ys : List Access). cycle_unless (position (is_waiting h.lanes h.channels) ys)
-      (latest ((cycle_before (lane_at h.lanes m) k + step.gap) ∷ clocks_of h.lanes h.channels ys))) a)
+      (latest ((previous_cycle (lane_at h.lanes m) k + step.gap) ∷ clocks_of h.lanes h.channels ys))) a)
 
   -- the cycle that it is to have
-  pub looked_at : (before cycle : ℕ) → before ≡ cycle_before (lane_at h.lanes m) k
+  pub looked_at : (before cycle : ℕ) → before ≡ previous_cycle (lane_at h.lanes m) k
       → position (is_waiting h.lanes h.channels) xs ≡ None
       → cycle ≡ latest ((before + step.gap) ∷ clocks_of h.lanes h.channels xs) → Some cycle ≡ looked h m k
   looked_at before cycle e none is =
       ap (λ (n : ℕ). Some n) (is ∙ ap (λ (n : ℕ). latest ((n + step.gap) ∷ clocks_of h.lanes h.channels xs)) e)
       ∙ (sym (ap (λ (o : Option ℕ). cycle_unless o
-      (latest ((cycle_before (lane_at h.lanes m) k + step.gap) ∷ clocks_of h.lanes h.channels xs))) none) ∙ sym looked_by)
+      (latest ((previous_cycle (lane_at h.lanes m) k + step.gap) ∷ clocks_of h.lanes h.channels xs))) none) ∙ sym looked_by)
 
   pub not_looked : (i : ℕ) → position (is_waiting h.lanes h.channels) xs ≡ Some i → None ≡ looked h m k
   not_looked i waits =
       sym (ap (λ (o : Option ℕ). cycle_unless o
-      (latest ((cycle_before (lane_at h.lanes m) k + step.gap) ∷ clocks_of h.lanes h.channels xs))) waits) ∙ sym looked_by
+      (latest ((previous_cycle (lane_at h.lanes m) k + step.gap) ∷ clocks_of h.lanes h.channels xs))) waits) ∙ sym looked_by
 
   module _ {S : Type 0} (d : Design S) (y : IsSound d h) (l : k < emitted_of h m) where
     pub inside : All (IsAccess h.channels) xs
@@ -78,7 +78,7 @@ got xs k =
     ]
 
 -- the cycle of the step before one that is not the first
-pub before_is : (lane : Lane) (k j : ℕ) → 1 ≤ k → j ≡ k - 1 → unwrap_or (slice_get lane.cycles j) 0 ≡ cycle_before lane k
+pub before_is : (lane : Lane) (k j : ℕ) → 1 ≤ k → j ≡ k - 1 → unwrap_or (slice_get lane.cycles j) 0 ≡ previous_cycle lane k
 before_is lane zero j l e = absurd (omega arith)
 before_is lane (suc k) j l e =
     let same : j ≡ k = omega arith in

@@ -8,7 +8,7 @@ use Rattle.event_timing.specs.Enablers.{Known, known, from_step, bound, flags_at
 use Rattle.event_timing.specs.Core.{Core, core_accesses, core_reply, view}
 use Rattle.event_timing.proofs.{OwnRuns.same_side_is, Candidate.bound_blocks, Candidate.bound_free, Candidate.both_parts}
 use Rattle.event_timing.proofs.Threshold.{known_free, known_never, known_event, enabler}
-use Rattle.cycle_changes.specs.Records.{KeepsEnabler, IsRight, IsStill, IsBeside, IsSlack, HasSlack, known_at, with_cycles, enabler_at}
+use Rattle.cycle_changes.specs.Records.{KeepsEnabler, IsRight, IsStill, IsBeside, IsSlack, HasSlack, known_at, with_cycles, enabling_step}
 use Rattle.cycle_changes.specs.Records.{partner}
 
 -- ---- accesses of which the same is known
@@ -40,7 +40,7 @@ module _ {S : Type 0} (d : Design S) (x : Core S) (cycles : ℕ → ℕ → ℕ)
       let side : Side = a.side in
       let ch : ℕ = a.channel in
       let v = view d (with_cycles x cycles) in
-      let same = step_same (cycles (partner d a)) (x.cycle (partner d a)) (d.lag side ch) (enabler_at d x m k a) in
+      let same = step_same (cycles (partner d a)) (x.cycle (partner d a)) (d.lag side ch) (enabling_step d x m k a) in
       elim (cases_Bool (d.unlimited side ch || ltb n (d.start side ch))) [
         | inl free ↦ rw (known_free d v side ch n free, known_free d (view d x) side ch n free) refl
         | inr waits ↦

@@ -13,7 +13,7 @@ use Rattle.event_timing.specs.Machines.{Design, IsDesign}
 use Rattle.engine_view.specs.Held.{Held, step_of, emitted_of}
 use Rattle.engine_view.specs.{declared.engine.Engine.Engine, Engines.held_in, Shown.IsSound, Turns.IsSomeCore, Turns.first_of}
 use Rattle.engine_view.proofs.Knowing.{timed_within}
-use Rattle.cycle_changes.specs.{Looks.IsLooked, Around.AreLooked, Around.StandsSomewhere, Around.StandsAs, Around.WaitsAt, Around.WaitsFor}
+use Rattle.cycle_changes.specs.{Looks.IsLooked, Around.AreLooked, Around.HasAccessAt, Around.StandsAs, Around.WaitsAt, Around.WaitsFor}
 use Rattle.cycle_changes.proofs.InTurn.{inside, taker_owner, taker_before, taker_after, takers_there}
 use Rattle.cycle_changes.proofs.Waiting.{IsFreedBy, no_access, numbered, taking, waits_freed}
 
@@ -30,19 +30,19 @@ has_owner e (d, over, i, k, r) side c l n p at =
     (subst (HasStep e.graph.lanes) (get_or_from_slice_get places n p p at) (all n p (slice_get_within places n p at))).owner
 
 -- an access of an ordinal is an access
-pub somewhere : (side : Side) (c n : ℕ) (step : Step) → StandsAs side c n step → StandsSomewhere side c step
+pub somewhere : (side : Side) (c n : ℕ) (step : Step) → StandsAs side c n step → HasAccessAt side c step
 somewhere side c n step (j, a, u, is, (st, o)) = (j, a, u, is, st)
 
 -- where each step of a module was looked at that may have such an access, all were
 pub looked_between : (h : Held) (side : Side) (c n owner first last : ℕ)
-    → ((k : ℕ) → first ≤ k → k ≤ last → k < first_of h owner → StandsSomewhere side c (step_of h owner k) → IsLooked h owner k)
+    → ((k : ℕ) → first ≤ k → k ≤ last → k < first_of h owner → HasAccessAt side c (step_of h owner k) → IsLooked h owner k)
     → ((m k : ℕ) → k < first_of h m → StandsAs side c n (step_of h m k) → (owner ≡ m) × (first ≤ k) × (k ≤ last))
     → AreLooked h (StandsAs side c n)
 looked_between h side c n owner first last f g = λ m k l q.
     let (is, low, high) = g m k l q in
     subst (λ (v : ℕ). IsLooked h v k) is
     (f k low high (subst (λ (v : ℕ). k < first_of h v) (sym is) l)
-    (subst (λ (v : ℕ). StandsSomewhere side c (step_of h v k)) (sym is) (somewhere side c n (step_of h m k) q)))
+    (subst (λ (v : ℕ). HasAccessAt side c (step_of h v k)) (sym is) (somewhere side c n (step_of h m k) q)))
 
 module _ (e : Engine) (core : IsSomeCore e) where
   abbrev d : Design ModuleState

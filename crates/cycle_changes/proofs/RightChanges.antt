@@ -12,7 +12,7 @@ use Rattle.event_timing.specs.Machines as theory
 use Rattle.event_timing.specs.Machines.{Design, IsDesign, Each}
 use Rattle.event_timing.specs.{Core.Core, Core.core_accesses, Core.view, Enablers.candidate, Edits.edited}
 use Rattle.event_timing.proofs.{Editing.edit_design, OwnRuns.same_side_is}
-use Rattle.cycle_changes.specs.Records.{IsRightRecord, IsRight, IsStill, IsBeside, IsChecked, IsIn, IsSaidAround, with_cycles, partner}
+use Rattle.cycle_changes.specs.Records.{IsRightRecord, IsRight, IsStill, IsBeside, IsChecked, IsAmong, IsSaidAround, with_cycles, partner}
 use Rattle.cycle_changes.specs.{Looks.IsLooked, Looks.cycle_held, OtherCycles.HasOtherCycles, Changed.AreRightChanges}
 use Rattle.cycle_changes.specs.Around.{IsLookedAround, StandsAt, WaitsFor}
 use Rattle.cycle_changes.specs.Records as records
@@ -25,7 +25,7 @@ use Rattle.engine_view.proofs.{Bounds.candidate_is, Knowing.timed_within}
 -- ---- lists of accesses
 
 -- an access that the theory sees among them is one of them
-in_at : (b : theory.Access) (xs : List Access) → IsIn b (map seen xs)
+in_at : (b : theory.Access) (xs : List Access) → IsAmong b (map seen xs)
     → (j : ℕ) × (j < length xs) × (b ≡ seen (get_or xs j no_access))
 in_at b [] q = absurd q
 in_at b (a ∷ xs) (inl e) = (0, omega arith, e)
@@ -140,18 +140,18 @@ module _ (s t : Engine) (edit : Edit) (limit : ℕ) (seeds puts : List Place) (i
   emitted : (m j : ℕ) → j < x.timed m → j < emitted_of g m
   emitted m j l = omega (arith, timed_within d h k.sound m, ap (λ (ss : List _). length ss) (other.steps m))
 
-  waits : (m j : ℕ) (a : theory.Access) → j < x.timed m → IsIn a (core_accesses e x m j) → records.is_free_at e x m j a ≡ false → (n : ℕ)
-      → records.enabler_at e x m j a ≡ Some n → WaitsFor t.fifos.channels (step_of (held_in t []) m j) (place_of (partner e a) n)
+  waits : (m j : ℕ) (a : theory.Access) → j < x.timed m → IsAmong a (core_accesses e x m j) → records.is_free_at e x m j a ≡ false → (n : ℕ)
+      → records.enabling_step e x m j a ≡ Some n → WaitsFor t.fifos.channels (step_of (held_in t []) m j) (place_of (partner e a) n)
   waits m j a l at free n f =
       let l' = emitted m j l in
       let xs = (step_of g m j).accesses in
       let asked : core_accesses e y m j ≡ map seen xs =
       subst (λ (z : Core ModuleState). core_accesses e z m j ≡ map seen xs) now.core (now.kept.sound.accesses m j l') in
-      let (p, u, is) = in_at a xs (subst (IsIn a) asked at) in
+      let (p, u, is) = in_at a xs (subst (IsAmong a) asked at) in
       let free' = subst (λ (z : Core ModuleState). records.is_free_at e z m j (seen (get_or xs p no_access)) ≡ false) (sym now.core)
       (subst (λ (b : theory.Access). records.is_free_at e y m j b ≡ false) is free) in
-      let f' = subst (λ (z : Core ModuleState). records.enabler_at e z m j (seen (get_or xs p no_access)) ≡ Some n) (sym now.core)
-      (subst (λ (b : theory.Access). records.enabler_at e y m j b ≡ Some n) is f) in
+      let f' = subst (λ (z : Core ModuleState). records.enabling_step e z m j (seen (get_or xs p no_access)) ≡ Some n) (sym now.core)
+      (subst (λ (b : theory.Access). records.enabling_step e y m j b ≡ Some n) is f) in
       let found = event_found e i_edited g now.kept.sound m j l' p u free' n f' in (
         p,
         get_or xs p no_access,

@@ -11,10 +11,10 @@ use Rattle.engine_view.specs.Held.{Held, step_of, seen, core_of, waited, emitted
 use Rattle.engine_view.specs.{Shown.IsSound, Known.as_known, Known.found_flags}
 use Rattle.engine_view.proofs.Bounds.{bound_is, lane_apart, unless}
 use Rattle.engine_view.proofs.{Deciding.flags_found, Knowing.access_known_in, Knowing.timed_within}
-use Rattle.cycle_changes.specs.{Records.IsRight, Records.known_at, Looks.IsLooked, Looks.cycle_before, Looks.looked, Looks.cycle_held}
+use Rattle.cycle_changes.specs.{Records.IsRight, Records.known_at, Looks.IsLooked, Looks.previous_cycle, Looks.looked, Looks.cycle_held}
 
 arrives : (lane : Lane) (k gap : ℕ) → (0 < k → 1 ≤ gap)
-    → cycle_before lane k + gap ≡ from (λ j. slice_index_or lane.cycles j 0) k + waited k gap
+    → previous_cycle lane k + gap ≡ from (λ j. slice_index_or lane.cycles j 0) k + waited k gap
 arrives lane zero gap g = refl
 arrives lane (suc k) gap g = omega (arith, g (omega arith))
 
@@ -37,7 +37,7 @@ module _ {S : Type 0} (d : Design S) (i : IsDesign d) (h : Held) (y : IsSound d 
       let is = bound_is h.lanes h.channels (known_at d x m k) asked known in
       let t = arrives (lane_at h.lanes m) k (step_of h m k).gap (lane_apart h.lanes y.sound_lanes m k emitted) in
       unless h.lanes h.channels asked (bound (known_at d x m k) (map seen asked))
-      (cycle_before (lane_at h.lanes m) k + (step_of h m k).gap) is
+      (previous_cycle (lane_at h.lanes m) k + (step_of h m k).gap) is
       ∙ ap₂ (λ (a : ℕ) (xs : List theory.Access). to_clock a (bound (known_at d x m k) xs)) t (sym (y.accesses m k emitted))
 
   same_flags : (c : ℕ) → flags_at (known_at d x m k) c (core_accesses d x m k) ≡ found_flags h.lanes h.channels c asked

@@ -176,7 +176,7 @@ module _ {S : Type 0} (d : Design S) (i : IsDesign d) (h : Held) (y : IsSound d 
     a = get_or (step_of h m k).accesses j no_access
 
     -- what the theory says that an access waits for, it waits for by the table
-    pub event_found : records.is_free_at d x m k (seen a) ≡ false → (e : ℕ) → records.enabler_at d x m k (seen a) ≡ Some e
+    pub event_found : records.is_free_at d x m k (seen a) ≡ false → (e : ℕ) → records.enabling_step d x m k (seen a) ≡ Some e
         → enabler_at h.channels a ≡ Event (place_of (records.partner d (seen a)) e)
     unfolding enabler_at
     event_found free e f =
@@ -189,7 +189,7 @@ module _ {S : Type 0} (d : Design S) (i : IsDesign d) (h : Held) (y : IsSound d 
         let (shut, rest) = or_parts (d.closed side c) _ free in
         let (many, few) = or_parts (d.unlimited side c) _ rest in
         let start = ltb-false _ (d.start side c) few in
-        let n : ℕ = records.count_at d x m k (seen a) in
+        let n : ℕ = records.count_before d x m k (seen a) in
         let n' : a.ordinal ≡ suc n = o ∙ ap suc (sym same) in
         let there = place_found (other_side side) c i'.channel (n - d.start side c) e f in
         ap (enabler_by channel.kind side channel) n'

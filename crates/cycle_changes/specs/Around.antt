@@ -12,8 +12,8 @@ abbrev pub StandsAt : Side → ℕ → Access → Type 0
 StandsAt side channel a = (side_of a.kind ≡ side) × (a.channel ≡ channel)
 
 -- the step has an access at this side of the channel
-abbrev pub StandsSomewhere : Side → ℕ → Step → Type 0
-StandsSomewhere side channel step = Any (StandsAt side channel) step.accesses
+abbrev pub HasAccessAt : Side → ℕ → Step → Type 0
+HasAccessAt side channel step = Any (StandsAt side channel) step.accesses
 
 -- the step has an access at this side of the channel with this ordinal
 abbrev pub StandsAs : Side → ℕ → ℕ → Step → Type 0
@@ -40,5 +40,5 @@ pub record IsLookedAround (h : Held) (limit : ℕ) (at : Place) : Type 0 where
   pub waiting : AreLooked h (λ step. WaitsFor h.channels step at)
 
 -- no module's first step without a cycle is determined below the limit
-abbrev pub AreLate : Held → ℕ → Type 0
-AreLate h limit = (m c : ℕ) → determined h.lanes h.channels m ≡ Some c → limit ≤ c
+abbrev pub NoneIsDue : Held → ℕ → Type 0
+NoneIsDue h limit = (m c : ℕ) → determined h.lanes h.channels m ≡ Some c → limit ≤ c

@@ -6,7 +6,7 @@ use Rattle.event_graph.specs.Lanes.{lane_at}
 use Rattle.fifo_table.specs.Channels.{with_depth}
 use Rattle.event_timing.specs.Edits.{edited}
 use Rattle.cycle_changes.specs.{Records.IsRightRecord, Looks.IsLooked, Looks.cycle_held, OtherCycles.HasOtherCycles, Seeds.AreSeeds}
-use Rattle.cycle_changes.specs.Around.{IsLookedAround, AreLate}
+use Rattle.cycle_changes.specs.Around.{IsLookedAround, NoneIsDue}
 use Rattle.engine_view.specs.{Emitted.place_of, Held.held, Held.core_of, Kept.IsKept, Rooms.room_of, declared.engine.Engine.Engine}
 use Rattle.engine_view.specs.{Engines.held_in, Taking.kinds_in, Turns.IsSomeCore, Turns.OfEach}
 use Rattle.retime.specs.{Cuts.KeepsRoomEdited, Rounds.only_steps}
@@ -36,7 +36,7 @@ pub record AreRightChanges (s t : Engine) (edit : Edit) (limit : ℕ) (seeds put
   pub looked : All (λ p. IsLooked (held_in t []) p.module p.step) seeds
   pub same : (m k : ℕ) → (cycle_held (held_in t []) m k ≡ cycle_held (held_in s []) m k) ⊎ Contains puts (place_of m k)
   pub around : All (IsLookedAround (held_in t []) limit) puts
-  pub late : AreLate (held_in t []) limit
+  pub late : NoneIsDue (held_in t []) limit
 
 -- engine t has the credits of engine s, and no less room
 pub record LosesNoRoom (s t : Engine) : Type 0 where

@@ -5,16 +5,16 @@ use Rattle.time_engine.specs.Cycles.{is_waiting, clocks_of, latest, cycle_unless
 use Rattle.engine_view.specs.{Held.Held, Held.step_of, Held.flags_of, Known.found_flags}
 
 -- the cycle of the step before step k of a lane, or 0 for the first step
-abbrev pub cycle_before : Lane → ℕ → ℕ
-cycle_before lane zero = 0
-cycle_before lane (suc k) = slice_index_or lane.cycles k 0
+abbrev pub previous_cycle : Lane → ℕ → ℕ
+previous_cycle lane zero = 0
+previous_cycle lane (suc k) = slice_index_or lane.cycles k 0
 
 -- the cycle that module m's step k must have, by those of its neighbours: the latest of the clock in which the module comes to it
 -- and of those from which on its blocking accesses are possible; none where one of these waits for a step without a cycle
 abbrev pub looked : Held → ℕ → ℕ → Option ℕ
 looked h m k =
     cycle_unless (position (is_waiting h.lanes h.channels) (step_of h m k).accesses)
-    (latest ((cycle_before (lane_at h.lanes m) k + (step_of h m k).gap) ∷ clocks_of h.lanes h.channels (step_of h m k).accesses))
+    (latest ((previous_cycle (lane_at h.lanes m) k + (step_of h m k).gap) ∷ clocks_of h.lanes h.channels (step_of h m k).accesses))
 
 -- the cycle that module m's step k has
 abbrev pub cycle_held : Held → ℕ → ℕ → ℕ

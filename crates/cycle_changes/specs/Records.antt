@@ -44,14 +44,14 @@ partner {S} d a = d.owner (other_side a.side) a.channel
 
 -- the step, in the module at the channel's other side, that enables an access of module m's step k; none where no step with a cycle
 -- does
-abbrev pub enabler_at : {S : Type 0} → Design S → Core S → ℕ → ℕ → Access → Option ℕ
-enabler_at {S} d x m k a =
+abbrev pub enabling_step : {S : Type 0} → Design S → Core S → ℕ → ℕ → Access → Option ℕ
+enabling_step {S} d x m k a =
     place (core_accesses d x (partner d a)) (core_reply d x (partner d a)) (other_side a.side) a.channel (x.timed (partner d a))
     (tally (core_accesses d x m) (core_reply d x m) a.side a.channel k - d.start a.side a.channel)
 
 -- how many pops (or pushes) of an access's channel module m has before its step k
-abbrev pub count_at : {S : Type 0} → Design S → Core S → ℕ → ℕ → Access → ℕ
-count_at {S} d x m k a = tally (core_accesses d x m) (core_reply d x m) a.side a.channel k
+abbrev pub count_before : {S : Type 0} → Design S → Core S → ℕ → ℕ → Access → ℕ
+count_before {S} d x m k a = tally (core_accesses d x m) (core_reply d x m) a.side a.channel k
 
 -- module m's step k takes at this side of the channel, after i earlier takes there
 pub record IsTaking {S : Type 0} (d : Design S) (x : Core S) (m : ℕ) (side : Side) (ch i k : ℕ) : Type 0 where
@@ -61,12 +61,12 @@ pub record IsTaking {S : Type 0} (d : Design S) (x : Core S) (m : ℕ) (side : S
 -- the access waits for no step: there is an input, or a place that was never taken, or its other side never comes
 abbrev pub is_free_at : {S : Type 0} → Design S → Core S → ℕ → ℕ → Access → Bool
 is_free_at {S} d x m k a =
-    d.closed a.side a.channel || (d.unlimited a.side a.channel || ltb (count_at d x m k a) (d.start a.side a.channel))
+    d.closed a.side a.channel || (d.unlimited a.side a.channel || ltb (count_before d x m k a) (d.start a.side a.channel))
 
 -- the step that enables the access, if it waits for one, keeps its cycle
 abbrev pub KeepsEnabler : {S : Type 0} → Design S → Core S → (ℕ → ℕ → ℕ) → ℕ → ℕ → Access → Type 0
 KeepsEnabler {S} d x cycles m k a =
-    is_free_at d x m k a ≡ false → (e : ℕ) → enabler_at d x m k a ≡ Some e → cycles (partner d a) e ≡ x.cycle (partner d a) e
+    is_free_at d x m k a ≡ false → (e : ℕ) → enabling_step d x m k a ≡ Some e → cycles (partner d a) e ≡ x.cycle (partner d a) e
 
 -- the step keeps its cycle, and so do the step before it and the steps that enable its accesses
 pub record IsStill {S : Type 0} (d : Design S) (x : Core S) (cycles : ℕ → ℕ → ℕ) (m k : ℕ) : Type 0 where
@@ -80,9 +80,9 @@ pub record IsBetween {S : Type 0} (d : Design S) (x : Core S) (m : ℕ) (side : 
   pub next : (q : ℕ) → IsTaking d x m side ch n q → k ≤ q
 
 -- the access is one of these accesses
-abbrev pub IsIn : Access → List Access → Type 0
-IsIn a [] = ⊥
-IsIn a (b ∷ xs) = (a ≡ b) ⊎ IsIn a xs
+abbrev pub IsAmong : Access → List Access → Type 0
+IsAmong a [] = ⊥
+IsAmong a (b ∷ xs) = (a ≡ b) ⊎ IsAmong a xs
 
 -- P holds around each changed step: of the step itself, of the next step of its module, and of each step with an access that it
 -- enables; all other steps keep their cycles
@@ -91,8 +91,8 @@ pub record IsSaidAround {S : Type 0} (d : Design S) (x : Core S) (cycles : ℕ �
   pub same : (m k : ℕ) → changed m k ≡ false → cycles m k ≡ x.cycle m k
   pub own : (m k : ℕ) → changed m k ≡ true → k < x.timed m → P m k
   pub following : (m k : ℕ) → changed m k ≡ true → suc k < x.timed m → P m (suc k)
-  pub enabled : (m k : ℕ) (a : Access) → k < x.timed m → IsIn a (core_accesses d x m k) → is_free_at d x m k a ≡ false
-      → (e : ℕ) → enabler_at d x m k a ≡ Some e → changed (partner d a) e ≡ true → P m k
+  pub enabled : (m k : ℕ) (a : Access) → k < x.timed m → IsAmong a (core_accesses d x m k) → is_free_at d x m k a ≡ false
+      → (e : ℕ) → enabling_step d x m k a ≡ Some e → changed (partner d a) e ≡ true → P m k
 
 -- the steps around each changed step are right with the new cycles
 abbrev pub AreRightAround : {S : Type 0} → Design S → Core S → (ℕ → ℕ → ℕ) → (ℕ → ℕ → Bool) → Type 0

@@ -6,7 +6,7 @@ ghost use Rattle.fifo_table.specs.Channels.{IsFifo, channel_at};
 ghost use Rattle.engine_view.specs.Turns.{IsSomeCore};
 ghost use Rattle.retime.specs.{Rounds.cycles_in, Rounds.steps_in, Touched.IsEditIn};
 ghost use Rattle.cycle_changes.specs.{Changed.HasChanged, Moved.moved_in, Puts.HasPut};
-ghost use Rattle.cycle_changes.specs.Found.{AreFoundRight, IsFoundRight, places_in};
+ghost use Rattle.cycle_changes.specs.Found.{AreFoundRight, IsFoundRight, put_places};
 
 use crate::changes::{Changes, Put};
 use crate::check::{are_late, are_right, is_right_around};
@@ -116,7 +116,7 @@ fn change<L: Ledger>(
     ensures moved { moved_in engine.old.graph.lanes engine.new.graph.lanes ≡ length changes.new.puts.items }
     ensures ticks { steps.new ≡ steps.old + length changes.new.puts.items }
     ensures right { result ≡ true → IsFoundRight engine.old engine.new channel limit changes.new.seeds.items
-        (places_in changes.new.puts.items) }
+        (put_places changes.new.puts.items) }
     ensures few { result ≡ true → length changes.new.puts.items + cycles_in (map (timed_below from) engine.old.graph.lanes)
         ≤ steps_in engine.old.graph.lanes }
 {
@@ -175,7 +175,7 @@ fn put_found<L: Ledger>(
 fn are_found_right(engine: &Engine, seeds: &[Place], puts: &[Put], limit: u64) -> bool
     requires limit { limit ≤ cycle_bound }
     requires core { IsSomeCore engine.now }
-    ensures { result ≡ true → AreFoundRight engine.now limit seeds.now (places_in puts.now) }
+    ensures { result ≡ true → AreFoundRight engine.now limit seeds.now (put_places puts.now) }
 {
     for put in puts {
         if !is_right_around(engine, put.place, limit) {

@@ -2,7 +2,7 @@
 ghost use Rattle.std.specs.Prelude.{◌≡◌, suc, ◌<◌, ◌≤◌, [], true, length, slice_index_or, All};
 ghost use Rattle.event_graph.specs.Lanes.{HasStep, lane_at, cycle_bound};
 ghost use Rattle.engine_view.specs.{Engines.held_in, Turns.IsSomeCore, Turns.first_of};
-ghost use Rattle.cycle_changes.specs.{Looks.IsLooked, Around.IsLookedAround, Around.AreLate};
+ghost use Rattle.cycle_changes.specs.{Looks.IsLooked, Around.IsLookedAround, Around.NoneIsDue};
 
 use crate::looking::look;
 use crate::reach::are_waiting_right;
@@ -63,7 +63,7 @@ fn is_right(engine: &Engine, at: Place) -> bool
 pub fn are_late(engine: &Engine, limit: u64) -> bool
     requires limit { limit ≤ cycle_bound }
     requires core { IsSomeCore engine.now }
-    ensures { result ≡ true → AreLate (held_in engine.now []) limit }
+    ensures { result ≡ true → NoneIsDue (held_in engine.now []) limit }
 {
     for owner in 0..engine.graph.modules() {
         if let Candidate::At(_) = candidate(&engine.graph, &engine.fifos, owner, limit) {

@@ -3,7 +3,7 @@ ghost use Rattle.std.specs.Prelude.{◌≡◌, ◌↔◌, ◌<◌, [], true, len
 ghost use Rattle.event_graph.specs.Lanes.{HasStep, lane_at, cycle_bound};
 ghost use Rattle.time_engine.specs.Conditions.{HasAccesses, HasPlaces};
 ghost use Rattle.engine_view.specs.{Held.held, Held.step_of, Held.flags_of, Known.found_flags, Engines.held_in, Turns.IsSomeCore};
-ghost use Rattle.cycle_changes.specs.Looks.{IsLooked, looked, cycle_before as before};
+ghost use Rattle.cycle_changes.specs.Looks.{IsLooked, looked, previous_cycle as before};
 
 use engine_view::{Engine, compare_outcomes};
 use event_graph::{Graph, Place};

@@ -4,7 +4,7 @@ ghost use Rattle.flow_word.specs.Kinds.{side_of, other_side};
 ghost use Rattle.event_graph.specs.Lanes.{HasStep};
 ghost use Rattle.engine_view.specs.{Held.step_of, Engines.held_in, Turns.IsSomeCore, Turns.first_of};
 ghost use Rattle.cycle_changes.specs.Looks.{IsLooked};
-ghost use Rattle.cycle_changes.specs.Around.{AreLooked, StandsAt, StandsSomewhere, StandsAs, WaitsFor, WaitsAt};
+ghost use Rattle.cycle_changes.specs.Around.{AreLooked, StandsAt, HasAccessAt, StandsAs, WaitsFor, WaitsAt};
 
 use crate::looking::look;
 use engine_view::Engine;
@@ -100,7 +100,7 @@ fn are_right_in(engine: &Engine, port: Port, owner: u32, first: u64, last: u64) 
     requires owner { owner < length engine.now.graph.lanes }
     requires core { IsSomeCore engine.now }
     ensures { result ≡ true → (k : ℕ) → first ≤ k → k ≤ last → k < first_of (held_in engine.now []) owner
-        → StandsSomewhere port.side port.channel (step_of (held_in engine.now []) owner k)
+        → HasAccessAt port.side port.channel (step_of (held_in engine.now []) owner k)
         → IsLooked (held_in engine.now []) owner k }
 {
     let end = last.saturating_add(1).min(engine.graph.frontier(owner));
@@ -125,7 +125,7 @@ pub fn is_right_or_elsewhere(engine: &Engine, port: Port, at: Place) -> bool
     requires timed { at.step < first_of (held_in engine.now []) at.module }
     requires core { IsSomeCore engine.now }
     ensures { result ≡ true
-        → StandsSomewhere port.side port.channel (step_of (held_in engine.now []) at.module at.step)
+        → HasAccessAt port.side port.channel (step_of (held_in engine.now []) at.module at.step)
         → IsLooked (held_in engine.now []) at.module at.step }
 {
     if !stands_at(engine.graph.step(at).accesses.as_slice(), port) {

@@ -3,7 +3,7 @@ ghost use Rattle.std.specs.Prelude.{Bool, ◌⊎◌, ◌≡◌, ℕ, ◌-◌, �
 ghost use Rattle.event_timing.specs.{Machines.Access, Machines.Design, Machines.IsDesign, Histories.Trace, Histories.IsHistory, Core.Core};
 ghost use Rattle.event_timing.specs.{Core.view, Actions.IsFinal, Agreement.IsAgreed, Edits.edited, Enablers.candidate};
 ghost use Rattle.cycle_changes.specs.Records.{IsRightRecord, IsRight, with_cycles, IsStill, IsBeside, IsChecked, HasSlack, IsTaking};
-ghost use Rattle.cycle_changes.specs.Records.{enabler_at, partner, count_at, IsBetween, AreRightAround};
+ghost use Rattle.cycle_changes.specs.Records.{enabling_step, partner, count_before, IsBetween, AreRightAround};
 ghost use Rattle.flow_word.specs.Kinds.{other_side};
 
 /// A record is right where each of its steps is right, and no module's next step is determined below the limit. A right record
@@ -31,10 +31,10 @@ pub fn local_changes<S>()
         → IsRight (edited d fifo depth) x m k }
     ensures slack { (d : Design S) (x : Core S) (fifo depth m k : ℕ) → HasSlack d x fifo depth m k → IsRight d x m k
         → IsRight (edited d fifo depth) x m k }
-    ensures enabled { (d : Design S) (x : Core S) (m k : ℕ) (a : Access) (e : ℕ) → enabler_at d x m k a ≡ Some e
-        → IsTaking d x (partner d a) (other_side a.side) a.channel (count_at d x m k a - d.start a.side a.channel) e }
+    ensures enabled { (d : Design S) (x : Core S) (m k : ℕ) (a : Access) (e : ℕ) → enabling_step d x m k a ≡ Some e
+        → IsTaking d x (partner d a) (other_side a.side) a.channel (count_before d x m k a - d.start a.side a.channel) e }
     ensures between { (d : Design S) (x : Core S) (m k : ℕ) (a : Access)
-        → IsBetween d x m a.side a.channel (count_at d x m k a) k }
+        → IsBetween d x m a.side a.channel (count_before d x m k a) k }
     ensures around { (d : Design S) (x : Core S) (cycles : ℕ → ℕ → ℕ) (changed : ℕ → ℕ → Bool)
         → AreRightAround d x cycles changed → (m k : ℕ) → k < x.timed m
         → IsStill d x cycles m k ⊎ IsRight d (with_cycles x cycles) m k }

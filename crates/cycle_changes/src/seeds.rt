@@ -3,7 +3,7 @@ ghost use Rattle.std.specs.Prelude.{◌≡◌, ◌<◌, ◌⊎◌, [], true, len
 ghost use Rattle.flow_word.specs.declared.access.Place.{Place as place};
 ghost use Rattle.event_graph.specs.Lanes.{HasStep};
 ghost use Rattle.engine_view.specs.{Held.step_of, Engines.held_in, Turns.IsSomeCore, Turns.first_of};
-ghost use Rattle.cycle_changes.specs.{Looks.IsLooked, Around.StandsSomewhere, Seeds.AreSeeds};
+ghost use Rattle.cycle_changes.specs.{Looks.IsLooked, Around.HasAccessAt, Seeds.AreSeeds};
 
 use crate::reach::is_right_or_elsewhere;
 use engine_view::Engine;
@@ -44,7 +44,7 @@ fn keep_felt(engine: &Engine, port: Port, at: Place, seeds: &mut Vec<Place>) -> 
     requires timed { at.step < first_of (held_in engine.now []) at.module }
     requires core { IsSomeCore engine.now }
     ensures felt { result ≡ true
-        → StandsSomewhere port.side port.channel (step_of (held_in engine.now []) at.module at.step)
+        → HasAccessAt port.side port.channel (step_of (held_in engine.now []) at.module at.step)
         → IsLooked (held_in engine.now []) at.module at.step ⊎ Contains seeds.new.items at }
     ensures kept { (p : place) → Contains seeds.old.items p → Contains seeds.new.items p }
 {

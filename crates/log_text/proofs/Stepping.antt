@@ -14,7 +14,7 @@ use Rattle.sim_core.proofs.AccessLogs.{all_logged}
 use Rattle.sim_io.specs.Telling.{IsTold}
 use Rattle.step_walk.specs.{declared.walk.StepWalk.StepWalk, Walking.IsWalk, Walking.HasGiven}
 use Rattle.step_walk.proofs.Giving.{given_first}
-use Rattle.log_text.specs.LogText.{access_tokens, IsNamed}
+use Rattle.log_text.specs.LogText.{access_tokens, IsOfDesign}
 use Rattle.log_text.proofs.{Lines.step_lines, Lines.steps_more, Lines.history_lines, Named.part_named}
 
 -- what these keys stand for
@@ -55,7 +55,7 @@ module _ (p : Plan) (h : Held) (ends : List (Option Advance)) (f : IsFinished p 
 
     -- a step that was given is one of the plan
     pub step_named : HasNumbersOf p (report p) → (walk : StepWalk) → IsWalk h.lanes walk → (keys : List TimedStep) (key : TimedStep)
-        → HasGiven h.lanes walk (keys ++ key ∷ []) → All (IsNamed p.design) (logged_in (steps_by p h (key ∷ [])))
+        → HasGiven h.lanes walk (keys ++ key ∷ []) → All (IsOfDesign p.design) (logged_in (steps_by p h (key ∷ [])))
     step_named numbers walk w keys key given =
         let (more, are) = given_first h.lanes lanes_sound walk w (keys ++ key ∷ []) given p h ends f refl in
         part_named p numbers (steps_by p h keys) (steps_by p h (key ∷ [])) more

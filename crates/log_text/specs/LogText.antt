@@ -19,8 +19,8 @@ access_tokens design a =
     ∷ decimal a.event.cycle ∷ decimal (from_bool a.outcome) ∷ value_tokens a.value
 
 -- the module and the channel of an access are the design's
-abbrev pub IsNamed : Design → LoggedAccess → Type 0
-IsNamed design a = (a.event.module < length design.modules) × (a.event.channel < length design.channels)
+abbrev pub IsOfDesign : Design → LoggedAccess → Type 0
+IsOfDesign design a = (a.event.module < length design.modules) × (a.event.channel < length design.channels)
 
 -- the log of a plan: the verdict, and a line for each access that was done
 unfoldable pub log_text : Plan → List ℕ

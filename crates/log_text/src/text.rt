@@ -6,7 +6,7 @@ ghost use Rattle.event_timing.specs.Actions.{IsFinal};
 ghost use Rattle.timing_bridge.specs.Designs.{design as design_of};
 ghost use Rattle.report_text.specs.Lines.{line, text_of_lines};
 ghost use Rattle.sim_core.specs.{Views.theory_of, AccessLog.log_of};
-ghost use Rattle.log_text.specs.LogText.{access_tokens, value_tokens, IsNamed};
+ghost use Rattle.log_text.specs.LogText.{access_tokens, value_tokens, IsOfDesign};
 ghost use Rattle.log_text.specs.LogText as form;
 
 use flow_design::Design;
@@ -74,7 +74,7 @@ fn write_log<K: Sink>(
     log: &[LoggedAccess],
     sink: &mut K,
 ) -> Result<(), TellFault>
-    requires { All (IsNamed design.now) log.now }
+    requires { All (IsOfDesign design.now) log.now }
     ensures ok { OnOk result (IsTold (K.held sink.old) (K.held sink.new) pending.new
         (pending.old ++ text_of_lines (map (access_tokens design.now) log.now))) }
     ensures err { OnErr result (AppendsPrefix (K.held sink.old) (K.held sink.new)
@@ -96,7 +96,7 @@ fn write_access<K: Sink>(
     access: &LoggedAccess,
     sink: &mut K,
 ) -> Result<(), TellFault>
-    requires { IsNamed design.now access.now }
+    requires { IsOfDesign design.now access.now }
     ensures ok { OnOk result (IsTold (K.held sink.old) (K.held sink.new) pending.new
         (pending.old ++ line (access_tokens design.now access.now))) }
     ensures err { OnErr result (AppendsPrefix (K.held sink.old) (K.held sink.new)
@@ -116,7 +116,7 @@ fn print_access(
     design: &Design,
     access: &LoggedAccess,
 ) -> Result<(), OutOfMemory>
-    requires { IsNamed design.now access.now }
+    requires { IsOfDesign design.now access.now }
     ensures { OnOk result (text.new ≡ text.old ++ line (access_tokens design.now access.now)) }
 {
     text.extend_from_slice(b"access")?;

@@ -15,7 +15,7 @@ use Rattle.timing_bridge.specs.{Designs.design, CoreReports.core_step, CoreRepor
 use Rattle.engine_view.specs.Held.{Held, core_of}
 use Rattle.engine_report.specs.{declared.events.TimedStep.TimedStep, Finished.IsFinished, Keys.place_of, Keys.IsTimedKey}
 use Rattle.step_walk.specs.{Walks.IsWalked, declared.walk.StepWalk.StepWalk}
-use Rattle.step_walk.specs.Walking.{never, next_cycle, left, IsWalk, HasGiven, FoundIn}
+use Rattle.step_walk.specs.Walking.{never, next_cycle, to_give, IsWalk, HasGiven, FoundIn}
 use Rattle.step_walk.proofs.Leading.{walk_leads}
 use Rattle.step_walk.proofs.Walking.{walk_begins, walk_passes, walk_skips, walk_goes_on, walk_ends}
 
@@ -185,7 +185,7 @@ module _ (lanes : List Lane) (sound : All IsSoundLane lanes) (old new : StepWalk
     timed = there;
   }
 
-  fewer_left : left lanes new < left lanes old
+  fewer_left : to_give lanes new < to_give lanes old
   fewer_left =
       let less = sum_within lanes new.given walk_given.givens walk_given.within in
       let more = ap (sum_by (λ (n : ℕ). n)) given ∙ sum_more old.given o (let n = w.givens in omega arith) in
@@ -257,20 +257,6 @@ module _ (lanes : List Lane) (old new : StepWalk) (w : IsWalk lanes old) (o : �
 module _ (lanes : List Lane) (old new : StepWalk) (w : IsWalk lanes old) (round : old.module ≡ length lanes) (more : old.later < never)
     (given : new.given ≡ old.given) (next : new.next ≡ old.next) (clock : new.clock ≡ old.later) (later : new.later ≡ never)
     (after : new.module ≡ 0) where
-  pub walk_begun : IsWalk lanes new
-  walk_begun = record {
-    givens = ap length given ∙ w.givens;
-    nexts = ap length next ∙ w.nexts;
-    turn = omega arith;
-    each = λ i l.
-        ap (λ (xs : List ℕ). get_or xs i 0) next ∙ (w.each i l ∙ ap (λ (xs : List ℕ). next_cycle lanes i (get_or xs i 0)) (sym given));
-    within = λ i l. omega (arith, ap (λ (xs : List ℕ). get_or xs i 0) given, w.within i l);
-    later = omega arith;
-    bound = omega arith;
-    early = λ i l. absurd (omega arith);
-    due = λ i l m. omega (arith, ap (λ (xs : List ℕ). get_or xs i 0) next, w.early i (omega arith));
-  }
-
   pub begun_steps : (steps : List TimedStep) → HasGiven lanes old steps → HasGiven lanes new steps
   begun_steps steps h = record {
     done = λ p held e.

@@ -42,12 +42,12 @@ pub record HasGiven (lanes : List Lane) (walk : StepWalk) (steps : List TimedSte
       IsWalked p x (steps_at p x (map place_of steps)) walk.given walk.clock walk.module
 
 -- how many steps the walk has not given yet
-abbrev pub left : List Lane → StepWalk → ℕ
-left lanes walk = sum_by (λ lane. length lane.cycles) lanes - sum walk.given
+abbrev pub to_give : List Lane → StepWalk → ℕ
+to_give lanes walk = sum_by (λ lane. length lane.cycles) lanes - sum walk.given
 
 -- what the search of one round finds, and where the walk is then: beyond all modules where nothing is found
 abbrev pub FoundIn : List Lane → StepWalk → Option TimedStep → StepWalk → Type 0
 FoundIn lanes old None new = (new.module ≡ length lanes) × (new.given ≡ old.given)
     × ((steps : List TimedStep) → HasGiven lanes old steps → HasGiven lanes new steps)
-FoundIn lanes old (Some step) new = IsTimedKey lanes step × (left lanes new < left lanes old)
+FoundIn lanes old (Some step) new = IsTimedKey lanes step × (to_give lanes new < to_give lanes old)
     × ((steps : List TimedStep) → HasGiven lanes old steps → HasGiven lanes new (steps ++ step ∷ []))

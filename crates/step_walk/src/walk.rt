@@ -6,7 +6,7 @@ ghost use Rattle.lockstep_defs.specs.{Lockstep.history, Verdict.verdict};
 ghost use Rattle.timing_bridge.specs.{Designs.design, CoreReports.steps_at};
 ghost use Rattle.engine_view.specs.Held.{Held, core_of};
 ghost use Rattle.engine_report.specs.{Finished.IsFinished, Keys.place_of, Keys.IsTimedKey};
-ghost use Rattle.step_walk.specs.Walking.{never, next_cycle, first_cycles, left, IsWalk, HasGiven, FoundIn};
+ghost use Rattle.step_walk.specs.Walking.{never, next_cycle, first_cycles, to_give, IsWalk, HasGiven, FoundIn};
 
 use engine_report::TimedStep;
 use event_graph::{Graph, Place};
@@ -56,7 +56,7 @@ impl StepWalk {
         ensures timed { IfSome result (IsTimedKey graph.now.lanes) }
         ensures some { IfSome result (λ step. (steps : Items TimedStep) → HasGiven graph.now.lanes self.old steps
             → HasGiven graph.now.lanes self.new (steps ++ step ∷ [])) }
-        ensures left { IfSome result (λ step. left graph.now.lanes self.new < left graph.now.lanes self.old) }
+        ensures left { IfSome result (λ step. to_give graph.now.lanes self.new < to_give graph.now.lanes self.old) }
         ensures none { IsNone result → (steps : Items TimedStep) → HasGiven graph.now.lanes self.old steps
             → (p : Plan) (held : Held) (ends : Items (Option Advance)) → IsFinished p held ends → held.lanes ≡ graph.now.lanes
             → steps_at p (core_of (design p) held) (map place_of steps) ≡ history p (clock_of (verdict p)) }

@@ -3,7 +3,7 @@ use Rattle.std.proofs.lemmas.List.{length-map}
 use Rattle.fifo_table.specs.{Channels.Channel, Channels.with_depth, Roomed.RoomedChannels}
 use Rattle.engine_view.specs.{declared.engine.Engine.Engine, Taking.kinds_in}
 use Rattle.retime.proofs.Cutting.{sound_lanes_of}
-use Rattle.cycle_changes.specs.{declared.changes.Put.Put, Found.places_in}
+use Rattle.cycle_changes.specs.{declared.changes.Put.Put, Found.put_places}
 use Rattle.cycle_changes.proofs.Changing.{depth_back, none_put, put_edited, puts_are_other, other_cycles, no_room_lost, all_same}
 use Rattle.cycle_changes.proofs.{Counting.below_within, SomeCores.some_core, SomeCores.keeps_room, RightChanges.right_changes}
 use Rattle.cycle_changes.proofs.changed.try_changes.Goals as goal
@@ -31,7 +31,7 @@ returns-then-change-clause-changed g c = λ yes.
     let found = c.if-change.ensures.right refl in
     let loses = no_room_lost old new edit puts put in
     record {
-      right = right_changes old new edit c.args.limit seeds (places_in puts) c.requires.edit.inside c.requires.edit.is_fifo (record {
+      right = right_changes old new edit c.args.limit seeds (put_places puts) c.requires.edit.inside c.requires.edit.is_fifo (record {
         other = other;
         felt = rw (← c.set_depth.ensures.channels) found.felt;
         looked = found.now.looked;

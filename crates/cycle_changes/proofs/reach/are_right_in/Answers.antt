@@ -1,6 +1,6 @@
 use Rattle.std.proofs.{Common.sym, Common.subst, Common.ℕ, Common.arith, Common.inl, Common.inr, Common.[], lemmas.Bool.cases_eq}
 use Rattle.engine_view.specs.{Held.step_of, Engines.held_in}
-use Rattle.cycle_changes.specs.{Looks.IsLooked, Around.StandsSomewhere}
+use Rattle.cycle_changes.specs.{Looks.IsLooked, Around.HasAccessAt}
 use Rattle.cycle_changes.proofs.reach.are_right_in.Goals as goal
 
 pub loop-step-preserved : goal.loop-step-preserved
@@ -9,7 +9,7 @@ loop-step-preserved c = λ k low l s.
     elim (cases_eq k c.loop-step.step) [
       | inl e ↦ subst (IsLooked h c.args.owner) (sym e)
           (c.is_right_or_elsewhere.ensures c.if-not-is_right_or_elsewhere.false
-          (subst (λ (j : ℕ). StandsSomewhere c.args.port.side c.args.port.channel (step_of h c.args.owner j)) e s))
+          (subst (λ (j : ℕ). HasAccessAt c.args.port.side c.args.port.channel (step_of h c.args.owner j)) e s))
       | inr e ↦ c.loop-step.invariant k low (omega arith) s
     ]
 

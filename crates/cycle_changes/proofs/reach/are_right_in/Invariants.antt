@@ -1,10 +1,10 @@
 use Rattle.std.proofs.Common.{ℕ, ◌<◌, ◌≤◌, []}
 use Rattle.engine_view.specs.{Held.step_of, Engines.held_in}
-use Rattle.cycle_changes.specs.{Looks.IsLooked, Around.StandsSomewhere}
+use Rattle.cycle_changes.specs.{Looks.IsLooked, Around.HasAccessAt}
 use Rattle.cycle_changes.proofs.reach.are_right_in.Given as goal
 
 abbrev pub invariant-loop-step : goal.invariant-loop-step
 invariant-loop-step l =
     (k : ℕ) → l.first ≤ k → k < l.step
-    → StandsSomewhere l.port.side l.port.channel (step_of (held_in l.engine []) l.owner k)
+    → HasAccessAt l.port.side l.port.channel (step_of (held_in l.engine []) l.owner k)
     → IsLooked (held_in l.engine []) l.owner k

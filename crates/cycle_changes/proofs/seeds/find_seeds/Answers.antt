@@ -4,7 +4,7 @@ use Rattle.std.specs.Prelude.{Contains}
 use Rattle.flow_word.specs.{declared.access.Place.Place, declared.access.Side.TheVariants.Push}
 use Rattle.fifo_table.specs.Channels.{channel_at, first_module, places_of}
 use Rattle.engine_view.specs.{Emitted.place_of, Held.step_of, Engines.held_in, Turns.first_of}
-use Rattle.cycle_changes.specs.{Looks.IsLooked, Around.StandsSomewhere}
+use Rattle.cycle_changes.specs.{Looks.IsLooked, Around.HasAccessAt}
 use Rattle.cycle_changes.proofs.Reaching.{as_owner, has_owner}
 use Rattle.cycle_changes.proofs.seeds.find_seeds.Goals as goal
 
@@ -24,7 +24,7 @@ loop-step-preserved c = λ k l s.
     let h = held_in c.args.engine.now [] in
     elim (cases_eq k c.loop-step.step) [
       | inl e ↦
-          let s' = subst (λ (n : ℕ). StandsSomewhere Push c.args.channel (step_of h c.in-Some.owner n)) e s in
+          let s' = subst (λ (n : ℕ). HasAccessAt Push c.args.channel (step_of h c.in-Some.owner n)) e s in
           subst (λ (n : ℕ). IsLooked h c.in-Some.owner n ⊎ Contains c.keep_felt.new.seeds.items (place_of c.in-Some.owner n)) (sym e)
           (c.keep_felt.ensures.felt c.if-not-keep_felt.false s')
       | inr e ↦
@@ -44,6 +44,6 @@ returns c = λ e m k l s.
     sym (as_owner c.args.engine.now c.requires.core Push c.args.channel a.ordinal m k l (j, a, u, at, (st, refl)) 0 p there) ∙ is in
     let count = c.frontier-step-end.ensures.count in
     let l' = subst (λ (v : ℕ). k < first_of h v) owner l in
-    let s' = subst (λ (v : ℕ). StandsSomewhere Push c.args.channel (step_of h v k)) owner s in
+    let s' = subst (λ (v : ℕ). HasAccessAt Push c.args.channel (step_of h v k)) owner s in
     subst (λ (v : ℕ). IsLooked h v k ⊎ Contains c.loop-step.seeds.items (place_of v k)) (sym owner)
     (c.loop-step.invariant k (omega (arith, c.loop-step-test.false)) s')

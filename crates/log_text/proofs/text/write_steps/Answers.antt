@@ -8,7 +8,7 @@ use Rattle.engine_report.specs.{declared.events.TimedStep.TimedStep, Keys.IsTime
 use Rattle.sim_core.specs.{declared.access_log.LoggedAccess.LoggedAccess, AccessLog.logged_at}
 use Rattle.sim_io.proofs.Pending.{prefix_as, prefix_none, told_as, told_more, told_none, told_prefix, told_prefix_more}
 use Rattle.step_walk.specs.{declared.walk.StepWalk.StepWalk, Walking.IsWalk, Walking.HasGiven}
-use Rattle.log_text.specs.LogText.{IsNamed}
+use Rattle.log_text.specs.LogText.{IsOfDesign}
 use Rattle.log_text.proofs.Lines.{step_lines, history_lines}
 use Rattle.log_text.proofs.Stepping.{step_read, rest_of, step_named, text_more}
 use Rattle.log_text.proofs.text.write_steps.Goals as goal
@@ -67,8 +67,8 @@ write_log-requires g c =
     (c.in_ok-log_step.ensures ∙ ap (λ (xs : List LoggedAccess). xs ++ logged_at h key) c.truncate.ensures) in
     let named = step_named p h c.ends-ends.result.now c.ends-ends.ensures sound
     (c.reports_name_their_plans.ensures p c.ends-ends.ensures.fits) c.advance.new.self walk telling.keys key given in
-    subst (λ (q : Plan). All (IsNamed q.design) c.as_slice.result.now) (sym c.plan.ensures)
-    (subst (All (IsNamed p.design)) (sym (c.as_slice.ensures ∙ read)) named)
+    subst (λ (q : Plan). All (IsOfDesign q.design) c.as_slice.result.now) (sym c.plan.ensures)
+    (subst (All (IsOfDesign p.design)) (sym (c.as_slice.ensures ∙ read)) named)
 
 pub loop-step-preserved : goal.loop-step-preserved
 loop-step-preserved g c =

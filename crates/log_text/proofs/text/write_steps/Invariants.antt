@@ -1,5 +1,5 @@
 use Rattle.std.proofs.Common.{◌≤◌}
-use Rattle.step_walk.specs.Walking.{IsWalk, left}
+use Rattle.step_walk.specs.Walking.{IsWalk, to_give}
 use Rattle.log_text.proofs.Stepping.{IsTelling}
 use Rattle.log_text.proofs.text.write_steps.Given as goal
 
@@ -11,4 +11,4 @@ invariant-loop-step g l = record {
 }
 
 abbrev pub decreases-loop-step : goal.decreases-loop-step
-decreases-loop-step g l = left l.core.held.lanes l.walk
+decreases-loop-step g l = to_give l.core.held.lanes l.walk

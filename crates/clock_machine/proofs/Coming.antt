@@ -66,7 +66,8 @@ moving_unsettled p clock st moving = by_test (is_settled p clock st) refl
 
 -- ---- where a run stands
 
-pub come_at : (p : Plan) {codes : List (List BlockCode)} (keep : Bool) (clock : ℕ) (run : Run) → HasCome p codes keep clock run → NoneBefore p clock
+pub come_at : (p : Plan) {codes : List (List BlockCode)} (keep : Bool) (clock : ℕ) (run : Run) → HasCome p codes keep clock run
+    → NoneBefore p clock
     → IsAt p clock (state p clock) (events_of (history p clock)) run.answers
 come_at p keep clock run h none = record {
   is_state = refl;
@@ -81,7 +82,8 @@ none_next p clock none e b l = below_more (λ n. is_settled p n (state p n) ≡ 
 -- ---- in a settled clock
 
 -- no module sleeps
-all_awake : (p : Plan) {codes : List (List BlockCode)} (keep : Bool) (clock : ℕ) (run : Run) → HasCome p codes keep clock run → is_settled p clock (state p clock) ≡ true
+all_awake : (p : Plan) {codes : List (List BlockCode)} (keep : Bool) (clock : ℕ) (run : Run) → HasCome p codes keep clock run
+    → is_settled p clock (state p clock) ≡ true
     → (i : ℕ) → i < length p.design.modules → (get_or run.seats i no_seat).wakes ≤ clock
 all_awake p keep clock run h settled i l = elim (cases_lt clock (get_or run.seats i no_seat).wakes) [
   | inl sleeps ↦
@@ -95,7 +97,8 @@ all_awake p keep clock run h settled i l = elim (cases_lt clock (get_or run.seat
 ]
 
 -- so the run holds the clock's state
-pub settled_state : (p : Plan) {codes : List (List BlockCode)} (keep : Bool) (clock : ℕ) (run : Run) → HasCome p codes keep clock run → is_settled p clock (state p clock) ≡ true
+pub settled_state : (p : Plan) {codes : List (List BlockCode)} (keep : Bool) (clock : ℕ) (run : Run) → HasCome p codes keep clock run
+    → is_settled p clock (state p clock) ≡ true
     → run.state ≡ state p clock
 settled_state p keep clock run h settled =
     let modules : run.state.modules ≡ (state p clock).modules =
@@ -105,7 +108,8 @@ settled_state p keep clock run h settled =
     (all_awake p keep clock run h settled i (omega (arith, h.seated.state_count)))) in
     λ i. record { modules = modules i; contents = h.holding i }
 
-pub settled_fit : (p : Plan) {codes : List (List BlockCode)} → FitsEngine p → (keep : Bool) (clock : ℕ) (run : Run) → HasCome p codes keep clock run → clock ≤ p.cycles
+pub settled_fit : (p : Plan) {codes : List (List BlockCode)} → FitsEngine p → (keep : Bool) (clock : ℕ) (run : Run)
+    → HasCome p codes keep clock run → clock ≤ p.cycles
     → is_settled p clock (state p clock) ≡ true → AreFitInTime p run.state.modules
 settled_fit p f keep clock run h early settled = record {
   clock = clock;
@@ -143,7 +147,8 @@ same_later p clock settled =
     }
 
 -- what a run told up to then
-pub told_at : (p : Plan) {codes : List (List BlockCode)} (keep : Bool) (clock : ℕ) (run : Run) → HasCome p codes keep (clock + 1) run → NoneBefore p clock → IsSame p clock
+pub told_at : (p : Plan) {codes : List (List BlockCode)} (keep : Bool) (clock : ℕ) (run : Run) → HasCome p codes keep (clock + 1) run
+    → NoneBefore p clock → IsSame p clock
     → IsAt p clock (state p clock) (events_of (history p clock)) run.answers
 told_at p keep clock run h none same = record {
   is_state = refl;

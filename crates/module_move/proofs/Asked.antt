@@ -10,7 +10,8 @@ use Rattle.module_move.specs.Sound.{IsActionAt, IsDueSound, IsStateSound}
 use Rattle.module_move.proofs.Readiness.{op_ready}
 
 -- the action of a due operation
-pub action_at : (channels : List Channel) (m : Module) (s : ModuleState) (room iteration : ℕ) (g : Guarded) → IsModuleSound (length channels) m
+pub action_at : (channels : List Channel) (m : Module) (s : ModuleState) (room iteration : ℕ) (g : Guarded)
+    → IsModuleSound (length channels) m
     → IsStateSound m s → IsGuardedOf channels m (block_of m s) room g
     → IsDueSound m s (record { iteration = iteration; op = g.slot.op })
     → IsActionAt m s (record { iteration = iteration; op = g.slot.op }) g.action

@@ -10,7 +10,8 @@ use Rattle.flow_design.specs.Module.{ages_down, interval, live_count, due as due
 use Rattle.lockstep_defs.specs.Machine.{request_for, requests}
 use Rattle.block_schedule.specs.{declared.schedule.DueRange.DueRange, declared.tables.Slot.Slot}
 use Rattle.block_schedule.specs.Schedules.{due_at_ages, placed, slots_in, IsSlotOf}
-use Rattle.block_code.specs.{Codes.IsBlockCodeOf, declared.code.Guarded.Guarded, declared.code.BlockCode.BlockCode, declared.noted.Noted.Noted, declared.noted.Notes.Notes}
+use Rattle.block_code.specs.{Codes.IsBlockCodeOf, declared.code.Guarded.Guarded, declared.code.BlockCode.BlockCode}
+use Rattle.block_code.specs.{declared.noted.Noted.Noted, declared.noted.Notes.Notes}
 use Rattle.block_code.specs.Notes.{noted_for, listed}
 use Rattle.module_move.specs.{Moves.notes_of, Moves.passing, Moves.standing, Sound.CanCommit, Sound.HasCode}
 use Rattle.module_move.proofs.{Looking.due_by_phase, Readiness.few_due}
@@ -29,7 +30,8 @@ few_noted channels m s code notes can =
 sliced : (gs : List Guarded) (from to : ℕ)
     → map (λ g. g.slot) (slice_range gs from to) ≡ slice_range (map (λ g. g.slot) gs) from to
 sliced gs from to =
-    sym (take-map (λ (g : Guarded). g.slot) (to - from) (drop from gs)) ∙ ap (take (to - from)) (sym (drop-map (λ (g : Guarded). g.slot) from gs))
+    sym (take-map (λ (g : Guarded). g.slot) (to - from) (drop from gs)) ∙ ap (take (to - from)) (sym (drop-map (λ (g : Guarded).
+    g.slot) from gs))
 
 unmapped : {X Y : Type 0} (P : Y → Type 0) (f : X → Y) (xs : List X) → All P (map f xs) → All (λ x. P (f x)) xs
 unmapped P f xs all k d l = subst P (get_or-map f xs k d (f d) l) (all k (f d) (omega (arith, length-map xs f)))

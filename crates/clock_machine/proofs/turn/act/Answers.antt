@@ -14,8 +14,10 @@ use Rattle.clock_machine.specs.{Seats.IsSeated, declared.seat.Seat.Seat}
 use Rattle.clock_machine.proofs.turn.act.Goals as goal
 
 -- what is asked of a module that is awake and runs, and whether it moves
-answer_is : (p : Plan) {codes : List (List BlockCode)} (clock i : ℕ) (s : ModuleState) (seat : Seat) (contents : List (List Element)) (asked : List Request) (goes : Bool)
-    → IsSeated p codes clock i s seat → seat.wakes ≤ clock → seat.known ≡ true → is_over p.ops s ≡ false → contents ≡ (state p clock).contents
+answer_is : (p : Plan) {codes : List (List BlockCode)} (clock i : ℕ) (s : ModuleState) (seat : Seat) (contents : List (List Element))
+    (asked : List Request) (goes : Bool)
+    → IsSeated p codes clock i s seat → seat.wakes ≤ clock → seat.known ≡ true → is_over p.ops s ≡ false
+    → contents ≡ (state p clock).contents
     → asked ≡ seat.requests → goes ≡ not (list_any (stalls p clock contents) asked) → IsAnswered p clock i contents asked goes
 answer_is p clock i s seat contents asked goes is l known running holding same e =
     let asks = same ∙ asked_in p clock i s seat is l known in record {

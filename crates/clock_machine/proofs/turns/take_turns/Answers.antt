@@ -91,9 +91,11 @@ loop-i-preserved c =
           (or_else c.loop-i.moving c.in_ok-moves.moves c.if-moving.moving w.if-moving.false w.moving-is)
     ] in record {
       moving = next;
-      seated = both_more (IsSeated p c.args.at.now.of.now.codes.now (clock + 1)) c.loop-i.states c.loop-i.seats i c.take_turn.new.state nobody c.take_turn.new.seat no_seat
+      seated = both_more (IsSeated p c.args.at.now.of.now.codes.now (clock + 1)) c.loop-i.states c.loop-i.seats i c.take_turn.new.state
+          nobody c.take_turn.new.seat no_seat
           (omega arith) (omega arith) c.loop-i.invariant.seated turn.seated;
-      rest = both_later (IsSeated p c.args.at.now.of.now.codes.now clock) c.loop-i.states c.loop-i.seats i (length p.design.modules) c.take_turn.new.state nobody
+      rest = both_later (IsSeated p c.args.at.now.of.now.codes.now clock) c.loop-i.states c.loop-i.seats i (length p.design.modules)
+          c.take_turn.new.state nobody
           c.take_turn.new.seat no_seat c.loop-i.invariant.rest;
       done = subst (HasDone c.args.at.now.keep c.args.round.now c.take_turn.new.round) (steps_more p clock i (omega arith))
           (done_more c.args.at.now.keep c.args.round.now c.loop-i.round c.take_turn.new.round _ (step_at p clock i) c.loop-i.invariant.done

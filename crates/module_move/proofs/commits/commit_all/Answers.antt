@@ -25,7 +25,8 @@ loop-at-preserved c channels m b room is =
     (drop_more ns i none inside) in
     c.carry_out_next-answered.ensures channels m b room
     (at_place (IsGuardedOf channels m b room) gs c.index-actions-at.is c.loop-at-test.true is) more
-    ∙ (sym (ap (λ (noted : List Noted). fold (stored m b) c.loop-at.state (effects_by b noted (drop c.loop-at.answered c.args.replies.now))) front)
+    ∙ (sym (ap (λ (noted : List Noted). fold (stored m b) c.loop-at.state (effects_by b noted (drop c.loop-at.answered
+    c.args.replies.now))) front)
     ∙ c.loop-at.invariant channels m b room is)
 
 pub returns : goal.returns

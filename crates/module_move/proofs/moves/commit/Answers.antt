@@ -61,7 +61,8 @@ returns-clause-control c =
 pub returns-clause-count : goal.returns-clause-count
 returns-clause-count c =
     let (channels, (m, can)) = c.requires.can in
-    ap (λ (n : ℕ). n + c.args.notes.now.count) (commits channels m c.args.state.now c.commit_all.new.state c.args.code.now c.args.notes.now c.as_slice.result.now
+    ap (λ (n : ℕ). n + c.args.notes.now.count) (commits channels m c.args.state.now c.commit_all.new.state c.args.code.now
+    c.args.notes.now c.as_slice.result.now
     c.as_slice-2.result.now c.args.replies.now can c.as_slice.ensures c.as_slice-2.ensures
     (c.commit_all.ensures channels m (block_of m c.args.state.now) c.args.code.now.room)).count
     ∙ ap (λ (n : ℕ). c.args.state.now.count + n) can.noted.in_code.counted
@@ -77,5 +78,6 @@ returns-clause-committed c channels m can =
     c.as_slice-2.result.now c.args.replies.now can c.as_slice.ensures c.as_slice-2.ensures
     (c.commit_all.ensures channels m (block_of m c.args.state.now) c.args.code.now.room) in
     ap (λ (n : ℕ). record c.commit_all.new.state { count = c.commit_all.new.state.count + n }) can.noted.in_code.counted
-    ∙ counted_is m c.args.state.now c.args.replies.now c.commit_all.new.state (listed c.args.code.now c.args.notes.now) can.noted.are h.written
+    ∙ counted_is m c.args.state.now c.args.replies.now c.commit_all.new.state (listed c.args.code.now c.args.notes.now) can.noted.are
+    h.written
     h.count

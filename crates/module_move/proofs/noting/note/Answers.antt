@@ -2,11 +2,13 @@ use Rattle.std.proofs.Common.{◌≡◌, ◌∙◌, ◌-◌, ◌*◌, ◌++◌, 
 use Rattle.std.proofs.lemmas.List.{length-map, Elements.All-drop, Elements.All-take}
 use Rattle.std.specs.Prelude.{All, filter_map, slice_range}
 use Rattle.std.specs.List.{zip}
-use Rattle.flow_design.specs.{declared.design.Module.Module, declared.state.ModuleState.ModuleState, declared.state.Due.Due, declared.state.Request.Request, Module.block_of, Module.due}
+use Rattle.flow_design.specs.{declared.design.Module.Module, declared.state.ModuleState.ModuleState, declared.state.Due.Due}
+use Rattle.flow_design.specs.{declared.state.Request.Request, Module.block_of, Module.due}
 use Rattle.flow_design.specs.declared.limits.TheConstants.{LIVE_ITERATIONS, OPERATIONS}
 use Rattle.lockstep_defs.specs.Machine.{request_for}
 use Rattle.block_schedule.specs.{declared.tables.Slot.Slot, Schedules.slots_in, Schedules.IsSlotOf}
-use Rattle.block_code.specs.{declared.code.BlockCode.BlockCode, declared.code.Guarded.Guarded, declared.noted.Note.Note, declared.noted.Noted.Noted, Codes.IsGuardedOf, Notes.noted_by, Notes.noted_for}
+use Rattle.block_code.specs.{declared.code.BlockCode.BlockCode, declared.code.Guarded.Guarded, declared.noted.Note.Note}
+use Rattle.block_code.specs.{declared.noted.Noted.Noted, Codes.IsGuardedOf, Notes.noted_by, Notes.noted_for}
 use Rattle.block_code.proofs.Codes.{wider}
 use Rattle.module_move.specs.Moves.{notes_of}
 use Rattle.module_move.proofs.{Ages.oldest_age, Readiness.few_are_live, Readiness.few_due}
@@ -72,7 +74,8 @@ returns-clause-asked c channels is =
     ∙ (ap (λ (rs : List Request). rs ++ filter_map request (due m s)) c.truncate.ensures ∙ sym (requests_are channels m s)))
 
 -- what was noted, in the list that was written
-noted_are : (m : Module) (s : ModuleState) (code : BlockCode) (from to : ℕ) (gs : List Guarded) (now before held : List Note) (ds : List Due)
+noted_are : (m : Module) (s : ModuleState) (code : BlockCode) (from to : ℕ) (gs : List Guarded) (now before held : List Note) (ds :
+    List Due)
     → gs ≡ code.actions → length now ≡ length held → held ≡ before
     → filter_map noted_by (zip (slice_range gs from to) now) ≡ map (noted_for (block_of m s) s) ds → ds ≡ due m s
     → filter_map noted_by (zip (slice_range code.actions from to) (take (length before) (now ++ drop (length now) before))) ≡ notes_of m s

@@ -15,7 +15,8 @@ pub note_one-requires-clause-action : goal.note_one-requires-clause-action
 note_one-requires-clause-action c =
     let g = c.index-actions-at.result in
     let (channels, (of, code)) = c.requires.code in
-    let own = at_place (λ (h : Guarded). IsSlotOf (block_of c.args.of.now c.args.state.now) c.args.oldest (length c.args.state.now.temps) h.slot)
+    let own = at_place (λ (h : Guarded). IsSlotOf (block_of c.args.of.now c.args.state.now) c.args.oldest (length
+    c.args.state.now.temps) h.slot)
     c.args.actions.now c.index-actions-at.is c.loop-at-test.true c.requires.slots in
     action_at channels c.args.of.now c.args.state.now _ (g.slot.rank - c.args.oldest) g of c.requires.sound
     (at_place (IsGuardedOf channels c.args.of.now (block_of c.args.of.now c.args.state.now) (length c.args.scratch.now)) c.args.actions.now
@@ -39,14 +40,16 @@ loop-at-preserved c =
     let one : List Due = cond p (due ∷ []) [] in
     let guard : g.guard ≡ (operation_at b g.slot.op).guard =
     (at_place (IsGuardedOf channels m b (length c.args.scratch.now)) gs c.index-actions-at.is c.loop-at-test.true code).guard in
-    let same : p ≡ passes s.registers (temps_of s place) g.guard = rw (c.as_slice.ensures, c.temps_after-temps.ensures) at c.passes-passes.ensures in
+    let same : p ≡ passes s.registers (temps_of s place) g.guard = rw (c.as_slice.ensures, c.temps_after-temps.ensures) at
+    c.passes-passes.ensures in
     let test : p ≡ passes s.registers (temps_of s place) (operation_at b g.slot.op).guard =
     same ∙ ap (passes s.registers (temps_of s place)) guard in
     let next : passing b s (map (standing c.args.oldest) (take (i + 1) gs)) ≡ front ++ one =
     passing_next b s c.args.oldest i g g gs p c.loop-at-test.true c.index-actions-at.is test in
     let there : i < length c.loop-at.items = omega (arith, c.requires.places, c.loop-at.invariant.places, c.loop-at-test.true) in
     record {
-      noted = note_more b s c.args.oldest i gs c.loop-at.items _ g g c.note_one.new.note refl c.loop-at-test.true there c.index-actions-at.is
+      noted = note_more b s c.args.oldest i gs c.loop-at.items _ g g c.note_one.new.note refl c.loop-at-test.true there
+          c.index-actions-at.is
           (note_is b s c.args.oldest g c.note_one.new.note p test h.passes h.iteration h.value h.address) c.loop-at.invariant.noted;
       places = length-set c.loop-at.items i c.note_one.new.note ∙ c.loop-at.invariant.places;
       count = ap (λ (n : ℕ). n + from_bool p) c.loop-at.invariant.count
@@ -57,7 +60,8 @@ loop-at-preserved c =
           let request = request_for others m s in
           passing_more (filter_map request) (λ xs ys. filter_map-append request xs ys) front _ one c.args.asked.now c.loop-at.asked
           c.note_one.new.asked next
-          (h.asked ∙ ap (λ (rs : List Request). c.loop-at.asked ++ rs) (asked_once others m s room place g (at_place (IsGuardedOf others m b room) gs
+          (h.asked ∙ ap (λ (rs : List Request). c.loop-at.asked ++ rs) (asked_once others m s room place g (at_place (IsGuardedOf
+          others m b room) gs
           c.index-actions-at.is c.loop-at-test.true is) p))
           (c.loop-at.invariant.asked others room is);
       temps = c.temps_after-temps.ensures;

@@ -3,6 +3,6 @@ pub mod Codes
 pub mod Flats
 pub mod Forms
 pub mod Masking
-pub mod Notes
+pub mod Enough
 pub mod Reaches
 pub mod Trees

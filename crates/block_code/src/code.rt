@@ -1,10 +1,10 @@
 //! The code of a module's blocks.
 ghost use Rattle.std.specs.Prelude.{All, IfOk};
 ghost use Rattle.block_schedule.specs.Schedules.{KeepsLimits};
-ghost use Rattle.block_code.specs.Codes.{AreActionsOf, AreCodesOf, IsBlockCodeOf};
+ghost use Rattle.block_code.specs.Codes.{AreCodesOf, IsBlockCodeOf};
 
 use crate::action::{Action, action_of};
-use block_schedule::Schedule;
+use block_schedule::{Schedule, Slot};
 use flow_design::{Block, Channel, Module};
 use flow_word::{List, OutOfMemory};
 use std::alloc::Global;
@@ -12,6 +12,8 @@ use std::alloc::Global;
 /// An operation as a machine runs it: an action, which is done where there is no guard or the guard is not 0.
 #[derive(Debug)]
 pub struct Guarded {
+    /// Where the operation stands in the block's schedule, with its number.
+    pub slot: Slot,
     pub guard: Option<u32>,
     pub action: Action,
 }
@@ -19,6 +21,7 @@ pub struct Guarded {
 impl Drop for Guarded {
     fn drop(self) {
         let Guarded {
+            slot: _slot,
             guard: _guard,
             action: _action,
         } = self;
@@ -29,7 +32,7 @@ impl Drop for Guarded {
 #[derive(Debug)]
 pub struct BlockCode {
     pub schedule: Schedule,
-    /// The operations, in text order.
+    /// The operations, in the order of the schedule's slots.
     pub actions: List<Guarded>,
     /// How many instructions the longest expression of the block has, and so how many words of `scratch` their results need.
     pub room: u64,
@@ -76,10 +79,12 @@ fn code_of(
     let schedule = Schedule::new(alloc, block)?;
     let mut actions = List::with_room(alloc, block.ops.len())?;
     let mut room = 0u64;
-    for timed in block.ops.as_slice() {
+    for slot in schedule.slots() {
+        let timed = &block.ops.as_slice()[slot.op as usize];
         let action = action_of(alloc, channels, of, block, &timed.op)?;
         room = room.max(action.room());
         actions.push(Guarded {
+            slot: *slot,
             guard: timed.guard,
             action,
         })?;

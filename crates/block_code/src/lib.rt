@@ -13,7 +13,7 @@ mod target;
 pub use action::Action;
 pub use code::{BlockCode, Guarded, codes_of};
 pub use flat::{Argument, Instruction};
-pub use noted::{Noted, notes_are_enough};
+pub use noted::{Note, Noted, Notes, notes_are_enough};
 pub use operand::Operand;
 pub use replies::is_yes;
 pub use running::{Prepared, carry_out, prepare, temps_of};

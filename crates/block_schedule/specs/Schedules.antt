@@ -1,10 +1,10 @@
 -- What a schedule holds of its block.
 use Rattle.std.specs.Prelude.{ℕ, ◌≡◌, ◌+◌, ◌-◌, ◌*◌, ◌/◌, ◌%◌, ◌==◌, ◌<◌, ◌≤◌, List, map, filter, flat_map, length, slice_index_or, All}
-use Rattle.std.specs.Prelude.{IsPermutation}
+use Rattle.std.specs.Prelude.{IsPermutation, slice_range}
 use Rattle.std.specs.{List.enumerate_from, List.Sorted.IsNonDecreasingBy}
 use Rattle.flow_design.specs.declared.limits.TheConstants.{BLOCK_CLOCKS, LIVE_ITERATIONS, OPERATIONS}
 use Rattle.flow_design.specs.{declared.design.Block.Block, declared.design.Timed.Timed, Module.interval, Module.due_at}
-use Rattle.block_schedule.specs.{declared.schedule.Schedule.Schedule, declared.tables.Slot.Slot}
+use Rattle.block_schedule.specs.{declared.schedule.DueRange.DueRange, declared.schedule.Schedule.Schedule, declared.tables.Slot.Slot}
 
 -- ---- ranks
 
@@ -61,6 +61,10 @@ pub record IsScheduleOf (b : Block) (s : Schedule) : Type 0 where
 -- the operations at these ages, each beside the place of its age among them
 abbrev pub due_at_ages : Block → List ℕ → List (ℕ × ℕ)
 due_at_ages b ages = flat_map (λ it. map (λ n. (it.0, n)) (due_at b it.1)) (enumerate_from 0 ages)
+
+-- the slots of a range
+abbrev pub slots_in : Schedule → DueRange → List Slot
+slots_in s due = slice_range s.slots.items due.from due.to
 
 -- a slot's place behind a rank, and its operation
 abbrev pub placed : ℕ → Slot → ℕ × ℕ

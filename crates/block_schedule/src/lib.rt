@@ -4,5 +4,5 @@
 mod schedule;
 mod tables;
 
-pub use schedule::Schedule;
+pub use schedule::{DueRange, Schedule};
 pub use tables::{Slot, interval};

@@ -4,7 +4,8 @@ ghost use Rattle.std.specs.Prelude.{IfSome};
 ghost use Rattle.std.specs.List.Sorted.{IsNonDecreasingBy};
 ghost use Rattle.flow_design.specs.{declared.limits.TheConstants.LIVE_ITERATIONS, declared.design.Block.Block as BlockOf};
 ghost use Rattle.flow_design.specs.Module.{ages_down, interval, live_count};
-ghost use Rattle.block_schedule.specs.Schedules.{rank, due_at_ages, placed, IsSlotOf, KeepsLimits, ArePhases, IsScheduleOf, IsRange};
+ghost use Rattle.block_schedule.specs.Schedules.{rank, due_at_ages, placed, slots_in, IsSlotOf, KeepsLimits, ArePhases};
+ghost use Rattle.block_schedule.specs.Schedules.{IsScheduleOf, IsRange};
 ghost use Rattle.block_schedule.specs.Work.{StandsIn, IsNextDue, IsNextPhase, HasNoPhase};
 
 use crate::tables::{
@@ -14,6 +15,17 @@ use flow_design::limits::LIVE_ITERATIONS;
 use flow_design::{Block, Control};
 use flow_word::OutOfMemory;
 use std::alloc::Global;
+
+/// Where the slots stand that are at the ages of the live iterations.
+#[derive(Clone, Copy, Debug, PartialEq)]
+pub struct DueRange {
+    /// The rank of the oldest age: a slot's iteration is its rank less this.
+    pub oldest: u64,
+    /// The place of the first of them.
+    pub from: usize,
+    /// The place after the last of them.
+    pub to: usize,
+}
 
 /// A block's operations by phase. A local clock has phase p, which is below II, where the newest iteration started p clocks
 /// before it, or p and some whole II. What is due in a clock stands together here. The size is that of the operations, however
@@ -58,18 +70,33 @@ impl Schedule {
         })
     }
 
-    /// The operations that stand at the ages of so many live iterations, of which the newest has this age: the oldest iteration
-    /// first, then in text order. Beside them the rank of the oldest age: a slot's iteration is its rank less that.
+    /// The slots of all operations: by phase, in a phase from the greatest age down, and then in text order.
+    pub fn slots(&self) -> &[Slot]
+        ensures slots { result.now ≡ self.now.slots.items }
+        ensures inside { (block : BlockOf) → IsScheduleOf block self.now → All (λ t. t.op < length block.ops) result.now }
+    {
+        self.slots.as_slice()
+    }
+
+    /// Where the operations stand that are at the ages of so many live iterations, of which the newest has this age: the oldest
+    /// iteration first, then in text order.
     #[inline(always)]
-    pub fn due(&self, age: u64, live: u64) -> (u64, &[Slot])
+    pub fn due(&self, age: u64, live: u64) -> DueRange
         requires { (block : BlockOf) × (IsScheduleOf block self.now × (age + (live - 1) * interval block < block.len)) }
+        ensures rises { result.from ≤ result.to }
+        ensures bound { result.to ≤ length self.now.slots.items }
         ensures places { (block : BlockOf) → IsScheduleOf block self.now
-            → map (placed result.0) result.1.now ≡ due_at_ages block (ages_down (interval block) age live) }
-        ensures inside { (block : BlockOf) → IsScheduleOf block self.now → All (IsSlotOf block result.0 live) result.1.now }
+            → map (placed result.oldest) (slots_in self.now result) ≡ due_at_ages block (ages_down (interval block) age live) }
+        ensures inside { (block : BlockOf) → IsScheduleOf block self.now
+            → All (IsSlotOf block result.oldest live) (slots_in self.now result) }
     {
         let end = rank(self.interval, age) + 1;
         let (from, to) = self.range(end - live, end);
-        (end - live, &self.slots[from..to])
+        DueRange {
+            oldest: end - live,
+            from,
+            to,
+        }
     }
 
     /// From which place on and up to which place the slots stand whose ranks are at least the first, and below the end.

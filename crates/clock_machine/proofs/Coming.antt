@@ -12,6 +12,7 @@ use Rattle.lockstep_defs.specs.Report.{steps_of, outcomes, events_of}
 use Rattle.lockstep_defs.proofs.{Agrees.all_modules, Agrees.steps_of-suc, Exits.IsAt}
 use Rattle.lockstep_defs.proofs.Settled.{state-suc, history-zero, history-suc, still_step, settled_at, settled_none, settled_stays}
 use Rattle.lockstep_defs.proofs.Settled.{history_stays}
+use Rattle.block_code.specs.declared.code.BlockCode.{BlockCode}
 use Rattle.clock_machine.specs.{declared.run.Run.Run, declared.seat.Seat.Seat, declared.seat.Traffic.Traffic, Clocks.step_at}
 use Rattle.clock_machine.specs.{Clocks.does_move, Parts.kept, Parts.AreFit, Parts.AreFitInTime, Runs.HasCome, Seats.IsSeated, Seats.no_seat}
 use Rattle.clock_machine.proofs.{Fronts.some_at, Kept.kept-append, Sleeping.awake, Sleeping.sleeping, Sleeping.seated_state}
@@ -65,7 +66,8 @@ moving_unsettled p clock st moving = by_test (is_settled p clock st) refl
 
 -- ---- where a run stands
 
-pub come_at : (p : Plan) (keep : Bool) (clock : ℕ) (run : Run) → HasCome p keep clock run → NoneBefore p clock
+pub come_at : (p : Plan) {codes : List (List BlockCode)} (keep : Bool) (clock : ℕ) (run : Run) → HasCome p codes keep clock run
+    → NoneBefore p clock
     → IsAt p clock (state p clock) (events_of (history p clock)) run.answers
 come_at p keep clock run h none = record {
   is_state = refl;
@@ -80,7 +82,8 @@ none_next p clock none e b l = below_more (λ n. is_settled p n (state p n) ≡ 
 -- ---- in a settled clock
 
 -- no module sleeps
-all_awake : (p : Plan) (keep : Bool) (clock : ℕ) (run : Run) → HasCome p keep clock run → is_settled p clock (state p clock) ≡ true
+all_awake : (p : Plan) {codes : List (List BlockCode)} (keep : Bool) (clock : ℕ) (run : Run) → HasCome p codes keep clock run
+    → is_settled p clock (state p clock) ≡ true
     → (i : ℕ) → i < length p.design.modules → (get_or run.seats i no_seat).wakes ≤ clock
 all_awake p keep clock run h settled i l = elim (cases_lt clock (get_or run.seats i no_seat).wakes) [
   | inl sleeps ↦
@@ -94,7 +97,8 @@ all_awake p keep clock run h settled i l = elim (cases_lt clock (get_or run.seat
 ]
 
 -- so the run holds the clock's state
-pub settled_state : (p : Plan) (keep : Bool) (clock : ℕ) (run : Run) → HasCome p keep clock run → is_settled p clock (state p clock) ≡ true
+pub settled_state : (p : Plan) {codes : List (List BlockCode)} (keep : Bool) (clock : ℕ) (run : Run) → HasCome p codes keep clock run
+    → is_settled p clock (state p clock) ≡ true
     → run.state ≡ state p clock
 settled_state p keep clock run h settled =
     let modules : run.state.modules ≡ (state p clock).modules =
@@ -104,7 +108,8 @@ settled_state p keep clock run h settled =
     (all_awake p keep clock run h settled i (omega (arith, h.seated.state_count)))) in
     λ i. record { modules = modules i; contents = h.holding i }
 
-pub settled_fit : (p : Plan) → FitsEngine p → (keep : Bool) (clock : ℕ) (run : Run) → HasCome p keep clock run → clock ≤ p.cycles
+pub settled_fit : (p : Plan) {codes : List (List BlockCode)} → FitsEngine p → (keep : Bool) (clock : ℕ) (run : Run)
+    → HasCome p codes keep clock run → clock ≤ p.cycles
     → is_settled p clock (state p clock) ≡ true → AreFitInTime p run.state.modules
 settled_fit p f keep clock run h early settled = record {
   clock = clock;
@@ -142,7 +147,8 @@ same_later p clock settled =
     }
 
 -- what a run told up to then
-pub told_at : (p : Plan) (keep : Bool) (clock : ℕ) (run : Run) → HasCome p keep (clock + 1) run → NoneBefore p clock → IsSame p clock
+pub told_at : (p : Plan) {codes : List (List BlockCode)} (keep : Bool) (clock : ℕ) (run : Run) → HasCome p codes keep (clock + 1) run
+    → NoneBefore p clock → IsSame p clock
     → IsAt p clock (state p clock) (events_of (history p clock)) run.answers
 told_at p keep clock run h none same = record {
   is_state = refl;
@@ -164,21 +170,21 @@ no_events : (keep : Bool) (p : Plan) → [] ≡ kept keep (events_of (history p 
 no_events true p = ap events_of (sym (history-zero p))
 no_events false p = refl
 
-pub first_come : (p : Plan) (keep : Bool) (run : Run) → run.state ≡ opening p → AreFit p 0 run.state.modules
+pub first_come : (p : Plan) {codes : List (List BlockCode)} (keep : Bool) (run : Run) → run.state ≡ opening p → AreFit p 0 run.state.modules
     → run.seats ≡ replicate (length p.design.modules) no_seat → run.answers ≡ replicate (length p.design.modules) []
-    → run.round.traffic ≡ record { pops = []; pushes = [] } → run.round.events ≡ [] → HasCome p keep 0 run
-first_come p keep run is fit seats answers none quiet =
+    → run.round.traffic ≡ record { pops = []; pushes = [] } → run.round.events ≡ [] → HasCome p codes keep 0 run
+first_come p {codes} keep run is fit seats answers none quiet =
     let st : run.state ≡ state p 0 = is ∙ sym (first_state p) in
     let count = length p.design.modules in record {
       seated = record {
         state_count = fit.count;
         seat_count = ap length seats ∙ length-replicate count no_seat;
-        each = λ i l. subst (IsSeated p 0 i (get_or run.state.modules i nobody))
+        each = λ i l. subst (IsSeated p codes 0 i (get_or run.state.modules i nobody))
             (sym (ap (λ (all : List Seat). get_or all i no_seat) seats ∙ get_or-replicate count i no_seat no_seat l)) (record {
               standing = ap (λ (s : ClockState). get_or s.modules i nobody) st;
               quiet = λ n less. absurd (omega arith);
               young = (fit.each i (omega (arith, fit.count))).young;
-              known = record { noted = λ e. cc; requests = λ e. cc };
+              known = record { noted = λ e d. cc; requests = λ e. cc };
             });
       };
       holding = ap (λ (s : ClockState). s.contents) st;

@@ -13,6 +13,7 @@ use Rattle.lockstep_defs.proofs.{Agrees.state_at-suc, Agrees.not_ended, Resting.
 use Rattle.block_schedule.specs.{Schedules.KeepsLimits, Work.StandsIn, Work.IsNextDue}
 use Rattle.module_move.specs.{Moves.ticked_to, Moves.gone_on, Sound.IsStateSound}
 use Rattle.module_interp.proofs.Idle.{IsIdle, skip_on, never_rests}
+use Rattle.block_code.specs.declared.code.BlockCode.{BlockCode}
 use Rattle.clock_machine.specs.{declared.seat.Seat.Seat, Clocks.does_move}
 use Rattle.clock_machine.specs.Seats.{asleep, IsKnown, IsSeated, IsQuiet, FallsAsleep}
 use Rattle.clock_machine.proofs.Moving.{moves_by_stalls}
@@ -55,20 +56,23 @@ quiet_move p clock i h e =
 -- ---- asleep
 
 -- a module that is awake is in its state
-pub awake : (p : Plan) (clock i : ℕ) (s : ModuleState) (seat : Seat) → IsSeated p clock i s seat → seat.wakes ≤ clock
+pub awake : (p : Plan) {codes : List (List BlockCode)} (clock i : ℕ) (s : ModuleState) (seat : Seat) → IsSeated p codes clock i s seat
+    → seat.wakes ≤ clock
     → s ≡ state_at p clock i
 awake p clock i s seat h l =
     let none : asleep clock seat ≡ 0 = omega arith in
     h.standing ∙ ap (λ (n : ℕ). skip p i n (state_at p clock i)) none
 
 -- a module that sleeps moves, and does nothing
-pub sleeping : (p : Plan) (clock i : ℕ) (s : ModuleState) (seat : Seat) → i < length p.design.modules → IsSeated p clock i s seat
+pub sleeping : (p : Plan) {codes : List (List BlockCode)} (clock i : ℕ) (s : ModuleState) (seat : Seat) → i < length p.design.modules
+    → IsSeated p codes clock i s seat
     → clock < seat.wakes → IsQuiet p clock i
 sleeping p clock i s seat h is l = quiet_move p clock i h (is.quiet 0 (omega arith))
 
 -- and sleeps on
-pub sleeps_on : (p : Plan) (clock i : ℕ) (s : ModuleState) (seat : Seat) → i < length p.design.modules → IsSeated p clock i s seat
-    → clock < seat.wakes → IsSeated p (clock + 1) i s seat
+pub sleeps_on : (p : Plan) {codes : List (List BlockCode)} (clock i : ℕ) (s : ModuleState) (seat : Seat) → i < length p.design.modules
+    → IsSeated p codes clock i s seat
+    → clock < seat.wakes → IsSeated p codes (clock + 1) i s seat
 sleeps_on p clock i s seat h is l =
     let n = asleep (clock + 1) seat in
     let one : asleep clock seat ≡ suc n = omega arith in
@@ -86,8 +90,9 @@ sleeps_on p clock i s seat h is l =
 -- ---- awake
 
 -- a module that stays
-pub stays : (p : Plan) (clock i : ℕ) (s : ModuleState) (seat : Seat) → i < length p.design.modules → IsSeated p clock i s seat
-    → seat.wakes ≤ clock → does_move p clock i ≡ false → IsSeated p (clock + 1) i s seat
+pub stays : (p : Plan) {codes : List (List BlockCode)} (clock i : ℕ) (s : ModuleState) (seat : Seat) → i < length p.design.modules
+    → IsSeated p codes clock i s seat
+    → seat.wakes ≤ clock → does_move p clock i ≡ false → IsSeated p codes (clock + 1) i s seat
 stays p clock i s seat h is l still =
     let none : asleep (clock + 1) seat ≡ 0 = omega arith in record {
       standing = awake p clock i s seat is l
@@ -98,12 +103,13 @@ stays p clock i s seat h is l still =
     }
 
 -- where nothing is known
-nothing_known : (p : Plan) (m : ℕ × ModuleState) (seat : Seat) → seat.known ≡ false → IsKnown p m seat
-nothing_known p m seat e = record { noted = λ k. cc; requests = λ k. cc }
+nothing_known : (p : Plan) {codes : List (List BlockCode)} (m : ℕ × ModuleState) (seat : Seat) → seat.known ≡ false → IsKnown p codes m seat
+nothing_known p m seat e = record { noted = λ k d. cc; requests = λ k. cc }
 
 -- a module that moved
-pub has_moved : (p : Plan) (clock i : ℕ) (s : ModuleState) (seat : Seat) → seat.wakes ≤ clock → seat.known ≡ false
-    → s ≡ state_at p (clock + 1) i → s.control.clock ≤ clock + 1 → IsSeated p (clock + 1) i s seat
+pub has_moved : (p : Plan) {codes : List (List BlockCode)} (clock i : ℕ) (s : ModuleState) (seat : Seat) → seat.wakes ≤ clock
+    → seat.known ≡ false
+    → s ≡ state_at p (clock + 1) i → s.control.clock ≤ clock + 1 → IsSeated p codes (clock + 1) i s seat
 has_moved p clock i s seat l unknown is young =
     let none : asleep (clock + 1) seat ≡ 0 = omega arith in record {
       standing = is ∙ ap (λ (n : ℕ). skip p i n (state_at p (clock + 1) i)) (sym none);
@@ -113,8 +119,9 @@ has_moved p clock i s seat l unknown is young =
     }
 
 -- what is known of a module may change
-pub reseated : (p : Plan) (clock i : ℕ) (s : ModuleState) (seat next : Seat) → IsSeated p clock i s seat → next.wakes ≡ seat.wakes
-    → IsKnown p (i, s) next → IsSeated p clock i s next
+pub reseated : (p : Plan) {codes : List (List BlockCode)} (clock i : ℕ) (s : ModuleState) (seat next : Seat)
+    → IsSeated p codes clock i s seat → next.wakes ≡ seat.wakes
+    → IsKnown p codes (i, s) next → IsSeated p codes clock i s next
 reseated p clock i s seat next is same known =
     let left : asleep clock next ≡ asleep clock seat = ap (λ (n : ℕ). n - clock) same in record {
       standing = is.standing ∙ ap (λ (n : ℕ). skip p i n (state_at p clock i)) (sym left);
@@ -135,22 +142,25 @@ moves_by_requests p clock i contents asked goes holding is running e =
     ∙ sym (moves_by_stalls p clock (state p clock).contents (i, state_at p clock i) running)))
 
 -- what a module that is awake asks, and whether it is over
-pub asked_in : (p : Plan) (clock i : ℕ) (s : ModuleState) (seat : Seat) → IsSeated p clock i s seat → seat.wakes ≤ clock
+pub asked_in : (p : Plan) {codes : List (List BlockCode)} (clock i : ℕ) (s : ModuleState) (seat : Seat)
+    → IsSeated p codes clock i s seat → seat.wakes ≤ clock
     → seat.known ≡ true → seat.requests ≡ requests_of p (i, state_at p clock i)
 asked_in p clock i s seat is l known =
     is.known.requests known ∙ ap (λ (z : ModuleState). requests_of p (i, z)) (awake p clock i s seat is l)
 
-pub runs_in : (p : Plan) (clock i : ℕ) (s : ModuleState) (seat : Seat) (b : Bool) → IsSeated p clock i s seat → seat.wakes ≤ clock
+pub runs_in : (p : Plan) {codes : List (List BlockCode)} (clock i : ℕ) (s : ModuleState) (seat : Seat) (b : Bool)
+    → IsSeated p codes clock i s seat → seat.wakes ≤ clock
     → is_over p.ops s ≡ b → is_over p.ops (state_at p clock i) ≡ b
 runs_in p clock i s seat b is l e = ap (is_over p.ops) (sym (awake p clock i s seat is l)) ∙ e
 
 -- ---- falling asleep
 
 -- a module that goes on to the next clock with work
-pub falls_asleep : (p : Plan) (clock i n : ℕ) (s t : ModuleState) (seat : Seat) → i < length p.design.modules
+pub falls_asleep : (p : Plan) {codes : List (List BlockCode)} (clock i n : ℕ) (s t : ModuleState) (seat : Seat)
+    → i < length p.design.modules
     → s ≡ state_at p clock i → is_over p.ops s ≡ false → IsIdle (module_at p i) s (suc n)
     → t ≡ gone_on (module_at p i) (ticked_to (module_at p i) (s.control.clock + suc n) s) → seat.wakes ≡ clock + suc n
-    → seat.known ≡ false → t.control.clock ≤ clock + suc n → FallsAsleep p clock i t seat
+    → seat.known ≡ false → t.control.clock ≤ clock + suc n → FallsAsleep p codes clock i t seat
 falls_asleep p clock i n s t seat h is running idle at wakes unknown young =
     let goes = never_rests p i s n idle running in
     let quiet = quiet_move p clock i h (ap (rests p i) (sym is) ∙ goes 0 (omega arith)) in
@@ -180,14 +190,16 @@ skip_state p f i h s is (suc n) goes =
     move_state (length p.design.channels) (module_at p i) (f.modules i no_module h) t []
     (skip_state p f i h s is n (λ j l. goes j (omega arith))) (not_ended p.ops t alive)
 
-pub seated_state : (p : Plan) → FitsEngine p → (clock i : ℕ) (s : ModuleState) (seat : Seat) → i < length p.design.modules
-    → IsSeated p clock i s seat → IsStateOf (module_at p i) s
+pub seated_state : (p : Plan) {codes : List (List BlockCode)} → FitsEngine p → (clock i : ℕ) (s : ModuleState) (seat : Seat)
+    → i < length p.design.modules
+    → IsSeated p codes clock i s seat → IsStateOf (module_at p i) s
 seated_state p f clock i s seat h is =
     subst (IsStateOf (module_at p i)) (sym is.standing)
     (skip_state p f i h (state_at p clock i) (history_state p f clock i h) (asleep clock seat) is.quiet)
 
-pub seated_sound : (p : Plan) → FitsEngine p → (clock i : ℕ) (s : ModuleState) (seat : Seat) → i < length p.design.modules
-    → IsSeated p clock i s seat → is_over p.ops s ≡ false → IsStateSound (module_at p i) s
+pub seated_sound : (p : Plan) {codes : List (List BlockCode)} → FitsEngine p → (clock i : ℕ) (s : ModuleState) (seat : Seat)
+    → i < length p.design.modules
+    → IsSeated p codes clock i s seat → is_over p.ops s ≡ false → IsStateSound (module_at p i) s
 seated_sound p f clock i s seat h is running =
     record { state = seated_state p f clock i s seat h is; running = not_ended p.ops s running }
 
@@ -208,8 +220,9 @@ stands_in p i s sound small = record {
         let less = ltb-true clock (newest + ii) (and_parts (nat_lt 0 ii) (nat_lt clock (newest + ii)) g).1 in omega arith
     near false ii clock newest e g = cc
 
-pub seated_stands : (p : Plan) → FitsEngine p → (clock i : ℕ) (s : ModuleState) (seat : Seat) → i < length p.design.modules
-    → IsSeated p clock i s seat → is_over p.ops s ≡ false → seat.wakes ≤ clock → clock ≤ p.cycles
+pub seated_stands : (p : Plan) {codes : List (List BlockCode)} → FitsEngine p → (clock i : ℕ) (s : ModuleState) (seat : Seat)
+    → i < length p.design.modules
+    → IsSeated p codes clock i s seat → is_over p.ops s ≡ false → seat.wakes ≤ clock → clock ≤ p.cycles
     → StandsIn (block_of (module_at p i) s) s.control
 seated_stands p f clock i s seat h is running l early =
     let young = is.young in
@@ -232,8 +245,9 @@ next_near b k next limits stands due = by_test k.looping refl
       | inr most ↦ most
     ]
 
-pub next_small : (p : Plan) → FitsEngine p → (clock i : ℕ) (s : ModuleState) (seat : Seat) (next : ℕ) → i < length p.design.modules
-    → IsSeated p clock i s seat → is_over p.ops s ≡ false → seat.wakes ≤ clock → clock ≤ p.cycles
+pub next_small : (p : Plan) {codes : List (List BlockCode)} → FitsEngine p → (clock i : ℕ) (s : ModuleState) (seat : Seat) (next : ℕ)
+    → i < length p.design.modules
+    → IsSeated p codes clock i s seat → is_over p.ops s ≡ false → seat.wakes ≤ clock → clock ≤ p.cycles
     → KeepsLimits (block_of (module_at p i) s) → IsNextDue (block_of (module_at p i) s) s.control next → clock + next ≤ 10 ^ 16
 next_small p f clock i s seat next h is running l early limits due =
     let stands = seated_stands p f clock i s seat h is running l early in

@@ -3,14 +3,14 @@ ghost use Rattle.std.specs.Prelude.{◌≡◌, ◌<◌, ◌≤◌, ◌^◌, IfOk
 ghost use Rattle.flow_design.specs.{StaticRules.FitsEngine, Module.block_of};
 ghost use Rattle.lockstep_defs.specs.{Machine.is_over, Machine.nobody, Machine.requests, Channels.all_ready};
 ghost use Rattle.lockstep_defs.specs.Lockstep.{module_at, moves, state_at};
-ghost use Rattle.block_code.specs.Codes.{IsBlockCodeOf};
-ghost use Rattle.module_move.specs.{Sound.IsStateSound, Moves.notes_of};
-ghost use Rattle.clock_machine.specs.{Parts.AreCodes, Seats.IsKnown, Seats.IsSeated, Clocks.Runs};
+ghost use Rattle.block_code.specs.{declared.code.BlockCode.BlockCode as CodeOf, Codes.IsBlockCodeOf};
+ghost use Rattle.module_move.specs.Sound.{AreNotesOf, IsStateSound};
+ghost use Rattle.clock_machine.specs.{Parts.AreCodes, Seats.code_of, Seats.IsKnown, Seats.IsSeated, Clocks.Runs};
 
 use crate::channels::any_stalls_ever;
 use crate::seat::Seat;
 use crate::standing::{Compiled, Standing};
-use block_code::{BlockCode, Noted};
+use block_code::{BlockCode, Notes};
 use flow_design::{ClockState, Module, ModuleState, Plan, Request};
 use flow_word::{List, OutOfMemory, Words};
 use module_move::{is_over, note};
@@ -39,22 +39,23 @@ pub fn code_at<'a>(of: &Compiled<'a>, i: usize, state: &ModuleState) -> &'a Bloc
     requires codes { AreCodes of.now.plan.now of.now.codes.now }
     requires within { i < length of.now.plan.now.design.modules }
     requires block { state.now.control.block < length (module_at of.now.plan.now i).blocks }
-    ensures { IsBlockCodeOf of.now.plan.now.design.channels (module_at of.now.plan.now i)
+    ensures own { IsBlockCodeOf of.now.plan.now.design.channels (module_at of.now.plan.now i)
         (block_of (module_at of.now.plan.now i) state.now) result.now }
+    ensures code { (d : CodeOf) → result.now ≡ code_of of.now.codes.now (i, state.now) d }
 {
     let own = &of.codes[i];
     &own.as_slice()[state.control.block as usize]
 }
 
-/// Fills in the notes of the due operations of module i, in this state, and the requests of the FIFO operations among them. After
-/// `OutOfMemory` the lists may have only some of these.
+/// Notes the due operations of module i, in this state, and fills in the requests of the FIFO operations among them. After
+/// `OutOfMemory` the notes mean nothing, and the list may have only some of the requests.
 #[inline(always)]
 pub fn note_one(
     of: &Compiled<'_>,
     i: usize,
     state: &ModuleState,
     words: &mut Words,
-    noted: &mut List<Noted>,
+    notes: &mut Notes,
     asked: &mut List<Request>,
 ) -> Result<(), OutOfMemory>
     requires fits { FitsEngine of.now.plan.now }
@@ -62,7 +63,8 @@ pub fn note_one(
     requires within { i < length of.now.plan.now.design.modules }
     requires sound { IsStateSound (module_at of.now.plan.now i) state.now }
     requires small { state.now.control.clock < 2 ^ 60 }
-    ensures noted { OnOk result (noted.new ≡ notes_of (module_at of.now.plan.now i) state.now) }
+    ensures noted { OnOk result ((d : CodeOf)
+        → AreNotesOf (module_at of.now.plan.now i) state.now (code_of of.now.codes.now (i, state.now) d) notes.new) }
     ensures asked { OnOk result (asked.new ≡ requests of.now.plan.now.design.channels (module_at of.now.plan.now i) state.now) }
 {
     note(
@@ -70,7 +72,7 @@ pub fn note_one(
         code_at(of, i, state),
         state,
         words,
-        noted,
+        notes,
         asked,
     )?;
     Ok(())
@@ -91,13 +93,13 @@ pub fn note_seat(
     requires within { i < length of.now.plan.now.design.modules }
     requires sound { IsStateSound (module_at of.now.plan.now i) state.now }
     requires small { state.now.control.clock < 2 ^ 60 }
-    requires known { IsKnown of.now.plan.now (i, state.now) seat.old }
+    requires known { IsKnown of.now.plan.now of.now.codes.now (i, state.now) seat.old }
     ensures all { OnOk result (seat.new.known ≡ true) }
-    ensures known { OnOk result (IsKnown of.now.plan.now (i, state.now) seat.new) }
+    ensures known { OnOk result (IsKnown of.now.plan.now of.now.codes.now (i, state.now) seat.new) }
     ensures wakes { seat.new.wakes ≡ seat.old.wakes }
 {
     if !seat.known {
-        note_one(of, i, state, words, &mut seat.noted, &mut seat.requests)?;
+        note_one(of, i, state, words, &mut seat.notes, &mut seat.requests)?;
         seat.known = true;
     }
     Ok(())
@@ -113,10 +115,10 @@ pub fn would_move(
 ) -> Result<bool, OutOfMemory>
     requires runs { Runs at.now.of.now.plan.now at.now.of.now.codes.now at.now.clock at.now.contents.now }
     requires within { i < length at.now.of.now.plan.now.design.modules }
-    requires seated { IsSeated at.now.of.now.plan.now at.now.clock i state.now seat.old }
+    requires seated { IsSeated at.now.of.now.plan.now at.now.of.now.codes.now at.now.clock i state.now seat.old }
     ensures moving { IfOk result (λ moving. moving ≡ moves at.now.of.now.plan.now 0 (all_ready at.now.contents.now)
         (i, state_at at.now.of.now.plan.now at.now.clock i)) }
-    ensures seated { OnOk result (IsSeated at.now.of.now.plan.now at.now.clock i state.now seat.new) }
+    ensures seated { OnOk result (IsSeated at.now.of.now.plan.now at.now.of.now.codes.now at.now.clock i state.now seat.new) }
 {
     if at.clock < seat.wakes {
         return Ok(true);

@@ -11,7 +11,7 @@ ghost use Rattle.clock_machine.specs.{Parts.AreFitInTime, Parts.AreCodes, Parts.
 use crate::asking::{note_one, state_at};
 use crate::channels::stalls_ever;
 use crate::standing::Compiled;
-use block_code::Noted;
+use block_code::Notes;
 use flow_design::{
     ChannelKind, ClockState, Element, EventLine, Held, ModuleState, Plan, Report, Request, Verdict,
 };
@@ -32,7 +32,7 @@ pub struct Told {
 #[derive(Drop)]
 struct Room {
     /// The notes of the due operations, in commit order.
-    noted: List<Noted>,
+    notes: Notes,
     /// The requests of the due FIFO operations, in commit order.
     requests: List<Request>,
     /// Memory for the results of expressions.
@@ -43,7 +43,7 @@ impl Room {
     /// Empty lists, which take no memory.
     fn new(alloc: Global) -> Room {
         Room {
-            noted: List::new(alloc),
+            notes: Notes::new(alloc),
             requests: List::new(alloc),
             words: List::new(alloc),
         }
@@ -127,7 +127,7 @@ fn hold_one(
         i,
         module,
         &mut room.words,
-        &mut room.noted,
+        &mut room.notes,
         &mut room.requests,
     )?;
     let contents = state.contents.as_slice();

@@ -1,8 +1,9 @@
 //! The whole run, clock by clock.
-ghost use Rattle.std.specs.Prelude.{◌≡◌, ◌+◌, ◌<◌, ◌≤◌, Bool, IfOk, OnOk};
+ghost use Rattle.std.specs.Prelude.{◌≡◌, ◌+◌, ◌<◌, ◌≤◌, List as Items, Bool, IfOk, OnOk};
 ghost use Rattle.flow_design.specs.{StaticRules.FitsEngine, declared.report.Verdict.TheVariants.Cycles};
 ghost use Rattle.flow_design.specs.declared.state.ClockState.{ClockState as StateOf};
 ghost use Rattle.lockstep_defs.specs.{Lockstep.state, Verdict.some_moves, Verdict.is_settled, Verdict.settled_verdict, Report.report};
+ghost use Rattle.block_code.specs.declared.code.BlockCode.{BlockCode as CodeOf};
 ghost use Rattle.clock_machine.specs.{Parts.kept, Parts.report_from, Parts.AreCodes, Clocks.Stands, Runs.HasCome};
 
 use crate::contents::{pop_all, push_all};
@@ -32,7 +33,7 @@ pub struct Run {
 /// A run at clock 0.
 fn open_run(alloc: Global, plan: &Plan) -> Result<Run, OutOfMemory>
     requires { FitsEngine plan.now }
-    ensures { (keep : Bool) → IfOk result (HasCome plan.now keep 0) }
+    ensures { (codes : Items (Items CodeOf)) (keep : Bool) → IfOk result (HasCome plan.now codes keep 0) }
 {
     let modules = plan.design.modules.len();
     Ok(Run {
@@ -55,10 +56,10 @@ fn step(
     requires fits { FitsEngine of.now.plan.now }
     requires codes { AreCodes of.now.plan.now of.now.codes.now }
     requires early { clock < of.now.plan.now.cycles }
-    requires come { HasCome of.now.plan.now keep clock run.old }
+    requires come { HasCome of.now.plan.now of.now.codes.now keep clock run.old }
     ensures moving { IfOk result (λ moving. moving
         ≡ some_moves of.now.plan.now clock (state of.now.plan.now clock).contents (state of.now.plan.now clock)) }
-    ensures come { OnOk result (HasCome of.now.plan.now keep (clock + 1) run.new) }
+    ensures come { OnOk result (HasCome of.now.plan.now of.now.codes.now keep (clock + 1) run.new) }
 {
     let at = Standing {
         alloc,
@@ -99,9 +100,9 @@ fn settles(
     requires fits { FitsEngine of.now.plan.now }
     requires codes { AreCodes of.now.plan.now of.now.codes.now }
     requires early { clock ≤ of.now.plan.now.cycles }
-    requires come { HasCome of.now.plan.now keep clock run.old }
+    requires come { HasCome of.now.plan.now of.now.codes.now keep clock run.old }
     ensures settled { IfOk result (λ settled. settled ≡ is_settled of.now.plan.now clock (state of.now.plan.now clock)) }
-    ensures come { OnOk result (HasCome of.now.plan.now keep clock run.new) }
+    ensures come { OnOk result (HasCome of.now.plan.now of.now.codes.now keep clock run.new) }
 {
     let at = Standing {
         alloc,
@@ -128,9 +129,9 @@ fn go_on(
     requires fits { FitsEngine of.now.plan.now }
     requires codes { AreCodes of.now.plan.now of.now.codes.now }
     requires early { clock < of.now.plan.now.cycles }
-    requires come { HasCome of.now.plan.now keep clock run.old }
+    requires come { HasCome of.now.plan.now of.now.codes.now keep clock run.old }
     ensures settled { IfOk result (λ settled. settled ≡ is_settled of.now.plan.now clock (state of.now.plan.now clock)) }
-    ensures come { OnOk result (HasCome of.now.plan.now keep (clock + 1) run.new) }
+    ensures come { OnOk result (HasCome of.now.plan.now of.now.codes.now keep (clock + 1) run.new) }
 {
     if step(alloc, of, keep, clock, run)? {
         return Ok(false);

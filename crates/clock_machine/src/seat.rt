@@ -2,7 +2,7 @@
 ghost use Rattle.std.specs.Prelude.{◌≡◌, [], IfOk, replicate};
 ghost use Rattle.clock_machine.specs.Seats.{no_seat};
 
-use block_code::Noted;
+use block_code::Notes;
 use flow_design::{EventLine, Reply, Request};
 use flow_word::{List, OutOfMemory, Words};
 use std::alloc::Global;
@@ -23,8 +23,8 @@ pub struct Seat {
     pub known: bool,
     /// The place, among the requests, of the one on which the module stalled. It is tried first; the answer does not depend on it.
     pub place: u64,
-    /// The notes of the due operations, in commit order.
-    pub noted: List<Noted>,
+    /// The notes of the due operations.
+    pub notes: Notes,
     /// The requests of the due FIFO operations, in commit order.
     pub requests: List<Request>,
 }
@@ -59,7 +59,7 @@ impl Seat {
             wakes: 0,
             known: false,
             place: 0,
-            noted: List::new(alloc),
+            notes: Notes::new(alloc),
             requests: List::new(alloc),
         }
     }

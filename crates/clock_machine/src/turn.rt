@@ -79,12 +79,12 @@ fn act(
 ) -> Result<bool, OutOfMemory>
     requires runs { Runs at.now.of.now.plan.now at.now.of.now.codes.now at.now.clock at.now.contents.now }
     requires within { i < length at.now.of.now.plan.now.design.modules }
-    requires seated { IsSeated at.now.of.now.plan.now at.now.clock i state.old seat.old }
+    requires seated { IsSeated at.now.of.now.plan.now at.now.of.now.codes.now at.now.clock i state.old seat.old }
     requires awake { seat.old.wakes ≤ at.now.clock }
     requires running { is_over at.now.of.now.plan.now.ops state.old ≡ false }
     requires known { seat.old.known ≡ true }
     ensures moving { IfOk result (λ moving. moving ≡ does_move at.now.of.now.plan.now at.now.clock i) }
-    ensures seated { OnOk result (IsSeated at.now.of.now.plan.now (at.now.clock + 1) i state.new seat.new) }
+    ensures seated { OnOk result (IsSeated at.now.of.now.plan.now at.now.of.now.codes.now (at.now.clock + 1) i state.new seat.new) }
     ensures done { OnOk result (HasDone at.now.keep round.old round.new (step_at at.now.of.now.plan.now at.now.clock i)) }
     ensures answers { OnOk result (answers.new ≡ answers.old ++ outcomes (step_at at.now.of.now.plan.now at.now.clock i)) }
 {
@@ -101,14 +101,13 @@ fn act(
     }
     tell_kept_events(at, i, requests, &mut round.events)?;
     let code = code_at(at.of, i, state);
-    let noted = seat.noted.as_slice();
     let replies = round.replies.as_slice();
     make_move(
         at.alloc,
         module_at(at.of.plan, i),
         code,
         state,
-        noted,
+        &seat.notes,
         replies,
     )?;
     seat.known = false;
@@ -119,7 +118,7 @@ fn act(
 #[inline(always)]
 fn surely_stays(at: &Standing<'_>, i: usize, state: &ModuleState, seat: &Seat) -> bool
     requires runs { Runs at.now.of.now.plan.now at.now.of.now.codes.now at.now.clock at.now.contents.now }
-    requires seated { IsSeated at.now.of.now.plan.now at.now.clock i state.now seat.now }
+    requires seated { IsSeated at.now.of.now.plan.now at.now.of.now.codes.now at.now.clock i state.now seat.now }
     requires awake { seat.now.wakes ≤ at.now.clock }
     ensures stays { result ≡ true → does_move at.now.of.now.plan.now at.now.clock i ≡ false }
     ensures running { result ≡ false → is_over at.now.of.now.plan.now.ops state.now ≡ false }
@@ -140,15 +139,15 @@ fn fall_asleep(
 ) -> Result<bool, OutOfMemory>
     requires runs { Runs at.now.of.now.plan.now at.now.of.now.codes.now at.now.clock at.now.contents.now }
     requires within { i < length at.now.of.now.plan.now.design.modules }
-    requires seated { IsSeated at.now.of.now.plan.now at.now.clock i state.old seat.old }
+    requires seated { IsSeated at.now.of.now.plan.now at.now.of.now.codes.now at.now.clock i state.old seat.old }
     requires awake { seat.old.wakes ≤ at.now.clock }
     requires running { is_over at.now.of.now.plan.now.ops state.old ≡ false }
     ensures asleep { IfOk result (λ asleep. asleep ≡ true
-        → FallsAsleep at.now.of.now.plan.now at.now.clock i state.new seat.new) }
+        → FallsAsleep at.now.of.now.plan.now at.now.of.now.codes.now at.now.clock i state.new seat.new) }
     ensures state { IfOk result (λ asleep. asleep ≡ false → state.new ≡ state.old) }
     ensures seat { IfOk result (λ asleep. asleep ≡ false → seat.new ≡ seat.old) }
 {
-    if seat.noted.len() > 0 {
+    if seat.notes.count > 0 {
         return Ok(false);
     }
     let now = state.control.clock;
@@ -176,9 +175,9 @@ pub fn take_turn(
 ) -> Result<bool, OutOfMemory>
     requires runs { Runs at.now.of.now.plan.now at.now.of.now.codes.now at.now.clock at.now.contents.now }
     requires within { i < length at.now.of.now.plan.now.design.modules }
-    requires seated { IsSeated at.now.of.now.plan.now at.now.clock i state.old seat.old }
+    requires seated { IsSeated at.now.of.now.plan.now at.now.of.now.codes.now at.now.clock i state.old seat.old }
     ensures moving { IfOk result (λ moving. moving ≡ does_move at.now.of.now.plan.now at.now.clock i) }
-    ensures seated { OnOk result (IsSeated at.now.of.now.plan.now (at.now.clock + 1) i state.new seat.new) }
+    ensures seated { OnOk result (IsSeated at.now.of.now.plan.now at.now.of.now.codes.now (at.now.clock + 1) i state.new seat.new) }
     ensures done { OnOk result (HasDone at.now.keep round.old round.new (step_at at.now.of.now.plan.now at.now.clock i)) }
     ensures answers { OnOk result (answers.new ≡ answers.old ++ outcomes (step_at at.now.of.now.plan.now at.now.clock i)) }
 {

@@ -20,11 +20,11 @@ pub fn take_turns(
     answers: &mut [Flags],
 ) -> Result<bool, OutOfMemory>
     requires runs { Runs at.now.of.now.plan.now at.now.of.now.codes.now at.now.clock at.now.contents.now }
-    requires seated { AreSeated at.now.of.now.plan.now at.now.clock states.old seats.old }
+    requires seated { AreSeated at.now.of.now.plan.now at.now.of.now.codes.now at.now.clock states.old seats.old }
     requires answers { length answers.old ≡ length at.now.of.now.plan.now.design.modules }
     ensures moving { IfOk result (λ moving. moving
         ≡ some_moves at.now.of.now.plan.now at.now.clock at.now.contents.now (state at.now.of.now.plan.now at.now.clock)) }
-    ensures seated { OnOk result (AreSeated at.now.of.now.plan.now (at.now.clock + 1) states.new seats.new) }
+    ensures seated { OnOk result (AreSeated at.now.of.now.plan.now at.now.of.now.codes.now (at.now.clock + 1) states.new seats.new) }
     ensures done { OnOk result (HasDone at.now.keep round.old round.new
         (steps_in at.now.of.now.plan.now at.now.clock (state at.now.of.now.plan.now at.now.clock))) }
     ensures answers { OnOk result ((i : ℕ) → i < length at.now.of.now.plan.now.design.modules
@@ -48,10 +48,10 @@ pub fn is_settled(
     words: &mut Words,
 ) -> Result<bool, OutOfMemory>
     requires runs { Runs at.now.of.now.plan.now at.now.of.now.codes.now at.now.clock at.now.contents.now }
-    requires seated { AreSeated at.now.of.now.plan.now at.now.clock states.now seats.old }
+    requires seated { AreSeated at.now.of.now.plan.now at.now.of.now.codes.now at.now.clock states.now seats.old }
     ensures settled { IfOk result (λ settled. settled
         ≡ is_settled at.now.of.now.plan.now at.now.clock (state at.now.of.now.plan.now at.now.clock)) }
-    ensures seated { OnOk result (AreSeated at.now.of.now.plan.now at.now.clock states.now seats.new) }
+    ensures seated { OnOk result (AreSeated at.now.of.now.plan.now at.now.of.now.codes.now at.now.clock states.now seats.new) }
 {
     for (i, state) in states.iter().enumerate() {
         if would_move(at, i, state, &mut seats[i], words)? {

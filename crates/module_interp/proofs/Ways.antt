@@ -7,7 +7,7 @@ use Rattle.flow_design.specs.{declared.state.Request.Request, declared.state.Mod
 use Rattle.lockstep_defs.specs.Machine.{move, requests, is_over}
 use Rattle.lockstep_defs.specs.{Lockstep.module_at, Lockstep.requests_of, Quiet.skip, Quiet.rests, States.IsStateOf}
 use Rattle.module_move.specs.{Moves.ticked_to, Moves.gone_on, Sound.IsStateSound}
-use Rattle.block_code.specs.{declared.code.BlockCode.BlockCode, declared.noted.Noted.Noted, Codes.IsBlockCodeOf, Codes.AreCodesOf}
+use Rattle.block_code.specs.{declared.code.BlockCode.BlockCode, declared.noted.Notes.Notes, Codes.IsBlockCodeOf, Codes.AreCodesOf}
 use Rattle.block_schedule.specs.Work.{IsNextDue, StandsIn}
 use Rattle.module_interp.specs.{declared.path.Stage.Stage, declared.path.Stage.TheVariants.Begun, declared.path.Stage.TheVariants.Ticked}
 use Rattle.module_interp.specs.{declared.path.Path.Path, Paths.clock_bound, Paths.IsInTime, Paths.after_move, Paths.AsksNothing}
@@ -45,8 +45,8 @@ begun_same x y f begun still state since p i o l =
     leads_still p i o x y l f (at_stage y Begun still ∙ (state ∙ sym (at_stage x Begun begun))) since
     (subst (λ (s : Stage). IsStageSoundBy s y) (sym still) tt)
 
-pub looked_up : (x y : Path) (ns : List Noted) (rs : List Request) (ws : List ℕ) → x.stage ≡ Begun
-    → y ≡ record x { noted = ns; asked = rs; scratch = ws } → KeepsRest x y
+pub looked_up : (x y : Path) (ns : Notes) (rs : List Request) (ws : List ℕ) → x.stage ≡ Begun
+    → y ≡ record x { notes = ns; asked = rs; scratch = ws } → KeepsRest x y
 looked_up x y ns rs ws begun frame =
     begun_same x y
     (record {

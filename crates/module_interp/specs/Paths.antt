@@ -1,5 +1,5 @@
 -- How the program's run stands in a module's own run.
-use Rattle.std.specs.Prelude.{ℕ, ◌≡◌, ◌+◌, ◌-◌, ◌*◌, ◌^◌, ◌<◌, ◌≤◌, if◌then◌else◌, nat_eq, true, false, List, [], length}
+use Rattle.std.specs.Prelude.{ℕ, ◌≡◌, ◌+◌, ◌-◌, ◌*◌, ◌^◌, ◌<◌, ◌≤◌, if◌then◌else◌, nat_eq, true, false, List, [], length, slice_index_or}
 use Rattle.flow_word.specs.{declared.access.Port.Port, declared.access.Side.Side}
 use Rattle.flow_word.specs.declared.access.Side.TheVariants.{Pop, Push}
 use Rattle.flow_design.specs.declared.limits.TheConstants.{BLOCK_CLOCKS, LONG_BLOCK_OPERATIONS}
@@ -7,8 +7,8 @@ use Rattle.flow_design.specs.{declared.design.Channel.Channel, declared.design.M
 use Rattle.flow_design.specs.{declared.state.ModuleState.ModuleState, StaticRules.FitsEngine, StaticRules.longest_block, StaticRules.uses}
 use Rattle.lockstep_defs.specs.{Machine.requests, Machine.is_over, Report.queries, Lockstep.module_at, OwnRun.Own, States.IsStateOf}
 use Rattle.lockstep_defs.specs.{Channels.Exchange, Channels.moved_by, Channels.moved_value, Quiet.quiet, Quiet.skip, Quiet.clocks_left}
-use Rattle.module_move.specs.{Moves.notes_of, Moves.gone_on, Sound.IsStateSound}
-use Rattle.block_code.specs.Codes.{AreCodesOf}
+use Rattle.module_move.specs.{Moves.gone_on, Sound.AreNotesOf, Sound.IsStateSound}
+use Rattle.block_code.specs.{declared.code.BlockCode.BlockCode, Codes.AreCodesOf}
 use Rattle.module_interp.specs.{declared.path.Stage.Stage, declared.path.Path.Path, declared.counts.Counts.Counts}
 use Rattle.module_interp.specs.{declared.tally.Tally.Tally, Counts.AreCounts, Counts.HasCount, Counts.count_at}
 use Rattle.module_interp.specs.declared.path.Stage.TheVariants.{Begun, Asked, Ticked}
@@ -53,10 +53,14 @@ HasAsked x = (channels : List Channel) → AreCodesOf channels x.of x.codes → 
 abbrev pub AsksNothing : Path → Type 0
 AsksNothing x = (channels : List Channel) → AreCodesOf channels x.of x.codes → requests channels x.of x.state ≡ []
 
+-- the path has the notes of what is due, by the code of the block in which it stands
+abbrev pub HasNoted : Path → Type 0
+HasNoted x = (d : BlockCode) → AreNotesOf x.of x.state (slice_index_or x.codes x.state.control.block d) x.notes
+
 -- the path can commit on replies: its state is sound, and it has the notes of what is due
 pub record CanAnswer (x : Path) : Type 0 where
   pub state : IsStateSound x.of x.state
-  pub noted : x.noted ≡ notes_of x.of x.state
+  pub noted : HasNoted x
   pub clock : x.state.control.clock ≤ clock_bound
   pub count : x.state.count < 2 ^ 32
 
@@ -117,7 +121,7 @@ clocks_to_end x =
 pub record IsAtStep (x : Path) : Type 0 where
   pub begun : x.stage ≡ Begun
   pub alive : is_over x.limit x.state ≡ false
-  pub noted : x.noted ≡ notes_of x.of x.state
+  pub noted : HasNoted x
   pub asked : HasAsked x
   pub some : 0 < length x.asked
 

@@ -5,7 +5,7 @@ ghost use Rattle.module_interp.specs.{declared.path.Stage.TheVariants.Begun, Own
 ghost use Rattle.module_interp.specs.Paths.{IsPath, IsPathOf, LeadsTo};
 
 use crate::path::{Path, Stage};
-use block_code::codes_of;
+use block_code::{Notes, codes_of};
 use flow_design::Plan;
 use flow_word::{List, OutOfMemory, TryCopy};
 use module_move::open;
@@ -29,7 +29,7 @@ pub fn first_path(alloc: Global, plan: &Plan, number: u32) -> Result<Path, OutOf
         state,
         stage: Stage::Begun,
         since: 0,
-        noted: List::new(alloc),
+        notes: Notes::new(alloc),
         asked: List::new(alloc),
         scratch: List::new(alloc),
     })

@@ -1,5 +1,5 @@
 //! How far a module's own run has come.
-use block_code::{BlockCode, Noted};
+use block_code::{BlockCode, Notes};
 use flow_design::{Module, ModuleState, Request};
 use flow_word::{List, Words};
 use std::alloc::Global;
@@ -29,7 +29,7 @@ pub struct Path {
     /// How many local clocks the current one is after the last step, or after local clock 0 where there was no step.
     pub since: u64,
     /// The notes of the due operations of the current local clock.
-    pub noted: List<Noted>,
+    pub notes: Notes,
     /// The requests of the FIFO operations that are due in the current local clock.
     pub asked: List<Request>,
     /// Memory for the results of expressions. Its words mean nothing.

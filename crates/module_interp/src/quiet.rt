@@ -2,10 +2,11 @@
 ghost use Rattle.std.specs.Prelude.{◌≡◌, ◌≢◌, ℕ, ◌<◌, ◌≤◌, ◌^◌, ◌⊎◌, [], true, false, IfOk, OnOk, OnErr};
 ghost use Rattle.flow_design.specs.Module.{block_of};
 ghost use Rattle.lockstep_defs.specs.Machine.{move, is_over};
-ghost use Rattle.module_move.specs.Moves.{notes_of, ticked_to, gone_on};
+ghost use Rattle.module_move.specs.Moves.{ticked_to, gone_on};
 ghost use Rattle.block_schedule.specs.Work.{IsNextDue};
 ghost use Rattle.module_interp.specs.declared.path.Stage.TheVariants.{Begun, Asked, Ticked};
-ghost use Rattle.module_interp.specs.Paths.{after_move, HasAsked, AsksNothing, CanAnswer, IsPath, KeepsRest, clocks_to_end, IsAtStep};
+ghost use Rattle.module_interp.specs.Paths.{after_move, HasAsked, HasNoted, AsksNothing, CanAnswer, IsPath, KeepsRest, clocks_to_end};
+ghost use Rattle.module_interp.specs.Paths.{IsAtStep};
 ghost use Rattle.module_interp.specs.Paths.{IsAtEnd};
 
 use crate::path::{Path, Stage};
@@ -99,13 +100,13 @@ impl Path {
         requires path { IsPath self.old }
         requires begun { self.old.stage ≡ Begun }
         requires alive { is_over self.old.limit self.old.state ≡ false }
-        requires noted { self.old.noted ≡ notes_of self.old.of self.old.state }
+        requires noted { HasNoted self.old }
         requires none { AsksNothing self.old }
         ensures kept { KeepsRest self.old self.new }
         ensures unasked { self.new.stage ≢ Asked }
         ensures nearer { clocks_to_end self.new < clocks_to_end self.old }
     {
-        if self.noted.len() == 0 {
+        if self.notes.count == 0 {
             let code = &self.codes.as_slice()[self.state.control.block as usize];
             let next = code.schedule.next_due(&self.state.control);
             if next > self.state.control.clock {
@@ -140,8 +141,8 @@ impl Path {
         requires begun { self.old.stage ≡ Begun }
         requires alive { is_over self.old.limit self.old.state ≡ false }
         ensures frame { self.new
-            ≡ record self.old { noted = self.new.noted; asked = self.new.asked; scratch = self.new.scratch } }
-        ensures noted { OnOk result (self.new.noted ≡ notes_of self.old.of self.old.state) }
+            ≡ record self.old { notes = self.new.notes; asked = self.new.asked; scratch = self.new.scratch } }
+        ensures noted { OnOk result (HasNoted self.new) }
         ensures asked { OnOk result (HasAsked self.new) }
     {
         let code = &self.codes.as_slice()[self.state.control.block as usize];
@@ -150,7 +151,7 @@ impl Path {
             code,
             &self.state,
             &mut self.scratch,
-            &mut self.noted,
+            &mut self.notes,
             &mut self.asked,
         )?;
         Ok(())
@@ -162,7 +163,7 @@ impl Path {
         requires path { IsPath self.old }
         requires begun { self.old.stage ≡ Begun }
         requires alive { is_over self.old.limit self.old.state ≡ false }
-        requires noted { self.old.noted ≡ notes_of self.old.of self.old.state }
+        requires noted { HasNoted self.old }
         requires none { AsksNothing self.old }
         ensures kept { KeepsRest self.old self.new }
         ensures unasked { self.new.stage ≢ Asked }
@@ -183,7 +184,7 @@ impl Path {
         ensures started { self.new.state.control.newest ≤ self.new.state.control.clock }
     {
         let code = &self.codes.as_slice()[self.state.control.block as usize];
-        commit(code, &mut self.state, self.noted.as_slice(), replies);
+        commit(code, &mut self.state, &self.notes, replies);
         let next = self.state.control.clock + 1;
         tick_to(&self.of, &mut self.state, next);
         self.stage = Stage::Ticked;

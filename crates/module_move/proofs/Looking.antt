@@ -1,13 +1,22 @@
 -- Looking up the due operations, slot by slot.
-use Rattle.std.proofs.Common.{◌≡◌, refl, sym, ◌∙◌, ap, ap₂, ℕ, map, ◌+◌, ◌-◌, ◌<◌, Bool, true, false, cond, List, [], ◌∷◌, ◌++◌, length}
-use Rattle.std.proofs.Common.{take, get_or, append_assoc}
-use Rattle.std.proofs.{lemmas.List.map-append, lemmas.List.map_push, lemmas.List.take_more, lemmas.List.Elements.filter-append}
-use Rattle.std.specs.{Prelude.flat_map, Prelude.filter, List.enumerate_from}
+use Rattle.std.proofs.Common.{◌≡◌, refl, sym, ◌∙◌, ap, ap₂, subst, arith, ℕ, suc, map, ◌+◌, ◌-◌, ◌<◌, ◌≤◌, Bool, true, false, cond, List}
+use Rattle.std.proofs.Common.{[], ◌∷◌}
+use Rattle.std.proofs.Common.{◌++◌, length, take, get_or, set, append_assoc, Option, Some, None, inl, inr}
+use Rattle.std.proofs.{lemmas.Bool.cases_lt, lemmas.List.map-append, lemmas.List.map_push, lemmas.List.take_more}
+use Rattle.std.proofs.lemmas.List.{get_or_default, get_or-set_same, get_or-set_other, Elements.filter-append}
+use Rattle.std.specs.Int.{from_bool}
+use Rattle.std.specs.{Prelude.All, Prelude.flat_map, Prelude.filter, Prelude.filter_map, List.cons_option, List.enumerate_from, List.zip}
 use Rattle.flow_design.specs.{declared.design.Block.Block, declared.design.Module.Module, declared.state.Due.Due}
 use Rattle.flow_design.specs.declared.state.ModuleState.{ModuleState}
 use Rattle.flow_design.specs.Module.{block_of, operation_at, interval, live_count, temps_of, passes, ages_down, ages, due_at, due_in, due}
-use Rattle.block_schedule.specs.{declared.tables.Slot.Slot, Schedules.placed, Schedules.due_at_ages}
-use Rattle.module_move.specs.Moves.{passing}
+use Rattle.block_schedule.specs.Schedules.{due_at_ages}
+use Rattle.block_code.specs.{declared.code.Guarded.Guarded, declared.noted.Note.Note, declared.noted.Noted.Noted}
+use Rattle.block_code.specs.Notes.{noted_for, noted_by}
+use Rattle.module_move.specs.Moves.{passing, standing}
+
+-- what holds of all holds of the one that was read
+pub at_place : {X : Type 0} (P : X → Type 0) (xs : List X) {i : ℕ} {x : X} → x ≡ get_or xs i x → i < length xs → All P xs → P x
+at_place P xs {i} {x} read inside all = subst P (sym read) (all i x inside)
 
 passing_one : (b : Block) (s : ModuleState) (place n : ℕ)
     → passing b s ((place, n) ∷ []) ≡ cond (passes s.registers (temps_of s place) (operation_at b n).guard)
@@ -23,28 +32,109 @@ passing_one b s place n = by_test (passes s.registers (temps_of s place) (operat
 pub passing-append : (b : Block) (s : ModuleState) (xs ys : List (ℕ × ℕ)) → passing b s (xs ++ ys) ≡ passing b s xs ++ passing b s ys
 passing-append b s xs ys = rw (filter-append, map-append) refl
 
--- what one operation more gives was added
-pub passing_more : {X : Type 0} (h : List Due → List X) → ((xs ys : List Due) → h (xs ++ ys) ≡ h xs ++ h ys) → (b : Block) (s : ModuleState)
-    (oldest i : ℕ) (t : Slot) (slots : List Slot) (test : Bool) (initial before now : List X) → i < length slots → t ≡ get_or slots i t
-    → test ≡ passes s.registers (temps_of s (t.rank - oldest)) (operation_at b t.op).guard
-    → now ≡ before ++ h (cond test (record { iteration = t.rank - oldest; op = t.op } ∷ []) [])
-    → before ≡ initial ++ h (passing b s (map (placed oldest) (take i slots)))
-    → now ≡ initial ++ h (passing b s (map (placed oldest) (take (i + 1) slots)))
-passing_more {X} h parts b s oldest i t slots test initial before now inside read is added so_far =
-    let place : ℕ = t.rank - oldest in
-    let front : List (ℕ × ℕ) = map (placed oldest) (take i slots) in
-    let more : map (placed oldest) (take (i + 1) slots) ≡ front ++ (place, t.op) ∷ [] =
-    ap (map (placed oldest)) (take_more slots i t inside ∙ ap (λ (u : Slot). take i slots ++ u ∷ []) (sym read))
-    ∙ map_push (placed oldest) (take i slots) t in
-    let one : cond test (record { iteration = place; op = t.op } ∷ []) [] ≡ passing b s ((place, t.op) ∷ []) =
-    ap (λ (q : Bool). cond q (record { iteration = place; op = t.op } ∷ []) []) is ∙ sym (passing_one b s place t.op) in
-    let both : h (passing b s (map (placed oldest) (take (i + 1) slots))) ≡ h (passing b s front) ++ h (passing b s ((place, t.op) ∷ [])) =
-    ap h (ap (passing b s) more ∙ passing-append b s front ((place, t.op) ∷ []))
-    ∙ parts (passing b s front) (passing b s ((place, t.op) ∷ [])) in
-    added ∙ (ap (λ (xs : List X). xs ++ h (cond test (record { iteration = place; op = t.op } ∷ []) [])) so_far
-    ∙ (ap (λ (ds : List Due). (initial ++ h (passing b s front)) ++ h ds) one
-    ∙ (append_assoc initial (h (passing b s front)) (h (passing b s ((place, t.op) ∷ [])))
-    ∙ ap (λ (xs : List X). initial ++ xs) (sym both))))
+-- one operation more
+pub passing_next : (b : Block) (s : ModuleState) (oldest i : ℕ) (g e : Guarded) (gs : List Guarded) (test : Bool) → i < length gs
+    → g ≡ get_or gs i e → test ≡ passes s.registers (temps_of s (g.slot.rank - oldest)) (operation_at b g.slot.op).guard
+    → passing b s (map (standing oldest) (take (i + 1) gs))
+    ≡ passing b s (map (standing oldest) (take i gs)) ++ cond test (record { iteration = g.slot.rank - oldest; op = g.slot.op } ∷ []) []
+passing_next b s oldest i g e gs test inside read is =
+    let place : ℕ = g.slot.rank - oldest in
+    let front : List (ℕ × ℕ) = map (standing oldest) (take i gs) in
+    let more : map (standing oldest) (take (i + 1) gs) ≡ front ++ (place, g.slot.op) ∷ [] =
+    ap (map (standing oldest)) (take_more gs i e inside ∙ ap (λ (h : Guarded). take i gs ++ h ∷ []) (sym read))
+    ∙ map_push (standing oldest) (take i gs) g in
+    let one : cond test (record { iteration = place; op = g.slot.op } ∷ []) [] ≡ passing b s ((place, g.slot.op) ∷ []) =
+    ap (λ (q : Bool). cond q (record { iteration = place; op = g.slot.op } ∷ []) []) is ∙ sym (passing_one b s place g.slot.op) in
+    ap (passing b s) more ∙ (passing-append b s front ((place, g.slot.op) ∷ [])
+    ∙ ap (λ (ds : List Due). passing b s front ++ ds) (sym one))
+
+-- what it adds, where lists are made of parts
+pub passing_more : {X : Type 0} (h : List Due → List X) → ((xs ys : List Due) → h (xs ++ ys) ≡ h xs ++ h ys)
+    → (front next one : List Due) (initial before now : List X) → next ≡ front ++ one → now ≡ before ++ h one → before ≡ initial ++ h front
+    → now ≡ initial ++ h next
+passing_more {X} h parts front next one initial before now more added so_far =
+    added ∙ (ap (λ (xs : List X). xs ++ h one) so_far
+    ∙ (append_assoc initial (h front) (h one) ∙ ap (λ (xs : List X). initial ++ xs) (sym (ap h more ∙ parts front one))))
+
+-- how many are counted where one is due or not
+pub one_counted : {X : Type 0} (x : X) (due : Bool) → (length (cond due (x ∷ []) []) ≡ from_bool due) × (from_bool due ≤ 1)
+one_counted x true = (refl, omega arith)
+one_counted x false = (refl, omega arith)
+
+-- ---- notes
+
+-- what is noted of an operation that stands here, if it is due
+abbrev pub noted_at : Block → ModuleState → ℕ → Guarded → Option Noted
+noted_at b s oldest g =
+    cond (passes s.registers (temps_of s (g.slot.rank - oldest)) (operation_at b g.slot.op).guard)
+    (Some (noted_for b s (record { iteration = g.slot.rank - oldest; op = g.slot.op }))) None
+
+-- the first of these operations have their notes
+abbrev pub HaveNotes : Block → ModuleState → ℕ → List Guarded → List Note → ℕ → Type 0
+HaveNotes b s oldest gs ns count = (k : ℕ) (g : Guarded) (d : Note) → k < count
+    → noted_by (get_or gs k g, get_or ns k d) ≡ noted_at b s oldest (get_or gs k g)
+
+-- one more has its note
+pub note_more : (b : Block) (s : ModuleState) (oldest i : ℕ) (gs : List Guarded) (ns now : List Note) (g e : Guarded) (n : Note)
+    → now ≡ set ns i n → i < length gs → i < length ns → g ≡ get_or gs i e → noted_by (g, n) ≡ noted_at b s oldest g
+    → HaveNotes b s oldest gs ns i → HaveNotes b s oldest gs now (i + 1)
+note_more b s oldest i gs ns now g e n is inside there read own so_far k h d l = elim (cases_lt k i) [
+  | inl less ↦
+      let same : get_or now k d ≡ get_or ns k d = ap (λ (xs : List Note). get_or xs k d) is
+      ∙ get_or-set_other ns i k n d (λ at. omega arith) in
+      ap (λ (x : Note). noted_by (get_or gs k h, x)) same ∙ so_far k h d less
+  | inr last ↦
+      let here : k ≡ i = omega arith in
+      let item : get_or gs k h ≡ g = ap (λ (j : ℕ). get_or gs j h) here ∙ (get_or_default gs i h e inside ∙ sym read) in
+      let note : get_or now k d ≡ n = ap (λ (xs : List Note). get_or xs k d) is
+      ∙ (ap (λ (j : ℕ). get_or (set ns i n) j d) here ∙ get_or-set_same ns i n d there) in
+      rw (item, note) own
+]
+
+-- the value and the address of an operation that is due
+pub note_is : (b : Block) (s : ModuleState) (oldest : ℕ) (g : Guarded) (n : Note) (test : Bool)
+    → test ≡ passes s.registers (temps_of s (g.slot.rank - oldest)) (operation_at b g.slot.op).guard → n.passes ≡ test
+    → (test ≡ true → n.iteration ≡ g.slot.rank - oldest)
+    → (test ≡ true → n.value ≡ (noted_for b s (record { iteration = g.slot.rank - oldest; op = g.slot.op })).value)
+    → (test ≡ true → n.address ≡ (noted_for b s (record { iteration = g.slot.rank - oldest; op = g.slot.op })).address)
+    → noted_by (g, n) ≡ noted_at b s oldest g
+note_is b s oldest g n true is same iteration value address =
+    rw (same, sym is, iteration refl, value refl, address refl) refl
+note_is b s oldest g n false is same iteration value address = rw (same, sym is) refl
+
+zipped : {X Y Z : Type 0} (f : X × Y → Option Z) (h : X → Option Z) (xs : List X) (ys : List Y) → length xs ≤ length ys
+    → ((k : ℕ) (x : X) (y : Y) → k < length xs → f (get_or xs k x, get_or ys k y) ≡ h (get_or xs k x))
+    → filter_map f (zip xs ys) ≡ filter_map h xs
+zipped f h [] ys short each = refl
+zipped f h (x ∷ xs) [] short each = absurd (omega arith)
+zipped {X} {Y} {Z} f h (x ∷ xs) (y ∷ ys) short each =
+    ap₂ (λ (r : Option Z) (zs : List Z). cons_option r zs) (each 0 x y (omega arith))
+    (zipped f h xs ys (omega arith) (λ k a c l. each (suc k) a c (omega arith)))
+
+noted_passing : (b : Block) (s : ModuleState) (oldest : ℕ) (gs : List Guarded)
+    → filter_map (noted_at b s oldest) gs ≡ map (noted_for b s) (passing b s (map (standing oldest) gs))
+noted_passing b s oldest [] = refl
+noted_passing b s oldest (g ∷ gs) =
+    by_test (passes s.registers (temps_of s (g.slot.rank - oldest)) (operation_at b g.slot.op).guard) (noted_passing b s oldest gs)
+  where
+    by_test : (q : Bool) → filter_map (noted_at b s oldest) gs ≡ map (noted_for b s) (passing b s (map (standing oldest) gs))
+        → cons_option
+        (cond q (Some (noted_for b s (record { iteration = g.slot.rank - oldest; op = g.slot.op }))) None)
+        (filter_map (noted_at b s oldest) gs)
+        ≡ map (noted_for b s) (map {A = ℕ × ℕ} {B = Due} (λ it. record { iteration = it.0; op = it.1 })
+        (cond q (standing oldest g
+        ∷ filter (λ it. passes s.registers (temps_of s it.0) (operation_at b it.1).guard) (map (standing oldest) gs))
+        (filter (λ it. passes s.registers (temps_of s it.0) (operation_at b it.1).guard) (map (standing oldest) gs))))
+    by_test true rest =
+        ap (λ (ns : List Noted). noted_for b s (record { iteration = g.slot.rank - oldest; op = g.slot.op }) ∷ ns) rest
+    by_test false rest = rest
+
+-- all have their notes
+pub all_noted : (b : Block) (s : ModuleState) (oldest count : ℕ) (gs : List Guarded) (ns : List Note) → HaveNotes b s oldest gs ns count
+    → length gs ≤ count → length gs ≤ length ns
+    → filter_map noted_by (zip gs ns) ≡ map (noted_for b s) (passing b s (map (standing oldest) gs))
+all_noted b s oldest count gs ns each all short =
+    zipped noted_by (noted_at b s oldest) gs ns short (λ k g n l. each k g n (omega arith)) ∙ noted_passing b s oldest gs
 
 -- ---- all of them
 

@@ -7,7 +7,7 @@ use Rattle.flow_design.specs.{declared.state.Reply.Reply, Module.block_at, Modul
 use Rattle.lockstep_defs.specs.Machine.{effects, stored, committed, ticked, decided, finished, again_of, started, stopped, move}
 use Rattle.lockstep_defs.proofs.Moves.{same_block, rest_of_move}
 use Rattle.block_code.specs.{declared.noted.Noted.Noted, Notes.noted_for, Notes.effects_by}
-use Rattle.block_code.proofs.Notes.{all_noted}
+use Rattle.block_code.proofs.Enough.{all_noted}
 use Rattle.module_move.specs.Moves.{notes_of, counted, ticked_to, gone_on}
 
 -- the commits by what was noted of the due operations

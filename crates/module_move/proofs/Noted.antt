@@ -1,34 +1,75 @@
 -- What was noted of the due operations of a sound state.
-use Rattle.std.proofs.Common.{◌≡◌, ◌∙◌, sym, ap, subst, arith, ℕ, ◌*◌, ◌<◌, ◌≤◌, List, length, get_or}
-use Rattle.std.proofs.lemmas.List.{get_or-map, length-map}
-use Rattle.std.specs.Prelude.{All}
+use Rattle.std.proofs.Common.{◌≡◌, refl, ◌∙◌, sym, ap, subst, arith, ◌-◌, ◌*◌, ◌≤◌, ◌++◌, ℕ, List, append-nil, drop, length, map, take}
+use Rattle.std.proofs.lemmas.List.{drop-map, drop_all, get_or-map, length-map, take-map, take_all}
+use Rattle.std.proofs.lemmas.Simd.{map-map}
+use Rattle.std.specs.Prelude.{All, filter_map, slice_range}
 use Rattle.flow_design.specs.declared.limits.TheConstants.{LIVE_ITERATIONS, OPERATIONS}
-use Rattle.flow_design.specs.{declared.design.Channel.Channel, declared.design.Module.Module, declared.state.Due.Due}
-use Rattle.flow_design.specs.{declared.state.ModuleState.ModuleState, Module.block_of, Module.due}
-use Rattle.block_code.specs.{declared.code.BlockCode.BlockCode, declared.noted.Noted.Noted, Notes.noted_for}
-use Rattle.module_move.specs.{Moves.notes_of, Sound.CanCommit}
-use Rattle.module_move.proofs.Readiness.{due_sound, few_due}
+use Rattle.flow_design.specs.{declared.design.Block.Block, declared.design.Channel.Channel, declared.design.Module.Module}
+use Rattle.flow_design.specs.{declared.state.ModuleState.ModuleState, Module.block_of}
+use Rattle.flow_design.specs.Module.{ages_down, interval, live_count, due as due_of}
+use Rattle.lockstep_defs.specs.Machine.{request_for, requests}
+use Rattle.block_schedule.specs.{declared.schedule.DueRange.DueRange, declared.tables.Slot.Slot}
+use Rattle.block_schedule.specs.Schedules.{due_at_ages, placed, slots_in, IsSlotOf}
+use Rattle.block_code.specs.{Codes.IsBlockCodeOf, declared.code.Guarded.Guarded, declared.code.BlockCode.BlockCode}
+use Rattle.block_code.specs.{declared.noted.Noted.Noted, declared.noted.Notes.Notes}
+use Rattle.block_code.specs.Notes.{noted_for, listed}
+use Rattle.module_move.specs.{Moves.notes_of, Moves.passing, Moves.standing, Sound.CanCommit, Sound.HasCode}
+use Rattle.module_move.proofs.{Looking.due_by_phase, Readiness.few_due}
 
-pub noted_count : (m : Module) (s : ModuleState) (noted : List Noted) → noted ≡ notes_of m s → length noted ≡ length (due m s)
-noted_count m s noted is = ap (λ (ns : List Noted). length ns) is ∙ length-map (due m s) (noted_for (block_of m s) s)
+pub noted_count : (m : Module) (s : ModuleState) (noted : List Noted) → noted ≡ notes_of m s → length noted ≡ length (due_of m s)
+noted_count m s noted is = ap (λ (ns : List Noted). length ns) is ∙ length-map (due_of m s) (noted_for (block_of m s) s)
 
-pub few_noted : (channels : List Channel) (m : Module) (s : ModuleState) (code : BlockCode) (noted : List Noted)
-    → CanCommit channels m s code noted → length noted ≤ LIVE_ITERATIONS * OPERATIONS
-few_noted channels m s code noted can =
-    subst (λ (n : ℕ). n ≤ LIVE_ITERATIONS * OPERATIONS) (sym (noted_count m s noted can.noted_are))
+pub few_noted : (channels : List Channel) (m : Module) (s : ModuleState) (code : BlockCode) (notes : Notes)
+    → CanCommit channels m s code notes → length (listed code notes) ≤ LIVE_ITERATIONS * OPERATIONS
+few_noted channels m s code notes can =
+    subst (λ (n : ℕ). n ≤ LIVE_ITERATIONS * OPERATIONS) (sym (noted_count m s (listed code notes) can.noted.are))
     (few_due (length channels) m s can.of can.state)
 
-abbrev first : Due
-first = record { iteration = 0; op = 0 }
+-- ---- the operations that stand at the ages of the live iterations
 
--- the code has an action for each of them
-pub noted_inside : (channels : List Channel) (m : Module) (s : ModuleState) (code : BlockCode) (noted : List Noted)
-    → CanCommit channels m s code noted → All (λ (n : Noted). n.op < length code.actions) noted
-noted_inside channels m s code noted can k d inside =
+sliced : (gs : List Guarded) (from to : ℕ)
+    → map (λ g. g.slot) (slice_range gs from to) ≡ slice_range (map (λ g. g.slot) gs) from to
+sliced gs from to =
+    sym (take-map (λ (g : Guarded). g.slot) (to - from) (drop from gs)) ∙ ap (take (to - from)) (sym (drop-map (λ (g : Guarded).
+    g.slot) from gs))
+
+unmapped : {X Y : Type 0} (P : Y → Type 0) (f : X → Y) (xs : List X) → All P (map f xs) → All (λ x. P (f x)) xs
+unmapped P f xs all k d l = subst P (get_or-map f xs k d (f d) l) (all k (f d) (omega (arith, length-map xs f)))
+
+-- each is in its slot
+pub slots_stand : (channels : List Channel) (m : Module) (b : Block) (code : BlockCode) (due : DueRange) (live : ℕ)
+    → IsBlockCodeOf channels m b code → All (IsSlotOf b due.oldest live) (slots_in code.schedule due)
+    → All (λ (g : Guarded). IsSlotOf b due.oldest live g.slot) (slice_range code.actions due.from due.to)
+slots_stand channels m b code due live is all =
+    let same : slots_in code.schedule due ≡ map (λ (g : Guarded). g.slot) (slice_range code.actions due.from due.to) =
+    sym (sliced code.actions due.from due.to ∙ ap (λ (ts : List Slot). slice_range ts due.from due.to) is.slots) in
+    unmapped (IsSlotOf b due.oldest live) (λ (g : Guarded). g.slot) (slice_range code.actions due.from due.to)
+    (subst (All (IsSlotOf b due.oldest live)) same all)
+
+-- those that pass are what is due
+pub pass_due : (m : Module) (s : ModuleState) (code : BlockCode) (due : DueRange) (live : ℕ) (gs : List Guarded) {channels : List Channel}
+    → HasCode channels m s code → gs ≡ code.actions → live ≡ live_count (block_of m s) s.control
+    → map (placed due.oldest) (slots_in code.schedule due)
+    ≡ due_at_ages (block_of m s) (ages_down (interval (block_of m s)) (s.control.clock - s.control.newest) live)
+    → passing (block_of m s) s (map (standing due.oldest) (slice_range gs due.from due.to)) ≡ due_of m s
+pass_due m s code due live gs has same count stand =
     let b = block_of m s in
-    let there : k < length (due m s) = omega (arith, noted_count m s noted can.noted_are) in
-    let item : get_or noted k d ≡ noted_for b s (get_or (due m s) k first) =
-    ap (λ (ns : List Noted). get_or ns k d) can.noted_are ∙ get_or-map (noted_for b s) (due m s) k first d there in
-    let op : (get_or noted k d).op ≡ (get_or (due m s) k first).op = ap (λ (n : Noted). n.op) item in
-    let own = (due_sound m s can.state k first there).op in
-    omega (arith, can.code_is.actions.count)
+    let own : map (standing due.oldest) (slice_range gs due.from due.to) ≡ map (placed due.oldest) (slots_in code.schedule due) =
+    sym (map-map (placed due.oldest) (λ (g : Guarded). g.slot) (slice_range gs due.from due.to))
+    ∙ ap (map (placed due.oldest)) (sliced gs due.from due.to
+    ∙ ap (λ (ts : List Slot). slice_range ts due.from due.to)
+    (ap (map (λ (g : Guarded). g.slot)) same ∙ has.code_is.slots)) in
+    ap (passing b s) (own ∙ (stand
+    ∙ ap (λ (n : ℕ). due_at_ages b (ages_down (interval b) (s.control.clock - s.control.newest) n)) count)) ∙ sym (due_by_phase m s)
+
+pub requests_are : (channels : List Channel) (m : Module) (s : ModuleState)
+    → requests channels m s ≡ filter_map (request_for channels m s) (due_of m s)
+unfolding requests
+requests_are channels m s = refl
+
+-- a list that was written in place, and has as many items as before
+pub refilled : {X : Type 0} (now before : List X) → length now ≡ length before
+    → take (length before) (now ++ drop (length now) before) ≡ now
+refilled {X} now before same =
+    ap (λ (xs : List X). take (length before) (now ++ xs)) (drop_all (length now) before (omega arith))
+    ∙ (ap (take (length before)) (append-nil now) ∙ take_all (length before) now (omega arith))

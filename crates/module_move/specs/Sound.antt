@@ -3,8 +3,9 @@ use Rattle.std.specs.Prelude.{◌≡◌, ◌<◌, ◌^◌, false, List, length}
 use Rattle.flow_design.specs.{declared.design.Channel.Channel, declared.design.Module.Module, declared.state.ModuleState.ModuleState}
 use Rattle.flow_design.specs.{declared.state.Due.Due, StaticRules.IsModuleSound, Module.block_of}
 use Rattle.lockstep_defs.specs.States.{IsStateOf}
-use Rattle.block_code.specs.{declared.action.Action.Action, declared.code.BlockCode.BlockCode, declared.noted.Noted.Noted}
+use Rattle.block_code.specs.{declared.action.Action.Action, declared.code.BlockCode.BlockCode, declared.noted.Notes.Notes}
 use Rattle.block_code.specs.{Actions.action_value, Actions.action_address, Actions.IsActionReady, Codes.IsBlockCodeOf, Notes.noted_for}
+use Rattle.block_code.specs.Notes.{listed, AreNotesIn}
 use Rattle.module_move.specs.Moves.{notes_of}
 
 -- the state is one that the module can have, and the module is not ended in it
@@ -32,10 +33,15 @@ pub record HasCode (channels : List Channel) (m : Module) (s : ModuleState) (cod
   pub of : IsModuleSound (length channels) m
   pub code_is : IsBlockCodeOf channels m (block_of m s) code
 
+-- these are notes of this code, and of what is due
+pub record AreNotesOf (m : Module) (s : ModuleState) (code : BlockCode) (notes : Notes) : Type 0 where
+  pub in_code : AreNotesIn code notes
+  pub are : listed code notes ≡ notes_of m s
+
 -- the due operations can commit: the state is sound, and these are the code of its block and the notes of all that is due
-pub record CanCommit (channels : List Channel) (m : Module) (s : ModuleState) (code : BlockCode) (noted : List Noted) : Type 0 where
+pub record CanCommit (channels : List Channel) (m : Module) (s : ModuleState) (code : BlockCode) (notes : Notes) : Type 0 where
   pub of : IsModuleSound (length channels) m
   pub state : IsStateSound m s
   pub code_is : IsBlockCodeOf channels m (block_of m s) code
-  pub noted_are : noted ≡ notes_of m s
+  pub noted : AreNotesOf m s code notes
   pub few : s.count < 2 ^ 60

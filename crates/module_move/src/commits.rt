@@ -1,37 +1,64 @@
 //! The writes of the due operations.
-ghost use Rattle.std.specs.Prelude.{◌≡◌, ℕ, ◌<◌, List as Items, fold, length, drop, if◌then◌else◌, slice_index_or, All};
+ghost use Rattle.std.specs.Prelude.{◌≡◌, ℕ, ◌≤◌, List as Items, fold, filter_map, length, drop, if◌then◌else◌, slice_index_or, All};
+ghost use Rattle.std.specs.List.{cons_option, zip};
 ghost use Rattle.flow_design.specs.{declared.design.Block.Block as BlockOf, declared.design.Module.Module as ModuleOf};
 ghost use Rattle.flow_design.specs.declared.design.Channel.{Channel as ChannelOf};
 ghost use Rattle.lockstep_defs.specs.Machine.{stored};
-ghost use Rattle.block_code.specs.{Actions.carried_out, Actions.takes_reply, Codes.IsBlockCodeOf, Notes.effects_by};
+ghost use Rattle.block_code.specs.declared.noted.Noted.{Noted as NotedOf};
+ghost use Rattle.block_code.specs.{Actions.carried_out, Actions.takes_reply, Codes.IsGuardedOf, Notes.effects_by, Notes.noted_by};
 
-use block_code::{Action, BlockCode, Noted, carry_out};
+use block_code::{Action, Guarded, Note, Noted, carry_out};
 use flow_design::{ModuleState, Reply};
 
-/// Writes what the due operations write, from their notes and replies, in commit order: the last write to a place wins. Each FIFO
-/// operation takes the next reply.
+/// Writes what the due ones of these operations write, from their notes and replies, in commit order: the last write to a place
+/// wins. Each FIFO operation takes the next reply.
 #[inline(always)]
 pub(crate) fn commit_all(
-    code: &BlockCode,
+    actions: &[Guarded],
+    items: &[Note],
     state: &mut ModuleState,
-    noted: &[Noted],
     replies: &[Reply],
 )
-    requires there { All (λ n. n.op < length code.now.actions) noted.now }
-    ensures { (channels : Items ChannelOf) (m : ModuleOf) (b : BlockOf) → IsBlockCodeOf channels m b code.now
-        → state.new ≡ fold (stored m b) state.old (effects_by b noted.now replies.now) }
+    requires places { length actions.now ≤ length items.now }
+    ensures { (channels : Items ChannelOf) (m : ModuleOf) (b : BlockOf) (room : ℕ) → All (IsGuardedOf channels m b room) actions.now
+        → state.new ≡ fold (stored m b) state.old (effects_by b (filter_map noted_by (zip actions.now items.now)) replies.now) }
 {
     let mut answered = 0usize;
-    for due in noted {
-        let guarded = &code.actions.as_slice()[due.op as usize];
-        answered = carry_out_next(&guarded.action, due, replies, answered, state);
+    for (at, guarded) in actions.iter().enumerate() {
+        answered = carry_out_next(guarded, &items[at], replies, answered, state);
     }
+}
+
+/// Carries out an operation if it is due, from its note, and on the next reply if it takes one. Answers how many replies are then
+/// taken.
+#[inline(always)]
+fn carry_out_next(
+    guarded: &Guarded,
+    note: &Note,
+    replies: &[Reply],
+    answered: usize,
+    state: &mut ModuleState,
+) -> usize
+    ensures { (channels : Items ChannelOf) (m : ModuleOf) (b : BlockOf) (room : ℕ) → IsGuardedOf channels m b room guarded.now
+        → (rest : Items NotedOf) → fold (stored m b) state.new (effects_by b rest (drop result replies.now))
+        ≡ fold (stored m b) state.old (effects_by b (cons_option (noted_by (guarded.now, note.now)) rest) (drop answered replies.now)) }
+{
+    if !note.passes {
+        return answered;
+    }
+    let noted = Noted {
+        op: guarded.slot.op,
+        iteration: note.iteration,
+        value: note.value,
+        address: note.address,
+    };
+    carry_out_due(&guarded.action, &noted, replies, answered, state)
 }
 
 /// Carries out an action from its note, and on the next reply if it takes one. Answers how many replies are then taken.
 #[tactic(auto, using(crate::proofs::Writing::no_reply))]
 #[inline(always)]
-fn carry_out_next(
+fn carry_out_due(
     action: &Action,
     noted: &Noted,
     replies: &[Reply],

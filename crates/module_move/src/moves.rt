@@ -3,27 +3,29 @@ ghost use Rattle.std.specs.Prelude.{◌≡◌, ◌+◌, ◌<◌, ◌≤◌, ◌*
 ghost use Rattle.flow_design.specs.declared.limits.TheConstants.{LIVE_ITERATIONS, OPERATIONS};
 ghost use Rattle.flow_design.specs.{declared.design.Channel.Channel as ChannelOf, declared.design.Module.Module as ModuleOf};
 ghost use Rattle.lockstep_defs.specs.Machine.{move};
+ghost use Rattle.block_code.specs.Notes.{listed};
 ghost use Rattle.module_move.specs.{Moves.counted, Sound.CanCommit, Sound.IsRunnable};
 
 use crate::commits::commit_all;
 use crate::control::{go_on, tick_to};
-use block_code::{BlockCode, Noted};
+use block_code::{BlockCode, Notes};
 use flow_design::{Module, ModuleState, Reply};
 use flow_word::OutOfMemory;
 use std::alloc::Global;
 
 /// Commits the due operations together, from their notes and on the replies, and counts them. It takes no memory.
 #[inline(always)]
-pub fn commit(code: &BlockCode, state: &mut ModuleState, noted: &[Noted], replies: &[Reply])
-    requires can { (channels : Items ChannelOf) × ((m : ModuleOf) × CanCommit channels m state.old code.now noted.now) }
-    ensures committed { (channels : Items ChannelOf) (m : ModuleOf) → CanCommit channels m state.old code.now noted.now
+pub fn commit(code: &BlockCode, state: &mut ModuleState, notes: &Notes, replies: &[Reply])
+    requires can { (channels : Items ChannelOf) × ((m : ModuleOf) × CanCommit channels m state.old code.now notes.now) }
+    ensures committed { (channels : Items ChannelOf) (m : ModuleOf) → CanCommit channels m state.old code.now notes.now
         → state.new ≡ counted m state.old replies.now }
     ensures control { state.new.control ≡ state.old.control }
-    ensures count { state.new.count ≡ state.old.count + length noted.now }
-    ensures few { length noted.now ≤ LIVE_ITERATIONS * OPERATIONS }
+    ensures count { state.new.count ≡ state.old.count + length (listed code.now notes.now) }
+    ensures few { length (listed code.now notes.now) ≤ LIVE_ITERATIONS * OPERATIONS }
 {
-    commit_all(code, state, noted, replies);
-    state.count += noted.len() as u64;
+    let actions = &code.actions.as_slice()[notes.from..notes.to];
+    commit_all(actions, notes.items.as_slice(), state, replies);
+    state.count += notes.count;
 }
 
 /// Makes a move: one local clock on the replies. The due operations commit together, the local clock goes up by one, the loop
@@ -36,17 +38,17 @@ pub fn make_move(
     of: &Module,
     code: &BlockCode,
     state: &mut ModuleState,
-    noted: &[Noted],
+    notes: &Notes,
     replies: &[Reply],
 ) -> Result<(), OutOfMemory>
-    requires can { (channels : Items ChannelOf) × CanCommit channels of.now state.old code.now noted.now }
+    requires can { (channels : Items ChannelOf) × CanCommit channels of.now state.old code.now notes.now }
     requires small { state.old.control.clock < 2 ^ 60 }
     ensures moved { OnOk result (state.new ≡ move of.now state.old replies.now) }
     ensures runnable { OnOk result (IsRunnable of.now state.new) }
     ensures clock { OnOk result (state.new.control.clock ≤ state.old.control.clock + 1) }
-    ensures count { OnOk result (state.new.count ≤ state.old.count + length noted.now + 1) }
+    ensures count { OnOk result (state.new.count ≤ state.old.count + length (listed code.now notes.now) + 1) }
 {
-    commit(code, state, noted, replies);
+    commit(code, state, notes, replies);
     let next = state.control.clock + 1;
     tick_to(of, state, next);
     go_on(alloc, of, state)?;

@@ -23,7 +23,7 @@ use Rattle.flow_design.specs.contracts.design.Module as unit
 use Rattle.flow_design.specs.contracts.design.Design as design
 use Rattle.flow_design.specs.contracts.plan.Plan as plan
 use Rattle.block_code.proofs.code.BlockCode.TheSendSync as code
-use Rattle.block_code.proofs.noted.Noted.TheSendSync as noted
+use Rattle.block_code.proofs.noted.Notes.TheSendSync as notes
 use Rattle.module_interp.proofs.path.Stage.TheSendSync as stage
 use Rattle.module_interp.proofs.tally.Tally.TheSendSync as tally
 use Rattle.module_interp.specs.contracts.path.Path as path
@@ -102,7 +102,7 @@ path_field =
                 (
                   plain_send _ _ _ _ _,
                   (
-                    list.the_send _ noted.the_send,
+                    notes.the_send,
                     (list.the_send _ request.the_send, (words_send, tt)),
                   ),
                 ),

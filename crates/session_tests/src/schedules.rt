@@ -2,7 +2,7 @@
 ghost use Rattle.std.specs.Prelude.{◌≡◌, IfOk};
 ghost use Rattle.session_tests.specs.Blocks.{tests_at};
 
-use block_schedule::{Schedule, Slot};
+use block_schedule::{DueRange, Schedule, Slot};
 use flow_design::{Block, BlockKind, Control, Next, Op, Timed};
 use flow_word::{List, OutOfMemory};
 use std::alloc::Global;
@@ -42,6 +42,11 @@ fn slot(rank: u64, op: u32) -> Slot {
     Slot { rank, op }
 }
 
+/// A range of slots.
+fn range(oldest: u64, from: usize, to: usize) -> DueRange {
+    DueRange { oldest, from, to }
+}
+
 /// A module that stands at this clock of the block.
 fn standing(clock: u64, newest: u64, looping: bool) -> Control
     ensures { result ≡ record { block = 0; clock = clock; newest = newest; looping = looping } }
@@ -60,14 +65,11 @@ fn iterations_overlap(rt: HostRuntime) -> Result<(), Fail> {
     let kind = BlockKind::Loop { ii: 2, again: 0 };
     let block = block_of_tests(alloc, kind, 5, [3, 0, 3, 4].as_slice())?;
     let schedule = Schedule::new(alloc, &block)?;
-    let (oldest, slots) = schedule.due(1, 2);
-    assert_eq!(rt; oldest, 2046);
-    assert_eq!(rt; slots, [slot(2046, 0), slot(2046, 2)].as_slice());
-    let (oldest, slots) = schedule.due(0, 3);
-    assert_eq!(rt; oldest, 1021);
-    assert_eq!(rt; slots, [slot(1021, 3), slot(1023, 1)].as_slice());
-    let (_newest, slots) = schedule.due(0, 2);
-    assert_eq!(rt; slots, [slot(1023, 1)].as_slice());
+    let slots = [slot(1021, 3), slot(1023, 1), slot(2046, 0), slot(2046, 2)];
+    assert_eq!(rt; schedule.slots(), slots.as_slice());
+    assert_eq!(rt; schedule.due(1, 2), range(2046, 2, 4));
+    assert_eq!(rt; schedule.due(0, 3), range(1021, 0, 2));
+    assert_eq!(rt; schedule.due(0, 2), range(1022, 1, 2));
     assert_eq!(rt; schedule.next_due(&standing(1, 0, true)), 2);
     assert_eq!(rt; schedule.next_due(&standing(3, 2, false)), 3);
     assert_eq!(rt; schedule.next_due(&standing(5, 2, false)), 5);

@@ -1,32 +1,46 @@
-use Rattle.std.proofs.Common.{◌≡◌, ◌∙◌, ℕ, ◌+◌, ◌<◌, ◌≤◌, ◌++◌, [], ◌∷◌, List, length, get_or, ap, subst, arith}
-use Rattle.std.proofs.lemmas.List.{length_push, get_or_default}
+use Rattle.std.proofs.Common.{◌≡◌, ◌∙◌, ◌≤◌, ◌++◌, [], ◌∷◌, List, map, get_or, ap, subst, sym, arith}
+use Rattle.std.proofs.lemmas.List.{map_push, get_or_default, take_more, take_all}
+use Rattle.std.specs.Prelude.{All}
 use Rattle.flow_design.specs.{declared.design.Timed.Timed, Module.no_operation, Module.operation_at}
-use Rattle.block_code.specs.{declared.code.Guarded.Guarded, Actions.IsActionOf, Actions.action_room}
-use Rattle.block_code.proofs.Codes.{each_more}
+use Rattle.block_schedule.specs.declared.tables.Slot.{Slot}
+use Rattle.block_code.specs.{declared.code.Guarded.Guarded, Actions.IsActionOf, Codes.IsGuardedOf}
+use Rattle.block_code.proofs.Codes.{all_more, wider}
 use Rattle.block_code.proofs.code.code_of.Goals as goal
 
-pub loop-timed-preserved : goal.loop-timed-preserved
-loop-timed-preserved c =
-    let a = c.in_ok-action.action in
+abbrev none : Slot
+none = record { rank = 0; op = 0 }
+
+pub loop-slot-preserved : goal.loop-slot-preserved
+loop-slot-preserved c =
     let b = c.args.block.now in
-    let i = c.loop-timed.timed-index in
-    let g : Guarded = record { guard = c.timed-item.result.guard; action = a } in
-    let item : c.timed-item.result ≡ operation_at b i = c.timed-item.is
-    ∙ (get_or_default c.as_slice-timed-items.result.now i c.timed-item.result no_operation c.loop-timed-test.true
-    ∙ ap (λ (ts : List Timed). get_or ts i no_operation) c.as_slice-timed-items.ensures) in
-    let is : IsActionOf c.args.channels.now c.args.of.now b a (operation_at b i).op =
-    subst (λ (t : Timed). IsActionOf c.args.channels.now c.args.of.now b a t.op) item c.in_ok-action.ensures in
-    let added : c.push.new.self ≡ c.loop-timed.actions ++ g ∷ [] = c.in_ok-push.ensures.ok in
-    let wider : (n : ℕ) (d : Guarded) → n < i → action_room (get_or c.loop-timed.actions n d).action ≤ c.max-room.result =
-    λ n d l. let before = c.loop-timed.invariant.rooms n d l in omega arith in
-    let own : action_room a ≤ c.max-room.result = omega arith in
+    let slots = c.slots-slot-items.result.now in
+    let i = c.loop-slot.slot-index in
+    let t : Slot = get_or slots i none in
+    let a = c.in_ok-action.action in
+    let timed = c.index-as_slice-slot.result in
+    let g : Guarded = record { slot = t; guard = timed.guard; action = a } in
+    let inside = c.slots-slot-items.ensures.inside b c.in_ok-schedule.ensures i none c.loop-slot-test.true in
+    let item : timed ≡ operation_at b t.op = c.index-as_slice-slot.is
+    ∙ (ap (λ (ts : List Timed). get_or ts t.op timed) c.as_slice.ensures ∙ get_or_default b.ops t.op timed no_operation inside) in
+    let is : IsActionOf c.args.channels.now c.args.of.now b a (operation_at b t.op).op =
+    subst (λ (x : Timed). IsActionOf c.args.channels.now c.args.of.now b a x.op) item c.in_ok-action.ensures in
+    let added : c.push.new.self ≡ c.loop-slot.actions ++ g ∷ [] = c.in_ok-push.ensures.ok in
+    let most : c.loop-slot.room ≤ c.max-room.result = omega arith in
+    let own : IsGuardedOf c.args.channels.now c.args.of.now b c.max-room.result g =
+    record { guard = ap (λ (x : Timed). x.guard) item; action = is; few = omega arith } in
     record {
-      count = ap (λ (xs : List Guarded). length xs) added
-          ∙ (length_push c.loop-timed.actions g ∙ ap (λ (n : ℕ). n + 1) c.loop-timed.invariant.count);
-      guards = each_more (λ (n : ℕ) (y : Guarded). y.guard ≡ (operation_at b n).guard) c.loop-timed.actions c.push.new.self i g
-          c.loop-timed.invariant.count added (ap (λ (t : Timed). t.guard) item) c.loop-timed.invariant.guards;
-      each = each_more (λ (n : ℕ) (y : Guarded). IsActionOf c.args.channels.now c.args.of.now b y.action (operation_at b n).op)
-          c.loop-timed.actions c.push.new.self i g c.loop-timed.invariant.count added is c.loop-timed.invariant.each;
-      rooms = each_more (λ (n : ℕ) (y : Guarded). action_room y.action ≤ c.max-room.result) c.loop-timed.actions c.push.new.self i g
-          c.loop-timed.invariant.count added own wider;
+      slots = ap (map (λ (h : Guarded). h.slot)) added
+          ∙ (map_push (λ (h : Guarded). h.slot) c.loop-slot.actions g
+          ∙ (ap (λ (ts : List Slot). ts ++ t ∷ []) c.loop-slot.invariant.slots ∙ sym (take_more slots i none c.loop-slot-test.true)));
+      each = subst (All (IsGuardedOf c.args.channels.now c.args.of.now b c.max-room.result)) (sym added)
+          (all_more (IsGuardedOf c.args.channels.now c.args.of.now b c.max-room.result) c.loop-slot.actions g
+          (wider most c.loop-slot.actions c.loop-slot.invariant.each) own);
     }
+
+pub returns : goal.returns
+returns c = record {
+  schedule = c.in_ok-schedule.ensures;
+  slots = c.loop-slot.invariant.slots
+      ∙ (take_all c.loop-slot.slot-index c.slots-slot-items.result.now c.loop-slot-test.false ∙ c.slots-slot-items.ensures.slots);
+  each = c.loop-slot.invariant.each;
+}

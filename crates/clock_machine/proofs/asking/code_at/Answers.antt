@@ -1,4 +1,5 @@
-use Rattle.std.proofs.Common.{◌≡◌, ◌<◌, ℕ, ◌∙◌, List, length, sym, ap, subst, arith, get_or}
+use Rattle.std.proofs.Common.{◌≡◌, ◌<◌, ℕ, ◌∙◌, List, length, sym, ap, subst, arith, get_or, []}
+use Rattle.std.proofs.lemmas.List.{get_or_default}
 use Rattle.flow_design.specs.{declared.plan.Plan.Plan, Module.block_of}
 use Rattle.lockstep_defs.specs.Lockstep.{module_at}
 use Rattle.block_code.specs.{declared.code.BlockCode.BlockCode, Codes.IsBlockCodeOf, Codes.AreCodesOf}
@@ -18,8 +19,8 @@ bounds-as_slice-state c =
     let block = c.requires.block in
     rw c.as_slice.ensures (omega arith)
 
-pub returns : goal.returns
-returns c =
+pub returns-clause-own : goal.returns-clause-own
+returns-clause-own c =
     let p = c.args.of.now.plan.now in
     let own = own_codes p c.args.of.now.codes.now c.args.i c.index-of-i.result c.requires.codes c.requires.within c.index-of-i.is in
     let s = c.args.state.now in
@@ -28,3 +29,16 @@ returns c =
     (sym (c.index-as_slice-state.is ∙ ap (λ (cs : List BlockCode). get_or cs s.control.block code)
     (c.as_slice.ensures ∙ sym c.index-of-i.is)))
     (own.each s.control.block code c.requires.block)
+
+pub returns-clause-code : goal.returns-clause-code
+returns-clause-code c d =
+    let codes = c.args.of.now.codes.now in
+    let block = c.args.state.now.control.block in
+    let mine = c.index-of-i.result in
+    let code = c.index-as_slice-state.result in
+    let own = own_codes c.args.of.now.plan.now codes c.args.i mine c.requires.codes c.requires.within c.index-of-i.is in
+    let there : c.args.i < length codes = omega (arith, c.requires.codes.count, c.requires.within) in
+    let inside : block < length mine = omega (arith, own.count, c.requires.block) in
+    c.index-as_slice-state.is ∙ (ap (λ (cs : List BlockCode). get_or cs block code) (c.as_slice.ensures ∙ sym c.index-of-i.is)
+    ∙ (get_or_default mine block code d inside
+    ∙ ap (λ (cs : List BlockCode). get_or cs block d) (c.index-of-i.is ∙ get_or_default codes c.args.i mine [] there)))

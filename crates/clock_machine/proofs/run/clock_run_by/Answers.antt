@@ -30,7 +30,7 @@ settled_end p keep clock run r at early settled same events made =
     settled refl)
 
 pub loop-clock-init : goal.loop-clock-init
-loop-clock-init c = record { come = c.in_ok-run.ensures c.args.keep; none = λ b l. absurd (omega arith) }
+loop-clock-init c = record { come = c.in_ok-run.ensures c.args.codes.now c.args.keep; none = λ b l. absurd (omega arith) }
 
 pub loop-clock-preserved : goal.loop-clock-preserved
 loop-clock-preserved c = record {

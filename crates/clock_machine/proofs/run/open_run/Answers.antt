@@ -5,7 +5,7 @@ use Rattle.clock_machine.proofs.Coming.{first_come}
 use Rattle.clock_machine.proofs.run.open_run.Goals as goal
 
 pub returns : goal.returns
-returns c keep =
+returns c codes keep =
     first_come c.args.plan.now keep _ c.in_ok-open_all.ensures.state c.in_ok-open_all.ensures.fit
     (c.in_ok-seats_for.ensures ∙ ap (λ (n : ℕ). replicate n no_seat) c.len-modules.ensures)
     (c.in_ok-no_answers.ensures ∙ ap (λ (n : ℕ). replicate {A = List Bool} n []) c.len-modules.ensures)

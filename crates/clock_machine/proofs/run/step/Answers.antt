@@ -22,9 +22,11 @@ returns-clause-come c =
     let pops = c.as_slice-2.ensures ∙ (turned.done.traffic.pops ∙ ap (λ (l : List ℕ). l ++ popped (exchanges_in steps)) come.no_pops) in
     let pushes = c.as_slice-3.ensures ∙ (turned.done.traffic.pushes ∙ ap (λ l. l ++ pushed (exchanges_in steps)) come.no_pushes) in
     record {
-      seated = subst (λ (xs : List ModuleState). AreSeated p (clock + 1) xs (refill (length run.seats) run.seats c.take_turns.new.seats))
+      seated = subst (λ (xs : List ModuleState). AreSeated p c.args.of.now.codes.now (clock + 1) xs (refill (length run.seats)
+          run.seats c.take_turns.new.seats))
           (sym states)
-          (subst (λ (ys : List Seat). AreSeated p (clock + 1) c.take_turns.new.states ys) (sym seats) turned.seated);
+          (subst (λ (ys : List Seat). AreSeated p c.args.of.now.codes.now (clock + 1) c.take_turns.new.states ys) (sym seats)
+          turned.seated);
       holding = contents_next p clock steps c.as_slice-2.result.now c.as_slice-3.result.now run.state.contents _ _ pops pushes
           (written_through (after_pops c.as_slice-2.result.now) run.state.contents c.as_mut_slice-4.result.now c.pop_all.new.contents
           c.as_mut_slice-4.ensures.value c.pop_all.ensures)

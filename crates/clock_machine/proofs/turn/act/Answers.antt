@@ -5,8 +5,8 @@ use Rattle.flow_design.specs.{declared.state.Request.Request, declared.state.Ele
 use Rattle.lockstep_defs.specs.{Machine.is_over, Machine.move, Channels.reply, Channels.stalls}
 use Rattle.lockstep_defs.specs.Lockstep.{no_module, module_at, requests_of, state, state_at}
 use Rattle.lockstep_defs.proofs.Agrees.{below_limit}
-use Rattle.block_code.specs.declared.noted.Noted.{Noted}
-use Rattle.module_move.specs.Sound.{CanCommit}
+use Rattle.block_code.specs.declared.code.BlockCode.{BlockCode}
+use Rattle.module_move.specs.Sound.{AreNotesOf, CanCommit}
 use Rattle.clock_machine.proofs.Sleeping.{awake, stays, has_moved, moved_state, moves_by_requests, asked_in, runs_in, seated_sound}
 use Rattle.clock_machine.proofs.Steps.{IsAnswered, given_done, given_outcomes}
 use Rattle.std.specs.List.{list_any}
@@ -14,8 +14,10 @@ use Rattle.clock_machine.specs.{Seats.IsSeated, declared.seat.Seat.Seat}
 use Rattle.clock_machine.proofs.turn.act.Goals as goal
 
 -- what is asked of a module that is awake and runs, and whether it moves
-answer_is : (p : Plan) (clock i : ℕ) (s : ModuleState) (seat : Seat) (contents : List (List Element)) (asked : List Request) (goes : Bool)
-    → IsSeated p clock i s seat → seat.wakes ≤ clock → seat.known ≡ true → is_over p.ops s ≡ false → contents ≡ (state p clock).contents
+answer_is : (p : Plan) {codes : List (List BlockCode)} (clock i : ℕ) (s : ModuleState) (seat : Seat) (contents : List (List Element))
+    (asked : List Request) (goes : Bool)
+    → IsSeated p codes clock i s seat → seat.wakes ≤ clock → seat.known ≡ true → is_over p.ops s ≡ false
+    → contents ≡ (state p clock).contents
     → asked ≡ seat.requests → goes ≡ not (list_any (stalls p clock contents) asked) → IsAnswered p clock i contents asked goes
 answer_is p clock i s seat contents asked goes is l known running holding same e =
     let asks = same ∙ asked_in p clock i s seat is l known in record {
@@ -87,16 +89,16 @@ make_move-requires-clause-can c =
     let few = below_limit p.ops s r.running in
     let operations = r.runs.fits.operations in
     let code = c.code_at-code.result.now in
-    let can : CanCommit p.design.channels (module_at p i) s code c.args.seat.now.noted = record {
+    let can : CanCommit p.design.channels (module_at p i) s code c.args.seat.now.notes = record {
       of = r.runs.fits.modules i no_module r.within;
       state = seated_sound p r.runs.fits c.args.at.now.clock i s c.args.seat.now r.within r.seated r.running;
-      code_is = c.code_at-code.ensures;
-      noted_are = r.seated.known.noted r.known;
+      code_is = c.code_at-code.ensures.own;
+      noted = subst (λ (b : BlockCode). AreNotesOf (module_at p i) s b c.args.seat.now.notes) (sym (c.code_at-code.ensures.code code))
+          (r.seated.known.noted r.known code);
       few = omega arith;
     } in (
       p.design.channels,
-      subst (λ (m : Module). CanCommit p.design.channels m s code c.as_slice-noted.result.now) (sym c.module_at.ensures)
-          (subst (λ (ns : List Noted). CanCommit p.design.channels (module_at p i) s code ns) (sym c.as_slice-noted.ensures) can),
+      subst (λ (m : Module). CanCommit p.design.channels m s code c.args.seat.now.notes) (sym c.module_at.ensures) can,
     )
 
 pub returns-clause-moving : goal.returns-clause-moving

@@ -23,7 +23,7 @@ next_due-next-requires c =
     let s = c.args.state.now in
     let r = c.requires in
     let stands = seated_stands p r.runs.fits clock i s c.args.seat.now r.within r.seated r.running r.awake r.runs.early in
-    (block_of (module_at p i) s, (c.code_at.ensures.schedule, stands))
+    (block_of (module_at p i) s, (c.code_at.ensures.own.schedule, stands))
 
 pub tick_to-requires-clause-started : goal.tick_to-requires-clause-started
 tick_to-requires-clause-started c =
@@ -42,7 +42,7 @@ tick_to-requires-clause-later c =
     let s = c.args.state.now in
     let r = c.requires in
     let stands = seated_stands p r.runs.fits clock i s c.args.seat.now r.within r.seated r.running r.awake r.runs.early in
-    (c.next_due-next.ensures (block_of (module_at p i) s) c.code_at.ensures.schedule stands).from
+    (c.next_due-next.ensures (block_of (module_at p i) s) c.code_at.ensures.own.schedule stands).from
 
 pub tick_to-requires-clause-small : goal.tick_to-requires-clause-small
 tick_to-requires-clause-small c =
@@ -52,9 +52,9 @@ tick_to-requires-clause-small c =
     let s = c.args.state.now in
     let r = c.requires in
     let stands = seated_stands p r.runs.fits clock i s c.args.seat.now r.within r.seated r.running r.awake r.runs.early in
-    let due = c.next_due-next.ensures (block_of (module_at p i) s) c.code_at.ensures.schedule stands in
+    let due = c.next_due-next.ensures (block_of (module_at p i) s) c.code_at.ensures.own.schedule stands in
     let small = next_small p r.runs.fits clock i s c.args.seat.now c.next_due-next.result r.within r.seated r.running r.awake r.runs.early
-    c.code_at.ensures.schedule.limits due in
+    c.code_at.ensures.own.schedule.limits due in
     omega arith
 
 pub go_on-requires-clause-started : goal.go_on-requires-clause-started
@@ -65,7 +65,7 @@ go_on-requires-clause-started c =
     let s = c.args.state.now in
     let r = c.requires in
     let stands = seated_stands p r.runs.fits clock i s c.args.seat.now r.within r.seated r.running r.awake r.runs.early in
-    let due = c.next_due-next.ensures (block_of (module_at p i) s) c.code_at.ensures.schedule stands in
+    let due = c.next_due-next.ensures (block_of (module_at p i) s) c.code_at.ensures.own.schedule stands in
     let from = due.from in
     let started = stands.has_started in
     let now = ap (λ (z : ModuleState). z.control.clock) c.tick_to.ensures.ticked in
@@ -88,7 +88,7 @@ overflow_sub-seat c =
     let s = c.args.state.now in
     let r = c.requires in
     let stands = seated_stands p r.runs.fits clock i s c.args.seat.now r.within r.seated r.running r.awake r.runs.early in
-    (c.next_due-next.ensures (block_of (module_at p i) s) c.code_at.ensures.schedule stands).from
+    (c.next_due-next.ensures (block_of (module_at p i) s) c.code_at.ensures.own.schedule stands).from
 
 pub overflow_add-seat : goal.overflow_add-seat
 overflow_add-seat c =
@@ -98,9 +98,9 @@ overflow_add-seat c =
     let s = c.args.state.now in
     let r = c.requires in
     let stands = seated_stands p r.runs.fits clock i s c.args.seat.now r.within r.seated r.running r.awake r.runs.early in
-    let due = c.next_due-next.ensures (block_of (module_at p i) s) c.code_at.ensures.schedule stands in
+    let due = c.next_due-next.ensures (block_of (module_at p i) s) c.code_at.ensures.own.schedule stands in
     let small = next_small p r.runs.fits clock i s c.args.seat.now c.next_due-next.result r.within r.seated r.running r.awake r.runs.early
-    c.code_at.ensures.schedule.limits due in
+    c.code_at.ensures.own.schedule.limits due in
     omega arith
 
 pub returns-clause-asleep : goal.returns-clause-asleep
@@ -111,7 +111,7 @@ returns-clause-asleep c e =
     let s = c.args.state.now in
     let r = c.requires in
     let stands = seated_stands p r.runs.fits clock i s c.args.seat.now r.within r.seated r.running r.awake r.runs.early in
-    let due = c.next_due-next.ensures (block_of (module_at p i) s) c.code_at.ensures.schedule stands in
+    let due = c.next_due-next.ensures (block_of (module_at p i) s) c.code_at.ensures.own.schedule stands in
     let next = c.next_due-next.result in
     let young = r.seated.young in
     let l = r.awake in
@@ -124,7 +124,7 @@ returns-clause-asleep c e =
     let most = c.in_ok-go_on.ensures.clock in
     let sound = seated_sound p r.runs.fits clock i s c.args.seat.now r.within r.seated r.running in
     falls_asleep p clock i n s c.go_on.new.state _ r.within (awake p clock i s c.args.seat.now r.seated r.awake) r.running
-    (idle_till p i n s next c.code_at.ensures.schedule.limits sound due far)
+    (idle_till p i n s next c.code_at.ensures.own.schedule.limits sound due far)
     (c.in_ok-go_on.ensures.gone
     ∙ (ap (λ (m : Module). gone_on m c.tick_to.new.state) c.module_at-module.ensures
     ∙ (ap (gone_on (module_at p i)) (c.tick_to.ensures.ticked ∙ ap (λ (m : Module). ticked_to m next s) c.module_at-module.ensures)

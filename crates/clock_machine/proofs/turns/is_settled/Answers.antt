@@ -1,5 +1,5 @@
 use Rattle.std.proofs.Common.{◌≡◌, ℕ, ◌∙◌, ◌&&◌, List, Bool, true, false, not, length, get_or, refl, sym, ap, subst, arith}
-use Rattle.std.proofs.lemmas.List.{get_or_default}
+use Rattle.std.proofs.lemmas.List.{length-set, get_or_default}
 use Rattle.std.specs.List.{list_any}
 use Rattle.flow_design.specs.{declared.plan.Plan.Plan, declared.state.ClockState.ClockState, declared.state.Element.Element}
 use Rattle.flow_design.specs.declared.state.ModuleState.{ModuleState}
@@ -34,8 +34,10 @@ would_move-requires-clause-seated c =
     let seats = counts.seat_count in
     let s = get_or_default c.args.states.now i c.index-states-i.result nobody (omega arith) in
     let seat = get_or_default c.loop-i.seats i c.index-seats-i.result no_seat (omega arith) in
-    subst (λ (z : ModuleState). IsSeated p clock i z (get_or c.loop-i.seats i c.index-seats-i.result)) (sym (c.index-states-i.is ∙ s))
-    (subst (IsSeated p clock i (get_or c.args.states.now i nobody)) (sym seat) (c.loop-i.invariant.seated i (omega arith)))
+    subst (λ (z : ModuleState). IsSeated p c.args.at.now.of.now.codes.now clock i z (get_or c.loop-i.seats i c.index-seats-i.result))
+    (sym (c.index-states-i.is ∙ s))
+    (subst (IsSeated p c.args.at.now.of.now.codes.now clock i (get_or c.args.states.now i nobody)) (sym seat)
+    (c.loop-i.invariant.seated i (omega arith)))
 
 -- whether a module would move, by what the plan's run holds
 by_run : (p : Plan) (clock i : ℕ) (contents : List (List Element)) (b moving : Bool) → contents ≡ (state p clock).contents
@@ -70,9 +72,11 @@ loop-i-preserved c =
       none = none_more (moves p 0 (all_ready st.contents)) st.modules i nobody (omega arith) c.loop-i.invariant.none
           (by_run p clock i c.args.at.now.contents.now false c.in_ok-would_move.field-0 c.requires.runs.holding
           c.in_ok-would_move.ensures.moving c.if-branch.false);
-      seated = all_known (λ (k : ℕ) (seat : Seat). IsSeated p clock k (get_or c.args.states.now k nobody) seat) c.loop-i.seats i
+      seated = all_known (λ (k : ℕ) (seat : Seat). IsSeated p c.args.at.now.of.now.codes.now clock k (get_or c.args.states.now k
+          nobody) seat) c.loop-i.seats i
           (length p.design.modules) c.would_move.new.seat no_seat (omega arith) c.loop-i.invariant.seated
-          (subst (λ (z : ModuleState). IsSeated p clock i z c.would_move.new.seat) s c.in_ok-would_move.ensures.seated);
+          (subst (λ (z : ModuleState). IsSeated p c.args.at.now.of.now.codes.now clock i z c.would_move.new.seat) s
+          c.in_ok-would_move.ensures.seated);
     }
 
 pub returns-clause-settled : goal.returns-clause-settled
@@ -84,3 +88,21 @@ returns-clause-settled c =
     let all = all_modules p clock in
     sym (settled_from p clock st (ever p clock st false
     (ap (list_any (moves p 0 (all_ready st.contents))) (sym (numbered_all st.modules c.loop-i.i (omega arith))) ∙ c.loop-i.invariant.none)))
+
+pub returns-then-branch-clause-seated : goal.returns-then-branch-clause-seated
+returns-then-branch-clause-seated c =
+    let p = c.args.at.now.of.now.plan.now in
+    let codes = c.args.at.now.of.now.codes.now in
+    let clock = c.args.at.now.clock in
+    let i = c.loop-i.i in
+    let counts = c.requires.seated in
+    let states = counts.state_count in
+    let seats = counts.seat_count in
+    let s : c.index-states-i.result ≡ get_or c.args.states.now i nobody =
+    c.index-states-i.is ∙ get_or_default c.args.states.now i c.index-states-i.result nobody (omega arith) in record {
+      state_count = counts.state_count;
+      seat_count = length-set c.loop-i.seats i c.would_move.new.seat ∙ (c.loop-i.auto.seats ∙ counts.seat_count);
+      each = all_known (λ (k : ℕ) (seat : Seat). IsSeated p codes clock k (get_or c.args.states.now k nobody) seat) c.loop-i.seats i
+          (length p.design.modules) c.would_move.new.seat no_seat (omega arith) c.loop-i.invariant.seated
+          (subst (λ (z : ModuleState). IsSeated p codes clock i z c.would_move.new.seat) s c.in_ok-would_move.ensures.seated);
+    }

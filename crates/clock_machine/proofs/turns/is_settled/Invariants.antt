@@ -11,5 +11,6 @@ invariant-loop-i l =
     let st = state p l.at.clock in
     record {
       none : list_any (moves p 0 (all_ready st.contents)) (take l.i (numbered st)) ≡ false;
-      seated : (k : ℕ) → k < length p.design.modules → IsSeated p l.at.clock k (get_or l.states k nobody) (get_or l.seats k no_seat);
+      seated : (k : ℕ) → k < length p.design.modules → IsSeated p l.at.of.now.codes.now l.at.clock k (get_or l.states k nobody) (get_or
+          l.seats k no_seat);
     }

@@ -4,6 +4,7 @@ use Rattle.std.proofs.{Math.ListN.set, lemmas.List.Concat.flat_map-append, lemma
 use Rattle.std.proofs.lemmas.List.{append-nil, get_or_default, get_or-set_same, get_or-set_other}
 use Rattle.std.specs.List.{list_any, flat_map}
 use Rattle.flow_design.specs.{declared.plan.Plan.Plan, declared.state.Element.Element}
+use Rattle.flow_design.specs.declared.state.ModuleState.{ModuleState}
 use Rattle.lockstep_defs.specs.{Machine.nobody, Report.outcomes}
 use Rattle.lockstep_defs.specs.Lockstep.{numbered, moves, state, state_at, step_of, steps_in}
 use Rattle.lockstep_defs.proofs.Agrees.{all_modules}
@@ -90,9 +91,11 @@ loop-i-preserved c =
           (or_else c.loop-i.moving c.in_ok-moves.moves c.if-moving.moving w.if-moving.false w.moving-is)
     ] in record {
       moving = next;
-      seated = both_more (IsSeated p (clock + 1)) c.loop-i.states c.loop-i.seats i c.take_turn.new.state nobody c.take_turn.new.seat no_seat
+      seated = both_more (IsSeated p c.args.at.now.of.now.codes.now (clock + 1)) c.loop-i.states c.loop-i.seats i c.take_turn.new.state
+          nobody c.take_turn.new.seat no_seat
           (omega arith) (omega arith) c.loop-i.invariant.seated turn.seated;
-      rest = both_later (IsSeated p clock) c.loop-i.states c.loop-i.seats i (length p.design.modules) c.take_turn.new.state nobody
+      rest = both_later (IsSeated p c.args.at.now.of.now.codes.now clock) c.loop-i.states c.loop-i.seats i (length p.design.modules)
+          c.take_turn.new.state nobody
           c.take_turn.new.seat no_seat c.loop-i.invariant.rest;
       done = subst (HasDone c.args.at.now.keep c.args.round.now c.take_turn.new.round) (steps_more p clock i (omega arith))
           (done_more c.args.at.now.keep c.args.round.now c.loop-i.round c.take_turn.new.round _ (step_at p clock i) c.loop-i.invariant.done
@@ -130,3 +133,16 @@ returns-clause-done c =
     let all = all_modules p clock in
     subst (λ ms. HasDone c.args.at.now.keep c.args.round.now c.loop-i.round (flat_map (step_of p clock (state p clock).contents) ms))
     (numbered_all (state p clock).modules c.loop-i.i (omega arith)) c.loop-i.invariant.done
+
+pub take_turn-requires-clause-seated : goal.take_turn-requires-clause-seated
+take_turn-requires-clause-seated c =
+    let p = c.args.at.now.of.now.plan.now in
+    let codes = c.args.at.now.of.now.codes.now in
+    let clock = c.args.at.now.clock in
+    let i = c.loop-i.i in
+    let states = c.requires.seated.state_count in
+    let seats = c.requires.seated.seat_count in
+    let s = get_or_default c.loop-i.states i c.index-states-i.result nobody (omega arith) in
+    let seat = get_or_default c.loop-i.seats i c.index-seats-i.result no_seat (omega arith) in
+    subst (λ (z : ModuleState). IsSeated p codes clock i z (get_or c.loop-i.seats i c.index-seats-i.result)) (sym s)
+    (subst (IsSeated p codes clock i (get_or c.loop-i.states i nobody)) (sym seat) (c.loop-i.invariant.rest i (omega arith) (omega arith)))

@@ -11,9 +11,10 @@ invariant-loop-i l =
     let st = state p l.at.clock in
     record {
       moving : l.moving ≡ list_any (moves p l.at.clock st.contents) (take l.i (numbered st));
-      seated : (k : ℕ) → k < l.i → IsSeated p (l.at.clock + 1) k (get_or l.states k nobody) (get_or l.seats k no_seat);
+      seated : (k : ℕ) → k < l.i → IsSeated p l.at.of.now.codes.now (l.at.clock + 1) k (get_or l.states k nobody) (get_or l.seats k
+          no_seat);
       rest : (k : ℕ) → l.i ≤ k → k < length p.design.modules
-          → IsSeated p l.at.clock k (get_or l.states k nobody) (get_or l.seats k no_seat);
+          → IsSeated p l.at.of.now.codes.now l.at.clock k (get_or l.states k nobody) (get_or l.seats k no_seat);
       done : HasDone l.at.keep l.initial.round l.round (flat_map (step_of p l.at.clock st.contents) (take l.i (numbered st)));
       told : (k : ℕ) → k < l.i → get_or l.answers k [] ≡ get_or l.initial.answers k [] ++ outcomes (step_at p l.at.clock k);
       untold : (k : ℕ) → l.i ≤ k → get_or l.answers k [] ≡ get_or l.initial.answers k [];

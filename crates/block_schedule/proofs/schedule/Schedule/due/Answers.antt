@@ -1,6 +1,4 @@
-use Rattle.std.proofs.Common.{◌∙◌, ◌+◌, ◌-◌, ap, sym, subst, arith, ℕ, List, map}
-use Rattle.std.specs.Prelude.{All, slice_range}
-use Rattle.block_schedule.specs.{declared.tables.Slot.Slot, Schedules.placed, Schedules.IsSlotOf}
+use Rattle.std.proofs.Common.{◌+◌, ◌-◌, ap, arith, ℕ}
 use Rattle.block_schedule.proofs.Due.{same_bound, newest_rank, in_one_phase, many_ranks, due_is, slots_inside}
 use Rattle.block_schedule.proofs.schedule.Schedule.due.Goals as goal
 
@@ -27,8 +25,7 @@ returns-clause-places c b is =
     let below = same_bound c.requires.0 b s c.args.age c.args.live c.requires.1.0 is c.requires.1.1 in
     let some = many_ranks b s c.args.age c.args.live newest is below c.rank-end.ensures in
     let same = newest_rank b s c.args.age newest is c.rank-end.ensures in
-    ap (λ (ts : List Slot). map (placed oldest) (slice_range ts c.range-from.result.0 c.range-from.result.1)) c.deref.ensures.value
-    ∙ due_is b s c.args.age c.args.live (newest + 1) c.range-from.result.0 c.range-from.result.1 is below
+    due_is b s c.args.age c.args.live (newest + 1) c.range-from.result.0 c.range-from.result.1 is below
     (ap (λ (r : ℕ). r + 1) same) some c.range-from.ensures
 
 pub returns-clause-inside : goal.returns-clause-inside
@@ -38,6 +35,4 @@ returns-clause-inside c b is =
     let oldest : ℕ = newest + 1 - c.args.live in
     let below = same_bound c.requires.0 b s c.args.age c.args.live c.requires.1.0 is c.requires.1.1 in
     let some = many_ranks b s c.args.age c.args.live newest is below c.rank-end.ensures in
-    subst (λ (ts : List Slot). All (IsSlotOf b oldest c.args.live) (slice_range ts c.range-from.result.0 c.range-from.result.1))
-    (sym c.deref.ensures.value)
-    (slots_inside b s c.args.live (newest + 1) c.range-from.result.0 c.range-from.result.1 is some c.range-from.ensures)
+    slots_inside b s c.args.live (newest + 1) c.range-from.result.0 c.range-from.result.1 is some c.range-from.ensures

@@ -1,4 +1,7 @@
-use Rattle.std.proofs.Common.{arith}
+use Rattle.std.proofs.Common.{◌≡◌, ◌∙◌, ◌<◌, ap, subst, arith, List, get_or, length}
+use Rattle.std.proofs.lemmas.List.{get_or_default}
+use Rattle.block_code.specs.declared.code.BlockCode.{BlockCode}
+use Rattle.module_move.specs.Sound.{AreNotesOf}
 use Rattle.module_interp.proofs.{Timing.module_sound, Ways.has_begun, Ways.code_read}
 use Rattle.module_interp.proofs.path.Path.ask.Goals as goal
 
@@ -27,3 +30,15 @@ returns-clause-asked c = λ channels codes.
     let inside = (has_begun x c.requires.path c.requires.begun c.requires.alive).sound.state.block in
     c.in_ok-note.ensures.asked channels
     (code_read x codes c.as_slice.result.now c.index-as_slice-self.result c.as_slice.ensures c.index-as_slice-self.is inside)
+
+pub returns-clause-noted : goal.returns-clause-noted
+returns-clause-noted c d =
+    let x = c.args.self.now in
+    let sound = (has_begun x c.requires.path c.requires.begun c.requires.alive).sound in
+    let code = c.index-as_slice-self.result in
+    let inside : x.state.control.block < length x.codes = omega (arith, sound.state.block, c.requires.path.is.codes.count) in
+    let same : code ≡ get_or x.codes x.state.control.block d =
+    c.index-as_slice-self.is ∙ (ap (λ (ys : List BlockCode). get_or ys x.state.control.block code) c.as_slice.ensures
+    ∙ get_or_default x.codes x.state.control.block code d inside) in
+    subst (λ (b : BlockCode). AreNotesOf x.of x.state b c.note.new.notes) same
+    (record { in_code = c.in_ok-note.ensures.notes; are = c.in_ok-note.ensures.noted })

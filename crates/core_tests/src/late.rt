@@ -3,11 +3,11 @@ ghost use Rattle.event_timing.specs.Actions.{IsFinal};
 ghost use Rattle.timing_bridge.specs.Designs.{design};
 ghost use Rattle.sim_core.specs.Views.{theory_of};
 
-use depth_bounds::{Target, asks_nothing, find_latest, late_depth};
+use path_check::{Target, asks_nothing, find_latest, late_depth};
 use depth_cuts::Need;
 use flow_design::Edit;
 use flow_word::Place;
-use late_cuts::find_cut;
+use depth_cuts::find_cut;
 use path_check::{ends_after, never_ends};
 use sim_core::{Core, run_alone};
 use std::process::Abort;

@@ -2,9 +2,9 @@
 ghost use Rattle.std.specs.Prelude.{◌≡◌, ◌<◌, true, IsSome};
 ghost use Rattle.flow_design.specs.Plans.{is_fifo, kind_at};
 ghost use Rattle.depth_order.specs.Depths.{AsksNothing};
-ghost use Rattle.depth_bounds.specs.Late.{IsLateBelow};
+ghost use Rattle.path_check.specs.Late.{IsLateBelow};
 
-use depth_bounds::{Latest, Target, asks_nothing, find_latest, late_depth};
+use path_check::{Latest, Target, asks_nothing, find_latest, late_depth};
 use depth_session::DepthSession;
 use std::alloc::Global;
 

@@ -8,7 +8,7 @@ ghost use Rattle.whole_answer.specs.Further.{sized, fewest_bits, least_told};
 use crate::answer::Answer;
 use crate::ending::Ending;
 use crate::refusing::{HAS_QUERY, refuse};
-use depth_bounds::asks_nothing;
+use path_check::asks_nothing;
 use depth_session::ThreadRunner;
 use flow_design::Plan;
 use flow_word::OutOfMemory;

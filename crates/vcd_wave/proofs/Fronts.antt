@@ -6,7 +6,7 @@ use Rattle.std.proofs.Math.Seq.{take-append_seam, drop-append_seam}
 use Rattle.std.specs.{Prelude.IsTrue, Prelude.codes, Prelude.decimal, List.AllByRecursion}
 use Rattle.std.specs.Cmp.Lexicographic.{same_text, other_text, pointwise}
 use Rattle.flow_design.specs.Names.{is_name}
-use Rattle.vcd_wave.specs.{Digits.numeral, Headers.named, Headers.Names, Headers.empty_text, Headers.empty_from}
+use Rattle.vcd_wave.specs.{Digits.numeral, Headers.declaring, Headers.Names, Headers.empty_text, Headers.empty_from}
 use Rattle.vcd_wave.proofs.{Cutting.cut, Cutting.name_lacks, OneWave.vars_from, OneWave.var_parts, OneWave.change_parts}
 use Rattle.vcd_wave.proofs.Numerals.{numeral_binary, numeral_decimal, lacks_each}
 
@@ -26,26 +26,26 @@ front_not text front rest e is =
 -- ---- names
 
 named_vars : (n : ℕ) (x : List ℕ) (xs : List (List ℕ)) (r : List ℕ) → n < 2 ^ 64
-    → named n x (vars_from (n + 1) xs ++ r) ≡ vars_from n (x ∷ xs) ++ r
+    → declaring n x (vars_from (n + 1) xs ++ r) ≡ vars_from n (x ∷ xs) ++ r
 named_vars n x xs r h =
     let end = x ++ 32 ∷ (codes "$end\n" ++ (vars_from (n + 1) xs ++ r)) in
     ap (λ (d : List ℕ). codes "$var wire 32 f" ++ (d ++ 32 ∷ end)) (numeral_decimal n h)
     ∙ (ap (λ (t : List ℕ). codes "$var wire 32 f" ++ t) (sym (append_assoc (decimal n) (32 ∷ []) end)) ∙ sym (var_parts n x xs r))
 
 pub names_more : (n : ℕ) (text name behind : List ℕ) (m : ℕ) (r : List ℕ) → n < 2 ^ 64 → IsTrue (is_name name)
-    → text ≡ named n name behind → Names (n + 1) behind m r → Names n text m r
+    → text ≡ declaring n name behind → Names (n + 1) behind m r → Names n text m r
 names_more n text name behind m r l is e h = record {
   names = name ∷ h.names;
   all = (is, h.all);
   counted = omega (arith, h.counted);
-  is_text = e ∙ (ap (named n name) h.is_text ∙ named_vars n name h.names (36 ∷ 117 ∷ r) l);
+  is_text = e ∙ (ap (declaring n name) h.is_text ∙ named_vars n name h.names (36 ∷ 117 ∷ r) l);
 }
 
 record NamesFirst (n : ℕ) (text : List ℕ) (m : ℕ) (r : List ℕ) : Type 0 where
   name : List ℕ
   behind : List ℕ
   is : IsTrue (is_name name)
-  is_text : text ≡ named n name behind
+  is_text : text ≡ declaring n name behind
   more : Names (n + 1) behind m r
 
 first_from : (n : ℕ) (text : List ℕ) (m : ℕ) (r : List ℕ) (xs : List (List ℕ)) → n < 2 ^ 64
@@ -76,21 +76,21 @@ names_end n text end m r l e h = elim (names_first n text m r l h) [
 
 pub names_stuck : (n : ℕ) (text : List ℕ) (m : ℕ) (r : List ℕ) → n < 2 ^ 64
     → ((rest : List ℕ) → text ≡ 36 ∷ 117 ∷ rest → ⊥)
-    → ((name rest : List ℕ) → IsTrue (is_name name) → text ≡ named n name rest → ⊥) → Names n text m r → ⊥
+    → ((name rest : List ℕ) → IsTrue (is_name name) → text ≡ declaring n name rest → ⊥) → Names n text m r → ⊥
 names_stuck n text m r l a b h = elim (names_first n text m r l h) [
   | inl x ↦ a r x.0
   | inr f ↦ b f.name f.behind f.is f.is_text
 ]
 
-pub names_on : (n : ℕ) (text name behind : List ℕ) (m : ℕ) (r : List ℕ) → n < 2 ^ 64 → text ≡ named n name behind
-    → ((other rest : List ℕ) → IsTrue (is_name other) → text ≡ named n other rest → behind ≡ rest) → Names n text m r
+pub names_on : (n : ℕ) (text name behind : List ℕ) (m : ℕ) (r : List ℕ) → n < 2 ^ 64 → text ≡ declaring n name behind
+    → ((other rest : List ℕ) → IsTrue (is_name other) → text ≡ declaring n other rest → behind ≡ rest) → Names n text m r
     → Names (n + 1) behind m r
 names_on n text name behind m r l e same h = elim (names_first n text m r l h) [
   | inl x ↦ absurd (let wrong : 117 ≡ 118 = ap (λ (t : List ℕ). get_or t 1 0) (sym x.0 ∙ e) in omega (arith, wrong))
   | inr f ↦ subst (λ (t : List ℕ). Names (n + 1) t m r) (sym (same f.name f.behind f.is f.is_text)) f.more
 ]
 
-pub name_long : (n : ℕ) (text name behind : List ℕ) → text ≡ named n name behind → length behind + 1 ≤ length text
+pub name_long : (n : ℕ) (text name behind : List ℕ) → text ≡ declaring n name behind → length behind + 1 ≤ length text
 name_long n text name behind e =
     omega (
       arith,

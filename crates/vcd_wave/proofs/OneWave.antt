@@ -6,8 +6,9 @@ use Rattle.std.proofs.lemmas.List.Elements.{recursion_from_All}
 use Rattle.std.specs.{Prelude.codes, Prelude.decimal, Prelude.IsTrue, List.flat_map, List.enumerate_from, List.All, List.AllByRecursion}
 use Rattle.flow_design.specs.Names.{is_name}
 use Rattle.report_text.specs.Lines.{Token, line, text_of_lines}
-use Rattle.vcd_wave.specs.{Binary.binary, Wave.Change, Wave.Instant, Wave.Wave, Told.IsChange, Told.IsWave}
-use Rattle.vcd_wave.specs.WaveText.{code_of, var_tokens, time_tokens, change_tokens, instant_lines, opening, header_lines, wave_text}
+use Rattle.vcd_wave.specs.{Binary.binary_digits, Wave.Change, Wave.Instant, Wave.Wave, Told.IsChange, Told.IsWave}
+use Rattle.vcd_wave.specs.WaveText.{fifo_code, var_tokens, time_tokens, change_tokens, instant_lines, opening_instant, header_lines}
+use Rattle.vcd_wave.specs.WaveText.{wave_text}
 use Rattle.vcd_wave.proofs.Cutting.{Lacks, cut, decimal_lacks, binary_lacks, binary_same, name_lacks}
 use Rattle.fifo_fills.proofs.Acts.{all_map}
 use Rattle.report_text.proofs.LineLemmas.{text-append}
@@ -29,13 +30,13 @@ abbrev pub vars_from : ℕ → List (List ℕ) → List ℕ
 vars_from n names = text_of_lines (map var_tokens (enumerate_from n names))
 
 abbrev pub var_front : ℕ → List ℕ
-var_front n = codes "$var wire 32" ++ 32 ∷ (code_of n ++ 32 ∷ [])
+var_front n = codes "$var wire 32" ++ 32 ∷ (fifo_code n ++ 32 ∷ [])
 
 pub var_parts : (n : ℕ) (x : List ℕ) (xs : List (List ℕ)) (r : List ℕ)
     → vars_from n (x ∷ xs) ++ r ≡ var_front n ++ (x ++ 32 ∷ (codes "$end" ++ 10 ∷ (vars_from (n + 1) xs ++ r)))
 var_parts n x xs r =
     append_assoc (line (var_tokens (n, x))) (vars_from (n + 1) xs) r
-    ∙ line_four (codes "$var wire 32") (code_of n) x (codes "$end") (vars_from (n + 1) xs ++ r)
+    ∙ line_four (codes "$var wire 32") (fifo_code n) x (codes "$end") (vars_from (n + 1) xs ++ r)
 
 -- behind the names stands no line of a name
 vars_same : (n : ℕ) (xs ys : List (List ℕ)) (r s : List ℕ) → AllByRecursion (Lacks 32) xs → AllByRecursion (Lacks 32) ys
@@ -71,10 +72,10 @@ abbrev pub changes_text : List Change → List ℕ
 changes_text cs = text_of_lines (map change_tokens cs)
 
 pub change_parts : (c : Change) (cs : List Change) (r : List ℕ)
-    → changes_text (c ∷ cs) ++ r ≡ 98 ∷ (binary c.fill ++ 32 ∷ (102 ∷ (decimal c.fifo ++ 10 ∷ (changes_text cs ++ r))))
+    → changes_text (c ∷ cs) ++ r ≡ 98 ∷ (binary_digits c.fill ++ 32 ∷ (102 ∷ (decimal c.fifo ++ 10 ∷ (changes_text cs ++ r))))
 change_parts c cs r =
     append_assoc (line (change_tokens c)) (changes_text cs) r
-    ∙ line_two (98 ∷ binary c.fill) (code_of c.fifo) (changes_text cs ++ r)
+    ∙ line_two (98 ∷ binary_digits c.fill) (fifo_code c.fifo) (changes_text cs ++ r)
 
 -- what follows is not a change
 changes_same : (cs ds : List Change) (r s : List ℕ) → get_or r 0 0 ≢ 98 → get_or s 0 0 ≢ 98
@@ -86,10 +87,10 @@ changes_same [] (d ∷ ds) r s nr ns h g e =
 changes_same (c ∷ cs) [] r s nr ns h g e =
     absurd (ns (ap (λ (l : List ℕ). get_or l 0 0) (sym e ∙ change_parts c cs r)))
 changes_same (c ∷ cs) (d ∷ ds) r s nr ns h g e =
-    let behind = append_cancel_left (98 ∷ []) (binary c.fill ++ 32 ∷ (102 ∷ (decimal c.fifo ++ 10 ∷ (changes_text cs ++ r))))
-    (binary d.fill ++ 32 ∷ (102 ∷ (decimal d.fifo ++ 10 ∷ (changes_text ds ++ s))))
+    let behind = append_cancel_left (98 ∷ []) (binary_digits c.fill ++ 32 ∷ (102 ∷ (decimal c.fifo ++ 10 ∷ (changes_text cs ++ r))))
+    (binary_digits d.fill ++ 32 ∷ (102 ∷ (decimal d.fifo ++ 10 ∷ (changes_text ds ++ s))))
     (sym (change_parts c cs r) ∙ (e ∙ change_parts d ds s)) in
-    let number = cut 32 (binary c.fill) (binary d.fill) _ _ (binary_lacks 32 c.fill (omega arith))
+    let number = cut 32 (binary_digits c.fill) (binary_digits d.fill) _ _ (binary_lacks 32 c.fill (omega arith))
     (binary_lacks 32 d.fill (omega arith)) behind in
     let code = append_cancel_left (102 ∷ []) (decimal c.fifo ++ 10 ∷ (changes_text cs ++ r)) (decimal d.fifo ++ 10 ∷ (changes_text ds ++ s))
     number.1 in
@@ -141,7 +142,7 @@ instants_same (i ∷ is) (j ∷ js) h g e =
 -- ---- the whole text
 
 abbrev pub opening_text : ℕ → List ℕ
-opening_text n = text_of_lines (instant_lines (opening n))
+opening_text n = text_of_lines (instant_lines (opening_instant n))
 
 abbrev pub scope : List ℕ
 scope = codes "$timescale 1 ns $end\n$scope module flow $end\n"
@@ -163,7 +164,7 @@ pub wave_parts : (w : Wave)
     ≡ scope ++ (vars_from 0 w.names ++ 36 ∷ 117 ∷ (end_of_scope ++ (opening_text (length w.names) ++ instants_text w.later)))
 unfolding wave_text
 wave_parts w =
-    let o = instant_lines (opening (length w.names)) in
+    let o = instant_lines (opening_instant (length w.names)) in
     let l = flat_map instant_lines w.later in
     let vs = map var_tokens (enumerate_from 0 w.names) in
     three (header_lines w.names) o l

@@ -6,8 +6,8 @@ use Rattle.report_text.specs.Lines.{text_of_lines}
 use Rattle.vcd_wave.specs.{Wave.Change, WaveText.var_tokens, WaveText.change_tokens, Digits.numeral}
 
 -- a text that begins with the line that declares FIFO n under this name
-abbrev pub named : ℕ → List ℕ → List ℕ → List ℕ
-named n name rest = codes "$var wire 32 f" ++ (numeral 10 n ++ 32 ∷ (name ++ 32 ∷ (codes "$end\n" ++ rest)))
+abbrev pub declaring : ℕ → List ℕ → List ℕ → List ℕ
+declaring n name rest = codes "$var wire 32 f" ++ (numeral 10 n ++ 32 ∷ (name ++ 32 ∷ (codes "$end\n" ++ rest)))
 
 -- the text declares FIFOs, from number n on and up to `count`; then comes `$u`, and then the rest
 pub record Names (n : ℕ) (text : List ℕ) (count : ℕ) (rest : List ℕ) : Type 0 where

@@ -1,7 +1,7 @@
 //! Reading what comes in a wave before its later clocks.
 ghost use Rattle.std.specs.Prelude.{◌≡◌, ◌<◌, ◌^◌, ◌∷◌, ◌++◌, ℕ, List, IfSome, MatchOption, IsTrue, length};
 ghost use Rattle.flow_design.specs.Names.{is_name};
-ghost use Rattle.vcd_wave.specs.{Digits.numeral, Headers.named, Headers.Names, Headers.Headed, Headers.empty_text};
+ghost use Rattle.vcd_wave.specs.{Digits.numeral, Headers.declaring, Headers.Names, Headers.Headed, Headers.empty_text};
 
 use crate::numbers::{cut, number_before};
 use flow_design::is_name;
@@ -33,8 +33,8 @@ fn behind_number<'a>(text: &'a [u8], front: &[u8], number: u64, byte: u8) -> Opt
 
 /// The text after the line that declares the FIFO with this number. `None` where it does not begin with such a line.
 fn behind_name(number: u64, text: &[u8]) -> Option<&[u8]>
-    ensures some { IfSome result (λ rest. (name : List ℕ) × IsTrue (is_name name) × (text.now ≡ named number name rest.now)) }
-    ensures all { (name rest : List ℕ) → IsTrue (is_name name) → text.now ≡ named number name rest
+    ensures some { IfSome result (λ rest. (name : List ℕ) × IsTrue (is_name name) × (text.now ≡ declaring number name rest.now)) }
+    ensures all { (name rest : List ℕ) → IsTrue (is_name name) → text.now ≡ declaring number name rest
         → MatchOption result ⊥ (λ found. found.now ≡ rest) }
 {
     let line = behind_number(text, b"$var wire 32 f", number, b' ')?;

@@ -4,7 +4,8 @@ use Rattle.std.specs.List.{flat_map, range_with_len}
 use Rattle.flow_word.specs.{declared.access.Side.Side, declared.access.Side.TheVariants.Pop, declared.access.Side.TheVariants.Push}
 use Rattle.flow_design.specs.{declared.design.Design.Design, declared.plan.Plan.Plan, declared.report.Verdict.Verdict, Reports.clock_of}
 use Rattle.lockstep_defs.specs.Verdict.{verdict}
-use Rattle.report_text.specs.{Lines.Token, Lines.text_of_lines, Lines.verdict_tokens, ReportText.module_name, ReportText.channel_name}
+use Rattle.report_text.specs.Lines.{Token, text_of_lines, verdict_tokens}
+use Rattle.report_text.specs.ReportText.{module_name, channel_name, stall_word}
 use Rattle.depth_order.specs.{declared.link.Link.Link, Chain.path}
 use Rattle.sim_core.specs.AccessLog.{log_of}
 use Rattle.path_text.specs.{declared.link.Polled.Polled, Polls.polled_path, Polls.links_in, Polls.polls_in}
@@ -14,14 +15,9 @@ use Rattle.path_text.specs.Counts.{clocks_in, clocks_waited, crossings, times_po
 abbrev pub spend_lines : Token → ℕ → List (List Token)
 spend_lines name n = if n == 0 then [] else (codes "spend" ∷ name ∷ decimal n ∷ []) ∷ []
 
--- `empty` where a module could not pop, and `full` where one could not push
-abbrev pub side_word : Side → Token
-side_word Pop = codes "empty"
-side_word Push = codes "full"
-
 -- the line `cross empty F N` or `cross full F N` for a channel F that the chain crosses N times so, if N is not 0
 abbrev pub cross_lines : Side → Token → ℕ → List (List Token)
-cross_lines side name n = if n == 0 then [] else (codes "cross" ∷ side_word side ∷ name ∷ decimal n ∷ []) ∷ []
+cross_lines side name n = if n == 0 then [] else (codes "cross" ∷ stall_word side ∷ name ∷ decimal n ∷ []) ∷ []
 
 -- the line `poll empty F N W` for N elements polled for on channel F, to whose pushes the chain goes back, and which waited W
 -- clocks in all, if N is not 0

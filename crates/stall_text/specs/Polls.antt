@@ -6,7 +6,7 @@ use Rattle.flow_word.specs.declared.access.Kind.{Kind}
 use Rattle.flow_word.specs.declared.access.Kind.TheVariants.{Read, Write, TryRead, TryWrite, Empty, Full}
 use Rattle.flow_design.specs.declared.plan.Plan.{Plan}
 use Rattle.fifo_fills.specs.Fills.{last_clock}
-use Rattle.report_text.specs.{Lines.Token, ReportText.module_name, ReportText.channel_name}
+use Rattle.report_text.specs.{Lines.Token, ReportText.module_name, ReportText.channel_name, ReportText.kind_token}
 use Rattle.sim_core.specs.{AccessLog.log_of, declared.access_log.LoggedAccess.LoggedAccess}
 
 -- ---- missed queries
@@ -64,18 +64,10 @@ queries_of p i kind f = filter (λ a. is_of i a && asks kind f a) (log_of p)
 abbrev pub polls_lines : Token → ℕ → List (List Token)
 polls_lines name n = if n == 0 then [] else (codes "polls" ∷ name ∷ decimal n ∷ []) ∷ []
 
-abbrev pub query_word : Kind → Token
-query_word Read = codes "read"
-query_word Write = codes "write"
-query_word TryRead = codes "tryread"
-query_word TryWrite = codes "trywrite"
-query_word Empty = codes "empty"
-query_word Full = codes "full"
-
 -- the line `poll M KIND F TRIED MISSED`, if TRIED is not 0
 abbrev pub query_lines : Token → Kind → Token → ℕ → ℕ → List (List Token)
 query_lines name kind channel tried missed =
-    if tried == 0 then [] else (codes "poll" ∷ name ∷ query_word kind ∷ channel ∷ decimal tried ∷ decimal missed ∷ []) ∷ []
+    if tried == 0 then [] else (codes "poll" ∷ name ∷ kind_token kind ∷ channel ∷ decimal tried ∷ decimal missed ∷ []) ∷ []
 
 -- for each channel, in order of declaration, the lines of each kind of query
 abbrev pub at_each_query : ℕ → (ℕ → Kind → List (List Token)) → List (List Token)

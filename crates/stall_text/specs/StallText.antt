@@ -4,19 +4,16 @@ use Rattle.std.specs.List.{flat_map, range_with_len}
 use Rattle.flow_word.specs.{declared.access.Side.Side, declared.access.Side.TheVariants.Pop, declared.access.Side.TheVariants.Push}
 use Rattle.flow_design.specs.declared.plan.Plan.{Plan}
 use Rattle.lockstep_defs.specs.Verdict.{verdict}
-use Rattle.report_text.specs.{Lines.Token, Lines.text_of_lines, Lines.verdict_tokens, ReportText.module_name, ReportText.channel_name}
+use Rattle.report_text.specs.Lines.{Token, text_of_lines, verdict_tokens}
+use Rattle.report_text.specs.ReportText.{module_name, channel_name, stall_word}
 use Rattle.fifo_fills.specs.Fills.{fifos}
 use Rattle.stall_spans.specs.Totals.{moved_clocks, still_clocks, still_clocks_at}
 use Rattle.stall_text.specs.{Stalls.port_clocks, Stalls.most, Stalls.empty_clocks, Stalls.full_clocks, Polls.poll_lines}
 
-abbrev pub side_word : Side → Token
-side_word Pop = codes "pop"
-side_word Push = codes "push"
-
--- the word for the cause of a stall: a module that cannot pop stalls at an empty channel, and one that cannot push at a full one
-abbrev pub cause_word : Side → Token
-cause_word Pop = codes "empty"
-cause_word Push = codes "full"
+-- the word for a port
+abbrev pub port_word : Side → Token
+port_word Pop = codes "pop"
+port_word Push = codes "push"
 
 -- the tokens of `module M MOVED STILL`
 abbrev pub module_tokens : Token → ℕ → ℕ → List Token
@@ -25,7 +22,7 @@ module_tokens name moved still = codes "module" ∷ name ∷ decimal moved ∷ d
 -- the line `stall M empty F N` or `stall M full F N`, if N is not 0
 abbrev pub cause_lines : Token → Token → Side → ℕ → List (List Token)
 cause_lines name channel side clocks =
-    if clocks == 0 then [] else (codes "stall" ∷ name ∷ cause_word side ∷ channel ∷ decimal clocks ∷ []) ∷ []
+    if clocks == 0 then [] else (codes "stall" ∷ name ∷ stall_word side ∷ channel ∷ decimal clocks ∷ []) ∷ []
 
 -- the last of these numbers, or n where there are no further ones
 abbrev pub last_of : ℕ → List ℕ → ℕ
@@ -36,7 +33,7 @@ last_of n (m ∷ more) = last_of m more
 abbrev pub port_lines : Token → Token → Side → List ℕ → List (List Token)
 port_lines name channel side [] = []
 port_lines name channel side (first ∷ more) =
-    (codes "port" ∷ name ∷ side_word side ∷ channel ∷ decimal (length (first ∷ more)) ∷ decimal first
+    (codes "port" ∷ name ∷ port_word side ∷ channel ∷ decimal (length (first ∷ more)) ∷ decimal first
     ∷ decimal (last_of first more) ∷ []) ∷ []
 
 -- for each channel, in order of declaration, the lines of its popping side and then those of its pushing side

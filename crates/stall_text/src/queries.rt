@@ -6,7 +6,7 @@ ghost use Rattle.stall_text.specs.Polling.{asked_by, unasked, own_queries, AreAs
 
 use flow_design::Design;
 use flow_word::{Kind, List, OutOfMemory};
-use report_text::{channel_name, module_name, push_token, push_value};
+use report_text::{channel_name, kind_word, module_name, push_token, push_value};
 use sim_core::LoggedAccess;
 use std::alloc::Global;
 
@@ -181,23 +181,9 @@ fn print_query(
 {
     text.extend_from_slice(b"poll")?;
     push_token(text, name)?;
-    push_token(text, query_word(kind))?;
+    push_token(text, kind_word(kind))?;
     push_token(text, channel)?;
     push_value(text, of.tried)?;
     push_value(text, of.missed)?;
     text.push(b'\n')
-}
-
-/// The word for a kind of access.
-fn query_word(kind: Kind) -> &'static [u8]
-    ensures { result.now ≡ form.query_word kind }
-{
-    match kind {
-        Kind::Read => b"read",
-        Kind::Write => b"write",
-        Kind::TryRead => b"tryread",
-        Kind::TryWrite => b"trywrite",
-        Kind::Empty => b"empty",
-        Kind::Full => b"full",
-    }
 }

@@ -1,9 +1,9 @@
 -- How full a FIFO is, by the clocks in which elements were pushed on it and popped off it.
 use Rattle.std.proofs.Common.{◌≡◌, ℕ, zero, suc, ◌+◌, ◌-◌, ◌<◌, ◌≤◌, ◌^◌, List, [], ◌∷◌, map, length, Bool, true, false, ◌&&◌, not, cond}
-use Rattle.std.proofs.Common.{max, refl, sym, ◌∙◌, ap, ap₂, arith, get_or, ltb, leb, inl, inr, length-append}
+use Rattle.std.proofs.Common.{refl, sym, ◌∙◌, ap, ap₂, arith, get_or, ltb, leb, inl, inr, length-append}
 use Rattle.std.proofs.lemmas.Bool.{cases_lt, lt-ltb, le-ltb, le-leb, lt-leb}
 use Rattle.std.proofs.{lemmas.List.length-map, lemmas.List.get_or-map, lemmas.List.Sums.sum_by-cons}
-use Rattle.std.specs.{Prelude.All, Prelude.AllPairs, List.fold, List.range_with_len, List.count_by}
+use Rattle.std.specs.{Prelude.All, Prelude.AllPairs, List.range_with_len, List.count_by}
 use Rattle.flow_word.specs.declared.access.Side.TheVariants.{Pop, Push}
 use Rattle.flow_design.specs.{declared.design.ChannelKind.ChannelKind, declared.plan.Plan.Plan, declared.state.Element.Element}
 use Rattle.flow_design.specs.declared.design.ChannelKind.TheVariants.{Source, Sink, Fifo}
@@ -14,9 +14,9 @@ use Rattle.lockstep_defs.specs.Channels.{moved, values, contents_of, is_empty, i
 use Rattle.lockstep_defs.specs.{Lockstep.state, Lockstep.history, Laws.all_in}
 use Rattle.lockstep_defs.proofs.Counts.{is_counted, delay_positive, fifo_opens_empty}
 use Rattle.fifo_fills.specs.Fills.{fill, last_clock}
-use Rattle.port_clocks.specs.{Leads.before, Leads.is_ahead, Leads.ahead_clocks, Leads.most_ahead, Clocks.ArePortClocks}
+use Rattle.port_clocks.specs.{Leads.before, Leads.is_ahead, Leads.ahead_clocks, Clocks.ArePortClocks}
 use Rattle.port_clocks.proofs.Filled.{fill_told}
-use Rattle.stall_text.specs.{Stalls.most, Stalls.empty_clocks, Stalls.full_clocks, Filling.later, Filling.empty_by}
+use Rattle.stall_text.specs.{Stalls.empty_clocks, Stalls.full_clocks, Filling.later, Filling.empty_by}
 
 -- ---- clocks that come later
 
@@ -79,11 +79,6 @@ others_counted t u a (suc n) h =
       one_of_both (u a),
     )
 
-same_maps : (g h : ℕ → ℕ) (a n : ℕ) → ((c : ℕ) → c < a + n → g c ≡ h c) → map g (range_with_len a n) ≡ map h (range_with_len a n)
-same_maps g h a zero e = refl
-same_maps g h a (suc n) e =
-    ap₂ (λ (x : ℕ) (xs : List ℕ). x ∷ xs) (e a (omega arith)) (same_maps g h (a + 1) n (λ c l. e c (omega arith)))
-
 -- ---- tests by counts
 
 less_test : (a b : ℕ) → ltb a b ≡ leb (a + 1) b
@@ -109,14 +104,6 @@ full_test depth held popped pushed e = elim (cases_lt held depth) [
 module _ (p : Plan) (fits : FitsEngine p) (f : ℕ) (l : f < length p.design.channels) (fifo : is_fifo (kind_at p f) ≡ true)
     (pops pushes : List ℕ) (h : ArePortClocks p (record { side = Pop; channel = f }) pops)
     (k : ArePortClocks p (record { side = Push; channel = f }) pushes) where
-  fill_is : (c : ℕ) → c ≤ last_clock p → fill p f c ≡ before pushes c - before pops c
-  fill_is c m = omega (arith, fill_told p fits f l fifo pops pushes h k c m)
-
-  pub most_is : most p f ≡ most_ahead pushes pops (last_clock p)
-  unfolding most most_ahead
-  most_is =
-      ap (fold max 0) (same_maps (fill p f) (λ c. before pushes c - before pops c) 0 (last_clock p + 1) (λ c m. fill_is c (omega arith)))
-
   full_is : (c : ℕ) → c ≤ last_clock p → is_full p f (contents_of (state p c).contents f) ≡ is_ahead (get_or p.depths f 0) pushes pops c
   unfolding fill
   full_is c m =

@@ -18,13 +18,14 @@ use Rattle.fifo_fills.specs.Fills.{fifos, last_clock}
 use Rattle.fifo_fills.proofs.Ending.{last_within}
 use Rattle.port_clocks.specs.{Leads.most_ahead, Leads.ahead_clocks, Clocks.ArePortClocks}
 use Rattle.stall_spans.specs.Totals.{moved_clocks, still_clocks, still_clocks_at}
+use Rattle.port_clocks.proofs.Filled.{peak_told}
 use Rattle.stall_text.specs.{declared.fifos.Filling.Filling, declared.polls.Polls.Polls, Causes.causes_by, Filling.empty_by}
 use Rattle.stall_text.specs.{Filling.IsFilling, Polls.poll_lines, Polls.polls_lines, Polls.tries_of}
 use Rattle.stall_text.specs.StallText.{module_tokens, cause_lines, at_each_side, causes_of, ports_of, clock_lines, module_lines}
 use Rattle.stall_text.specs.StallText.{fifo_tokens, fifo_line, stalls_text}
 use Rattle.stall_text.specs.Polling.{ArePollings, ArePollsOf, AreQueries, HavePolls, all_queries, polled_so_far, polling_lines}
-use Rattle.stall_text.proofs.{Lines.same_sides, Lines.same_queries, Lines.two_more, Asked.own_tries, Polled.polled_is}
-use Rattle.stall_text.proofs.Fills.{most_is, empty_clocks_are, full_clocks_are}
+use Rattle.stall_text.proofs.Lines.{same_sides, same_queries, two_more}
+use Rattle.stall_text.proofs.{Asked.own_tries, Polled.polled_is, Fills.empty_clocks_are, Fills.full_clocks_are}
 
 pub clock_few : (p : Plan) → FitsEngine p → (clock : ℕ) → clock ≡ last_clock p → clock ≤ CYCLES
 clock_few p fits clock e = let most = fits.cycles in omega (arith, last_within p)
@@ -104,7 +105,7 @@ pub filling_is : (p : Plan) → FitsEngine p → (f : ℕ) → f < length p.desi
     → filling.empty ≡ empty_by (delay_at p f) clock pops pushes
     → filling.full ≡ ahead_clocks (get_or p.depths f 0) pushes pops clock → IsFilling p f filling
 filling_is p fits f l fifo clock last pops pushes h k filling a b c = record {
-  most = a ∙ (ap (most_ahead pushes pops) last ∙ sym (most_is p fits f l fifo pops pushes h k));
+  most = a ∙ (ap (most_ahead pushes pops) last ∙ sym (peak_told p fits f l fifo pops pushes h k));
   empty = b ∙ (ap (λ (n : ℕ). empty_by (delay_at p f) n pops pushes) last ∙ sym (empty_clocks_are p fits f l fifo pops pushes h k));
   full = c ∙ (ap (ahead_clocks (get_or p.depths f 0) pushes pops) last ∙ sym (full_clocks_are p fits f l fifo pops pushes h k));
 }

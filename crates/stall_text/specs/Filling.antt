@@ -1,8 +1,8 @@
 -- How full a FIFO is, by the clocks of its pops and pushes.
 use Rattle.std.specs.Prelude.{ℕ, ◌≡◌, ◌+◌, ◌-◌, List, map}
 use Rattle.flow_design.specs.declared.plan.Plan.{Plan}
-use Rattle.port_clocks.specs.Leads.{ahead_clocks}
-use Rattle.stall_text.specs.{declared.fifos.Filling.Filling, Stalls.most, Stalls.empty_clocks, Stalls.full_clocks}
+use Rattle.port_clocks.specs.{Leads.ahead_clocks, Peaks.peak}
+use Rattle.stall_text.specs.{declared.fifos.Filling.Filling, Stalls.empty_clocks, Stalls.full_clocks}
 
 -- each of these clocks, `by` clocks later
 abbrev pub later : ℕ → List ℕ → List ℕ
@@ -14,6 +14,6 @@ empty_by delay clock pops pushes = clock - ahead_clocks 1 (later (delay - 1) pus
 
 -- the filling is that of channel f
 pub record IsFilling (p : Plan) (f : ℕ) (filling : Filling) : Type 0 where
-  pub most : filling.most ≡ most p f
+  pub most : filling.most ≡ peak p f
   pub empty : filling.empty ≡ empty_clocks p f
   pub full : filling.full ≡ full_clocks p f

@@ -8,7 +8,8 @@ use Rattle.report_text.specs.Lines.{Token, text_of_lines, verdict_tokens}
 use Rattle.report_text.specs.ReportText.{module_name, channel_name, stall_word}
 use Rattle.fifo_fills.specs.Fills.{fifos}
 use Rattle.stall_spans.specs.Totals.{moved_clocks, still_clocks, still_clocks_at}
-use Rattle.stall_text.specs.{Stalls.port_clocks, Stalls.most, Stalls.empty_clocks, Stalls.full_clocks, Polls.poll_lines}
+use Rattle.port_clocks.specs.Peaks.{peak}
+use Rattle.stall_text.specs.{Stalls.port_clocks, Stalls.empty_clocks, Stalls.full_clocks, Polls.poll_lines}
 
 -- the word for a port
 abbrev pub port_word : Side → Token
@@ -62,7 +63,7 @@ abbrev pub fifo_tokens : Token → ℕ → ℕ → ℕ → List Token
 fifo_tokens name most empty full = codes "fifo" ∷ name ∷ decimal most ∷ decimal empty ∷ decimal full ∷ []
 
 abbrev pub fifo_line : Plan → ℕ → List Token
-fifo_line p f = fifo_tokens (channel_name p.design f) (most p f) (empty_clocks p f) (full_clocks p f)
+fifo_line p f = fifo_tokens (channel_name p.design f) (peak p f) (empty_clocks p f) (full_clocks p f)
 
 abbrev pub stall_lines : Bool → Plan → List (List Token)
 stall_lines polls p =

@@ -2,7 +2,7 @@
 ghost use Rattle.std.specs.Prelude.{◌≡◌, ◌<◌, ◌^◌, ◌++◌, length, slice_index, All, OnOk};
 ghost use Rattle.report_text.specs.Lines.{line, text_of_lines};
 ghost use Rattle.path_text.specs.Counts.{at_sides};
-ghost use Rattle.path_text.specs.PathText.{spend_lines, cross_lines, module_lines, channel_lines, link_tokens, link_lines, poll_lines};
+ghost use Rattle.path_text.specs.PathText.{spend_lines, cross_lines, all_spend_lines, channel_lines, link_tokens, link_lines, polled_lines};
 
 use depth_order::Link;
 use flow_design::Design;
@@ -51,7 +51,7 @@ pub(crate) fn print_modules(
 ) -> Result<(), OutOfMemory>
     requires few { length design.now.modules < 2 ^ 32 }
     requires count { length clocks.now ≡ length design.now.modules }
-    ensures { OnOk result (text.new ≡ text.old ++ text_of_lines (module_lines design.now (slice_index clocks.now))) }
+    ensures { OnOk result (text.new ≡ text.old ++ text_of_lines (all_spend_lines design.now (slice_index clocks.now))) }
 {
     for number in 0..clocks.len() {
         print_spent(text, module_name(design, number as u32), clocks[number])?;
@@ -95,7 +95,7 @@ fn print_polled(
     times: u64,
     waited: u64,
 ) -> Result<(), OutOfMemory>
-    ensures { OnOk result (text.new ≡ text.old ++ text_of_lines (poll_lines name.now times waited)) }
+    ensures { OnOk result (text.new ≡ text.old ++ text_of_lines (polled_lines name.now times waited)) }
 {
     if times == 0 {
         return Ok(());

@@ -16,21 +16,21 @@ use Rattle.lockstep_defs.proofs.Counts.{is_counted, delay_positive, fifo_opens_e
 use Rattle.fifo_fills.specs.Fills.{fill, last_clock}
 use Rattle.port_clocks.specs.{Leads.before, Leads.is_ahead, Leads.ahead_clocks, Clocks.ArePortClocks}
 use Rattle.port_clocks.proofs.Filled.{fill_told}
-use Rattle.stall_text.specs.{Stalls.empty_clocks, Stalls.full_clocks, Filling.later, Filling.empty_by}
+use Rattle.stall_text.specs.{Stalls.empty_clocks, Stalls.full_clocks, Filling.shifted, Filling.empty_by}
 
 -- ---- clocks that come later
 
-later_at : (by : ℕ) (xs : List ℕ) (k d : ℕ) → k < length xs → get_or (later by xs) k d ≡ get_or xs k 0 + by
+later_at : (by : ℕ) (xs : List ℕ) (k d : ℕ) → k < length xs → get_or (shifted by xs) k d ≡ get_or xs k 0 + by
 later_at by xs k d l = get_or-map (λ (x : ℕ). x + by) xs k 0 d l
 
-pub later_rises : (by : ℕ) (xs : List ℕ) → AllPairs (λ a b. a ≤ b) xs → AllPairs (λ a b. a ≤ b) (later by xs)
+pub later_rises : (by : ℕ) (xs : List ℕ) → AllPairs (λ a b. a ≤ b) xs → AllPairs (λ a b. a ≤ b) (shifted by xs)
 later_rises by xs h i j d l m =
     let n = length-map xs (λ (x : ℕ). x + by) in
     let rises : get_or xs i 0 ≤ get_or xs j 0 = h i j 0 l (omega arith) in
     omega (arith, later_at by xs i d (omega arith), later_at by xs j d (omega arith))
 
 pub later_early : (by clock : ℕ) (xs : List ℕ) → by ≤ FIFO_DELAY → clock ≤ CYCLES → All (λ x. x < clock) xs
-    → All (λ x. x + 1 < 2 ^ 64) (later by xs)
+    → All (λ x. x + 1 < 2 ^ 64) (shifted by xs)
 later_early by clock xs l m h k d w =
     let n = length-map xs (λ (x : ℕ). x + by) in
     let early : get_or xs k 0 < clock = h k 0 (omega arith) in
@@ -45,10 +45,10 @@ later_test x c d l = elim (cases_lt (x + (d - 1)) c) [
   | inr w ↦ le-ltb (x + (d - 1)) c w ∙ sym (le-ltb x (suc c - d) (omega arith))
 ]
 
-pub later_before : (xs : List ℕ) (c d : ℕ) → 1 ≤ d → before (later (d - 1) xs) c ≡ before xs (suc c - d)
+pub later_before : (xs : List ℕ) (c d : ℕ) → 1 ≤ d → before (shifted (d - 1) xs) c ≡ before xs (suc c - d)
 later_before [] c d l = refl
 later_before (x ∷ xs) c d l =
-    sum_by-cons (λ (y : ℕ). cond (ltb y c) 1 0) (x + (d - 1)) (later (d - 1) xs)
+    sum_by-cons (λ (y : ℕ). cond (ltb y c) 1 0) (x + (d - 1)) (shifted (d - 1) xs)
     ∙ (ap₂ (λ (b : Bool) (n : ℕ). cond b 1 0 + n) (later_test x c d l) (later_before xs c d l)
     ∙ sym (sum_by-cons (λ (y : ℕ). cond (ltb y (suc c - d)) 1 0) x xs))
 
@@ -125,18 +125,18 @@ module _ (p : Plan) (fits : FitsEngine p) (f : ℕ) (l : f < length p.design.cha
   d = delay_at p f
 
   pub empty_is : (c : ℕ) → c ≤ last_clock p
-      → is_empty c (contents_of (state p c).contents f) ≡ not (is_ahead 1 (later (d - 1) pushes) pops c)
+      → is_empty c (contents_of (state p c).contents f) ≡ not (is_ahead 1 (shifted (d - 1) pushes) pops c)
   empty_is c m =
       let positive = delay_positive p fits f l in
       let there = went_in (suc c - d) ∙ sym (k.counts (suc c - d) (omega arith)) ∙ sym (later_before pushes c d positive) in
-      swapped (is_empty c (contents_of (state p c).contents f)) (is_ahead 1 (later (d - 1) pushes) pops c)
+      swapped (is_empty c (contents_of (state p c).contents f)) (is_ahead 1 (shifted (d - 1) pushes) pops c)
       ((is_counted p fits c f l).pops
-      ∙ (ap₂ ltb (sym (h.counts c m)) there ∙ less_test (before pops c) (before (later (d - 1) pushes) c)))
+      ∙ (ap₂ ltb (sym (h.counts c m)) there ∙ less_test (before pops c) (before (shifted (d - 1) pushes) c)))
 
   pub empty_clocks_are : empty_clocks p f ≡ empty_by d (last_clock p) pops pushes
   unfolding empty_clocks ahead_clocks
   empty_clocks_are =
-      let sum = others_counted (λ c. is_empty c (contents_of (state p c).contents f)) (is_ahead 1 (later (d - 1) pushes) pops) 0
+      let sum = others_counted (λ c. is_empty c (contents_of (state p c).contents f)) (is_ahead 1 (shifted (d - 1) pushes) pops) 0
       (last_clock p)
       (λ c m. empty_is c (omega arith)) in
       omega arith

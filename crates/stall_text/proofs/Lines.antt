@@ -9,7 +9,7 @@ use Rattle.flow_word.specs.declared.access.Kind.TheVariants.{TryRead, TryWrite, 
 use Rattle.report_text.specs.{Lines.Token, Lines.line, Lines.text_of_lines, ReportText.kind_token, ReportText.stall_word}
 use Rattle.report_text.proofs.LineLemmas.{line_of_five, text-append, numbers_more}
 use Rattle.stall_text.specs.Polls.{query_lines, at_each_query}
-use Rattle.stall_text.specs.StallText.{port_word, cause_lines, port_lines, last_of, at_each_side}
+use Rattle.stall_text.specs.StallText.{port_word, cause_lines, port_lines, last_after, at_each_side}
 use Rattle.flow_word.proofs.Ranges.{range_last}
 
 pub text-one : (l : List Token) → text_of_lines (l ∷ []) ≡ line l
@@ -65,7 +65,7 @@ line_of_seven text a b c d e f g =
     (append_assoc (four ++ 32 ∷ e) (32 ∷ f) (32 ∷ g) ∙ append_assoc four (32 ∷ e) (32 ∷ (f ++ 32 ∷ g)))
     ∙ line_of_five text a b c d (e ++ 32 ∷ (f ++ 32 ∷ g))
 
-last_is : (x : ℕ) (xs : List ℕ) → last_of x xs ≡ get_or (x ∷ xs) (length xs) 0
+last_is : (x : ℕ) (xs : List ℕ) → last_after x xs ≡ get_or (x ∷ xs) (length xs) 0
 last_is x [] = refl
 last_is x (y ∷ ys) = last_is y ys
 
@@ -76,7 +76,7 @@ port_tokens : (name channel : Token) (side : Side) (clocks : List ℕ) (last : �
 port_tokens name channel side [] last e = absurd (omega arith)
 port_tokens name channel side (x ∷ xs) last e =
     let there : length xs ≡ last = omega arith in
-    text-one (codes "port" ∷ name ∷ port_word side ∷ channel ∷ decimal (length (x ∷ xs)) ∷ decimal x ∷ decimal (last_of x xs) ∷ [])
+    text-one (codes "port" ∷ name ∷ port_word side ∷ channel ∷ decimal (length (x ∷ xs)) ∷ decimal x ∷ decimal (last_after x xs) ∷ [])
     ∙ ap (λ (n : ℕ). line (codes "port" ∷ name ∷ port_word side ∷ channel ∷ decimal (length (x ∷ xs)) ∷ decimal x ∷ decimal n ∷ []))
     (last_is x xs ∙ ap (λ (k : ℕ). get_or (x ∷ xs) k 0) there)
 

@@ -29,8 +29,8 @@ abbrev pub is_of : ℕ → LoggedAccess → Bool
 is_of i a = a.event.«module» == i
 
 -- what the accesses of module i gave, in order
-abbrev pub accesses_of : Plan → ℕ → List LoggedAccess
-accesses_of p i = filter (is_of i) (log_of p)
+abbrev pub log_of_module : Plan → ℕ → List LoggedAccess
+log_of_module p i = filter (is_of i) (log_of p)
 
 -- there are accesses in clock c among these, and each of them is a missed query
 abbrev pub polls_in : List LoggedAccess → ℕ → Bool
@@ -39,7 +39,7 @@ polls_in accesses c =
 
 -- in how many clocks before the verdict's module i polls
 unfoldable pub polled_clocks : Plan → ℕ → ℕ
-polled_clocks p i = count_by (polls_in (accesses_of p i)) (range_with_len 0 (last_clock p))
+polled_clocks p i = count_by (polls_in (log_of_module p i)) (range_with_len 0 (last_clock p))
 
 -- ---- queries of a kind on a channel
 
@@ -51,12 +51,12 @@ same_query Empty Empty = true
 same_query Full Full = true
 same_query _ _ = false
 
-abbrev pub asks : Kind → ℕ → LoggedAccess → Bool
-asks kind f a = same_query kind a.event.kind && (f == a.event.channel)
+abbrev pub is_query_on : Kind → ℕ → LoggedAccess → Bool
+is_query_on kind f a = same_query kind a.event.kind && (f == a.event.channel)
 
 -- the queries of this kind on channel f that module i makes
-abbrev pub queries_of : Plan → ℕ → Kind → ℕ → List LoggedAccess
-queries_of p i kind f = filter (λ a. is_of i a && asks kind f a) (log_of p)
+abbrev pub queries_on : Plan → ℕ → Kind → ℕ → List LoggedAccess
+queries_on p i kind f = filter (λ a. is_of i a && is_query_on kind f a) (log_of p)
 
 -- ---- lines
 
@@ -76,7 +76,7 @@ at_each_query channels lines =
 
 abbrev pub tries_of : Plan → ℕ → ℕ → Kind → List (List Token)
 tries_of p i f kind =
-    let queries = queries_of p i kind f in
+    let queries = queries_on p i kind f in
     query_lines (module_name p.design i) kind (channel_name p.design f) (length queries) (count_by is_missed queries)
 
 -- the lines of module i that `--polls` adds

@@ -26,16 +26,16 @@ cause_lines name channel side clocks =
     if clocks == 0 then [] else (codes "stall" ∷ name ∷ stall_word side ∷ channel ∷ decimal clocks ∷ []) ∷ []
 
 -- the last of these numbers, or n where there are no further ones
-abbrev pub last_of : ℕ → List ℕ → ℕ
-last_of n [] = n
-last_of n (m ∷ more) = last_of m more
+abbrev pub last_after : ℕ → List ℕ → ℕ
+last_after n [] = n
+last_after n (m ∷ more) = last_after m more
 
 -- the line `port M pop F N FIRST LAST` or `port M push F N FIRST LAST`, if N is not 0
 abbrev pub port_lines : Token → Token → Side → List ℕ → List (List Token)
 port_lines name channel side [] = []
 port_lines name channel side (first ∷ more) =
     (codes "port" ∷ name ∷ port_word side ∷ channel ∷ decimal (length (first ∷ more)) ∷ decimal first
-    ∷ decimal (last_of first more) ∷ []) ∷ []
+    ∷ decimal (last_after first more) ∷ []) ∷ []
 
 -- for each channel, in order of declaration, the lines of its popping side and then those of its pushing side
 abbrev pub at_each_side : ℕ → (ℕ → Side → List (List Token)) → List (List Token)

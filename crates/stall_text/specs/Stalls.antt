@@ -14,12 +14,12 @@ abbrev pub moved_at : Port → LoggedAccess → Bool
 moved_at port a = is_some a.value && same_port port (record { side = side_of a.event.kind; channel = a.event.channel })
 
 -- the clocks of these accesses
-abbrev pub clocks_of : List LoggedAccess → List ℕ
-clocks_of accesses = map (λ a. a.event.cycle) accesses
+abbrev pub access_clocks : List LoggedAccess → List ℕ
+access_clocks accesses = map (λ a. a.event.cycle) accesses
 
 -- the clocks in which module i pops elements at a port, or pushes them there, in order
 unfoldable pub port_clocks : Plan → ℕ → Port → List ℕ
-port_clocks p i port = clocks_of (filter (λ a. a.event.«module» == i && moved_at port a) (log_of p))
+port_clocks p i port = access_clocks (filter (λ a. a.event.«module» == i && moved_at port a) (log_of p))
 
 -- ---- FIFOs
 

@@ -29,12 +29,6 @@ done_later (Deadlock c) first clock l done = done
 done_later (Cycles c) first clock l done = done
 done_later (Ops c) first clock l done = done
 
-pub late_by_end : (v : Verdict) (clock : ℕ) → ((end : ℕ) → v ≡ Done end → clock < end) → IsDoneBy clock v → ⊥
-late_by_end v clock late done =
-    let (end, is, early) = done_form clock v done in
-    let l = late end is in
-    omega arith
-
 pub never_done : (v : Verdict) (clock : ℕ) → ((end : ℕ) → v ≡ Done end → ⊥) → IsDoneBy clock v → ⊥
 never_done v clock never done = let (end, is, early) = done_form clock v done in never end is
 

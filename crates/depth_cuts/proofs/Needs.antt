@@ -14,11 +14,6 @@ any_first P x xs h = (0, x, omega arith, refl, h)
 any_later : {X : Type 0} (P : X → Type 0) (x : X) (xs : List X) → Any P xs → Any P (x ∷ xs)
 any_later P x xs (k, y, l, e, h) = (suc k, y, omega arith, e, h)
 
-any_kept : {X : Type 0} (P : X → Type 0) (xs : List X) (x : X) → Any P xs → Any P (xs ++ x ∷ [])
-any_kept P xs x (k, y, l, e, h) =
-    let longer = length-append xs (x ∷ []) in
-    (k, y, omega arith, get_or_append_left xs (x ∷ []) y k l ∙ e, h)
-
 -- some need is met, or each is fallen short of
 pub met_or_short : (depths : List ℕ) (needs : List Need) → Any (λ n. n.depth ≤ slice_index depths n.channel) needs
     ⊎ All (λ n. slice_index depths n.channel < n.depth) needs
@@ -37,32 +32,4 @@ pub next_none : (depths : List ℕ) → AreNext depths 0 []
 next_none depths = record {
   each = All-nil (IsNext depths);
   all = λ c l. absurd (omega arith);
-}
-
-pub next_passed : (depths : List ℕ) (n : ℕ) (needs : List Need) → (0 < slice_index depths n → slice_index depths n < FIFO_DEPTH → ⊥)
-    → AreNext depths n needs → AreNext depths (n + 1) needs
-next_passed depths n needs none a = record {
-  each = a.each;
-  all = λ c l some less. elim (cases_eq c n) [
-    | inl e ↦ absurd (none (subst (λ (k : ℕ). 0 < slice_index depths k) e some)
-        (subst (λ (k : ℕ). slice_index depths k < FIFO_DEPTH) e less))
-    | inr e ↦ a.all c (omega arith) some less
-  ];
-}
-
-pub next_added : (depths : List ℕ) (n : ℕ) (needs : List Need) (need : Need) → need.channel ≡ n
-    → need.depth ≡ slice_index depths n + 1 → 0 < slice_index depths n → slice_index depths n < FIFO_DEPTH
-    → AreNext depths n needs → AreNext depths (n + 1) (needs ++ need ∷ [])
-next_added depths n needs need here depth some less a = record {
-  each = All-append (IsNext depths) needs (need ∷ []) a.each
-      (All-cons (IsNext depths) need [] (record {
-        some = subst (λ (c : ℕ). 0 < slice_index depths c) (sym here) some;
-        next = subst (λ (c : ℕ). need.depth ≡ slice_index depths c + 1) (sym here) depth;
-        most = omega arith;
-      })
-      (All-nil (IsNext depths)));
-  all = λ c l its most. elim (cases_eq c n) [
-    | inl e ↦ rw e (Any-push (λ m. m.channel ≡ n) needs need here)
-    | inr e ↦ any_kept (λ m. m.channel ≡ c) needs need (a.all c (omega arith) its most)
-  ];
 }

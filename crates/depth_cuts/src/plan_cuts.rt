@@ -7,11 +7,11 @@ ghost use Rattle.engine_view.specs.Engines.{held_in};
 ghost use Rattle.engine_report.specs.Finished.{IsFinished};
 ghost use Rattle.depth_cuts.specs.PlanCuts.{AreDeepest, IsCutFor};
 
+use crate::cuts::Cut;
 use crate::late::is_late;
 use crate::raised::{are_raised, deeper_ones};
 use crate::raising::raise_all;
 use crate::trails::find_trail;
-use crate::cuts::Cut;
 use engine_view::Engine;
 use flow_design::Advance;
 use flow_word::OutOfMemory;

@@ -3,9 +3,9 @@ ghost use Rattle.std.specs.Prelude.{◌≡◌};
 ghost use Rattle.time_engine.specs.Conditions.{HasAccesses};
 
 use crate::clocks::{item, put};
+use crate::cuts::Need;
 use crate::late::is_late;
 use crate::trails::{Trail, find_trail};
-use crate::cuts::Need;
 use engine_view::Engine;
 use flow_design::Advance;
 use flow_design::limits::FIFO_DEPTH;

@@ -8,10 +8,10 @@ ghost use Rattle.least_depths.specs.Lowering.{HasDepth, is_done_by, is_in_time, 
 ghost use Rattle.least_depths.specs.Known.{AreKnown, IsAlike};
 
 use crate::bounds::late_below;
-use path_check::{Latest, Target};
 use depth_session::{DepthSession, Runner};
 use flow_design::{Edit, Verdict};
 use flow_word::OutOfMemory;
+use path_check::{Latest, Target};
 use std::alloc::Global;
 use std::sync::Wait;
 use std::thread::Threads;

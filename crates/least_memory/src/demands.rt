@@ -10,12 +10,12 @@ ghost use Rattle.depth_order.specs.Depths.{AsksNothing, IsDoneBy};
 ghost use Rattle.depth_cuts.specs.{PlanCuts.AreDeepest, Cuts.IsCheapest};
 ghost use Rattle.least_memory.specs.{Choices.widths_of, Needed.IsFloor, Needed.AreFloorsOf, Needed.AreNeeded};
 
-use path_check::{Latest, Target, find_latest, late_depth};
 use depth_cuts::{Demands, cheapest};
 use depth_session::Core;
 use flow_design::Channel;
 use flow_design::limits::FIFO_DEPTH;
 use flow_word::{List, OutOfMemory, Words};
+use path_check::{Latest, Target, find_latest, late_depth};
 use std::alloc::Global;
 
 /// The first demands on depths with which a core's plan ends by a clock. They have no cut yet; for each FIFO they have the least

@@ -9,11 +9,11 @@ ghost use Rattle.path_check.specs.Late.{IsLateBelow};
 
 use crate::events::is_timed;
 use crate::latest::Latest;
+use crate::paths::ends_after;
 use crate::trails::find_trail;
 use engine_view::Engine;
 use flow_design::{Advance, Edit};
 use flow_word::{OutOfMemory, Place, Side};
-use crate::paths::ends_after;
 use std::alloc::Global;
 
 /// A FIFO whose depth is to be lowered, and the clock by which the plan is to end.

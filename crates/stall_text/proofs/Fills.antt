@@ -140,15 +140,3 @@ module _ (p : Plan) (fits : FitsEngine p) (f : ℕ) (l : f < length p.design.cha
       (last_clock p)
       (λ c m. empty_is c (omega arith)) in
       omega arith
-
--- ---- its limits
-
-sound_limits : (k : ChannelKind) (inputs : List ℕ) (depth : ℕ) → AreEntriesSound k inputs depth → is_fifo k ≡ true
-    → (1 ≤ depth) × (depth ≤ FIFO_DEPTH) × (1 ≤ delay_of k) × (delay_of k ≤ FIFO_DELAY)
-sound_limits Source inputs depth h e = cc
-sound_limits Sink inputs depth h e = cc
-sound_limits (Fifo declared delay) inputs depth h e = (h.1, h.2, h.3, h.4)
-
-pub fifo_limits : (p : Plan) → FitsEngine p → (f : ℕ) → f < length p.design.channels → is_fifo (kind_at p f) ≡ true
-    → (1 ≤ get_or p.depths f 0) × (get_or p.depths f 0 ≤ FIFO_DEPTH) × (1 ≤ delay_at p f) × (delay_at p f ≤ FIFO_DELAY)
-fifo_limits p fits f l fifo = sound_limits (kind_at p f) _ (get_or p.depths f 0) (fits.channels f l).entries fifo

@@ -115,7 +115,7 @@ own_clocks_are p fits i port xs own other =
     let all = passing p o (moved_at port) (moved_owner p port) (log_of p) (log_owned p fits) in
     let those = filter (moved_at port) (log_of p) in
     let mine : port_clocks p i port ≡ access_clocks (cond (o == i) those []) =
-        ap access_clocks (all_or_none i o (moved_at port) (log_of p) all) in
+    ap access_clocks (all_or_none i o (moved_at port) (log_of p) all) in
     elim (cases_eq o i) [
       | inl e ↦
           one_list p port xs (clock_list (moved_at port) (acts p)) (own e) (log_clocks p port.side port.channel)

@@ -87,18 +87,6 @@ module_more p fits i l polls y first text t u v e q r s =
 
 -- ---- a FIFO
 
--- what tells how full it is makes its line
-pub filled_line : (p : Plan) (f : ℕ) (name : Token) (filling : Filling) → name ≡ channel_name p.design f → IsFilling p f filling
-    → fifo_tokens name filling.most filling.empty filling.full ≡ fifo_line p f
-filled_line p f name filling n h =
-    let most = h.most in
-    let empty = h.empty in
-    let full = h.full in
-    λ i. fifo_tokens (n i) (most i) (empty i) (full i)
-
-pub fifo_kind : (k : ChannelKind) (delay : ℕ) (depth : ℕ) → k ≡ Fifo depth delay → (is_fifo k ≡ true) × (delay ≡ delay_of k)
-fifo_kind k delay depth e = (ap is_fifo e, sym (ap delay_of e))
-
 pub filling_is : (p : Plan) → FitsEngine p → (f : ℕ) → f < length p.design.channels → is_fifo (kind_at p f) ≡ true → (clock : ℕ)
     → clock ≡ last_clock p → (pops pushes : List ℕ) → ArePortClocks p (record { side = Pop; channel = f }) pops
     → ArePortClocks p (record { side = Push; channel = f }) pushes → (filling : Filling) → filling.most ≡ most_ahead pushes pops clock
@@ -141,16 +129,6 @@ whole_text p polls v t u w x vs a b c d =
     ∙ ap (λ (l : List ℕ). first ++ (second ++ l)) (sym (text-append ms fs)))))
 
 -- ---- how modules poll
-
-pub polls_kept : (p : Plan) (modules channels : ℕ) (log : List LoggedAccess) (polls : Option Polls) → modules ≡ length p.design.modules
-    → channels ≡ length p.design.channels → log ≡ log_of p
-    → IfSome polls (λ x. ArePollings modules log x.modules × AreQueries channels log x.queries) → ArePollsOf p polls
-polls_kept p modules channels log None m n e h = tt
-polls_kept p modules channels log (Some polls) m n e h = (
-  subst (λ (k : ℕ). ArePollings k (log_of p) polls.modules) m
-      (subst (λ (l : List LoggedAccess). ArePollings modules l polls.modules) e h.0),
-  subst (λ (k : ℕ). AreQueries k (log_of p) polls.queries) n (subst (λ (l : List LoggedAccess). AreQueries channels l polls.queries) e h.1),
-)
 
 pub have_polls : (p q : Plan) (polls : Option Polls) → ArePollsOf p polls → q ≡ p → IfSome polls (HavePolls q.design)
 have_polls p q None h e = tt

@@ -195,14 +195,6 @@ header_text a b c d names p q r =
 abbrev instant_text : ℕ → List Change → List ℕ
 instant_text clock cs = text_of_lines (flat_map instant_lines (instant_of clock cs))
 
-pub instant_some : (a b c : List ℕ) (clock : ℕ) (cs : List Change) → true ≡ has_some cs → b ≡ a ++ line (time_tokens clock)
-    → c ≡ b ++ text_of_lines (map change_tokens cs) → c ≡ a ++ instant_text clock cs
-instant_some a b c clock [] some p q = cc
-instant_some a b c clock (x ∷ xs) some p q =
-    q ∙ (ap (λ (t : List ℕ). t ++ text_of_lines (map change_tokens (x ∷ xs))) p
-    ∙ (append_assoc a (line (time_tokens clock)) (text_of_lines (map change_tokens (x ∷ xs)))
-    ∙ ap (λ (ls : List (List Token)). a ++ text_of_lines ls) (sym (append-nil (time_tokens clock ∷ map change_tokens (x ∷ xs))))))
-
 pub none_told : (cs : List FillChange) → true ≡ (length cs == 0) → false ≡ has_some (map change_of cs)
 none_told [] e = refl
 none_told (c ∷ cs) e =

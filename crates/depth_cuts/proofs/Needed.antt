@@ -11,17 +11,12 @@ use Rattle.depth_order.proofs.{Order.never_slower, Plans.fifo_inside}
 use Rattle.engine_view.specs.Held.{Held}
 use Rattle.engine_report.specs.Finished.{IsFinished}
 use Rattle.path_check.specs.Waits.{IsTried}
+use Rattle.path_check.proofs.Shown.{done_form}
 use Rattle.depth_cuts.specs.{declared.cuts.Need.Need, declared.cuts.Cut.Cut, Met.IsUnmet, Raised.AreRaised, Raised.IsNext, Raised.AreNext}
 use Rattle.depth_cuts.specs.PlanCuts.{AreDeepest, IsNeedOf, IsCutFor}
 use Rattle.depth_cuts.proofs.Needs.{met_or_short}
 
 -- ---- done by a clock
-
-done_form : (clock : ℕ) (v : Verdict) → IsDoneBy clock v → (end : ℕ) × (v ≡ Done end) × (end ≤ clock)
-done_form clock (Done end) l = (end, refl, l)
-done_form clock (Deadlock c) l = absurd l
-done_form clock (Cycles c) l = absurd l
-done_form clock (Ops c) l = absurd l
 
 done_later : (v : Verdict) (first clock : ℕ) → first ≤ clock → IsDoneBy first v → IsDoneBy clock v
 done_later (Done end) first clock l done = omega arith

@@ -22,7 +22,7 @@ depth_is p c (table.Source inputs) f k = absurd f
 depth_is p c table.Sink f k = absurd f
 depth_is p c (table.Fifo depth delay) f k = k.1
 
-done_form : (clock : ℕ) (v : Verdict) → IsDoneBy clock v → (end : ℕ) × (v ≡ Done end) × (end ≤ clock)
+pub done_form : (clock : ℕ) (v : Verdict) → IsDoneBy clock v → (end : ℕ) × (v ≡ Done end) × (end ≤ clock)
 done_form clock (Done end) l = (end, refl, l)
 done_form clock (Deadlock c) l = absurd l
 done_form clock (Cycles c) l = absurd l

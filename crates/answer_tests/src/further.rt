@@ -1,7 +1,7 @@
 //! What `advise`, `wave`, `order` and `sweep` answer.
 use crate::asking::{answer, answers, words_of};
 use std::test::Fail;
-use wave_reader::wave_fill;
+use vcd_wave::wave_fill;
 use whole_answer::Status;
 use worked_sessions::{LATE_CHANNEL, REALISTIC_LINE, TWO_MODULES};
 

@@ -3,12 +3,10 @@ ghost use Rattle.event_timing.specs.Actions.{IsFinal};
 ghost use Rattle.timing_bridge.specs.Designs.{design};
 ghost use Rattle.sim_core.specs.Views.{theory_of};
 
-use depth_bounds::{Target, asks_nothing, find_latest, late_depth};
-use depth_cuts::Need;
+use depth_cuts::{Need, find_cut};
 use flow_design::Edit;
 use flow_word::Place;
-use late_cuts::find_cut;
-use path_check::{ends_after, never_ends};
+use path_check::{Target, asks_nothing, ends_after, find_latest, late_depth, never_ends};
 use sim_core::{Core, run_alone};
 use std::process::Abort;
 use std::test::Fail;

@@ -10,9 +10,10 @@ use Rattle.lockstep_defs.specs.{Channels.contents_of, Lockstep.Moment, Lockstep.
 use Rattle.fifo_fills.specs.Fills.{fill, last_clock}
 use Rattle.depth_order.specs.Depths.{with_depths, AreDepths, AreDeeper}
 use Rattle.depth_order.proofs.Plans.{depths_fit, fifo_inside}
-use Rattle.depth_advice.specs.Advice.{depths_by, wide, peak, advised, HoldsLess}
-use Rattle.depth_advice.proofs.Alike.{NoneFull, NeitherBefore, moment_same, verdict_same, report_same}
-use Rattle.depth_advice.proofs.{Few.fill_few, Lists.greatest_least, Lists.greatest_most}
+use Rattle.port_clocks.specs.Peaks.{peak}
+use Rattle.port_clocks.proofs.Most.{greatest_over, greatest_under}
+use Rattle.depth_advice.specs.Advice.{depths_by, wide, advised, HoldsLess}
+use Rattle.depth_advice.proofs.{Alike.NoneFull, Alike.NeitherBefore, Alike.moment_same, Alike.verdict_same, Alike.report_same, Few.fill_few}
 
 -- ---- one entry per channel
 
@@ -54,11 +55,11 @@ wide_fits p h = depths_fit p h (depths_by p (λ f. FIFO_DEPTH)) (wide_depths p)
 
 pub fill_below_peak : (p : Plan) (f c : ℕ) → c ≤ last_clock p → fill p f c ≤ peak p f
 unfolding peak
-fill_below_peak p f c l = greatest_least (fill p f) (last_clock p) c l
+fill_below_peak p f c l = greatest_over (fill p f) (last_clock p + 1) c (omega arith)
 
 pub peak_few : (p : Plan) → FitsEngine p → (f : ℕ) → is_fifo (kind_at p f) ≡ true → peak p f ≤ p.ops
 unfolding peak
-peak_few p h f e = greatest_most (fill p f) (last_clock p) p.ops (λ c l. fill_few p h f c e)
+peak_few p h f e = greatest_under (fill p f) (last_clock p + 1) p.ops (λ c l. fill_few p h f c e)
 
 -- ---- advised depths
 

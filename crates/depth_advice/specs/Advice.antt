@@ -1,11 +1,12 @@
 -- Depths that never block: for each FIFO, the most elements that it holds where there is always room, plus one.
-use Rattle.std.specs.Prelude.{◌≡◌, ◌≢◌, ℕ, zero, suc, ◌+◌, ◌<◌, ◌≤◌, max, true, if◌then◌else◌, List, map, length, slice_index}
+use Rattle.std.specs.Prelude.{◌≡◌, ◌≢◌, ℕ, ◌+◌, ◌<◌, ◌≤◌, true, if◌then◌else◌, List, map, length, slice_index}
 use Rattle.std.specs.List.{range_with_len}
 use Rattle.flow_design.specs.{declared.limits.TheConstants.FIFO_DEPTH, declared.plan.Plan.Plan, Plans.is_fifo, Plans.kind_at}
 use Rattle.flow_design.specs.declared.report.Verdict.TheVariants.{Done}
 use Rattle.lockstep_defs.specs.Verdict.{verdict}
 use Rattle.depth_order.specs.Depths.{with_depths, AreDepths, IsNoSlower}
 use Rattle.fifo_fills.specs.Fills.{fill, last_clock}
+use Rattle.port_clocks.specs.Peaks.{peak}
 
 -- ---- depths
 
@@ -18,15 +19,6 @@ depths_by p depth = map (λ f. if is_fifo (kind_at p f) then depth f else 0) (ra
 -- the plan with each FIFO as deep as the language allows
 abbrev pub wide : Plan → Plan
 wide p = with_depths p (depths_by p (λ f. FIFO_DEPTH))
-
--- the greatest of the numbers g 0 to g n
-abbrev pub greatest : (ℕ → ℕ) → ℕ → ℕ
-greatest g zero = g 0
-greatest g (suc n) = max (greatest g n) (g (suc n))
-
--- the greatest number of elements that a FIFO holds in any clock up to the verdict's
-unfoldable pub peak : Plan → ℕ → ℕ
-peak p f = greatest (fill p f) (last_clock p)
 
 -- the advised depths: for each FIFO, one more than the most elements that it holds where it never blocks
 abbrev pub advised : Plan → List ℕ

@@ -6,7 +6,8 @@ ghost use Rattle.event_timing.specs.Actions.{IsFinal};
 ghost use Rattle.timing_bridge.specs.Designs.{design};
 ghost use Rattle.sim_core.specs.Views.{theory_of};
 ghost use Rattle.depth_order.specs.Depths.{with_depths, AreDepths, AsksNothing};
-ghost use Rattle.depth_advice.specs.Advice.{depths_by, peak, wide, advised, AreFastest};
+ghost use Rattle.port_clocks.specs.Peaks.{peak};
+ghost use Rattle.depth_advice.specs.Advice.{depths_by, wide, advised, AreFastest};
 
 use crate::peaks::depths_above;
 use crate::widening::widen;

@@ -26,15 +26,6 @@ raised_bits widths ds c n rise l m more few =
     ap (λ (k : ℕ). slice_index widths c * k) up in
     omega arith
 
-pub none_used : (demands : Demands) (used ds : List ℕ) → ReachesBits demands used ds 0
-none_used demands used ds es above met = record {
-  between = ds;
-  count = refl;
-  unused = λ f e. refl;
-  below = above.least;
-  bits = omega arith;
-}
-
 pub still_reached : (demands : Demands) (used ds : List ℕ) (rises : ℕ) → ReachesBits demands used ds rises → AddsBits demands ds rises
 still_reached demands used ds rises h es above met =
     let x = h es above met in

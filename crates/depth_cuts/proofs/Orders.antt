@@ -7,9 +7,6 @@ use Rattle.depth_cuts.proofs.Bits.{bits_rise}
 
 -- ---- above
 
-pub above_self : (ds : List ℕ) → AreAbove ds ds
-above_self ds = record { count = refl; least = λ f. omega arith }
-
 pub above_trans : (ds es fs : List ℕ) → AreAbove ds es → AreAbove es fs → AreAbove ds fs
 above_trans ds es fs a b = record { count = b.count ∙ a.count; least = λ f. omega (arith, a.least f, b.least f) }
 
@@ -87,9 +84,3 @@ above_no_better widths ds es a = elim (above_later ds es a) [
         | inr as_many ↦ inr (inr (omega arith, earlier))
       ]
 ]
-
--- ---- what is compared
-
-pub differs_earlier : (ds es : List ℕ) (place : ℕ) → ((f : ℕ) → f < place → slice_index ds f ≡ slice_index es f)
-    → slice_index ds place < slice_index es place → IsEarlier ds es
-differs_earlier ds es place same less = record { place = place; same = same; less = less }

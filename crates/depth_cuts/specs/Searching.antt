@@ -16,9 +16,9 @@ pub record IsFound (demands : Demands) (found : Choice) : Type 0 where
   pub covers : Covers demands found.depths
   pub bits : found.bits ≡ bits_of demands.widths found.depths
 
-abbrev pub IsKept : Demands → Option Choice → Type 0
-IsKept demands None = ⊤
-IsKept demands (Some found) = IsFound demands found
+abbrev pub IsBestSoFar : Demands → Option Choice → Type 0
+IsBestSoFar demands None = ⊤
+IsBestSoFar demands (Some found) = IsFound demands found
 
 -- a choice has been found that is no worse than these depths
 abbrev pub Beats : List ℕ → Option Choice → List ℕ → Type 0

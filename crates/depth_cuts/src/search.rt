@@ -2,7 +2,7 @@
 ghost use Rattle.std.specs.Prelude.{◌≡◌, ℕ, ◌<◌, ◌≤◌, true, false, length, slice_index, slice_set, Some, IfOk, OnOk};
 ghost use Rattle.flow_design.specs.declared.limits.TheConstants.{FIFO_DEPTH};
 ghost use Rattle.depth_cuts.specs.Cuts.{AreDemands, IsNeed, bits_of as bits_in};
-ghost use Rattle.depth_cuts.specs.Searching.{IsAt, IsKept, IsSearched, Improves, swapped as swapped_of};
+ghost use Rattle.depth_cuts.specs.Searching.{IsAt, IsBestSoFar, IsSearched, Improves, swapped as swapped_of};
 
 use crate::cuts::{Demands, Need, first_unmet};
 use crate::order::{Choice, bits_of, is_no_worse};
@@ -25,9 +25,9 @@ pub(crate) fn search(
     requires demands { AreDemands demands.now }
     requires from { from ≤ length demands.now.cuts }
     requires at { IsAt demands.now from at.old }
-    requires kept { IsKept demands.now best.old }
+    requires kept { IsBestSoFar demands.now best.old }
     ensures at { OnOk result (at.new ≡ at.old) }
-    ensures kept { OnOk result (IsKept demands.now best.new) }
+    ensures kept { OnOk result (IsBestSoFar demands.now best.new) }
     ensures improves { OnOk result (Improves demands.now.widths best.old best.new) }
     ensures searched { OnOk result (IsSearched demands.now at.old.depths best.new) }
 {
@@ -63,7 +63,7 @@ fn cannot_improve(
     requires demands { AreDemands demands.now }
     requires count { length at.now.depths ≡ length demands.now.floors }
     requires bits { at.now.bits ≡ bits_in demands.now.widths at.now.depths }
-    requires kept { IsKept demands.now best.now }
+    requires kept { IsBestSoFar demands.now best.now }
     ensures yes { IfOk result (λ yes. yes ≡ true → IsSearched demands.now at.now.depths best.now) }
     ensures no { IfOk result (λ yes. yes ≡ false → Improves demands.now.widths best.now (Some at.now)) }
 {

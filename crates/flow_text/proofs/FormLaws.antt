@@ -8,9 +8,8 @@ use Rattle.flow_design.specs.declared.session.Statement.TheVariants.{Fifo, Input
 use Rattle.flow_grammar.specs.Parts.{default_depth, default_delay, Name, plain}
 use Rattle.flow_grammar.specs.{Tokens.is_number, Tokens.is_name, Tokens.number_of, Forms.only_if, declared.fault.Code.Code}
 use Rattle.flow_grammar.specs.{declared.fault.LineFail.LineFail, Rules.is_in_range, Gives.LineGives, Numbers.number_within}
-use Rattle.name_tables.specs.declared.tables.Tables.{Tables}
-use Rattle.name_tables.specs.TableTests.{is_new, is_known, fault_by, reading_by}
-use Rattle.flow_text.specs.Inputs.{is_plain, words_within, input_reading}
+use Rattle.flow_text.specs.{declared.tables.Tables.Tables, Inputs.is_plain, Inputs.words_within, Inputs.input_reading}
+use Rattle.flow_text.specs.TableTests.{is_new, is_known, fault_by, reading_by}
 
 module _ (n w : List ℕ) where
   -- the tests of a FIFO whose depth and delay are these tokens, and the FIFO

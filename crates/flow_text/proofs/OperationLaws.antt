@@ -11,9 +11,8 @@ use Rattle.flow_grammar.specs.{Tokens.Token, Trees.Trees, Operands.kept, Operand
 use Rattle.flow_grammar.specs.{Gives.both_operands, Gives.LineGives, declared.fault.LineFail.LineFail, Numbers.number_within}
 use Rattle.flow_grammar.specs.Forms.{one_tree, two_trees, if_then, guarded_of, op_of}
 use Rattle.flow_grammar.proofs.SpellingLaws.{same_tests}
-use Rattle.name_tables.specs.declared.tables.Tables.{Tables}
-use Rattle.name_tables.specs.TableTests.{is_known, is_new, fault_by, reading_by}
-use Rattle.flow_text.specs.declared.operations.TwoNames.{TwoNames}
+use Rattle.flow_text.specs.{declared.tables.Tables.Tables, declared.operations.TwoNames.TwoNames}
+use Rattle.flow_text.specs.TableTests.{is_known, is_new, fault_by, reading_by}
 use Rattle.flow_text.specs.Operations.{tree_judged, trees_judged, op_judged, tree_reading, trees_reading, op_reading, tree_kept, trees_kept}
 use Rattle.flow_text.specs.Operations.{made, store_op, op_of_names, named_op, is_variable, timed_reading, guard_known}
 use Rattle.flow_design.specs.declared.expr.Op.TheVariants as op

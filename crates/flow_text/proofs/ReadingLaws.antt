@@ -10,10 +10,10 @@ use Rattle.flow_grammar.specs.{Line.statement_in, Line.line_fault, Before.versio
 use Rattle.flow_grammar.specs.Gives.{◌>>=◌, Read, judged, reading, at_line, line_reading, with_statement, with_number, in_front, ended}
 use Rattle.flow_grammar.specs.Gives.{TextFails}
 use Rattle.flow_grammar.specs.declared.fault.ReadFail.TheVariants as fails
-use Rattle.name_tables.specs.{declared.tables.Tables.Tables, TablesOf.tables_of, TableTests.reading_by}
-use Rattle.name_tables.proofs.TableLaws.{form_fault_same, accepted_same}
+use Rattle.flow_text.specs.{declared.tables.Tables.Tables, TablesOf.tables_of, TableTests.reading_by, declared.progress.Progress.Progress}
 use Rattle.flow_text.specs.Lines.{said_by, tokens_reading_by, line_reading_by, accepted_if, lines_left, bytes_left}
-use Rattle.flow_text.specs.{declared.progress.Progress.Progress, Progress.IsKept, Progress.IsOpening, Progress.IsAdded, Progress.with_front}
+use Rattle.flow_text.specs.Progress.{IsKept, IsOpening, IsAdded, with_front}
+use Rattle.flow_text.proofs.TableLaws.{form_fault_same, accepted_same}
 
 -- ---- a line by the tables
 

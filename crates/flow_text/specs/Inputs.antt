@@ -4,7 +4,7 @@ use Rattle.std.specs.List.{list_all}
 use Rattle.flow_design.specs.{declared.session.Statement.Statement, declared.session.Statement.TheVariants.Input}
 use Rattle.flow_grammar.specs.{declared.fault.Code.Code, Parts.Name, Before.is_among, Places.takes_inputs}
 use Rattle.flow_grammar.specs.declared.fault.Code.TheVariants.{Syntax, BadNumber, DoubleName, UnknownName, TooMany}
-use Rattle.name_tables.specs.declared.tables.Tables.{Tables}
+use Rattle.flow_text.specs.declared.tables.Tables.{Tables}
 
 -- the number is below 2^64, and so a word
 abbrev pub is_plain : ℕ → Bool

@@ -4,7 +4,7 @@ use Rattle.std.specs.List.{list_all}
 use Rattle.flow_design.specs.declared.session.Statement.{Statement}
 use Rattle.flow_grammar.specs.{declared.fault.Code.Code, declared.fault.Code.TheVariants.NotAscii, Forms.statement_of}
 use Rattle.flow_grammar.specs.Tokens.{Line, Token, lines_of, tokens_of, is_permitted}
-use Rattle.name_tables.specs.{declared.tables.Tables.Tables, TablesOf.accepted, TableTests.reading_by}
+use Rattle.flow_text.specs.{declared.tables.Tables.Tables, TablesOf.accepted, TableTests.reading_by}
 
 -- what a line says whose tokens give this: its statement, or the first test that it fails
 abbrev pub said_by : Result Statement Code → Result (Option Statement) Code

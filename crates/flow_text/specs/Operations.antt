@@ -9,9 +9,8 @@ use Rattle.flow_grammar.specs.{Parts.AVariable, Before.is_among, Rules.is_in_ran
 use Rattle.flow_grammar.specs.{Operands.is_known_by, Operands.earlier, Trees.Trees, Places.takes_operations}
 use Rattle.flow_grammar.specs.declared.fault.Code.TheVariants.{Syntax, BadNumber, UnknownName, TooMany}
 use Rattle.flow_grammar.specs.declared.operand.Operand.TheVariants.{Whole, Faulty}
-use Rattle.flow_text.specs.declared.operations.TwoNames.{TwoNames}
+use Rattle.flow_text.specs.{declared.operations.TwoNames.TwoNames, declared.tables.Tables.Tables, TableTests.named, TableTests.is_known}
 use Rattle.flow_text.specs.declared.operations.TwoNames.TheVariants as two
-use Rattle.name_tables.specs.{declared.tables.Tables.Tables, TableTests.named, TableTests.is_known}
 
 -- a value, or the first of three tests that fails
 abbrev pub tested : {A : Type 0} → Bool → Bool → Bool → A → Result A Code

@@ -3,8 +3,7 @@ use Rattle.std.specs.Prelude.{◌≡◌, ℕ, List, [], ◌++◌, reverse, Optio
 use Rattle.flow_design.specs.{declared.limits.Scale.Scale, declared.session.Statement.Statement}
 use Rattle.flow_grammar.specs.{declared.fault.TextFault.TextFault, Tokens.Line, Tokens.lines_of}
 use Rattle.flow_grammar.specs.Gives.{◌>>=◌, Read, reading, at_line, line_reading, with_statement, with_number}
-use Rattle.name_tables.specs.TablesOf.{tables_of}
-use Rattle.flow_text.specs.declared.progress.Progress.{Progress}
+use Rattle.flow_text.specs.{TablesOf.tables_of, declared.progress.Progress.Progress}
 
 -- the tables are those of the statements that are read, at the session's scale
 abbrev pub IsKept : Progress → Type 0

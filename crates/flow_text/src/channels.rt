@@ -3,17 +3,17 @@ ghost use Rattle.std.specs.Prelude.{◌≡◌, map, ◌&&◌, IfOk};
 ghost use Rattle.flow_design.specs.declared.session.Statement.TheVariants.{Source, Sink, Fifo};
 ghost use Rattle.flow_grammar.specs.{Tokens.is_number, Tokens.is_name, Tokens.number_of, Forms.only_if, Forms.name_width, Forms.fifo_of};
 ghost use Rattle.flow_grammar.specs.{Gives.LineGives, Parts.default_depth, Parts.default_delay};
-ghost use Rattle.name_tables.specs.{TablesOf.accepted, TablesOf.IsOfStatements, TableTests.reading_by};
+ghost use Rattle.flow_text.specs.{TablesOf.accepted, TablesOf.IsOfStatements, TableTests.reading_by};
 
 use crate::ensure::{Parsed, ensure, syntax};
+use crate::tables::Tables;
 use flow_design::limits::{FIFO_DELAY, FIFO_DEPTH};
 use flow_design::{Name, Statement};
 use flow_grammar::{Code, LineFail, is_identifier, is_numeral, number_in, width_of};
-use name_tables::Tables;
 use std::alloc::Global;
 
 /// `source N W`, after its keyword.
-#[tactic(auto, unfolding(name_tables::specs::TableTests::fault_by))]
+#[tactic(auto, unfolding(crate::specs::TableTests::fault_by))]
 pub fn source<'a>(alloc: Global, tables: &mut Tables<'a>, tokens: &[&'a [u8]]) -> Parsed<Statement>
     requires { IsOfStatements tables.old }
     ensures given { LineGives (λ s. s) result (reading_by tables.old (name_width Source (map (λ t. t.now) tokens.now))) }
@@ -34,7 +34,7 @@ pub fn source<'a>(alloc: Global, tables: &mut Tables<'a>, tokens: &[&'a [u8]]) -
 }
 
 /// `sink N W`, after its keyword.
-#[tactic(auto, unfolding(name_tables::specs::TableTests::fault_by))]
+#[tactic(auto, unfolding(crate::specs::TableTests::fault_by))]
 pub fn sink<'a>(alloc: Global, tables: &mut Tables<'a>, tokens: &[&'a [u8]]) -> Parsed<Statement>
     ensures given { LineGives (λ s. s) result (reading_by tables.old (name_width Sink (map (λ t. t.now) tokens.now))) }
     ensures kept { IfOk result (λ s. tables.new ≡ accepted tables.old s) }
@@ -54,7 +54,7 @@ pub fn sink<'a>(alloc: Global, tables: &mut Tables<'a>, tokens: &[&'a [u8]]) -> 
 }
 
 /// A FIFO with this name, width, depth and delay.
-#[tactic(auto, unfolding(name_tables::specs::TableTests::fault_by))]
+#[tactic(auto, unfolding(crate::specs::TableTests::fault_by))]
 fn new_fifo<'a>(
     alloc: Global,
     tables: &mut Tables<'a>,

@@ -3,17 +3,17 @@ ghost use Rattle.std.specs.Prelude.{◌≡◌, map, IfOk};
 ghost use Rattle.flow_design.specs.declared.session.Statement.TheVariants.{Goto, Stop, Depth, End};
 ghost use Rattle.flow_grammar.specs.Forms.{name_width, one_name, flow_of, branch_of, limits_of, bare};
 ghost use Rattle.flow_grammar.specs.Gives.{LineGives};
-ghost use Rattle.name_tables.specs.{TablesOf.accepted, TableTests.reading_by};
+ghost use Rattle.flow_text.specs.{TablesOf.accepted, TableTests.reading_by};
 
 use crate::ensure::{Parsed, ensure, syntax};
+use crate::tables::Tables;
 use flow_design::limits::{EDITS, FIFO_DEPTH};
 use flow_design::{Name, Statement};
 use flow_grammar::{Code, LineFail, NEWEST, Place, is_identifier, is_numeral, number_in};
-use name_tables::Tables;
 use std::alloc::Global;
 
 /// `flow V`, after its keyword.
-#[tactic(auto, unfolding(name_tables::specs::TableTests::fault_by, flow_grammar::specs::Forms::flow_of))]
+#[tactic(auto, unfolding(crate::specs::TableTests::fault_by, flow_grammar::specs::Forms::flow_of))]
 pub fn flow<'a>(tables: &mut Tables<'a>, tokens: &[&'a [u8]]) -> Parsed<Statement>
     ensures given { LineGives (λ s. s) result (reading_by tables.old (flow_of (map (λ t. t.now) tokens.now))) }
     ensures kept { IfOk result (λ s. tables.new ≡ accepted tables.old s) }
@@ -28,7 +28,7 @@ pub fn flow<'a>(tables: &mut Tables<'a>, tokens: &[&'a [u8]]) -> Parsed<Statemen
 }
 
 /// `goto N`, after its keyword.
-#[tactic(auto, unfolding(name_tables::specs::TableTests::fault_by))]
+#[tactic(auto, unfolding(crate::specs::TableTests::fault_by))]
 pub fn goto<'a>(alloc: Global, tables: &mut Tables<'a>, tokens: &[&'a [u8]]) -> Parsed<Statement>
     ensures given { LineGives (λ s. s) result (reading_by tables.old (one_name Goto (map (λ t. t.now) tokens.now))) }
     ensures kept { IfOk result (λ s. tables.new ≡ accepted tables.old s) }
@@ -42,7 +42,7 @@ pub fn goto<'a>(alloc: Global, tables: &mut Tables<'a>, tokens: &[&'a [u8]]) -> 
 }
 
 /// `branch R N N`, after its keyword.
-#[tactic(auto, unfolding(name_tables::specs::TableTests::fault_by, flow_grammar::specs::Forms::branch_of))]
+#[tactic(auto, unfolding(crate::specs::TableTests::fault_by, flow_grammar::specs::Forms::branch_of))]
 pub fn branch<'a>(alloc: Global, tables: &mut Tables<'a>, tokens: &[&'a [u8]]) -> Parsed<Statement>
     ensures given { LineGives (λ s. s) result (reading_by tables.old (branch_of (map (λ t. t.now) tokens.now))) }
     ensures kept { IfOk result (λ s. tables.new ≡ accepted tables.old s) }
@@ -65,7 +65,7 @@ pub fn branch<'a>(alloc: Global, tables: &mut Tables<'a>, tokens: &[&'a [u8]]) -
 }
 
 /// `stop`, after its keyword.
-#[tactic(auto, unfolding(name_tables::specs::TableTests::fault_by))]
+#[tactic(auto, unfolding(crate::specs::TableTests::fault_by))]
 pub fn stop<'a>(tables: &mut Tables<'a>, tokens: &[&'a [u8]]) -> Parsed<Statement>
     ensures given { LineGives (λ s. s) result (reading_by tables.old (bare Stop (map (λ t. t.now) tokens.now))) }
     ensures kept { IfOk result (λ s. tables.new ≡ accepted tables.old s) }
@@ -76,7 +76,7 @@ pub fn stop<'a>(tables: &mut Tables<'a>, tokens: &[&'a [u8]]) -> Parsed<Statemen
 }
 
 /// `limits C OPS`, after its keyword.
-#[tactic(auto, unfolding(name_tables::specs::TableTests::fault_by, flow_grammar::specs::Forms::limits_of))]
+#[tactic(auto, unfolding(crate::specs::TableTests::fault_by, flow_grammar::specs::Forms::limits_of))]
 pub fn limits<'a>(tables: &mut Tables<'a>, tokens: &[&'a [u8]]) -> Parsed<Statement>
     ensures given { LineGives (λ s. s) result (reading_by tables.old (limits_of (map (λ t. t.now) tokens.now))) }
     ensures kept { IfOk result (λ s. tables.new ≡ accepted tables.old s) }
@@ -92,7 +92,7 @@ pub fn limits<'a>(tables: &mut Tables<'a>, tokens: &[&'a [u8]]) -> Parsed<Statem
 }
 
 /// `depth N D`, after its keyword.
-#[tactic(auto, unfolding(name_tables::specs::TableTests::fault_by))]
+#[tactic(auto, unfolding(crate::specs::TableTests::fault_by))]
 pub fn edit<'a>(alloc: Global, tables: &mut Tables<'a>, tokens: &[&'a [u8]]) -> Parsed<Statement>
     ensures given { LineGives (λ s. s) result (reading_by tables.old (name_width Depth (map (λ t. t.now) tokens.now))) }
     ensures kept { IfOk result (λ s. tables.new ≡ accepted tables.old s) }
@@ -110,7 +110,7 @@ pub fn edit<'a>(alloc: Global, tables: &mut Tables<'a>, tokens: &[&'a [u8]]) -> 
 }
 
 /// `end`, after its keyword.
-#[tactic(auto, unfolding(name_tables::specs::TableTests::fault_by))]
+#[tactic(auto, unfolding(crate::specs::TableTests::fault_by))]
 pub fn end<'a>(tables: &mut Tables<'a>, tokens: &[&'a [u8]]) -> Parsed<Statement>
     ensures given { LineGives (λ s. s) result (reading_by tables.old (bare End (map (λ t. t.now) tokens.now))) }
     ensures kept { IfOk result (λ s. tables.new ≡ accepted tables.old s) }

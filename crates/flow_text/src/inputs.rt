@@ -2,14 +2,13 @@
 ghost use Rattle.std.specs.{Prelude.◌≡◌, Prelude.true, Prelude.map, Prelude.◌&&◌, Prelude.IfOk, Prelude.Some, List.list_all};
 ghost use Rattle.flow_design.specs.declared.session.Statement.TheVariants.{Input};
 ghost use Rattle.flow_grammar.specs.{Tokens.is_number, Tokens.is_name, Tokens.number_of, Forms.only_if, Forms.input_of, Gives.LineGives};
-ghost use Rattle.flow_text.specs.Inputs.{words_within, input_reading};
-ghost use Rattle.name_tables.specs.{TablesOf.accepted, TableTests.reading_by};
+ghost use Rattle.flow_text.specs.{Inputs.words_within, Inputs.input_reading, TablesOf.accepted, TableTests.reading_by};
 
 use crate::ensure::{Parsed, ensure, syntax};
+use crate::tables::Tables;
 use flow_design::{Name, Statement};
 use flow_grammar::{Code, LineFail, is_identifier, is_numeral, number_in};
 use flow_word::{List, OutOfMemory, Words};
-use name_tables::Tables;
 use std::alloc::Global;
 
 /// Whether all tokens are numbers.

@@ -2,17 +2,17 @@
 ghost use Rattle.std.specs.{Prelude.◌≡◌, Prelude.◌∷◌, Prelude.map, Prelude.IfOk, Prelude.Ok, List.list_all};
 ghost use Rattle.flow_grammar.specs.{Tokens.is_permitted, Forms.form_of, Forms.statement_of, Gives.LineGives};
 ghost use Rattle.flow_text.specs.Lines.{line_reading_by, tokens_reading_by, accepted_if};
-ghost use Rattle.name_tables.specs.{TablesOf.accepted, TablesOf.IsOfStatements, TableTests.reading_by};
+ghost use Rattle.flow_text.specs.{TablesOf.accepted, TablesOf.IsOfStatements, TableTests.reading_by};
 
 use crate::channels::{fifo, sink, source};
 use crate::ends::{branch, edit, end, flow, goto, limits, stop};
 use crate::ensure::Parsed;
 use crate::inputs::input;
 use crate::modules::{block, memory, module, pipelined_loop, register, temp};
+use crate::tables::Tables;
 use crate::timed::at;
 use flow_design::Statement;
 use flow_grammar::{Code, Keyword, LineFail, keyword_in, tokens_in};
-use name_tables::Tables;
 use std::alloc::Global;
 
 /// The statement that tokens write after this keyword.

@@ -3,17 +3,17 @@ ghost use Rattle.std.specs.Prelude.{◌≡◌, true, map, IfOk, Some};
 ghost use Rattle.flow_design.specs.declared.session.Statement.TheVariants.{Module, Reg, Block, Loop, Temp};
 ghost use Rattle.flow_grammar.specs.{Tokens.is_number, Tokens.number_of, Gives.LineGives};
 ghost use Rattle.flow_grammar.specs.Forms.{name_width, one_name, mem_of, loop_of};
-ghost use Rattle.name_tables.specs.{TablesOf.accepted, TableTests.reading_by};
+ghost use Rattle.flow_text.specs.{TablesOf.accepted, TableTests.reading_by};
 
 use crate::ensure::{Parsed, ensure, syntax};
+use crate::tables::Tables;
 use flow_design::limits::{ALL_MEMORY_WORDS, BLOCK_CLOCKS, MEMORY_WORDS};
 use flow_design::{Name, Statement};
 use flow_grammar::{Code, LineFail, is_identifier, is_numeral, is_word, number_in, width_of};
-use name_tables::Tables;
 use std::alloc::Global;
 
 /// `module N`, after its keyword.
-#[tactic(auto, unfolding(name_tables::specs::TableTests::fault_by))]
+#[tactic(auto, unfolding(crate::specs::TableTests::fault_by))]
 pub fn module<'a>(alloc: Global, tables: &mut Tables<'a>, tokens: &[&'a [u8]]) -> Parsed<Statement>
     ensures given { LineGives (λ s. s) result (reading_by tables.old (one_name Module (map (λ t. t.now) tokens.now))) }
     ensures kept { IfOk result (λ s. tables.new ≡ accepted tables.old s) }
@@ -32,7 +32,7 @@ pub fn module<'a>(alloc: Global, tables: &mut Tables<'a>, tokens: &[&'a [u8]]) -
 }
 
 /// `reg N W`, after its keyword.
-#[tactic(auto, unfolding(name_tables::specs::TableTests::fault_by))]
+#[tactic(auto, unfolding(crate::specs::TableTests::fault_by))]
 pub fn register<'a>(
     alloc: Global,
     tables: &mut Tables<'a>,
@@ -56,7 +56,7 @@ pub fn register<'a>(
 }
 
 /// `mem N W LEN`, after its keyword.
-#[tactic(auto, unfolding(name_tables::specs::TableTests::fault_by, flow_grammar::specs::Forms::mem_of))]
+#[tactic(auto, unfolding(crate::specs::TableTests::fault_by, flow_grammar::specs::Forms::mem_of))]
 pub fn memory<'a>(alloc: Global, tables: &mut Tables<'a>, tokens: &[&'a [u8]]) -> Parsed<Statement>
     ensures given { LineGives (λ s. s) result (reading_by tables.old (mem_of (map (λ t. t.now) tokens.now))) }
     ensures kept { IfOk result (λ s. tables.new ≡ accepted tables.old s) }
@@ -80,7 +80,7 @@ pub fn memory<'a>(alloc: Global, tables: &mut Tables<'a>, tokens: &[&'a [u8]]) -
 }
 
 /// `block N LEN`, after its keyword.
-#[tactic(auto, unfolding(name_tables::specs::TableTests::fault_by))]
+#[tactic(auto, unfolding(crate::specs::TableTests::fault_by))]
 pub fn block<'a>(alloc: Global, tables: &mut Tables<'a>, tokens: &[&'a [u8]]) -> Parsed<Statement>
     ensures given { LineGives (λ s. s) result (reading_by tables.old (name_width Block (map (λ t. t.now) tokens.now))) }
     ensures kept { IfOk result (λ s. tables.new ≡ accepted tables.old s) }
@@ -98,7 +98,7 @@ pub fn block<'a>(alloc: Global, tables: &mut Tables<'a>, tokens: &[&'a [u8]]) ->
 }
 
 /// A loop with this name, II and LEN, which goes on while its register is not 0.
-#[tactic(auto, unfolding(name_tables::specs::TableTests::fault_by))]
+#[tactic(auto, unfolding(crate::specs::TableTests::fault_by))]
 fn new_loop<'a>(
     alloc: Global,
     tables: &mut Tables<'a>,
@@ -151,7 +151,7 @@ pub fn pipelined_loop<'a>(
 }
 
 /// `temp N W`, after its keyword.
-#[tactic(auto, unfolding(name_tables::specs::TableTests::fault_by))]
+#[tactic(auto, unfolding(crate::specs::TableTests::fault_by))]
 pub fn temp<'a>(alloc: Global, tables: &mut Tables<'a>, tokens: &[&'a [u8]]) -> Parsed<Statement>
     ensures given { LineGives (λ s. s) result (reading_by tables.old (name_width Temp (map (λ t. t.now) tokens.now))) }
     ensures kept { IfOk result (λ s. tables.new ≡ accepted tables.old s) }

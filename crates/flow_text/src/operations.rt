@@ -7,11 +7,11 @@ ghost use Rattle.flow_text.specs.Operations.{tree_reading, trees_reading, op_rea
 ghost use Rattle.flow_text.specs.Operations.{op_of_names, is_variable};
 
 use crate::ensure::{Judged, Parsed, syntax};
+use crate::tables::Tables;
 use flow_design::{Expr, Name, Op};
 use flow_grammar::{
     Code, Known, LineFail, Operand, earlier_test, is_identifier, one_operand, two_operands,
 };
-use name_tables::Tables;
 use std::alloc::Global;
 
 /// The expression of an operand, or the first test that fails. `known` tells whether the names beside the expression are known.

@@ -1,15 +1,15 @@
 //! How far a session is read.
 ghost use Rattle.std.specs.Prelude.{◌≡◌, OnOk, IfOk, IfErr};
 ghost use Rattle.flow_grammar.specs.Gives.{TextGives, TextFails, at_line, line_reading, with_statement, with_number};
-ghost use Rattle.flow_text.specs.{Lines.line_reading_by, Lines.accepted_if, Progress.IsKept, Progress.IsOpening, Progress.IsAdded};
-ghost use Rattle.name_tables.specs.TablesOf.{IsOfStatements};
+ghost use Rattle.flow_text.specs.{Lines.line_reading_by, Lines.accepted_if, TablesOf.IsOfStatements};
+ghost use Rattle.flow_text.specs.Progress.{IsKept, IsOpening, IsAdded};
 
 use crate::lines::line_statement;
+use crate::tables::Tables;
 use flow_design::Statement;
 use flow_design::limits::Scale;
 use flow_grammar::{LineFail, ReadFail, TextFault};
 use flow_word::{List, OutOfMemory, Words};
-use name_tables::Tables;
 use std::alloc::Global;
 
 /// The statements that are read so far, with the numbers of their lines, what they declare, and the scale of the session.

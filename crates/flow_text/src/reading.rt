@@ -77,7 +77,7 @@ fn closed(
 }
 
 /// The session that was read from `lines` lines, or the fault that it has no `end`.
-#[tactic(auto, unfolding(name_tables::specs::TablesOf::tables_of, flow_grammar::specs::Gives::reading))]
+#[tactic(auto, unfolding(crate::specs::TablesOf::tables_of, flow_grammar::specs::Gives::reading))]
 fn finished(progress: Progress<'_>, lines: u64) -> Result<(Session, Words), ReadFail>
     requires { IsKept progress }
     ensures { TextGives (λ read. (read.0.statements, read.1)) result

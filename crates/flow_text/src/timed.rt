@@ -4,16 +4,15 @@ ghost use Rattle.flow_design.specs.declared.session.Statement.TheVariants.{At};
 ghost use Rattle.flow_grammar.specs.{Tokens.is_number, Tokens.is_name, Tokens.number_of, Forms.op_form_of, Forms.op_of, Forms.if_then};
 ghost use Rattle.flow_grammar.specs.{Forms.guarded_of, Forms.at_of, Gives.LineGives, Parts.Name as NameValue, Places.takes_operations};
 ghost use Rattle.flow_text.specs.Operations as operations;
-ghost use Rattle.flow_text.specs.Operations.{op_reading, timed_reading};
-ghost use Rattle.name_tables.specs.{TablesOf.accepted, TableTests.reading_by};
+ghost use Rattle.flow_text.specs.{Operations.op_reading, Operations.timed_reading, TablesOf.accepted, TableTests.reading_by};
 
 use crate::ensure::{Judged, Parsed, ensure, syntax};
 use crate::operations::{TwoNames, load, set, store, try_read, try_write, two_names, write};
+use crate::tables::Tables;
 use flow_design::{Name, Op, Statement};
 use flow_grammar::{
     Code, Known, LineFail, Verb, is_identifier, is_numeral, is_word, number_in, verb_in,
 };
-use name_tables::Tables;
 use std::alloc::Global;
 
 /// The operation that tokens write after this verb, or the first test that it fails.

@@ -6,7 +6,7 @@ use Rattle.std.specs.Prelude.{slice_index}
 use Rattle.flow_design.specs.{declared.plan.Plan.Plan, Plans.is_fifo, Plans.kind_at, StaticRules.FitsEngine}
 use Rattle.least_depths.specs.{Halving.digits, Halving.bits, Lowering.is_in_time, Lowering.least_for, Lowering.lowered, Lowering.all_bits}
 use Rattle.least_depths.proofs.Halves.{few_tries}
-use Rattle.depth_bounds.proofs.Depths.{own_depths}
+use Rattle.path_check.proofs.Depths.{own_depths}
 
 below_digits : (k n : ℕ) → n ≤ k → n < 2 ^ digits k n
 below_digits zero n l = omega arith

@@ -6,8 +6,8 @@ use Rattle.flow_design.specs.{declared.limits.TheConstants.FIFO_DEPTH, declared.
 use Rattle.lockstep_defs.specs.Verdict.{verdict}
 use Rattle.depth_order.specs.Depths.{AsksNothing}
 use Rattle.depth_order.proofs.Plans.{depths_fit}
-use Rattle.depth_bounds.specs.Late.{IsLateBelow}
-use Rattle.depth_bounds.proofs.Depths.{own_depths}
+use Rattle.path_check.specs.Late.{IsLateBelow}
+use Rattle.path_check.proofs.Depths.{own_depths}
 use Rattle.least_depths.specs.{Known.AreKnown, Lowering.HasDepth, Lowering.is_in_time, Lowering.lowered}
 use Rattle.least_depths.proofs.{Depths.test_done_by, Least.in_time_more, Least.lowered_first}
 

@@ -12,7 +12,7 @@ use Rattle.least_depths.specs.Halving.{Found}
 use Rattle.least_depths.specs.Lowering.{is_done_by, is_in_time, least_for, lowered, AreLeast}
 use Rattle.least_depths.proofs.Halves.{found_within, found_fits, none_fits_below}
 use Rattle.least_depths.proofs.Depths.{test_done_by, done_by_test, no_later}
-use Rattle.depth_bounds.proofs.Depths.{depth_inside, set_depths, set_deeper, set_lower, own_depths}
+use Rattle.path_check.proofs.Depths.{depth_inside, set_depths, set_deeper, set_lower, own_depths}
 
 -- ---- one FIFO lowered
 

@@ -14,7 +14,7 @@ use Rattle.least_depths.specs.{Lowering.untouched, Lowering.lowered, Lowering.Ar
 use Rattle.least_depths.specs.Least.{sizes_of, sized_by, sizes, first_runs, IsNoLater, IsLeast}
 use Rattle.least_depths.proofs.{Depths.same_depths, Depths.same_least, Few.few_in_all, Sessions.report_told}
 use Rattle.least_depths.proofs.Least.{lowered_first, none_lower}
-use Rattle.depth_bounds.proofs.Depths.{own_depths}
+use Rattle.path_check.proofs.Depths.{own_depths}
 
 -- ---- of any plan
 

@@ -2,10 +2,10 @@
 ghost use Rattle.std.specs.Prelude.{◌≡◌, ◌<◌, true, IsSome};
 ghost use Rattle.flow_design.specs.Plans.{is_fifo, kind_at};
 ghost use Rattle.depth_order.specs.Depths.{AsksNothing};
-ghost use Rattle.depth_bounds.specs.Late.{IsLateBelow};
+ghost use Rattle.path_check.specs.Late.{IsLateBelow};
 
-use depth_bounds::{Latest, Target, asks_nothing, find_latest, late_depth};
 use depth_session::DepthSession;
+use path_check::{Latest, Target, asks_nothing, find_latest, late_depth};
 use std::alloc::Global;
 
 /// The latest clocks in which the steps of a session's plan may be done so that it ends by a clock. `None` where an operation is a

@@ -3,15 +3,15 @@ ghost use Rattle.std.specs.Prelude.{◌≡◌, ◌+◌, ◌<◌, ◌≤◌, true
 ghost use Rattle.flow_design.specs.{declared.limits.TheConstants.FIFO_DEPTH, StaticRules.FitsEngine};
 ghost use Rattle.flow_design.specs.Plans.{EditFits, is_fifo, kind_at, with_depth};
 ghost use Rattle.depth_order.specs.Depths.{AsksNothing};
-ghost use Rattle.depth_bounds.specs.Late.{IsLateBelow};
+ghost use Rattle.path_check.specs.Late.{IsLateBelow};
 ghost use Rattle.least_depths.specs.Lowering.{HasDepth, is_done_by, is_in_time, least_for, lowered};
 ghost use Rattle.least_depths.specs.Known.{AreKnown, IsAlike};
 
 use crate::bounds::late_below;
-use depth_bounds::{Latest, Target};
 use depth_session::{DepthSession, Runner};
 use flow_design::{Edit, Verdict};
 use flow_word::OutOfMemory;
+use path_check::{Latest, Target};
 use std::alloc::Global;
 use std::sync::Wait;
 use std::thread::Threads;

@@ -12,8 +12,7 @@ use Rattle.depth_advice.specs.Advice.{advised, wide}
 use Rattle.depth_advice.proofs.{Depths.advised_depths, Depths.wide_fits, Depths.never_blocks, Depths.fifo_entry, Finding.verdict_told}
 use Rattle.least_depths.specs.Least.{IsNoLater}
 use Rattle.least_depths.proofs.{Depths.test_done_by, Depths.done_by_test, Sessions.report_told}
-use Rattle.depth_cuts.specs.{declared.cuts.Demands.Demands, Cuts.IsNoWorse, Cuts.IsCheapest}
-use Rattle.late_cuts.specs.Cuts.{AreDeepest}
+use Rattle.depth_cuts.specs.{declared.cuts.Demands.Demands, Cuts.IsNoWorse, Cuts.IsCheapest, PlanCuts.AreDeepest}
 use Rattle.least_memory.specs.{Choices.choices, Choices.memory_bits, Choices.widths_of, Needed.AreNeeded}
 use Rattle.least_memory.specs.Least.{is_timely, least_by, least_after, leasts, leasts_of, IsLeastMemory}
 use Rattle.least_memory.proofs.{Among.Among, Among.IsLeast, Among.least_found, Choices.among_choices, Choices.choices_among}

@@ -7,7 +7,7 @@ use Rattle.flow_design.specs.{Plans.is_fifo, Plans.kind_at, StaticRules.FitsEngi
 use Rattle.lockstep_defs.specs.Verdict.{verdict}
 use Rattle.depth_order.specs.Depths.{with_depths, AreDepths, IsDoneBy}
 use Rattle.depth_order.proofs.Plans.{fifo_inside}
-use Rattle.depth_bounds.proofs.Depths.{own_depths}
+use Rattle.path_check.proofs.Depths.{own_depths}
 use Rattle.depth_cuts.specs.{declared.cuts.Demands.Demands, Cuts.AreDemands, Cuts.Covers, Cuts.IsCheapest}
 use Rattle.least_memory.specs.Needed.{AreNeeded}
 use Rattle.least_memory.proofs.Lowered.{cheapest_within}

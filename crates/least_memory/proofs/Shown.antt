@@ -9,13 +9,13 @@ use Rattle.flow_design.specs.{declared.limits.TheConstants.FIFO_DEPTH, declared.
 use Rattle.flow_design.specs.{Plans.is_fifo, Plans.kind_at, StaticRules.FitsEngine}
 use Rattle.lockstep_defs.specs.Verdict.{verdict}
 use Rattle.depth_order.specs.Depths.{with_depths, AreDepths, AreDeeper, AsksNothing, IsDoneBy}
-use Rattle.depth_bounds.specs.Late.{IsLateBelow}
-use Rattle.depth_bounds.proofs.Depths.{own_depths, set_depths, depth_inside}
+use Rattle.path_check.specs.Late.{IsLateBelow}
+use Rattle.path_check.proofs.Depths.{own_depths, set_depths, depth_inside}
 use Rattle.least_depths.specs.Lowering.{is_done_by}
 use Rattle.least_depths.proofs.Depths.{no_later, done_by_test}
-use Rattle.depth_cuts.specs.{declared.cuts.Cut.Cut, declared.cuts.Demands.Demands}
-use Rattle.late_cuts.specs.{Cuts.AreDeepest, Cuts.IsCutFor, Raised.AreNext, Raised.AreRaised}
-use Rattle.late_cuts.proofs.Needed.{cut_of}
+use Rattle.depth_cuts.specs.{declared.cuts.Cut.Cut, declared.cuts.Demands.Demands, Raised.AreNext, Raised.AreRaised}
+use Rattle.depth_cuts.specs.PlanCuts.{AreDeepest, IsCutFor}
+use Rattle.depth_cuts.proofs.Needed.{cut_of}
 use Rattle.least_memory.specs.Needed.{AreNeeded, IsFloor, IsNeeded}
 
 -- ---- floors

@@ -1,22 +1,21 @@
 //! Demands that all depths with which a plan ends by a clock meet.
 ghost use Rattle.std.specs.Prelude.{◌≡◌, ◌<◌, ◌≤◌, true, length, All, IfOk};
 ghost use Rattle.flow_design.specs.{Plans.is_fifo, Plans.kind_at, StaticRules.FitsEngine};
-ghost use Rattle.depth_bounds.specs.Late.{IsLateBelow};
+ghost use Rattle.path_check.specs.Late.{IsLateBelow};
 ghost use Rattle.lockstep_defs.specs.Verdict.{verdict};
 ghost use Rattle.event_timing.specs.Actions.{IsFinal};
 ghost use Rattle.timing_bridge.specs.Designs.{design};
 ghost use Rattle.sim_core.specs.Views.{theory_of};
 ghost use Rattle.depth_order.specs.Depths.{AsksNothing, IsDoneBy};
-ghost use Rattle.late_cuts.specs.Cuts.{AreDeepest};
-ghost use Rattle.depth_cuts.specs.Cuts.{IsCheapest};
+ghost use Rattle.depth_cuts.specs.{PlanCuts.AreDeepest, Cuts.IsCheapest};
 ghost use Rattle.least_memory.specs.{Choices.widths_of, Needed.IsFloor, Needed.AreFloorsOf, Needed.AreNeeded};
 
-use depth_bounds::{Latest, Target, find_latest, late_depth};
 use depth_cuts::{Demands, cheapest};
 use depth_session::Core;
 use flow_design::Channel;
 use flow_design::limits::FIFO_DEPTH;
 use flow_word::{List, OutOfMemory, Words};
+use path_check::{Latest, Target, find_latest, late_depth};
 use std::alloc::Global;
 
 /// The first demands on depths with which a core's plan ends by a clock. They have no cut yet; for each FIFO they have the least

@@ -6,7 +6,7 @@ ghost use Rattle.event_timing.specs.Actions.{IsFinal};
 ghost use Rattle.timing_bridge.specs.Designs.{design};
 ghost use Rattle.sim_core.specs.Views.{theory_of};
 ghost use Rattle.depth_order.specs.Depths.{with_depths, AsksNothing, IsDoneBy};
-ghost use Rattle.late_cuts.specs.Cuts.{AreDeepest};
+ghost use Rattle.depth_cuts.specs.PlanCuts.{AreDeepest};
 ghost use Rattle.least_depths.specs.Least.{most_slack};
 ghost use Rattle.least_memory.specs.Least.{leasts, least_by};
 

@@ -5,15 +5,14 @@ ghost use Rattle.event_timing.specs.Actions.{IsFinal};
 ghost use Rattle.timing_bridge.specs.Designs.{design};
 ghost use Rattle.sim_core.specs.Views.{theory_of};
 ghost use Rattle.depth_order.specs.Depths.{AreDepths, AsksNothing};
-ghost use Rattle.late_cuts.specs.Cuts.{AreDeepest};
+ghost use Rattle.depth_cuts.specs.PlanCuts.{AreDeepest};
 ghost use Rattle.least_depths.specs.Lowering.{is_done_by};
 ghost use Rattle.least_memory.specs.Needed.{IsOutcome};
 
-use depth_cuts::Cut;
+use depth_cuts::{Cut, deeper_ones, find_cut};
 use depth_session::{Core, Runner};
 use flow_design::{Verdict, copy_plan};
 use flow_word::{List, OutOfMemory};
-use late_cuts::{deeper_ones, find_cut};
 use std::alloc::Global;
 use std::sync::Wait;
 use std::thread::Threads;

@@ -10,11 +10,11 @@ use Rattle.depth_order.specs.Earliest.{made}
 use Rattle.depth_order.proofs.Ahead.{with_start, NoQueries, IsAlike, more_possible, more_can}
 use Rattle.depth_order.proofs.Same.{made_0, made_more, made_same, made_up, made_mono, always_alike}
 use Rattle.depth_order.proofs.Bound.{must_be, taken_no_more, none_before}
-use Rattle.path_check.specs.Paths.{blocks_at, waits_at, IsAfter, Same, Later, Own, Waits}
+use Rattle.path_check.specs.Paths.{blocks_at, can_wait_at, IsAfter, Same, Later, Own, Waits}
 
 -- ---- who waits at a side of a channel, and moves, finds it possible
 
-pub possible_there : {S : Type 0} → (d : Design S) (h : Trace S) (c ch : ℕ) (side : Side) (xs : List Access) → waits_at side ch xs ≡ true
+pub possible_there : {S : Type 0} → (d : Design S) (h : Trace S) (c ch : ℕ) (side : Side) (xs : List Access) → can_wait_at side ch xs ≡ true
     → can_all d h c xs ≡ true → is_possible d h c side ch ≡ true
 possible_there {S} d h c ch side [] e can = absurd (cc)
 possible_there {S} d h c ch side (a ∷ xs) e can =
@@ -22,7 +22,7 @@ possible_there {S} d h c ch side (a ∷ xs) e can =
     by_test (cases_Bool (blocks_at side ch a)) parts.0 (λ rest. possible_there d h c ch side xs rest parts.1)
   where
     by_test : (blocks_at side ch a ≡ true) ⊎ (blocks_at side ch a ≡ false) → can_do d h c a ≡ true
-        → (waits_at side ch xs ≡ true → is_possible d h c side ch ≡ true) → is_possible d h c side ch ≡ true
+        → (can_wait_at side ch xs ≡ true → is_possible d h c side ch ≡ true) → is_possible d h c side ch ≡ true
     by_test (inl here) first rest =
         let outer = and_parts _ _ here in
         let inner = and_parts _ _ outer.1 in
@@ -30,21 +30,21 @@ possible_there {S} d h c ch side (a ∷ xs) e can =
         let at = eqb-true a.channel ch inner.1 in
         let possible = must_be a.blocks (is_possible d h c a.side a.channel) outer.0 first in
         rw (same, at) at possible
-    by_test (inr other) first rest = rest (sym (ap (λ (b : Bool). b || waits_at side ch xs) other) ∙ e)
+    by_test (inr other) first rest = rest (sym (ap (λ (b : Bool). b || can_wait_at side ch xs) other) ∙ e)
 
 pub owned_there : {S : Type 0} → (d : Design S) (m ch : ℕ) (side : Side) (xs : List Access) → Each (λ a. d.owner a.side a.channel ≡ m) xs
-    → waits_at side ch xs ≡ true → d.owner side ch ≡ m
+    → can_wait_at side ch xs ≡ true → d.owner side ch ≡ m
 owned_there {S} d m ch side [] owned e = absurd (cc)
 owned_there {S} d m ch side (a ∷ xs) owned e = by_test (cases_Bool (blocks_at side ch a)) (owned_there d m ch side xs owned.1)
   where
-    by_test : (blocks_at side ch a ≡ true) ⊎ (blocks_at side ch a ≡ false) → (waits_at side ch xs ≡ true → d.owner side ch ≡ m)
+    by_test : (blocks_at side ch a ≡ true) ⊎ (blocks_at side ch a ≡ false) → (can_wait_at side ch xs ≡ true → d.owner side ch ≡ m)
         → d.owner side ch ≡ m
     by_test (inl here) rest =
         let inner = and_parts _ _ (and_parts _ _ here).1 in
         let same = same_side_is a.side side inner.0 in
         let at = eqb-true a.channel ch inner.1 in
         rw (same, at) at owned.0
-    by_test (inr other) rest = rest (sym (ap (λ (b : Bool). b || waits_at side ch xs) other) ∙ e)
+    by_test (inr other) rest = rest (sym (ap (λ (b : Bool). b || can_wait_at side ch xs) other) ∙ e)
 
 -- fewer were done than the start and the other side's together
 fewer : {S : Type 0} → (d : Design S) (h : Trace S) (c ch : ℕ) (side : Side) → d.unlimited side ch ≡ false
@@ -62,7 +62,7 @@ module _ {S : Type 0} (d : Design S) (start : Side → ℕ → ℕ) (h w : Trace
   abbrev pub IsNotPast : ℕ → ℕ → ℕ → Type 0
   IsNotPast m e c = made (with_start d start) w m c ≤ made d h m e
 
-  waits_on : (n f c a b ch : ℕ) (side : Side) → waits_at side ch (d.accesses n (h.state f n)) ≡ true → d.unlimited side ch ≡ false
+  waits_on : (n f c a b ch : ℕ) (side : Side) → can_wait_at side ch (d.accesses n (h.state f n)) ≡ true → d.unlimited side ch ≡ false
       → start side ch + h.taken a (other_side side) ch ≤ h.taken f side ch → c ≤ b + d.lag side ch
       → IsNotPast (d.owner (other_side side) ch) a b
       → (e : ℕ) → e < c → made (with_start d start) w n e ≡ made d h n f → moves (with_start d start) w e n ≡ true → ⊥
@@ -70,8 +70,8 @@ module _ {S : Type 0} (d : Design S) (start : Side → ℕ → ℕ) (h w : Trace
       let g = with_start d start in
       let owned = owned_there d n ch side (d.accesses n (h.state f n)) (i.owned n (h.state f n)) stands in
       let alike = always_alike d start h w i j none x y n f e (sym count) in
-      let stands_too : waits_at side ch (d.accesses n (w.state e n)) ≡ true =
-      ap (λ (s : S). waits_at side ch (d.accesses n s)) alike.state ∙ stands in
+      let stands_too : can_wait_at side ch (d.accesses n (w.state e n)) ≡ true =
+      ap (λ (s : S). can_wait_at side ch (d.accesses n s)) alike.state ∙ stands in
       let there = fewer g w e ch side limited
       (possible_there g w e ch side (d.accesses n (w.state e n)) stands_too (moves_can g w e n move)) in
       let taken = alike.taken side ch owned in

@@ -16,7 +16,7 @@ use Rattle.engine_view.specs.{declared.engine.Engine.Engine, Engines.held_in, He
 use Rattle.engine_view.proofs.Knowing.{timed_within}
 use Rattle.engine_report.specs.{Finished.IsFinished, Finished.IsEndMark, Standings.end_at, Standings.gap_of}
 use Rattle.path_check.specs.Paths.{Same}
-use Rattle.path_check.specs.Waits.{IsTried, cycle_at, IsTimed, ComesAfter, Adds, IsAlong, place_at, moves_behind}
+use Rattle.path_check.specs.Waits.{IsTried, cycle_at, IsTimed, ComesAfter, ComesLater, IsAlong, nth_place, moves_behind}
 use Rattle.path_check.proofs.{Late.ends_later, Late.never_ends, Steps.moves_on, Steps.moves_last}
 
 -- ---- behind the last step
@@ -111,20 +111,20 @@ pub fewer_clocks : (p : Plan) (h : Held) (depths : List ℕ) (from to : Place) (
     → ComesAfter p h depths from to clocks → ComesAfter p h depths from to less
 fewer_clocks p h depths from to less clocks l c = let long = c.long in record { path = c.path; long = omega arith; after = c.after }
 
-pub along_first : (e : Engine) (depths : List ℕ) (path : List Place) → 0 < length path → IsTimed e.graph.lanes (place_at path 0)
+pub along_first : (e : Engine) (depths : List ℕ) (path : List Place) → 0 < length path → IsTimed e.graph.lanes (nth_place path 0)
     → IsAlong e depths path 1 0
 along_first e depths path l timed = record {
   some = omega arith;
   within = omega arith;
   first = timed;
   last = timed;
-  along = λ p ends t. comes_first p (held_in e (map is_some ends)) depths (place_at path 0);
+  along = λ p ends t. comes_first p (held_in e (map is_some ends)) depths (nth_place path 0);
 }
 
 pub along_more : (e : Engine) (depths : List ℕ) (path : List Place) (n clocks more all : ℕ) → n < length path → all ≤ clocks + more
-    → IsTimed e.graph.lanes (place_at path n)
+    → IsTimed e.graph.lanes (nth_place path n)
     → ((p : Plan) (ends : List (Option Advance)) → IsTried p (held_in e (map is_some ends)) ends depths
-    → Adds p (held_in e (map is_some ends)) depths (place_at path (n - 1)) (place_at path n) more)
+    → ComesLater p (held_in e (map is_some ends)) depths (nth_place path (n - 1)) (nth_place path n) more)
     → IsAlong e depths path n clocks → IsAlong e depths path (n + 1) all
 along_more e depths path n clocks more all l few timed adds a =
     let at : (n + 1) - 1 ≡ n = omega arith in
@@ -134,25 +134,25 @@ along_more e depths path n clocks more all l few timed adds a =
       first = a.first;
       last = rw at timed;
       along = λ p ends t. rw at
-          (fewer_clocks p (held_in e (map is_some ends)) depths (place_at path 0) (place_at path n) all (clocks + more)
-          few (adds p ends t (place_at path 0) clocks (a.along p ends t)));
+          (fewer_clocks p (held_in e (map is_some ends)) depths (nth_place path 0) (nth_place path n) all (clocks + more)
+          few (adds p ends t (nth_place path 0) clocks (a.along p ends t)));
     }
 
 -- ---- what is answered
 
 pub path_ends_late : (e : Engine) (depths : List ℕ) (path : List Place) (clocks : ℕ) → IsAlong e depths path (length path) clocks
     → (ends : List (Option Advance)) (clock : ℕ)
-    → clock ≤ cycle_at e.graph.lanes (place_at path 0) + clocks + moves_behind e.graph.lanes ends (place_at path (length path - 1))
+    → clock ≤ cycle_at e.graph.lanes (nth_place path 0) + clocks + moves_behind e.graph.lanes ends (nth_place path (length path - 1))
     → (p : Plan) → IsTried p (held_in e (map is_some ends)) ends depths → (end : ℕ) → verdict (with_depths p depths) ≡ Done end
     → clock < end
 path_ends_late e depths path clocks a ends clock l p t end done =
-    late_end p (held_in e (map is_some ends)) ends depths t (place_at path 0) (place_at path (length path - 1)) clocks a.last
+    late_end p (held_in e (map is_some ends)) ends depths t (nth_place path 0) (nth_place path (length path - 1)) clocks a.last
     (a.along p ends t) clock l end done
 
 pub path_never_ends : (e : Engine) (depths : List ℕ) (path : List Place) (clocks : ℕ) → IsAlong e depths path (length path) clocks
-    → 0 < clocks → place_at path 0 ≡ place_at path (length path - 1) → (p : Plan) (ends : List (Option Advance))
+    → 0 < clocks → nth_place path 0 ≡ nth_place path (length path - 1) → (p : Plan) (ends : List (Option Advance))
     → IsTried p (held_in e (map is_some ends)) ends depths → (end : ℕ) → verdict (with_depths p depths) ≡ Done end → ⊥
 path_never_ends e depths path clocks a some round p ends t end done =
-    no_end p (held_in e (map is_some ends)) ends depths t (place_at path 0) (place_at path (length path - 1)) clocks a.last
+    no_end p (held_in e (map is_some ends)) ends depths t (nth_place path 0) (nth_place path (length path - 1)) clocks a.last
     (a.along p ends t)
     some round end done

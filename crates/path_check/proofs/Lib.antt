@@ -3,3 +3,5 @@ pub mod Late
 pub mod Steps
 pub mod Reading
 pub mod Ends
+pub mod Depths
+pub mod Shown

@@ -23,8 +23,8 @@ use Rattle.engine_view.specs.Held.{Held, core_of, step_of, no_step, emitted_of, 
 use Rattle.engine_view.proofs.Knowing.{shown_inside}
 use Rattle.engine_report.specs.Finished.{IsFinished}
 use Rattle.engine_report.proofs.Ending.{apart_at}
-use Rattle.path_check.specs.Paths.{blocks_at, waits_at}
-use Rattle.path_check.specs.Waits.{IsTried, free_with, OneWaits, cycle_at, IsTimed, Adds}
+use Rattle.path_check.specs.Paths.{blocks_at, can_wait_at}
+use Rattle.path_check.specs.Waits.{IsTried, free_with, OneWaits, cycle_at, IsTimed, ComesLater}
 use Rattle.path_check.proofs.Steps.{comes_next, comes_after, gap_behind}
 
 -- ---- accesses
@@ -42,12 +42,12 @@ or_last false = refl
 
 -- an access that blocks waits at its port
 waits_among : (xs : List Access) (j : ℕ) (a : Access) → slice_get xs j ≡ Some a → is_blocking a.kind ≡ true
-    → waits_at (side_of a.kind) a.channel (map seen xs) ≡ true
+    → can_wait_at (side_of a.kind) a.channel (map seen xs) ≡ true
 waits_among [] j a e b = absurd (cc)
 waits_among (x ∷ xs) zero a e b =
     let same : x ≡ a = cc in
     let here = subst (λ (y : Access). blocks_at (side_of a.kind) a.channel (seen y) ≡ true) (sym same) (blocks_there a b) in
-    ap (λ (first : Bool). first || waits_at (side_of a.kind) a.channel (map seen xs)) here
+    ap (λ (first : Bool). first || can_wait_at (side_of a.kind) a.channel (map seen xs)) here
 waits_among (x ∷ xs) (suc j) a e b =
     ap (λ (rest : Bool). blocks_at (side_of a.kind) a.channel (seen x) || rest) (waits_among xs j a e b)
     ∙ or_last (blocks_at (side_of a.kind) a.channel (seen x))
@@ -92,7 +92,7 @@ gap_is p h ends f n k inside less =
 
 pub next_adds : (p : Plan) (h : Held) (ends : List (Option Advance)) (depths : List ℕ) → IsTried p h ends depths → (before next : Place)
     → IsTimed h.lanes next → next.module ≡ before.module → next.step ≡ suc before.step
-    → Adds p h depths before next (step_of h next.module next.step).gap
+    → ComesLater p h depths before next (step_of h next.module next.step).gap
 next_adds p h ends depths t before next timed same step from clocks c =
     let f = t.finished in
     let inside = timed.owner in
@@ -117,7 +117,7 @@ next_adds p h ends depths t before next timed same step from clocks c =
 pub waits_adds : (p : Plan) (h : Held) (ends : List (Option Advance)) (depths : List ℕ) → IsTried p h ends depths
     → (before next : Place) (lag : ℕ)
     → IsTimed h.lanes before → IsTimed h.lanes next
-    → OneWaits h.channels depths (step_of h next.module next.step).accesses before lag → Adds p h depths before next lag
+    → OneWaits h.channels depths (step_of h next.module next.step).accesses before lag → ComesLater p h depths before next lag
 waits_adds p h ends depths t before next lag first timed one from clocks c =
     let f = t.finished in
     let d = design p in
@@ -145,8 +145,8 @@ waits_adds p h ends depths t before next lag first timed one from clocks c =
     let then : core_tally d x before.module (other_side side) a.channel event.step ≤ j = rw owner at taken.from in
     let earlier = tally_mono (core_accesses d x before.module) (λ (k : ℕ). bare_replies (x.flags before.module k)) (other_side side)
     a.channel before.step event.step w.no_earlier in
-    let waits : waits_at side a.channel (core_accesses d x next.module next.step) ≡ true =
-    ap (waits_at side a.channel) (f.sound.accesses next.module next.step less) ∙ waits_among accesses one.number a one.among w.blocks in
+    let waits : can_wait_at side a.channel (core_accesses d x next.module next.step) ≡ true =
+    ap (can_wait_at side a.channel) (f.sound.accesses next.module next.step less) ∙ waits_among accesses one.number a one.among w.blocks in
     let after = comes_after d (start_in (with_depths p depths)) (lockstep_run p) i
     (run_is_history p f.fits) p.cycles x f.agreed from.module (cycle_at h.lanes from) before.module before.step next.module next.step c.path
     a.channel side first.timed timed.timed owner waits
@@ -164,7 +164,7 @@ pub lags_add : (e : Engine) (depths : List ℕ) (before next : Place) (found : O
     → IfSome found (λ lag. OneWaits e.fifos.channels depths
     (slice_index_or (lane_at e.graph.lanes next.module).steps next.step no_step).accesses before lag)
     → IfSome found (λ clocks. (p : Plan) (ends : List (Option Advance)) → IsTried p (held_in e (map is_some ends)) ends depths
-    → Adds p (held_in e (map is_some ends)) depths before next clocks)
+    → ComesLater p (held_in e (map is_some ends)) depths before next clocks)
 lags_add e depths before next None first timed w = tt
 lags_add e depths before next (Some lag) first timed w =
     λ p ends t. waits_adds p (held_in e (map is_some ends)) ends depths t before next lag first timed w
@@ -173,6 +173,6 @@ pub gaps_add : (e : Engine) (depths : List ℕ) (before next : Place) (gap : ℕ
     → gap ≡ (slice_index_or (lane_at e.graph.lanes next.module).steps next.step no_step).gap → IsTimed e.graph.lanes next
     → next.module ≡ before.module → next.step ≡ suc before.step
     → (p : Plan) (ends : List (Option Advance)) → IsTried p (held_in e (map is_some ends)) ends depths
-    → Adds p (held_in e (map is_some ends)) depths before next gap
+    → ComesLater p (held_in e (map is_some ends)) depths before next gap
 gaps_add e depths before next gap is timed same step p ends t =
     rw is (next_adds p (held_in e (map is_some ends)) ends depths t before next timed same step)

@@ -9,7 +9,7 @@ use Rattle.event_timing.proofs.Fronts.{agrees, core_tally_is}
 use Rattle.event_timing.proofs.{Standing.early_no_step, Steps.done_more, Steps.done_same, Threshold.taken_view}
 use Rattle.stall_spans.specs.CoreDoings.{arrives}
 use Rattle.stall_spans.proofs.{Placed.arrives_is, Placed.arrives_before, Placed.stands_at, Waits.moves_early, Waits.cycle_moves}
-use Rattle.path_check.specs.Paths.{waits_at, IsAfter, Later, Own, Waits}
+use Rattle.path_check.specs.Paths.{can_wait_at, IsAfter, Later, Own, Waits}
 use Rattle.path_check.proofs.After.{owned_there}
 
 -- the clocks from a step to where its module comes to the next one, or to its end
@@ -88,14 +88,14 @@ module _ {S : Type 0} (d : Design S) (start : Side → ℕ → ℕ) (h : Trace S
 
   -- step l of module n has taken all that is there before step k of the module at the other side is done
   pub comes_after : (b k n l w ch : ℕ) (side : Side) → k < x.timed b → l < x.timed n → d.owner (other_side side) ch ≡ b
-      → waits_at side ch (core_accesses d x n l) ≡ true → d.unlimited side ch ≡ false
+      → can_wait_at side ch (core_accesses d x n l) ≡ true → d.unlimited side ch ≡ false
       → start side ch + core_tally d x b (other_side side) ch k ≤ core_tally d x n side ch l
       → IsAfter d start h m e b (x.cycle b k) w → IsAfter d start h m e n (x.cycle n l) (w + d.lag side ch)
   comes_after b k n l w ch side p q owner waits limited few after =
       let state = state_there n l q in
       let own = owned_there d n ch side (core_accesses d x n l) (i.owned n (x.state n l)) waits in
-      let waits_there : waits_at side ch (d.accesses n (h.state (x.cycle n l) n)) ≡ true =
-      ap (λ (s : S). waits_at side ch (d.accesses n s)) state ∙ waits in
+      let waits_there : can_wait_at side ch (d.accesses n (h.state (x.cycle n l) n)) ≡ true =
+      ap (λ (s : S). can_wait_at side ch (d.accesses n s)) state ∙ waits in
       let here = tally_there n l ch side q own in
       let others = tally_there b k ch (other_side side) p owner in
       Waits n (x.cycle n l) (w + d.lag side ch) (x.cycle b k) w ch side waits_there limited (omega arith) (omega arith)

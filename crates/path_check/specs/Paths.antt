@@ -8,9 +8,9 @@ abbrev pub blocks_at : Side → ℕ → Access → Bool
 blocks_at side ch a = a.blocks && (same_side a.side side && eqb a.channel ch)
 
 -- one of the accesses can wait at this side of the channel
-abbrev pub waits_at : Side → ℕ → List Access → Bool
-waits_at side ch [] = false
-waits_at side ch (a ∷ xs) = blocks_at side ch a || waits_at side ch xs
+abbrev pub can_wait_at : Side → ℕ → List Access → Bool
+can_wait_at side ch [] = false
+can_wait_at side ch (a ∷ xs) = blocks_at side ch a || can_wait_at side ch xs
 
 -- IsAfter d start h m e n f w: in any run of the design with these numbers of elements and places to begin with, module n goes on from
 -- where it stands in clock f of the run h at least w clocks after module m goes on from where it stands in clock e of h:
@@ -23,6 +23,6 @@ pub data IsAfter {S : Type 0} (d : Design S) (start : Side → ℕ → ℕ) (h :
   Same : IsAfter d start h m e m e zero
   Later : (n f g w : ℕ) → f ≤ g → IsAfter d start h m e n f w → IsAfter d start h m e n g w
   Own : (n f w : ℕ) → moves d h f n ≡ true → IsAfter d start h m e n f w → IsAfter d start h m e n (suc f) (suc w)
-  Waits : (n f w a b ch : ℕ) (side : Side) → waits_at side ch (d.accesses n (h.state f n)) ≡ true → d.unlimited side ch ≡ false
+  Waits : (n f w a b ch : ℕ) (side : Side) → can_wait_at side ch (d.accesses n (h.state f n)) ≡ true → d.unlimited side ch ≡ false
       → start side ch + h.taken a (other_side side) ch ≤ h.taken f side ch → w ≤ b + d.lag side ch
       → IsAfter d start h m e (d.owner (other_side side) ch) a b → IsAfter d start h m e n f w

@@ -15,9 +15,9 @@ use Rattle.path_check.specs.Paths.{IsAfter}
 -- ---- the depths
 
 -- the list of depths, in which the edit, if there is one, has replaced the depth of its FIFO
-abbrev pub edited : List ℕ → Option Edit → List ℕ
-edited depths None = depths
-edited depths (Some edit) = slice_set depths edit.channel edit.depth
+abbrev pub depths_with : List ℕ → Option Edit → List ℕ
+depths_with depths None = depths
+depths_with depths (Some edit) = slice_set depths edit.channel edit.depth
 
 -- the held run is the end of the plan's run, the plan asks nothing, and the depths fit its FIFOs and are no greater than their own
 pub record IsTried (p : Plan) (h : Held) (ends : List (Option Advance)) (depths : List ℕ) : Type 0 where
@@ -72,23 +72,23 @@ pub record ComesAfter (p : Plan) (h : Held) (depths : List ℕ) (from to : Place
       to.module (cycle_at h.lanes to) path
 
 -- whatever step the step at `before` comes after, the step at `next` comes after it by `more` clocks more
-abbrev pub Adds : Plan → Held → List ℕ → Place → Place → ℕ → Type 0
-Adds p h depths before next more =
+abbrev pub ComesLater : Plan → Held → List ℕ → Place → Place → ℕ → Type 0
+ComesLater p h depths before next more =
     (from : Place) (clocks : ℕ) → ComesAfter p h depths from before clocks → ComesAfter p h depths from next (clocks + more)
 
 -- the place with this number in a path
-abbrev pub place_at : List Place → ℕ → Place
-place_at path k = slice_index_or path k (record { «module» = 0; step = 0 })
+abbrev pub nth_place : List Place → ℕ → Place
+nth_place path k = slice_index_or path k (record { «module» = 0; step = 0 })
 
 -- the first n places of the path name steps, each of which waits for the one before it, so that the last comes at least `clocks`
 -- clocks after the first
 pub record IsAlong (engine : Engine) (depths : List ℕ) (path : List Place) (n clocks : ℕ) : Type 0 where
   pub some : 1 ≤ n
   pub within : n ≤ length path
-  pub first : IsTimed engine.graph.lanes (place_at path 0)
-  pub last : IsTimed engine.graph.lanes (place_at path (n - 1))
+  pub first : IsTimed engine.graph.lanes (nth_place path 0)
+  pub last : IsTimed engine.graph.lanes (nth_place path (n - 1))
   pub along : (p : Plan) (ends : List (Option Advance)) → IsTried p (held_in engine (map is_some ends)) ends depths
-      → ComesAfter p (held_in engine (map is_some ends)) depths (place_at path 0) (place_at path (n - 1)) clocks
+      → ComesAfter p (held_in engine (map is_some ends)) depths (nth_place path 0) (nth_place path (n - 1)) clocks
 
 -- how many clocks after a step its module still moves, up to its end; 0 where the module has a next step
 abbrev pub moves_behind : List Lane → List (Option Advance) → Place → ℕ

@@ -6,7 +6,7 @@ ghost use Rattle.depth_order.specs.Depths.{with_depths};
 ghost use Rattle.time_engine.specs.Conditions.{HasAccesses};
 ghost use Rattle.engine_view.specs.Engines.{held_in};
 ghost use Rattle.engine_report.specs.Standings.{gap_of};
-ghost use Rattle.path_check.specs.Waits.{IsTried, edited, IsTimed, IsAlong, cycle_at, place_at, moves_behind};
+ghost use Rattle.path_check.specs.Waits.{IsTried, depths_with, IsTimed, IsAlong, cycle_at, nth_place, moves_behind};
 
 use crate::waits::{clocks_between, is_timed};
 use engine_view::Engine;
@@ -28,13 +28,13 @@ pub fn ends_after(
     clock: u64,
 ) -> bool
     requires { HasAccesses engine.now.graph.lanes engine.now.fifos.channels }
-    ensures { result ≡ true → (p : Plan) → IsTried p (held_in engine.now (map is_some ends.now)) ends.now (edited depths.now edit)
-        → (end : ℕ) → verdict (with_depths p (edited depths.now edit)) ≡ Done end → clock < end }
+    ensures { result ≡ true → (p : Plan) → IsTried p (held_in engine.now (map is_some ends.now)) ends.now (depths_with depths.now edit)
+        → (end : ℕ) → verdict (with_depths p (depths_with depths.now edit)) ≡ Done end → clock < end }
 {
     match clocks_along(engine, depths, edit, path) {
         Some(clocks) => {
-            let first = cycle_of(engine, place_at(path, 0));
-            let behind = clocks_behind(engine, ends, place_at(path, path.len() - 1));
+            let first = cycle_of(engine, nth_place(path, 0));
+            let behind = clocks_behind(engine, ends, nth_place(path, path.len() - 1));
             clock <= first.saturating_add(clocks).saturating_add(behind)
         }
         None => false,
@@ -49,15 +49,15 @@ pub fn ends_after(
 pub fn never_ends(engine: &Engine, depths: &[u64], edit: Option<Edit>, path: &[Place]) -> bool
     requires { HasAccesses engine.now.graph.lanes engine.now.fifos.channels }
     ensures { result ≡ true → (p : Plan) (ends : Items (Option Advance))
-        → IsTried p (held_in engine.now (map is_some ends)) ends (edited depths.now edit)
-        → (end : ℕ) → verdict (with_depths p (edited depths.now edit)) ≢ Done end }
+        → IsTried p (held_in engine.now (map is_some ends)) ends (depths_with depths.now edit)
+        → (end : ℕ) → verdict (with_depths p (depths_with depths.now edit)) ≢ Done end }
 {
     match clocks_along(engine, depths, edit, path) {
         Some(clocks) => {
             if clocks == 0 {
                 return false;
             }
-            is_same(place_at(path, 0), place_at(path, path.len() - 1))
+            is_same(nth_place(path, 0), nth_place(path, path.len() - 1))
         }
         None => false,
     }
@@ -67,27 +67,27 @@ pub fn never_ends(engine: &Engine, depths: &[u64], edit: Option<Edit>, path: &[P
 /// the one before it.
 fn clocks_along(engine: &Engine, depths: &[u64], edit: Option<Edit>, path: &[Place]) -> Option<u64>
     requires { HasAccesses engine.now.graph.lanes engine.now.fifos.channels }
-    ensures { IfSome result (λ clocks. IsAlong engine.now (edited depths.now edit) path.now (length path.now) clocks) }
+    ensures { IfSome result (λ clocks. IsAlong engine.now (depths_with depths.now edit) path.now (length path.now) clocks) }
 {
-    if path.is_empty() || !is_timed(engine, place_at(path, 0)) {
+    if path.is_empty() || !is_timed(engine, nth_place(path, 0)) {
         return None;
     }
     let mut clocks = 0u64;
     for at in 1..path.len() {
-        let next = place_at(path, at);
+        let next = nth_place(path, at);
         if !is_timed(engine, next) {
             return None;
         }
-        let more = clocks_between(engine, depths, edit, place_at(path, at - 1), next)?;
+        let more = clocks_between(engine, depths, edit, nth_place(path, at - 1), next)?;
         clocks = clocks.saturating_add(more);
     }
     Some(clocks)
 }
 
 /// The place with this number in a path, counted from 0.
-fn place_at(path: &[Place], at: usize) -> Place
+fn nth_place(path: &[Place], at: usize) -> Place
     requires { at < length path.now }
-    ensures { result ≡ place_at path.now at }
+    ensures { result ≡ nth_place path.now at }
 {
     path[at]
 }

@@ -3,7 +3,7 @@ ghost use Rattle.std.specs.Prelude.{◌≡◌, ◌<◌, true, length, slice_inde
 ghost use Rattle.flow_design.specs.{declared.plan.Plan.Plan, declared.state.Advance.Advance};
 ghost use Rattle.time_engine.specs.Conditions.{IsAccess, HasAccesses};
 ghost use Rattle.engine_view.specs.Engines.{held_in};
-ghost use Rattle.path_check.specs.Waits.{IsTried, edited, free_with, WaitsFor, OneWaits, IsTimed, Adds};
+ghost use Rattle.path_check.specs.Waits.{IsTried, depths_with, free_with, WaitsFor, OneWaits, IsTimed, ComesLater};
 
 use engine_view::Engine;
 use flow_design::Edit;
@@ -32,8 +32,8 @@ pub(crate) fn clocks_between(
     requires before { IsTimed engine.now.graph.lanes before }
     requires next { IsTimed engine.now.graph.lanes next }
     ensures { IfSome result (λ clocks. (p : Plan) (ends : Items (Option Advance))
-        → IsTried p (held_in engine.now (map is_some ends)) ends (edited depths.now edit)
-        → Adds p (held_in engine.now (map is_some ends)) (edited depths.now edit) before next clocks) }
+        → IsTried p (held_in engine.now (map is_some ends)) ends (depths_with depths.now edit)
+        → ComesLater p (held_in engine.now (map is_some ends)) (depths_with depths.now edit) before next clocks) }
 {
     let step = engine.graph.step(next);
     if next.module == before.module && before.step < next.step && next.step - before.step == 1 {
@@ -52,7 +52,7 @@ fn find_lag(
     place: Place,
 ) -> Option<u64>
     requires { All (IsAccess engine.now.fifos.channels) accesses.now }
-    ensures { IfSome result (λ lag. OneWaits engine.now.fifos.channels (edited depths.now edit) accesses.now place lag) }
+    ensures { IfSome result (λ lag. OneWaits engine.now.fifos.channels (depths_with depths.now edit) accesses.now place lag) }
 {
     for access in accesses {
         if let Some(lag) = lag_behind(engine, depths, edit, access, place) {
@@ -72,7 +72,7 @@ fn lag_behind(
     place: Place,
 ) -> Option<u64>
     requires { IsAccess engine.now.fifos.channels access.now }
-    ensures { IfSome result (λ lag. WaitsFor engine.now.fifos.channels (edited depths.now edit) access.now place lag) }
+    ensures { IfSome result (λ lag. WaitsFor engine.now.fifos.channels (depths_with depths.now edit) access.now place lag) }
 {
     let fifos = &engine.fifos;
     if !access.kind.is_blocking() || !fifos.is_fifo(access.channel) {
@@ -94,7 +94,7 @@ fn lag_behind(
 /// How many of a channel's first pops, or pushes, wait for no access of the other side, with these depths and the edit.
 fn free_with(engine: &Engine, depths: &[u64], edit: Option<Edit>, side: Side, channel: u32) -> u64
     requires { channel < length engine.now.fifos.channels }
-    ensures { result ≡ free_with engine.now.fifos.channels (edited depths.now edit) side channel }
+    ensures { result ≡ free_with engine.now.fifos.channels (depths_with depths.now edit) side channel }
 {
     match side {
         Side::Push => depth_with(depths, edit, channel),
@@ -104,7 +104,7 @@ fn free_with(engine: &Engine, depths: &[u64], edit: Option<Edit>, side: Side, ch
 
 /// The depth of a channel with the edit; 0 where the list has no such channel.
 fn depth_with(depths: &[u64], edit: Option<Edit>, channel: u32) -> u64
-    ensures { result ≡ slice_index (edited depths.now edit) channel }
+    ensures { result ≡ slice_index (depths_with depths.now edit) channel }
 {
     let stands = depths.get(channel as usize).copied();
     match edit {

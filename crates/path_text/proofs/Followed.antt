@@ -11,9 +11,9 @@ use Rattle.depth_order.specs.{declared.link.Link.Link, Chain.moves_at, Chain.fir
 use Rattle.depth_order.proofs.Chained.{found_true, starts}
 use Rattle.path_text.specs.{declared.walk.At.At, declared.link.Polled.Polled, Walks.link_at, Walks.MovesBefore}
 use Rattle.path_text.specs.declared.link.PolledLink.{PolledLink}
-use Rattle.path_text.specs.Polls.{AreAccesses, before_polled, clock_of, ends_poll, going_on, if_some, is_hit, last_move, last_poll}
+use Rattle.path_text.specs.Polls.{AreAccesses, before_polled, access_clock, ends_poll, going_on, if_some, is_hit, last_move, last_poll}
 use Rattle.path_text.specs.Polls.{EndsEarlier, link_by, links_in, missed_before, move_by, polled_chain, polled_from, polled_link}
-use Rattle.path_text.specs.Polls.{polled_path, polls_in}
+use Rattle.path_text.specs.Polls.{polled_path, polls_along}
 use Rattle.path_text.proofs.{Chains.next_moves, Logged.IsTold, Fronts.IsFront, Fronts.accesses_told, Fronts.front_is}
 use Rattle.path_text.proofs.Latest.{all_filter, in_turn, of_all, InTurn}
 
@@ -43,7 +43,7 @@ poll_is p fits log (inl none) l a e =
     absurd (cc)
 poll_is p fits log (inr is) l a e =
     let mine = filter (is_of l.«module») log in
-    let x = of_all clock_of (IsEnding p l) (filter (ends_poll p mine l.first l.last) mine)
+    let x = of_all access_clock (IsEnding p l) (filter (ends_poll p mine l.first l.last) mine)
     (all_filter (IsTold p) (IsEnding p l) (ends_poll p mine l.first l.last) (λ b told test. ending p mine l b told test) mine
     (all_filter (IsTold p) (IsTold p) (is_of l.«module») (λ b told test. told) log (accesses_told p fits log (inr is)))) a e in
     record { told = x.told; within = x.within; front = front_is p fits log is a x.told x.hit }
@@ -233,7 +233,7 @@ path_back p fits c = in_turn EndsEarlier (links_in (polled_path p (log_of p) c))
 -- these links and polls, and those of the chain back from where it goes on, are the whole path's
 pub record IsWalk (p : Plan) (log : List LoggedAccess) (end : ℕ) (links : List Link) (polls : List Polled) (next : Option At) : Type 0 where
   pub links_are : links ++ links_in (polled_from p log next) ≡ links_in (polled_path p log end)
-  pub polls_are : polls ++ polls_in (polled_from p log next) ≡ polls_in (polled_path p log end)
+  pub polls_are : polls ++ polls_along (polled_from p log next) ≡ polls_along (polled_path p log end)
   pub there : MovesBefore p end next
 
 abbrev pub left : Option At → ℕ
@@ -256,9 +256,9 @@ walk_on p fits log ac end links new polls more at l o x is added polled goes =
         links_are = ap (λ (ls : List Link). ls ++ links_in (polled_from p log o)) added
             ∙ (append_assoc links (l.link ∷ []) (links_in (polled_from p log o))
             ∙ (ap (λ (ls : List PolledLink). links ++ links_in ls) (sym chain) ∙ x.links_are));
-        polls_are = ap (λ (qs : List Polled). qs ++ polls_in (polled_from p log o)) polled
-            ∙ (append_assoc polls (if_some l.polled) (polls_in (polled_from p log o))
-            ∙ (ap (λ (ls : List PolledLink). polls ++ polls_in ls) (sym chain) ∙ x.polls_are));
+        polls_are = ap (λ (qs : List Polled). qs ++ polls_along (polled_from p log o)) polled
+            ∙ (append_assoc polls (if_some l.polled) (polls_along (polled_from p log o))
+            ∙ (ap (λ (ls : List PolledLink). polls ++ polls_along ls) (sym chain) ∙ x.polls_are));
         there = sooner p at.clock end o (omega arith) moves;
       },
       by_moves o moves,

@@ -16,9 +16,9 @@ use Rattle.stall_text.specs.Polls.{is_of}
 use Rattle.stall_text.proofs.Accesses.{on, log_inside}
 use Rattle.depth_order.specs.declared.link.Link.{Link}
 use Rattle.path_text.specs.{declared.finds.Find.Find, declared.finds.LastMissed.LastMissed, declared.link.PolledLink.PolledLink}
-use Rattle.path_text.specs.Polls.{AreAccesses, clock_of, ends_poll, from_query, front_pushed, if_some, is_hit, last_poll, latest, link_by}
-use Rattle.path_text.specs.Polls.{missed_before, moved_clocks, polled_link, seeks}
-use Rattle.path_text.specs.Finds.{AreFinds, AreInOrder, AreMissed, by_find, find_clock, found_by, is_within, last_missed, missed_of}
+use Rattle.path_text.specs.Polls.{AreAccesses, access_clock, ends_poll, from_query, front_pushed, if_some, is_hit, last_poll, latest_one}
+use Rattle.path_text.specs.Polls.{link_by, missed_before, passing_clocks, polled_link, seeks}
+use Rattle.path_text.specs.Finds.{AreFinds, AreChronological, AreMissed, by_find, find_clock, found_by, lies_in, last_missed, missed_of}
 use Rattle.path_text.specs.Finds.{unmissed}
 use Rattle.path_text.proofs.{Logged.IsTold, Logged.Orderly, Logged.log_orderly, Fronts.accesses_told, Fronts.clocks_rise, Fronts.front_is}
 use Rattle.path_text.proofs.{Fronts.hit_parts, Missed.UpTo, Missed.is_from, Missed.last_bounded, Missed.missed_is}
@@ -69,7 +69,7 @@ pub record AreFindsOf (p : Plan) (log : List LoggedAccess) (k : ℕ) (finds : Li
   pub in_order : FindsRise finds
   pub early : (c : ℕ) → AllByRecursion (λ a. a.event.cycle ≤ c) (take k log) → AllByRecursion (λ f. find_clock f ≤ c) finds
   pub pushed : AllByRecursion (λ f. f.pushed ≡ front_pushed log f.access.event.channel f.access.event.cycle) finds
-  pub each : (l : Link) → map (λ f. f.access) (filter (is_within l) finds)
+  pub each : (l : Link) → map (λ f. f.access) (filter (lies_in l) finds)
       ≡ filter (ends_poll p (filter (is_of l.«module») log) l.first l.last) (filter (is_of l.«module») (take k log))
 
 rise_more : (finds more : List Find) → FindsRise finds → FindsRise more
@@ -112,7 +112,7 @@ one_access test true a = refl
 one_access test false a = refl
 
 one_find : (l : Link) (hit : Bool) (o : Option ℕ) (a : LoggedAccess) (e : ℕ)
-    → map (λ f. f.access) (filter (is_within l) (if_some (found_by hit o a e)))
+    → map (λ f. f.access) (filter (lies_in l) (if_some (found_by hit o a e)))
     ≡ cond (hit && within_by (is_of l.«module» a) l.first l.last a.event.cycle o) (a ∷ []) []
 one_find l false o a e = refl
 one_find l true None a e = refl
@@ -216,11 +216,11 @@ module _ (p : Plan) (fits : FitsEngine p) (log : List LoggedAccess) (ac : AreAcc
         each = λ link.
             let test = ends_poll p (filter (is_of link.«module») log) link.first link.last in
             let own = is_of link.«module» in
-            ap (λ (fs : List Find). map (λ f. f.access) (filter (is_within link) fs)) q
-            ∙ (ap (map (λ f. f.access)) (filter-append (is_within link) finds kept)
-            ∙ (map-append (λ f. f.access) (filter (is_within link) finds) (filter (is_within link) kept)
+            ap (λ (fs : List Find). map (λ f. f.access) (filter (lies_in link) fs)) q
+            ∙ (ap (map (λ f. f.access)) (filter-append (lies_in link) finds kept)
+            ∙ (map-append (λ f. f.access) (filter (lies_in link) finds) (filter (lies_in link) kept)
             ∙ (ap₂ (λ (xs ys : List LoggedAccess). xs ++ ys) (h.each link)
-            (ap (λ (f : Option Find). map (λ f. f.access) (filter (is_within link) (if_some f))) (found_is missed e same)
+            (ap (λ (f : Option Find). map (λ f. f.access) (filter (lies_in link) (if_some f))) (found_is missed e same)
             ∙ (one_find link (is_hit p a) o a e
             ∙ (ap (λ (b : Bool). cond b (a ∷ []) []) (ends_is link) ∙ sym (one_access test (own a) a))))
             ∙ sym (ap (λ (xs : List LoggedAccess). filter test (filter own xs)) more
@@ -254,29 +254,29 @@ finds_all p log finds k e h =
 -- ---- the link that a walk takes
 
 by_find_is : (p : Plan) (log : List LoggedAccess) (finds : List Find) → AreFinds p log finds → (l : Link)
-    → by_find l (latest find_clock (filter (is_within l) finds)) ≡ polled_link p log l
-by_find_is p log finds h l = by_latest (latest find_clock (filter (is_within l) finds)) refl
+    → by_find l (latest_one find_clock (filter (lies_in l) finds)) ≡ polled_link p log l
+by_find_is p log finds h l = by_latest (latest_one find_clock (filter (lies_in l) finds)) refl
   where
-    same : (o : Option Find) → latest find_clock (filter (is_within l) finds) ≡ o → option_map (λ f. f.access) o ≡ last_poll p log l
+    same : (o : Option Find) → latest_one find_clock (filter (lies_in l) finds) ≡ o → option_map (λ f. f.access) o ≡ last_poll p log l
     same o e =
         ap (option_map (λ f. f.access)) (sym e)
-        ∙ (mapped (λ f. f.access) clock_of (filter (is_within l) finds) ∙ ap (latest clock_of) (h.each l))
+        ∙ (mapped (λ f. f.access) access_clock (filter (lies_in l) finds) ∙ ap (latest_one access_clock) (h.each l))
 
-    by_latest : (o : Option Find) → latest find_clock (filter (is_within l) finds) ≡ o → by_find l o ≡ link_by log l (last_poll p log l)
+    by_latest : (o : Option Find) → latest_one find_clock (filter (lies_in l) finds) ≡ o → by_find l o ≡ link_by log l (last_poll p log l)
     by_latest None e = ap (link_by log l) (same None e)
     by_latest (Some f) e =
         let pushed = of_all find_clock (λ g. g.pushed ≡ front_pushed log g.access.event.channel g.access.event.cycle)
-        (filter (is_within l) finds)
+        (filter (lies_in l) finds)
         (all_filter (λ g. g.pushed ≡ front_pushed log g.access.event.channel g.access.event.cycle)
-        (λ g. g.pushed ≡ front_pushed log g.access.event.channel g.access.event.cycle) (is_within l) (λ g x t. x) finds
+        (λ g. g.pushed ≡ front_pushed log g.access.event.channel g.access.event.cycle) (lies_in l) (λ g x t. x) finds
         (recursion_from_All (λ g. g.pushed ≡ front_pushed log g.access.event.channel g.access.event.cycle) finds h.pushed)) f e in
         ap (from_query l f.access) pushed ∙ ap (link_by log l) (same (Some f) e)
 
 pub step_is : (p : Plan) (log : List LoggedAccess) (finds slice : List Find) (l m : Link) (step : PolledLink) → AreFinds p log finds
-    → slice ≡ finds → l ≡ m → step ≡ by_find l (latest find_clock (filter (is_within l) slice)) → step ≡ polled_link p log m
+    → slice ≡ finds → l ≡ m → step ≡ by_find l (latest_one find_clock (filter (lies_in l) slice)) → step ≡ polled_link p log m
 step_is p log finds slice l m step h same e s =
     s
-    ∙ (ap₂ (λ (k : Link) (fs : List Find). by_find k (latest find_clock (filter (is_within k) fs))) e same ∙ by_find_is p log finds h m)
+    ∙ (ap₂ (λ (k : Link) (fs : List Find). by_find k (latest_one find_clock (filter (lies_in k) fs))) e same ∙ by_find_is p log finds h m)
 
 -- ---- what is kept of an access
 
@@ -286,21 +286,21 @@ channels_inside p fits log (inl e) = subst (All (λ a. a.event.channel < length 
 channels_inside p fits log (inr e) = subst (All (λ a. a.event.channel < length p.design.channels)) (sym e) (log_inside p fits)
 
 pub kept_at : (log : List LoggedAccess) (side : Side) (lists slice : List (List ℕ)) (f : ℕ) (found : List ℕ) → found ≡ get_or slice f found
-    → slice ≡ lists → f < length lists → get_or lists f [] ≡ moved_clocks log side f → found ≡ moved_clocks log side f
+    → slice ≡ lists → f < length lists → get_or lists f [] ≡ passing_clocks log side f → found ≡ passing_clocks log side f
 kept_at log side lists slice f found is same l there =
     is ∙ (ap (λ (all : List (List ℕ)). get_or all f found) same ∙ (get_or_default lists f found [] l ∙ there))
 
 pub moved_rise : (p : Plan) (log : List LoggedAccess) → AreAccesses p log → (side : Side) (f : ℕ)
-    → AllPairs (λ a b. a ≤ b) (moved_clocks log side f)
+    → AllPairs (λ a b. a ≤ b) (passing_clocks log side f)
 moved_rise p log (inl e) side f =
-    subst (λ (xs : List LoggedAccess). AllPairs (λ a b. a ≤ b) (moved_clocks xs side f)) (sym e) (λ i j d l m. absurd (omega arith))
+    subst (λ (xs : List LoggedAccess). AllPairs (λ a b. a ≤ b) (passing_clocks xs side f)) (sym e) (λ i j d l m. absurd (omega arith))
 moved_rise p log (inr e) side f =
-    subst (λ (xs : List LoggedAccess). AllPairs (λ a b. a ≤ b) (moved_clocks xs side f)) (sym e) (clocks_rise p side f)
+    subst (λ (xs : List LoggedAccess). AllPairs (λ a b. a ≤ b) (passing_clocks xs side f)) (sym e) (clocks_rise p side f)
 
 pub front_there : (p : Plan) → FitsEngine p → (log : List LoggedAccess) → AreAccesses p log → (k : ℕ) (d : LoggedAccess) → k < length log
     → is_hit p (get_or log k d) ≡ true
-    → before (moved_clocks log Pop (get_or log k d).event.channel) (get_or log k d).event.cycle
-    < length (moved_clocks log Push (get_or log k d).event.channel)
+    → before (passing_clocks log Pop (get_or log k d).event.channel) (get_or log k d).event.cycle
+    < length (passing_clocks log Push (get_or log k d).event.channel)
 front_there p fits log (inl e) k d l hit = let none = ap length e in absurd (omega arith)
 front_there p fits log (inr e) k d l hit =
     (front_is p fits log e (get_or log k d)

@@ -13,11 +13,11 @@ use Rattle.fifo_fills.specs.{Passed.acts, Fills.last_clock}
 use Rattle.port_clocks.specs.{Leads.before, Leads.is_ahead, Clocks.ArePortClocks}
 use Rattle.port_clocks.proofs.Counts.{before_below, before_most}
 use Rattle.sim_core.specs.{AccessLog.log_of, declared.access_log.LoggedAccess.LoggedAccess}
-use Rattle.stall_text.specs.{Polls.is_missed, Stalls.clocks_of, Stalls.moved_at, Filling.later}
+use Rattle.stall_text.specs.{Polls.is_missed, Stalls.access_clocks, Stalls.moved_at, Filling.shifted}
 use Rattle.stall_text.proofs.Accesses.{on, list_rises, log_is}
 use Rattle.stall_text.proofs.{Uses.moved_owner, Uses.log_clocks, Fills.empty_is, Fills.later_before}
 use Rattle.depth_order.specs.Chain.{moves_at}
-use Rattle.path_text.specs.Polls.{is_hit, seeks, moved_clocks, front_pushed, AreAccesses}
+use Rattle.path_text.specs.Polls.{is_hit, seeks, passing_clocks, front_pushed, AreAccesses}
 use Rattle.path_text.proofs.Logged.{IsTold, log_told}
 
 -- ---- a query that found an element
@@ -36,25 +36,25 @@ hit_parts p a e =
 -- ---- clocks of a port
 
 -- they are those in which elements pass it
-told_clocks : (p : Plan) (side : Side) (f : ℕ) → ArePortClocks p (on side f) (moved_clocks (log_of p) side f)
+told_clocks : (p : Plan) (side : Side) (f : ℕ) → ArePortClocks p (on side f) (passing_clocks (log_of p) side f)
 unfolding acts
 told_clocks p side f =
-    subst (ArePortClocks p (on side f)) (sym (ap (λ (log : List LoggedAccess). moved_clocks log side f) (log_is p))) (log_clocks p side f)
+    subst (ArePortClocks p (on side f)) (sym (ap (λ (log : List LoggedAccess). passing_clocks log side f) (log_is p))) (log_clocks p side f)
 
-pub clocks_rise : (p : Plan) (side : Side) (f : ℕ) → AllPairs (λ a b. a ≤ b) (moved_clocks (log_of p) side f)
+pub clocks_rise : (p : Plan) (side : Side) (f : ℕ) → AllPairs (λ a b. a ≤ b) (passing_clocks (log_of p) side f)
 unfolding acts
 clocks_rise p side f =
-    subst (AllPairs (λ a b. a ≤ b)) (sym (ap (λ (log : List LoggedAccess). moved_clocks log side f) (log_is p)))
+    subst (AllPairs (λ a b. a ≤ b)) (sym (ap (λ (log : List LoggedAccess). passing_clocks log side f) (log_is p)))
     (list_rises p (moved_at (on side f)) (last_clock p))
 
 -- who moved an element there moved then
 movers : (p : Plan) (port : Port) (log : List LoggedAccess) → AllByRecursion (IsTold p) log
-    → AllByRecursion (λ c. moves_at p c (owner p port) ≡ true) (clocks_of (filter (moved_at port) log))
+    → AllByRecursion (λ c. moves_at p c (owner p port) ≡ true) (access_clocks (filter (moved_at port) log))
 movers p port [] h = tt
 movers p port (a ∷ log) h = by_test (moved_at port a) refl (movers p port log h.1)
   where
-    by_test : (b : Bool) → moved_at port a ≡ b → AllByRecursion (λ c. moves_at p c (owner p port) ≡ true) (clocks_of (filter (moved_at port) log))
-        → AllByRecursion (λ c. moves_at p c (owner p port) ≡ true) (clocks_of (cond b (a ∷ filter (moved_at port) log) (filter (moved_at port) log)))
+    by_test : (b : Bool) → moved_at port a ≡ b → AllByRecursion (λ c. moves_at p c (owner p port) ≡ true) (access_clocks (filter (moved_at port) log))
+        → AllByRecursion (λ c. moves_at p c (owner p port) ≡ true) (access_clocks (cond b (a ∷ filter (moved_at port) log) (filter (moved_at port) log)))
     by_test true e rest =
         (subst (λ (m : ℕ). moves_at p a.event.cycle m ≡ true) (moved_owner p port a (h.0).owned e) (h.0).moves, rest)
     by_test false e rest = rest
@@ -71,7 +71,7 @@ counted_in xs h k c l = elim (cases_lt (get_or xs k 0) c) [
 
 -- the element that a query finds in clock u at the front of channel f: its push was before, and its module moved then
 pub record IsFront (p : Plan) (log : List LoggedAccess) (f u : ℕ) : Type 0 where
-  pub there : before (moved_clocks log Pop f) u < length (moved_clocks log Push f)
+  pub there : before (passing_clocks log Pop f) u < length (passing_clocks log Push f)
   pub earlier : front_pushed log f u < u
   pub moves : moves_at p (front_pushed log f u) (owner p (record { side = Push; channel = f })) ≡ true
 
@@ -81,23 +81,24 @@ not_false false e = absurd cc
 
 empty_here : (p : Plan) → FitsEngine p → (f : ℕ) → f < length p.design.channels → is_fifo (kind_at p f) ≡ true → (c : ℕ) → c ≤ last_clock p
     → is_empty c (contents_of (state p c).contents f)
-    ≡ not (is_ahead 1 (later (delay_at p f - 1) (moved_clocks (log_of p) Push f)) (moved_clocks (log_of p) Pop f) c)
+    ≡ not (is_ahead 1 (shifted (delay_at p f - 1) (passing_clocks (log_of p) Push f)) (passing_clocks (log_of p) Pop f) c)
 empty_here p fits f l fifo c m =
-    empty_is p fits f l fifo (moved_clocks (log_of p) Pop f) (moved_clocks (log_of p) Push f) (told_clocks p Pop f) (told_clocks p Push f) c m
+    empty_is p fits f l fifo (passing_clocks (log_of p) Pop f) (passing_clocks (log_of p) Push f) (told_clocks p Pop f) (told_clocks p Push f) c m
 
 front_here : (p : Plan) → FitsEngine p → (a : LoggedAccess) → IsTold p a → IsHit p a → IsFront p (log_of p) a.event.channel a.event.cycle
 front_here p fits a told hit =
     let f = a.event.channel in
     let u = a.event.cycle in
-    let pops = moved_clocks (log_of p) Pop f in
-    let pushes = moved_clocks (log_of p) Push f in
+    let pops = passing_clocks (log_of p) Pop f in
+    let pushes = passing_clocks (log_of p) Push f in
     let d = delay_at p f in
     let positive = delay_positive p fits f told.inside in
     let below = told.below in
     let full : is_empty u (contents_of (state p u).contents f) ≡ false = sym (told.missed hit.seeks) ∙ hit.there in
-    let ahead : is_ahead 1 (later (d - 1) pushes) pops u ≡ true =
-    not_false (is_ahead 1 (later (d - 1) pushes) pops u) (sym (empty_here p fits f told.inside hit.fifo u (omega arith)) ∙ full) in
-    let more : before pops u + 1 ≤ before (later (d - 1) pushes) u = leb-true (before pops u + 1) (before (later (d - 1) pushes) u) ahead in
+    let ahead : is_ahead 1 (shifted (d - 1) pushes) pops u ≡ true =
+    not_false (is_ahead 1 (shifted (d - 1) pushes) pops u) (sym (empty_here p fits f told.inside hit.fifo u (omega arith)) ∙ full) in
+    let more : before pops u + 1 ≤ before (shifted (d - 1) pushes) u =
+    leb-true (before pops u + 1) (before (shifted (d - 1) pushes) u) ahead in
     let lagged = later_before pushes u d positive in
     let many : before pops u < before pushes (suc u - d) = omega arith in
     let early = counted_in pushes (clocks_rise p Push f) (before pops u) (suc u - d) many in

@@ -11,7 +11,7 @@ use Rattle.stall_spans.proofs.{Lists.Member, Lists.Rising, Lists.all_of, Lists.c
 use Rattle.depth_order.specs.Chain.{moves_at, first_mover}
 use Rattle.depth_order.proofs.Chained.{find_any, none_among}
 use Rattle.path_text.specs.{declared.walk.At.At, Polls.last_move, Polls.move_by}
-use Rattle.path_text.specs.Walks.{end_by, end_with, moving_end, HasSpans, IsLastMove, with_module}
+use Rattle.path_text.specs.Walks.{end_by, end_with, moving_end, HasSpans, IsLastMove, last_with}
 use Rattle.path_text.proofs.{Doings.doing_moves, Doings.moves_doing, Doings.mover_inside, Covered.covered}
 
 -- ---- the last of the spans in which the module moves
@@ -111,7 +111,7 @@ moving_end_is p m end spans a = by_ends (moving_end spans) (ends_with spans list
 -- ---- module after module
 
 pub last_more : (p : Plan) (end n : ℕ) (o : Option At) (e : Option ℕ) → IsLastMove p end n o → IsMovingEnd p n end e
-    → IsLastMove p end (suc n) (with_module o n e)
+    → IsLastMove p end (suc n) (last_with o n e)
 last_more p end n None None all h = λ m c l k. elim (cases_eq m n) [
   | inl at ↦ rw at (h c k)
   | inr other ↦ all m c (omega arith) k
@@ -279,7 +279,7 @@ last_is p (suc c) o all = last_more_move p c ∙ by_mover (first_mover p c) refl
 
 pub last_by_spans : (p : Plan) (end n : ℕ) (spans : List (List Span)) (found slice : List Span) (o new : Option At) (e : Option ℕ)
     → HasSpans p end spans → IsLastMove p end n o → n < length spans → found ≡ get_or spans n found → slice ≡ found
-    → e ≡ moving_end slice → new ≡ with_module o n e → IsLastMove p end (n + 1) new
+    → e ≡ moving_end slice → new ≡ last_with o n e → IsLastMove p end (n + 1) new
 last_by_spans p end n spans found slice o new e h all l there same is next =
     let at : found ≡ get_or spans n [] = there ∙ get_or_default spans n found [] l in
     let one = moving_end_is p n end (get_or spans n []) (h.each n l) in

@@ -3,27 +3,27 @@ use Rattle.std.proofs.Common.{◌≡◌, ℕ, zero, suc, ◌<◌, List, [], ◌�
 use Rattle.std.proofs.Common.{Option, Some, None}
 use Rattle.std.proofs.{lemmas.Bool.lt-ltb, lemmas.List.Elements.All-from_recursion}
 use Rattle.std.specs.{Prelude.option_map, Prelude.AllPairs, List.filter, List.AllByRecursion}
-use Rattle.path_text.specs.Polls.{later, latest}
+use Rattle.path_text.specs.Polls.{later_one, latest_one}
 
 module _ {X : Type 0} (clock : X → ℕ) where
   abbrev pub IsSooner : ℕ → Option X → Type 0
   IsSooner c None = ⊥
   IsSooner c (Some x) = c < clock x
 
-  sooner : (x : X) (o : Option X) → IsSooner (clock x) o → later clock x o ≡ o
+  sooner : (x : X) (o : Option X) → IsSooner (clock x) o → later_one clock x o ≡ o
   sooner x None h = absurd h
   sooner x (Some y) h = rw (lt-ltb (clock x) (clock y) h) refl
 
   -- items before the latest do not count
-  pub ahead : (test : X → Bool) (xs ys : List X) → AllByRecursion (λ x. test x ≡ true → IsSooner (clock x) (latest clock (filter test ys))) xs
-      → latest clock (filter test (xs ++ ys)) ≡ latest clock (filter test ys)
+  pub ahead : (test : X → Bool) (xs ys : List X) → AllByRecursion (λ x. test x ≡ true → IsSooner (clock x) (latest_one clock (filter test ys))) xs
+      → latest_one clock (filter test (xs ++ ys)) ≡ latest_one clock (filter test ys)
   ahead test [] ys h = refl
   ahead test (x ∷ xs) ys h = by_test (test x) refl (ahead test xs ys h.1)
     where
-      by_test : (b : Bool) → test x ≡ b → latest clock (filter test (xs ++ ys)) ≡ latest clock (filter test ys)
-          → latest clock (cond b (x ∷ filter test (xs ++ ys)) (filter test (xs ++ ys))) ≡ latest clock (filter test ys)
+      by_test : (b : Bool) → test x ≡ b → latest_one clock (filter test (xs ++ ys)) ≡ latest_one clock (filter test ys)
+          → latest_one clock (cond b (x ∷ filter test (xs ++ ys)) (filter test (xs ++ ys))) ≡ latest_one clock (filter test ys)
       by_test false e rest = rest
-      by_test true e rest = ap (later clock x) rest ∙ sooner x (latest clock (filter test ys)) (h.0 e)
+      by_test true e rest = ap (later_one clock x) rest ∙ sooner x (latest_one clock (filter test ys)) (h.0 e)
 
   -- none of no items
   pub none : (test : X → Bool) (xs : List X) → AllByRecursion (λ x. test x ≡ false) xs → filter test xs ≡ []
@@ -31,15 +31,15 @@ module _ {X : Type 0} (clock : X → ℕ) where
   none test (x ∷ xs) h = rw h.0 (none test xs h.1)
 
   -- what holds of all holds of the latest
-  pub of_all : (P : X → Type 0) (xs : List X) → AllByRecursion P xs → (x : X) → latest clock xs ≡ Some x → P x
+  pub of_all : (P : X → Type 0) (xs : List X) → AllByRecursion P xs → (x : X) → latest_one clock xs ≡ Some x → P x
   of_all P [] h x e = absurd cc
-  of_all P (y ∷ ys) h x e = by_rest (latest clock ys) (of_all P ys h.1) e
+  of_all P (y ∷ ys) h x e = by_rest (latest_one clock ys) (of_all P ys h.1) e
     where
       by_test : (b : Bool) (z : X) → P z → cond b (Some z) (Some y) ≡ Some x → P x
       by_test true z there e = let same : z ≡ x = cc in subst P same there
       by_test false z there e = let same : y ≡ x = cc in subst P same h.0
 
-      by_rest : (o : Option X) → ((z : X) → o ≡ Some z → P z) → later clock y o ≡ Some x → P x
+      by_rest : (o : Option X) → ((z : X) → o ≡ Some z → P z) → later_one clock y o ≡ Some x → P x
       by_rest None rest e = let same : y ≡ x = cc in subst P same h.0
       by_rest (Some z) rest e = by_test (ltb (clock y) (clock z)) z (rest z refl) e
 
@@ -54,11 +54,11 @@ all_filter {X} P Q test f (x ∷ xs) h = by_test (test x) refl (all_filter P Q t
 
 -- the latest by what the items stand for
 pub mapped : {X Y : Type 0} (f : X → Y) (clock : Y → ℕ) (xs : List X)
-    → option_map f (latest (λ x. clock (f x)) xs) ≡ latest clock (map f xs)
+    → option_map f (latest_one (λ x. clock (f x)) xs) ≡ latest_one clock (map f xs)
 mapped f clock [] = refl
-mapped {X} {Y} f clock (x ∷ xs) = by_rest (latest (λ x. clock (f x)) xs) ∙ ap (later clock (f x)) (mapped f clock xs)
+mapped {X} {Y} f clock (x ∷ xs) = by_rest (latest_one (λ x. clock (f x)) xs) ∙ ap (later_one clock (f x)) (mapped f clock xs)
   where
-    by_rest : (o : Option X) → option_map f (later (λ x. clock (f x)) x o) ≡ later clock (f x) (option_map f o)
+    by_rest : (o : Option X) → option_map f (later_one (λ x. clock (f x)) x o) ≡ later_one clock (f x) (option_map f o)
     by_rest None = refl
     by_rest (Some y) = by_test (ltb (clock (f x)) (clock (f y)))
       where

@@ -7,16 +7,16 @@ use Rattle.sim_core.specs.declared.access_log.LoggedAccess.{LoggedAccess}
 use Rattle.depth_order.specs.{declared.link.Link.Link, Chain.moves_at, Sums.spent}
 use Rattle.depth_order.proofs.Chained.{starts}
 use Rattle.path_text.specs.{declared.link.Polled.Polled, declared.link.PolledLink.PolledLink, Walks.link_at}
-use Rattle.path_text.specs.Polls.{AreAccesses, if_some, last_poll, link_by, links_in, polled_link, polled_path, polls_in}
-use Rattle.path_text.specs.Counts.{clocks_of, waiting, IsLinkOf, AreLinksOf, IsPollOf, ArePollsOf}
+use Rattle.path_text.specs.Polls.{AreAccesses, if_some, last_poll, link_by, links_in, polled_link, polled_path, polls_along}
+use Rattle.path_text.specs.Counts.{link_clocks, clocks_waiting, IsLinkOf, AreLinksOf, IsPollOf, ArePolledIn}
 use Rattle.path_text.proofs.{Doings.mover_inside, Chains.crossing_inside, Followed.all_in_path, Followed.poll_is}
 use Rattle.path_text.proofs.Totals.{left_within, polled_total}
 
 -- ---- their clocks
 
-clocks_spent : (links : List Link) → sum_by clocks_of links ≡ spent links
-clocks_spent [] = refl
-clocks_spent (l ∷ ls) = sum_by-cons clocks_of l ls ∙ ap (λ (n : ℕ). clocks_of l + n) (clocks_spent ls)
+spent_is : (links : List Link) → sum_by link_clocks links ≡ spent links
+spent_is [] = refl
+spent_is (l ∷ ls) = sum_by-cons link_clocks l ls ∙ ap (λ (n : ℕ). link_clocks l + n) (spent_is ls)
 
 -- ---- the links and the polls
 
@@ -46,12 +46,12 @@ links_of design [] h = tt
 links_of design (l ∷ chain) h = ((h.0).0, links_of design chain h.1)
 
 polls_of : (design : Design) (chain : List PolledLink) → AllByRecursion (IsStepOf design) chain
-    → AllByRecursion (IsPollOf design) (polls_in chain)
+    → AllByRecursion (IsPollOf design) (polls_along chain)
 polls_of design [] h = tt
 polls_of design (l ∷ chain) h = by_poll l.polled (h.0).1 (polls_of design chain h.1)
   where
-    by_poll : (o : Option Polled) → IfSome o (IsPollOf design) → AllByRecursion (IsPollOf design) (polls_in chain)
-        → AllByRecursion (IsPollOf design) (if_some o ++ polls_in chain)
+    by_poll : (o : Option Polled) → IfSome o (IsPollOf design) → AllByRecursion (IsPollOf design) (polls_along chain)
+        → AllByRecursion (IsPollOf design) (if_some o ++ polls_along chain)
     by_poll None q rest = rest
     by_poll (Some poll) q rest = (q, rest)
 
@@ -66,16 +66,16 @@ polled_links p h log ac c =
     (links_of p.design (polled_path p log c) (steps p h log ac c))
 
 pub path_polls : (p : Plan) → FitsEngine p → (log : List LoggedAccess) → AreAccesses p log → (c : ℕ)
-    → ArePollsOf p.design (polls_in (polled_path p log c))
+    → ArePolledIn p.design (polls_along (polled_path p log c))
 path_polls p h log ac c =
-    All-from_recursion (IsPollOf p.design) (polls_in (polled_path p log c))
+    All-from_recursion (IsPollOf p.design) (polls_along (polled_path p log c))
     (polls_of p.design (polled_path p log c) (steps p h log ac c))
 
 -- their clocks
 pub polled_few : (p : Plan) → FitsEngine p → (log : List LoggedAccess) → AreAccesses p log → (c : ℕ)
-    → (sum_by clocks_of (links_in (polled_path p log c)) ≤ c) × (sum_by waiting (polls_in (polled_path p log c)) ≤ c)
+    → (sum_by link_clocks (links_in (polled_path p log c)) ≤ c) × (sum_by clocks_waiting (polls_along (polled_path p log c)) ≤ c)
 polled_few p h log ac c =
-    let same = clocks_spent (links_in (polled_path p log c)) in
+    let same = spent_is (links_in (polled_path p log c)) in
     let all = polled_total p h log ac c in
     let most = left_within p c in
     (omega arith, omega arith)

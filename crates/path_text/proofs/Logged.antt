@@ -14,7 +14,7 @@ use Rattle.lockstep_defs.proofs.Queue.{all-append}
 use Rattle.fifo_fills.specs.{Passed.Act, Passed.acts_in, Passed.acts_before, Passed.acts, Fills.last_clock}
 use Rattle.fifo_fills.proofs.Acts.{acts-zero, acts-suc, early}
 use Rattle.sim_core.specs.{AccessLog.log_of, declared.access_log.LoggedAccess.LoggedAccess}
-use Rattle.stall_text.specs.{Polls.is_missed, Polls.misses, Stalls.clocks_of}
+use Rattle.stall_text.specs.{Polls.is_missed, Polls.misses, Stalls.access_clocks}
 use Rattle.stall_text.proofs.Accesses.{logged_act, log_is, ActStands, all_stand, Climbs, climbs}
 use Rattle.stall_text.proofs.Uses.{Owns}
 use Rattle.depth_order.specs.Chain.{moves_at}
@@ -162,12 +162,12 @@ Orderly (a ∷ log) = AllByRecursion (λ b. a.event.cycle ≤ b.event.cycle) log
 abbrev every : LoggedAccess → Bool
 every a = true
 
-all_later : (c : ℕ) (log : List LoggedAccess) → AllByRecursion (λ x. c ≤ x) (clocks_of (filter every log))
+all_later : (c : ℕ) (log : List LoggedAccess) → AllByRecursion (λ x. c ≤ x) (access_clocks (filter every log))
     → AllByRecursion (λ b. c ≤ b.event.cycle) log
 all_later c [] h = tt
 all_later c (a ∷ log) h = (h.0, all_later c log h.1)
 
-orderly : (log : List LoggedAccess) → Climbs (clocks_of (filter every log)) → Orderly log
+orderly : (log : List LoggedAccess) → Climbs (access_clocks (filter every log)) → Orderly log
 orderly [] h = tt
 orderly (a ∷ log) h = (all_later a.event.cycle log h.0, orderly log h.1)
 

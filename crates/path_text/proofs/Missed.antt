@@ -10,7 +10,7 @@ use Rattle.flow_word.specs.declared.access.Kind.TheVariants.{Read, Write, TryRea
 use Rattle.flow_design.specs.declared.plan.Plan.{Plan}
 use Rattle.lockstep_defs.specs.{Channels.contents_of, Channels.is_empty, Lockstep.state}
 use Rattle.sim_core.specs.declared.access_log.LoggedAccess.{LoggedAccess}
-use Rattle.stall_text.specs.Polls.{asks, is_missed, is_of, same_query}
+use Rattle.stall_text.specs.Polls.{is_query_on, is_missed, is_of, same_query}
 use Rattle.stall_text.proofs.Asked.{asks_owner}
 use Rattle.path_text.specs.{declared.finds.LastMissed.LastMissed, Polls.missed_before, Polls.seeks, Polls.is_hit}
 use Rattle.path_text.specs.Finds.{AreMissed, last_missed, missed_by, missed_more, missed_with, unmissed}
@@ -28,7 +28,7 @@ is_from x None = false
 is_from x (Some v) = leb x v
 
 abbrev pub is_miss : Kind → ℕ → LoggedAccess → Bool
-is_miss kind f b = asks kind f b && is_missed b
+is_miss kind f b = is_query_on kind f b && is_missed b
 
 abbrev AllFrom : Option ℕ → List LoggedAccess → Type 0
 AllFrom o bs = AllByRecursion (λ b. UpTo b.event.cycle o) bs
@@ -125,7 +125,7 @@ module _ (p : Plan) (a : LoggedAccess) (told : IsTold p a) (hit : is_hit p a ≡
       no true = refl
       no false = refl
   one_before b there l true e =
-      let parts = and_parts (asks a.event.kind a.event.channel b) (is_missed b) e in
+      let parts = and_parts (is_query_on a.event.kind a.event.channel b) (is_missed b) e in
       let same = and_parts (same_query a.event.kind b.event.kind) (eqb a.event.channel b.event.channel) parts.0 in
       let kind = same_kind a.event.kind b.event.kind same.0 in
       let channel = eqb-true a.event.channel b.event.channel same.1 in

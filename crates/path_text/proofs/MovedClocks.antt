@@ -6,14 +6,14 @@ use Rattle.std.proofs.lemmas.List.{append-nil, map-append, take_more, get_or-set
 use Rattle.std.specs.List.{filter}
 use Rattle.flow_word.specs.{declared.access.Side.Side, Kinds.side_of, Kinds.same_side}
 use Rattle.sim_core.specs.declared.access_log.LoggedAccess.{LoggedAccess}
-use Rattle.stall_text.specs.Stalls.{moved_at, clocks_of}
+use Rattle.stall_text.specs.Stalls.{moved_at, access_clocks}
 use Rattle.stall_text.proofs.Accesses.{on}
-use Rattle.path_text.specs.{Polls.moved_clocks, Finds.AreMoved}
+use Rattle.path_text.specs.{Polls.passing_clocks, Finds.AreMoved}
 
 clocks_last : (xs : List LoggedAccess) (a : LoggedAccess) (b : Bool)
-    → clocks_of (xs ++ cond b (a ∷ []) []) ≡ cond b (clocks_of xs ++ a.event.cycle ∷ []) (clocks_of xs)
+    → access_clocks (xs ++ cond b (a ∷ []) []) ≡ cond b (access_clocks xs ++ a.event.cycle ∷ []) (access_clocks xs)
 clocks_last xs a true = map-append (λ (x : LoggedAccess). x.event.cycle) xs (a ∷ [])
-clocks_last xs a false = ap clocks_of (append-nil xs)
+clocks_last xs a false = ap access_clocks (append-nil xs)
 
 module _ (side : Side) (channels : ℕ) (log : List LoggedAccess) (k : ℕ) (d : LoggedAccess) (l : k < length log) where
   abbrev a : LoggedAccess
@@ -21,12 +21,12 @@ module _ (side : Side) (channels : ℕ) (log : List LoggedAccess) (k : ℕ) (d :
 
   -- those of channel f with the access, where it moved an element there
   abbrev with_it : ℕ → Bool → List ℕ
-  with_it f b = cond b (moved_clocks (take k log) side f ++ a.event.cycle ∷ []) (moved_clocks (take k log) side f)
+  with_it f b = cond b (passing_clocks (take k log) side f ++ a.event.cycle ∷ []) (passing_clocks (take k log) side f)
 
-  more : (f : ℕ) → moved_clocks (take (k + 1) log) side f ≡ with_it f (moved_at (on side f) a)
+  more : (f : ℕ) → passing_clocks (take (k + 1) log) side f ≡ with_it f (moved_at (on side f) a)
   more f =
-      ap (λ (xs : List LoggedAccess). clocks_of (filter (moved_at (on side f)) xs)) (take_more log k d l)
-      ∙ (ap clocks_of (filter-append (moved_at (on side f)) (take k log) (a ∷ []))
+      ap (λ (xs : List LoggedAccess). access_clocks (filter (moved_at (on side f)) xs)) (take_more log k d l)
+      ∙ (ap access_clocks (filter-append (moved_at (on side f)) (take k log) (a ∷ []))
       ∙ clocks_last (filter (moved_at (on side f)) (take k log)) a (moved_at (on side f) a))
 
   no_side : (some same b : Bool) → b ≡ false → (some && (same && b)) ≡ false
@@ -63,7 +63,7 @@ module _ (side : Side) (channels : ℕ) (log : List LoggedAccess) (k : ℕ) (d :
             ap (λ (all : List (List ℕ)). get_or all f []) q
             ∙ (elim (cases_eq f g) [
               | inl w ↦
-                  subst (λ (x : ℕ). get_or (set clocks g one) x [] ≡ moved_clocks (take (k + 1) log) side x) (sym w)
+                  subst (λ (x : ℕ). get_or (set clocks g one) x [] ≡ passing_clocks (take (k + 1) log) side x) (sym w)
                   (get_or-set_same clocks g one [] (let n = h.count in omega arith)
                   ∙ (ap (λ (xs : List ℕ). xs ++ a.event.cycle ∷ []) (h.each g inside) ∙ sym (more g ∙ ap (with_it g) e)))
               | inr w ↦ get_or-set_other clocks g f one [] w ∙ (h.each f m ∙ sym (more f ∙ ap (with_it f) (moved_other f w)))

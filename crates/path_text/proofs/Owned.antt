@@ -9,22 +9,22 @@ use Rattle.flow_design.specs.{declared.plan.Plan.Plan, declared.design.Channel.C
 use Rattle.lockstep_defs.specs.Ports.{owner}
 use Rattle.depth_order.specs.declared.link.Link.{Link}
 use Rattle.sim_core.specs.Readers.{AreUsers}
-use Rattle.path_text.specs.{Owners.owners, Walks.before_link}
+use Rattle.path_text.specs.{Owners.owners_at, Walks.before_link}
 
 -- ---- the modules of all channels
 
-pub owners_count : (p : Plan) (side : Side) → length (owners p side) ≡ length p.design.channels
+pub owners_count : (p : Plan) (side : Side) → length (owners_at p side) ≡ length p.design.channels
 owners_count p side = length-map-range_with_len (λ f. owner p (record { side = side; channel = f })) 0 (length p.design.channels)
 
 pub owner_at : (p : Plan) (side : Side) (f : ℕ) → f < length p.design.channels
-    → slice_index (owners p side) f ≡ owner p (record { side = side; channel = f })
+    → slice_index (owners_at p side) f ≡ owner p (record { side = side; channel = f })
 owner_at p side f l =
     get_or-map-range_with_len (λ g. owner p (record { side = side; channel = g })) 0 (length p.design.channels) f f 0 l (zero-add f)
 
 -- ---- across a port
 
 pub before_pop : (p : Plan) (l : Link) (a : Port) (pushers : List ℕ) (delay : ℕ) → l.crossed ≡ Some a → a.side ≡ Pop
-    → a.channel < length p.design.channels → pushers ≡ owners p Push → delay ≡ delay_of (kind_at p a.channel)
+    → a.channel < length p.design.channels → pushers ≡ owners_at p Push → delay ≡ delay_of (kind_at p a.channel)
     → Some (record { «module» = slice_index pushers a.channel; clock = l.first - delay }) ≡ before_link p l
 before_pop p l a pushers delay e s inside known lag =
     let there = ap (λ (xs : List ℕ). slice_index xs a.channel) known ∙ owner_at p Push a.channel inside in
@@ -34,7 +34,7 @@ before_pop p l a pushers delay e s inside known lag =
     ∙ sym (ap (λ (o : Option Port). before_link p (record l { crossed = o })) e))
 
 pub before_push : (p : Plan) (l : Link) (a : Port) (poppers : List ℕ) → l.crossed ≡ Some a → a.side ≡ Push
-    → a.channel < length p.design.channels → poppers ≡ owners p Pop
+    → a.channel < length p.design.channels → poppers ≡ owners_at p Pop
     → Some (record { «module» = slice_index poppers a.channel; clock = l.first - 1 }) ≡ before_link p l
 before_push p l a poppers e s inside known =
     let there = ap (λ (xs : List ℕ). slice_index xs a.channel) known ∙ owner_at p Pop a.channel inside in
@@ -46,9 +46,9 @@ before_push p l a poppers e s inside known =
 -- ---- the table
 
 -- where each channel has its module, they are these
-pub owned : (p : Plan) (side : Side) (users : List ℕ) → AreUsers p side users → users ≡ owners p side
+pub owned : (p : Plan) (side : Side) (users : List ℕ) → AreUsers p side users → users ≡ owners_at p side
 owned p side users are =
-    ext_get_or 0 users (owners p side) (are.count ∙ sym (owners_count p side))
+    ext_get_or 0 users (owners_at p side) (are.count ∙ sym (owners_count p side))
     (λ f l. are.each f l ∙ sym (owner_at p side f (let n = are.count in omega arith)))
 
 -- the channel at a place

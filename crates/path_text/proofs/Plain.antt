@@ -13,8 +13,8 @@ use Rattle.depth_order.specs.{Depths.AsksNothing, declared.link.Link.Link}
 use Rattle.depth_order.specs.Chain.{span_start, stood_at, goes_on, chain, first_mover, chain_from, path}
 use Rattle.depth_order.proofs.Order.{no_queries}
 use Rattle.path_text.specs.{declared.walk.At.At, declared.link.PolledLink.PolledLink, Walks.before_link, Walks.link_at}
-use Rattle.path_text.specs.Polls.{before_polled, clock_of, ends_poll, going_on, last_move, last_poll, latest, link_by, links_in, move_by}
-use Rattle.path_text.specs.Polls.{polled_chain, polled_from, polled_path, polls_in, seeks}
+use Rattle.path_text.specs.Polls.{before_polled, access_clock, ends_poll, going_on, last_move, last_poll, latest_one, link_by, links_in}
+use Rattle.path_text.specs.Polls.{move_by, polled_chain, polled_from, polled_path, polls_along, seeks}
 use Rattle.path_text.proofs.{Latest.all_filter, Latest.none, Logged.all_logged}
 
 -- no link ends a poll
@@ -23,7 +23,7 @@ NothingPolled p log = (l : Link) → last_poll p log l ≡ None
 
 pub record IsPlain (chain : List PolledLink) (plain : List Link) : Type 0 where
   pub links : links_in chain ≡ plain
-  pub polls : polls_in chain ≡ []
+  pub polls : polls_along chain ≡ []
 
 plain_chain : (p : Plan) (log : List LoggedAccess) → NothingPolled p log → (n : ℕ) (at : At)
     → IsPlain (polled_chain p log n at) (chain p n at.module at.clock)
@@ -35,7 +35,7 @@ plain_chain p log h (suc n) at =
     record {
       links = ap (λ (s : PolledLink). s.link ∷ links_in (going_on (λ before. polled_chain p log n before) (before_polled p s))) whole
           ∙ ap (λ (ls : List Link). link_at p at.module at.clock ∷ ls) rest.links;
-      polls = ap (λ (s : PolledLink). polls_in (s ∷ going_on (λ before. polled_chain p log n before) (before_polled p s))) whole
+      polls = ap (λ (s : PolledLink). polls_along (s ∷ going_on (λ before. polled_chain p log n before) (before_polled p s))) whole
           ∙ rest.polls;
     }
   where
@@ -68,7 +68,7 @@ no_accesses p l = refl
 nothing_sought : (p : Plan) (log : List LoggedAccess) → AllByRecursion (λ a. seeks a.event.kind ≡ false) log → NothingPolled p log
 nothing_sought p log h l =
     let mine = filter (is_of l.«module») log in
-    ap (latest clock_of) (none clock_of (ends_poll p mine l.first l.last) mine
+    ap (latest_one access_clock) (none access_clock (ends_poll p mine l.first l.last) mine
     (all_filter (λ a. seeks a.event.kind ≡ false) (λ a. ends_poll p mine l.first l.last a ≡ false) (is_of l.«module»)
     (λ a sought own. rw sought refl) log h))
 

@@ -4,7 +4,7 @@ use Rattle.std.specs.List.{flat_map, range_with_len}
 use Rattle.flow_word.specs.{declared.access.Side.Side, declared.access.Side.TheVariants.Pop, declared.access.Side.TheVariants.Push}
 use Rattle.flow_design.specs.declared.design.Design.{Design}
 use Rattle.report_text.specs.{Lines.Token, Lines.line, Lines.text_of_lines, ReportText.module_name, ReportText.channel_name}
-use Rattle.path_text.specs.PathText.{spend_lines, cross_lines, poll_lines, lines_at, module_lines, channel_lines}
+use Rattle.path_text.specs.PathText.{spend_lines, cross_lines, polled_lines, lines_at, all_spend_lines, channel_lines}
 use Rattle.report_text.proofs.LineLemmas.{text-append}
 
 -- two groups of lines
@@ -31,7 +31,7 @@ flat_same {X} f g a (suc n) h =
     ap₂ (λ (x y : List X). x ++ y) (h a (omega arith)) (flat_same f g (a + 1) n (λ k l. h k (omega arith)))
 
 pub modules_same : (design : Design) (f g : ℕ → ℕ) → ((m : ℕ) → m < length design.modules → f m ≡ g m)
-    → module_lines design f ≡ module_lines design g
+    → all_spend_lines design f ≡ all_spend_lines design g
 modules_same design f g h =
     flat_same (λ m. spend_lines (module_name design m) (f m)) (λ m. spend_lines (module_name design m) (g m)) 0 (length design.modules)
     (λ k l. ap (spend_lines (module_name design k)) (h k (omega arith)))
@@ -47,4 +47,4 @@ channels_same design f g polls times waits waited popped pushed polled waiting =
     let name = channel_name design k in
     ap₂ (λ (xs ys : List (List Token)). xs ++ ys)
     (ap₂ (λ (x y : ℕ). cross_lines Pop name x ++ cross_lines Push name y) (popped k (omega arith)) (pushed k (omega arith)))
-    (ap₂ (poll_lines name) (polled k (omega arith)) (waiting k (omega arith))))
+    (ap₂ (polled_lines name) (polled k (omega arith)) (waiting k (omega arith))))

@@ -11,8 +11,8 @@ use Rattle.flow_word.specs.declared.access.Kind.TheVariants.{Read}
 use Rattle.sim_core.specs.declared.access_log.LoggedAccess.{LoggedAccess}
 use Rattle.stall_text.specs.Polls.{is_of}
 use Rattle.depth_order.specs.declared.link.Link.{Link}
-use Rattle.path_text.specs.{declared.finds.Find.Find, Polls.latest, Walks.AreSorted}
-use Rattle.path_text.specs.Finds.{AreInOrder, find_clock, is_ahead, is_before, is_within}
+use Rattle.path_text.specs.{declared.finds.Find.Find, Polls.latest_one, Walks.AreSorted}
+use Rattle.path_text.specs.Finds.{AreChronological, find_clock, precedes_link, precedes, lies_in}
 use Rattle.path_text.proofs.Latest.{IsSooner, ahead, none}
 
 -- ---- the span that has a clock
@@ -80,7 +80,7 @@ left_over P [] (suc n) h = tt
 left_over P (x ∷ xs) zero h = (h 0 x (omega arith) (omega arith), left_over P xs zero (λ k d l m. h (suc k) d (omega arith) (omega arith)))
 left_over P (x ∷ xs) (suc n) h = left_over P xs n (λ k d l m. h (suc k) d (omega arith) (omega arith))
 
-at_most : (finds : List Find) → AreInOrder finds → (n : ℕ) (e : Find) → n < length finds → (k : ℕ) (d : Find) → k ≤ n
+at_most : (finds : List Find) → AreChronological finds → (n : ℕ) (e : Find) → n < length finds → (k : ℕ) (d : Find) → k ≤ n
     → find_clock (get_or finds k d) ≤ find_clock (get_or finds n e)
 at_most finds h n e l k d m = elim (cases_eq k n) [
   | inl same ↦
@@ -94,14 +94,14 @@ at_most finds h n e l k d m = elim (cases_eq k n) [
       omega arith
 ]
 
-pub later_middle : (finds : List Find) → AreInOrder finds → (middle clock : ℕ) (e : Find) → middle < length finds
+pub later_middle : (finds : List Find) → AreChronological finds → (middle clock : ℕ) (e : Find) → middle < length finds
     → clock < find_clock (get_or finds middle e) → (k : ℕ) (d : Find) → middle ≤ k → k < length finds
     → clock < find_clock (get_or finds k d)
 later_middle finds h middle clock e l here k d m n =
     let rises = at_most finds h k d n middle e m in
     omega arith
 
-outside : (l : Link) (f : Find) → l.last < find_clock f → is_within l f ≡ false
+outside : (l : Link) (f : Find) → l.last < find_clock f → lies_in l f ≡ false
 outside l f h =
     rw (lt-leb (find_clock f) l.last h) (no (is_of l.«module» f.access) (leb l.first (find_clock f)) (leb l.first f.missed))
   where
@@ -112,12 +112,12 @@ outside l f h =
 
 pub none_beyond : (finds : List Find) (l : Link) (n : ℕ)
     → ((k : ℕ) (d : Find) → n ≤ k → k < length finds → l.last < find_clock (get_or finds k d))
-    → None ≡ latest find_clock (filter (is_within l) (drop n finds))
+    → None ≡ latest_one find_clock (filter (lies_in l) (drop n finds))
 none_beyond finds l n h =
-    sym (ap (latest find_clock) (none find_clock (is_within l) (drop n finds)
-    (left_over (λ f. is_within l f ≡ false) finds n (λ k d m w. outside l (get_or finds k d) (h k d m w)))))
+    sym (ap (latest_one find_clock) (none find_clock (lies_in l) (drop n finds)
+    (left_over (λ f. lies_in l f ≡ false) finds n (λ k d m w. outside l (get_or finds k d) (h k d m w)))))
 
-within_first : (l : Link) (f : Find) → is_within l f ≡ true → l.first ≤ find_clock f
+within_first : (l : Link) (f : Find) → lies_in l f ≡ true → l.first ≤ find_clock f
 within_first l f e =
     let a = and_parts (is_of l.«module» f.access) ((leb l.first (find_clock f) && leb (find_clock f) l.last) && leb l.first f.missed) e in
     let b = and_parts (leb l.first (find_clock f) && leb (find_clock f) l.last) (leb l.first f.missed) a.1 in
@@ -125,32 +125,32 @@ within_first l f e =
     leb-true l.first (find_clock f) c.0
 
 -- where the one at n comes before the link or before what was found, none up to it is later
-pub ahead_is : (finds : List Find) → AreInOrder finds → (l : Link) (n : ℕ) (e : Find) (found : Option Find) → n < length finds
-    → is_ahead (get_or finds n e) l found ≡ true → found ≡ latest find_clock (filter (is_within l) (drop (suc n) finds))
-    → found ≡ latest find_clock (filter (is_within l) finds)
+pub ahead_is : (finds : List Find) → AreChronological finds → (l : Link) (n : ℕ) (e : Find) (found : Option Find) → n < length finds
+    → precedes_link (get_or finds n e) l found ≡ true → found ≡ latest_one find_clock (filter (lies_in l) (drop (suc n) finds))
+    → found ≡ latest_one find_clock (filter (lies_in l) finds)
 ahead_is finds h l n e found m is rest =
-    rest ∙ (sym (ahead find_clock (is_within l) (take (suc n) finds) (drop (suc n) finds)
-    (taken (λ f. is_within l f ≡ true → IsSooner find_clock (find_clock f) (latest find_clock (filter (is_within l) (drop (suc n) finds))))
+    rest ∙ (sym (ahead find_clock (lies_in l) (take (suc n) finds) (drop (suc n) finds)
+    (taken (λ f. lies_in l f ≡ true → IsSooner find_clock (find_clock f) (latest_one find_clock (filter (lies_in l) (drop (suc n) finds))))
     finds (suc n) (λ k d a b. earlier k d (at_most finds h n e m k d (omega arith)))))
-    ∙ ap (λ (fs : List Find). latest find_clock (filter (is_within l) fs)) (take-append-drop (suc n) finds))
+    ∙ ap (λ (fs : List Find). latest_one find_clock (filter (lies_in l) fs)) (take-append-drop (suc n) finds))
   where
-    by_found : (c : ℕ) → c ≤ find_clock (get_or finds n e) → (o : Option Find) → is_before (get_or finds n e) o ≡ true → IsSooner find_clock c o
+    by_found : (c : ℕ) → c ≤ find_clock (get_or finds n e) → (o : Option Find) → precedes (get_or finds n e) o ≡ true → IsSooner find_clock c o
     by_found c w None t = absurd cc
     by_found c w (Some g) t =
         let less = ltb-true (find_clock (get_or finds n e)) (find_clock g) t in
         omega arith
 
     by_first : (k : ℕ) (d : Find) → find_clock (get_or finds k d) ≤ find_clock (get_or finds n e) → (b : Bool)
-        → ltb (find_clock (get_or finds n e)) l.first ≡ b → (b || is_before (get_or finds n e) found) ≡ true
-        → is_within l (get_or finds k d) ≡ true → IsSooner find_clock (find_clock (get_or finds k d)) found
+        → ltb (find_clock (get_or finds n e)) l.first ≡ b → (b || precedes (get_or finds n e) found) ≡ true
+        → lies_in l (get_or finds k d) ≡ true → IsSooner find_clock (find_clock (get_or finds k d)) found
     by_first k d w true less t inside =
         let before = ltb-true (find_clock (get_or finds n e)) l.first less in
         let from = within_first l (get_or finds k d) inside in
         absurd (omega arith)
     by_first k d w false less t inside = by_found (find_clock (get_or finds k d)) w found t
 
-    earlier : (k : ℕ) (d : Find) → find_clock (get_or finds k d) ≤ find_clock (get_or finds n e) → is_within l (get_or finds k d) ≡ true
-        → IsSooner find_clock (find_clock (get_or finds k d)) (latest find_clock (filter (is_within l) (drop (suc n) finds)))
+    earlier : (k : ℕ) (d : Find) → find_clock (get_or finds k d) ≤ find_clock (get_or finds n e) → lies_in l (get_or finds k d) ≡ true
+        → IsSooner find_clock (find_clock (get_or finds k d)) (latest_one find_clock (filter (lies_in l) (drop (suc n) finds)))
     earlier k d w inside =
         subst (IsSooner find_clock (find_clock (get_or finds k d))) rest
         (by_first k d w (ltb (find_clock (get_or finds n e)) l.first) refl is inside)

@@ -9,7 +9,7 @@ use Rattle.stall_spans.specs.declared.span.Doing.TheVariants.{Moves, Still}
 use Rattle.stall_spans.proofs.Extending.{some_same}
 use Rattle.depth_order.specs.Chain.{moves_at, span_start, stood_at}
 use Rattle.depth_order.proofs.Chained.{IsStill, starts, start_more, start_new, start_0}
-use Rattle.path_text.specs.Walks.{AreSorted, IsWith, StoodBefore, link_at, port_of}
+use Rattle.path_text.specs.Walks.{AreSorted, IsWith, StoodBefore, link_at, stalled_port}
 use Rattle.path_text.proofs.{Doings.doing_moves, Doings.moves_doing, Doings.doing_stands, Doings.still_before, Covered.covered}
 
 pub spans_sorted : (p : Plan) (m end : ℕ) (spans : List Span) → AreSpansBelow p m end spans → AreSorted spans
@@ -85,14 +85,14 @@ start_there p m end spans a t l move h =
 -- ---- where it stood before
 
 pub stood_found : (p : Plan) (m end : ℕ) (spans : List Span) → AreSpansBelow p m end spans → (t : ℕ) → 0 < t → t < end
-    → moves_at p t m ≡ true → (s : Span) → IsWith spans (t - 1) (Some s) → StoodBefore p m t (port_of s.doing)
+    → moves_at p t m ≡ true → (s : Span) → IsWith spans (t - 1) (Some s) → StoodBefore p m t (stalled_port s.doing)
 stood_found p m end spans a zero some l move s h = absurd (omega arith)
 stood_found p m end spans a (suc b) some l move s h = λ still.
     let before : suc b - 1 ≡ b = omega arith in
     let (port, e) = still_before p b m move still in
     let x = found_span p m end spans a b (Still port) (omega arith) e (Some s) (rw before at h) in
     let same : s ≡ x.span = cc in
-    ap (λ (u : Span). port_of u.doing) same ∙ (ap port_of x.says ∙ sym (doing_stands p b m port e))
+    ap (λ (u : Span). stalled_port u.doing) same ∙ (ap stalled_port x.says ∙ sym (doing_stands p b m port e))
 
 pub stood_there : (p : Plan) (m end : ℕ) (spans : List Span) → AreSpansBelow p m end spans → (t : ℕ) → 0 < t → t < end
     → moves_at p t m ≡ true → IsWith spans (t - 1) None → StoodBefore p m t None

@@ -13,9 +13,9 @@ use Rattle.lockstep_defs.specs.Verdict.{verdict}
 use Rattle.timing_bridge.specs.Designs.{lag_in}
 use Rattle.depth_order.specs.declared.link.Link.{Link}
 use Rattle.depth_order.specs.Sums.{spent, clocks_across, under_way, chain_clocks, IsEnd, MovesLast, NoneMoves}
-use Rattle.path_text.specs.{declared.link.Polled.Polled, PathText.told_links, PathText.told_polls}
-use Rattle.path_text.specs.Counts.{clocks_of, clocks_at, clocks_in, clocks_waited, crossings, waiting, waiting_at, IsLinkOf, IsPollOf}
-use Rattle.path_text.specs.Sums.{spent_clocks, crossed_clocks, told_clocks}
+use Rattle.path_text.specs.{declared.link.Polled.Polled, PathText.told_links, PathText.told_polls, Counts.link_clocks, Counts.clocks_at}
+use Rattle.path_text.specs.{Counts.clocks_spent, Counts.clocks_waited, Counts.crossings, Counts.clocks_waiting, Counts.waiting_at}
+use Rattle.path_text.specs.{Counts.IsLinkOf, Counts.IsPollOf, Sums.spent_clocks, Sums.crossed_clocks, Sums.told_clocks}
 use Rattle.sim_core.specs.AccessLog.{log_of}
 use Rattle.depth_order.proofs.Adds.{whole_chain, chain_to, no_chain}
 use Rattle.path_text.proofs.{Told.told_links_are, Told.told_polls_are, Totals.chain_total, Totals.polled_total}
@@ -52,21 +52,21 @@ sum_one f a (suc n) v l e h =
 
 -- ---- the clocks of each module
 
-clocks_here : (l : Link) → clocks_at l.module l ≡ clocks_of l
+clocks_here : (l : Link) → clocks_at l.module l ≡ link_clocks l
 clocks_here l = rw (eq-eqb l.module l.module refl) refl
 
 clocks_elsewhere : (l : Link) (m : ℕ) → m ≢ l.module → clocks_at m l ≡ 0
 clocks_elsewhere l m n = rw (ne_eqb l.module m (λ e. n (sym e))) refl
 
 spent_in_modules : (design : Design) (links : List Link) → AllByRecursion (IsLinkOf design) links
-    → sum_by (clocks_in links) (range_with_len 0 (length design.modules)) ≡ spent links
-spent_in_modules design [] h = sum_zero (clocks_in []) (range_with_len 0 (length design.modules)) (λ m. refl)
+    → sum_by (clocks_spent links) (range_with_len 0 (length design.modules)) ≡ spent links
+spent_in_modules design [] h = sum_zero (clocks_spent []) (range_with_len 0 (length design.modules)) (λ m. refl)
 spent_in_modules design (l ∷ ls) h =
     omega (
       arith,
-      sum_more (clocks_in ls) (clocks_in (l ∷ ls)) (λ m. clocks_at m l) (range_with_len 0 (length design.modules))
+      sum_more (clocks_spent ls) (clocks_spent (l ∷ ls)) (λ m. clocks_at m l) (range_with_len 0 (length design.modules))
           (λ m. omega (arith, sum_by-cons (clocks_at m) l ls)),
-      sum_one (λ m. clocks_at m l) l.module (length design.modules) (clocks_of l) h.0.mover (clocks_here l) (clocks_elsewhere l),
+      sum_one (λ m. clocks_at m l) l.module (length design.modules) (link_clocks l) h.0.mover (clocks_here l) (clocks_elsewhere l),
       spent_in_modules design ls h.1,
     )
 
@@ -111,29 +111,29 @@ under_way_in_channels p (l ∷ ls) h =
 
 -- ---- the waiting on each channel
 
-waiting_here : (q : Polled) → waiting_at q.channel q ≡ waiting q
+waiting_here : (q : Polled) → waiting_at q.channel q ≡ clocks_waiting q
 waiting_here q = rw (eq-eqb q.channel q.channel refl) refl
 
 waiting_elsewhere : (q : Polled) (f : ℕ) → f ≢ q.channel → waiting_at f q ≡ 0
 waiting_elsewhere q f n = rw (ne_eqb q.channel f (λ e. n (sym e))) refl
 
 waited_on_channels : (design : Design) (polls : List Polled) → AllByRecursion (IsPollOf design) polls
-    → sum_by (clocks_waited polls) (range_with_len 0 (length design.channels)) ≡ sum_by waiting polls
+    → sum_by (clocks_waited polls) (range_with_len 0 (length design.channels)) ≡ sum_by clocks_waiting polls
 waited_on_channels design [] h = sum_zero (clocks_waited []) (range_with_len 0 (length design.channels)) (λ f. refl)
 waited_on_channels design (q ∷ polls) h =
     omega (
       arith,
-      sum_by-cons waiting q polls,
+      sum_by-cons clocks_waiting q polls,
       sum_more (clocks_waited polls) (clocks_waited (q ∷ polls)) (λ f. waiting_at f q) (range_with_len 0 (length design.channels))
           (λ f. omega (arith, sum_by-cons (waiting_at f) q polls)),
-      sum_one (λ f. waiting_at f q) q.channel (length design.channels) (waiting q) h.0.inside (waiting_here q) (waiting_elsewhere q),
+      sum_one (λ f. waiting_at f q) q.channel (length design.channels) (clocks_waiting q) h.0.inside (waiting_here q) (waiting_elsewhere q),
       waited_on_channels design polls h.1,
     )
 
 -- ---- all of them
 
 told_total : (p : Plan) → FitsEngine p → (polls : Bool) → told_clocks polls p
-    ≡ spent (told_links polls p) + under_way p (told_links polls p) + sum_by waiting (told_polls polls p)
+    ≡ spent (told_links polls p) + under_way p (told_links polls p) + sum_by clocks_waiting (told_polls polls p)
 told_total p h polls =
     let links = recursion_from_All (IsLinkOf p.design) (told_links polls p) (told_links_are p h polls) in
     let found = recursion_from_All (IsPollOf p.design) (told_polls polls p) (told_polls_are p h polls) in

@@ -5,8 +5,8 @@ use Rattle.flow_design.specs.{declared.plan.Plan.Plan, Reports.clock_of, StaticR
 use Rattle.lockstep_defs.specs.Verdict.{verdict}
 use Rattle.sim_core.specs.{AccessLog.log_of, declared.access_log.LoggedAccess.LoggedAccess}
 use Rattle.depth_order.specs.{Depths.AsksNothing, declared.link.Link.Link}
-use Rattle.path_text.specs.{declared.link.Polled.Polled, Polls.AreAccesses, Polls.links_in, Polls.polled_path, Polls.polls_in}
-use Rattle.path_text.specs.Counts.{clocks_of, waiting, AreLinksOf, ArePollsOf}
+use Rattle.path_text.specs.{declared.link.Polled.Polled, Polls.AreAccesses, Polls.links_in, Polls.polled_path, Polls.polls_along}
+use Rattle.path_text.specs.Counts.{link_clocks, clocks_waiting, AreLinksOf, ArePolledIn}
 use Rattle.path_text.specs.PathText.{path_lines, path_text, told_links, told_polls}
 use Rattle.report_text.specs.Lines.{text_of_lines}
 use Rattle.path_text.proofs.{Links.path_polls, Links.polled_few, Links.polled_links, Plain.no_accesses, Plain.plain_path, Plain.quiet_path}
@@ -24,29 +24,29 @@ links_told p false log e =
 links_told p true log e = ap (λ (xs : List LoggedAccess). links_in (polled_path p xs (clock_of (verdict p)))) e
 
 pub polls_told : (p : Plan) (polls : Bool) (log : List LoggedAccess) → log ≡ cond polls (log_of p) []
-    → polls_in (polled_path p log (clock_of (verdict p))) ≡ told_polls polls p
+    → polls_along (polled_path p log (clock_of (verdict p))) ≡ told_polls polls p
 polls_told p false log e =
-    ap (λ (xs : List LoggedAccess). polls_in (polled_path p xs (clock_of (verdict p)))) e
+    ap (λ (xs : List LoggedAccess). polls_along (polled_path p xs (clock_of (verdict p)))) e
     ∙ (plain_path p [] (no_accesses p) (clock_of (verdict p))).polls
-polls_told p true log e = ap (λ (xs : List LoggedAccess). polls_in (polled_path p xs (clock_of (verdict p)))) e
+polls_told p true log e = ap (λ (xs : List LoggedAccess). polls_along (polled_path p xs (clock_of (verdict p)))) e
 
 pub told_links_are : (p : Plan) → FitsEngine p → (polls : Bool) → AreLinksOf p.design (told_links polls p)
 told_links_are p h polls =
     subst (AreLinksOf p.design) (links_told p polls (cond polls (log_of p) []) refl)
     (polled_links p h (cond polls (log_of p) []) (told_log p polls (cond polls (log_of p) []) refl) (clock_of (verdict p)))
 
-pub told_polls_are : (p : Plan) → FitsEngine p → (polls : Bool) → ArePollsOf p.design (told_polls polls p)
+pub told_polls_are : (p : Plan) → FitsEngine p → (polls : Bool) → ArePolledIn p.design (told_polls polls p)
 told_polls_are p h polls =
-    subst (ArePollsOf p.design) (polls_told p polls (cond polls (log_of p) []) refl)
+    subst (ArePolledIn p.design) (polls_told p polls (cond polls (log_of p) []) refl)
     (path_polls p h (cond polls (log_of p) []) (told_log p polls (cond polls (log_of p) []) refl) (clock_of (verdict p)))
 
 pub told_few : (p : Plan) → FitsEngine p → (polls : Bool)
-    → (sum_by clocks_of (told_links polls p) ≤ clock_of (verdict p)) × (sum_by waiting (told_polls polls p) ≤ clock_of (verdict p))
+    → (sum_by link_clocks (told_links polls p) ≤ clock_of (verdict p)) × (sum_by clocks_waiting (told_polls polls p) ≤ clock_of (verdict p))
 told_few p h polls =
     let log = cond polls (log_of p) [] in
     let few = polled_few p h log (told_log p polls log refl) (clock_of (verdict p)) in (
-      subst (λ (ls : List Link). sum_by clocks_of ls ≤ clock_of (verdict p)) (links_told p polls log refl) few.0,
-      subst (λ (qs : List Polled). sum_by waiting qs ≤ clock_of (verdict p)) (polls_told p polls log refl) few.1,
+      subst (λ (ls : List Link). sum_by link_clocks ls ≤ clock_of (verdict p)) (links_told p polls log refl) few.0,
+      subst (λ (qs : List Polled). sum_by clocks_waiting qs ≤ clock_of (verdict p)) (polls_told p polls log refl) few.1,
     )
 
 -- where no operation is a query, nothing is polled for

@@ -11,10 +11,10 @@ use Rattle.sim_core.specs.declared.access_log.LoggedAccess.{LoggedAccess}
 use Rattle.depth_order.specs.{declared.link.Link.Link, Sums.spent, Sums.clocks_across, Sums.under_way, Sums.chain_clocks}
 use Rattle.depth_order.specs.Chain.{moves_at, span_start, stood_at, goes_on, chain, first_mover, chain_from, path}
 use Rattle.depth_order.proofs.{Chained.starts, Chained.chain_more, Chained.found_true, Adds.adds_up}
-use Rattle.path_text.specs.{declared.walk.At.At, declared.link.Polled.Polled, declared.link.PolledLink.PolledLink, Counts.waiting}
+use Rattle.path_text.specs.{declared.walk.At.At, declared.link.Polled.Polled, declared.link.PolledLink.PolledLink, Counts.clocks_waiting}
 use Rattle.path_text.specs.Walks.{before_link, link_at, MovesBefore}
 use Rattle.path_text.specs.Polls.{AreAccesses, before_polled, going_on, if_some, last_move, last_poll, link_by, links_in, move_by}
-use Rattle.path_text.specs.Polls.{polled_chain, polled_from, polled_link, polled_path, polls_in}
+use Rattle.path_text.specs.Polls.{polled_chain, polled_from, polled_link, polled_path, polls_along}
 use Rattle.path_text.proofs.Chains.{crossed_at}
 use Rattle.path_text.proofs.Followed.{last_moves, left, next_polled, poll_is, polled_more}
 
@@ -47,19 +47,19 @@ link_sum p h m t move =
 
 -- of a chain the clocks spent, those of elements under way, and those of waiting
 abbrev pub total : Plan → List PolledLink → ℕ
-total p chain = spent (links_in chain) + under_way p (links_in chain) + sum_by waiting (polls_in chain)
+total p chain = spent (links_in chain) + under_way p (links_in chain) + sum_by clocks_waiting (polls_along chain)
 
 abbrev waits : Option Polled → ℕ
 waits None = 0
-waits (Some q) = waiting q
+waits (Some q) = clocks_waiting q
 
-waits_more : (o : Option Polled) (polls : List Polled) → sum_by waiting (if_some o ++ polls) ≡ waits o + sum_by waiting polls
+waits_more : (o : Option Polled) (polls : List Polled) → sum_by clocks_waiting (if_some o ++ polls) ≡ waits o + sum_by clocks_waiting polls
 waits_more None polls = omega arith
-waits_more (Some q) polls = sum_by-cons waiting q polls
+waits_more (Some q) polls = sum_by-cons clocks_waiting q polls
 
 total_more : (p : Plan) (l : PolledLink) (chain : List PolledLink) → total p (l ∷ chain)
     ≡ (suc l.link.last - l.link.first) + clocks_across p l.link.crossed + waits l.polled + total p chain
-total_more p l chain = let more = waits_more l.polled (polls_in chain) in omega arith
+total_more p l chain = let more = waits_more l.polled (polls_along chain) in omega arith
 
 -- what is to be shown of each shorter chain
 abbrev AddUp : Plan → List LoggedAccess → ℕ → Type 0

@@ -4,8 +4,8 @@ use Rattle.std.proofs.lemmas.List.{get_or_default}
 use Rattle.flow_design.specs.declared.plan.Plan.{Plan}
 use Rattle.stall_spans.specs.{declared.span.Span.Span, Spans.AreSpansBelow}
 use Rattle.depth_order.specs.{declared.link.Link.Link, Chain.moves_at}
-use Rattle.path_text.specs.{declared.walk.At.At, declared.link.Polled.Polled, Polls.links_in, Polls.polled_from, Polls.polls_in}
-use Rattle.path_text.specs.Walks.{HasSpans, IsLastMove, MovesBefore}
+use Rattle.path_text.specs.{declared.walk.At.At, declared.link.Polled.Polled, Walks.HasSpans, Walks.IsLastMove, Walks.MovesBefore}
+use Rattle.path_text.specs.Polls.{links_in, polled_from, polls_along}
 use Rattle.sim_core.specs.declared.access_log.LoggedAccess.{LoggedAccess}
 use Rattle.path_text.proofs.{Doings.mover_inside, Last.last_is, Followed.IsWalk}
 
@@ -28,6 +28,6 @@ walk_begins p log end links polls o none nothing all =
     let from = ap (polled_from p log) (sym (last_is p end o all)) in
     record {
       links_are = ap (λ (ls : List Link). ls ++ links_in (polled_from p log o)) none ∙ ap links_in from;
-      polls_are = ap (λ (qs : List Polled). qs ++ polls_in (polled_from p log o)) nothing ∙ ap polls_in from;
+      polls_are = ap (λ (qs : List Polled). qs ++ polls_along (polled_from p log o)) nothing ∙ ap polls_along from;
       there = begins p end (length p.design.modules) o all;
     }

@@ -5,17 +5,17 @@ use Rattle.flow_word.specs.{declared.access.Kind.Kind, declared.access.Side.Side
 use Rattle.flow_word.specs.declared.access.Kind.TheVariants.{TryRead, Empty}
 use Rattle.flow_design.specs.declared.plan.Plan.{Plan}
 use Rattle.sim_core.specs.declared.access_log.LoggedAccess.{LoggedAccess}
-use Rattle.stall_text.specs.Polls.{asks, is_missed, is_of}
+use Rattle.stall_text.specs.Polls.{is_query_on, is_missed, is_of}
 use Rattle.depth_order.specs.declared.link.Link.{Link}
 use Rattle.path_text.specs.{declared.link.PolledLink.PolledLink, declared.finds.Find.Find, declared.finds.LastMissed.LastMissed}
-use Rattle.path_text.specs.Polls.{ends_poll, from_query, front_pushed, moved_clocks}
+use Rattle.path_text.specs.Polls.{ends_poll, from_query, front_pushed, passing_clocks}
 
 -- ---- the clocks of moved elements
 
 -- one entry per channel: the clocks of the log in which elements were moved at this side
 pub record AreMoved (side : Side) (channels : ℕ) (log : List LoggedAccess) (clocks : List (List ℕ)) : Type 0 where
   pub count : length clocks ≡ channels
-  pub each : (f : ℕ) → f < channels → slice_index_or clocks f [] ≡ moved_clocks log side f
+  pub each : (f : ℕ) → f < channels → slice_index_or clocks f [] ≡ passing_clocks log side f
 
 -- ---- the last missed query
 
@@ -42,7 +42,7 @@ missed_with m a = missed_by (is_missed a) a.event.kind a.event.cycle m
 
 -- the last clock of a missed query of this kind on channel f, after one more access; and then, after all accesses of a log
 abbrev pub missed_more : Kind → ℕ → Option ℕ → LoggedAccess → Option ℕ
-missed_more kind f o a = if asks kind f a && is_missed a then Some a.event.cycle else o
+missed_more kind f o a = if is_query_on kind f a && is_missed a then Some a.event.cycle else o
 
 unfoldable pub last_missed : List LoggedAccess → Kind → ℕ → Option ℕ
 last_missed log kind f = fold (missed_more kind f) None log
@@ -63,31 +63,31 @@ abbrev pub find_clock : Find → ℕ
 find_clock f = f.access.event.cycle
 
 -- the find is of the link's module and in the link's clocks, and so is its missed query
-abbrev pub is_within : Link → Find → Bool
-is_within l f =
+abbrev pub lies_in : Link → Find → Bool
+lies_in l f =
     is_of l.«module» f.access && ((nat_le l.first (find_clock f) && nat_le (find_clock f) l.last) && nat_le l.first f.missed)
 
 -- the find comes before the one that was found; and then, before the link or the one that was found
-abbrev pub is_before : Find → Option Find → Bool
-is_before f None = false
-is_before f (Some g) = nat_lt (find_clock f) (find_clock g)
+abbrev pub precedes : Find → Option Find → Bool
+precedes f None = false
+precedes f (Some g) = nat_lt (find_clock f) (find_clock g)
 
-abbrev pub is_ahead : Find → Link → Option Find → Bool
-is_ahead f l found = nat_lt (find_clock f) l.first || is_before f found
+abbrev pub precedes_link : Find → Link → Option Find → Bool
+precedes_link f l found = nat_lt (find_clock f) l.first || precedes f found
 
 -- what is found after a look at one more find, which is not later
 abbrev pub with_find : Option Find → Find → Link → Option Find
-with_find found f l = if is_within l f then Some f else found
+with_find found f l = if lies_in l f then Some f else found
 
 -- the finds are in order of time
-abbrev pub AreInOrder : List Find → Type 0
-AreInOrder finds = AllPairs (λ f g. f.access.event.cycle ≤ g.access.event.cycle) finds
+abbrev pub AreChronological : List Find → Type 0
+AreChronological finds = AllPairs (λ f g. f.access.event.cycle ≤ g.access.event.cycle) finds
 
 -- the list has just the queries that end a poll, for each link, and the clocks in which what they found was pushed
 pub record AreFinds (p : Plan) (log : List LoggedAccess) (finds : List Find) : Type 0 where
-  pub in_order : AreInOrder finds
+  pub in_order : AreChronological finds
   pub pushed : All (λ f. f.pushed ≡ front_pushed log f.access.event.channel f.access.event.cycle) finds
-  pub each : (l : Link) → map (λ f. f.access) (filter (is_within l) finds)
+  pub each : (l : Link) → map (λ f. f.access) (filter (lies_in l) finds)
       ≡ filter (ends_poll p (filter (is_of l.«module») log) l.first l.last) (filter (is_of l.«module») log)
 
 -- the link from the find on; the whole link where there is none

@@ -5,5 +5,5 @@ use Rattle.flow_design.specs.declared.plan.Plan.{Plan}
 use Rattle.lockstep_defs.specs.Ports.{owner}
 
 -- one entry per channel: the module at this side of it
-abbrev pub owners : Plan → Side → List ℕ
-owners p side = map (λ f. owner p (record { side = side; channel = f })) (range_with_len 0 (length p.design.channels))
+abbrev pub owners_at : Plan → Side → List ℕ
+owners_at p side = map (λ f. owner p (record { side = side; channel = f })) (range_with_len 0 (length p.design.channels))

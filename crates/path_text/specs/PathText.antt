@@ -4,37 +4,33 @@ use Rattle.std.specs.List.{flat_map, range_with_len}
 use Rattle.flow_word.specs.{declared.access.Side.Side, declared.access.Side.TheVariants.Pop, declared.access.Side.TheVariants.Push}
 use Rattle.flow_design.specs.{declared.design.Design.Design, declared.plan.Plan.Plan, declared.report.Verdict.Verdict, Reports.clock_of}
 use Rattle.lockstep_defs.specs.Verdict.{verdict}
-use Rattle.report_text.specs.{Lines.Token, Lines.text_of_lines, Lines.verdict_tokens, ReportText.module_name, ReportText.channel_name}
+use Rattle.report_text.specs.Lines.{Token, text_of_lines, verdict_tokens}
+use Rattle.report_text.specs.ReportText.{module_name, channel_name, stall_word}
 use Rattle.depth_order.specs.{declared.link.Link.Link, Chain.path}
 use Rattle.sim_core.specs.AccessLog.{log_of}
-use Rattle.path_text.specs.{declared.link.Polled.Polled, Polls.polled_path, Polls.links_in, Polls.polls_in}
-use Rattle.path_text.specs.Counts.{clocks_in, clocks_waited, crossings, times_polled}
+use Rattle.path_text.specs.{declared.link.Polled.Polled, Polls.polled_path, Polls.links_in, Polls.polls_along}
+use Rattle.path_text.specs.Counts.{clocks_spent, clocks_waited, crossings, times_polled}
 
 -- the line `spend M N` for N clocks that the chain spends in the module M, if N is not 0
 abbrev pub spend_lines : Token → ℕ → List (List Token)
 spend_lines name n = if n == 0 then [] else (codes "spend" ∷ name ∷ decimal n ∷ []) ∷ []
 
--- `empty` where a module could not pop, and `full` where one could not push
-abbrev pub side_word : Side → Token
-side_word Pop = codes "empty"
-side_word Push = codes "full"
-
 -- the line `cross empty F N` or `cross full F N` for a channel F that the chain crosses N times so, if N is not 0
 abbrev pub cross_lines : Side → Token → ℕ → List (List Token)
-cross_lines side name n = if n == 0 then [] else (codes "cross" ∷ side_word side ∷ name ∷ decimal n ∷ []) ∷ []
+cross_lines side name n = if n == 0 then [] else (codes "cross" ∷ stall_word side ∷ name ∷ decimal n ∷ []) ∷ []
 
 -- the line `poll empty F N W` for N elements polled for on channel F, to whose pushes the chain goes back, and which waited W
 -- clocks in all, if N is not 0
-abbrev pub poll_lines : Token → ℕ → ℕ → List (List Token)
-poll_lines name n w = if n == 0 then [] else (codes "poll" ∷ codes "empty" ∷ name ∷ decimal n ∷ decimal w ∷ []) ∷ []
+abbrev pub polled_lines : Token → ℕ → ℕ → List (List Token)
+polled_lines name n w = if n == 0 then [] else (codes "poll" ∷ codes "empty" ∷ name ∷ decimal n ∷ decimal w ∷ []) ∷ []
 
 -- the lines of all modules, in order
-abbrev pub module_lines : Design → (ℕ → ℕ) → List (List Token)
-module_lines design clocks = flat_map (λ m. spend_lines (module_name design m) (clocks m)) (range_with_len 0 (length design.modules))
+abbrev pub all_spend_lines : Design → (ℕ → ℕ) → List (List Token)
+all_spend_lines design clocks = flat_map (λ m. spend_lines (module_name design m) (clocks m)) (range_with_len 0 (length design.modules))
 
 abbrev pub lines_at : Token → (Side → ℕ) → ℕ → ℕ → List (List Token)
 lines_at name crossed polled waited =
-    (cross_lines Pop name (crossed Pop) ++ cross_lines Push name (crossed Push)) ++ poll_lines name polled waited
+    (cross_lines Pop name (crossed Pop) ++ cross_lines Push name (crossed Push)) ++ polled_lines name polled waited
 
 -- the lines of all channels, in order of declaration
 abbrev pub channel_lines : Design → (Side → ℕ → ℕ) → (ℕ → ℕ) → (ℕ → ℕ) → List (List Token)
@@ -53,7 +49,7 @@ link_lines design asked links = if asked then map (link_tokens design) (reverse 
 -- the lines of the modules and channels, for a chain and what was polled for along it
 abbrev pub count_lines : Design → List Link → List Polled → List (List Token)
 count_lines design links polls =
-    module_lines design (clocks_in links) ++ channel_lines design (crossings links) (times_polled polls) (clocks_waited polls)
+    all_spend_lines design (clocks_spent links) ++ channel_lines design (crossings links) (times_polled polls) (clocks_waited polls)
 
 abbrev pub path_lines : Design → Bool → Verdict → List Link → List Polled → List (List Token)
 path_lines design events v links polls =
@@ -67,7 +63,7 @@ told_links true p = links_in (polled_path p (log_of p) (clock_of (verdict p)))
 -- what was polled for along the chain
 abbrev pub told_polls : Bool → Plan → List Polled
 told_polls false p = []
-told_polls true p = polls_in (polled_path p (log_of p) (clock_of (verdict p)))
+told_polls true p = polls_along (polled_path p (log_of p) (clock_of (verdict p)))
 
 -- the text on the latency of a plan, with the links and with the polls, if asked for
 unfoldable pub path_text : Bool → Bool → Plan → List ℕ

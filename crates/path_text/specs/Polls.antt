@@ -8,7 +8,7 @@ use Rattle.flow_design.specs.{declared.plan.Plan.Plan, Plans.is_fifo, Plans.kind
 use Rattle.lockstep_defs.specs.Ports.{owner}
 use Rattle.port_clocks.specs.Leads.{before}
 use Rattle.sim_core.specs.{AccessLog.log_of, declared.access_log.LoggedAccess.LoggedAccess}
-use Rattle.stall_text.specs.{Polls.asks, Polls.is_missed, Polls.is_of, Stalls.clocks_of, Stalls.moved_at}
+use Rattle.stall_text.specs.{Polls.is_query_on, Polls.is_missed, Polls.is_of, Stalls.access_clocks, Stalls.moved_at}
 use Rattle.depth_order.specs.{declared.link.Link.Link, Chain.first_mover}
 use Rattle.path_text.specs.{declared.walk.At.At, declared.link.Polled.Polled, Walks.before_link, Walks.link_at}
 use Rattle.path_text.specs.declared.link.PolledLink.{PolledLink}
@@ -28,38 +28,38 @@ is_hit p a = seeks a.event.kind && (not (is_missed a) && is_fifo (kind_at p a.ev
 -- the access b asked the same as a on the same channel, from clock x on and before a's clock, and was missed
 abbrev pub missed_before : ℕ → LoggedAccess → LoggedAccess → Bool
 missed_before x a b =
-    (asks a.event.kind a.event.channel b && is_missed b) && (nat_le x b.event.cycle && nat_lt b.event.cycle a.event.cycle)
+    (is_query_on a.event.kind a.event.channel b && is_missed b) && (nat_le x b.event.cycle && nat_lt b.event.cycle a.event.cycle)
 
 -- the access a found, by clock t, an element for which its module had polled from clock x on; these are the accesses of its module
 abbrev pub ends_poll : Plan → List LoggedAccess → ℕ → ℕ → LoggedAccess → Bool
 ends_poll p accesses x t a = is_hit p a && (nat_le a.event.cycle t && list_any (missed_before x a) accesses)
 
 -- the one with the later clock; the first of the two where their clocks are equal
-abbrev pub later : {X : Type 0} → (X → ℕ) → X → Option X → Option X
-later clock a None = Some a
-later clock a (Some b) = if nat_lt (clock a) (clock b) then Some b else Some a
+abbrev pub later_one : {X : Type 0} → (X → ℕ) → X → Option X → Option X
+later_one clock a None = Some a
+later_one clock a (Some b) = if nat_lt (clock a) (clock b) then Some b else Some a
 
 -- the item with the latest clock; of several with that clock, the first
-abbrev pub latest : {X : Type 0} → (X → ℕ) → List X → Option X
-latest clock [] = None
-latest clock (a ∷ rest) = later clock a (latest clock rest)
+abbrev pub latest_one : {X : Type 0} → (X → ℕ) → List X → Option X
+latest_one clock [] = None
+latest_one clock (a ∷ rest) = later_one clock a (latest_one clock rest)
 
-abbrev pub clock_of : LoggedAccess → ℕ
-clock_of a = a.event.cycle
+abbrev pub access_clock : LoggedAccess → ℕ
+access_clock a = a.event.cycle
 
 -- the query that ended the last poll of the link's module in the link's clocks, if there is one
 abbrev pub last_poll : Plan → List LoggedAccess → Link → Option LoggedAccess
 last_poll p log l =
-    latest clock_of (filter (ends_poll p (filter (is_of l.«module») log) l.first l.last) (filter (is_of l.«module») log))
+    latest_one access_clock (filter (ends_poll p (filter (is_of l.«module») log) l.first l.last) (filter (is_of l.«module») log))
 
 -- the clocks in which elements were moved at a side of channel f
-abbrev pub moved_clocks : List LoggedAccess → Side → ℕ → List ℕ
-moved_clocks log side f = clocks_of (filter (moved_at (record { side = side; channel = f })) log)
+abbrev pub passing_clocks : List LoggedAccess → Side → ℕ → List ℕ
+passing_clocks log side f = access_clocks (filter (moved_at (record { side = side; channel = f })) log)
 
 -- the clock in which the first element that FIFO f holds in clock u was pushed: as many were pushed before it as were popped before
 -- clock u
 abbrev pub front_pushed : List LoggedAccess → ℕ → ℕ → ℕ
-front_pushed log f u = slice_index (moved_clocks log Push f) (before (moved_clocks log Pop f) u)
+front_pushed log f u = slice_index (passing_clocks log Push f) (before (passing_clocks log Pop f) u)
 
 -- ---- the chain
 
@@ -122,9 +122,9 @@ abbrev pub if_some : {X : Type 0} → Option X → List X
 if_some None = []
 if_some (Some x) = x ∷ []
 
-abbrev pub polls_in : List PolledLink → List Polled
-polls_in [] = []
-polls_in (l ∷ chain) = if_some l.polled ++ polls_in chain
+abbrev pub polls_along : List PolledLink → List Polled
+polls_along [] = []
+polls_along (l ∷ chain) = if_some l.polled ++ polls_along chain
 
 -- the second link ends before the first begins
 abbrev pub EndsEarlier : Link → Link → Type 0

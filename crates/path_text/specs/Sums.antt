@@ -2,11 +2,11 @@
 use Rattle.std.specs.{Prelude.ℕ, Prelude.◌+◌, Prelude.◌*◌, Prelude.◌-◌, Prelude.Bool, Prelude.length, Prelude.sum_by, List.range_with_len}
 use Rattle.flow_word.specs.declared.access.Side.TheVariants.{Pop}
 use Rattle.flow_design.specs.{declared.plan.Plan.Plan, Plans.delay_at}
-use Rattle.path_text.specs.{Counts.clocks_in, Counts.clocks_waited, Counts.crossings, PathText.told_links, PathText.told_polls}
+use Rattle.path_text.specs.{Counts.clocks_spent, Counts.clocks_waited, Counts.crossings, PathText.told_links, PathText.told_polls}
 
 -- the clocks of all lines `spend M N`
 abbrev pub spent_clocks : Bool → Plan → ℕ
-spent_clocks polls p = sum_by (clocks_in (told_links polls p)) (range_with_len 0 (length p.design.modules))
+spent_clocks polls p = sum_by (clocks_spent (told_links polls p)) (range_with_len 0 (length p.design.modules))
 
 -- over all lines `cross empty F N`, the sum of N times the clocks that an element is in flight in F after the clock of its push
 abbrev pub crossed_clocks : Bool → Plan → ℕ

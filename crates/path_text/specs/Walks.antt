@@ -40,9 +40,9 @@ abbrev pub IsWith : List Span → ℕ → Option Span → Type 0
 IsWith spans clock None = (s : Span) → Contains spans s → s.first ≤ clock → clock < s.until → ⊥
 IsWith spans clock (Some s) = Contains spans s × (s.first ≤ clock) × (clock < s.until)
 
-abbrev pub port_of : Doing → Option Port
-port_of Moves = None
-port_of (Still a) = Some a
+abbrev pub stalled_port : Doing → Option Port
+stalled_port Moves = None
+stalled_port (Still a) = Some a
 
 -- the port at which the module stalls in the clock before this one, if it stalls then
 abbrev pub StoodBefore : Plan → ℕ → ℕ → Option Port → Type 0
@@ -81,8 +81,8 @@ IsLastMove p end n None = (m c : ℕ) → m < n → c < end → moves_at p c m �
 IsLastMove p end n (Some at) = IsLast p end n at
 
 -- the last move after one more module is looked at; the number is the clock after that module's last move, if it moves at all
-abbrev pub with_module : Option At → ℕ → Option ℕ → Option At
-with_module last m None = last
-with_module None m (Some end) = Some (record { «module» = m; clock = end - 1 })
-with_module (Some at) m (Some end) =
+abbrev pub last_with : Option At → ℕ → Option ℕ → Option At
+last_with last m None = last
+last_with None m (Some end) = Some (record { «module» = m; clock = end - 1 })
+last_with (Some at) m (Some end) =
     if nat_le (end - 1) at.clock then Some at else Some (record { «module» = m; clock = end - 1 })

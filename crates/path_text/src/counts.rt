@@ -1,7 +1,8 @@
 //! Sums over the links of a chain, and over the polls that it follows.
 ghost use Rattle.std.specs.Prelude.{◌≡◌, ◌==◌, ℕ, ◌<◌, ◌≤◌, ◌^◌, ◌+◌, All, IfOk, IfSome, if◌then◌else◌, length, slice_index, sum_by};
 ghost use Rattle.flow_design.specs.StaticRules.{is_port};
-ghost use Rattle.path_text.specs.Counts.{clocks_of, clocks_at, clocks_in, clocks_waited, crossings, times_polled, waiting, waiting_at};
+ghost use Rattle.path_text.specs.Counts.{link_clocks, clocks_at, clocks_spent, clocks_waited, crossings, times_polled, clocks_waiting};
+ghost use Rattle.path_text.specs.Counts.{waiting_at};
 
 use crate::link::Polled;
 use depth_order::Link;
@@ -16,9 +17,9 @@ pub(crate) fn clocks_by_module(
 ) -> Result<List<u64>, OutOfMemory>
     requires order { All (λ l. l.first ≤ l.last) links.now }
     requires inside { All (λ l. l.module < modules) links.now }
-    requires few { sum_by clocks_of links.now < 2 ^ 64 }
+    requires few { sum_by link_clocks links.now < 2 ^ 64 }
     ensures count { IfOk result (λ clocks. length clocks ≡ modules) }
-    ensures each { IfOk result (λ clocks. (m : ℕ) → m < modules → slice_index clocks m ≡ clocks_in links.now m) }
+    ensures each { IfOk result (λ clocks. (m : ℕ) → m < modules → slice_index clocks m ≡ clocks_spent links.now m) }
 {
     let mut clocks = List::zeros(alloc, modules)?;
     for link in links {
@@ -31,7 +32,7 @@ pub(crate) fn clocks_by_module(
 fn add_clocks(clocks: &mut [u64], link: &Link)
     requires order { link.now.first ≤ link.now.last }
     requires inside { link.now.module < length clocks.old }
-    requires few { (m : ℕ) → m < length clocks.old → slice_index clocks.old m + clocks_of link.now < 2 ^ 64 }
+    requires few { (m : ℕ) → m < length clocks.old → slice_index clocks.old m + link_clocks link.now < 2 ^ 64 }
     ensures count { length clocks.new ≡ length clocks.old }
     ensures each { (m : ℕ) → m < length clocks.old → slice_index clocks.new m
         ≡ slice_index clocks.old m + clocks_at m link.now }
@@ -110,7 +111,7 @@ pub(crate) fn waiting_by_channel(
 ) -> Result<List<u64>, OutOfMemory>
     requires later { All (λ q. q.pushed < q.found) polls.now }
     requires inside { All (λ q. q.channel < channels) polls.now }
-    requires few { sum_by waiting polls.now < 2 ^ 64 }
+    requires few { sum_by clocks_waiting polls.now < 2 ^ 64 }
     ensures count { IfOk result (λ clocks. length clocks ≡ channels) }
     ensures each { IfOk result (λ clocks. (f : ℕ) → f < channels → slice_index clocks f ≡ clocks_waited polls.now f) }
 {
@@ -125,7 +126,7 @@ pub(crate) fn waiting_by_channel(
 fn add_waiting(clocks: &mut [u64], poll: &Polled)
     requires later { poll.now.pushed < poll.now.found }
     requires inside { poll.now.channel < length clocks.old }
-    requires few { (f : ℕ) → f < length clocks.old → slice_index clocks.old f + waiting poll.now < 2 ^ 64 }
+    requires few { (f : ℕ) → f < length clocks.old → slice_index clocks.old f + clocks_waiting poll.now < 2 ^ 64 }
     ensures count { length clocks.new ≡ length clocks.old }
     ensures each { (f : ℕ) → f < length clocks.old → slice_index clocks.new f
         ≡ slice_index clocks.old f + waiting_at f poll.now }

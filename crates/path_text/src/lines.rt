@@ -2,13 +2,12 @@
 ghost use Rattle.std.specs.Prelude.{◌≡◌, ◌<◌, ◌^◌, ◌++◌, length, slice_index, All, OnOk};
 ghost use Rattle.report_text.specs.Lines.{line, text_of_lines};
 ghost use Rattle.path_text.specs.Counts.{at_sides};
-ghost use Rattle.path_text.specs.PathText.{spend_lines, side_word as word_of, cross_lines, module_lines, channel_lines, link_tokens};
-ghost use Rattle.path_text.specs.PathText.{link_lines, poll_lines};
+ghost use Rattle.path_text.specs.PathText.{spend_lines, cross_lines, all_spend_lines, channel_lines, link_tokens, link_lines, polled_lines};
 
 use depth_order::Link;
 use flow_design::Design;
 use flow_word::{List, OutOfMemory, Side};
-use report_text::{channel_name, module_name, push_token, push_value};
+use report_text::{channel_name, module_name, push_token, push_value, stall_word};
 
 /// Adds the line `spend NAME N` of a module in which the chain spends N clocks, if N is not 0. After `OutOfMemory` the text may
 /// have part of it.
@@ -38,20 +37,10 @@ fn print_crossed(
         return Ok(());
     }
     text.extend_from_slice(b"cross")?;
-    push_token(text, side_word(side))?;
+    push_token(text, stall_word(side))?;
     push_token(text, name)?;
     push_value(text, times)?;
     text.push(b'\n')
-}
-
-/// The word for why a module cannot move at this side of a channel: it is empty, or full.
-fn side_word(side: Side) -> &'static [u8]
-    ensures { result.now ≡ word_of side }
-{
-    match side {
-        Side::Pop => b"empty",
-        Side::Push => b"full",
-    }
 }
 
 /// Adds a line for each module in which the chain spends clocks. After `OutOfMemory` the text may have some of them.
@@ -62,7 +51,7 @@ pub(crate) fn print_modules(
 ) -> Result<(), OutOfMemory>
     requires few { length design.now.modules < 2 ^ 32 }
     requires count { length clocks.now ≡ length design.now.modules }
-    ensures { OnOk result (text.new ≡ text.old ++ text_of_lines (module_lines design.now (slice_index clocks.now))) }
+    ensures { OnOk result (text.new ≡ text.old ++ text_of_lines (all_spend_lines design.now (slice_index clocks.now))) }
 {
     for number in 0..clocks.len() {
         print_spent(text, module_name(design, number as u32), clocks[number])?;
@@ -106,7 +95,7 @@ fn print_polled(
     times: u64,
     waited: u64,
 ) -> Result<(), OutOfMemory>
-    ensures { OnOk result (text.new ≡ text.old ++ text_of_lines (poll_lines name.now times waited)) }
+    ensures { OnOk result (text.new ≡ text.old ++ text_of_lines (polled_lines name.now times waited)) }
 {
     if times == 0 {
         return Ok(());

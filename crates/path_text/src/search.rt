@@ -2,8 +2,8 @@
 ghost use Rattle.std.specs.Prelude.{◌≡◌, ℕ, ◌<◌, ◌≤◌, AllPairs, length, slice_index_or};
 ghost use Rattle.std.specs.List.{filter};
 ghost use Rattle.port_clocks.specs.Leads.{before};
-ghost use Rattle.path_text.specs.Polls.{latest as latest_of};
-ghost use Rattle.path_text.specs.Finds.{AreInOrder, find_clock, is_within as is_in, is_ahead as is_ahead_of, with_find as found_with};
+ghost use Rattle.path_text.specs.{Polls.latest_one as latest_of, Finds.AreChronological, Finds.find_clock, Finds.lies_in as is_in};
+ghost use Rattle.path_text.specs.{Finds.precedes_link as is_ahead_of, Finds.with_find as found_with};
 
 use crate::finds::Find;
 use depth_order::Link;
@@ -28,7 +28,7 @@ pub(crate) fn count_before(clocks: &[u64], clock: u64) -> usize
 
 /// How many of these finds are in a given clock or earlier.
 fn count_until(finds: &[Find], clock: u64) -> usize
-    requires { AreInOrder finds.now }
+    requires { AreChronological finds.now }
     ensures within { result ≤ length finds.now }
     ensures later { (k : ℕ) (d : Find) → result ≤ k → k < length finds.now → clock < find_clock (slice_index_or finds.now k d) }
 {
@@ -50,7 +50,7 @@ fn count_until(finds: &[Find], clock: u64) -> usize
 ///
 /// It looks at the finds from that clock to the link's last, and at some of the others.
 pub(crate) fn latest(finds: &[Find], link: &Link) -> Option<Find>
-    requires { AreInOrder finds.now }
+    requires { AreChronological finds.now }
     ensures { result ≡ latest_of find_clock (filter (is_in link.now) finds.now) }
 {
     let mut found = None;

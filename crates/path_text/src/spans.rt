@@ -3,7 +3,7 @@ ghost use Rattle.std.specs.Prelude.{◌≡◌, ℕ, ◌<◌, IsTrue};
 ghost use Rattle.flow_design.specs.declared.plan.Plan.{Plan};
 ghost use Rattle.stall_spans.specs.Spans.{AreSpansBelow};
 ghost use Rattle.depth_order.specs.Chain.{moves_at, span_start};
-ghost use Rattle.path_text.specs.Walks.{AreSorted, IsWith, StoodBefore, link_at, moving_end, port_of};
+ghost use Rattle.path_text.specs.Walks.{AreSorted, IsWith, StoodBefore, link_at, moving_end, stalled_port};
 
 use depth_order::Link;
 use flow_word::Port;
@@ -53,7 +53,7 @@ fn stood_before(spans: &[Span], clock: u64) -> Option<Port>
 
 /// The port at which a module stalls; `None` where it moves.
 fn port_of(doing: Doing) -> Option<Port>
-    ensures { result ≡ port_of doing }
+    ensures { result ≡ stalled_port doing }
 {
     match doing {
         Doing::Still(port) => Some(port),

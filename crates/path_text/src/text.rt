@@ -6,7 +6,7 @@ ghost use Rattle.event_timing.specs.Actions.{IsFinal};
 ghost use Rattle.timing_bridge.specs.Designs.{design as design_of};
 ghost use Rattle.sim_core.specs.{Views.theory_of, AccessLog.log_of};
 ghost use Rattle.path_text.specs.{Walks.HasSpans, PathText.count_lines};
-ghost use Rattle.path_text.specs.Counts.{clocks_of, waiting, AreLinksOf, ArePollsOf};
+ghost use Rattle.path_text.specs.Counts.{link_clocks, clocks_waiting, AreLinksOf, ArePolledIn};
 ghost use Rattle.report_text.specs.Lines.{text_of_lines};
 ghost use Rattle.path_text.specs.PathText as form;
 
@@ -97,9 +97,9 @@ fn print_counts(
     requires modules { length design.now.modules < 2 ^ 32 }
     requires channels { length design.now.channels < 2 ^ 32 }
     requires links { AreLinksOf design.now path.now.links }
-    requires polls { ArePollsOf design.now path.now.polls }
-    requires spent { sum_by clocks_of path.now.links < 2 ^ 64 }
-    requires waited { sum_by waiting path.now.polls < 2 ^ 64 }
+    requires polls { ArePolledIn design.now path.now.polls }
+    requires spent { sum_by link_clocks path.now.links < 2 ^ 64 }
+    requires waited { sum_by clocks_waiting path.now.polls < 2 ^ 64 }
     ensures { OnOk result (text.new ≡ text.old ++ text_of_lines (count_lines design.now path.now.links path.now.polls)) }
 {
     let channels = design.channels.len();

@@ -4,10 +4,10 @@ ghost use Rattle.flow_word.specs.declared.access.Side.TheVariants as side;
 ghost use Rattle.flow_design.specs.{declared.plan.Plan.Plan, Plans.delay_of, StaticRules.FitsEngine, Reports.clock_of};
 ghost use Rattle.timing_bridge.specs.Designs.{lag_in};
 ghost use Rattle.lockstep_defs.specs.Verdict.{verdict};
-ghost use Rattle.path_text.specs.{Owners.owners, Finds.AreInOrder, Finds.by_find, Finds.find_clock, Finds.is_within};
-ghost use Rattle.path_text.specs.Walks.{HasSpans, IsLastMove, before_link, with_module};
-ghost use Rattle.path_text.specs.Polls.{AreAccesses, before_polled as goes_on_at, from_query as begins_with, if_some, latest as latest_of};
-ghost use Rattle.path_text.specs.Polls.{links_in, polled_path, polls_in};
+ghost use Rattle.path_text.specs.{Owners.owners_at, Walks.HasSpans, Walks.IsLastMove, Walks.before_link, Walks.last_with};
+ghost use Rattle.path_text.specs.Finds.{AreChronological, by_find, find_clock, lies_in};
+ghost use Rattle.path_text.specs.Polls.{AreAccesses, before_polled as goes_on_at, from_query as begins_with, if_some};
+ghost use Rattle.path_text.specs.Polls.{latest_one as latest_of, links_in, polled_path, polls_along};
 
 use crate::finds::{Find, finds};
 use crate::link::{Path, Polled, PolledLink};
@@ -44,7 +44,7 @@ pub fn find_path(
     requires spans { HasSpans plan.now (clock_of (verdict plan.now)) spans.now }
     requires log { AreAccesses plan.now log.now }
     ensures links { IfOk result (λ path. path.links ≡ links_in (polled_path plan.now log.now (clock_of (verdict plan.now)))) }
-    ensures polls { IfOk result (λ path. path.polls ≡ polls_in (polled_path plan.now log.now (clock_of (verdict plan.now)))) }
+    ensures polls { IfOk result (λ path. path.polls ≡ polls_along (polled_path plan.now log.now (clock_of (verdict plan.now)))) }
 {
     let kept = finds(alloc, plan, log)?;
     let poppers = owners(alloc, plan, Side::Pop)?;
@@ -64,8 +64,8 @@ pub fn find_path(
 
 /// The link from the query on that ended the last poll of its module in its clocks; the whole link where no poll ended there.
 fn polled_link(finds: &[Find], link: Link) -> PolledLink
-    requires { AreInOrder finds.now }
-    ensures { result ≡ by_find link (latest_of find_clock (filter (is_within link) finds.now)) }
+    requires { AreChronological finds.now }
+    ensures { result ≡ by_find link (latest_of find_clock (filter (lies_in link) finds.now)) }
 {
     match latest(finds, &link) {
         Some(find) => from_query(link, find),
@@ -117,7 +117,7 @@ fn last_move(spans: &[List<Span>]) -> Option<At>
 
 /// The last move after one more module is looked at. `end` is the clock after that module's last move, if it moves at all.
 fn with_module(last: Option<At>, owner: u32, end: Option<u64>) -> Option<At>
-    ensures { result ≡ with_module last owner end }
+    ensures { result ≡ last_with last owner end }
 {
     let Some(end) = end else {
         return last;
@@ -135,8 +135,8 @@ fn with_module(last: Option<At>, owner: u32, end: Option<u64>) -> Option<At>
 /// Where the chain goes on before a link: at the push of what was polled for, or else where it goes on without polls. `None` where
 /// the chain ends.
 fn before_polled(plan: &Plan, poppers: &[u32], pushers: &[u32], step: &PolledLink) -> Option<At>
-    requires poppers { poppers.now ≡ owners plan.now side.Pop }
-    requires pushers { pushers.now ≡ owners plan.now side.Push }
+    requires poppers { poppers.now ≡ owners_at plan.now side.Pop }
+    requires pushers { pushers.now ≡ owners_at plan.now side.Push }
     requires polled { IfSome step.now.polled (λ q. q.channel < length plan.now.design.channels) }
     requires crossed { IfSome step.now.link.crossed (λ a. a.channel < length plan.now.design.channels) }
     requires later { IfSome step.now.link.crossed (λ a. lag_in plan.now a.side a.channel ≤ step.now.link.first) }
@@ -153,8 +153,8 @@ fn before_polled(plan: &Plan, poppers: &[u32], pushers: &[u32], step: &PolledLin
 
 /// Where the chain goes on before a link without polls: at the other side of the crossed port. `None` where no port is crossed.
 fn before_link(plan: &Plan, poppers: &[u32], pushers: &[u32], link: &Link) -> Option<At>
-    requires poppers { poppers.now ≡ owners plan.now side.Pop }
-    requires pushers { pushers.now ≡ owners plan.now side.Push }
+    requires poppers { poppers.now ≡ owners_at plan.now side.Pop }
+    requires pushers { pushers.now ≡ owners_at plan.now side.Push }
     requires crossed { IfSome link.now.crossed (λ a. a.channel < length plan.now.design.channels) }
     requires later { IfSome link.now.crossed (λ a. lag_in plan.now a.side a.channel ≤ link.now.first) }
     ensures { result ≡ before_link plan.now link.now }

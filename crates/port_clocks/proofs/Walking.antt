@@ -59,12 +59,6 @@ module _ (p : Plan) (fits : FitsEngine p) (port : Port) where
   by_now : (n next c : ℕ) → PassesAt p port n next → c ≤ last_clock p → next < c → n < passed c
   by_now n next c at l late = ltb-true n (passed c) (at c l ∙ lt-ltb next c late)
 
-  pub stands_first : (walk : PortWalk) → walk.count ≡ 0 → PassesAt p port 0 walk.next → StandsAt p port 0 walk
-  stands_first walk e at = record {
-    count = e ∙ sym (moved_zero p port.side port.channel);
-    next = subst (λ (n : ℕ). PassesAt p port n walk.next) (sym e) at;
-  }
-
   -- it stands at each clock up to the next one in which an element passes
   pub stands_still : (walk : PortWalk) (a b : ℕ) → StandsAt p port a walk → a ≤ b → b ≤ walk.next → b ≤ last_clock p → StandsAt p port b walk
   stands_still walk a b s from until within = record {

@@ -2,7 +2,8 @@
 use Rattle.std.specs.Prelude.{◌≡◌, ℕ, ◌<◌, Bool, true, false, List, [], ◌∷◌, ◌++◌, codes, decimal, length, filter, map, slice_index_or, All}
 use Rattle.std.specs.Prelude.{if◌then◌else◌}
 use Rattle.std.specs.List.{zip}
-use Rattle.flow_word.specs.declared.access.Kind.{Kind}
+use Rattle.flow_word.specs.{declared.access.Side.Side, declared.access.Kind.Kind}
+use Rattle.flow_word.specs.declared.access.Side.TheVariants.{Pop, Push}
 use Rattle.flow_word.specs.declared.access.Kind.TheVariants.{Read, Write, TryRead, TryWrite, Empty, Full}
 use Rattle.flow_design.specs.{declared.design.Channel.Channel, declared.design.Design.Design, declared.report.Verdict.Verdict}
 use Rattle.flow_design.specs.{declared.report.Held.Held, declared.report.EventLine.EventLine, declared.report.Report.Report, Plans.is_sink}
@@ -42,6 +43,11 @@ kind_token TryRead = codes "tryread"
 kind_token TryWrite = codes "trywrite"
 kind_token Empty = codes "empty"
 kind_token Full = codes "full"
+
+-- the word for why a module stalls: one that cannot pop stalls at an empty channel, and one that cannot push at a full one
+abbrev pub stall_word : Side → Token
+stall_word Pop = codes "empty"
+stall_word Push = codes "full"
 
 -- the tokens of `event MODULE KIND CHANNEL CYCLE`
 abbrev pub event_tokens : Design → EventLine → List Token

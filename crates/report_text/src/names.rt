@@ -1,9 +1,9 @@
-//! The names of channels, modules and kinds, by number.
+//! The names of channels and modules by number, and the words for kinds and stalls.
 ghost use Rattle.std.specs.Prelude.{◌≡◌, ◌<◌, length};
-ghost use Rattle.report_text.specs.ReportText.{channel_name, module_name, kind_token};
+ghost use Rattle.report_text.specs.ReportText.{channel_name, module_name, kind_token, stall_word};
 
 use flow_design::Design;
-use flow_word::Kind;
+use flow_word::{Kind, Side};
 
 /// The name of the channel with this number.
 pub fn channel_name(design: &Design, number: u32) -> &[u8]
@@ -32,5 +32,15 @@ pub fn kind_word(kind: Kind) -> &'static [u8]
         Kind::TryWrite => b"trywrite",
         Kind::Empty => b"empty",
         Kind::Full => b"full",
+    }
+}
+
+/// The word for why a module stalls at this side of a channel: it is empty, or full.
+pub fn stall_word(side: Side) -> &'static [u8]
+    ensures { result.now ≡ stall_word side }
+{
+    match side {
+        Side::Pop => b"empty",
+        Side::Push => b"full",
     }
 }

@@ -1,4 +1,4 @@
-use name_tables::Names;
+use flow_text::Names;
 use std::test::Fail;
 
 #[test]

@@ -19,14 +19,14 @@ use Rattle.fifo_fills.specs.{Passed.Act, Passed.acts_in, Passed.acts_before, Pas
 use Rattle.fifo_fills.proofs.Acts.{acts-zero, acts-suc, begins, early, late, moved_are}
 use Rattle.port_clocks.specs.Leads.{before}
 use Rattle.sim_core.specs.{AccessLog.logged, AccessLog.logged_in, AccessLog.log_of, declared.access_log.LoggedAccess.LoggedAccess}
-use Rattle.stall_text.specs.Stalls.{moved_at, clocks_of}
+use Rattle.stall_text.specs.Stalls.{moved_at, access_clocks}
 
 abbrev pub logged_act : Act → LoggedAccess
 logged_act a = logged a.0 a.1
 
 -- the clocks of those that pass a test
 abbrev pub clock_list : (LoggedAccess → Bool) → List Act → List ℕ
-clock_list test done = clocks_of (filter test (map logged_act done))
+clock_list test done = access_clocks (filter test (map logged_act done))
 
 abbrev pub on : Side → ℕ → Port
 on side f = record { side = side; channel = f }
@@ -102,8 +102,8 @@ moved_one side f s x =
     ∙ ap (λ (b : Bool). cond (is_some (slice_get (moved_value (side_of kind) x) 0) && (same_side side (side_of kind) && b)) 1 0)
     (same_test x.request.channel f)
 
-one_more : (b : Bool) (a : LoggedAccess) (xs : List LoggedAccess) → length (clocks_of (cond b (a ∷ xs) xs))
-    ≡ cond b 1 0 + length (clocks_of xs)
+one_more : (b : Bool) (a : LoggedAccess) (xs : List LoggedAccess) → length (access_clocks (cond b (a ∷ xs) xs))
+    ≡ cond b 1 0 + length (access_clocks xs)
 one_more true a xs = omega arith
 one_more false a xs = omega arith
 
@@ -124,15 +124,15 @@ all_clocks P test [] h = tt
 all_clocks P test (a ∷ done) h = by_test (test (logged_act a)) (all_clocks P test done h.1)
   where
     by_test : (b : Bool) → AllByRecursion P (clock_list test done)
-        → AllByRecursion P (clocks_of (cond b (logged_act a ∷ filter test (map logged_act done))
+        → AllByRecursion P (access_clocks (cond b (logged_act a ∷ filter test (map logged_act done))
         (filter test (map logged_act done))))
     by_test true rest = (h.0, rest)
     by_test false rest = rest
 
 pub list-append : (test : LoggedAccess → Bool) (xs ys : List Act) → clock_list test (xs ++ ys) ≡ clock_list test xs ++ clock_list test ys
 list-append test xs ys =
-    ap (λ (l : List LoggedAccess). clocks_of (filter test l)) (map-append logged_act xs ys)
-    ∙ (ap clocks_of (filter-append test (map logged_act xs) (map logged_act ys))
+    ap (λ (l : List LoggedAccess). access_clocks (filter test l)) (map-append logged_act xs ys)
+    ∙ (ap access_clocks (filter-append test (map logged_act xs) (map logged_act ys))
     ∙ map-append (λ (a : LoggedAccess). a.event.cycle) (filter test (map logged_act xs)) (filter test (map logged_act ys)))
 
 abbrev one_if : Bool → ℕ

@@ -14,44 +14,44 @@ use Rattle.lockstep_defs.specs.Ports.{owner}
 use Rattle.report_text.specs.{Lines.Token, ReportText.module_name, ReportText.channel_name}
 use Rattle.sim_core.specs.{AccessLog.log_of, declared.access_log.LoggedAccess.LoggedAccess}
 use Rattle.stall_text.specs.declared.queries.Queries.{Queries}
-use Rattle.stall_text.specs.Polls.{asks, is_missed, query_lines, same_query, tries_of}
-use Rattle.stall_text.specs.Polling.{asked_at, asked_by, own_queries, queries_in, unasked, AreAsked}
+use Rattle.stall_text.specs.Polls.{is_query_on, is_missed, query_lines, same_query, tries_of}
+use Rattle.stall_text.specs.Polling.{asked_at, with_query, own_queries, tally_of, unasked, AreAsked}
 use Rattle.stall_text.proofs.Uses.{Owns, all_or_none, all_own, last_is, last_owner, log_owned, passing}
 
 -- ---- one access more
 
 asked_last : (xs : List LoggedAccess) (a : LoggedAccess) (b : Bool)
-    → queries_in (xs ++ cond b (a ∷ []) []) ≡ cond b (asked_by a (queries_in xs)) (queries_in xs)
+    → tally_of (xs ++ cond b (a ∷ []) []) ≡ cond b (with_query a (tally_of xs)) (tally_of xs)
 asked_last xs a true =
     let owner = last_is 0 xs a in
     let tried = length-append xs (a ∷ []) in
     let missed = sum_by_push (λ (x : LoggedAccess). cond (is_missed x) 1 0) xs a in
     λ i. record { owner = owner i; tried = tried i; missed = missed i }
-asked_last xs a false = ap queries_in (append-nil xs)
+asked_last xs a false = ap tally_of (append-nil xs)
 
 asked_more : (log : List LoggedAccess) (k : ℕ) (d : LoggedAccess) (kind : Kind) (f : ℕ) → k < length log
     → asked_at (take (k + 1) log) kind f
-    ≡ cond (asks kind f (get_or log k d)) (asked_by (get_or log k d) (asked_at (take k log) kind f)) (asked_at (take k log) kind f)
+    ≡ cond (is_query_on kind f (get_or log k d)) (with_query (get_or log k d) (asked_at (take k log) kind f)) (asked_at (take k log) kind f)
 unfolding asked_at
 asked_more log k d kind f l =
     let a = get_or log k d in
-    ap (λ (xs : List LoggedAccess). queries_in (filter (asks kind f) xs)) (take_more log k d l)
-    ∙ (ap queries_in (filter-append (asks kind f) (take k log) (a ∷ []))
-    ∙ asked_last (filter (asks kind f) (take k log)) a (asks kind f a))
+    ap (λ (xs : List LoggedAccess). tally_of (filter (is_query_on kind f) xs)) (take_more log k d l)
+    ∙ (ap tally_of (filter-append (is_query_on kind f) (take k log) (a ∷ []))
+    ∙ asked_last (filter (is_query_on kind f) (take k log)) a (is_query_on kind f a))
 
 and_false : (b : Bool) → (b && false) ≡ false
 and_false true = refl
 and_false false = refl
 
-asks_other : (kind : Kind) (f : ℕ) (a : LoggedAccess) → f ≢ a.event.channel → asks kind f a ≡ false
+asks_other : (kind : Kind) (f : ℕ) (a : LoggedAccess) → f ≢ a.event.channel → is_query_on kind f a ≡ false
 asks_other kind f a n =
     ap (λ (b : Bool). same_query kind a.event.kind && b) (ne_eqb f a.event.channel n) ∙ and_false (same_query kind a.event.kind)
 
-asks_own : (kind : Kind) (a : LoggedAccess) → same_query kind a.event.kind ≡ true → asks kind a.event.channel a ≡ true
+asks_own : (kind : Kind) (a : LoggedAccess) → same_query kind a.event.kind ≡ true → is_query_on kind a.event.channel a ≡ true
 asks_own kind a e =
     ap₂ (λ (x y : Bool). x && y) e (eq-eqb a.event.channel a.event.channel refl)
 
-asks_none : (kind : Kind) (f : ℕ) (a : LoggedAccess) → same_query kind a.event.kind ≡ false → asks kind f a ≡ false
+asks_none : (kind : Kind) (f : ℕ) (a : LoggedAccess) → same_query kind a.event.kind ≡ false → is_query_on kind f a ≡ false
 asks_none kind f a e = ap (λ (b : Bool). b && (f == a.event.channel)) e
 
 pub asked_none : (channels : ℕ) (kind : Kind) (queries : List Queries) → queries ≡ replicate channels unasked
@@ -71,18 +71,18 @@ asked_no channels kind log k d queries l e h = record {
       let before = asked_at (take k log) kind f in
       h.each f m
       ∙ sym (asked_more log k d kind f l
-      ∙ ap (λ (b : Bool). cond b (asked_by (get_or log k d) before) before) (asks_none kind f (get_or log k d) e));
+      ∙ ap (λ (b : Bool). cond b (with_query (get_or log k d) before) before) (asks_none kind f (get_or log k d) e));
 }
 
 pub asked_yes : (channels : ℕ) (kind : Kind) (log : List LoggedAccess) (k : ℕ) (d : LoggedAccess) (queries new : List Queries)
     → k < length log → (get_or log k d).event.channel < channels → same_query kind (get_or log k d).event.kind ≡ true
     → AreAsked channels kind (take k log) queries
-    → new ≡ set queries (get_or log k d).event.channel (asked_by (get_or log k d) (get_or queries (get_or log k d).event.channel unasked))
+    → new ≡ set queries (get_or log k d).event.channel (with_query (get_or log k d) (get_or queries (get_or log k d).event.channel unasked))
     → AreAsked channels kind (take (k + 1) log) new
 asked_yes channels kind log k d queries new l inside e h q =
     let a = get_or log k d in
     let g = a.event.channel in
-    let one = asked_by a (get_or queries g unasked) in
+    let one = with_query a (get_or queries g unasked) in
     record {
       count = ap length q ∙ (length-set queries g one ∙ h.count);
       each = λ f m.
@@ -92,14 +92,14 @@ asked_yes channels kind log k d queries new l inside e h q =
             | inl w ↦
                 subst (λ (x : ℕ). get_or (set queries g one) x unasked ≡ asked_at (take (k + 1) log) kind x) (sym w)
                 (get_or-set_same queries g one unasked (let n = h.count in omega arith)
-                ∙ (ap (asked_by a) (h.each g inside)
+                ∙ (ap (with_query a) (h.each g inside)
                 ∙ sym (asked_more log k d kind g l
-                ∙ ap (λ (b : Bool). cond b (asked_by a (asked_at (take k log) kind g)) (asked_at (take k log) kind g))
+                ∙ ap (λ (b : Bool). cond b (with_query a (asked_at (take k log) kind g)) (asked_at (take k log) kind g))
                 (asks_own kind a e))))
             | inr w ↦
                 get_or-set_other queries g f one unasked w
                 ∙ (h.each f m
-                ∙ sym (asked_more log k d kind f l ∙ ap (λ (b : Bool). cond b (asked_by a before) before) (asks_other kind f a w)))
+                ∙ sym (asked_more log k d kind f l ∙ ap (λ (b : Bool). cond b (with_query a before) before) (asks_other kind f a w)))
           ]);
     }
 
@@ -109,12 +109,12 @@ pub asked_few : (channels : ℕ) (kind : Kind) (log : List LoggedAccess) (k f : 
     → ((get_or queries f unasked).tried ≤ k) × ((get_or queries f unasked).missed ≤ k)
 unfolding asked_at
 asked_few channels kind log k f queries l m h =
-    let those = filter (asks kind f) (take k log) in
+    let those = filter (is_query_on kind f) (take k log) in
     let is = h.each f m in
     let tried = ap (λ (q : Queries). q.tried) is in
     let missed = ap (λ (q : Queries). q.missed) is in
-    let long = length-filter (asks kind f) (take k log) in
-    let most = count_by-le-length (asks kind f) (take k log) in
+    let long = length-filter (is_query_on kind f) (take k log) in
+    let most = count_by-le-length (is_query_on kind f) (take k log) in
     let some = count_by-le-length is_missed those in
     let all = length-take-le k log l in
     (omega arith, omega arith)
@@ -139,7 +139,7 @@ same_side_of Empty Empty e = refl
 same_side_of Full Full e = refl
 same_side_of kind other e = grind arith
 
-pub asks_owner : (p : Plan) (kind : Kind) (f : ℕ) (a : LoggedAccess) → Owns p a → asks kind f a ≡ true
+pub asks_owner : (p : Plan) (kind : Kind) (f : ℕ) (a : LoggedAccess) → Owns p a → is_query_on kind f a ≡ true
     → a.event.«module» ≡ owner p (record { side = side_of kind; channel = f })
 asks_owner p kind f a h e =
     let parts = and_parts (same_query kind a.event.kind) (eqb f a.event.channel) e in
@@ -150,7 +150,7 @@ abbrev nothing : List LoggedAccess
 nothing = []
 
 by_owner : (i o : ℕ) (name : Token) (kind : Kind) (channel : Token) (xs : List LoggedAccess) → AllByRecursion (λ a. a.event.«module» ≡ o) xs
-    → own_queries i name kind channel (queries_in xs)
+    → own_queries i name kind channel (tally_of xs)
     ≡ query_lines name kind channel (length (cond (o == i) xs [])) (count_by is_missed (cond (o == i) xs []))
 by_owner i o name kind channel [] h = by_both (o == i) (0 == i)
   where
@@ -180,9 +180,9 @@ own_tries p fits i f kind queries l h =
     let o = owner p (record { side = side_of kind; channel = f }) in
     let name = module_name p.design i in
     let channel = channel_name p.design f in
-    let all = passing p o (asks kind f) (asks_owner p kind f) (log_of p) (log_owned p fits) in
-    let those = filter (asks kind f) (log_of p) in
+    let all = passing p o (is_query_on kind f) (asks_owner p kind f) (log_of p) (log_owned p fits) in
+    let those = filter (is_query_on kind f) (log_of p) in
     ap (own_queries i name kind channel) (h.each f l)
-    ∙ (by_owner i o name kind channel those (all_own i o (asks kind f) (log_of p) all)
+    ∙ (by_owner i o name kind channel those (all_own i o (is_query_on kind f) (log_of p) all)
     ∙ ap (λ (xs : List LoggedAccess). query_lines name kind channel (length xs) (count_by is_missed xs))
-    (sym (all_or_none i o (asks kind f) (log_of p) all)))
+    (sym (all_or_none i o (is_query_on kind f) (log_of p) all)))

@@ -1,9 +1,9 @@
 -- How full a FIFO is, by the clocks in which elements were pushed on it and popped off it.
 use Rattle.std.proofs.Common.{◌≡◌, ℕ, zero, suc, ◌+◌, ◌-◌, ◌<◌, ◌≤◌, ◌^◌, List, [], ◌∷◌, map, length, Bool, true, false, ◌&&◌, not, cond}
-use Rattle.std.proofs.Common.{max, refl, sym, ◌∙◌, ap, ap₂, arith, get_or, ltb, leb, inl, inr, length-append}
+use Rattle.std.proofs.Common.{refl, sym, ◌∙◌, ap, ap₂, arith, get_or, ltb, leb, inl, inr, length-append}
 use Rattle.std.proofs.lemmas.Bool.{cases_lt, lt-ltb, le-ltb, le-leb, lt-leb}
 use Rattle.std.proofs.{lemmas.List.length-map, lemmas.List.get_or-map, lemmas.List.Sums.sum_by-cons}
-use Rattle.std.specs.{Prelude.All, Prelude.AllPairs, List.fold, List.range_with_len, List.count_by}
+use Rattle.std.specs.{Prelude.All, Prelude.AllPairs, List.range_with_len, List.count_by}
 use Rattle.flow_word.specs.declared.access.Side.TheVariants.{Pop, Push}
 use Rattle.flow_design.specs.{declared.design.ChannelKind.ChannelKind, declared.plan.Plan.Plan, declared.state.Element.Element}
 use Rattle.flow_design.specs.declared.design.ChannelKind.TheVariants.{Source, Sink, Fifo}
@@ -14,23 +14,23 @@ use Rattle.lockstep_defs.specs.Channels.{moved, values, contents_of, is_empty, i
 use Rattle.lockstep_defs.specs.{Lockstep.state, Lockstep.history, Laws.all_in}
 use Rattle.lockstep_defs.proofs.Counts.{is_counted, delay_positive, fifo_opens_empty}
 use Rattle.fifo_fills.specs.Fills.{fill, last_clock}
-use Rattle.port_clocks.specs.{Leads.before, Leads.is_ahead, Leads.ahead_clocks, Leads.most_ahead, Clocks.ArePortClocks}
+use Rattle.port_clocks.specs.{Leads.before, Leads.is_ahead, Leads.ahead_clocks, Clocks.ArePortClocks}
 use Rattle.port_clocks.proofs.Filled.{fill_told}
-use Rattle.stall_text.specs.{Stalls.most, Stalls.empty_clocks, Stalls.full_clocks, Filling.later, Filling.empty_by}
+use Rattle.stall_text.specs.{Stalls.empty_clocks, Stalls.full_clocks, Filling.shifted, Filling.empty_by}
 
 -- ---- clocks that come later
 
-later_at : (by : ℕ) (xs : List ℕ) (k d : ℕ) → k < length xs → get_or (later by xs) k d ≡ get_or xs k 0 + by
+later_at : (by : ℕ) (xs : List ℕ) (k d : ℕ) → k < length xs → get_or (shifted by xs) k d ≡ get_or xs k 0 + by
 later_at by xs k d l = get_or-map (λ (x : ℕ). x + by) xs k 0 d l
 
-pub later_rises : (by : ℕ) (xs : List ℕ) → AllPairs (λ a b. a ≤ b) xs → AllPairs (λ a b. a ≤ b) (later by xs)
+pub later_rises : (by : ℕ) (xs : List ℕ) → AllPairs (λ a b. a ≤ b) xs → AllPairs (λ a b. a ≤ b) (shifted by xs)
 later_rises by xs h i j d l m =
     let n = length-map xs (λ (x : ℕ). x + by) in
     let rises : get_or xs i 0 ≤ get_or xs j 0 = h i j 0 l (omega arith) in
     omega (arith, later_at by xs i d (omega arith), later_at by xs j d (omega arith))
 
 pub later_early : (by clock : ℕ) (xs : List ℕ) → by ≤ FIFO_DELAY → clock ≤ CYCLES → All (λ x. x < clock) xs
-    → All (λ x. x + 1 < 2 ^ 64) (later by xs)
+    → All (λ x. x + 1 < 2 ^ 64) (shifted by xs)
 later_early by clock xs l m h k d w =
     let n = length-map xs (λ (x : ℕ). x + by) in
     let early : get_or xs k 0 < clock = h k 0 (omega arith) in
@@ -45,10 +45,10 @@ later_test x c d l = elim (cases_lt (x + (d - 1)) c) [
   | inr w ↦ le-ltb (x + (d - 1)) c w ∙ sym (le-ltb x (suc c - d) (omega arith))
 ]
 
-pub later_before : (xs : List ℕ) (c d : ℕ) → 1 ≤ d → before (later (d - 1) xs) c ≡ before xs (suc c - d)
+pub later_before : (xs : List ℕ) (c d : ℕ) → 1 ≤ d → before (shifted (d - 1) xs) c ≡ before xs (suc c - d)
 later_before [] c d l = refl
 later_before (x ∷ xs) c d l =
-    sum_by-cons (λ (y : ℕ). cond (ltb y c) 1 0) (x + (d - 1)) (later (d - 1) xs)
+    sum_by-cons (λ (y : ℕ). cond (ltb y c) 1 0) (x + (d - 1)) (shifted (d - 1) xs)
     ∙ (ap₂ (λ (b : Bool) (n : ℕ). cond b 1 0 + n) (later_test x c d l) (later_before xs c d l)
     ∙ sym (sum_by-cons (λ (y : ℕ). cond (ltb y (suc c - d)) 1 0) x xs))
 
@@ -79,11 +79,6 @@ others_counted t u a (suc n) h =
       one_of_both (u a),
     )
 
-same_maps : (g h : ℕ → ℕ) (a n : ℕ) → ((c : ℕ) → c < a + n → g c ≡ h c) → map g (range_with_len a n) ≡ map h (range_with_len a n)
-same_maps g h a zero e = refl
-same_maps g h a (suc n) e =
-    ap₂ (λ (x : ℕ) (xs : List ℕ). x ∷ xs) (e a (omega arith)) (same_maps g h (a + 1) n (λ c l. e c (omega arith)))
-
 -- ---- tests by counts
 
 less_test : (a b : ℕ) → ltb a b ≡ leb (a + 1) b
@@ -109,14 +104,6 @@ full_test depth held popped pushed e = elim (cases_lt held depth) [
 module _ (p : Plan) (fits : FitsEngine p) (f : ℕ) (l : f < length p.design.channels) (fifo : is_fifo (kind_at p f) ≡ true)
     (pops pushes : List ℕ) (h : ArePortClocks p (record { side = Pop; channel = f }) pops)
     (k : ArePortClocks p (record { side = Push; channel = f }) pushes) where
-  fill_is : (c : ℕ) → c ≤ last_clock p → fill p f c ≡ before pushes c - before pops c
-  fill_is c m = omega (arith, fill_told p fits f l fifo pops pushes h k c m)
-
-  pub most_is : most p f ≡ most_ahead pushes pops (last_clock p)
-  unfolding most most_ahead
-  most_is =
-      ap (fold max 0) (same_maps (fill p f) (λ c. before pushes c - before pops c) 0 (last_clock p + 1) (λ c m. fill_is c (omega arith)))
-
   full_is : (c : ℕ) → c ≤ last_clock p → is_full p f (contents_of (state p c).contents f) ≡ is_ahead (get_or p.depths f 0) pushes pops c
   unfolding fill
   full_is c m =
@@ -138,30 +125,18 @@ module _ (p : Plan) (fits : FitsEngine p) (f : ℕ) (l : f < length p.design.cha
   d = delay_at p f
 
   pub empty_is : (c : ℕ) → c ≤ last_clock p
-      → is_empty c (contents_of (state p c).contents f) ≡ not (is_ahead 1 (later (d - 1) pushes) pops c)
+      → is_empty c (contents_of (state p c).contents f) ≡ not (is_ahead 1 (shifted (d - 1) pushes) pops c)
   empty_is c m =
       let positive = delay_positive p fits f l in
       let there = went_in (suc c - d) ∙ sym (k.counts (suc c - d) (omega arith)) ∙ sym (later_before pushes c d positive) in
-      swapped (is_empty c (contents_of (state p c).contents f)) (is_ahead 1 (later (d - 1) pushes) pops c)
+      swapped (is_empty c (contents_of (state p c).contents f)) (is_ahead 1 (shifted (d - 1) pushes) pops c)
       ((is_counted p fits c f l).pops
-      ∙ (ap₂ ltb (sym (h.counts c m)) there ∙ less_test (before pops c) (before (later (d - 1) pushes) c)))
+      ∙ (ap₂ ltb (sym (h.counts c m)) there ∙ less_test (before pops c) (before (shifted (d - 1) pushes) c)))
 
   pub empty_clocks_are : empty_clocks p f ≡ empty_by d (last_clock p) pops pushes
   unfolding empty_clocks ahead_clocks
   empty_clocks_are =
-      let sum = others_counted (λ c. is_empty c (contents_of (state p c).contents f)) (is_ahead 1 (later (d - 1) pushes) pops) 0
+      let sum = others_counted (λ c. is_empty c (contents_of (state p c).contents f)) (is_ahead 1 (shifted (d - 1) pushes) pops) 0
       (last_clock p)
       (λ c m. empty_is c (omega arith)) in
       omega arith
-
--- ---- its limits
-
-sound_limits : (k : ChannelKind) (inputs : List ℕ) (depth : ℕ) → AreEntriesSound k inputs depth → is_fifo k ≡ true
-    → (1 ≤ depth) × (depth ≤ FIFO_DEPTH) × (1 ≤ delay_of k) × (delay_of k ≤ FIFO_DELAY)
-sound_limits Source inputs depth h e = cc
-sound_limits Sink inputs depth h e = cc
-sound_limits (Fifo declared delay) inputs depth h e = (h.1, h.2, h.3, h.4)
-
-pub fifo_limits : (p : Plan) → FitsEngine p → (f : ℕ) → f < length p.design.channels → is_fifo (kind_at p f) ≡ true
-    → (1 ≤ get_or p.depths f 0) × (get_or p.depths f 0 ≤ FIFO_DEPTH) × (1 ≤ delay_at p f) × (delay_at p f ≤ FIFO_DELAY)
-fifo_limits p fits f l fifo = sound_limits (kind_at p f) _ (get_or p.depths f 0) (fits.channels f l).entries fifo

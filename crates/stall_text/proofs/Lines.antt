@@ -6,10 +6,10 @@ use Rattle.std.specs.{Prelude.codes, Prelude.decimal, List.flat_map, List.filter
 use Rattle.flow_word.specs.{declared.access.Side.Side, declared.access.Kind.Kind, Kinds.is_blocking}
 use Rattle.flow_word.specs.declared.access.Side.TheVariants.{Pop, Push}
 use Rattle.flow_word.specs.declared.access.Kind.TheVariants.{TryRead, TryWrite, Empty, Full}
-use Rattle.report_text.specs.Lines.{Token, line, text_of_lines}
+use Rattle.report_text.specs.{Lines.Token, Lines.line, Lines.text_of_lines, ReportText.kind_token, ReportText.stall_word}
 use Rattle.report_text.proofs.LineLemmas.{line_of_five, text-append, numbers_more}
-use Rattle.stall_text.specs.Polls.{query_word, query_lines, at_each_query}
-use Rattle.stall_text.specs.StallText.{side_word, cause_word, cause_lines, port_lines, last_of, at_each_side}
+use Rattle.stall_text.specs.Polls.{query_lines, at_each_query}
+use Rattle.stall_text.specs.StallText.{port_word, cause_lines, port_lines, last_after, at_each_side}
 use Rattle.flow_word.proofs.Ranges.{range_last}
 
 pub text-one : (l : List Token) → text_of_lines (l ∷ []) ≡ line l
@@ -26,12 +26,12 @@ five_pushed text a b c d e t u v w x y p q r s o n =
     ∙ ap (λ (l : List ℕ). l ++ 32 ∷ d) (r ∙ ap (λ (l : List ℕ). l ++ 32 ∷ c) (q ∙ ap (λ (l : List ℕ). l ++ 32 ∷ b) p))))
     ∙ line_of_five text a b c d e)
 
-pub cause_line : (text name channel word t u v w x y : List ℕ) (side : Side) (clocks : ℕ) → clocks ≢ 0 → word ≡ cause_word side
+pub cause_line : (text name channel word t u v w x y : List ℕ) (side : Side) (clocks : ℕ) → clocks ≢ 0 → word ≡ stall_word side
     → t ≡ text ++ codes "stall" → u ≡ t ++ 32 ∷ name → v ≡ u ++ 32 ∷ word → w ≡ v ++ 32 ∷ channel → x ≡ w ++ 32 ∷ decimal clocks
     → y ≡ x ++ 10 ∷ [] → y ≡ text ++ text_of_lines (cause_lines name channel side clocks)
 cause_line text name channel word t u v w x y side clocks some is p q r s o n =
-    let tokens = codes "stall" ∷ name ∷ cause_word side ∷ channel ∷ decimal clocks ∷ [] in
-    five_pushed text (codes "stall") name (cause_word side) channel (decimal clocks) t u v w x y p q
+    let tokens = codes "stall" ∷ name ∷ stall_word side ∷ channel ∷ decimal clocks ∷ [] in
+    five_pushed text (codes "stall") name (stall_word side) channel (decimal clocks) t u v w x y p q
     (r ∙ ap (λ (l : List ℕ). u ++ 32 ∷ l) is) s o n
     ∙ ap (λ (l : List ℕ). text ++ l)
     (sym (text-one tokens) ∙ sym (ap (λ (b : Bool). text_of_lines (cond b [] (tokens ∷ []))) (ne_eqb clocks 0 some)))
@@ -42,17 +42,17 @@ line_of_six text a b c d e f =
     let four = (((text ++ a) ++ 32 ∷ b) ++ 32 ∷ c) ++ 32 ∷ d in
     ap (λ (l : List ℕ). l ++ 10 ∷ []) (append_assoc four (32 ∷ e) (32 ∷ f)) ∙ line_of_five text a b c d (e ++ 32 ∷ f)
 
-pub query_line : (text name channel word t u v w x y z : List ℕ) (of : Kind) (tried missed : ℕ) → tried ≢ 0 → word ≡ query_word of
+pub query_line : (text name channel word t u v w x y z : List ℕ) (of : Kind) (tried missed : ℕ) → tried ≢ 0 → word ≡ kind_token of
     → t ≡ text ++ codes "poll" → u ≡ t ++ 32 ∷ name → v ≡ u ++ 32 ∷ word → w ≡ v ++ 32 ∷ channel → x ≡ w ++ 32 ∷ decimal tried
     → y ≡ x ++ 32 ∷ decimal missed → z ≡ y ++ 10 ∷ [] → z ≡ text ++ text_of_lines (query_lines name of channel tried missed)
 query_line text name channel word t u v w x y z of tried missed some is p q r s a b d =
-    let tokens = codes "poll" ∷ name ∷ query_word of ∷ channel ∷ decimal tried ∷ decimal missed ∷ [] in
+    let tokens = codes "poll" ∷ name ∷ kind_token of ∷ channel ∷ decimal tried ∷ decimal missed ∷ [] in
     d
     ∙ (ap (λ (l : List ℕ). l ++ 10 ∷ []) (b
     ∙ ap (λ (l : List ℕ). l ++ 32 ∷ decimal missed) (a
     ∙ ap (λ (l : List ℕ). l ++ 32 ∷ decimal tried) (s
     ∙ ap (λ (l : List ℕ). l ++ 32 ∷ channel) (r ∙ ap₂ (λ (l k : List ℕ). l ++ 32 ∷ k) (q ∙ ap (λ (l : List ℕ). l ++ 32 ∷ name) p) is))))
-    ∙ (line_of_six text (codes "poll") name (query_word of) channel (decimal tried) (decimal missed)
+    ∙ (line_of_six text (codes "poll") name (kind_token of) channel (decimal tried) (decimal missed)
     ∙ ap (λ (l : List ℕ). text ++ l)
     (sym (text-one tokens) ∙ sym (ap (λ (b : Bool). text_of_lines (cond b [] (tokens ∷ []))) (ne_eqb tried 0 some)))))
 
@@ -65,23 +65,23 @@ line_of_seven text a b c d e f g =
     (append_assoc (four ++ 32 ∷ e) (32 ∷ f) (32 ∷ g) ∙ append_assoc four (32 ∷ e) (32 ∷ (f ++ 32 ∷ g)))
     ∙ line_of_five text a b c d (e ++ 32 ∷ (f ++ 32 ∷ g))
 
-last_is : (x : ℕ) (xs : List ℕ) → last_of x xs ≡ get_or (x ∷ xs) (length xs) 0
+last_is : (x : ℕ) (xs : List ℕ) → last_after x xs ≡ get_or (x ∷ xs) (length xs) 0
 last_is x [] = refl
 last_is x (y ∷ ys) = last_is y ys
 
 port_tokens : (name channel : Token) (side : Side) (clocks : List ℕ) (last : ℕ) → last + 1 ≡ length clocks
     → text_of_lines (port_lines name channel side clocks)
-    ≡ line (codes "port" ∷ name ∷ side_word side ∷ channel ∷ decimal (length clocks) ∷ decimal (get_or clocks 0 0)
+    ≡ line (codes "port" ∷ name ∷ port_word side ∷ channel ∷ decimal (length clocks) ∷ decimal (get_or clocks 0 0)
     ∷ decimal (get_or clocks last 0) ∷ [])
 port_tokens name channel side [] last e = absurd (omega arith)
 port_tokens name channel side (x ∷ xs) last e =
     let there : length xs ≡ last = omega arith in
-    text-one (codes "port" ∷ name ∷ side_word side ∷ channel ∷ decimal (length (x ∷ xs)) ∷ decimal x ∷ decimal (last_of x xs) ∷ [])
-    ∙ ap (λ (n : ℕ). line (codes "port" ∷ name ∷ side_word side ∷ channel ∷ decimal (length (x ∷ xs)) ∷ decimal x ∷ decimal n ∷ []))
+    text-one (codes "port" ∷ name ∷ port_word side ∷ channel ∷ decimal (length (x ∷ xs)) ∷ decimal x ∷ decimal (last_after x xs) ∷ [])
+    ∙ ap (λ (n : ℕ). line (codes "port" ∷ name ∷ port_word side ∷ channel ∷ decimal (length (x ∷ xs)) ∷ decimal x ∷ decimal n ∷ []))
     (last_is x xs ∙ ap (λ (k : ℕ). get_or (x ∷ xs) k 0) there)
 
 pub port_line : (text name channel word : List ℕ) (side : Side) (clocks : List ℕ) (last : ℕ) (t u v w x y z n : List ℕ)
-    → last + 1 ≡ length clocks → word ≡ side_word side
+    → last + 1 ≡ length clocks → word ≡ port_word side
     → t ≡ text ++ codes "port" → u ≡ t ++ 32 ∷ name → v ≡ u ++ 32 ∷ word → w ≡ v ++ 32 ∷ channel
     → x ≡ w ++ 32 ∷ decimal (length clocks) → y ≡ x ++ 32 ∷ decimal (get_or clocks 0 0) → z ≡ y ++ 32 ∷ decimal (get_or clocks last 0)
     → n ≡ z ++ 10 ∷ [] → n ≡ text ++ text_of_lines (port_lines name channel side clocks)
@@ -92,7 +92,7 @@ port_line text name channel word side clocks last t u v w x y z n some is p q r 
     ∙ ap (λ (l : List ℕ). l ++ 32 ∷ decimal (get_or clocks 0 0)) (a
     ∙ ap (λ (l : List ℕ). l ++ 32 ∷ decimal (length clocks)) (s
     ∙ ap (λ (l : List ℕ). l ++ 32 ∷ channel) (r ∙ ap₂ (λ (l k : List ℕ). l ++ 32 ∷ k) (q ∙ ap (λ (l : List ℕ). l ++ 32 ∷ name) p) is)))))
-    ∙ (line_of_seven text (codes "port") name (side_word side) channel (decimal (length clocks)) (decimal (get_or clocks 0 0))
+    ∙ (line_of_seven text (codes "port") name (port_word side) channel (decimal (length clocks)) (decimal (get_or clocks 0 0))
     (decimal (get_or clocks last 0))
     ∙ ap (λ (l : List ℕ). text ++ l) (sym (port_tokens name channel side clocks last some))))
 

@@ -13,8 +13,8 @@ use Rattle.flow_design.specs.declared.plan.Plan.{Plan}
 use Rattle.fifo_fills.specs.{Fills.last_clock, Passed.acts}
 use Rattle.fifo_fills.proofs.Acts.{early}
 use Rattle.sim_core.specs.declared.access_log.LoggedAccess.{LoggedAccess}
-use Rattle.stall_text.specs.{declared.polls.Polling.Polling, Stalls.clocks_of}
-use Rattle.stall_text.specs.Polls.{is_missed, is_of, accesses_of, polls_in, polled_clocks}
+use Rattle.stall_text.specs.{declared.polls.Polling.Polling, Stalls.access_clocks}
+use Rattle.stall_text.specs.Polls.{is_missed, is_of, log_of_module, polls_in, polled_clocks}
 use Rattle.stall_text.specs.Polling.{unpolled, one_if, polled_so_far, is_last, polling_with, polling_of, ArePollings}
 use Rattle.stall_text.proofs.Accesses.{Climbs, climbs, clock_list, all_clocks, log_is}
 
@@ -204,7 +204,7 @@ abbrev ComesAfter : ℕ → List LoggedAccess → LoggedAccess → Type 0
 ComesAfter end done a = (a.event.cycle < end) × UpTo a.event.cycle done
 
 later_too : (end : ℕ) (done : List LoggedAccess) (a : LoggedAccess) (rest : List LoggedAccess) → AllByRecursion (ComesAfter end done) rest
-    → AllByRecursion (λ y. a.event.cycle ≤ y) (clocks_of rest) → AllByRecursion (ComesAfter end (done ++ a ∷ [])) rest
+    → AllByRecursion (λ y. a.event.cycle ≤ y) (access_clocks rest) → AllByRecursion (ComesAfter end (done ++ a ∷ [])) rest
 later_too end done a [] h up = tt
 later_too end done a (b ∷ rest) h up = (
   (h.0.0, all-append (λ x. x.event.cycle ≤ b.event.cycle) done (a ∷ []) h.0.1 (up.0, tt)),
@@ -212,7 +212,7 @@ later_too end done a (b ∷ rest) h up = (
 )
 
 stands_all : (end : ℕ) (done rest : List LoggedAccess) (m : Polling) → Stands end done m → AllByRecursion (ComesAfter end done) rest
-    → Climbs (clocks_of rest) → Stands end (done ++ rest) (fold polling_with m rest)
+    → Climbs (access_clocks rest) → Stands end (done ++ rest) (fold polling_with m rest)
 stands_all end done [] m h after up = subst (λ (xs : List LoggedAccess). Stands end xs m) (sym (append-nil done)) h
 stands_all end done (a ∷ rest) m h after up =
     subst (λ (xs : List LoggedAccess). Stands end xs (fold polling_with (polling_with m a) rest)) (append_assoc done (a ∷ []) rest)
@@ -226,21 +226,21 @@ none_polled a (suc n) = omega (arith, count_more (polls_in []) a n, none_polled 
 starts : (end : ℕ) → Stands end [] unpolled
 starts end = record { count = sym (none_polled 0 end); last = (refl, refl) }
 
-after_none : (end : ℕ) (xs : List LoggedAccess) → AllByRecursion (λ c. c < end) (clocks_of xs) → AllByRecursion (ComesAfter end []) xs
+after_none : (end : ℕ) (xs : List LoggedAccess) → AllByRecursion (λ c. c < end) (access_clocks xs) → AllByRecursion (ComesAfter end []) xs
 after_none end [] h = tt
 after_none end (a ∷ xs) h = ((h.0, tt), after_none end xs h.1)
 
 -- in so many clocks a module polls
-pub polled_is : (p : Plan) (i : ℕ) → polled_so_far (polling_of (accesses_of p i)) ≡ polled_clocks p i
+pub polled_is : (p : Plan) (i : ℕ) → polled_so_far (polling_of (log_of_module p i)) ≡ polled_clocks p i
 unfolding polled_clocks acts
 polled_is p i =
-    let clocks : clocks_of (accesses_of p i) ≡ clock_list (is_of i) (acts p) =
-    ap (λ (log : List LoggedAccess). clocks_of (filter (is_of i) log)) (log_is p) in
+    let clocks : access_clocks (log_of_module p i) ≡ clock_list (is_of i) (acts p) =
+    ap (λ (log : List LoggedAccess). access_clocks (filter (is_of i) log)) (log_is p) in
     let up = subst Climbs (sym clocks) (climbs p (is_of i) (last_clock p)) in
     let below = subst (AllByRecursion (λ c. c < last_clock p)) (sym clocks)
     (all_clocks (λ c. c < last_clock p) (is_of i) (acts p) (early p (last_clock p))) in
-    (stands_all (last_clock p) [] (accesses_of p i) unpolled (starts (last_clock p))
-    (after_none (last_clock p) (accesses_of p i) below) up).count
+    (stands_all (last_clock p) [] (log_of_module p i) unpolled (starts (last_clock p))
+    (after_none (last_clock p) (log_of_module p i) below) up).count
 
 -- ---- the loop
 

@@ -10,7 +10,7 @@ use Rattle.stall_spans.specs.declared.span.Doing.TheVariants.{Moves, Still}
 use Rattle.stall_spans.specs.Totals.{spans_clocks, is_still_at, passes, clocks_in, still_clocks_at}
 use Rattle.stall_spans.proofs.{Existing.counted_spans, Adding.cause_inside, Lists.contains_member, Extending.spans_listed}
 use Rattle.fifo_fills.proofs.Ending.{last_within}
-use Rattle.stall_text.specs.Causes.{IsInside}
+use Rattle.stall_text.specs.Causes.{HasChannelBelow}
 
 -- of each channel the clocks in which the module stands still at this side
 pub record AreStill (side : Side) (channels : ℕ) (spans : List Span) (clocks : List ℕ) : Type 0 where
@@ -19,12 +19,12 @@ pub record AreStill (side : Side) (channels : ℕ) (spans : List Span) (clocks :
 
 -- ---- the spans of a module
 
-inside_by : (p : Plan) → FitsEngine p → (c i : ℕ) (d : Doing) → doing p c i ≡ Some d → IsInside (length p.design.channels) d
+inside_by : (p : Plan) → FitsEngine p → (c i : ℕ) (d : Doing) → doing p c i ≡ Some d → HasChannelBelow (length p.design.channels) d
 inside_by p h c i Moves e = tt
 inside_by p h c i (Still port) e = cause_inside p h c i port e
 
 pub spans_inside : (p : Plan) → FitsEngine p → (i : ℕ) (ss : List Span) → AreSpans p i ss
-    → All (λ (s : Span). IsInside (length p.design.channels) s.doing) ss
+    → All (λ (s : Span). HasChannelBelow (length p.design.channels) s.doing) ss
 spans_inside p f i ss a k d l =
     let s = get_or ss k d in
     let h = (spans_listed p i (last_clock p) ss a).are s (contains_member ss s (k, l, get_or_default ss k _ _ l)) in

@@ -11,7 +11,7 @@ use Rattle.fifo_fills.specs.{Passed.Act, Passed.acts, Passed.acts_before, Fills.
 use Rattle.port_clocks.specs.{Leads.before, Clocks.ArePortClocks}
 use Rattle.port_clocks.proofs.Filled.{one_list}
 use Rattle.sim_core.specs.{AccessLog.log_of, declared.access_log.LoggedAccess.LoggedAccess}
-use Rattle.stall_text.specs.{Stalls.moved_at, Stalls.clocks_of, Stalls.port_clocks, Polling.last_module}
+use Rattle.stall_text.specs.{Stalls.moved_at, Stalls.access_clocks, Stalls.port_clocks, Polling.last_module}
 use Rattle.stall_text.proofs.Accesses.{on, logged_act, log_is, clock_list, counted_before, list_rises, list_below, ActStands, all_stand}
 
 -- ---- the last access
@@ -114,13 +114,14 @@ own_clocks_are p fits i port xs own other =
     let o = owner p port in
     let all = passing p o (moved_at port) (moved_owner p port) (log_of p) (log_owned p fits) in
     let those = filter (moved_at port) (log_of p) in
-    let mine : port_clocks p i port ≡ clocks_of (cond (o == i) those []) = ap clocks_of (all_or_none i o (moved_at port) (log_of p) all) in
+    let mine : port_clocks p i port ≡ access_clocks (cond (o == i) those []) =
+    ap access_clocks (all_or_none i o (moved_at port) (log_of p) all) in
     elim (cases_eq o i) [
       | inl e ↦
           one_list p port xs (clock_list (moved_at port) (acts p)) (own e) (log_clocks p port.side port.channel)
-          ∙ (ap (λ (log : List LoggedAccess). clocks_of (filter (moved_at port) log)) (sym (log_is p))
-          ∙ sym (mine ∙ ap (λ (b : Bool). clocks_of (cond b those [])) (eq-eqb o i e)))
-      | inr n ↦ other n ∙ sym (mine ∙ ap (λ (b : Bool). clocks_of (cond b those [])) (ne_eqb o i n))
+          ∙ (ap (λ (log : List LoggedAccess). access_clocks (filter (moved_at port) log)) (sym (log_is p))
+          ∙ sym (mine ∙ ap (λ (b : Bool). access_clocks (cond b those [])) (eq-eqb o i e)))
+      | inr n ↦ other n ∙ sym (mine ∙ ap (λ (b : Bool). access_clocks (cond b those [])) (ne_eqb o i n))
     ]
 
 -- what a call answers is the clocks of a module at a port

@@ -18,13 +18,14 @@ use Rattle.fifo_fills.specs.Fills.{fifos, last_clock}
 use Rattle.fifo_fills.proofs.Ending.{last_within}
 use Rattle.port_clocks.specs.{Leads.most_ahead, Leads.ahead_clocks, Clocks.ArePortClocks}
 use Rattle.stall_spans.specs.Totals.{moved_clocks, still_clocks, still_clocks_at}
+use Rattle.port_clocks.proofs.Filled.{peak_told}
 use Rattle.stall_text.specs.{declared.fifos.Filling.Filling, declared.polls.Polls.Polls, Causes.causes_by, Filling.empty_by}
 use Rattle.stall_text.specs.{Filling.IsFilling, Polls.poll_lines, Polls.polls_lines, Polls.tries_of}
 use Rattle.stall_text.specs.StallText.{module_tokens, cause_lines, at_each_side, causes_of, ports_of, clock_lines, module_lines}
 use Rattle.stall_text.specs.StallText.{fifo_tokens, fifo_line, stalls_text}
 use Rattle.stall_text.specs.Polling.{ArePollings, ArePollsOf, AreQueries, HavePolls, all_queries, polled_so_far, polling_lines}
-use Rattle.stall_text.proofs.{Lines.same_sides, Lines.same_queries, Lines.two_more, Asked.own_tries, Polled.polled_is}
-use Rattle.stall_text.proofs.Fills.{most_is, empty_clocks_are, full_clocks_are}
+use Rattle.stall_text.proofs.Lines.{same_sides, same_queries, two_more}
+use Rattle.stall_text.proofs.{Asked.own_tries, Polled.polled_is, Fills.empty_clocks_are, Fills.full_clocks_are}
 
 pub clock_few : (p : Plan) → FitsEngine p → (clock : ℕ) → clock ≡ last_clock p → clock ≤ CYCLES
 clock_few p fits clock e = let most = fits.cycles in omega (arith, last_within p)
@@ -86,25 +87,13 @@ module_more p fits i l polls y first text t u v e q r s =
 
 -- ---- a FIFO
 
--- what tells how full it is makes its line
-pub filled_line : (p : Plan) (f : ℕ) (name : Token) (filling : Filling) → name ≡ channel_name p.design f → IsFilling p f filling
-    → fifo_tokens name filling.most filling.empty filling.full ≡ fifo_line p f
-filled_line p f name filling n h =
-    let most = h.most in
-    let empty = h.empty in
-    let full = h.full in
-    λ i. fifo_tokens (n i) (most i) (empty i) (full i)
-
-pub fifo_kind : (k : ChannelKind) (delay : ℕ) (depth : ℕ) → k ≡ Fifo depth delay → (is_fifo k ≡ true) × (delay ≡ delay_of k)
-fifo_kind k delay depth e = (ap is_fifo e, sym (ap delay_of e))
-
 pub filling_is : (p : Plan) → FitsEngine p → (f : ℕ) → f < length p.design.channels → is_fifo (kind_at p f) ≡ true → (clock : ℕ)
     → clock ≡ last_clock p → (pops pushes : List ℕ) → ArePortClocks p (record { side = Pop; channel = f }) pops
     → ArePortClocks p (record { side = Push; channel = f }) pushes → (filling : Filling) → filling.most ≡ most_ahead pushes pops clock
     → filling.empty ≡ empty_by (delay_at p f) clock pops pushes
     → filling.full ≡ ahead_clocks (get_or p.depths f 0) pushes pops clock → IsFilling p f filling
 filling_is p fits f l fifo clock last pops pushes h k filling a b c = record {
-  most = a ∙ (ap (most_ahead pushes pops) last ∙ sym (most_is p fits f l fifo pops pushes h k));
+  most = a ∙ (ap (most_ahead pushes pops) last ∙ sym (peak_told p fits f l fifo pops pushes h k));
   empty = b ∙ (ap (λ (n : ℕ). empty_by (delay_at p f) n pops pushes) last ∙ sym (empty_clocks_are p fits f l fifo pops pushes h k));
   full = c ∙ (ap (ahead_clocks (get_or p.depths f 0) pushes pops) last ∙ sym (full_clocks_are p fits f l fifo pops pushes h k));
 }
@@ -140,16 +129,6 @@ whole_text p polls v t u w x vs a b c d =
     ∙ ap (λ (l : List ℕ). first ++ (second ++ l)) (sym (text-append ms fs)))))
 
 -- ---- how modules poll
-
-pub polls_kept : (p : Plan) (modules channels : ℕ) (log : List LoggedAccess) (polls : Option Polls) → modules ≡ length p.design.modules
-    → channels ≡ length p.design.channels → log ≡ log_of p
-    → IfSome polls (λ x. ArePollings modules log x.modules × AreQueries channels log x.queries) → ArePollsOf p polls
-polls_kept p modules channels log None m n e h = tt
-polls_kept p modules channels log (Some polls) m n e h = (
-  subst (λ (k : ℕ). ArePollings k (log_of p) polls.modules) m
-      (subst (λ (l : List LoggedAccess). ArePollings modules l polls.modules) e h.0),
-  subst (λ (k : ℕ). AreQueries k (log_of p) polls.queries) n (subst (λ (l : List LoggedAccess). AreQueries channels l polls.queries) e h.1),
-)
 
 pub have_polls : (p q : Plan) (polls : Option Polls) → ArePollsOf p polls → q ≡ p → IfSome polls (HavePolls q.design)
 have_polls p q None h e = tt

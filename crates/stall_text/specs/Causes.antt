@@ -7,9 +7,9 @@ use Rattle.stall_spans.specs.{declared.span.Doing.Doing, declared.span.Doing.The
 use Rattle.stall_text.specs.StallText.{cause_lines}
 
 -- where a module stalls, its port is at a channel whose number is below `channels`
-abbrev pub IsInside : ℕ → Doing → Type 0
-IsInside channels Moves = Unit {0}
-IsInside channels (Still port) = port.channel < channels
+abbrev pub HasChannelBelow : ℕ → Doing → Type 0
+HasChannelBelow channels Moves = Unit {0}
+HasChannelBelow channels (Still port) = port.channel < channels
 
 abbrev pub causes_by : Design → ℕ → List ℕ → List ℕ → ℕ → Side → List (List Token)
 causes_by design i empty full f Pop = cause_lines (module_name design i) (channel_name design f) Pop (slice_index empty f)

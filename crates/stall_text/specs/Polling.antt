@@ -8,7 +8,7 @@ use Rattle.report_text.specs.{Lines.Token, ReportText.module_name, ReportText.ch
 use Rattle.sim_core.specs.{AccessLog.log_of, declared.access_log.LoggedAccess.LoggedAccess}
 use Rattle.stall_text.specs.{declared.queries.Queries.Queries, declared.polls.Polling.Polling, declared.polls.Polls.Polls}
 use Rattle.stall_text.specs.declared.queries.AllQueries.{AllQueries}
-use Rattle.stall_text.specs.Polls.{asks, at_each_query, is_missed, is_of, polls_lines, query_lines}
+use Rattle.stall_text.specs.Polls.{is_query_on, at_each_query, is_missed, is_of, polls_lines, query_lines}
 
 -- ---- a module
 
@@ -50,16 +50,16 @@ abbrev pub unasked : Queries
 unasked = record { owner = 0; tried = 0; missed = 0 }
 
 -- what is kept of these queries: the module that made the last, how many there are, and how many were missed
-abbrev pub queries_in : List LoggedAccess → Queries
-queries_in queries = record { owner = last_module 0 queries; tried = length queries; missed = count_by is_missed queries }
+abbrev pub tally_of : List LoggedAccess → Queries
+tally_of queries = record { owner = last_module 0 queries; tried = length queries; missed = count_by is_missed queries }
 
 -- what is kept after one more query
-abbrev pub asked_by : LoggedAccess → Queries → Queries
-asked_by a q = record { owner = a.event.«module»; tried = q.tried + 1; missed = q.missed + one_if (is_missed a) }
+abbrev pub with_query : LoggedAccess → Queries → Queries
+with_query a q = record { owner = a.event.«module»; tried = q.tried + 1; missed = q.missed + one_if (is_missed a) }
 
 -- what is kept of the queries of this kind on channel f in a log
 unfoldable pub asked_at : List LoggedAccess → Kind → ℕ → Queries
-asked_at log kind f = queries_in (filter (asks kind f) log)
+asked_at log kind f = tally_of (filter (is_query_on kind f) log)
 
 -- the line of these queries, if they are module i's
 abbrev pub own_queries : ℕ → Token → Kind → Token → Queries → List (List Token)

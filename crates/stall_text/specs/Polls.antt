@@ -6,7 +6,7 @@ use Rattle.flow_word.specs.declared.access.Kind.{Kind}
 use Rattle.flow_word.specs.declared.access.Kind.TheVariants.{Read, Write, TryRead, TryWrite, Empty, Full}
 use Rattle.flow_design.specs.declared.plan.Plan.{Plan}
 use Rattle.fifo_fills.specs.Fills.{last_clock}
-use Rattle.report_text.specs.{Lines.Token, ReportText.module_name, ReportText.channel_name}
+use Rattle.report_text.specs.{Lines.Token, ReportText.module_name, ReportText.channel_name, ReportText.kind_token}
 use Rattle.sim_core.specs.{AccessLog.log_of, declared.access_log.LoggedAccess.LoggedAccess}
 
 -- ---- missed queries
@@ -29,8 +29,8 @@ abbrev pub is_of : ℕ → LoggedAccess → Bool
 is_of i a = a.event.«module» == i
 
 -- what the accesses of module i gave, in order
-abbrev pub accesses_of : Plan → ℕ → List LoggedAccess
-accesses_of p i = filter (is_of i) (log_of p)
+abbrev pub log_of_module : Plan → ℕ → List LoggedAccess
+log_of_module p i = filter (is_of i) (log_of p)
 
 -- there are accesses in clock c among these, and each of them is a missed query
 abbrev pub polls_in : List LoggedAccess → ℕ → Bool
@@ -39,7 +39,7 @@ polls_in accesses c =
 
 -- in how many clocks before the verdict's module i polls
 unfoldable pub polled_clocks : Plan → ℕ → ℕ
-polled_clocks p i = count_by (polls_in (accesses_of p i)) (range_with_len 0 (last_clock p))
+polled_clocks p i = count_by (polls_in (log_of_module p i)) (range_with_len 0 (last_clock p))
 
 -- ---- queries of a kind on a channel
 
@@ -51,12 +51,12 @@ same_query Empty Empty = true
 same_query Full Full = true
 same_query _ _ = false
 
-abbrev pub asks : Kind → ℕ → LoggedAccess → Bool
-asks kind f a = same_query kind a.event.kind && (f == a.event.channel)
+abbrev pub is_query_on : Kind → ℕ → LoggedAccess → Bool
+is_query_on kind f a = same_query kind a.event.kind && (f == a.event.channel)
 
 -- the queries of this kind on channel f that module i makes
-abbrev pub queries_of : Plan → ℕ → Kind → ℕ → List LoggedAccess
-queries_of p i kind f = filter (λ a. is_of i a && asks kind f a) (log_of p)
+abbrev pub queries_on : Plan → ℕ → Kind → ℕ → List LoggedAccess
+queries_on p i kind f = filter (λ a. is_of i a && is_query_on kind f a) (log_of p)
 
 -- ---- lines
 
@@ -64,18 +64,10 @@ queries_of p i kind f = filter (λ a. is_of i a && asks kind f a) (log_of p)
 abbrev pub polls_lines : Token → ℕ → List (List Token)
 polls_lines name n = if n == 0 then [] else (codes "polls" ∷ name ∷ decimal n ∷ []) ∷ []
 
-abbrev pub query_word : Kind → Token
-query_word Read = codes "read"
-query_word Write = codes "write"
-query_word TryRead = codes "tryread"
-query_word TryWrite = codes "trywrite"
-query_word Empty = codes "empty"
-query_word Full = codes "full"
-
 -- the line `poll M KIND F TRIED MISSED`, if TRIED is not 0
 abbrev pub query_lines : Token → Kind → Token → ℕ → ℕ → List (List Token)
 query_lines name kind channel tried missed =
-    if tried == 0 then [] else (codes "poll" ∷ name ∷ query_word kind ∷ channel ∷ decimal tried ∷ decimal missed ∷ []) ∷ []
+    if tried == 0 then [] else (codes "poll" ∷ name ∷ kind_token kind ∷ channel ∷ decimal tried ∷ decimal missed ∷ []) ∷ []
 
 -- for each channel, in order of declaration, the lines of each kind of query
 abbrev pub at_each_query : ℕ → (ℕ → Kind → List (List Token)) → List (List Token)
@@ -84,7 +76,7 @@ at_each_query channels lines =
 
 abbrev pub tries_of : Plan → ℕ → ℕ → Kind → List (List Token)
 tries_of p i f kind =
-    let queries = queries_of p i kind f in
+    let queries = queries_on p i kind f in
     query_lines (module_name p.design i) kind (channel_name p.design f) (length queries) (count_by is_missed queries)
 
 -- the lines of module i that `--polls` adds

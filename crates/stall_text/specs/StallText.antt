@@ -4,19 +4,17 @@ use Rattle.std.specs.List.{flat_map, range_with_len}
 use Rattle.flow_word.specs.{declared.access.Side.Side, declared.access.Side.TheVariants.Pop, declared.access.Side.TheVariants.Push}
 use Rattle.flow_design.specs.declared.plan.Plan.{Plan}
 use Rattle.lockstep_defs.specs.Verdict.{verdict}
-use Rattle.report_text.specs.{Lines.Token, Lines.text_of_lines, Lines.verdict_tokens, ReportText.module_name, ReportText.channel_name}
+use Rattle.report_text.specs.Lines.{Token, text_of_lines, verdict_tokens}
+use Rattle.report_text.specs.ReportText.{module_name, channel_name, stall_word}
 use Rattle.fifo_fills.specs.Fills.{fifos}
 use Rattle.stall_spans.specs.Totals.{moved_clocks, still_clocks, still_clocks_at}
-use Rattle.stall_text.specs.{Stalls.port_clocks, Stalls.most, Stalls.empty_clocks, Stalls.full_clocks, Polls.poll_lines}
+use Rattle.port_clocks.specs.Peaks.{peak}
+use Rattle.stall_text.specs.{Stalls.port_clocks, Stalls.empty_clocks, Stalls.full_clocks, Polls.poll_lines}
 
-abbrev pub side_word : Side → Token
-side_word Pop = codes "pop"
-side_word Push = codes "push"
-
--- the word for the cause of a stall: a module that cannot pop stalls at an empty channel, and one that cannot push at a full one
-abbrev pub cause_word : Side → Token
-cause_word Pop = codes "empty"
-cause_word Push = codes "full"
+-- the word for a port
+abbrev pub port_word : Side → Token
+port_word Pop = codes "pop"
+port_word Push = codes "push"
 
 -- the tokens of `module M MOVED STILL`
 abbrev pub module_tokens : Token → ℕ → ℕ → List Token
@@ -25,19 +23,19 @@ module_tokens name moved still = codes "module" ∷ name ∷ decimal moved ∷ d
 -- the line `stall M empty F N` or `stall M full F N`, if N is not 0
 abbrev pub cause_lines : Token → Token → Side → ℕ → List (List Token)
 cause_lines name channel side clocks =
-    if clocks == 0 then [] else (codes "stall" ∷ name ∷ cause_word side ∷ channel ∷ decimal clocks ∷ []) ∷ []
+    if clocks == 0 then [] else (codes "stall" ∷ name ∷ stall_word side ∷ channel ∷ decimal clocks ∷ []) ∷ []
 
 -- the last of these numbers, or n where there are no further ones
-abbrev pub last_of : ℕ → List ℕ → ℕ
-last_of n [] = n
-last_of n (m ∷ more) = last_of m more
+abbrev pub last_after : ℕ → List ℕ → ℕ
+last_after n [] = n
+last_after n (m ∷ more) = last_after m more
 
 -- the line `port M pop F N FIRST LAST` or `port M push F N FIRST LAST`, if N is not 0
 abbrev pub port_lines : Token → Token → Side → List ℕ → List (List Token)
 port_lines name channel side [] = []
 port_lines name channel side (first ∷ more) =
-    (codes "port" ∷ name ∷ side_word side ∷ channel ∷ decimal (length (first ∷ more)) ∷ decimal first
-    ∷ decimal (last_of first more) ∷ []) ∷ []
+    (codes "port" ∷ name ∷ port_word side ∷ channel ∷ decimal (length (first ∷ more)) ∷ decimal first
+    ∷ decimal (last_after first more) ∷ []) ∷ []
 
 -- for each channel, in order of declaration, the lines of its popping side and then those of its pushing side
 abbrev pub at_each_side : ℕ → (ℕ → Side → List (List Token)) → List (List Token)
@@ -65,7 +63,7 @@ abbrev pub fifo_tokens : Token → ℕ → ℕ → ℕ → List Token
 fifo_tokens name most empty full = codes "fifo" ∷ name ∷ decimal most ∷ decimal empty ∷ decimal full ∷ []
 
 abbrev pub fifo_line : Plan → ℕ → List Token
-fifo_line p f = fifo_tokens (channel_name p.design f) (most p f) (empty_clocks p f) (full_clocks p f)
+fifo_line p f = fifo_tokens (channel_name p.design f) (peak p f) (empty_clocks p f) (full_clocks p f)
 
 abbrev pub stall_lines : Bool → Plan → List (List Token)
 stall_lines polls p =

@@ -1,10 +1,10 @@
 -- Where a plan's time is lost: the elements that pass each port, and how full each FIFO is.
-use Rattle.std.specs.Prelude.{ℕ, ◌+◌, ◌==◌, Bool, ◌&&◌, is_some, List, map, filter, max, fold, count_by}
+use Rattle.std.specs.Prelude.{ℕ, ◌==◌, Bool, ◌&&◌, is_some, List, map, filter, count_by}
 use Rattle.std.specs.List.{range_with_len}
 use Rattle.flow_word.specs.{declared.access.Port.Port, Kinds.side_of}
 use Rattle.flow_design.specs.{declared.plan.Plan.Plan, StaticRules.same_port}
 use Rattle.lockstep_defs.specs.{Channels.contents_of, Channels.is_empty, Channels.is_full, Lockstep.state}
-use Rattle.fifo_fills.specs.Fills.{fill, last_clock}
+use Rattle.fifo_fills.specs.Fills.{last_clock}
 use Rattle.sim_core.specs.{AccessLog.log_of, declared.access_log.LoggedAccess.LoggedAccess}
 
 -- ---- ports
@@ -14,18 +14,14 @@ abbrev pub moved_at : Port → LoggedAccess → Bool
 moved_at port a = is_some a.value && same_port port (record { side = side_of a.event.kind; channel = a.event.channel })
 
 -- the clocks of these accesses
-abbrev pub clocks_of : List LoggedAccess → List ℕ
-clocks_of accesses = map (λ a. a.event.cycle) accesses
+abbrev pub access_clocks : List LoggedAccess → List ℕ
+access_clocks accesses = map (λ a. a.event.cycle) accesses
 
 -- the clocks in which module i pops elements at a port, or pushes them there, in order
 unfoldable pub port_clocks : Plan → ℕ → Port → List ℕ
-port_clocks p i port = clocks_of (filter (λ a. a.event.«module» == i && moved_at port a) (log_of p))
+port_clocks p i port = access_clocks (filter (λ a. a.event.«module» == i && moved_at port a) (log_of p))
 
 -- ---- FIFOs
-
--- the greatest number of elements that channel f holds in a clock up to the verdict's
-unfoldable pub most : Plan → ℕ → ℕ
-most p f = fold max 0 (map (fill p f) (range_with_len 0 (last_clock p + 1)))
 
 -- in how many clocks before the verdict's channel f holds no element that can be popped
 unfoldable pub empty_clocks : Plan → ℕ → ℕ

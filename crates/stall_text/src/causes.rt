@@ -4,12 +4,12 @@ ghost use Rattle.report_text.specs.Lines.{line, text_of_lines};
 ghost use Rattle.report_text.specs.ReportText.{channel_name as channel_in, module_name as module_in};
 ghost use Rattle.stall_spans.specs.declared.span.Doing.{Doing};
 ghost use Rattle.stall_spans.specs.Totals.{is_moving, is_still, is_still_at, span_clocks, spans_clocks};
-ghost use Rattle.stall_text.specs.StallText.{module_tokens, cause_lines, cause_word, at_each_side};
-ghost use Rattle.stall_text.specs.Causes.{IsInside, causes_by};
+ghost use Rattle.stall_text.specs.StallText.{module_tokens, cause_lines, at_each_side};
+ghost use Rattle.stall_text.specs.Causes.{HasChannelBelow, causes_by};
 
 use flow_design::Design;
 use flow_word::{List, OutOfMemory, Side, Words};
-use report_text::{channel_name, module_name, push_token, push_value};
+use report_text::{channel_name, module_name, push_token, push_value, stall_word};
 use stall_spans::{Doing, Span};
 use std::alloc::Global;
 
@@ -49,7 +49,7 @@ pub(crate) fn still_clocks(
     spans: &[Span],
 ) -> Result<Words, OutOfMemory>
     requires order { All (λ s. s.first ≤ s.until) spans.now }
-    requires inside { All (λ s. IsInside channels s.doing) spans.now }
+    requires inside { All (λ s. HasChannelBelow channels s.doing) spans.now }
     requires few { (test : Doing → Bool) → spans_clocks test spans.now < 2 ^ 64 }
     ensures count { IfOk result (λ clocks. length clocks ≡ channels) }
     ensures each { IfOk result (λ clocks. (f : ℕ) → f < channels
@@ -65,7 +65,7 @@ pub(crate) fn still_clocks(
 /// Adds the clocks of a span to those of a channel, if the module stalls there at this side.
 fn add_still(clocks: &mut [u64], side: Side, span: Span)
     requires order { span.first ≤ span.until }
-    requires inside { IsInside (length clocks.old) span.doing }
+    requires inside { HasChannelBelow (length clocks.old) span.doing }
     requires few { (f : ℕ) → f < length clocks.old
         → slice_index clocks.old f + span_clocks (is_still_at (record { side = side; channel = f })) span < 2 ^ 64 }
     ensures count { length clocks.new ≡ length clocks.old }
@@ -135,18 +135,8 @@ fn print_cause(
     }
     text.extend_from_slice(b"stall")?;
     push_token(text, name)?;
-    push_token(text, cause_word(side))?;
+    push_token(text, stall_word(side))?;
     push_token(text, channel)?;
     push_value(text, clocks)?;
     text.push(b'\n')
-}
-
-/// The word for the cause of a module's stall: it cannot pop, or cannot push.
-fn cause_word(side: Side) -> &'static [u8]
-    ensures { result.now ≡ cause_word side }
-{
-    match side {
-        Side::Pop => b"empty",
-        Side::Push => b"full",
-    }
 }

@@ -9,7 +9,7 @@ ghost use Rattle.fifo_fills.specs.Fills.{fifos, last_clock};
 ghost use Rattle.sim_core.specs.Views.{theory_of};
 ghost use Rattle.port_clocks.specs.Leads as counts;
 ghost use Rattle.port_clocks.specs.Leads.{AreClocks};
-ghost use Rattle.stall_text.specs.{StallText.fifo_line, StallText.fifo_tokens, Filling.IsFilling, Filling.later, Filling.empty_by};
+ghost use Rattle.stall_text.specs.{StallText.fifo_line, StallText.fifo_tokens, Filling.IsFilling, Filling.shifted, Filling.empty_by};
 
 use flow_design::ChannelKind;
 use flow_word::{List, OutOfMemory, Port, Side, Words};
@@ -143,7 +143,7 @@ fn filling_of(
 fn later(alloc: Global, clocks: &[u64], by: u64) -> Result<Words, OutOfMemory>
     requires by { by ≤ FIFO_DELAY }
     requires clocks { All (λ c. c < CYCLES) clocks.now }
-    ensures { IfOk result (λ words. words ≡ later by clocks.now) }
+    ensures { IfOk result (λ words. words ≡ shifted by clocks.now) }
 {
     let mut words = List::with_room(alloc, clocks.len() as u64)?;
     for clock in clocks {

@@ -5,7 +5,7 @@ ghost use Rattle.timing_bridge.specs.Designs.{design};
 ghost use Rattle.report_text.specs.Lines.{text_of_lines};
 ghost use Rattle.sim_core.specs.Views.{theory_of};
 ghost use Rattle.stall_text.specs.Stalls.{port_clocks};
-ghost use Rattle.stall_text.specs.StallText.{port_lines, ports_of, at_each_side, side_word};
+ghost use Rattle.stall_text.specs.StallText.{port_lines, ports_of, at_each_side, port_word};
 
 use flow_word::{List, OutOfMemory, Port, Side, Words};
 use port_clocks::own_clocks;
@@ -87,7 +87,7 @@ fn print_port(
     };
     text.extend_from_slice(b"port")?;
     push_token(text, name)?;
-    push_token(text, side_word(side))?;
+    push_token(text, port_word(side))?;
     push_token(text, channel)?;
     push_value(text, clocks.len() as u64)?;
     push_value(text, clocks[0])?;
@@ -96,8 +96,8 @@ fn print_port(
 }
 
 /// The word for a side of a channel.
-fn side_word(side: Side) -> &'static [u8]
-    ensures { result.now ≡ side_word side }
+fn port_word(side: Side) -> &'static [u8]
+    ensures { result.now ≡ port_word side }
 {
     match side {
         Side::Pop => b"pop",

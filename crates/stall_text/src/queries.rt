@@ -2,11 +2,11 @@
 ghost use Rattle.std.specs.Prelude.{◌≡◌, ◌≢◌, ◌<◌, ◌+◌, ◌^◌, ◌++◌, length, replicate, slice_set, slice_index_or, All, IfOk, OnOk};
 ghost use Rattle.report_text.specs.Lines.{text_of_lines};
 ghost use Rattle.stall_text.specs.Polls as form;
-ghost use Rattle.stall_text.specs.Polling.{asked_by, unasked, own_queries, AreAsked, AreQueries, HaveChannels, all_queries as queries_in};
+ghost use Rattle.stall_text.specs.Polling.{with_query, unasked, own_queries, AreAsked, AreQueries, HaveChannels, all_queries as queries_in};
 
 use flow_design::Design;
 use flow_word::{Kind, List, OutOfMemory};
-use report_text::{channel_name, module_name, push_token, push_value};
+use report_text::{channel_name, kind_word, module_name, push_token, push_value};
 use sim_core::LoggedAccess;
 use std::alloc::Global;
 
@@ -95,7 +95,7 @@ fn count_query(queries: &mut List<Queries>, access: &LoggedAccess)
     requires few_tried { (slice_index_or queries.old access.now.event.channel unasked).tried + 1 < 2 ^ 64 }
     requires few_missed { (slice_index_or queries.old access.now.event.channel unasked).missed + 1 < 2 ^ 64 }
     ensures { queries.new ≡ slice_set queries.old access.now.event.channel
-        (asked_by access.now (slice_index_or queries.old access.now.event.channel unasked)) }
+        (with_query access.now (slice_index_or queries.old access.now.event.channel unasked)) }
 {
     let of = &mut queries.as_mut_slice()[access.event.channel as usize];
     of.owner = access.event.module;
@@ -181,23 +181,9 @@ fn print_query(
 {
     text.extend_from_slice(b"poll")?;
     push_token(text, name)?;
-    push_token(text, query_word(kind))?;
+    push_token(text, kind_word(kind))?;
     push_token(text, channel)?;
     push_value(text, of.tried)?;
     push_value(text, of.missed)?;
     text.push(b'\n')
-}
-
-/// The word for a kind of access.
-fn query_word(kind: Kind) -> &'static [u8]
-    ensures { result.now ≡ form.query_word kind }
-{
-    match kind {
-        Kind::Read => b"read",
-        Kind::Write => b"write",
-        Kind::TryRead => b"tryread",
-        Kind::TryWrite => b"trywrite",
-        Kind::Empty => b"empty",
-        Kind::Full => b"full",
-    }
 }

@@ -5,7 +5,7 @@ use Rattle.std.proofs.{Math.Seq.take-suc, lemmas.List.Concat.flat_map-append, le
 use Rattle.std.proofs.lemmas.List.{append-nil, map-append}
 use Rattle.std.proofs.lemmas.List.FromFn.{map-range_with_len_more, length-map-range_with_len}
 use Rattle.std.specs.{Prelude.codes, List.flat_map, List.filter, List.range_with_len}
-use Rattle.trace_text.specs.TraceText.{further, lines_of}
+use Rattle.trace_text.specs.TraceText.{further, joined_lines}
 use Rattle.flow_word.proofs.Ranges.{range_more}
 use Rattle.sim_io.proofs.Pending.{numbered_rest}
 
@@ -57,8 +57,8 @@ passed_more test n =
     filtered xs = filter-append test xs (n ∷ [])
 
 -- the first events with one more
-lines_push : (xs : List (List ℕ)) (e : List ℕ) → lines_of (xs ++ e ∷ [])
-    ≡ (lines_of xs ++ cond (ltb 0 (length xs)) (44 ∷ []) []) ++ 10 ∷ e
+lines_push : (xs : List (List ℕ)) (e : List ℕ) → joined_lines (xs ++ e ∷ [])
+    ≡ (joined_lines xs ++ cond (ltb 0 (length xs)) (44 ∷ []) []) ++ 10 ∷ e
 lines_push [] e = ap (λ (l : List ℕ). codes "\n" ++ l) (append-nil e)
 lines_push (x ∷ xs) e =
     ap (λ (t : List ℕ). (codes "\n" ++ x) ++ t) (further-push xs e)
@@ -67,21 +67,21 @@ lines_push (x ∷ xs) e =
     ∙ ap (λ (b : Bool). (((codes "\n" ++ x) ++ further xs) ++ cond b (44 ∷ []) []) ++ 10 ∷ e)
     (sym (lt-ltb 0 (length (x ∷ xs)) (omega arith)))))
 
-pub names_more : (g : ℕ → List ℕ) (n : ℕ) (first text comma line next : List ℕ) → text ≡ first ++ lines_of (map g (range_with_len 0 n))
+pub names_more : (g : ℕ → List ℕ) (n : ℕ) (first text comma line next : List ℕ) → text ≡ first ++ joined_lines (map g (range_with_len 0 n))
     → comma ≡ text ++ cond (ltb 0 n) (44 ∷ []) [] → line ≡ comma ++ 10 ∷ [] → next ≡ line ++ g n
-    → next ≡ first ++ lines_of (map g (range_with_len 0 (n + 1)))
+    → next ≡ first ++ joined_lines (map g (range_with_len 0 (n + 1)))
 names_more g n first text comma line next e q r s =
     let xs = map g (range_with_len 0 n) in
     let count : length xs ≡ n = length-map-range_with_len g 0 n in
     let commas = cond (ltb 0 n) (44 ∷ []) [] in
     let made = r ∙ ap (λ (t : List ℕ). t ++ 10 ∷ []) (q ∙ ap (λ (t : List ℕ). t ++ commas) e) in
-    let grown = ap (λ (k : ℕ). (lines_of xs ++ cond (ltb 0 k) (44 ∷ []) []) ++ 10 ∷ g n) (sym count)
-    ∙ (sym (lines_push xs (g n)) ∙ ap lines_of (sym (map-range_with_len_more g 0 n n (zero-add n)))) in
+    let grown = ap (λ (k : ℕ). (joined_lines xs ++ cond (ltb 0 k) (44 ∷ []) []) ++ 10 ∷ g n) (sym count)
+    ∙ (sym (lines_push xs (g n)) ∙ ap joined_lines (sym (map-range_with_len_more g 0 n n (zero-add n)))) in
     s ∙ (ap (λ (t : List ℕ). t ++ g n) made ∙ (simp append_assoc (ap (λ (t : List ℕ). first ++ t) (simp append_assoc at grown))))
 
 -- events and then further ones
-lines-append : (xs ys : List (List ℕ)) → (xs ≡ [] → ys ≡ []) → lines_of (xs ++ ys) ≡ lines_of xs ++ further ys
-lines-append [] ys h = ap lines_of (h refl) ∙ ap further (sym (h refl))
+lines-append : (xs ys : List (List ℕ)) → (xs ≡ [] → ys ≡ []) → joined_lines (xs ++ ys) ≡ joined_lines xs ++ further ys
+lines-append [] ys h = ap joined_lines (h refl) ∙ ap further (sym (h refl))
 lines-append (x ∷ xs) ys h =
     ap (λ (t : List ℕ). (codes "\n" ++ x) ++ t) (further-append xs ys) ∙ sym (append_assoc (codes "\n" ++ x) (further xs) (further ys))
 
@@ -104,7 +104,7 @@ whole opening names spans fills closing a b c d e p q r s t =
     ∙ (append_assoc (opening ++ names) spans fills ∙ append_assoc opening names (spans ++ fills))))
 
 pub whole_lines : (names spans fills : List (List ℕ)) → (names ≡ [] → spans ++ fills ≡ [])
-    → lines_of names ++ (further spans ++ further fills) ≡ lines_of ((names ++ spans) ++ fills)
+    → joined_lines names ++ (further spans ++ further fills) ≡ joined_lines ((names ++ spans) ++ fills)
 whole_lines names spans fills h =
-    ap (λ (t : List ℕ). lines_of names ++ t) (sym (further-append spans fills))
-    ∙ (sym (lines-append names (spans ++ fills) h) ∙ ap lines_of (sym (append_assoc names spans fills)))
+    ap (λ (t : List ℕ). joined_lines names ++ t) (sym (further-append spans fills))
+    ∙ (sym (lines-append names (spans ++ fills) h) ∙ ap joined_lines (sym (append_assoc names spans fills)))

@@ -15,7 +15,7 @@ use Rattle.stall_spans.specs.declared.span.Doing.TheVariants.{Moves, Still}
 use Rattle.stall_spans.proofs.Adding.{cause_inside}
 use Rattle.stall_spans.proofs.Lists.{span_is, Member, member_left, member_last, member_cases, Rising, rising_more, contains_member}
 use Rattle.stall_spans.proofs.Extending.{Listed, listed_spans, spans_listed, only_spans, some_same}
-use Rattle.trace_text.specs.Spans.{same_doing, is_doing, does, begins_with, begins, span_with, span_at, spans_of}
+use Rattle.trace_text.specs.Spans.{same_doing, is_doing, does, begins_with, begins_span, span_with, span_at, spans_of}
 use Rattle.trace_text.specs.Events.{IsDrawn}
 use Rattle.trace_text.proofs.Lines.{passed_more}
 use Rattle.event_timing.proofs.OwnRuns.{same_side_is}
@@ -63,7 +63,7 @@ not_does p i d c n = elim (cases_Bool (does p i d c)) [
 
 -- ---- where a span begins
 
-begins_other : (p : Plan) (i c x : ℕ) (d : Doing) → doing p c i ≡ Some d → begins p i c ≡ true → x + 1 ≡ c → doing p x i ≢ Some d
+begins_other : (p : Plan) (i c x : ℕ) (d : Doing) → doing p c i ≡ Some d → begins_span p i c ≡ true → x + 1 ≡ c → doing p x i ≢ Some d
 begins_other p i c x d e b q =
     let z : c - 1 ≡ x = omega arith in
     let h : (eqb c 0 || not (does p i d (c - 1))) ≡ true = sym (ap (begins_with p i c) e) ∙ b in
@@ -76,14 +76,14 @@ begins_other p i c x d e b q =
     by_tests false false n h = refl
 
 begins_first : (p : Plan) (i c : ℕ) (d : Doing) → doing p c i ≡ Some d → ((x : ℕ) → x + 1 ≡ c → doing p x i ≢ Some d)
-    → begins p i c ≡ true
+    → begins_span p i c ≡ true
 begins_first p i c d e n = ap (begins_with p i c) e ∙ by_first (cases_eq c 0)
   where
     by_first : (c ≡ 0) ⊎ (c ≢ 0) → (eqb c 0 || not (does p i d (c - 1))) ≡ true
     by_first (inl z) = rw (eq-eqb c 0 z) refl
     by_first (inr z) = rw (ne_eqb c 0 z, not_does p i d (c - 1) (n (c - 1) (omega arith))) refl
 
-begins_some : (p : Plan) (i c : ℕ) → begins p i c ≡ true → (d : Doing) × (doing p c i ≡ Some d)
+begins_some : (p : Plan) (i c : ℕ) → begins_span p i c ≡ true → (d : Doing) × (doing p c i ≡ Some d)
 begins_some p i c b = by_doing (doing p c i) b
   where
     by_doing : (o : Option Doing) → begins_with p i c o ≡ true → (d : Doing) × (o ≡ Some d)
@@ -99,7 +99,7 @@ first_passes : (f : ℕ → Bool) (c n : ℕ) → 0 < n → f c ≡ true → 0 <
 first_passes f c zero l e = absurd (omega arith)
 first_passes f c (suc n) l e = rw e (omega arith)
 
-is_span : (p : Plan) (i c : ℕ) (d : Doing) → c < last_clock p → doing p c i ≡ Some d → begins p i c ≡ true
+is_span : (p : Plan) (i c : ℕ) (d : Doing) → c < last_clock p → doing p c i ≡ Some d → begins_span p i c ≡ true
     → IsSpan p i (last_clock p) (span_with p i c d)
 is_span p i c d l e b =
     let f = does p i d in
@@ -123,7 +123,7 @@ is_span p i c d l e b =
     }
 
 span_found : (p : Plan) (i : ℕ) (s : Span) → IsSpan p i (last_clock p) s
-    → (s.first < last_clock p) × (begins p i s.first ≡ true) × (span_at p i s.first ≡ s)
+    → (s.first < last_clock p) × (begins_span p i s.first ≡ true) × (span_at p i s.first ≡ s)
 span_found p i s h =
     let some = h.some in
     let below = h.below in
@@ -148,13 +148,13 @@ span_found p i s h =
 -- ---- the list
 
 abbrev made : Plan → ℕ → ℕ → List Span
-made p i n = map (span_at p i) (filter (begins p i) (range_with_len 0 n))
+made p i n = map (span_at p i) (filter (begins_span p i) (range_with_len 0 n))
 
-made_more : (p : Plan) (i n : ℕ) (b : Bool) → begins p i n ≡ b → made p i (suc n) ≡ made p i n ++ cond b (span_at p i n ∷ []) []
+made_more : (p : Plan) (i n : ℕ) (b : Bool) → begins_span p i n ≡ b → made p i (suc n) ≡ made p i n ++ cond b (span_at p i n ∷ []) []
 made_more p i n b e =
     ap (λ (k : ℕ). made p i k) (sym (add-one n))
-    ∙ (ap (map (span_at p i)) (passed_more (begins p i) n)
-    ∙ (map-append (span_at p i) (filter (begins p i) (range_with_len 0 n)) (cond (begins p i n) (n ∷ []) [])
+    ∙ (ap (map (span_at p i)) (passed_more (begins_span p i) n)
+    ∙ (map-append (span_at p i) (filter (begins_span p i) (range_with_len 0 n)) (cond (begins_span p i n) (n ∷ []) [])
     ∙ ap (λ (l : List Span). made p i n ++ l)
     (ap (λ (x : Bool). map (span_at p i) (cond x (n ∷ []) [])) e ∙ one b)))
   where
@@ -165,12 +165,12 @@ made_more p i n b e =
 -- what the list has up to a clock
 record IsMade (p : Plan) (i n : ℕ) (ss : List Span) : Type 0 where
   pub are : (s : Span) → Member ss s → IsSpan p i (last_clock p) s × (s.first < n)
-  pub all : (c : ℕ) → c < n → begins p i c ≡ true → Member ss (span_at p i c)
+  pub all : (c : ℕ) → c < n → begins_span p i c ≡ true → Member ss (span_at p i c)
   pub rising : Rising ss
 
 -- a span that began before does not go past a clock in which another begins
 ends_before : (p : Plan) (i n : ℕ) (s : Span) → IsSpan p i (last_clock p) s → s.first < n → (d : Doing) → doing p n i ≡ Some d
-    → begins p i n ≡ true → s.until ≤ n
+    → begins_span p i n ≡ true → s.until ≤ n
 ends_before p i n s g w d does e = elim (cases_lt n s.until) [
   | inr r ↦ r
   | inl r ↦
@@ -185,7 +185,7 @@ is_made p i zero l = record {
   all = λ c q b. absurd (omega arith);
   rising = tt;
 }
-is_made p i (suc n) l = by_test (begins p i n) refl (is_made p i n (omega arith))
+is_made p i (suc n) l = by_test (begins_span p i n) refl (is_made p i n (omega arith))
   where
     here : (c : ℕ) → c < suc n → (c < n) ⊎ (c ≡ n)
     here c q = elim (cases_lt c n) [
@@ -193,12 +193,12 @@ is_made p i (suc n) l = by_test (begins p i n) refl (is_made p i n (omega arith)
       | inr w ↦ inr (omega arith)
     ]
 
-    by_test : (b : Bool) → begins p i n ≡ b → IsMade p i n (made p i n) → IsMade p i (suc n) (made p i (suc n))
+    by_test : (b : Bool) → begins_span p i n ≡ b → IsMade p i n (made p i n) → IsMade p i (suc n) (made p i (suc n))
     by_test false e h = subst (IsMade p i (suc n)) (sym (made_more p i n false e ∙ append-nil (made p i n))) (record {
       are = λ s m. let g = h.are s m in (g.0, let w = g.1 in omega arith);
       all = λ c q b. elim (here c q) [
         | inl w ↦ h.all c w b
-        | inr w ↦ let f = ap (begins p i) w ∙ e in cc
+        | inr w ↦ let f = ap (begins_span p i) w ∙ e in cc
       ];
       rising = h.rising;
     })

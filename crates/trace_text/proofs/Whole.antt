@@ -8,7 +8,7 @@ use Rattle.lockstep_defs.specs.Verdict.{verdict}
 use Rattle.report_text.specs.ReportText.{module_name}
 use Rattle.fifo_fills.specs.Fills.{fifos, last_clock}
 use Rattle.trace_text.specs.Events.{name_event, names_of, span_events, fill_events}
-use Rattle.trace_text.specs.TraceText.{opening, closing, further, lines_of, trace_text}
+use Rattle.trace_text.specs.TraceText.{opening_text, closing_text, further, joined_lines, trace_text}
 use Rattle.trace_text.proofs.{Lines.whole, Lines.whole_lines, Filling.no_fifos}
 
 pub few_modules : (p : Plan) → FitsEngine p → length p.design.modules < 2 ^ 32
@@ -34,9 +34,10 @@ nothing_else p h e =
     ap₂ (λ (n : ℕ) (fs : List ℕ). flat_map (span_events p) (range_with_len 0 n) ++ flat_map (λ f. fill_events p f (last_clock p)) fs)
     none (no_fifos p h (no_items p.design.modules none))
 
-pub whole_trace : (p : Plan) → FitsEngine p → (a b c d e : List ℕ) → a ≡ opening → b ≡ a ++ lines_of (names_of p.design)
-    → c ≡ b ++ further (all_spans p) → d ≡ c ++ further (all_fills p) → e ≡ d ++ closing → e ≡ trace_text p
+pub whole_trace : (p : Plan) → FitsEngine p → (a b c d e : List ℕ) → a ≡ opening_text → b ≡ a ++ joined_lines (names_of p.design)
+    → c ≡ b ++ further (all_spans p) → d ≡ c ++ further (all_fills p) → e ≡ d ++ closing_text → e ≡ trace_text p
 unfolding trace_text
 whole_trace p h a b c d e q r s t u =
-    whole opening (lines_of (names_of p.design)) (further (all_spans p)) (further (all_fills p)) closing a b c d e q r s t u
-    ∙ ap (λ (l : List ℕ). (opening ++ l) ++ closing) (whole_lines (names_of p.design) (all_spans p) (all_fills p) (nothing_else p h))
+    whole opening_text (joined_lines (names_of p.design)) (further (all_spans p)) (further (all_fills p)) closing_text a b c d e q r s t u
+    ∙ ap (λ (l : List ℕ). (opening_text ++ l) ++ closing_text)
+    (whole_lines (names_of p.design) (all_spans p) (all_fills p) (nothing_else p h))

@@ -1,9 +1,8 @@
 -- The events of a trace: the modules' names, their spans, and what the FIFOs hold. One clock is written as one microsecond.
 use Rattle.std.specs.Prelude.{ℕ, ◌<◌, ◌+◌, ◌-◌, ◌==◌, ◌||◌, not, if◌then◌else◌, List, [], ◌∷◌, ◌++◌, map, length, codes, decimal}
 use Rattle.std.specs.List.{flat_map, range_with_len}
-use Rattle.flow_word.specs.{declared.access.Side.Side, declared.access.Side.TheVariants.Pop, declared.access.Side.TheVariants.Push}
 use Rattle.flow_design.specs.{declared.design.Design.Design, declared.plan.Plan.Plan}
-use Rattle.report_text.specs.{Lines.Token, ReportText.module_name, ReportText.channel_name}
+use Rattle.report_text.specs.{Lines.Token, ReportText.module_name, ReportText.channel_name, ReportText.stall_word}
 use Rattle.fifo_fills.specs.Fills.{fifos, fill, last_clock}
 use Rattle.stall_spans.specs.{declared.span.Doing.Doing, declared.span.Span.Span}
 use Rattle.stall_spans.specs.declared.span.Doing.TheVariants.{Moves, Still}
@@ -17,19 +16,15 @@ name_event number name =
     codes "{\"ph\":\"M\",\"pid\":0,\"tid\":" ++ decimal number
     ++ codes ",\"name\":\"thread_name\",\"args\":{\"name\":\"" ++ name ++ codes "\"}}"
 
--- the words `empty F` of a module that cannot pop F, and `full F` of one that cannot push F
-abbrev pub side_word : Side → Token
-side_word Pop = codes "empty "
-side_word Push = codes "full "
-
 -- where a module stalls, its channel is one of the design
 abbrev pub IsDrawn : Design → Doing → Type 0
 IsDrawn design Moves = Unit {0}
 IsDrawn design (Still port) = port.channel < length design.channels
 
+-- `empty F` for a module that cannot pop F, and `full F` for one that cannot push F
 abbrev pub doing_name : Design → Doing → Token
 doing_name design Moves = codes "moves"
-doing_name design (Still port) = side_word port.side ++ channel_name design port.channel
+doing_name design (Still port) = stall_word port.side ++ 32 ∷ channel_name design port.channel
 
 -- the event of a span in the track with this number
 unfoldable pub span_event : Design → ℕ → Span → List ℕ

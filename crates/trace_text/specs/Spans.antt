@@ -26,8 +26,8 @@ abbrev pub begins_with : Plan → ℕ → ℕ → Option Doing → Bool
 begins_with p i c None = false
 begins_with p i c (Some d) = c == 0 || not (does p i d (c - 1))
 
-abbrev pub begins : Plan → ℕ → ℕ → Bool
-begins p i c = begins_with p i c (doing p c i)
+abbrev pub begins_span : Plan → ℕ → ℕ → Bool
+begins_span p i c = begins_with p i c (doing p c i)
 
 -- the span that begins in clock c: it goes on as long as module i does the same, up to the verdict's clock
 abbrev pub span_with : Plan → ℕ → ℕ → Doing → Span
@@ -37,4 +37,4 @@ abbrev pub span_at : Plan → ℕ → ℕ → Span
 span_at p i c = span_with p i c (unwrap_or (doing p c i) Moves)
 
 unfoldable pub spans_of : Plan → ℕ → List Span
-spans_of p i = map (span_at p i) (filter (begins p i) (range_with_len 0 (last_clock p)))
+spans_of p i = map (span_at p i) (filter (begins_span p i) (range_with_len 0 (last_clock p)))

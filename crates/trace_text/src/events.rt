@@ -4,12 +4,12 @@ ghost use Rattle.std.specs.Prelude.{IsErrOf, OnErr, OnOk};
 ghost use Rattle.sim_io.specs.{Causes.AppendsPrefix, Causes.Rose, Telling.IsTold};
 ghost use Rattle.report_text.specs.ReportText.{channel_name, module_name};
 ghost use Rattle.stall_spans.specs.declared.span.Doing.{Doing};
-ghost use Rattle.trace_text.specs.Events.{name_event, span_event, fill_event, doing_name, side_word, IsDrawn};
+ghost use Rattle.trace_text.specs.Events.{name_event, span_event, fill_event, doing_name, IsDrawn};
 ghost use Rattle.trace_text.specs.TraceText.{further};
 
 use flow_design::Design;
-use flow_word::{List, OutOfMemory, Side};
-use report_text::{channel_name, push_number};
+use flow_word::{List, OutOfMemory};
+use report_text::{channel_name, push_number, push_token, stall_word};
 use sim_io::{Sink, TellFault, write_full};
 use stall_spans::{Doing, Span};
 
@@ -33,19 +33,9 @@ fn print_doing(text: &mut List<u8>, design: &Design, doing: Doing) -> Result<(),
     match doing {
         Doing::Moves => text.extend_from_slice(b"moves"),
         Doing::Still(port) => {
-            text.extend_from_slice(side_word(port.side))?;
-            text.extend_from_slice(channel_name(design, port.channel))
+            text.extend_from_slice(stall_word(port.side))?;
+            push_token(text, channel_name(design, port.channel))
         }
-    }
-}
-
-/// The word for a module that cannot pop, or cannot push.
-fn side_word(side: Side) -> &'static [u8]
-    ensures { result.now ≡ side_word side }
-{
-    match side {
-        Side::Pop => b"empty ",
-        Side::Push => b"full ",
     }
 }
 

@@ -5,7 +5,7 @@ ghost use Rattle.sim_io.specs.{Causes.AppendsPrefix, Causes.Rose, Telling.IsTold
 ghost use Rattle.event_timing.specs.Actions.{IsFinal};
 ghost use Rattle.timing_bridge.specs.Designs.{design as design_of};
 ghost use Rattle.sim_core.specs.Views.{theory_of};
-ghost use Rattle.trace_text.specs.{Events.names_of, Events.span_events, TraceText.further, TraceText.lines_of};
+ghost use Rattle.trace_text.specs.{Events.names_of, Events.span_events, TraceText.further, TraceText.joined_lines};
 ghost use Rattle.trace_text.specs.TraceText as form;
 
 use crate::events::{print_name, write_spans};
@@ -41,7 +41,7 @@ pub fn trace_text<K: Sink>(alloc: Global, core: &Core, sink: &mut K) -> Result<L
 /// Adds the events that name the modules' tracks, with a comma between each two.
 fn print_names(text: &mut List<u8>, design: &Design) -> Result<(), OutOfMemory>
     requires { length design.now.modules < 2 ^ 32 }
-    ensures { OnOk result (text.new ≡ text.old ++ lines_of (names_of design.now)) }
+    ensures { OnOk result (text.new ≡ text.old ++ joined_lines (names_of design.now)) }
 {
     let count = design.modules.len() as u32;
     for number in 0..count {

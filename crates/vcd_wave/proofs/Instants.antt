@@ -6,8 +6,9 @@ use Rattle.std.specs.List.{flat_map, range_with_len}
 use Rattle.flow_design.specs.declared.plan.Plan.{Plan}
 use Rattle.fifo_fills.specs.Fills.{fills, last_clock}
 use Rattle.report_text.specs.Lines.{line, text_of_lines}
-use Rattle.vcd_wave.specs.{Wave.Change, Wave.Instant, Wave.Wave, Wave.fifo_names, Wave.changes_between, Wave.instant_of, Wave.instant_at}
-use Rattle.vcd_wave.specs.{Wave.instants_to, Wave.closing, Wave.wave_of, Wave.has_some, WaveText.time_tokens, WaveText.instant_lines}
+use Rattle.vcd_wave.specs.Wave.{Change, Instant, Wave, fifo_names, changes_between, instant_of, instant_at, instants_to, closing_instant}
+use Rattle.vcd_wave.specs.Wave.{wave_of, has_some}
+use Rattle.vcd_wave.specs.WaveText.{time_tokens, instant_lines}
 use Rattle.vcd_wave.proofs.LineLemmas.{range_push, none_same}
 use Rattle.report_text.proofs.LineLemmas.{text-append}
 use Rattle.sim_io.proofs.Pending.{numbered_rest}
@@ -132,7 +133,7 @@ told_later p told c d h l same = record {
 
 -- ---- the end
 
-pub closing_none : (p : Plan) (last : ℕ) → ((0 < last) → instant_at p last ≢ []) → closing p last ≡ []
+pub closing_none : (p : Plan) (last : ℕ) → ((0 < last) → instant_at p last ≢ []) → closing_instant p last ≡ []
 closing_none p last h =
     ap (λ (b : Bool). cond b (record { clock = last; changes = [] } ∷ []) [])
     (by_case (cases_lt 0 last) (instant_at p last) h)
@@ -143,11 +144,12 @@ closing_none p last h =
     by_case (inr m) xs g =
         let zero_clock : last ≡ 0 = omega arith in ap (λ (n : ℕ). nat_lt 0 n && not (has_some xs)) zero_clock
 
-pub closing_some : (p : Plan) (last : ℕ) → 0 < last → instant_at p last ≡ [] → closing p last ≡ record { clock = last; changes = [] } ∷ []
+pub closing_some : (p : Plan) (last : ℕ) → 0 < last → instant_at p last ≡ []
+    → closing_instant p last ≡ record { clock = last; changes = [] } ∷ []
 closing_some p last l e =
     ap₂ (λ (a b : Bool). cond (a && not b) (record { clock = last; changes = [] } ∷ []) []) (lt-ltb 0 last l) (ap has_some e)
 
-pub later_is : (p : Plan) → (wave_of p).later ≡ instants_to p (last_clock p) ++ closing p (last_clock p)
+pub later_is : (p : Plan) → (wave_of p).later ≡ instants_to p (last_clock p) ++ closing_instant p (last_clock p)
 unfolding wave_of
 later_is p = refl
 
@@ -161,14 +163,14 @@ pub later_rest : (p : Plan) (first : List ℕ) (c : ℕ) → c ≤ last_clock p
     → (rest : List ℕ) × (told_to p first c ++ rest ≡ first ++ text_of_lines (flat_map instant_lines (wave_of p).later))
 later_rest p first c most =
     let others : List Instant = flat_map (instant_at p) (range_with_len (1 + c) (last_clock p - c)) in
-    let rest : List Instant = others ++ closing p (last_clock p) in (
+    let rest : List Instant = others ++ closing_instant p (last_clock p) in (
       text_of_lines (flat_map instant_lines rest),
       append_assoc first _ _
           ∙ ap (λ (t : List ℕ). first ++ t)
           (sym (text-append (flat_map instant_lines (instants_to p c)) (flat_map instant_lines rest))
           ∙ ap text_of_lines (sym (flat_map-append instant_lines (instants_to p c) rest)
-          ∙ ap (flat_map instant_lines) (sym (append_assoc (instants_to p c) others (closing p (last_clock p)))
-          ∙ (ap (λ (l : List Instant). l ++ closing p (last_clock p)) (instants_rest p c most) ∙ sym (later_is p))))),
+          ∙ ap (flat_map instant_lines) (sym (append_assoc (instants_to p c) others (closing_instant p (last_clock p)))
+          ∙ (ap (λ (l : List Instant). l ++ closing_instant p (last_clock p)) (instants_rest p c most) ∙ sym (later_is p))))),
     )
 
 -- the last clock has its line already, and has it not
@@ -201,5 +203,5 @@ pub wave_is : (p : Plan) (names : List (List ℕ)) → names ≡ fifo_names p.de
 unfolding wave_of
 wave_is p names e = ap (λ (ns : List (List ℕ)). let w : Wave = record {
   names = ns;
-  later = instants_to p (last_clock p) ++ closing p (last_clock p);
+  later = instants_to p (last_clock p) ++ closing_instant p (last_clock p);
 } in w) e

@@ -4,3 +4,11 @@ pub mod Instants
 pub mod Walking
 pub mod Telling
 pub mod Waves
+pub mod Cutting
+pub mod OneWave
+pub mod Plans
+pub mod Numerals
+pub mod Scanning
+pub mod Fronts
+pub mod Orders
+pub mod Wholes

@@ -8,7 +8,8 @@ use Rattle.flow_design.specs.{declared.design.Channel.Channel, Plans.is_fifo}
 use Rattle.report_text.specs.Lines.{Token, line, text_of_lines}
 use Rattle.vcd_wave.specs.{declared.walk.FillChange.FillChange, Walks.change_of}
 use Rattle.vcd_wave.specs.Wave.{Change, Instant, fifo_names, differs, changes_between, instant_of, has_some}
-use Rattle.vcd_wave.specs.WaveText.{code_of, var_tokens, time_tokens, change_tokens, instant_lines, opening, header_lines, wave_text}
+use Rattle.vcd_wave.specs.WaveText.{fifo_code, var_tokens, time_tokens, change_tokens, instant_lines, opening_instant, header_lines}
+use Rattle.vcd_wave.specs.WaveText.{wave_text}
 use Rattle.report_text.proofs.LineLemmas.{line_of_four, text-append}
 use Rattle.module_move.proofs.Readiness.{fewer_pass}
 
@@ -169,12 +170,12 @@ pub on_ok : {T E P Q : Type 0} (r : Result T E) → OnOk r P → (P → Q) → O
 on_ok (Ok x) p f = f p
 on_ok (Err e) p f = tt
 
-pub var_line : (a b c d e f : List ℕ) (fifo : ℕ) (name : List ℕ) → b ≡ a ++ codes "$var wire 32" → c ≡ b ++ 32 ∷ code_of fifo
+pub var_line : (a b c d e f : List ℕ) (fifo : ℕ) (name : List ℕ) → b ≡ a ++ codes "$var wire 32" → c ≡ b ++ 32 ∷ fifo_code fifo
     → d ≡ c ++ 32 ∷ name → e ≡ d ++ 32 ∷ codes "$end" → f ≡ e ++ 10 ∷ [] → f ≡ a ++ line (var_tokens (fifo, name))
 var_line a b c d e f fifo name p q r s t =
     t ∙ (ap (λ (x : List ℕ). x ++ 10 ∷ []) (s ∙ ap (λ (x : List ℕ). x ++ 32 ∷ codes "$end")
-    (r ∙ ap (λ (x : List ℕ). x ++ 32 ∷ name) (q ∙ ap (λ (x : List ℕ). x ++ 32 ∷ code_of fifo) p)))
-    ∙ line_of_four a (codes "$var wire 32") (code_of fifo) name (codes "$end"))
+    (r ∙ ap (λ (x : List ℕ). x ++ 32 ∷ name) (q ∙ ap (λ (x : List ℕ). x ++ 32 ∷ fifo_code fifo) p)))
+    ∙ line_of_four a (codes "$var wire 32") (fifo_code fifo) name (codes "$end"))
 
 pub header_text : (a b c d : List ℕ) (names : List (List ℕ))
     → b ≡ a ++ codes "$timescale 1 ns $end\n$scope module flow $end\n"
@@ -194,14 +195,6 @@ header_text a b c d names p q r =
 abbrev instant_text : ℕ → List Change → List ℕ
 instant_text clock cs = text_of_lines (flat_map instant_lines (instant_of clock cs))
 
-pub instant_some : (a b c : List ℕ) (clock : ℕ) (cs : List Change) → true ≡ has_some cs → b ≡ a ++ line (time_tokens clock)
-    → c ≡ b ++ text_of_lines (map change_tokens cs) → c ≡ a ++ instant_text clock cs
-instant_some a b c clock [] some p q = cc
-instant_some a b c clock (x ∷ xs) some p q =
-    q ∙ (ap (λ (t : List ℕ). t ++ text_of_lines (map change_tokens (x ∷ xs))) p
-    ∙ (append_assoc a (line (time_tokens clock)) (text_of_lines (map change_tokens (x ∷ xs)))
-    ∙ ap (λ (ls : List (List Token)). a ++ text_of_lines ls) (sym (append-nil (time_tokens clock ∷ map change_tokens (x ∷ xs))))))
-
 pub none_told : (cs : List FillChange) → true ≡ (length cs == 0) → false ≡ has_some (map change_of cs)
 none_told [] e = refl
 none_told (c ∷ cs) e =
@@ -215,12 +208,12 @@ instant_none a clock (x ∷ xs) some = cc
 -- ---- the whole text
 
 pub whole_text : (names : List (List ℕ)) (later : List Instant) (a b c d : List ℕ) → a ≡ [] → b ≡ a ++ text_of_lines (header_lines names)
-    → c ≡ b ++ text_of_lines (instant_lines (opening (length names))) → d ≡ c ++ text_of_lines (flat_map instant_lines later)
+    → c ≡ b ++ text_of_lines (instant_lines (opening_instant (length names))) → d ≡ c ++ text_of_lines (flat_map instant_lines later)
     → d ≡ wave_text (record { names = names; later = later })
 unfolding wave_text
 whole_text names later a b c d p q r s =
     s ∙ (ap (λ (t : List ℕ). t ++ text_of_lines (flat_map instant_lines later))
-    (r ∙ (ap (λ (t : List ℕ). t ++ text_of_lines (instant_lines (opening (length names))))
+    (r ∙ (ap (λ (t : List ℕ). t ++ text_of_lines (instant_lines (opening_instant (length names))))
     (q ∙ ap (λ (t : List ℕ). t ++ text_of_lines (header_lines names)) p)
-    ∙ sym (text-append (header_lines names) (instant_lines (opening (length names))))))
-    ∙ sym (text-append (header_lines names ++ instant_lines (opening (length names))) (flat_map instant_lines later)))
+    ∙ sym (text-append (header_lines names) (instant_lines (opening_instant (length names))))))
+    ∙ sym (text-append (header_lines names ++ instant_lines (opening_instant (length names))) (flat_map instant_lines later)))

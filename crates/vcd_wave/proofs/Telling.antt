@@ -6,7 +6,8 @@ use Rattle.std.proofs.{lemmas.List.append-nil, lemmas.List.length-map, lemmas.Li
 use Rattle.std.specs.List.{filter}
 use Rattle.flow_design.specs.declared.plan.Plan.{Plan}
 use Rattle.fifo_fills.specs.Fills.{fifos, fill, fills, last_clock}
-use Rattle.vcd_wave.specs.Wave.{Change, Instant, differs, changes_between, instant_of, instant_at, instants_to, closing, wave_of, has_some}
+use Rattle.vcd_wave.specs.Wave.{Change, Instant, differs, changes_between, instant_of, instant_at, instants_to, closing_instant, wave_of}
+use Rattle.vcd_wave.specs.Wave.{has_some}
 use Rattle.vcd_wave.specs.Told.{last_or, told_in, told_fill, Varies}
 use Rattle.vcd_wave.proofs.LineLemmas.{changes_to, changes_more, filter-append}
 use Rattle.vcd_wave.proofs.Instants.{instants_zero, instants_more, later_is}
@@ -205,8 +206,8 @@ told_here p i c l =
     let e : (last_clock p - c) + c ≡ last_clock p = omega arith in
     let before = ap (λ (m : ℕ). up_to c (instants_to p m)) (sym e) ∙ none_kept p c (last_clock p - c) in
     ap (λ (xs : List Instant). told_in i (up_to c xs)) (later_is p)
-    ∙ (ap (told_in i) (filter-append (λ (x : Instant). nat_le x.clock c) (instants_to p (last_clock p)) (closing p (last_clock p)))
-    ∙ (told-append i (up_to c (instants_to p (last_clock p))) (up_to c (closing p (last_clock p)))
+    ∙ (ap (told_in i) (filter-append (λ (x : Instant). nat_le x.clock c) (instants_to p (last_clock p)) (closing_instant p (last_clock p)))
+    ∙ (told-append i (up_to c (instants_to p (last_clock p))) (up_to c (closing_instant p (last_clock p)))
     ∙ (ap₂ (λ (xs ys : List ℕ). xs ++ ys) (ap (told_in i) before)
     (told_closing i c (nat_lt 0 (last_clock p) && not (has_some (instant_at p (last_clock p)))) (last_clock p))
     ∙ append-nil _)))

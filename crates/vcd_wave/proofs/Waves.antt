@@ -14,7 +14,7 @@ use Rattle.fifo_fills.proofs.{Ending.last_within, Counting.within_depth, Countin
 use Rattle.flow_word.specs.declared.access.Side.TheVariants.{Push}
 use Rattle.lockstep_defs.specs.Channels.{moved}
 use Rattle.lockstep_defs.proofs.{Settled.history-zero, Queue.moved-nil, Queue.all-append}
-use Rattle.vcd_wave.specs.Wave.{Change, Instant, fifo_names, differs, changes_between, instant_of, instant_at, instants_to, closing}
+use Rattle.vcd_wave.specs.Wave.{Change, Instant, fifo_names, differs, changes_between, instant_of, instant_at, instants_to, closing_instant}
 use Rattle.vcd_wave.specs.Wave.{wave_of, has_some}
 use Rattle.vcd_wave.specs.Told.{last_or, told_in, last_told, Varies, IsChange, IsWave}
 use Rattle.vcd_wave.proofs.{LineLemmas.changes_to, LineLemmas.changes_more, Telling.tells_up_to, Telling.told-append, Telling.last_push}
@@ -278,11 +278,11 @@ later_by p fits last false e =
     })
 later_by p fits zero true e = let c = closing_true p zero e in absurd (omega (arith, c.above))
 later_by p fits (suc c) true e =
-    let closing = closing_true p (suc c) e in
+    let closing_instant = closing_true p (suc c) e in
     let next : c + 1 ≡ suc c = omega arith in
     let same = ap (instants_to p) (sym next)
     ∙ (instants_more p c
-    ∙ (ap (λ (xs : List Instant). instants_to p c ++ xs) (ap (instant_at p) next ∙ closing.nothing) ∙ append-nil _)) in
+    ∙ (ap (λ (xs : List Instant). instants_to p c ++ xs) (ap (instant_at p) next ∙ closing_instant.nothing) ∙ append-nil _)) in
     let h = instants_hold p fits c in
     let final : Instant = record { clock = suc c; changes = [] } in
     subst (λ (xs : List Instant). AreLater p (suc c) (xs ++ final ∷ [])) (sym same) (record {
@@ -326,7 +326,7 @@ names_hold p fits =
 told_all : (p : Plan) (i : ℕ) → told_in i (wave_of p).later ≡ told_in i (instants_to p (last_clock p))
 told_all p i =
     ap (told_in i) (later_is p)
-    ∙ (told-append i (instants_to p (last_clock p)) (closing p (last_clock p))
+    ∙ (told-append i (instants_to p (last_clock p)) (closing_instant p (last_clock p))
     ∙ (ap (λ (xs : List ℕ). told_in i (instants_to p (last_clock p)) ++ xs) (none (closes p (last_clock p))) ∙ append-nil _))
   where
     none : (b : Bool) → told_in i (cond b (record { clock = last_clock p; changes = [] } ∷ []) []) ≡ []

@@ -54,8 +54,8 @@ unfoldable pub instants_to : Plan → ℕ → List Instant
 instants_to p clock = flat_map (instant_at p) (range_with_len 1 clock)
 
 -- the last clock, if it is above 0 and nothing changes in it
-abbrev pub closing : Plan → ℕ → List Instant
-closing p last = if nat_lt 0 last && not (has_some (instant_at p last)) then record { clock = last; changes = [] } ∷ [] else []
+abbrev pub closing_instant : Plan → ℕ → List Instant
+closing_instant p last = if nat_lt 0 last && not (has_some (instant_at p last)) then record { clock = last; changes = [] } ∷ [] else []
 
 unfoldable pub wave_of : Plan → Wave
-wave_of p = record { names = fifo_names p.design.channels; later = instants_to p (last_clock p) ++ closing p (last_clock p) }
+wave_of p = record { names = fifo_names p.design.channels; later = instants_to p (last_clock p) ++ closing_instant p (last_clock p) }

@@ -2,15 +2,15 @@
 use Rattle.std.specs.Prelude.{ℕ, List, [], ◌∷◌, ◌++◌, map, length, codes, decimal}
 use Rattle.std.specs.List.{flat_map, range_with_len, enumerate_from}
 use Rattle.report_text.specs.Lines.{Token, text_of_lines}
-use Rattle.vcd_wave.specs.{Binary.binary, Wave.Change, Wave.Instant, Wave.Wave}
+use Rattle.vcd_wave.specs.{Binary.binary_digits, Wave.Change, Wave.Instant, Wave.Wave}
 
 -- the name of the FIFO with this number in the text: `fI`
-abbrev pub code_of : ℕ → Token
-code_of fifo = 102 ∷ decimal fifo
+abbrev pub fifo_code : ℕ → Token
+fifo_code fifo = 102 ∷ decimal fifo
 
 -- the tokens of `$var wire 32 fI NAME $end`
 abbrev pub var_tokens : ℕ × List ℕ → List Token
-var_tokens fifo = codes "$var wire 32" ∷ code_of fifo.0 ∷ fifo.1 ∷ codes "$end" ∷ []
+var_tokens fifo = codes "$var wire 32" ∷ fifo_code fifo.0 ∷ fifo.1 ∷ codes "$end" ∷ []
 
 -- the tokens of `#C`
 abbrev pub time_tokens : ℕ → List Token
@@ -18,15 +18,15 @@ time_tokens clock = (35 ∷ decimal clock) ∷ []
 
 -- the tokens of `bN fI`
 abbrev pub change_tokens : Change → List Token
-change_tokens change = (98 ∷ binary change.fill) ∷ code_of change.fifo ∷ []
+change_tokens change = (98 ∷ binary_digits change.fill) ∷ fifo_code change.fifo ∷ []
 
 -- the lines of a clock: its time, and then its changes
 abbrev pub instant_lines : Instant → List (List Token)
 instant_lines i = time_tokens i.clock ∷ map change_tokens i.changes
 
 -- clock 0, in which each of this many FIFOs is empty
-abbrev pub opening : ℕ → Instant
-opening count = record { clock = 0; changes = map (λ i. record { fifo = i; fill = 0 }) (range_with_len 0 count) }
+abbrev pub opening_instant : ℕ → Instant
+opening_instant count = record { clock = 0; changes = map (λ i. record { fifo = i; fill = 0 }) (range_with_len 0 count) }
 
 abbrev pub header_lines : List (List ℕ) → List (List Token)
 header_lines names =
@@ -34,7 +34,7 @@ header_lines names =
     ++ (codes "$upscope $end" ∷ []) ∷ (codes "$enddefinitions $end" ∷ []) ∷ []
 
 abbrev pub wave_lines : Wave → List (List Token)
-wave_lines w = header_lines w.names ++ instant_lines (opening (length w.names)) ++ flat_map instant_lines w.later
+wave_lines w = header_lines w.names ++ instant_lines (opening_instant (length w.names)) ++ flat_map instant_lines w.later
 
 unfoldable pub wave_text : Wave → List ℕ
 wave_text w = text_of_lines (wave_lines w)

@@ -4,7 +4,7 @@ ghost use Rattle.std.specs.List.{flat_map, enumerate_from};
 ghost use Rattle.sim_io.specs.{Causes.AppendsPrefix, Causes.Rose, Telling.IsTold};
 ghost use Rattle.report_text.specs.Lines.{line, text_of_lines};
 ghost use Rattle.vcd_wave.specs.{Wave.fifo_names, Wave.has_some, Wave.instant_of, Walks.change_of};
-ghost use Rattle.vcd_wave.specs.WaveText.{code_of, var_tokens, time_tokens, change_tokens, header_lines, opening, instant_lines};
+ghost use Rattle.vcd_wave.specs.WaveText.{fifo_code, var_tokens, time_tokens, change_tokens, header_lines, opening_instant, instant_lines};
 
 use crate::binary::push_binary;
 use crate::walk::FillChange;
@@ -15,7 +15,7 @@ use sim_io::{Sink, TellFault, write_full};
 
 /// Adds a space and the code of the FIFO with this number.
 fn push_code(text: &mut List<u8>, fifo: u64) -> Result<(), OutOfMemory>
-    ensures { OnOk result (text.new ≡ text.old ++ 32 ∷ code_of fifo) }
+    ensures { OnOk result (text.new ≡ text.old ++ 32 ∷ fifo_code fifo) }
 {
     text.extend_from_slice(b" f")?;
     push_number(text, fifo)
@@ -80,7 +80,7 @@ fn print_change(text: &mut List<u8>, fifo: u64, fill: u64) -> Result<(), OutOfMe
 
 /// Adds the lines of clock 0, in which all of these FIFOs are empty. After `OutOfMemory` the text may have part of it.
 pub fn print_opening(text: &mut List<u8>, count: u64) -> Result<(), OutOfMemory>
-    ensures { OnOk result (text.new ≡ text.old ++ text_of_lines (instant_lines (opening count))) }
+    ensures { OnOk result (text.new ≡ text.old ++ text_of_lines (instant_lines (opening_instant count))) }
 {
     print_time(text, 0)?;
     for fifo in 0..count {

@@ -3,7 +3,8 @@ use Rattle.std.specs.Prelude.{All, AllPairs, List, ℕ, ◌≤◌, ◌<◌, ◌+
 use Rattle.fifo_fills.specs.Fills.{last_clock}
 use Rattle.flow_design.specs.declared.limits.TheConstants.{FIFO_DEPTH}
 use Rattle.port_clocks.specs.Leads.{most_ahead}
-use Rattle.depth_advice.proofs.Finding.{peak_is, peak_small, clock_early}
+use Rattle.port_clocks.proofs.Filled.{peak_told}
+use Rattle.depth_advice.proofs.Finding.{peak_small, clock_early}
 use Rattle.depth_advice.proofs.peaks.peak_of.Goals as goal
 
 pub most_ahead-requires-clause-first : goal.most_ahead-requires-clause-first
@@ -26,8 +27,8 @@ returns-clause-peak c =
     c.most_ahead.ensures (last_clock p)
     (subst (All (λ x. x < last_clock p)) (sym c.as_slice.ensures) c.in_ok-pushes.ensures.in_order.below)
     ∙ (ap₂ (λ (xs ys : List ℕ). most_ahead xs ys (last_clock p)) c.as_slice.ensures c.as_slice-2.ensures
-    ∙ peak_is p c.modules-modules.ensures.fits c.args.channel c.requires.channel c.requires.fifo c.in_ok-pops.pops
-    c.in_ok-pushes.pushes c.in_ok-pops.ensures c.in_ok-pushes.ensures)
+    ∙ sym (peak_told p c.modules-modules.ensures.fits c.args.channel c.requires.channel c.requires.fifo c.in_ok-pops.pops
+    c.in_ok-pushes.pushes c.in_ok-pops.ensures c.in_ok-pushes.ensures))
 
 pub returns-clause-small : goal.returns-clause-small
 returns-clause-small c =
@@ -36,6 +37,6 @@ returns-clause-small c =
     (sym (c.most_ahead.ensures (last_clock p)
     (subst (All (λ x. x < last_clock p)) (sym c.as_slice.ensures) c.in_ok-pushes.ensures.in_order.below)
     ∙ (ap₂ (λ (xs ys : List ℕ). most_ahead xs ys (last_clock p)) c.as_slice.ensures c.as_slice-2.ensures
-    ∙ peak_is p c.modules-modules.ensures.fits c.args.channel c.requires.channel c.requires.fifo c.in_ok-pops.pops
-    c.in_ok-pushes.pushes c.in_ok-pops.ensures c.in_ok-pushes.ensures)))
+    ∙ sym (peak_told p c.modules-modules.ensures.fits c.args.channel c.requires.channel c.requires.fifo c.in_ok-pops.pops
+    c.in_ok-pushes.pushes c.in_ok-pops.ensures c.in_ok-pushes.ensures))))
     (peak_small p c.modules-modules.ensures.fits c.args.channel c.requires.fifo)

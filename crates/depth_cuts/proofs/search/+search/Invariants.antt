@@ -1,5 +1,5 @@
 use Rattle.std.proofs.Common.{◌≡◌, ◌-◌, length}
-use Rattle.depth_cuts.specs.Searching.{IsKept, Improves, AreTried}
+use Rattle.depth_cuts.specs.Searching.{IsBestSoFar, Improves, AreTried}
 use Rattle.depth_cuts.proofs.search.+search.Given as goal
 
 abbrev pub decreases-search : goal.decreases-search
@@ -8,7 +8,7 @@ decreases-search l = length l.demands.now.cuts - l.from
 abbrev pub invariant-loop-turn : goal.invariant-loop-turn
 invariant-loop-turn l = record {
   at : l.at ≡ l.fn.at;
-  kept : IsKept l.demands l.best;
+  kept : IsBestSoFar l.demands l.best;
   improves : Improves l.demands.widths l.fn.best l.best;
   tried : AreTried l.demands l.at.depths l.best l.needs l.first l.turn;
 }

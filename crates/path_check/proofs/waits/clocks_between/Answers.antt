@@ -5,7 +5,7 @@ use Rattle.flow_word.specs.declared.access.Step.{Step}
 use Rattle.event_graph.specs.{Lanes.lane_at, Lanes.no_lane, Packed.whole}
 use Rattle.time_engine.specs.Conditions.{IsAccess}
 use Rattle.engine_view.specs.Held.{no_step}
-use Rattle.path_check.specs.Waits.{edited}
+use Rattle.path_check.specs.Waits.{depths_with}
 use Rattle.path_check.proofs.Reading.{lags_add, gaps_add}
 use Rattle.path_check.proofs.waits.clocks_between.Goals as goal
 
@@ -18,7 +18,7 @@ returns-then-next-before-eq1 c =
     let steps = (lane_at c.args.engine.now.graph.lanes c.args.next.module).steps in
     let is = get_or_from_slice_get steps c.args.next.step step no_step c.step-step.ensures.step in
     let next : c.args.next.step ≡ suc c.args.before.step = omega (arith, c.if-before-next.true, c.if-next-before-eq1.true) in
-    gaps_add c.args.engine.now (edited c.args.depths.now c.args.edit) c.args.before c.args.next c.step-step.result.gap
+    gaps_add c.args.engine.now (depths_with c.args.depths.now c.args.edit) c.args.before c.args.next c.step-step.result.gap
     (sym (ap (λ (s : Step). s.gap) is))
     c.requires.next c.if-next-before.true next
 
@@ -37,6 +37,6 @@ returns c =
     let steps = (lane_at c.args.engine.now.graph.lanes c.args.next.module).steps in
     let is = ap (λ (s : Step). s.accesses) (get_or_from_slice_get steps c.args.next.step step no_step c.step-step.ensures.step)
     ∙ sym c.as_slice.ensures in
-    lags_add c.args.engine.now (edited c.args.depths.now c.args.edit) c.args.before c.args.next c.find_lag.result c.requires.before
+    lags_add c.args.engine.now (depths_with c.args.depths.now c.args.edit) c.args.before c.args.next c.find_lag.result c.requires.before
     c.requires.next
     (rw is c.find_lag.ensures)

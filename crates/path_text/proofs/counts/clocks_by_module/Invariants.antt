@@ -1,9 +1,9 @@
 use Rattle.std.proofs.Common.{◌≡◌, ℕ, ◌<◌, length, take, slice_index}
-use Rattle.path_text.specs.Counts.{clocks_in}
+use Rattle.path_text.specs.Counts.{clocks_spent}
 use Rattle.path_text.proofs.counts.clocks_by_module.Given as goal
 
 abbrev pub invariant-loop-link : goal.invariant-loop-link
 invariant-loop-link l = record {
   count : length l.clocks ≡ l.modules;
-  each : (m : ℕ) → m < l.modules → slice_index l.clocks m ≡ clocks_in (take l.link-index l.links) m;
+  each : (m : ℕ) → m < l.modules → slice_index l.clocks m ≡ clocks_spent (take l.link-index l.links) m;
 }

@@ -1,7 +1,7 @@
 use Rattle.std.proofs.Common.{◌∙◌, ap, ℕ, List, ◌++◌, slice_index}
 use Rattle.flow_word.specs.declared.access.Side.TheVariants.{Pop, Push}
 use Rattle.report_text.specs.{Lines.text_of_lines, ReportText.channel_name}
-use Rattle.path_text.specs.{Counts.at_sides, PathText.cross_lines, PathText.lines_at, PathText.poll_lines}
+use Rattle.path_text.specs.{Counts.at_sides, PathText.cross_lines, PathText.lines_at, PathText.polled_lines}
 use Rattle.path_text.proofs.Printed.{two_groups}
 use Rattle.path_text.proofs.lines.print_channels.Goals as goal
 use Rattle.report_text.proofs.LineLemmas.{numbers_more}
@@ -19,7 +19,7 @@ loop-number-preserved c =
     let crossed = cross_lines Pop name (slice_index popped n) ++ cross_lines Push name (slice_index pushed n) in
     numbers_more (λ f. lines_at (channel_name design f) (λ side. at_sides popped pushed side f) (polled f) (waited f)) n
     c.args.text.now text c.print_polled.new.text c.loop-number.invariant
-    (two_groups text c.print_crossed-in-loop-number.new.text c.print_polled.new.text crossed (poll_lines name (polled n) (waited n))
+    (two_groups text c.print_crossed-in-loop-number.new.text c.print_polled.new.text crossed (polled_lines name (polled n) (waited n))
     (two_groups text c.print_crossed.new.text c.print_crossed-in-loop-number.new.text (cross_lines Pop name (slice_index popped n))
     (cross_lines Push name (slice_index pushed n)) c.in_ok-print_crossed.ensures c.in_ok-print_crossed-2.ensures)
     c.in_ok-print_polled.ensures

@@ -4,8 +4,8 @@ use Rattle.flow_design.specs.{declared.plan.Plan.Plan, declared.report.Verdict.V
 use Rattle.lockstep_defs.specs.Verdict.{verdict}
 use Rattle.stall_spans.specs.declared.span.Span.{Span}
 use Rattle.path_text.specs.{Walks.HasSpans, declared.link.Polled.Polled, PathText.count_lines, PathText.link_lines}
-use Rattle.path_text.specs.Polls.{AreAccesses, links_in, polled_path, polls_in}
-use Rattle.path_text.specs.Counts.{clocks_of, waiting, AreLinksOf, ArePollsOf}
+use Rattle.path_text.specs.Polls.{AreAccesses, links_in, polled_path, polls_along}
+use Rattle.path_text.specs.Counts.{link_clocks, clocks_waiting, AreLinksOf, ArePolledIn}
 use Rattle.depth_order.specs.declared.link.Link.{Link}
 use Rattle.report_text.specs.Lines.{line, text_of_lines, verdict_tokens}
 use Rattle.path_text.proofs.Told.{links_told, polls_told, told_few, told_links_are, told_log, told_polls_are}
@@ -54,15 +54,15 @@ print_counts-requires-clause-links c =
 pub print_counts-requires-clause-polls : goal.print_counts-requires-clause-polls
 print_counts-requires-clause-polls c =
     let p = c.args.core.now.plan in
-    let polls = c.in_ok-path.ensures.polls ∙ (ap (λ (q : Plan). polls_in (polled_path q c.as_slice-2.result.now (clock_of (verdict q))))
+    let polls = c.in_ok-path.ensures.polls ∙ (ap (λ (q : Plan). polls_along (polled_path q c.as_slice-2.result.now (clock_of (verdict q))))
     c.plan.ensures ∙ polls_told p c.args.polls c.as_slice-2.result.now (c.as_slice-2.ensures ∙ c.in_ok-log.ensures)) in
-    subst (λ (q : Plan). ArePollsOf q.design c.in_ok-path.path.polls) (sym c.plan-2.ensures)
-    (subst (ArePollsOf p.design) (sym polls) (told_polls_are p c.modules-modules.ensures.fits c.args.polls))
+    subst (λ (q : Plan). ArePolledIn q.design c.in_ok-path.path.polls) (sym c.plan-2.ensures)
+    (subst (ArePolledIn p.design) (sym polls) (told_polls_are p c.modules-modules.ensures.fits c.args.polls))
 
 pub print_counts-requires-clause-spent : goal.print_counts-requires-clause-spent
 print_counts-requires-clause-spent c =
     let p = c.args.core.now.plan in
-    let links = ap (sum_by clocks_of) (c.in_ok-path.ensures.links
+    let links = ap (sum_by link_clocks) (c.in_ok-path.ensures.links
     ∙ (ap (λ (q : Plan). links_in (polled_path q c.as_slice-2.result.now (clock_of (verdict q)))) c.plan.ensures
     ∙ links_told p c.args.polls c.as_slice-2.result.now (c.as_slice-2.ensures ∙ c.in_ok-log.ensures))) in
     let few = (told_few p c.modules-modules.ensures.fits c.args.polls).0 in
@@ -73,8 +73,8 @@ print_counts-requires-clause-spent c =
 pub print_counts-requires-clause-waited : goal.print_counts-requires-clause-waited
 print_counts-requires-clause-waited c =
     let p = c.args.core.now.plan in
-    let polls = ap (sum_by waiting) (c.in_ok-path.ensures.polls
-    ∙ (ap (λ (q : Plan). polls_in (polled_path q c.as_slice-2.result.now (clock_of (verdict q)))) c.plan.ensures
+    let polls = ap (sum_by clocks_waiting) (c.in_ok-path.ensures.polls
+    ∙ (ap (λ (q : Plan). polls_along (polled_path q c.as_slice-2.result.now (clock_of (verdict q)))) c.plan.ensures
     ∙ polls_told p c.args.polls c.as_slice-2.result.now (c.as_slice-2.ensures ∙ c.in_ok-log.ensures))) in
     let few = (told_few p c.modules-modules.ensures.fits c.args.polls).1 in
     let clock = c.clock.ensures ∙ ap clock_of (verdict_is p c.in_ok-report.report c.in_ok-report.ensures) in
@@ -99,7 +99,7 @@ returns c =
     let links = c.in_ok-path.ensures.links
     ∙ (ap (λ (q : Plan). links_in (polled_path q log (clock_of (verdict q)))) c.plan.ensures ∙ links_told p c.args.polls log same) in
     let polls = c.in_ok-path.ensures.polls
-    ∙ (ap (λ (q : Plan). polls_in (polled_path q log (clock_of (verdict q)))) c.plan.ensures ∙ polls_told p c.args.polls log same) in
+    ∙ (ap (λ (q : Plan). polls_along (polled_path q log (clock_of (verdict q)))) c.plan.ensures ∙ polls_told p c.args.polls log same) in
     whole_path p c.args.events c.args.polls c.in_ok-text.text c.print_verdict.new.text c.print_counts.new.text c.print_links.new.text
     c.in_ok-text.ensures
     (c.in_ok-print_verdict.ensures.ok

@@ -3,8 +3,8 @@ use Rattle.std.specs.Prelude.{OnOk}
 use Rattle.flow_word.specs.declared.access.Side.TheVariants.{Pop, Push}
 use Rattle.report_text.specs.Lines.{text_of_lines}
 use Rattle.depth_order.specs.declared.link.Link.{Link}
-use Rattle.path_text.specs.{declared.link.Polled.Polled, PathText.module_lines, PathText.channel_lines}
-use Rattle.path_text.specs.Counts.{clocks_in, clocks_waited, crossings, at_sides, times_polled}
+use Rattle.path_text.specs.{declared.link.Polled.Polled, PathText.all_spend_lines, PathText.channel_lines}
+use Rattle.path_text.specs.Counts.{clocks_spent, clocks_waited, crossings, at_sides, times_polled}
 use Rattle.path_text.proofs.Printed.{two_groups, modules_same, channels_same}
 use Rattle.path_text.proofs.text.print_counts.Goals as goal
 
@@ -22,9 +22,10 @@ returns c =
     let pushed = c.as_slice-3.result.now in
     let polled = c.as_slice-4.result.now in
     let waited = c.as_slice-5.result.now in
-    let modules = modules_same design (slice_index clocks) (clocks_in links)
+    let modules = modules_same design (slice_index clocks) (clocks_spent links)
     (λ m l. ap (λ (xs : List ℕ). slice_index xs m) c.as_slice.ensures
-    ∙ (c.in_ok-clocks.ensures.each m (omega (arith, c.len.ensures)) ∙ ap (λ (ls : List Link). clocks_in ls m) c.as_slice-links.ensures)) in
+    ∙ (c.in_ok-clocks.ensures.each m (omega (arith, c.len.ensures))
+    ∙ ap (λ (ls : List Link). clocks_spent ls m) c.as_slice-links.ensures)) in
     let channels = channels_same design (at_sides popped pushed) (crossings links) (slice_index polled) (times_polled polls)
     (slice_index waited) (clocks_waited polls)
     (λ f l. ap (λ (xs : List ℕ). slice_index xs f) c.as_slice-2.ensures
@@ -40,6 +41,6 @@ returns c =
     ∙ (c.in_ok-waited.ensures.each f (omega (arith, c.len-channels.ensures))
     ∙ ap (λ (qs : List Polled). clocks_waited qs f) c.as_slice-polls.ensures)) in
     if_ok c.print_channels.result
-    (λ is. two_groups c.args.text.now c.print_modules.new.text c.print_channels.new.text (module_lines design (slice_index clocks))
+    (λ is. two_groups c.args.text.now c.print_modules.new.text c.print_channels.new.text (all_spend_lines design (slice_index clocks))
     (channel_lines design (at_sides popped pushed) (slice_index polled) (slice_index waited)) c.in_ok-print_modules.ensures is
     ∙ ap₂ (λ (xs ys : List (List (List ℕ))). c.args.text.now ++ text_of_lines (xs ++ ys)) modules channels) c.print_channels.ensures

@@ -7,7 +7,7 @@ use Rattle.fifo_fills.specs.Fills.{last_clock}
 use Rattle.report_text.specs.{Lines.line, Lines.text_of_lines, ReportText.module_name}
 use Rattle.stall_spans.specs.{declared.span.Doing.Doing, declared.span.Span.Span, Totals.spans_clocks, Totals.is_moving, Totals.is_still}
 use Rattle.stall_spans.proofs.{Existing.counted_spans, Extending.spans_order}
-use Rattle.stall_text.specs.{StallText.module_tokens, StallText.at_each_side, Causes.IsInside, Causes.causes_by}
+use Rattle.stall_text.specs.{StallText.module_tokens, StallText.at_each_side, Causes.HasChannelBelow, Causes.causes_by}
 use Rattle.stall_text.proofs.{Totals.spans_inside, Totals.spans_few, Totals.still_is, Whole.module_text}
 use Rattle.stall_text.proofs.text.print_module.Goals as goal
 
@@ -18,9 +18,9 @@ still_clocks-requires-clause-order c =
 
 pub still_clocks-requires-clause-inside : goal.still_clocks-requires-clause-inside
 still_clocks-requires-clause-inside c =
-    subst (λ (cs : List Channel). All (λ (s : Span). IsInside (length cs) s.doing) c.as_slice.result.now)
+    subst (λ (cs : List Channel). All (λ (s : Span). HasChannelBelow (length cs) s.doing) c.as_slice.result.now)
     (sym (c.as_slice-channels.ensures ∙ ap (λ (p : Plan). p.design.channels) c.plan.ensures))
-    (subst (All (λ (s : Span). IsInside (length c.args.core.now.plan.design.channels) s.doing)) (sym c.as_slice.ensures)
+    (subst (All (λ (s : Span). HasChannelBelow (length c.args.core.now.plan.design.channels) s.doing)) (sym c.as_slice.ensures)
     (spans_inside c.args.core.now.plan c.modules-modules.ensures.fits c.args.owner c.in_ok-spans.spans c.in_ok-spans.ensures))
 
 pub still_clocks-requires-clause-few : goal.still_clocks-requires-clause-few
@@ -35,9 +35,9 @@ still_clocks-requires-2-clause-order c =
 
 pub still_clocks-requires-2-clause-inside : goal.still_clocks-requires-2-clause-inside
 still_clocks-requires-2-clause-inside c =
-    subst (λ (cs : List Channel). All (λ (s : Span). IsInside (length cs) s.doing) c.as_slice-2.result.now)
+    subst (λ (cs : List Channel). All (λ (s : Span). HasChannelBelow (length cs) s.doing) c.as_slice-2.result.now)
     (sym (c.as_slice-channels.ensures ∙ ap (λ (p : Plan). p.design.channels) c.plan.ensures))
-    (subst (All (λ (s : Span). IsInside (length c.args.core.now.plan.design.channels) s.doing)) (sym c.as_slice-2.ensures)
+    (subst (All (λ (s : Span). HasChannelBelow (length c.args.core.now.plan.design.channels) s.doing)) (sym c.as_slice-2.ensures)
     (spans_inside c.args.core.now.plan c.modules-modules.ensures.fits c.args.owner c.in_ok-spans.spans c.in_ok-spans.ensures))
 
 pub still_clocks-requires-2-clause-few : goal.still_clocks-requires-2-clause-few

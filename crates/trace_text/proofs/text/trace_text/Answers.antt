@@ -3,15 +3,15 @@ use Rattle.flow_design.specs.{declared.plan.Plan.Plan, StaticRules.FitsEngine}
 use Rattle.flow_design.proofs.Failing.{on_err}
 use Rattle.sim_io.proofs.Pending.{prefix_as, prefix_longer, prefix_none, told_as, told_kept, told_more, told_prefix, told_prefix_more}
 use Rattle.trace_text.specs.Events.{names_of}
-use Rattle.trace_text.specs.TraceText.{opening, closing, lines_of, further, trace_text}
+use Rattle.trace_text.specs.TraceText.{opening_text, closing_text, joined_lines, further, trace_text}
 use Rattle.trace_text.proofs.Whole.{all_fills, all_spans, few_modules, whole_trace}
 use Rattle.trace_text.proofs.text.trace_text.Goals as goal
 
 -- the whole text, by what follows the names
-whole : (p q : Plan) → FitsEngine p → (a b : List ℕ) → a ≡ opening → b ≡ a ++ lines_of (names_of q.design) → q ≡ p
-    → ((b ++ further (all_spans p)) ++ further (all_fills p)) ++ closing ≡ trace_text p
+whole : (p q : Plan) → FitsEngine p → (a b : List ℕ) → a ≡ opening_text → b ≡ a ++ joined_lines (names_of q.design) → q ≡ p
+    → ((b ++ further (all_spans p)) ++ further (all_fills p)) ++ closing_text ≡ trace_text p
 whole p q fits a b opened named same =
-    whole_trace p fits a b _ _ _ opened (named ∙ ap (λ (x : Plan). a ++ lines_of (names_of x.design)) same) refl refl refl
+    whole_trace p fits a b _ _ _ opened (named ∙ ap (λ (x : Plan). a ++ joined_lines (names_of x.design)) same) refl refl refl
 
 pub print_names-requires : goal.print_names-requires
 print_names-requires g c =
@@ -28,7 +28,7 @@ pub returns-in_err-write_tracks-clause-prefix : goal.returns-in_err-write_tracks
 returns-in_err-write_tracks-clause-prefix g c =
     let p = c.args.core.now.plan in
     on_err _ (prefix_as _ _ _ _
-    (prefix_longer _ _ _ closing (prefix_longer _ _ _ (further (all_fills p)) c.in_err-write_tracks.ensures.err))
+    (prefix_longer _ _ _ closing_text (prefix_longer _ _ _ (further (all_fills p)) c.in_err-write_tracks.ensures.err))
     (whole p c.plan.result.now c.modules-modules.ensures.fits c.in_ok-pending.pending _ c.in_ok-pending.ensures
     c.in_ok-print_names.ensures c.plan.ensures))
 
@@ -36,7 +36,7 @@ pub returns-in_err-write_counters-clause-prefix : goal.returns-in_err-write_coun
 returns-in_err-write_counters-clause-prefix g c =
     let p = c.args.core.now.plan in
     on_err _ (prefix_as _ _ _ _
-    (told_prefix_more _ _ _ _ _ _ closing c.in_ok-write_tracks.ensures.ok c.in_err-write_counters.ensures.err)
+    (told_prefix_more _ _ _ _ _ _ closing_text c.in_ok-write_tracks.ensures.ok c.in_err-write_counters.ensures.err)
     (whole p c.plan.result.now c.modules-modules.ensures.fits c.in_ok-pending.pending _ c.in_ok-pending.ensures
     c.in_ok-print_names.ensures c.plan.ensures))
 
@@ -44,7 +44,7 @@ pub returns-in_err-extend_from_slice-clause-prefix : goal.returns-in_err-extend_
 returns-in_err-extend_from_slice-clause-prefix g c =
     let p = c.args.core.now.plan in
     on_err _ (prefix_as _ _ _ _
-    (told_prefix _ _ _ _ closing (told_more _ _ _ _ _ _ _ c.in_ok-write_tracks.ensures.ok c.in_ok-write_counters.ensures.ok))
+    (told_prefix _ _ _ _ closing_text (told_more _ _ _ _ _ _ _ c.in_ok-write_tracks.ensures.ok c.in_ok-write_counters.ensures.ok))
     (whole p c.plan.result.now c.modules-modules.ensures.fits c.in_ok-pending.pending _ c.in_ok-pending.ensures
     c.in_ok-print_names.ensures c.plan.ensures))
 
@@ -52,7 +52,7 @@ pub returns-clause-rest : goal.returns-clause-rest
 returns-clause-rest g c =
     let p = c.args.core.now.plan in
     told_as _ _ _ _ _
-    (told_kept _ _ _ _ _ closing (told_more _ _ _ _ _ _ _ c.in_ok-write_tracks.ensures.ok c.in_ok-write_counters.ensures.ok)
+    (told_kept _ _ _ _ _ closing_text (told_more _ _ _ _ _ _ _ c.in_ok-write_tracks.ensures.ok c.in_ok-write_counters.ensures.ok)
     c.in_ok-extend_from_slice.ensures.ok)
     (whole p c.plan.result.now c.modules-modules.ensures.fits c.in_ok-pending.pending _ c.in_ok-pending.ensures
     c.in_ok-print_names.ensures c.plan.ensures)

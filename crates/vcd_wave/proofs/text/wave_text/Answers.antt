@@ -5,18 +5,18 @@ use Rattle.flow_design.proofs.Failing.{on_err}
 use Rattle.report_text.specs.Lines.{text_of_lines}
 use Rattle.sim_io.proofs.Pending.{prefix_as, prefix_none, told_as}
 use Rattle.vcd_wave.specs.Wave.{fifo_names, wave_of}
-use Rattle.vcd_wave.specs.WaveText.{header_lines, wave_text, opening, instant_lines}
+use Rattle.vcd_wave.specs.WaveText.{header_lines, wave_text, opening_instant, instant_lines}
 use Rattle.vcd_wave.proofs.{LineLemmas.whole_text, Instants.wave_is}
 use Rattle.vcd_wave.proofs.text.wave_text.Goals as goal
 
 -- the whole text, by its three parts
 whole : (p : Plan) (channels : List Channel) (count : ℕ) (a b c : List ℕ) → channels ≡ p.design.channels → a ≡ []
     → b ≡ a ++ text_of_lines (header_lines (fifo_names channels)) → count ≡ length (fifo_names channels)
-    → c ≡ b ++ text_of_lines (instant_lines (opening count))
+    → c ≡ b ++ text_of_lines (instant_lines (opening_instant count))
     → c ++ text_of_lines (flat_map instant_lines (wave_of p).later) ≡ wave_text (wave_of p)
 whole p channels count a b c declared empty header counted opened =
     whole_text (fifo_names channels) (wave_of p).later a b c _ empty header
-    (opened ∙ ap (λ (n : ℕ). b ++ text_of_lines (instant_lines (opening n))) counted)
+    (opened ∙ ap (λ (n : ℕ). b ++ text_of_lines (instant_lines (opening_instant n))) counted)
     refl
     ∙ ap wave_text (wave_is p (fifo_names channels) (ap fifo_names declared))
 

@@ -1,5 +1,0 @@
-use Rattle.std.specs.Prelude.{◌≤◌}
-use Rattle.depth_bounds.proofs.bounds.too_few.Given as goal
-
-abbrev pub invariant-loop-pushed : goal.invariant-loop-pushed
-invariant-loop-pushed l = l.popped ≤ l.pushed

@@ -1,0 +1,78 @@
+-- The tests of a statement, by the tables of what is declared before it.
+use Rattle.std.specs.Prelude.{ℕ, ◌+◌, Bool, true, List, ◌++◌, ◌&&◌, not, nat_le, nat_lt, length, if◌then◌else◌, Option, None, Some, Result}
+use Rattle.std.specs.Prelude.{Err}
+use Rattle.std.specs.List.{list_all}
+use Rattle.flow_design.specs.declared.limits.TheConstants.{ALL_MEMORY_WORDS, EDITS}
+use Rattle.flow_design.specs.declared.session.Statement.{Statement}
+use Rattle.flow_design.specs.declared.session.Statement.TheVariants.{Source, Sink, Fifo, Module, Reg, Mem, Block, Loop, Temp, At, Input}
+use Rattle.flow_design.specs.declared.session.Statement.TheVariants.{Depth}
+use Rattle.flow_grammar.specs.{declared.fault.Code.Code, declared.fault.Code.TheVariants.Syntax, Places.may_stand, Before.is_among}
+use Rattle.flow_grammar.specs.{Rules.is_in_range, Rules.is_within, Rules.has_small_trees, Rules.first_broken, Gives.judged}
+use Rattle.flow_grammar.specs.Parts.{Part, New, Use, Space, ChannelName, ModuleName, RegisterName, MemoryName, TempName, BlockName, Sort}
+use Rattle.flow_grammar.specs.Parts.{AnyChannel, ASource, AFifo, ARegister, AMemory, AVariable, parts}
+use Rattle.flow_text.specs.declared.tables.Tables.{Tables}
+
+abbrev Name : Type 0
+Name = List ℕ
+
+-- the names that are declared in a space
+abbrev pub taken : Tables → Space → List Name
+taken t ChannelName = t.channels
+taken t ModuleName = t.modules
+taken t RegisterName = t.registers ++ t.memories
+taken t MemoryName = t.registers ++ t.memories
+taken t TempName = t.registers ++ (t.memories ++ t.temps)
+taken t BlockName = t.blocks
+
+abbrev pub is_new : Tables → Part → Bool
+is_new t (New space name) = not (is_among (taken t space) name)
+is_new t part = true
+
+abbrev pub is_first_input : Tables → Statement → Bool
+is_first_input t (Input n values) = not (is_among t.inputs n)
+is_first_input t s = true
+
+-- the names of a sort that are declared
+abbrev pub named : Tables → Sort → List Name
+named t AnyChannel = t.channels
+named t ASource = t.sources
+named t AFifo = t.fifos
+named t ARegister = t.registers
+named t AMemory = t.memories
+named t AVariable = t.registers ++ t.temps
+
+abbrev pub is_known : Tables → Part → Bool
+is_known t (Use sort name) = is_among (named t sort) name
+is_known t part = true
+
+-- the limits allow one more statement like this
+abbrev pub has_room : Tables → Statement → Bool
+has_room t (Source n w) = nat_lt (length t.channels) t.limits.channels
+has_room t (Sink n w) = nat_lt (length t.channels) t.limits.channels
+has_room t (Fifo n w depth delay) = nat_lt (length t.channels) t.limits.channels
+has_room t (Module n) = nat_lt (length t.modules) t.limits.modules
+has_room t (Reg n w) = nat_lt (length t.registers) t.limits.registers
+has_room t (Mem n w l) = nat_lt (length t.memories) t.limits.memories && nat_le (t.memory_words + l) ALL_MEMORY_WORDS
+has_room t (Block n l) = nat_lt (length t.blocks) t.limits.blocks
+has_room t (Loop n ii l r) = nat_lt (length t.blocks) t.limits.blocks
+has_room t (Temp n w) = nat_lt (length t.temps) t.limits.temps
+has_room t (At off guard o) = nat_lt t.operations t.limits.operations && has_small_trees o
+has_room t (Input n values) = nat_le (t.input_values + length values) t.limits.input_values
+has_room t (Depth n d) = nat_lt t.edits EDITS
+has_room t s = true
+
+-- the first rule that a statement breaks, if it breaks one
+unfoldable pub fault_by : Tables → Statement → Option Code
+fault_by t s =
+    first_broken (list_all is_in_range (parts s) && is_within t.limits s) (list_all (is_new t) (parts s) && is_first_input t s)
+    (list_all (is_known t) (parts s)) (has_room t s)
+
+-- the first test that tokens fail which write this statement; `Syntax` where they write none
+abbrev pub form_fault_by : Tables → Option Statement → Option Code
+form_fault_by t None = Some Syntax
+form_fault_by t (Some s) = if may_stand s t.place then fault_by t s else Some Syntax
+
+-- what tokens give that write this statement: the first test that they fail, or the statement
+abbrev pub reading_by : Tables → Option Statement → Result Statement Code
+reading_by t None = Err Syntax
+reading_by t (Some s) = judged (form_fault_by t (Some s)) s

@@ -1,0 +1,103 @@
+-- The tables of the statements before a line, at a scale, and what each statement does to them.
+use Rattle.std.specs.Prelude.{◌≡◌, ℕ, ◌+◌, List, [], ◌∷◌, length}
+use Rattle.flow_design.specs.{declared.limits.Scale.Scale, declared.session.Statement.Statement, Limits.limits_at}
+use Rattle.flow_design.specs.declared.session.Statement.TheVariants.{Flow, Source, Sink, Fifo, Module, Reg, Mem, Block, Loop, Temp, At}
+use Rattle.flow_design.specs.declared.session.Statement.TheVariants.{Goto, Branch, Stop, Input, Limits, Depth, End}
+use Rattle.flow_grammar.specs.Before as before
+use Rattle.flow_grammar.specs.{declared.place.Place.Place, Places.place}
+use Rattle.flow_grammar.specs.declared.place.Place.TheVariants.{AmongChannels, AmongRegisters, AmongTemps, AmongOperations, AfterBody}
+use Rattle.flow_grammar.specs.declared.place.Place.TheVariants.{AmongInputs, AmongEdits, AtEnd}
+use Rattle.flow_text.specs.declared.tables.Tables.{Tables}
+
+abbrev Name : Type 0
+Name = List ℕ
+
+-- the tables of some statements, the latest first
+unfoldable pub tables_of : Scale → List Statement → Tables
+tables_of scale earlier = record {
+  place = place earlier;
+  version = before.version earlier;
+  limits = limits_at scale;
+  channels = before.channels earlier;
+  sources = before.sources earlier;
+  fifos = before.fifos earlier;
+  modules = before.modules earlier;
+  registers = before.registers earlier;
+  memories = before.memories earlier;
+  blocks = before.blocks earlier;
+  temps = before.temps earlier;
+  inputs = before.inputs earlier;
+  memory_words = before.memory_words earlier;
+  operations = before.operations earlier;
+  input_values = before.input_values earlier;
+  edits = before.edits earlier;
+}
+
+abbrev pub with_flow : Tables → ℕ → Tables
+with_flow t v = record t { place = AmongChannels; version = v }
+
+abbrev pub with_channel : Tables → Name → Tables
+with_channel t n = record t { channels = n ∷ t.channels }
+
+abbrev pub with_source : Tables → Name → Tables
+with_source t n = record t { place = AmongChannels; channels = n ∷ t.channels; sources = n ∷ t.sources }
+
+abbrev pub with_sink : Tables → Name → Tables
+with_sink t n = record t { place = AmongChannels; channels = n ∷ t.channels }
+
+abbrev pub with_fifo : Tables → Name → Tables
+with_fifo t n = record t { place = AmongChannels; channels = n ∷ t.channels; fifos = n ∷ t.fifos }
+
+-- the tables after a `module`: it has no register, memory or block yet
+abbrev pub with_module : Tables → Name → Tables
+with_module t n = record t { place = AmongRegisters; modules = n ∷ t.modules; registers = []; memories = []; blocks = [] }
+
+abbrev pub with_register : Tables → Name → Tables
+with_register t n = record t { place = AmongRegisters; registers = n ∷ t.registers }
+
+abbrev pub with_memory : Tables → Name → ℕ → Tables
+with_memory t n words = record t { place = AmongRegisters; memories = n ∷ t.memories; memory_words = t.memory_words + words }
+
+-- the tables after a `block` or `loop`: its body has no temp or operation yet
+abbrev pub with_block : Tables → Name → Tables
+with_block t n = record t { place = AmongTemps; blocks = n ∷ t.blocks; temps = []; operations = 0 }
+
+abbrev pub with_temp : Tables → Name → Tables
+with_temp t n = record t { place = AmongTemps; temps = n ∷ t.temps }
+
+abbrev pub with_operation : Tables → Tables
+with_operation t = record t { place = AmongOperations; operations = t.operations + 1 }
+
+abbrev pub with_input : Tables → Name → ℕ → Tables
+with_input t n count = record t { place = AmongInputs; inputs = n ∷ t.inputs; input_values = t.input_values + count }
+
+abbrev pub with_edit : Tables → Tables
+with_edit t = record t { place = AmongEdits; edits = t.edits + 1 }
+
+abbrev pub at_place : Tables → Place → Tables
+at_place t p = record t { place = p }
+
+-- the tables after one more statement
+abbrev pub accepted : Tables → Statement → Tables
+accepted t (Flow v) = with_flow t v
+accepted t (Source n w) = with_source t n
+accepted t (Sink n w) = with_sink t n
+accepted t (Fifo n w depth delay) = with_fifo t n
+accepted t (Module n) = with_module t n
+accepted t (Reg n w) = with_register t n
+accepted t (Mem n w l) = with_memory t n l
+accepted t (Block n l) = with_block t n
+accepted t (Loop n ii l r) = with_block t n
+accepted t (Temp n w) = with_temp t n
+accepted t (At off guard o) = with_operation t
+accepted t (Goto b) = at_place t AfterBody
+accepted t (Branch r b c) = at_place t AfterBody
+accepted t Stop = at_place t AfterBody
+accepted t (Input n values) = with_input t n (length values)
+accepted t (Limits c o) = at_place t AmongEdits
+accepted t (Depth n d) = with_edit t
+accepted t End = at_place t AtEnd
+
+-- the tables are those of some statements at some scale
+abbrev pub IsOfStatements : Tables → Type 0
+IsOfStatements t = (scale : Scale) × (earlier : List Statement) × (t ≡ tables_of scale earlier)

@@ -1,3 +1,0 @@
-pub mod Needs
-pub mod Needed
-pub mod Accesses

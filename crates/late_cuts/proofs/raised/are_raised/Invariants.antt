@@ -1,6 +1,0 @@
-use Rattle.std.specs.Prelude.{ℕ, ◌<◌, slice_index}
-use Rattle.late_cuts.specs.Raised.{IsRaised}
-use Rattle.late_cuts.proofs.raised.are_raised.Given as goal
-
-abbrev pub invariant-loop-channel : goal.invariant-loop-channel
-invariant-loop-channel l = (c : ℕ) → c < l.channel → IsRaised (slice_index l.depths c) (slice_index l.raised c)

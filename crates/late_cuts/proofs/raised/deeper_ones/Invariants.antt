@@ -1,5 +1,0 @@
-use Rattle.late_cuts.specs.Raised.{AreNext}
-use Rattle.late_cuts.proofs.raised.deeper_ones.Given as goal
-
-abbrev pub invariant-loop-channel : goal.invariant-loop-channel
-invariant-loop-channel l = AreNext l.depths l.channel l.needs

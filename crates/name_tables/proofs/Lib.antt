@@ -1,3 +1,0 @@
-pub mod NameLemmas
-pub mod ChannelLemmas
-pub mod TableLaws

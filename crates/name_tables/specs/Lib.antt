@@ -1,2 +1,0 @@
-pub mod TablesOf
-pub mod TableTests

@@ -1,0 +1,133 @@
+-- What stands before the later clocks.
+use Rattle.std.proofs.Common.{◌≡◌, ℕ, suc, ◌+◌, ◌-◌, ◌^◌, ◌<◌, ◌≤◌, true, false, List, [], ◌∷◌, ◌++◌, length, take, drop, nat_eq, ◌⊎◌, inl}
+use Rattle.std.proofs.Common.{inr, refl, sym, ◌∙◌, ap, ap₂, arith, subst, get_or, append_assoc, length-append}
+use Rattle.std.proofs.lemmas.List.{take-append-drop, append_cancel_left, take_rest}
+use Rattle.std.proofs.Math.Seq.{take-append_seam, drop-append_seam}
+use Rattle.std.specs.{Prelude.IsTrue, Prelude.codes, Prelude.decimal, List.AllByRecursion}
+use Rattle.std.specs.Cmp.Lexicographic.{same_text, other_text, pointwise}
+use Rattle.flow_design.specs.Names.{is_name}
+use Rattle.vcd_wave.specs.{Digits.numeral, Headers.declaring, Headers.Names, Headers.empty_text, Headers.empty_from}
+use Rattle.vcd_wave.proofs.{Cutting.cut, Cutting.name_lacks, OneWave.vars_from, OneWave.var_parts, OneWave.change_parts}
+use Rattle.vcd_wave.proofs.Numerals.{numeral_binary, numeral_decimal, lacks_each}
+
+pub front_is : (text front : List ℕ) → true ≡ pointwise nat_eq front (take (length front) text)
+    → text ≡ front ++ drop (length front) text
+front_is text front e =
+    sym (take-append-drop (length front) text)
+    ∙ ap (λ (l : List ℕ). l ++ drop (length front) text) (sym (same_text front (take (length front) text) e))
+
+pub front_rest : (text front rest : List ℕ) → text ≡ front ++ rest → drop (length front) text ≡ rest
+front_rest text front rest e = ap (drop (length front)) e ∙ drop-append_seam front rest
+
+pub front_not : (text front rest : List ℕ) → false ≡ pointwise nat_eq front (take (length front) text) → text ≡ front ++ rest → ⊥
+front_not text front rest e is =
+    other_text front (take (length front) text) e (sym (ap (take (length front)) is ∙ take-append_seam front rest))
+
+-- ---- names
+
+named_vars : (n : ℕ) (x : List ℕ) (xs : List (List ℕ)) (r : List ℕ) → n < 2 ^ 64
+    → declaring n x (vars_from (n + 1) xs ++ r) ≡ vars_from n (x ∷ xs) ++ r
+named_vars n x xs r h =
+    let end = x ++ 32 ∷ (codes "$end\n" ++ (vars_from (n + 1) xs ++ r)) in
+    ap (λ (d : List ℕ). codes "$var wire 32 f" ++ (d ++ 32 ∷ end)) (numeral_decimal n h)
+    ∙ (ap (λ (t : List ℕ). codes "$var wire 32 f" ++ t) (sym (append_assoc (decimal n) (32 ∷ []) end)) ∙ sym (var_parts n x xs r))
+
+pub names_more : (n : ℕ) (text name behind : List ℕ) (m : ℕ) (r : List ℕ) → n < 2 ^ 64 → IsTrue (is_name name)
+    → text ≡ declaring n name behind → Names (n + 1) behind m r → Names n text m r
+names_more n text name behind m r l is e h = record {
+  names = name ∷ h.names;
+  all = (is, h.all);
+  counted = omega (arith, h.counted);
+  is_text = e ∙ (ap (declaring n name) h.is_text ∙ named_vars n name h.names (36 ∷ 117 ∷ r) l);
+}
+
+record NamesFirst (n : ℕ) (text : List ℕ) (m : ℕ) (r : List ℕ) : Type 0 where
+  name : List ℕ
+  behind : List ℕ
+  is : IsTrue (is_name name)
+  is_text : text ≡ declaring n name behind
+  more : Names (n + 1) behind m r
+
+first_from : (n : ℕ) (text : List ℕ) (m : ℕ) (r : List ℕ) (xs : List (List ℕ)) → n < 2 ^ 64
+    → AllByRecursion (λ x. IsTrue (is_name x)) xs → m ≡ n + length xs → text ≡ vars_from n xs ++ 36 ∷ 117 ∷ r
+    → ((text ≡ 36 ∷ 117 ∷ r) × (n ≡ m)) ⊎ NamesFirst n text m r
+first_from n text m r [] l a c e = inl (e, omega (arith, c))
+first_from n text m r (x ∷ xs) l a c e = inr (record {
+  name = x;
+  behind = vars_from (n + 1) xs ++ 36 ∷ 117 ∷ r;
+  is = a.0;
+  is_text = e ∙ sym (named_vars n x xs (36 ∷ 117 ∷ r) l);
+  more = record { names = xs; all = a.1; counted = omega (arith, c); is_text = refl };
+})
+
+names_first : (n : ℕ) (text : List ℕ) (m : ℕ) (r : List ℕ) → n < 2 ^ 64 → Names n text m r
+    → ((text ≡ 36 ∷ 117 ∷ r) × (n ≡ m)) ⊎ NamesFirst n text m r
+names_first n text m r l h = first_from n text m r h.names l h.all h.counted h.is_text
+
+second : List ℕ → ℕ
+second t = get_or t 1 0
+
+pub names_end : (n : ℕ) (text end : List ℕ) (m : ℕ) (r : List ℕ) → n < 2 ^ 64 → text ≡ 36 ∷ 117 ∷ end → Names n text m r
+    → (n ≡ m) × (end ≡ r)
+names_end n text end m r l e h = elim (names_first n text m r l h) [
+  | inl x ↦ (x.1, append_cancel_left (36 ∷ 117 ∷ []) end r (sym e ∙ x.0))
+  | inr f ↦ absurd (let wrong : 117 ≡ 118 = ap (λ (t : List ℕ). get_or t 1 0) (sym e ∙ f.is_text) in omega (arith, wrong))
+]
+
+pub names_stuck : (n : ℕ) (text : List ℕ) (m : ℕ) (r : List ℕ) → n < 2 ^ 64
+    → ((rest : List ℕ) → text ≡ 36 ∷ 117 ∷ rest → ⊥)
+    → ((name rest : List ℕ) → IsTrue (is_name name) → text ≡ declaring n name rest → ⊥) → Names n text m r → ⊥
+names_stuck n text m r l a b h = elim (names_first n text m r l h) [
+  | inl x ↦ a r x.0
+  | inr f ↦ b f.name f.behind f.is f.is_text
+]
+
+pub names_on : (n : ℕ) (text name behind : List ℕ) (m : ℕ) (r : List ℕ) → n < 2 ^ 64 → text ≡ declaring n name behind
+    → ((other rest : List ℕ) → IsTrue (is_name other) → text ≡ declaring n other rest → behind ≡ rest) → Names n text m r
+    → Names (n + 1) behind m r
+names_on n text name behind m r l e same h = elim (names_first n text m r l h) [
+  | inl x ↦ absurd (let wrong : 117 ≡ 118 = ap (λ (t : List ℕ). get_or t 1 0) (sym x.0 ∙ e) in omega (arith, wrong))
+  | inr f ↦ subst (λ (t : List ℕ). Names (n + 1) t m r) (sym (same f.name f.behind f.is f.is_text)) f.more
+]
+
+pub name_long : (n : ℕ) (text name behind : List ℕ) → text ≡ declaring n name behind → length behind + 1 ≤ length text
+name_long n text name behind e =
+    omega (
+      arith,
+      ap length e,
+      length-append (numeral 10 n) (32 ∷ (name ++ 32 ∷ (codes "$end\n" ++ behind))),
+      length-append name (32 ∷ (codes "$end\n" ++ behind)),
+    )
+
+-- ---- lines of names
+
+pub name_cut : (name other end line rest : List ℕ) → line ≡ name ++ 32 ∷ end → ((i : ℕ) → i < length name → get_or name i 0 ≡ 32 → ⊥)
+    → IsTrue (is_name other) → line ≡ other ++ 32 ∷ rest → (name ≡ other) × (end ≡ rest)
+name_cut name other end line rest e lacks is f = cut 32 name other end rest (lacks_each 32 name lacks) (name_lacks other is) (sym e ∙ f)
+
+-- ---- lines of FIFOs that are empty
+
+empty_step : (n more : ℕ) (r : List ℕ) → n < 2 ^ 64
+    → codes "b0 f" ++ (numeral 10 n ++ 10 ∷ (empty_text (n + 1) more ++ r)) ≡ empty_text n (suc more) ++ r
+unfolding numeral
+empty_step n more r h =
+    ap₂ (λ (b d : List ℕ). 98 ∷ (b ++ 32 ∷ 102 ∷ (d ++ 10 ∷ (empty_text (n + 1) more ++ r)))) (numeral_binary 0) (numeral_decimal n h)
+    ∙ sym (change_parts (record { fifo = n; fill = 0 }) (empty_from (n + 1) more) r)
+
+pub empty_on : (n count : ℕ) (rest behind r : List ℕ) → n < count → count < 2 ^ 64
+    → rest ≡ codes "b0 f" ++ (numeral 10 n ++ 10 ∷ behind) → behind ≡ empty_text (n + 1) (count - (n + 1)) ++ r
+    → rest ≡ empty_text n (count - n) ++ r
+empty_on n count rest behind r l few e f =
+    e ∙ (ap (λ (t : List ℕ). codes "b0 f" ++ (numeral 10 n ++ 10 ∷ t)) f
+    ∙ (empty_step n (count - (n + 1)) r (omega arith)
+    ∙ ap (λ (k : ℕ). empty_text n k ++ r) (let one : suc (count - (n + 1)) ≡ count - n = omega arith in one)))
+
+pub empty_back : (n count : ℕ) (rest r : List ℕ) → n < count → count < 2 ^ 64 → rest ≡ empty_text n (count - n) ++ r
+    → rest ≡ codes "b0 f" ++ (numeral 10 n ++ 10 ∷ (empty_text (n + 1) (count - (n + 1)) ++ r))
+empty_back n count rest r l few e =
+    e ∙ (ap (λ (k : ℕ). empty_text n k ++ r) (let one : count - n ≡ suc (count - (n + 1)) = omega arith in one)
+    ∙ sym (empty_step n (count - (n + 1)) r (omega arith)))
+
+pub front_taken : (text front : List ℕ) → true ≡ pointwise nat_eq front (take (length front) text)
+    → text ≡ front ++ take (length text - length front) (drop (length front) text)
+front_taken text front e = front_is text front e ∙ ap (λ (l : List ℕ). front ++ l) (sym (take_rest text (length front)))

@@ -24,7 +24,7 @@ impl Engine {
         ensures kinds { kinds_in self.new.fifos.channels ≡ kinds_in self.old.fifos.channels }
         ensures others { (m : ℕ) → m ≢ owner → log_at self.new.log.logs m ≡ log_at self.old.log.logs m }
     {
-        let step = self.graph.step(Place {
+        let step = self.graph.look(Place {
             module: owner,
             step: self.graph.frontier(owner),
         });

@@ -29,7 +29,7 @@ impl Engine {
         let _ = self.graph.push_step(owner, step);
     }
 
-    /// Adds a copy of a step of a module, and the pushes and pops of its blocking accesses. The step has one access or two, and its
+    /// Adds a copy of a step of a module, and the pushes and pops of its blocking accesses. The step has one access to four, and its
     /// numbers fit 32 bits. There must be room for it.
     #[inline(always)]
     pub fn emit_few(&mut self, owner: u32, step: &StepView<'_>)

@@ -1,6 +1,6 @@
 -- A step more among those that are kept.
-use Rattle.std.proofs.Common.{◌≡◌, refl, subst, ap, ap₂, sym, ◌∙◌, ℕ, zero, suc, ◌+◌, ◌*◌, ◌/◌, ◌%◌, ◌^◌, ◌<◌, ◌≤◌, ◌==◌, inl, inr, Bool, true}
-use Rattle.std.proofs.Common.{false, not, cond, List, [], ◌∷◌, ◌++◌, length, map, get_or, drop, arith, length-append}
+use Rattle.std.proofs.Common.{◌≡◌, refl, subst, ap, ap₂, sym, ◌∙◌, ℕ, zero, suc, ◌+◌, ◌*◌, ◌/◌, ◌%◌, ◌^◌, ◌<◌, ◌≤◌, ◌==◌, inl, inr, Bool}
+use Rattle.std.proofs.Common.{true, false, not, cond, List, [], ◌∷◌, ◌++◌, length, map, get_or, drop, arith, length-append}
 use Rattle.std.proofs.lemmas.List.{get_or_append_left, append-nil, map-append, drop-append-le, length-drop, drop_at}
 use Rattle.std.proofs.Math.Seq.{get_or-append_seam}
 use Rattle.std.proofs.lemmas.Bool.{both_ways, cases_Bool, cond_both, eqb-true, ne_eqb}
@@ -11,8 +11,8 @@ use Rattle.flow_word.specs.declared.access.Kind.TheVariants.{Read, Write, TryRea
 use Rattle.event_graph.specs.declared.steps.Head.{Head}
 use Rattle.event_graph.specs.Words.{Fits, kind_of, code_of, is_kept, has_value, goes_on, upper, access_in, behind, accesses_in, HasAccess}
 use Rattle.event_graph.specs.Words.{HasAccesses, most_accesses, word_of, words_of}
-use Rattle.event_graph.proofs.Chained.{has_first, only, going_on}
 use Rattle.event_graph.specs.Packed.{nothing, opened, opened_at, packed, BeginsStep, IsInside, KeepsInside, IsKept}
+use Rattle.event_graph.proofs.Chained.{has_first, only, going_on}
 
 -- ---- what a step's words mean, by its word
 

@@ -1,6 +1,6 @@
 -- Steps in the form in which a lane keeps them, and the steps that they stand for.
-use Rattle.std.specs.Prelude.{◌≡◌, ℕ, ◌+◌, ◌*◌, ◌<◌, ◌≤◌, ◌^◌, true, false, if◌then◌else◌, List, [], ◌∷◌, ◌++◌, length, drop}
-use Rattle.std.specs.Prelude.{slice_index, slice_index_or, All}
+use Rattle.std.specs.Prelude.{◌≡◌, ℕ, ◌+◌, ◌*◌, ◌<◌, ◌≤◌, ◌^◌, true, false, if◌then◌else◌, List, [], ◌∷◌, ◌++◌, length, drop, slice_index}
+use Rattle.std.specs.Prelude.{slice_index_or, All}
 use Rattle.flow_word.specs.{Room.Roomed, declared.access.Access.Access, declared.access.Step.Step}
 use Rattle.event_graph.specs.{declared.steps.Head.Head, declared.view.StepView.StepView, declared.view.LaneStep.LaneStep}
 use Rattle.event_graph.specs.Words.{Fits, is_kept, upper, most_accesses, accesses_in, HasAccess, HasAccesses, words_of}

@@ -1,6 +1,5 @@
 //! The steps of a lane, each in as few bytes as it needs.
-ghost use Rattle.std.specs.Prelude.{◌≡◌, ◌+◌, ◌<◌, ◌≤◌, ◌^◌, [], ◌∷◌, ◌++◌, true, length, slice_get, Some, All, IsOk};
-ghost use Rattle.std.specs.Prelude.{OnOk, OnErr};
+ghost use Rattle.std.specs.Prelude.{◌≡◌, ◌+◌, ◌<◌, ◌≤◌, ◌^◌, [], ◌∷◌, ◌++◌, true, length, slice_get, Some, All, IsOk, OnOk, OnErr};
 ghost use Rattle.event_graph.specs.Packed.{whole, in_lane, packed, IsFewStep, IsKept};
 ghost use Rattle.event_graph.specs.Words.{Fits, HasAccesses, accesses_in, most_accesses};
 

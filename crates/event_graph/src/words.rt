@@ -5,8 +5,8 @@
 //! of 0 is left out. The code 6 stands for a step that is kept whole: its number is in the upper half.
 ghost use Rattle.std.specs.Prelude.{◌≡◌, ℕ, ◌+◌, ◌*◌, ◌<◌, ◌≤◌, ◌++◌, true, false, length, take, slice_get, Some, All};
 ghost use Rattle.event_graph.specs.Words.{Fits, is_kept as is_kept_by, has_value as has_value_by, goes_on as goes_on_by, upper as upper_by};
-ghost use Rattle.event_graph.specs.Words.{kind_of as kind_by, code_of as code_by, word_of as word_by, words_of, access_in, behind as behind_by};
-ghost use Rattle.event_graph.specs.Words.{size_of as size_by, HasAccess, HasAccesses, accesses_in, most_accesses};
+ghost use Rattle.event_graph.specs.Words.{kind_of as kind_by, code_of as code_by, word_of as word_by, words_of, access_in};
+ghost use Rattle.event_graph.specs.Words.{behind as behind_by, size_of as size_by, HasAccess, HasAccesses, accesses_in, most_accesses};
 ghost use Rattle.event_graph.specs.Packed.{packed};
 
 use flow_word::{Access, Kind, RoomyList};

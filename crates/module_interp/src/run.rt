@@ -171,7 +171,7 @@ impl ModuleRun {
         Ok(mark)
     }
 
-    /// Runs to the next rest, and gives no mark. The answer is whether the rest is a step of one access or two whose numbers fit 32
+    /// Runs to the next rest, and gives no mark. The answer is whether the rest is a step of one access to four whose numbers fit 32
     /// bits: that step then waits for replies, and `gap`, `listed` and `queries` tell it. Any other mark is still to be given, by
     /// `give`. `OutOfMemory` where memory ran out.
     #[inline(always)]
@@ -209,16 +209,16 @@ impl ModuleRun {
         Ok(())
     }
 
-    /// Whether the rest is a step of at most two accesses whose gap fits 32 bits. The other numbers of a step always fit, by the
+    /// Whether the rest is a step of at most four accesses whose gap fits 32 bits. The other numbers of a step always fit, by the
     /// operation limit.
     #[inline(always)]
     fn rests_at_few(&self) -> bool
         ensures alive { result ≡ true → over_by self.now.path.value.limit self.now.path.value.state ≡ false }
-        ensures most { result ≡ true → length self.now.path.value.asked ≤ 2 }
+        ensures most { result ≡ true → length self.now.path.value.asked ≤ 4 }
         ensures gap { result ≡ true → self.now.path.value.since < 2 ^ 32 }
     {
         !is_over(self.path.limit, &self.path.state)
-            && self.path.asked.len() <= 2
+            && self.path.asked.len() <= 4
             && self.path.since < MOST
     }
 

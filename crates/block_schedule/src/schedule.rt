@@ -4,8 +4,8 @@ ghost use Rattle.std.specs.Prelude.{IfSome};
 ghost use Rattle.std.specs.List.Sorted.{IsNonDecreasingBy};
 ghost use Rattle.flow_design.specs.{declared.limits.TheConstants.LIVE_ITERATIONS, declared.design.Block.Block as BlockOf};
 ghost use Rattle.flow_design.specs.Module.{ages_down, interval, live_count};
-ghost use Rattle.block_schedule.specs.Schedules.{rank, due_at_ages, placed, slots_in, IsSlotOf, KeepsLimits, ArePhases};
-ghost use Rattle.block_schedule.specs.Schedules.{IsScheduleOf, IsRange};
+ghost use Rattle.block_schedule.specs.Schedules.{rank, due_at_ages, placed, slots_in, IsSlotOf, KeepsLimits, ArePhases, IsScheduleOf};
+ghost use Rattle.block_schedule.specs.Schedules.{IsRange};
 ghost use Rattle.block_schedule.specs.Work.{StandsIn, IsNextDue, IsNextPhase, HasNoPhase};
 
 use crate::tables::{

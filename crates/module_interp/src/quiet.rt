@@ -6,8 +6,7 @@ ghost use Rattle.module_move.specs.Moves.{ticked_to, gone_on};
 ghost use Rattle.block_schedule.specs.Work.{IsNextDue};
 ghost use Rattle.module_interp.specs.declared.path.Stage.TheVariants.{Begun, Asked, Ticked};
 ghost use Rattle.module_interp.specs.Paths.{after_move, HasAsked, HasNoted, AsksNothing, CanAnswer, IsPath, KeepsRest, clocks_to_end};
-ghost use Rattle.module_interp.specs.Paths.{IsAtStep};
-ghost use Rattle.module_interp.specs.Paths.{IsAtEnd};
+ghost use Rattle.module_interp.specs.Paths.{IsAtStep, IsAtEnd};
 
 use crate::path::{Path, Stage};
 use flow_design::Reply;

@@ -2,8 +2,8 @@
 use Rattle.std.proofs.Common.{◌≡◌, refl, ap, ℕ, Bool, true, false, cond, List, [], ◌∷◌, length, Option}
 use Rattle.std.specs.List.{cons_option, filter_map}
 use Rattle.flow_design.specs.{declared.design.Channel.Channel, declared.design.Module.Module, declared.state.Due.Due}
-use Rattle.flow_design.specs.{declared.state.ModuleState.ModuleState, declared.state.Request.Request, Module.block_of}
-use Rattle.flow_design.specs.StaticRules.{IsModuleSound}
+use Rattle.flow_design.specs.{declared.state.Request.Request, Module.block_of, StaticRules.IsModuleSound}
+use Rattle.flow_design.specs.declared.state.ModuleState.{ModuleState}
 use Rattle.lockstep_defs.specs.Machine.{request_for}
 use Rattle.block_code.specs.{declared.code.Guarded.Guarded, Actions.action_request, Codes.IsGuardedOf}
 use Rattle.module_move.specs.Sound.{IsActionAt, IsDueSound, IsStateSound}

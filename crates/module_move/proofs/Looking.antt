@@ -1,17 +1,16 @@
 -- Looking up the due operations, slot by slot.
 use Rattle.std.proofs.Common.{◌≡◌, refl, sym, ◌∙◌, ap, ap₂, subst, arith, ℕ, suc, map, ◌+◌, ◌-◌, ◌<◌, ◌≤◌, Bool, true, false, cond, List}
-use Rattle.std.proofs.Common.{[], ◌∷◌}
-use Rattle.std.proofs.Common.{◌++◌, length, take, get_or, set, append_assoc, Option, Some, None, inl, inr}
-use Rattle.std.proofs.{lemmas.Bool.cases_lt, lemmas.List.map-append, lemmas.List.map_push, lemmas.List.take_more}
-use Rattle.std.proofs.lemmas.List.{get_or_default, get_or-set_same, get_or-set_other, Elements.filter-append}
-use Rattle.std.specs.Int.{from_bool}
-use Rattle.std.specs.{Prelude.All, Prelude.flat_map, Prelude.filter, Prelude.filter_map, List.cons_option, List.enumerate_from, List.zip}
+use Rattle.std.proofs.Common.{[], ◌∷◌, ◌++◌, length, take, get_or, set, append_assoc, Option, Some, None, inl, inr}
+use Rattle.std.proofs.{lemmas.Bool.cases_lt, lemmas.List.Elements.filter-append}
+use Rattle.std.proofs.lemmas.List.{map-append, map_push, take_more, get_or_default, get_or-set_same, get_or-set_other}
+use Rattle.std.specs.{Int.from_bool, List.cons_option, List.enumerate_from, List.zip}
+use Rattle.std.specs.Prelude.{All, flat_map, filter, filter_map}
 use Rattle.flow_design.specs.{declared.design.Block.Block, declared.design.Module.Module, declared.state.Due.Due}
 use Rattle.flow_design.specs.declared.state.ModuleState.{ModuleState}
 use Rattle.flow_design.specs.Module.{block_of, operation_at, interval, live_count, temps_of, passes, ages_down, ages, due_at, due_in, due}
 use Rattle.block_schedule.specs.Schedules.{due_at_ages}
-use Rattle.block_code.specs.{declared.code.Guarded.Guarded, declared.noted.Note.Note, declared.noted.Noted.Noted}
-use Rattle.block_code.specs.Notes.{noted_for, noted_by}
+use Rattle.block_code.specs.declared.code.Guarded.{Guarded}
+use Rattle.block_code.specs.{declared.noted.Note.Note, declared.noted.Noted.Noted, Notes.noted_for, Notes.noted_by}
 use Rattle.module_move.specs.Moves.{passing, standing}
 
 -- what holds of all holds of the one that was read

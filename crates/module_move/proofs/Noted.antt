@@ -5,14 +5,13 @@ use Rattle.std.proofs.lemmas.Simd.{map-map}
 use Rattle.std.specs.Prelude.{All, filter_map, slice_range}
 use Rattle.flow_design.specs.declared.limits.TheConstants.{LIVE_ITERATIONS, OPERATIONS}
 use Rattle.flow_design.specs.{declared.design.Block.Block, declared.design.Channel.Channel, declared.design.Module.Module}
-use Rattle.flow_design.specs.{declared.state.ModuleState.ModuleState, Module.block_of}
-use Rattle.flow_design.specs.Module.{ages_down, interval, live_count, due as due_of}
+use Rattle.flow_design.specs.declared.state.ModuleState.{ModuleState}
+use Rattle.flow_design.specs.Module.{block_of, ages_down, interval, live_count, due as due_of}
 use Rattle.lockstep_defs.specs.Machine.{request_for, requests}
 use Rattle.block_schedule.specs.{declared.schedule.DueRange.DueRange, declared.tables.Slot.Slot}
 use Rattle.block_schedule.specs.Schedules.{due_at_ages, placed, slots_in, IsSlotOf}
 use Rattle.block_code.specs.{Codes.IsBlockCodeOf, declared.code.Guarded.Guarded, declared.code.BlockCode.BlockCode}
-use Rattle.block_code.specs.{declared.noted.Noted.Noted, declared.noted.Notes.Notes}
-use Rattle.block_code.specs.Notes.{noted_for, listed}
+use Rattle.block_code.specs.{declared.noted.Noted.Noted, declared.noted.Notes.Notes, Notes.noted_for, Notes.listed}
 use Rattle.module_move.specs.{Moves.notes_of, Moves.passing, Moves.standing, Sound.CanCommit, Sound.HasCode}
 use Rattle.module_move.proofs.{Looking.due_by_phase, Readiness.few_due}
 

@@ -1,18 +1,16 @@
 -- What the due operations write, one operation after another.
-use Rattle.std.proofs.Common.{◌≡◌, refl, sym, ◌∙◌, ap, arith, ℕ, zero, suc, add-one, ◌+◌, ◌≤◌, Bool, true, false, cond, List, [], ◌∷◌}
-use Rattle.std.proofs.Common.{◌++◌, length, drop, get_or}
-use Rattle.std.proofs.{lemmas.Bool.true≢false, lemmas.Grind.common_steps, lemmas.List.Sums.fold-append}
-use Rattle.std.proofs.lemmas.List.{get_or-drop}
+use Rattle.std.proofs.Common.{◌≡◌, refl, sym, ◌∙◌, ap, arith, ℕ, zero, suc, add-one, ◌+◌, ◌≤◌, Bool, true, false, cond, List, [], ◌∷◌, ◌++◌}
+use Rattle.std.proofs.Common.{length, drop, get_or}
+use Rattle.std.proofs.{lemmas.Bool.true≢false, lemmas.Grind.common_steps, lemmas.List.Sums.fold-append, lemmas.List.get_or-drop}
 use Rattle.std.specs.{Prelude.fold, List.cons_option}
 use Rattle.flow_design.specs.{declared.design.Block.Block, declared.design.Channel.Channel, declared.design.Module.Module}
 use Rattle.flow_design.specs.{declared.state.ModuleState.ModuleState, declared.state.Effect.Effect, declared.state.Reply.Reply}
 use Rattle.flow_design.specs.{declared.state.Reply.TheVariants.Done, Module.operation_at}
 use Rattle.lockstep_defs.specs.Machine.{stored, is_fifo_operation}
 use Rattle.block_code.specs.{declared.action.Action.Action, declared.code.Guarded.Guarded, declared.noted.Note.Note}
-use Rattle.block_code.specs.{declared.noted.Noted.Noted, Codes.IsGuardedOf, Notes.effects_from, Notes.effects_by, Notes.due_by}
-use Rattle.block_code.specs.Notes.{noted_by}
+use Rattle.block_code.specs.{declared.noted.Noted.Noted, Codes.IsGuardedOf, Actions.IsActionOf, Actions.carried_out, Actions.takes_reply}
+use Rattle.block_code.specs.Notes.{effects_from, effects_by, due_by, noted_by}
 use Rattle.block_code.specs.declared.action.Action.TheVariants.{Set, Load, Store, Read, Write, TryRead, TryWrite, Empty, Full}
-use Rattle.block_code.specs.Actions.{IsActionOf, carried_out, takes_reply}
 
 drop_next : (replies : List Reply) (n : ℕ) → drop (suc n) replies ≡ drop 1 (drop n replies)
 drop_next replies zero = refl

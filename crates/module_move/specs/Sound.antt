@@ -4,8 +4,8 @@ use Rattle.flow_design.specs.{declared.design.Channel.Channel, declared.design.M
 use Rattle.flow_design.specs.{declared.state.Due.Due, StaticRules.IsModuleSound, Module.block_of}
 use Rattle.lockstep_defs.specs.States.{IsStateOf}
 use Rattle.block_code.specs.{declared.action.Action.Action, declared.code.BlockCode.BlockCode, declared.noted.Notes.Notes}
-use Rattle.block_code.specs.{Actions.action_value, Actions.action_address, Actions.IsActionReady, Codes.IsBlockCodeOf, Notes.noted_for}
-use Rattle.block_code.specs.Notes.{listed, AreNotesIn}
+use Rattle.block_code.specs.{Codes.IsBlockCodeOf, Notes.noted_for, Notes.listed, Notes.AreNotesIn}
+use Rattle.block_code.specs.Actions.{action_value, action_address, IsActionReady}
 use Rattle.module_move.specs.Moves.{notes_of}
 
 -- the state is one that the module can have, and the module is not ended in it

@@ -4,8 +4,8 @@ ghost use Rattle.std.specs.List.{cons_option, zip};
 ghost use Rattle.flow_design.specs.{declared.design.Block.Block as BlockOf, declared.design.Module.Module as ModuleOf};
 ghost use Rattle.flow_design.specs.declared.design.Channel.{Channel as ChannelOf};
 ghost use Rattle.lockstep_defs.specs.Machine.{stored};
-ghost use Rattle.block_code.specs.declared.noted.Noted.{Noted as NotedOf};
-ghost use Rattle.block_code.specs.{Actions.carried_out, Actions.takes_reply, Codes.IsGuardedOf, Notes.effects_by, Notes.noted_by};
+ghost use Rattle.block_code.specs.{declared.noted.Noted.Noted as NotedOf, Codes.IsGuardedOf, Notes.effects_by, Notes.noted_by};
+ghost use Rattle.block_code.specs.Actions.{carried_out, takes_reply};
 
 use block_code::{Action, Guarded, Note, Noted, carry_out};
 use flow_design::{ModuleState, Reply};

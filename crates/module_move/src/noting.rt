@@ -1,6 +1,7 @@
 //! What is noted of the due operations before the replies, and what they ask of the channels.
 ghost use Rattle.std.specs.Prelude.{◌≡◌, ℕ, ◌+◌, ◌*◌, ◌<◌, ◌≤◌, ◌^◌, ◌++◌, ◌∷◌, [], true, if◌then◌else◌, length, map, filter_map, All};
-ghost use Rattle.std.specs.{Prelude.List as Items, Prelude.IfOk, Prelude.IfSome, Prelude.OnOk, List.zip};
+ghost use Rattle.std.specs.Prelude.{List as Items, IfOk, IfSome, OnOk};
+ghost use Rattle.std.specs.List.{zip};
 ghost use Rattle.flow_design.specs.declared.limits.TheConstants.{LIVE_ITERATIONS, OPERATIONS};
 ghost use Rattle.flow_design.specs.declared.design.Channel.{Channel as ChannelOf};
 ghost use Rattle.flow_design.specs.{Module.block_of, Module.passes, Module.temps_of, StaticRules.IsModuleSound};
@@ -8,8 +9,7 @@ ghost use Rattle.lockstep_defs.specs.Machine.{request_for, requests};
 ghost use Rattle.block_schedule.specs.Schedules.{IsSlotOf};
 ghost use Rattle.block_code.specs.{Actions.action_request, Actions.action_room, Codes.IsBlockCodeOf, Codes.IsGuardedOf};
 ghost use Rattle.block_code.specs.Notes.{noted_for, noted_by, listed, AreNotesIn};
-ghost use Rattle.module_move.specs.Moves.{passing, standing, notes_of};
-ghost use Rattle.module_move.specs.Sound.{HasCode, IsActionAt, IsStateSound};
+ghost use Rattle.module_move.specs.{Moves.passing, Moves.standing, Moves.notes_of, Sound.HasCode, Sound.IsActionAt, Sound.IsStateSound};
 
 use block_code::{Action, BlockCode, Guarded, Note, Notes, Prepared, prepare, temps_of};
 use flow_design::{Due, Module, ModuleState, Request};

@@ -3,11 +3,10 @@ use Rattle.std.proofs.Common.{◌≡◌, refl, sym, ap, subst, ◌∙◌, ℕ, �
 use Rattle.std.specs.Prelude.{slice_index_or}
 use Rattle.flow_design.specs.{declared.plan.Plan.Plan, declared.state.ModuleState.ModuleState, StaticRules.FitsEngine}
 use Rattle.module_sets.specs.{declared.mask.Mask.Mask, Sets.Has, Sets.HasMask, Sets.IsAdded}
-use Rattle.event_graph.specs.declared.candidate.Candidate.{Candidate}
-use Rattle.event_graph.specs.declared.candidate.Candidate.TheVariants.{Nothing}
+use Rattle.event_graph.specs.{declared.candidate.Candidate.Candidate, declared.candidate.Candidate.TheVariants.Nothing}
 use Rattle.query_resolve.specs.Earliest.{cycle_of}
-use Rattle.event_timing.specs.Actions.{IsDetermined}
-use Rattle.event_timing.specs.{Core.Core, Core.view, Enablers.candidate, Actions.ActsAll, Actions.IsQuiet, Actions.runs, Agreement.IsAgreed}
+use Rattle.event_timing.specs.Actions.{IsDetermined, ActsAll, IsQuiet, runs}
+use Rattle.event_timing.specs.{Core.Core, Core.view, Enablers.candidate, Agreement.IsAgreed}
 use Rattle.timing_bridge.specs.Designs.{design, lockstep_run}
 use Rattle.timing_bridge.proofs.History.{plan_is_design, run_is_history}
 use Rattle.turn_history.specs.Rounds.{after_timing}

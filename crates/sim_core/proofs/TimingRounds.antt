@@ -1,8 +1,8 @@
 -- Rounds of Assigns and Answers, the Earliest behind them, and the end.
-use Rattle.std.proofs.Common.{◌≡◌, refl, sym, ap, subst, ◌∙◌, ℕ, zero, suc, ◌+◌, ◌*◌, ◌^◌, ◌<◌, ◌≤◌, ◌⊎◌, inl, inr, true, false, length, Option, Some, None}
-use Rattle.std.proofs.Common.{arith, mul-le-mul_right}
-use Rattle.std.specs.Prelude.{IfSome}
+use Rattle.std.proofs.Common.{◌≡◌, refl, sym, ap, subst, ◌∙◌, ℕ, zero, suc, ◌+◌, ◌*◌, ◌^◌, ◌<◌, ◌≤◌, ◌⊎◌, inl, inr, true, false, length}
+use Rattle.std.proofs.Common.{Option, Some, None, arith, mul-le-mul_right}
 use Rattle.std.proofs.lemmas.Bool.{cases_Bool, cases_lt}
+use Rattle.std.specs.Prelude.{IfSome}
 use Rattle.flow_design.specs.declared.limits.TheConstants.{MODULES, COUNTED_OPERATIONS}
 use Rattle.flow_design.specs.{declared.plan.Plan.Plan, declared.state.ModuleState.ModuleState, StaticRules.FitsEngine}
 use Rattle.event_timing.specs.{Machines.Design, Enablers.known_of, Enablers.all_decided, Views.first_accesses, Core.Core, Core.view}

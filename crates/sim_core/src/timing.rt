@@ -4,8 +4,8 @@ ghost use Rattle.event_timing.specs.{Actions.IsDetermined, Actions.IsFinal, Acti
 ghost use Rattle.timing_bridge.specs.Designs.{design};
 ghost use Rattle.turn_history.specs.{Rounds.earliest_of, Rounds.timings, Turns.NoTiming};
 ghost use Rattle.module_sets.specs.Sets.{Has, capacity};
-ghost use Rattle.sim_core.specs.{Views.theory_of, Drives.Goes, Timings.IsTimed, Timings.IsUntimable, Timings.AreUntimable};
-ghost use Rattle.sim_core.specs.Timings.{AreUnrunnable, IsNextFrom, IsReady};
+ghost use Rattle.sim_core.specs.{Views.theory_of, Drives.Goes};
+ghost use Rattle.sim_core.specs.Timings.{IsTimed, IsUntimable, AreUntimable, AreUnrunnable, IsNextFrom, IsReady};
 
 use crate::due::first_below;
 use crate::machine::Core;

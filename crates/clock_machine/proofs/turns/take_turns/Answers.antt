@@ -3,8 +3,7 @@ use Rattle.std.proofs.Common.{subst, arith, inl, inr}
 use Rattle.std.proofs.{Math.ListN.set, lemmas.List.Concat.flat_map-append, lemmas.List.Folds.list_any-append}
 use Rattle.std.proofs.lemmas.List.{append-nil, get_or_default, get_or-set_same, get_or-set_other}
 use Rattle.std.specs.List.{list_any, flat_map}
-use Rattle.flow_design.specs.{declared.plan.Plan.Plan, declared.state.Element.Element}
-use Rattle.flow_design.specs.declared.state.ModuleState.{ModuleState}
+use Rattle.flow_design.specs.{declared.plan.Plan.Plan, declared.state.Element.Element, declared.state.ModuleState.ModuleState}
 use Rattle.lockstep_defs.specs.{Machine.nobody, Report.outcomes}
 use Rattle.lockstep_defs.specs.Lockstep.{numbered, moves, state, state_at, step_of, steps_in}
 use Rattle.lockstep_defs.proofs.Agrees.{all_modules}

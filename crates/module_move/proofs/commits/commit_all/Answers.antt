@@ -1,7 +1,6 @@
 use Rattle.std.proofs.Common.{◌≡◌, ◌∙◌, ◌<◌, ◌+◌, sym, ap, ap₂, subst, arith, List, [], ◌∷◌, drop, false, get_or, length}
 use Rattle.std.proofs.lemmas.List.{drop_all, drop_more}
-use Rattle.std.specs.Prelude.{filter_map, fold}
-use Rattle.std.specs.List.{cons_option, zip}
+use Rattle.std.specs.{Prelude.filter_map, Prelude.fold, List.cons_option, List.zip}
 use Rattle.lockstep_defs.specs.Machine.{stored}
 use Rattle.block_code.specs.{declared.code.Guarded.Guarded, declared.noted.Note.Note, declared.noted.Noted.Noted, Codes.IsGuardedOf}
 use Rattle.block_code.specs.Notes.{effects_by, noted_by}

@@ -1,6 +1,5 @@
 use Rattle.std.proofs.Common.{◌≡◌, ℕ, List, drop}
-use Rattle.std.specs.Prelude.{All, filter_map, fold}
-use Rattle.std.specs.List.{zip}
+use Rattle.std.specs.{Prelude.All, Prelude.filter_map, Prelude.fold, List.zip}
 use Rattle.flow_design.specs.{declared.design.Block.Block, declared.design.Channel.Channel, declared.design.Module.Module}
 use Rattle.lockstep_defs.specs.Machine.{stored}
 use Rattle.block_code.specs.{Codes.IsGuardedOf, Notes.effects_by, Notes.noted_by}

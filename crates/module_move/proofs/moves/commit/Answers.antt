@@ -1,14 +1,13 @@
 use Rattle.std.proofs.Common.{◌≡◌, ◌∙◌, ◌-◌, ap, subst, sym, arith, ℕ, ◌+◌}
-use Rattle.std.proofs.lemmas.List.{Elements.All-drop, Elements.All-take}
-use Rattle.std.specs.Prelude.{All, List, fold, filter_map, slice_range}
-use Rattle.std.specs.List.{zip}
+use Rattle.std.proofs.lemmas.List.Elements.{All-drop, All-take}
+use Rattle.std.specs.{Prelude.All, Prelude.List, Prelude.fold, Prelude.filter_map, Prelude.slice_range, List.zip}
 use Rattle.flow_design.specs.{declared.design.Channel.Channel, declared.design.Module.Module, declared.state.Reply.Reply, Module.block_of}
 use Rattle.flow_design.specs.declared.state.ModuleState.{ModuleState}
 use Rattle.lockstep_defs.specs.Machine.{stored}
 use Rattle.lockstep_defs.proofs.Moves.{all_keep}
 use Rattle.block_code.specs.{declared.code.BlockCode.BlockCode, declared.code.Guarded.Guarded, declared.noted.Note.Note}
-use Rattle.block_code.specs.{declared.noted.Noted.Noted, declared.noted.Notes.Notes}
-use Rattle.block_code.specs.{Codes.IsGuardedOf, Notes.effects_by, Notes.listed, Notes.noted_by}
+use Rattle.block_code.specs.{declared.noted.Noted.Noted, declared.noted.Notes.Notes, Codes.IsGuardedOf}
+use Rattle.block_code.specs.Notes.{effects_by, listed, noted_by}
 use Rattle.module_move.specs.Sound.{CanCommit}
 use Rattle.module_move.proofs.{Moving.counted_is, Noted.few_noted}
 use Rattle.module_move.proofs.moves.commit.Goals as goal

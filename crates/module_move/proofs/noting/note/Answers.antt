@@ -1,7 +1,6 @@
 use Rattle.std.proofs.Common.{◌≡◌, ◌∙◌, ◌-◌, ◌*◌, ◌++◌, ◌<◌, ◌≤◌, ap, sym, subst, arith, List, ℕ, map, length, take, drop}
-use Rattle.std.proofs.lemmas.List.{length-map, Elements.All-drop, Elements.All-take}
-use Rattle.std.specs.Prelude.{All, filter_map, slice_range}
-use Rattle.std.specs.List.{zip}
+use Rattle.std.proofs.{lemmas.List.length-map, lemmas.List.Elements.All-drop, lemmas.List.Elements.All-take}
+use Rattle.std.specs.{Prelude.All, Prelude.filter_map, Prelude.slice_range, List.zip}
 use Rattle.flow_design.specs.{declared.design.Module.Module, declared.state.ModuleState.ModuleState, declared.state.Due.Due}
 use Rattle.flow_design.specs.{declared.state.Request.Request, Module.block_of, Module.due}
 use Rattle.flow_design.specs.declared.limits.TheConstants.{LIVE_ITERATIONS, OPERATIONS}

@@ -7,7 +7,7 @@ use Rattle.lockstep_defs.specs.Machine.{request_for}
 use Rattle.block_schedule.specs.Schedules.{IsSlotOf}
 use Rattle.block_code.specs.{declared.code.Guarded.Guarded, Codes.IsGuardedOf}
 use Rattle.module_move.specs.Moves.{passing, standing}
-use Rattle.module_move.proofs.{Asked.asked_once, Asked.action_at}
+use Rattle.module_move.proofs.Asked.{asked_once, action_at}
 use Rattle.module_move.proofs.Looking.{all_noted, at_place, note_is, note_more, one_counted, passing_more, passing_next}
 use Rattle.module_move.proofs.noting.note_all.Goals as goal
 

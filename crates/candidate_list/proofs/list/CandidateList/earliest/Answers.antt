@@ -1,9 +1,7 @@
 use Rattle.std.proofs.Common.{arith, refl, sym, ◌≡◌, ◌∙◌, ◌<◌, length, None, Some}
 use Rattle.std.proofs.lemmas.List.{get_or_default}
-use Rattle.candidate_list.specs.declared.first.First.{First}
-use Rattle.candidate_list.specs.Firsts.{at_place}
-use Rattle.candidate_list.proofs.Winners.{earliest, none_at_all, some_one}
-use Rattle.candidate_list.proofs.list.CandidateList.earliest.Goals.{After-index}
+use Rattle.candidate_list.specs.{declared.first.First.First, Firsts.at_place}
+use Rattle.candidate_list.proofs.{Winners.earliest, Winners.none_at_all, Winners.some_one, list.CandidateList.earliest.Goals.After-index}
 use Rattle.candidate_list.proofs.list.CandidateList.earliest.Goals as goal
 
 module _ (c : After-index) where

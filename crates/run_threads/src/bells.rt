@@ -8,6 +8,10 @@
 //! the thread was seen asleep, or it saw the ring. A ring between that glance and `park` leaves a token with the parker, and `park`
 //! returns at once. A token that is left from an earlier ring makes `park` return too early, and then the thread glances at the
 //! bell again.
+//!
+//! The caller looks only at the modules that are noted: whoever rings a module's bell notes the module afterwards, and so does who
+//! leaves a module to the caller. The caller takes all notes before it looks. If it looked at a bell before it was rung, then the note
+//! comes after, and it looks again. Another thread that leaves a note rings the caller's bell afterwards.
 ghost use Rattle.std.specs.Prelude.{◌<◌, length};
 
 use crate::concern::{Concern, News};
@@ -16,6 +20,7 @@ use crossbeam_utils::Backoff;
 use crossbeam_utils::sync::{Parker, Unparker};
 use flow_design::limits::MODULES;
 use flow_word::{OutOfMemory, Side};
+use module_sets::{Mask, ModuleSet};
 use sim_core::Core;
 use std::alloc::Global;
 use std::sync::Wait;
@@ -59,11 +64,11 @@ impl Bell {
         self.rang.load(Ordering::SeqCst) & self.wanted.load(Ordering::SeqCst) != 0
     }
 
-    /// Rings for these news.
-    fn tell(&self, news: News) {
+    /// Rings for these news. Returns whether it had not rung for them yet.
+    fn tell(&self, news: News) -> bool {
         let bit = news.bit();
         if self.rang.load(Ordering::SeqCst) & bit != 0 {
-            return;
+            return false;
         }
         self.rang.fetch_or(bit, Ordering::SeqCst);
         if self.asleep.load(Ordering::SeqCst)
@@ -72,6 +77,7 @@ impl Bell {
         {
             self.unparker.unpark();
         }
+        true
     }
 
     /// Waits until the bell has rung for news that its thread waits for. Returns whether it had to wait. At first it stays awake,
@@ -116,6 +122,8 @@ pub struct Bells {
     modules: Vec<Place>,
     /// For each module the modules that pop what it pushes.
     readers: Vec<Vec<u32>>,
+    /// The modules that the caller has to look at: 64 in a word.
+    noted: Vec<AtomicU64>,
     /// Whether some module's thread was not started.
     unstarted: AtomicBool,
 }
@@ -137,6 +145,17 @@ fn readers_of(alloc: Global, core: &Core, owner: u32) -> Result<Vec<u32>, OutOfM
     Ok(readers)
 }
 
+/// No notes, with room for so many modules.
+fn no_notes(alloc: Global, count: u32) -> Result<Vec<AtomicU64>, OutOfMemory> {
+    let mut noted = Vec::new(alloc);
+    for _ in 0..count / 64 + 1 {
+        if noted.push(AtomicU64::new(0)).is_err() {
+            return Err(OutOfMemory);
+        }
+    }
+    Ok(noted)
+}
+
 impl Bells {
     /// The caller's bell, with no bell of a module of the core's plan yet, and the parker on which the caller sleeps. `OutOfMemory`
     /// where memory ran out.
@@ -153,6 +172,7 @@ impl Bells {
             caller,
             modules: Vec::new(alloc),
             readers,
+            noted: no_notes(alloc, core.modules())?,
             unstarted: AtomicBool::new(false),
         };
         Ok((bells, parker))
@@ -172,10 +192,43 @@ impl Bells {
         }
     }
 
-    /// Rings the bells of all modules for these news.
-    pub fn tell_all(&self, news: News) {
+    /// How many modules have a bell.
+    pub fn count(&self) -> usize {
+        self.modules.len()
+    }
+
+    /// Notes that the caller has to look at a module.
+    fn note(&self, which: u32) {
+        if let Some(word) = self.noted.get((which / 64) as usize) {
+            word.fetch_or(1 << (which % 64), Ordering::SeqCst);
+        }
+    }
+
+    /// Moves all notes to a set: the modules that the caller has to look at.
+    pub fn take_notes(&self, set: &mut ModuleSet) {
+        let mut word = 0u32;
+        for noted in &self.noted {
+            if noted.load(Ordering::SeqCst) != 0 {
+                let bits = noted.swap(0, Ordering::SeqCst);
+                set.add_masks(&[Mask { word, bits }]);
+            }
+            word = word.wrapping_add(1);
+        }
+    }
+
+    /// Rings a module's bell for these news.
+    pub fn tell(&self, which: u32, news: News) {
+        if let Some(place) = self.modules.get(which as usize) {
+            if place.bell.tell(news) {
+                self.note(which);
+            }
+        }
+    }
+
+    /// Rings the bells of all modules, since all is over. The caller looks at none of them any more.
+    pub fn tell_end(&self) {
         for place in &self.modules {
-            place.bell.tell(news);
+            let _first = place.bell.tell(News::Over);
         }
     }
 
@@ -183,16 +236,14 @@ impl Bells {
     pub fn tell_readers(&self, which: u32) {
         if let Some(readers) = self.readers.get(which as usize) {
             for reader in readers {
-                if let Some(other) = self.modules.get(*reader as usize) {
-                    other.bell.tell(News::Returned);
-                }
+                self.tell(*reader, News::Returned);
             }
         }
     }
 
     /// Rings the caller's bell for these news.
     pub fn tell_caller(&self, news: News) {
-        self.caller.tell(news);
+        let _first = self.caller.tell(news);
     }
 
     /// Clears the caller's bell.
@@ -252,13 +303,14 @@ impl Bells {
     pub fn leave(&self, which: u32) {
         if let Some(place) = self.modules.get(which as usize) {
             place.handed_over.store(true, Ordering::SeqCst);
+            self.note(which);
         }
     }
 
     /// From now on the caller drives this module, since its thread ends.
     pub fn hand_over(&self, which: u32) {
         self.leave(which);
-        self.caller.tell(News::Returned);
+        self.tell_caller(News::Returned);
     }
 
     /// Whether the caller is to drive this module now: it is the caller's, and its bell has rung.

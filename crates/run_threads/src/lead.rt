@@ -9,6 +9,7 @@ use crate::drive::{Went, drive_once};
 use crate::gate::Gate;
 use crate::start::Slot;
 use crossbeam_utils::sync::Parker;
+use module_sets::ModuleSet;
 use sim_hub::{Hub, ModulePass, PerfAnswer, PerfPass};
 use std::alloc::Global;
 use std::mem;
@@ -18,52 +19,60 @@ use std::thread::{Threads, yield_now};
 /// How many rounds over its modules the caller makes between two of its own turns, at most.
 const ROUNDS: u32 = 16;
 
+/// What the caller drives modules with.
+#[derive(Drop)]
+pub struct Crew<'e, G, R> {
+    pub rt: &'e R,
+    pub alloc: Global,
+    pub hub: &'e Hub,
+    pub gate: &'e G,
+    pub bells: &'e Bells,
+}
+
 /// Tries once to drive a module that is called. If the module had a thread, that thread must have ended. The second answer tells
 /// whether it ran.
 fn try_one<G: Gate, R: Threads + Wait>(
-    rt: &R,
-    alloc: Global,
-    hub: &Hub,
-    gate: &G,
-    bells: &Bells,
+    crew: &Crew<'_, G, R>,
     which: usize,
     slot: Slot,
 ) -> (Slot, bool)
-    requires { SlotIs hub.now which slot }
-    ensures { SlotIs hub.now which result.0 }
+    requires { SlotIs crew.now.hub.now which slot }
+    ensures { SlotIs crew.now.hub.now which result.0 }
 {
-    let pass = take_one(rt, hub, slot, which);
+    let pass = take_one(crew.rt, crew.hub, slot, which);
     let owner = pass.which();
-    bells.clear(owner);
-    let (pass, went) = drive_once(rt, alloc, hub, gate, pass);
+    crew.bells.clear(owner);
+    let (pass, went) = drive_once(crew.rt, crew.alloc, crew.hub, crew.gate, pass);
     match went {
         Went::Ran(concern, _) => {
-            bells.want(owner, concern);
-            bells.tell_readers(owner);
+            crew.bells.want(owner, concern);
+            crew.bells.tell_readers(owner);
             (Slot::Here(pass), true)
         }
         Went::Held | Went::Over | Went::Short => (Slot::Here(pass), false),
     }
 }
 
-/// Tries once to drive each module that is called. The second answer tells whether one ran.
+/// Tries once to drive each module that is called. The second answer tells whether one ran. The set is empty before and afterwards.
 fn try_all<G: Gate, R: Threads + Wait>(
-    rt: &R,
-    alloc: Global,
-    hub: &Hub,
-    gate: &G,
-    bells: &Bells,
+    crew: &Crew<'_, G, R>,
     slots: Vec<Slot>,
+    noted: &mut ModuleSet,
 ) -> (Vec<Slot>, bool)
-    requires { AreSlots hub.now slots.items }
-    ensures { (length result.0.items ≡ length slots.items) × AreSlots hub.now result.0.items }
+    requires { AreSlots crew.now.hub.now slots.items }
+    ensures { (length result.0.items ≡ length slots.items) × AreSlots crew.now.hub.now result.0.items }
 {
     let mut slots = slots;
     let mut any = false;
-    for which in 0..slots.len() {
-        if bells.calls(which) {
+    crew.bells.take_notes(noted);
+    for _ in 0..slots.len() {
+        let Some(first) = take_first(noted) else {
+            return (slots, any);
+        };
+        let which = first as usize;
+        if which < slots.len() && crew.bells.calls(which) {
             let slot = mem::replace(&mut slots[which], Slot::Gone);
-            let (back, ran) = try_one(rt, alloc, hub, gate, bells, which, slot);
+            let (back, ran) = try_one(crew, which, slot);
             slots[which] = back;
             any = any || ran;
         }
@@ -74,69 +83,79 @@ fn try_all<G: Gate, R: Threads + Wait>(
 /// Drives the modules that are called in rounds, as long as one runs, up to `ROUNDS` rounds. The second answer tells whether one
 /// ran.
 fn try_rounds<G: Gate, R: Threads + Wait>(
-    rt: &R,
-    alloc: Global,
-    hub: &Hub,
-    gate: &G,
-    bells: &Bells,
+    crew: &Crew<'_, G, R>,
     slots: Vec<Slot>,
+    noted: &mut ModuleSet,
 ) -> (Vec<Slot>, bool)
-    requires { AreSlots hub.now slots.items }
-    ensures { (length result.0.items ≡ length slots.items) × AreSlots hub.now result.0.items }
+    requires { AreSlots crew.now.hub.now slots.items }
+    ensures { (length result.0.items ≡ length slots.items) × AreSlots crew.now.hub.now result.0.items }
 {
-    let (first, mut runs) = try_all(rt, alloc, hub, gate, bells, slots);
+    let (first, mut runs) = try_all(crew, slots, noted);
     let ran = runs;
     let mut slots = first;
     let mut left = ROUNDS;
     while runs && left > 0 {
         left -= 1;
-        let (next, more) = try_all(rt, alloc, hub, gate, bells, slots);
+        let (next, more) = try_all(crew, slots, noted);
         slots = next;
         runs = more;
     }
     (slots, ran)
 }
 
+/// Rings the bells of the modules in the set, and empties it: after the last turn a Run of them is permitted.
+fn tell_ready(bells: &Bells, ready: &mut ModuleSet) {
+    for _ in 0..bells.count() {
+        match take_first(ready) {
+            Some(which) => bells.tell(which, News::Timed),
+            None => return,
+        }
+    }
+}
+
+/// Takes the first module out of a set. `None` where the set is empty.
+fn take_first(set: &mut ModuleSet) -> Option<u32> {
+    let first = set.first_from(0)?;
+    set.remove(first);
+    Some(first)
+}
+
 /// Takes performance turns until all is over, and drives the modules that have no thread between these turns. It waits where there
 /// is nothing to do, and drives none meanwhile.
 pub fn lead<G: Gate, R: Threads + Wait>(
-    rt: &R,
-    alloc: Global,
-    hub: &Hub,
-    gate: &G,
-    bells: &Bells,
+    crew: &Crew<'_, G, R>,
     parker: &Parker,
     perf: PerfPass,
     slots: Vec<Slot>,
+    noted: ModuleSet,
 ) -> (PerfPass, Vec<Slot>)
-    requires own { IsPerfOf hub.now perf }
-    requires slots { AreSlots hub.now slots.items }
-    ensures own { IsPerfOf hub.now result.0 }
+    requires own { IsPerfOf crew.now.hub.now perf }
+    requires slots { AreSlots crew.now.hub.now slots.items }
+    ensures own { IsPerfOf crew.now.hub.now result.0 }
     ensures over { IsOverAt (perf_view result.0).seen }
     ensures later { HasGoneOn (perf_view perf) (perf_view result.0) }
-    ensures slots { (length result.1.items ≡ length slots.items) × AreSlots hub.now result.1.items }
+    ensures slots { (length result.1.items ≡ length slots.items) × AreSlots crew.now.hub.now result.1.items }
 {
     let mut perf = perf;
     let mut slots = slots;
-    for _ in rt.forever() {
-        bells.clear_for_caller();
-        let (next, answer) = hub.perf_turn(rt, perf);
+    let mut noted = noted;
+    for _ in crew.rt.forever() {
+        crew.bells.clear_for_caller();
+        let (next, answer) = crew.hub.perf_turn_telling(crew.rt, perf, &mut noted);
         perf = next;
         let idle = match answer {
             PerfAnswer::Did(_) => false,
             PerfAnswer::Idle(_) => true,
             PerfAnswer::Over | PerfAnswer::Short => {
-                bells.tell_all(News::Over);
+                crew.bells.tell_end();
                 return (perf, slots);
             }
         };
-        if !idle {
-            bells.tell_all(News::Timed);
-        }
-        let (back, ran) = try_rounds(rt, alloc, hub, gate, bells, slots);
+        tell_ready(crew.bells, &mut noted);
+        let (back, ran) = try_rounds(crew, slots, &mut noted);
         slots = back;
         if idle && !ran {
-            rest(rt, bells, parker);
+            rest(crew.rt, crew.bells, parker);
         }
     }
     unreachable!()

@@ -10,12 +10,13 @@ ghost use Rattle.run_threads.specs.{Leading.HasGoneOn, Slots.passes_in, Slots.Ar
 use crate::bells::Bells;
 use crate::drive::Seat;
 use crate::gate::Gate;
-use crate::lead::{gather, lead};
+use crate::lead::{Crew, gather, lead};
 use crate::light::Light;
 use crate::start::{Slot, seat_all, start_all};
 use crossbeam_utils::sync::Parker;
 use flow_design::Plan;
 use flow_word::OutOfMemory;
+use module_sets::ModuleSet;
 use sim_core::Core;
 use sim_hub::{Closed, Hub, ModulePass, PerfPass, Threaded};
 use std::alloc::Global;
@@ -37,6 +38,7 @@ fn run_all<G: Gate + Sync, R: Threads + Wait + Sync>(
     light: Light,
     slots: Vec<Slot>,
     passes: Vec<ModulePass>,
+    noted: ModuleSet,
 ) -> (PerfPass, Vec<ModulePass>)
     requires perf { IsPerfOf hub.now perf }
     requires here { AreHere hub.now (passes_in seats.items) }
@@ -58,7 +60,14 @@ fn run_all<G: Gate + Sync, R: Threads + Wait + Sync>(
                 × IsOverAt (perf_view result.0).seen × (length result.1.items ≡ length seats.items) × AreHere hub.entry.now result.1.items }
         {
             let slots = start_all(scope, rt, alloc, hub, gate, bells, seats, &light, slots);
-            let (perf, slots) = lead(rt, alloc, hub, gate, bells, &parker, perf, slots);
+            let crew = Crew {
+                rt,
+                alloc,
+                hub,
+                gate,
+                bells,
+            };
+            let (perf, slots) = lead(&crew, &parker, perf, slots, noted);
             (perf, gather(rt, hub, slots, passes))
         },
     )
@@ -84,6 +93,7 @@ pub fn run_core<G: Gate + Sync, R: Threads + Wait + Sync>(
     let _count = core.modules();
     let mut driven = *light;
     driven.add_small(alloc, core.plan())?;
+    let noted = ModuleSet::new(alloc, core.modules())?;
     let (mut bells, parker) = Bells::new(alloc, &core)?;
     let (hub, perf, modules) = Hub::new(alloc, core)?;
     let Ok(slots) = Vec::with_capacity(alloc, modules.len()) else {
@@ -94,7 +104,7 @@ pub fn run_core<G: Gate + Sync, R: Threads + Wait + Sync>(
     };
     let seats = seat_all(alloc, &mut bells, modules)?;
     let (perf, modules) = run_all(
-        rt, alloc, &hub, gate, &bells, parker, perf, seats, driven, slots, passes,
+        rt, alloc, &hub, gate, &bells, parker, perf, seats, driven, slots, passes, noted,
     );
     match hub.close(perf, modules) {
         Closed::Final(threaded) => {

@@ -5,5 +5,5 @@ use Rattle.run_threads.proofs.lead.lead.Given as goal
 
 abbrev pub invariant-loop : goal.invariant-loop
 invariant-loop g l =
-    IsPerfOf l.hub l.perf × HasGoneOn (perf_view l.initial.perf) (perf_view l.perf)
-    × (length l.slots.items ≡ length l.initial.slots.items) × AreSlots l.hub l.slots.items
+    IsPerfOf l.crew.hub.now l.perf × HasGoneOn (perf_view l.initial.perf) (perf_view l.perf)
+    × (length l.slots.items ≡ length l.initial.slots.items) × AreSlots l.crew.hub.now l.slots.items

@@ -1,5 +1,10 @@
-"""What the scripts of bench/ share: where things are, the built program, and what it tells. It puts tools/ on the path."""
+"""What the scripts of bench/ share: where things are, their words, the built program, and what it tells.
+
+It puts tools/ on the path.
+"""
+import argparse
 import os
+import shutil
 import subprocess
 import sys
 
@@ -8,9 +13,42 @@ PROGRAM = os.path.join(TOP, 'crates', 'sim_cli', 'out', 'sim_cli')
 sys.path.insert(0, os.path.join(TOP, 'tools'))
 
 
-def program_at(place):
-    """The program that the command line names in this place, or the one that ./omnisim builds."""
-    return sys.argv[place] if len(sys.argv) > place else PROGRAM
+def count(word):
+    """A word that is a number, 0 or more."""
+    if not word.isdecimal():
+        raise argparse.ArgumentTypeError(f'{word!r} is no number')
+    return int(word)
+
+
+class Parser(argparse.ArgumentParser):
+    """The words of a script, by its docstring, which --help prints. Wrong words end it with one line and the status 2."""
+
+    def __init__(self, docstring):
+        super().__init__(prog=f'bench/{os.path.basename(sys.argv[0])}', description=docstring, allow_abbrev=False)
+
+    def format_help(self):
+        return self.description
+
+    def error(self, message):
+        self.exit(2, f'{self.prog}: {message}; {self.prog} --help tells the words\n')
+
+    def options(self):
+        """The words of the command line. A program that is not there is a wrong word."""
+        found = self.parse_args()
+        asked = getattr(found, 'program', None)
+        if asked and not shutil.which(asked):
+            self.error(f'there is no program {asked}' + ('; ./omnisim --build builds it' if asked == PROGRAM else ''))
+        return found
+
+    def take_count(self, name, default):
+        """Takes one more word, a number, that may be left out."""
+        self.add_argument(name, metavar=name.upper(), nargs='?', type=count, default=default)
+        return self
+
+    def take_program(self, default=PROGRAM):
+        """Takes one more word, PROGRAM, that may be left out for the program that ./omnisim builds, or another default."""
+        self.add_argument('program', metavar='PROGRAM', nargs='?', default=default)
+        return self
 
 
 def told(program, words, text, seconds=600):

@@ -16,14 +16,15 @@ import random
 
 from flow.design import Design
 from flow.expressions import choose, value
+from flow.limits import STANDARD
 
-CYCLES, OPERATIONS = 10 ** 12, 200_000
+CYCLES = 10 ** 12
 MODULUS = 65_537
 
 
 def limited(design):
     """A design with the most cycles and operations that it may ask for."""
-    design.limits(CYCLES, OPERATIONS)
+    design.limits(CYCLES, STANDARD.counted_operations)
     return design
 
 

@@ -1,7 +1,9 @@
 """The texts of sessions that the scripts here measure and try."""
 import random
 
-TEXT_LIMIT = 4_194_304
+from flow.limits import STANDARD
+
+LIMITS = f'limits 1000000000 {STANDARD.counted_operations}'
 
 
 def pipeline(modules, values):
@@ -13,7 +15,7 @@ def pipeline(modules, values):
         behind = 'y' if k == modules - 1 else f'f{k + 1}'
         lines += [f'module m{k}', 'reg x 32', 'reg n 32', 'reg go 1', 'loop l 1 2 while go', f'at 0 read {before} x',
                   'at 0 set n + n 1', f'at 0 set go <u n {values - 1}', f'at 1 write {behind} + x 1', 'stop']
-    lines += ['input a ' + ' '.join(str(v % 1000) for v in range(values)), 'limits 1000000000 200000', 'end']
+    lines += ['input a ' + ' '.join(str(v % 1000) for v in range(values)), LIMITS, 'end']
     return '\n'.join(lines) + '\n'
 
 
@@ -24,7 +26,7 @@ def polling(pollers, clocks):
     for k in range(pollers):
         lines += [f'module p{k}', 'reg x 8', 'reg ok 1', 'reg go 1', 'block first 1', 'at 0 set go 1', 'goto l', 'loop l 1 2 while go',
                   f'at 0 tryread f{k} x ok', 'at 1 set go == ok 0', 'stop']
-    lines += ['limits 1000000000 200000', 'end']
+    lines += [LIMITS, 'end']
     return '\n'.join(lines) + '\n'
 
 
@@ -34,7 +36,7 @@ def sparse(interval, values):
     for name, before, behind in (('p', 'a', 'f'), ('q', 'f', 'y')):
         lines += [f'module {name}', 'reg x 32', 'reg n 32', 'reg go 1', f'loop l {interval} {interval} while go', f'at 0 read {before} x',
                   'at 0 set n + n 1', f'at 0 set go <u n {values - 1}', f'at 1 write {behind} x', 'stop']
-    lines += ['input a ' + ' '.join(str(v) for v in range(values)), 'limits 1000000000 200000', 'end']
+    lines += ['input a ' + ' '.join(str(v) for v in range(values)), LIMITS, 'end']
     return '\n'.join(lines) + '\n'
 
 
@@ -47,7 +49,7 @@ def ring(modules, rounds):
             lines += ['block first 1', f'at 0 write f{1 % modules} 1', 'goto l']
         lines += ['loop l 2 2 while go', f'at 0 read f{k} x', 'at 0 set n + n 1', f'at 0 set go <u n {rounds - 1}',
                   f'at 1 write f{(k + 1) % modules} + x 1', 'stop']
-    lines += ['limits 1000000000 200000', 'end']
+    lines += [LIMITS, 'end']
     return '\n'.join(lines) + '\n'
 
 
@@ -60,7 +62,7 @@ def heavy(modules, values, sets):
         lines += [f'at 1 set r{i % 200} + * r{i % 200} 3 ^ x {i}' for i in range(sets)]
         lines += [f'at 1 write y{k} r0', 'stop']
     lines += [f'input a{k} ' + ' '.join(str(v % 1000) for v in range(values)) for k in range(modules)]
-    return '\n'.join(lines + ['limits 1000000000 200000', 'end']) + '\n'
+    return '\n'.join(lines + [LIMITS, 'end']) + '\n'
 
 
 def waiting(modules, rounds, sets):
@@ -74,14 +76,14 @@ def waiting(modules, rounds, sets):
     for k in others:
         lines += [f'module m{k}', 'reg x 32', 'reg n 32', 'reg go 1', 'loop l 1 1 while go', f'at 0 read f{k} x', 'at 0 set n + n 1',
                   f'at 0 set go <u n {rounds - 1}', 'stop']
-    return '\n'.join(lines + ['limits 1000000000 200000', 'end']) + '\n'
+    return '\n'.join(lines + [LIMITS, 'end']) + '\n'
 
 
 def asking(values, tries):
     """A module that tries so often to read from a source of so many values."""
     lines = ['flow 1', 'source a 32', 'sink y 32', 'module m', 'reg x 32', 'reg ok 1', 'reg n 32', 'reg go 1', 'loop l 1 2 while go',
              'at 0 tryread a x ok', 'at 0 set n + n 1', f'at 0 set go <u n {tries - 1}', 'at 1 write y x', 'stop']
-    lines += ['input a ' + ' '.join(str(v % 1000) for v in range(values)), 'limits 1000000000 200000', 'end']
+    lines += ['input a ' + ' '.join(str(v % 1000) for v in range(values)), LIMITS, 'end']
     return '\n'.join(lines) + '\n'
 
 
@@ -91,7 +93,7 @@ def filled(values):
              'at 0 set i + i 1', f'at 0 set g <u i {values - 1}', 'stop']
     lines += ['module q', 'reg x 32', 'reg ok 1', 'reg i 32', 'reg g 1', f'block w {values + 5}', f'at {values + 4} set g 1', 'goto l',
               'loop l 1 2 while g', 'at 0 tryread f x ok', 'at 0 set i + i 1', f'at 0 set g <u i {values - 1}', 'at 1 write y x', 'stop',
-              'limits 1000000000 200000', 'end']
+              LIMITS, 'end']
     return '\n'.join(lines) + '\n'
 
 
@@ -101,7 +103,7 @@ def wide(fifos, writes):
     lines = ['flow 1'] + [f'fifo f{k} 32' for k in range(fifos)] + ['sink y 32', 'module m', f'block k {writes}']
     lines += [f'at {i} write y {i % 7}' for i in range(writes)] + ['goto k', 'module waits', 'reg x 32', f'block k {2 * fifos}']
     lines += [f'at {k} read f{k} x' for k in range(fifos)] + [f'at {fifos + k} write f{k} 0' for k in range(fifos)]
-    lines += ['stop', 'limits 1000000000 200000', 'end']
+    lines += ['stop', LIMITS, 'end']
     return '\n'.join(lines) + '\n'
 
 
@@ -114,7 +116,7 @@ def staggered(modules, values):
         interval = 1 + 7 * k % 3
         lines += [f'module m{k}', 'reg x 32', 'reg n 32', 'reg go 1', f'loop l {interval} {interval + 1} while go', f'at 0 read {before} x',
                   'at 0 set n + n 1', f'at 0 set go <u n {values - 1}', f'at 1 write {behind} + * x 3 {k}', 'stop']
-    lines += ['input a ' + ' '.join(str(v % 1000) for v in range(values)), 'limits 1000000000 200000', 'end']
+    lines += ['input a ' + ' '.join(str(v % 1000) for v in range(values)), LIMITS, 'end']
     return '\n'.join(lines) + '\n'
 
 
@@ -135,7 +137,7 @@ def forks(stages, values):
                       *(f'at {i} read p{k} t{i}' for i in range(burst)), *(f'at {burst + wait + i} write q{k} t{i}' for i in range(burst)))
         inner += loop('join', 1, 2, values, f'at 0 read q{k} t0', f'at 0 read s{k} t1', f'at 1 write {behind} + t0 t1')
     lines += channels + inner
-    return '\n'.join(lines + ['input a ' + ' '.join(str(v % 1000) for v in range(values)), 'limits 1000000000 200000', 'end']) + '\n'
+    return '\n'.join(lines + ['input a ' + ' '.join(str(v % 1000) for v in range(values)), LIMITS, 'end']) + '\n'
 
 
 def branching(seed, widths=(32,)):
@@ -158,7 +160,7 @@ def branching(seed, widths=(32,)):
         interval = min(draw.choice((burst, burst + 1, 2 * burst, length)), length)
         lines += [f'module m{module}', 'reg x 32', 'reg n 32', 'reg go 1', f'loop l {interval} {length} while go', 'at 0 set n + n 1',
                   f'at 0 set go <u n {values // burst - 1}', *(f'at {at} {operation}' for at, operation in sorted(timed)), 'stop']
-    return '\n'.join(lines + ['limits 1000000000 200000', 'end']) + '\n'
+    return '\n'.join(lines + [LIMITS, 'end']) + '\n'
 
 
 def edited_at_random(text, fifos, edits, seed):
@@ -214,4 +216,4 @@ def deep_expression():
     """One line of four megabytes of operators."""
     head = 'flow 1\nmodule m\nreg x 8\nblock k 1\nat 0 set x '
     tail = '1\nstop\nend\n'
-    return head + '~ ' * ((TEXT_LIMIT - len(head) - len(tail)) // 2) + tail
+    return head + '~ ' * ((STANDARD.text_bytes - len(head) - len(tail)) // 2) + tail

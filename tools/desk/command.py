@@ -13,10 +13,11 @@ sys.path.insert(0, os.path.dirname(HERE))
 from desk.differing import tell_difference  # noqa: E402
 from flow.depths import depths_of, with_depths  # noqa: E402
 from flow.limits import LARGE, STANDARD  # noqa: E402
+from flow.program import STATUSES  # noqa: E402
 
 OMNISIM = os.path.join(os.path.dirname(os.path.dirname(HERE)), 'omnisim')
 REFUSED = 1  # the status of refused words
-VERDICTS = (0, 3, 4, 5)  # the statuses of answers
+VERDICTS = tuple(STATUSES.values())  # the statuses of answers
 
 
 class Refused(Exception):

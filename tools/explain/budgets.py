@@ -2,6 +2,7 @@
 from explain.program import answer
 from flow.depths import with_depths
 from flow.limits import STANDARD, limits_of
+from flow.session import POPS
 
 
 def ops_of(options, session):
@@ -52,7 +53,7 @@ def endless_pushes(options, text, session, held, depths):
     """Of a design that uses up its operations with depths that never block: who pushes on although its reader has stopped."""
     ports = ports_of(options, with_depths(text.decode('ascii', 'replace'), depths).encode())
     for entry in held:
-        readers = session.users(entry.channel, ('read', 'tryread'))
+        readers = session.users(entry.channel, POPS)
         if entry.side == 'full' and readers and not any(other.module == readers[0] for other in held):
             pushed, popped = (ports.get((entry.channel, side), 0) for side in ('push', 'pop'))
             yield (f'{entry.module} pushed {pushed:,} elements on {entry.channel} and would go on; {readers[0]} stopped after '

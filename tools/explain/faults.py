@@ -3,10 +3,12 @@ import difflib
 import re
 
 from explain.language import (
-    BODY, FIRST, FOLLOW, FORMS, NUMBERS, OPERANDS, OPERATIONS, POPS, PUSHES, count_of, most_of, plain, ranges_of, table)
+    BODY, FIRST, FOLLOW, FORMS, NUMBERS, OPERATIONS, count_of, expressions_at, most_of, parts_of, plain, ranges_of, table)
 from explain.program import ask
 from explain.session import Session, tokens_of
-from flow.limits import STANDARD, limits_of
+from flow.design import NAME
+from flow.limits import STANDARD, WIDTH, limits_of
+from flow.session import OPERANDS, POPS, PUSHES
 
 LONGEST = 200  # of a line of the session that is shown
 MOST_FAULTS = 10  # that are told of one text
@@ -33,10 +35,9 @@ def operation_at(words):
 def uses(words):
     """The places of a statement that use a name, each with what it may be."""
     values, channels = ('register', 'temp'), ('source', 'sink', 'fifo')
-    fixed = {'input': [(1, ('source',))], 'depth': [(1, ('fifo',))], 'loop': [(5, ('register',))], 'goto': [(1, ('block',))],
-             'branch': [(1, ('register',)), (2, ('block',)), (3, ('block',))]}
     if words[0] != 'at':
-        return fixed.get(words[0], [])
+        parts = parts_of(words[0]) if words[0] in FORMS else []
+        return [(place, (part.lower(),)) for place, part in enumerate(parts) if part in ('SOURCE', 'FIFO', 'REGISTER', 'BLOCK')]
     start = operation_at(words)
     found = [(3, values)] if start == 4 else []
     kind = words[start] if len(words) > start else ''
@@ -98,17 +99,14 @@ def wrong_operation(words):
         near = next(iter(difflib.get_close_matches(kind, OPERATIONS, 1)), None)
         return start, f'{kind} is no operation' + (f'; did you mean {near}?' if near else ''), near
     form = f'the operation is written: {OPERATIONS[kind]}'
-    names = OPERATIONS[kind].split()[1:]
-    expressions = sum(name in ('EXPRESSION', 'VALUE', 'ADDRESS') for name in names)
-    for at in range(len(names) - expressions):
-        place = start + 1 + at
+    first, expressions = expressions_at(kind)
+    for place in range(start + 1, start + first):
         if place >= len(words) or not re.fullmatch(r'[A-Za-z_]\w*', words[place]):
             return place, form, None
-    first = start + 1 + len(names) - expressions
     if expressions:
-        wrong = wrong_expression(words, first, expressions)
+        wrong = wrong_expression(words, start + first, expressions)
         return (wrong[0], f'{wrong[1]}; {form}', None) if wrong else (0, form, None)
-    return first, form, None
+    return start + first, form, None
 
 
 def wrong_statement(words, statements):
@@ -126,12 +124,12 @@ def wrong_statement(words, statements):
     if key == 'at' and len(words) > 2 and words[1].isdigit():
         return wrong_operation(words)
     form = f'the statement is written: {FORMS[key]}'
-    for place, part in enumerate(FORMS[key].split(' (')[0].replace('[', '').replace(']', '').split()):
+    for place, part in enumerate(parts_of(key)):
         word = words[place] if place < len(words) else ''
-        fits = word == part or part.isupper() and (word.isdigit() if part in NUMBERS else re.fullmatch(r'[A-Za-z_]\w{0,63}', word))
+        fits = word == part or part.isupper() and (word.isdigit() if part in NUMBERS else NAME.fullmatch(word))
         if not fits:
             return place, form, None
-    return min(len(words) - 1, len(FORMS[key].split(' (')[0].split())), form, None
+    return min(len(words) - 1, len(parts_of(key))), form, None
 
 
 def wrong_number(words, limits):
@@ -141,7 +139,7 @@ def wrong_number(words, limits):
             continue
         low, high, what = ranges_of(limits).get((words[0], place), (0, 2 ** 64 - 1, 'number'))
         if words[place - 1] == 'sext':
-            low, high, what = 1, 64, 'width of sext'
+            low, high, what = 1, WIDTH, 'width of sext'
         if not low <= int(word) <= high:
             highest = {10 ** 12: '10^12', 2 ** 64 - 1: '2^64 - 1'}.get(high, f'{high:,}')
             return place, f'{word} is no {what} from {low} to {highest}'
@@ -152,7 +150,7 @@ def ends_of(session, channel):
     """Who stands at the ends of a channel."""
     kind = session.channels[channel][0]
     parts = []
-    for side, verb, kinds in (('sink', 'read', ('read', 'tryread')), ('source', 'write', ('write', 'trywrite'))):
+    for side, verb, kinds in (('sink', 'read', POPS), ('source', 'write', PUSHES)):
         if kind != side:
             users = session.users(channel, kinds)
             parts.append(f'{" and ".join(users) or "no module"} {verb}{"s" if len(users) < 2 else ""} {channel}')
@@ -174,7 +172,7 @@ def wrong_in_body(code, words, before, limits):
         kinds = next(kinds for kinds in (POPS, PUSHES) if words[start] in kinds)
         for line, offset, _, other in body.operations:
             modulus = body.interval or 2 ** 64
-            if other[0] in kinds[:2] and other[1] == words[start + 1] and offset % modulus == int(words[1]) % modulus:
+            if other[0] in kinds and other[1] == words[start + 1] and offset % modulus == int(words[1]) % modulus:
                 equal = f'which is the same modulo II {body.interval}' if body.interval and offset != int(words[1]) else 'too'
                 return 1, f'line {line} does so at offset {offset}, {equal}'
     return None, None

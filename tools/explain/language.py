@@ -2,11 +2,9 @@
 import os
 import re
 
-from flow.limits import ALL_MEMORY_WORDS, EDITS, FIFO_DELAY
+from flow.limits import ALL_MEMORY_WORDS, EDITS, EXPRESSION_DEPTH, EXPRESSION_NODES, FIFO_DELAY, VERSION, WIDTH
 
 TOP = os.path.dirname(os.path.dirname(os.path.dirname(os.path.realpath(__file__))))
-POPS = ('read', 'tryread', 'empty')
-PUSHES = ('write', 'trywrite', 'full')
 FORMS = {
     'flow': 'flow VERSION', 'source': 'source NAME WIDTH', 'sink': 'sink NAME WIDTH',
     'fifo': 'fifo NAME WIDTH [DEPTH [DELAY]] (DELAY under flow 2 alone)', 'module': 'module NAME', 'reg': 'reg NAME WIDTH',
@@ -20,8 +18,6 @@ OPERATIONS = {
     'read': 'read CHANNEL PLACE', 'write': 'write CHANNEL VALUE', 'tryread': 'tryread CHANNEL PLACE OK',
     'trywrite': 'trywrite CHANNEL OK VALUE', 'empty': 'empty CHANNEL PLACE', 'full': 'full CHANNEL PLACE',
 }
-OPERANDS = {'~': 1, 'sext': 2, '?:': 3}
-OPERANDS.update({word: 2 for word in '+ - * & | ^ << >> == != <u <s / %'.split()})
 FOLLOW = [  # what may follow what
     (('nothing',), ('flow',)),
     (('flow', 'source', 'sink', 'fifo'), ('source', 'sink', 'fifo', 'module', 'input', 'limits', 'depth', 'end')),
@@ -40,14 +36,24 @@ BODY = ('block', 'loop', 'temp', 'at')
 NUMBERS = ('VERSION', 'WIDTH', 'DEPTH', 'DELAY', 'WORDS', 'LENGTH', 'II', 'OFFSET', 'VALUE', 'CYCLES', 'OPS')
 
 
+def parts_of(key):
+    """The words of a statement's form, with those that may be left out."""
+    return FORMS[key].split(' (')[0].replace('[', '').replace(']', '').split()
+
+
+def expressions_at(kind):
+    """Where the expressions of an operation begin, counted from its first word, and how many there are."""
+    words = OPERATIONS[kind].split()
+    count = sum(word in ('EXPRESSION', 'VALUE', 'ADDRESS') for word in words)
+    return len(words) - count, count
+
+
 def ranges_of(limits):
     """Of each place of a statement with a number: the least and the greatest one, and what it is."""
-    ranges = {(key, 2): (1, 64, 'width') for key in ('source', 'sink', 'fifo', 'reg', 'mem', 'temp')}
-    ranges.update({('flow', 1): (1, 2, 'version'), ('fifo', 3): (1, limits.fifo_depth, 'depth'), ('fifo', 4): (1, FIFO_DELAY, 'delay'),
-                   ('mem', 3): (1, limits.memory_words, 'number of words'), ('block', 2): (1, limits.block_clocks, 'LEN'),
-                   ('loop', 2): (1, limits.block_clocks, 'II'), ('loop', 3): (1, limits.block_clocks, 'LEN'),
-                   ('depth', 2): (1, limits.fifo_depth, 'depth')})
-    return ranges
+    most = {'VERSION': (VERSION, 'version'), 'WIDTH': (WIDTH, 'width'), 'DEPTH': (limits.fifo_depth, 'depth'),
+            'DELAY': (FIFO_DELAY, 'delay'), 'WORDS': (limits.memory_words, 'number of words'), 'II': (limits.block_clocks, 'II'),
+            'LENGTH': (limits.block_clocks, 'LEN')}
+    return {(key, place): (1, *most[part]) for key in FORMS for place, part in enumerate(parts_of(key)) if part in most}
 
 
 def most_of(limits):
@@ -56,7 +62,8 @@ def most_of(limits):
             'mem': f'at most {limits.memories:,} memories in a module, and {ALL_MEMORY_WORDS:,} words in all memories',
             'temp': f'at most {limits.temps:,} temps in a body', 'input': f'at most {limits.input_values:,} input values in all',
             'depth': f'at most {EDITS:,} edits',
-            'at': f'at most {limits.operations:,} operations in a body, and 256 nodes and depth 32 in an expression'}
+            'at': f'at most {limits.operations:,} operations in a body, and {EXPRESSION_NODES} nodes and depth {EXPRESSION_DEPTH} '
+                  'in an expression'}
     most.update({key: f'at most {limits.channels:,} sources, sinks and FIFOs' for key in ('source', 'sink', 'fifo')})
     most.update({key: f'at most {limits.blocks:,} blocks and loops in a module' for key in ('block', 'loop')})
     return most

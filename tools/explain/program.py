@@ -4,9 +4,10 @@ import subprocess
 
 from explain.language import TOP
 from flow.answers import read_depths, read_path, read_run, read_stalls
+from flow.program import STATUSES
 
 READERS = {'run': read_run, 'stalls': read_stalls, 'path': read_path, 'size': lambda text: read_depths('size', text)}
-ANSWERED = (0, 3, 4, 5)  # statuses of whole answers
+ANSWERED = tuple(STATUSES.values())  # the statuses of whole answers
 
 
 def ask(words, text):

@@ -1,9 +1,8 @@
 """Reads what a session text declares, as far as it can be read; a faulty line is passed over."""
 import re
 
-from explain.language import POPS, PUSHES
-
-QUERIES = ('tryread', 'trywrite', 'empty', 'full')
+from flow.limits import DEFAULT_DEPTH
+from flow.session import POPS, PUSHES, QUERIES
 
 
 def tokens_of(line):
@@ -52,7 +51,7 @@ class Session:
             self.channels[words[1]] = (key, number)
             self.widths[words[1]] = int(words[2])
             if key == 'fifo':
-                self.depths[words[1]] = int(words[3]) if len(words) > 3 else 2
+                self.depths[words[1]] = int(words[3]) if len(words) > 3 else DEFAULT_DEPTH
         elif key == 'module':
             self.modules.append(Module(words[1], number))
         elif key == 'reg':

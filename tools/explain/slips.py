@@ -1,7 +1,9 @@
 """What looks like a slip in a session that is accepted."""
 import collections
 
-from explain.language import OPERANDS, count_of
+from explain.language import count_of, expressions_at
+from flow.limits import WIDTH
+from flow.session import OPERANDS
 
 PORTS = 2  # of a memory of hardware
 
@@ -20,8 +22,7 @@ def expression(words):
 
 def expressions_of(words):
     """The expressions of an operation, as trees: an address before a value."""
-    before = {'set': 2, 'write': 2, 'load': 3, 'store': 2, 'trywrite': 3}.get(words[0])
-    trees, rest = [], words[before:] if before else []
+    trees, rest = [], words[expressions_at(words[0])[0]:]
     while rest:
         tree, rest = expression(rest)
         trees.append(tree)
@@ -44,7 +45,7 @@ def comparisons(tree):
 def cut_constant(session, words, widths, trees):
     """A constant that is wider than what it goes into."""
     name = words[1]
-    width = widths.get(name, 64) if words[0] == 'set' else session.widths.get(name, 64)
+    width = (widths if words[0] == 'set' else session.widths).get(name, WIDTH)
     value = constant(trees[0]) if words[0] in ('set', 'write', 'trywrite') else None
     if value is not None and value >> width:
         yield f'{name} has {count_of(width, "bit")}, so {value} is cut'

@@ -7,12 +7,13 @@ import re
 from flow.answers import read_depths, read_least, read_run
 from flow.depths import with_depths
 from flow.program import NoAnswer, Program, TookTooLong
+from flow.session import QUERIES
 
 SHARES = (0, 1, 2, 5, 10, 20, 50)  # of the earliest end, in hundredths: the slacks to begin with
 STEP = 0.05  # the bits of neighbours differ by at most this share, where there are clocks between them
 MOST_POINTS = 40
 MOST_PAIRS = 450  # of edits, in one session
-QUERY = re.compile(r'^at \d+ (if \S+ )?(tryread|trywrite|empty|full) ', re.MULTILINE)
+QUERY = re.compile(rf'^at \d+ (if \S+ )?({"|".join(QUERIES)}) ', re.MULTILINE)
 
 
 @dataclasses.dataclass

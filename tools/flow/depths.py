@@ -1,14 +1,15 @@
 """The depths of a session's FIFOs, read and changed in its text."""
 import re
 
+from flow.limits import DEFAULT_DEPTH
+
 FIFO = re.compile(r'(?P<head>[ \t\r]*fifo[ \t\r]+(?P<name>\S+)[ \t\r]+\S+)(?:(?P<space>[ \t\r]+)(?P<depth>\d+))?(?P<rest>(?:[ \t\r].*)?)')
-DEFAULT = 2  # of a FIFO that tells no depth
 
 
 def depths_of(text):
     """The depth of each FIFO by its name, in the order of the text."""
     found = (FIFO.fullmatch(line) for line in text.split('\n'))
-    return {match['name']: int(match['depth'] or DEFAULT) for match in found if match}
+    return {match['name']: int(match['depth'] or DEFAULT_DEPTH) for match in found if match}
 
 
 def with_depths(text, depths):

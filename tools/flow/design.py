@@ -14,9 +14,9 @@ What the language does not allow, the program refuses; a Design checks names alo
 import re
 
 from flow.expressions import Value, value
+from flow.limits import NAME_BYTES, STANDARD
 
-OPERATIONS = 1_024  # in a body
-NAME = re.compile(r'[A-Za-z_][A-Za-z0-9_]{0,63}')
+NAME = re.compile(rf'[A-Za-z_][A-Za-z0-9_]{{0,{NAME_BYTES - 1}}}')
 
 
 class DesignFault(Exception):
@@ -152,7 +152,8 @@ class Module:
 
     def lines(self):
         first = self.bodies[0].name if self.bodies else None
-        rows = [self.contents[at:at + OPERATIONS] for at in range(0, len(self.contents), OPERATIONS)]
+        most = STANDARD.operations
+        rows = [self.contents[at:at + most] for at in range(0, len(self.contents), most)]
         filling = []
         for number, row in enumerate(rows):
             after = f'fill_{number + 1}' if number + 1 < len(rows) else first

@@ -1,10 +1,17 @@
 """The limits of the language at both scales, as scripts tell and keep them; tools/tests compares them with the program's source."""
 from dataclasses import dataclass
 
+VERSION = 2
+WIDTH = 64
+NAME_BYTES = 64
 CYCLES = 10 ** 15
 EDITS = 1_000
 FIFO_DELAY = 1_000
 ALL_MEMORY_WORDS = 33_554_432
+EXPRESSION_NODES = 256
+EXPRESSION_DEPTH = 32
+DEFAULT_CYCLES, DEFAULT_DEPTH = 10 ** 9, 2  # where the session names none
+SWEEP_POINTS, SWEEP_DEPTH = 4_096, 64
 
 
 @dataclass(frozen=True)

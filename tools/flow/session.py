@@ -2,12 +2,12 @@
 import re
 from dataclasses import dataclass, field
 
-from flow.limits import STANDARD
+from flow.limits import DEFAULT_CYCLES, DEFAULT_DEPTH, STANDARD
 
-OPERANDS = {'~': 1, '?:': 3}
+OPERANDS = {'~': 1, 'sext': 2, '?:': 3}  # how many words or expressions follow
 OPERANDS.update({word: 2 for word in '+ - * & | ^ << >> == != <u <s / %'.split()})
 POPS, PUSHES = ('read', 'tryread'), ('write', 'trywrite')
-CYCLES, DEPTH = 10 ** 9, 2  # where the session names none
+QUERIES = ('tryread', 'trywrite', 'empty', 'full')
 
 
 class SessionFault(Exception):
@@ -72,7 +72,7 @@ class Session:
     channels: dict = field(default_factory=dict)
     modules: list = field(default_factory=list)
     edits: list = field(default_factory=list)
-    cycles: int = CYCLES
+    cycles: int = DEFAULT_CYCLES
     ops: int = STANDARD.default_operations
     has_end: bool = False
 
@@ -139,7 +139,7 @@ def statement(session, tokens):
     module = session.modules[-1] if session.modules else None
     block = module.blocks[-1] if module and module.blocks else None
     if word in ('source', 'sink', 'fifo'):
-        sizes = [int(token) for token in rest[1:]] + ([DEPTH] if word == 'fifo' and len(rest) == 2 else [])
+        sizes = [int(token) for token in rest[1:]] + ([DEFAULT_DEPTH] if word == 'fifo' and len(rest) == 2 else [])
         session.channels[rest[0]] = Channel(word, rest[0], *sizes)
     elif word == 'module':
         session.modules.append(Module(rest[0]))

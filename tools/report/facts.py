@@ -2,11 +2,10 @@
 from dataclasses import dataclass
 
 from flow import answers
+from flow.session import QUERIES
 from report.timeline import Timeline
 from report.waits import Wait
 from report.words import Words
-
-QUERIES = ('tryread', 'trywrite', 'empty', 'full')
 
 
 def asks_outcomes(session):

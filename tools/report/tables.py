@@ -1,10 +1,10 @@
 """The rows of a page's tables: modules, ports and FIFOs, as texts."""
 from dataclasses import dataclass
 
+from flow.session import POPS, PUSHES
 from report.counts import percent, told, told_or_dash
 from report.facts import too_shallow
 
-POPS, PUSHES = ('read', 'tryread'), ('write', 'trywrite')
 SLOWER = 1.05  # times its loop's interval; beyond it a port is marked
 
 

@@ -1,4 +1,5 @@
 """Names and expressions in SystemVerilog. A value of a session has 64 bits; here each expression is as narrow as it may be."""
+from flow.limits import WIDTH
 
 # Words that no signal can be called: those of SystemVerilog, and those of C++, to which Verilator translates.
 RESERVED = set('''
@@ -22,7 +23,7 @@ explicit false float friend goto inline long main mutable namespace noexcept not
 reinterpret_cast requires return short sizeof static_assert static_cast std switch template thread_local throw true try typeid typename
 using volatile wchar_t xor_eq NULL
 '''.split())
-FULL = 64
+FULL = WIDTH
 NEAR = 31  # bits of the amount of a shift that tools take as it is
 
 

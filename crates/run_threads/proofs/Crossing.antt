@@ -102,7 +102,7 @@ path_field =
                 (
                   plain_send _ _ _ _ _,
                   (
-                    notes.the_send,
+                    notes.the_field_send,
                     (list.the_send _ request.the_send, (words_send, tt)),
                   ),
                 ),

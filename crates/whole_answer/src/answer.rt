@@ -152,7 +152,7 @@ fn answer_source<R: Threads + Wait + Sync, S: Source, G: Gate + Sync, K: Sink>(
 {
     one_text_answer();
     match read_all(alloc, source, asked.scale.limits().text_bytes) {
-        Ok(text) => Ok(answer_text(rt, alloc, asked, text, gate, sink)?),
+        Ok(text) => Ok(answer_text(rt, alloc, asked, text.as_slice(), gate, sink)?),
         Err(TakeFault::ReadFault) => Err(Unanswered::ReadFault),
         Err(TakeFault::TooLong) => Ok(refuse(alloc, TOO_LONG)?),
         Err(TakeFault::OutOfMemory) => Err(Unanswered::OutOfMemory),
@@ -178,30 +178,29 @@ fn answer_generated<R: Threads + Wait + Sync, G: Gate + Sync>(
 }
 
 /// Begins the answer to a text. It reads the text to a session and checks the session, at the scale that is asked for, and the task
-/// makes the answer from it. It writes a prefix of the answer's text, and returns the rest. The text is freed once it is read.
+/// makes the answer from it. It writes a prefix of the answer's text, and returns the rest.
 fn answer_text<R: Threads + Wait + Sync, G: Gate + Sync, K: Sink>(
     rt: &R,
     alloc: Global,
     asked: &Asked,
-    text: List<u8>,
+    text: &[u8],
     gate: &G,
     sink: &mut K,
 ) -> Result<Answer, TellFault>
     requires { IsSound asked.now.scale asked.now.task }
-    ensures answers { Begins (AnswersText asked.now text) (K.held sink.old) (K.held sink.new) result }
+    ensures answers { Begins (AnswersText asked.now text.now) (K.held sink.old) (K.held sink.new) result }
     ensures write_fault { IsErrOf result TellFault.WriteFault → Rose (K.faults sink.old) (K.faults sink.new) }
     ensures faults { K.faults sink.old ≤ K.faults sink.new }
 {
     keeps_rules();
     one_text_answer();
-    let (session, lines) = match read_session(alloc, asked.scale, text.as_slice()) {
+    let (session, lines) = match read_session(alloc, asked.scale, text) {
         Ok(read) => read,
         Err(ReadFail::Text(fault)) => return Ok(refuse(alloc, fault)?),
         Err(ReadFail::OutOfMemory) => return Err(TellFault::OutOfMemory),
     };
-    drop(text);
     match check(alloc, asked.scale, &session, &lines) {
-        Ok(checked) => make(&Host { rt, alloc, gate }, asked, session, checked, sink),
+        Ok(checked) => make(&Host { rt, alloc, gate }, asked, &session, checked, sink),
         Err(ReadFail::Text(fault)) => Ok(refuse(alloc, fault)?),
         Err(ReadFail::OutOfMemory) => Err(TellFault::OutOfMemory),
     }

@@ -12,7 +12,7 @@ use Rattle.turn_history.specs.{Turned.Turned, Turned.lent_at, Turned.after_short
 use Rattle.turn_history.specs.declared.turn.HubTurn.TheVariants.{Lent, Ran, Timed, Short}
 use Rattle.turn_history.specs.Entries.{bearer, history_of, Stands}
 use Rattle.sim_hub.specs.{declared.answer.Desk.Desk, declared.answer.PerfAnswer.PerfAnswer}
-use Rattle.sim_hub.specs.Places.{Behind, IsLegal, IsPlace, HasModule, HasModules, HasAdded, HasLooked, HasNoDesk, IsLater}
+use Rattle.sim_hub.specs.Places.{Behind, IsLegal, IsPlace, HasModule, HasModules, HasAdded, HasLooked, HasMadeAll, HasNoDesk, IsLater}
 use Rattle.sim_hub.specs.Hubs.{IsHeld, IsIdle, IsFinished, WasShort, HadMemory, FoundShort, DeskIs, PerfIs, ReturnIs}
 use Rattle.sim_hub.specs.Steps.{Adds, ShortIs, LendingIs, BackIs, TimingIs, MayAdd, IsEnd}
 use Rattle.sim_hub.specs.declared.answer.Desk.TheVariants as desk
@@ -219,3 +219,33 @@ timing_adds log more perf.Short false (same, rest) = same
 pub back_adds : (m n : ℕ) (log more : List HubEntry) (made : Bool) → BackIs m n log more made → MayAdd (m + 1) true log more
 back_adds m n log more true adds = (Ran (m + 1) m n, adds, refl)
 back_adds m n log more false adds = (Short (m + 1), adds, refl)
+
+-- ---- a turn of the performance pass
+
+-- the turn found the first history, left the second one, and led from the pass v to the pass w
+module _ (tries : ℕ) (log more begun : List HubEntry) (v t w : View HubEntry) (b : BeginsTurn bearer tries log v t) (same : begun ≡ log)
+    (answer : PerfAnswer) (added : Bool) (timing : TimingIs log more answer added) (e : IsEnd added begun more t w) where
+  pub perf_adds : MayAdd 0 added log more
+  perf_adds = timing_adds log more answer added timing
+
+  end_here : IsEnd added log more t w
+  end_here = subst (λ (x : List HubEntry). IsEnd added x more t w) same e
+
+  pub perf_later : IsLater v w
+  perf_later = is_later 0 tries added log more v t w b perf_adds end_here
+
+  pub perf_seen : w.seen ≡ more
+  perf_seen = end_seen 0 added log more t w perf_adds end_here
+
+  pub perf_is : PerfIs v w answer
+  perf_is = perf_answer tries log more v t w b answer added timing end_here
+
+  -- it is still the pass that made all others
+  pub perf_made : IsLegal more → ∥ HasMadeAll v ∥₁ → ∥ HasMadeAll w ∥₁
+  perf_made legal made =
+      ∥∥₁_map made
+      (λ all. record {
+        made = subst (λ (n : ℕ). HasModules n w.seen) (sym perf_later.made)
+            (modules_later v.made v.seen w.seen all.made perf_later.begins (subst IsLegal (sym perf_seen) legal));
+        joined = perf_later.joined ∙ all.joined;
+      })

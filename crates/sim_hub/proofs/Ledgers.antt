@@ -1,5 +1,5 @@
 -- What each kind of turn leaves of a ledger.
-use Rattle.std.proofs.Common.{◌≡◌, ℕ, ◌+◌, ◌-◌, ◌<◌, ◌≤◌, inl, inr, refl, sym, ap, ◌∙◌, subst, arith, List, [], ◌∷◌, ◌++◌, Option, Some}
+use Rattle.std.proofs.Common.{◌≡◌, ℕ, ◌+◌, ◌-◌, ◌<◌, ◌≤◌, inl, inr, refl, sym, ap, ◌∙◌, subst, arith, List, [], ◌∷◌, ◌++◌, Option, Some, ◌⊎◌}
 use Rattle.std.proofs.Common.{None, Bool, true, false, length, length-append}
 use Rattle.std.proofs.{lemmas.Bool.cases_Bool, lemmas.List.get_or-set_same}
 use Rattle.std.specs.Prelude.{slice_index_or, slice_set}
@@ -8,14 +8,15 @@ use Rattle.flow_design.specs.{StaticRules.FitsEngine, declared.plan.Plan.Plan, d
 use Rattle.event_timing.specs.{Core.Core, Actions.ActsAll, Actions.MayEarliest, Actions.MayRun, Actions.IsFinal, Actions.runs}
 use Rattle.timing_bridge.specs.Designs.{design}
 use Rattle.run_ahead.specs.{declared.mail.Task.Task, declared.mail.Burst.Burst, Mails.IsBurst}
-use Rattle.sim_core.specs.{Views.CoreView, Views.theory_of, Tasks.IsTaskOf, Tasks.IsTaskFor, Tasks.IsBurstOf, Tasks.rest_of}
+use Rattle.module_sets.specs.Sets.{Has, capacity as room_for}
+use Rattle.sim_core.specs.{Views.CoreView, Views.theory_of, Timings.IsReady, Tasks.IsTaskOf, Tasks.IsTaskFor, Tasks.IsBurstOf, Tasks.rest_of}
 use Rattle.turn_history.specs.{declared.turn.HubTurn.HubTurn, Turns.AreOfOthers, Turns.NoTiming, Histories.turned_by, Entries.history_of}
 use Rattle.turn_history.specs.{declared.entry.HubEntry.HubEntry, Turned.lent_at, Turned.after_lent, Turned.after_ran, Turned.after_timed}
 use Rattle.turn_history.specs.declared.turn.HubTurn.TheVariants.{Lent, Ran, Timed}
 use Rattle.turn_history.proofs.{Plans.history_is, Plans.history_agrees, Lending.turns_beside, Turning.lent_fits, Turning.ran_fits}
 use Rattle.sim_hub.specs.declared.answer.Desk.TheVariants as desk
 use Rattle.sim_hub.specs.{Kept.IsKept, Kept.behind, Kept.spare, Places.Behind, Places.HasNoDesk}
-use Rattle.sim_hub.specs.Hubs.{HadMemory, IsDesk, IsFinished, IsHeld, IsIdle, OutAt, WasShort}
+use Rattle.sim_hub.specs.Hubs.{HadMemory, IsDesk, IsFinished, IsHeld, IsIdle, IsLendable, OutAt, TellsReady, WasShort}
 use Rattle.sim_hub.specs.Steps.{Adds, ComesHome, ComesBack}
 use Rattle.sim_hub.proofs.{Lists.set_none, Lists.within_some, Histories.behind_at, Desks.task_runs, Desks.burst_back, Desks.burst_marks}
 use Rattle.sim_hub.proofs.Keeping.{lent_out, kept_stands, kept_behind, kept_next, lent_matches, ran_matches, timed_matches}
@@ -113,6 +114,41 @@ module _ (core : CoreView) (turns : List HubTurn) (out : ℕ) (short : Bool) (ca
       either : (o : Option ℕ) → lent_at (behind core.plan turns) m ≡ o → lent_at (behind core.plan turns) m ≡ None
       either None e = e
       either (Some q) e = let z = sym here ∙ k.matches.away m q e in absurd (cc)
+
+  -- ---- who is ready
+
+  lendable_here : (m : ℕ) → IsReady core m → Behind (history_of core.plan turns) (IsLendable m)
+  lendable_here m (may, here) =
+      kept_behind core turns out short capacity k (IsLendable m) (record {
+        may_run = subst (λ (x : Core ModuleState). MayRun (design core.plan) x m) k.matches.core_is may;
+        home = free m here;
+      })
+
+  -- a module whose desk can be lent is ready in the core
+  ready_here : (m : ℕ) → Behind (history_of core.plan turns) (IsLendable m) → Behind (history_of core.plan turns) HadMemory → IsReady core m
+  ready_here m lendable memory =
+      let at = behind core.plan turns in
+      let stands = kept_stands core turns out short capacity k in
+      let may = behind_at core.plan (history_of core.plan turns) at stands (IsLendable m) lendable in
+      let had = behind_at core.plan (history_of core.plan turns) at stands HadMemory memory in (
+        subst (λ (x : Core ModuleState). MayRun (design core.plan) x m) (sym k.matches.core_is) may.may_run,
+        elim (cases_Bool (slice_index_or core.lent m true)) [
+          | inl gone ↦ let z = sym may.home ∙ k.matches.home (k.matches.short_is ∙ had) m may.may_run.inside gone in absurd (cc)
+          | inr here ↦ here
+        ],
+      )
+
+  pub tells_ready : (now : CoreView) (before after : List ℕ) → now ≡ core
+      → ((n : ℕ) → n < room_for before → IsReady core n → Has after n) → ((n : ℕ) → Has before n → Has after n)
+      → ((n : ℕ) → Has after n → Has before n ⊎ IsReady core n) → length after ≡ length before
+      → TellsReady (history_of now.plan turns) before after
+  tells_ready now before after same ready kept only room =
+      subst (λ (v : CoreView). TellsReady (history_of v.plan turns) before after) (sym same) (record {
+        ready = λ m inside lendable memory. ready m inside (ready_here m lendable memory);
+        only = λ m has. elim (only m has) [ inl old ↦ inl old | inr is ↦ inr (lendable_here m is) ];
+        kept = kept;
+        room = room;
+      })
 
   lent_turn : (m : ℕ) → short ≡ false → MayRun (design core.plan) (theory_of core) m → slice_index_or core.lent m true ≡ false
       → turned_by core.plan (behind core.plan turns) (Lent (m + 1) m) ≡ Some (after_lent (behind core.plan turns) (m + 1) m)

@@ -1,14 +1,15 @@
 -- What the answers of a hub mean.
-use Rattle.std.specs.Prelude.{◌≡◌, ◌⊎◌, ℕ, ◌+◌, List, length, Bool, true, false}
+use Rattle.std.specs.Prelude.{◌≡◌, ◌⊎◌, ℕ, ◌+◌, ◌<◌, List, length, Bool, true, false, None}
 use Rattle.flow_design.specs.{declared.plan.Plan.Plan, declared.state.ModuleState.ModuleState}
 use Rattle.lockstep_defs.specs.OwnRun.{Own}
 use Rattle.module_interp.specs.Runs.{StandsAt}
+use Rattle.module_sets.specs.Sets.{Has, capacity}
 use Rattle.turn_lock.specs.{declared.view.View.View, Passes.TableId, Passes.pass_lock, Passes.lock_id, Passes.view_of}
 use Rattle.event_timing.specs.Actions.{MayRun, MayEarliest, IsFinal}
 use Rattle.timing_bridge.specs.Designs.{design}
 use Rattle.run_ahead.specs.{declared.mail.Task.Task, declared.mail.Burst.Burst, Mails.IsBurst, Working.StandsSomewhere}
 use Rattle.sim_core.specs.Tasks.{IsTaskOf}
-use Rattle.turn_history.specs.{declared.entry.HubEntry.HubEntry, Turned.Turned, Turns.NoTiming}
+use Rattle.turn_history.specs.{declared.entry.HubEntry.HubEntry, Turned.Turned, Turned.lent_at, Turns.NoTiming}
 use Rattle.turn_history.specs.declared.turn.HubTurn.TheVariants.{Lent, Ran, Timed, Short}
 use Rattle.sim_hub.specs.{declared.hub.Hub.Hub, declared.pass.PerfPass.PerfPass, declared.pass.ModulePass.ModulePass}
 use Rattle.sim_hub.specs.{declared.answer.Desk.Desk, declared.answer.PerfAnswer.PerfAnswer}
@@ -119,6 +120,18 @@ PerfIs v w (perf.Did n) = (before : List HubEntry) × HasAdded (Timed 0 n) befor
 PerfIs v w (perf.Idle n) = HasLooked v w × (n ≡ length w.seen) × Behind w.seen IsIdle
 PerfIs v w perf.Over = HasLooked v w × Behind w.seen IsFinished
 PerfIs v w perf.Short = FoundShort 0 v w
+
+-- a Run of module m is permitted, and its desk is not out
+pub record IsLendable (m : ℕ) (p : Plan) (at : Turned ModuleState) : Type 0 where
+  pub may_run : MayRun (design p) at.core m
+  pub home : lent_at at m ≡ None
+
+-- a set of modules was told who is ready after this history: as far as it has room, each module whose desk can be lent was added
+pub record TellsReady (seen : List HubEntry) (before after : List ℕ) : Type 0 where
+  pub ready : (m : ℕ) → m < capacity before → Behind seen (IsLendable m) → Behind seen HadMemory → Has after m
+  pub only : (m : ℕ) → Has after m → Has before m ⊎ Behind seen (IsLendable m)
+  pub kept : (m : ℕ) → Has before m → Has after m
+  pub room : length after ≡ length before
 
 -- the turn added n Runs of module m, or noted that memory ran out
 abbrev pub ReturnIs : ℕ → ℕ → View HubEntry → View HubEntry → Bool → Type 0

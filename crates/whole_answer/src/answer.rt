@@ -1,6 +1,7 @@
 //! Makes the whole answer: it reads what the words ask for, checks it, runs it, and writes what comes of it.
 ghost use Rattle.std.specs.Prelude.{◌≡◌, ◌≢◌, ◌≤◌, ◌↔◌, [], false, map, string_bytes, IfOk, IfSome, IsErrOf, Some};
 ghost use Rattle.sim_io.specs.Causes.{Rose};
+ghost use Rattle.flow_grammar.specs.Text.{IsAnswer, session_of};
 ghost use Rattle.cli_words.specs.CommandWords.{accepted, IsInRange, IsSound};
 ghost use Rattle.whole_answer.specs.Made.{refused_words, refused, generated, number_of};
 ghost use Rattle.whole_answer.specs.Answer.{Answers, AnswersCommand, AnswersText, Begins, takes_input};
@@ -11,11 +12,12 @@ use crate::laws::{one_answer, one_text_answer};
 use crate::making::{make, summarize};
 use cli_words::{Asked, Command, WordFault, read_words};
 use flow_check::check;
+use flow_design::Session;
 use flow_design::limits::Scale;
 use flow_gen::{generate_session, generated_sessions_are_checked};
 use flow_grammar::{Code, ReadFail, TextFault, keeps_rules};
 use flow_text::read_session;
-use flow_word::{List, OutOfMemory};
+use flow_word::{List, OutOfMemory, Words};
 use report_text::print_numbers;
 use run_threads::Gate;
 use session_plan::elaborate;
@@ -152,7 +154,7 @@ fn answer_source<R: Threads + Wait + Sync, S: Source, G: Gate + Sync, K: Sink>(
 {
     one_text_answer();
     match read_all(alloc, source, asked.scale.limits().text_bytes) {
-        Ok(text) => Ok(answer_text(rt, alloc, asked, text.as_slice(), gate, sink)?),
+        Ok(text) => Ok(answer_text(rt, alloc, asked, text, gate, sink)?),
         Err(TakeFault::ReadFault) => Err(Unanswered::ReadFault),
         Err(TakeFault::TooLong) => Ok(refuse(alloc, TOO_LONG)?),
         Err(TakeFault::OutOfMemory) => Err(Unanswered::OutOfMemory),
@@ -178,32 +180,39 @@ fn answer_generated<R: Threads + Wait + Sync, G: Gate + Sync>(
 }
 
 /// Begins the answer to a text. It reads the text to a session and checks the session, at the scale that is asked for, and the task
-/// makes the answer from it. It writes a prefix of the answer's text, and returns the rest.
+/// makes the answer from it. It writes a prefix of the answer's text, and returns the rest. The text is freed once it is read.
 fn answer_text<R: Threads + Wait + Sync, G: Gate + Sync, K: Sink>(
     rt: &R,
     alloc: Global,
     asked: &Asked,
-    text: &[u8],
+    text: List<u8>,
     gate: &G,
     sink: &mut K,
 ) -> Result<Answer, TellFault>
     requires { IsSound asked.now.scale asked.now.task }
-    ensures answers { Begins (AnswersText asked.now text.now) (K.held sink.old) (K.held sink.new) result }
+    ensures answers { Begins (AnswersText asked.now text) (K.held sink.old) (K.held sink.new) result }
     ensures write_fault { IsErrOf result TellFault.WriteFault → Rose (K.faults sink.old) (K.faults sink.new) }
     ensures faults { K.faults sink.old ≤ K.faults sink.new }
 {
     keeps_rules();
     one_text_answer();
-    let (session, lines) = match read_session(alloc, asked.scale, text) {
+    let (session, lines) = match read_text(alloc, asked.scale, text) {
         Ok(read) => read,
         Err(ReadFail::Text(fault)) => return Ok(refuse(alloc, fault)?),
         Err(ReadFail::OutOfMemory) => return Err(TellFault::OutOfMemory),
     };
     match check(alloc, asked.scale, &session, &lines) {
-        Ok(checked) => make(&Host { rt, alloc, gate }, asked, &session, checked, sink),
+        Ok(checked) => make(&Host { rt, alloc, gate }, asked, session, checked, sink),
         Err(ReadFail::Text(fault)) => Ok(refuse(alloc, fault)?),
         Err(ReadFail::OutOfMemory) => Err(TellFault::OutOfMemory),
     }
+}
+
+/// Reads a text to a session, with the line of each statement, and frees the text. An error is the text's fault, or want of memory.
+fn read_text(alloc: Global, scale: Scale, text: List<u8>) -> Result<(Session, Words), ReadFail>
+    ensures answer { IsAnswer scale text (session_of result) }
+{
+    read_session(alloc, scale, text.as_slice())
 }
 
 /// The answer `refused words`. `OutOfMemory` where memory ran out.

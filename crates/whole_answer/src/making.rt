@@ -32,49 +32,49 @@ use std::sync::Wait;
 use std::thread::Threads;
 
 /// Begins the answer to what is asked of a session that passes the check: it writes a prefix of the answer's text, and returns the
-/// rest.
+/// rest. A simulation frees the session before the first clock.
 #[tactic(auto, using(crate::proofs::Limits::limits_fit))]
 pub(crate) fn make<R: Threads + Wait + Sync, G: Gate + Sync, K: Sink>(
     host: &Host<'_, R, G>,
     asked: &Asked,
-    session: &Session,
+    session: Session,
     checked: Checked,
     sink: &mut K,
 ) -> Result<Answer, TellFault>
     requires sound { IsSound asked.now.scale asked.now.task }
-    requires plan { checked.plan ≡ plan_of asked.now.scale session.now.statements }
-    requires edits { checked.edits ≡ edits_of session.now.statements }
+    requires plan { checked.plan ≡ plan_of asked.now.scale session.statements }
+    requires edits { checked.edits ≡ edits_of session.statements }
     requires fits { FitsEngine checked.plan }
     requires keeps { KeepsScale asked.now.scale checked.plan }
     requires edits_fit { All (EditFits checked.plan) checked.edits }
-    ensures rest { IfOk result (λ rest. IsRest (made asked.now.scale asked.now.task session.now.statements)
+    ensures rest { IfOk result (λ rest. IsRest (made asked.now.scale asked.now.task session.statements)
         (K.held sink.old) (K.held sink.new) rest) }
     ensures prefix { OnErr result (AppendsPrefix (K.held sink.old) (K.held sink.new)
-        (made asked.now.scale asked.now.task session.now.statements).text) }
+        (made asked.now.scale asked.now.task session.statements).text) }
     ensures write_fault { IsErrOf result TellFault.WriteFault → Rose (K.faults sink.old) (K.faults sink.new) }
     ensures faults { K.faults sink.old ≤ K.faults sink.new }
 {
     let Host { rt, alloc, gate } = *host;
     match &asked.task {
-        Task::Simulate(by, options) => simulate(host, *by, options, checked, sink),
-        Task::Check => unwritten(print(alloc, session)),
+        Task::Simulate(by, options) => simulate(host, *by, options, session, checked, sink),
+        Task::Check => unwritten(print(alloc, &session)),
         Task::Advise(options) => {
-            unwritten(advise_depths(rt, alloc, limited(checked, options), gate))
+            unwritten(advise_depths(rt, alloc, limited(session, checked, options), gate))
         }
         Task::Show(view, options) => {
-            let plan = limited(checked, options);
+            let plan = limited(session, checked, options);
             show(host, *view, options, plan, sink)
         }
         Task::Order => unwritten(order_modules(alloc, &checked.plan)),
         Task::Sweep { lo, hi, options } => {
-            unwritten(sweep_depths(rt, alloc, *lo, *hi, limited(checked, options)))
+            unwritten(sweep_depths(rt, alloc, *lo, *hi, limited(session, checked, options)))
         }
         Task::Size { slack, options } => {
-            let plan = limited(checked, options);
+            let plan = limited(session, checked, options);
             unwritten(size_fifos(rt, alloc, &plan, *slack, gate))
         }
         Task::Least { slack, options } => {
-            let plan = limited(checked, options);
+            let plan = limited(session, checked, options);
             unwritten(least_fifos(rt, alloc, &plan, *slack, gate))
         }
     }
@@ -100,11 +100,12 @@ fn print(alloc: Global, session: &Session) -> Result<Answer, OutOfMemory>
     })
 }
 
-/// Runs the job of a session under the limits of the options.
+/// Runs the job of a session under the limits of the options. The session is freed before the first clock.
 fn simulate<R: Threads + Wait + Sync, G: Gate + Sync, K: Sink>(
     host: &Host<'_, R, G>,
     by: Simulator,
     options: &Options,
+    session: Session,
     checked: Checked,
     sink: &mut K,
 ) -> Result<Answer, TellFault>
@@ -117,17 +118,19 @@ fn simulate<R: Threads + Wait + Sync, G: Gate + Sync, K: Sink>(
     ensures write_fault { IsErrOf result TellFault.WriteFault → Rose (K.faults sink.old) (K.faults sink.new) }
     ensures faults { K.faults sink.old ≤ K.faults sink.new }
 {
+    drop(session);
     let Checked { mut plan, edits } = checked;
     set_limits(&mut plan, options);
     job(host, by, options.events, Checked { plan, edits }, sink)
 }
 
-/// The plan of a session under the limits of the options. It frees the edits.
-fn limited(checked: Checked, options: &Options) -> Plan
+/// The plan of a session under the limits of the options. It frees the session and the edits.
+fn limited(session: Session, checked: Checked, options: &Options) -> Plan
     requires fits { FitsEngine (with_limits options.now checked.plan) }
     ensures plan { result ≡ with_limits options.now checked.plan }
     ensures fits { FitsEngine result }
 {
+    drop(session);
     let mut plan = checked.plan;
     set_limits(&mut plan, options);
     plan

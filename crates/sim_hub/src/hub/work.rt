@@ -1,7 +1,7 @@
 //! What passes do in their turns.
 ghost use Rattle.std.specs.Prelude.{◌≡◌, ◌⊎◌, ℕ, ◌+◌, ◌^◌, ◌<◌, List, [], ◌∷◌, ◌++◌, length, true, false};
 ghost use Rattle.sim_hub.specs.Places.{HasDeskOut, HasNoDeskOut, IsLater};
-ghost use Rattle.sim_hub.specs.Hubs.{module_of, module_view, perf_view, IsOfHub, IsPerfOf, DeskIs, OutIs, PerfIs, ReturnIs, IsDeskBurst};
+ghost use Rattle.sim_hub.specs.Hubs.{module_of, module_view, perf_view, IsOfHub, IsPerfOf, DeskIs, OutIs, PerfIs, ReturnIs, IsDeskBurst, TellsReady};
 
 use super::Hub;
 use crate::answer::{Desk, PerfAnswer};
@@ -58,7 +58,12 @@ impl Hub {
         ensures later { IsLater (perf_view pass) (perf_view result.0) }
         ensures answer { PerfIs (perf_view pass) (perf_view result.0) result.1 }
     {
-        self.take_perf_turn(rt, pass, None)
+        let PerfPass { place } = pass;
+        let mut turn = self.begin(rt, place);
+        let (answer, added) = turn.value_mut().ledger.time();
+        let place = self.end(turn, 0, added);
+        let pass = PerfPass { place };
+        (pass, answer)
     }
 
     /// Does a turn as `perf_turn` does. It adds to `ready` the modules of which a Run is permitted then and whose desk is not out, as
@@ -73,25 +78,11 @@ impl Hub {
         ensures own { IsPerfOf self.now result.0 }
         ensures later { IsLater (perf_view pass) (perf_view result.0) }
         ensures answer { PerfIs (perf_view pass) (perf_view result.0) result.1 }
-    {
-        self.take_perf_turn(rt, pass, Some(ready))
-    }
-
-    /// Takes a turn of the performance pass, and tells the modules that are ready then, if that is asked for.
-    fn take_perf_turn<R: Wait>(
-        &self,
-        rt: &R,
-        pass: PerfPass,
-        ready: Option<&mut ModuleSet>,
-    ) -> (PerfPass, PerfAnswer)
-        requires own { IsPerfOf self.now pass }
-        ensures own { IsPerfOf self.now result.0 }
-        ensures later { IsLater (perf_view pass) (perf_view result.0) }
-        ensures answer { PerfIs (perf_view pass) (perf_view result.0) result.1 }
+        ensures tells { TellsReady (perf_view result.0).seen ready.old ready.new }
     {
         let PerfPass { place } = pass;
         let mut turn = self.begin(rt, place);
-        let (answer, added) = turn.value_mut().ledger.time(ready);
+        let (answer, added) = turn.value_mut().ledger.time_telling(ready);
         let place = self.end(turn, 0, added);
         let pass = PerfPass { place };
         (pass, answer)

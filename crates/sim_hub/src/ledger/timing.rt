@@ -6,7 +6,7 @@ ghost use Rattle.timing_bridge.specs.Designs.{design};
 ghost use Rattle.sim_core.specs.Views.{theory_of};
 ghost use Rattle.turn_history.specs.declared.turn.HubTurn.TheVariants.{Timed};
 ghost use Rattle.turn_history.specs.{Histories.turned_by, Turned.Turned, Turned.after_timed, Turns.NoTiming};
-ghost use Rattle.sim_hub.specs.{Ledgers.entries_in, Steps.TimingIs};
+ghost use Rattle.sim_hub.specs.{Hubs.TellsReady, Ledgers.entries_in, Steps.TimingIs};
 
 use super::Ledger;
 use crate::answer::PerfAnswer;
@@ -18,21 +18,20 @@ use std::sync::ledger::{Blank, Ledger as Ticks};
 use turn_history::HubTurn;
 
 impl Ledger {
-    /// Takes a turn of the performance pass. If `ready` is there, it adds to it the modules of which a Run is permitted then and whose
-    /// desk is not out. The second answer tells whether a turn was added.
-    pub(crate) fn time(&mut self, ready: Option<&mut ModuleSet>) -> (PerfAnswer, bool)
-        ensures { TimingIs (entries_in self.old) (entries_in self.new) result.0 result.1 }
+    /// Takes a turn of the performance pass, as `time` does. Then it adds to `ready` the modules of which a Run is permitted and whose
+    /// desk is not out.
+    pub(crate) fn time_telling(&mut self, ready: &mut ModuleSet) -> (PerfAnswer, bool)
+        ensures timing { TimingIs (entries_in self.old) (entries_in self.new) result.0 result.1 }
+        ensures tells { TellsReady (entries_in self.new) ready.old ready.new }
     {
-        let answer = self.time_all();
-        if let Some(set) = ready {
-            self.core.add_ready(set);
-        }
+        let answer = self.time();
+        self.core.add_ready(ready);
         answer
     }
 
-    /// Does each permitted Assign and Answer, round after round; or, where none is permitted, one Earliest, if it is permitted. The
-    /// second answer tells whether a turn was added.
-    fn time_all(&mut self) -> (PerfAnswer, bool)
+    /// Takes a turn of the performance pass: it does each permitted Assign and Answer, round after round; or, where none is permitted,
+    /// one Earliest, if it is permitted. The second answer tells whether a turn was added.
+    pub(crate) fn time(&mut self) -> (PerfAnswer, bool)
         ensures { TimingIs (entries_in self.old) (entries_in self.new) result.0 result.1 }
     {
         // This brings in what a core always keeps: it agrees with its plan.

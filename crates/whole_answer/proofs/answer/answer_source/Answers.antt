@@ -12,13 +12,12 @@ too_long = record { line = 0; code = TooLong }
 pub returns-in_ok-answer_text-in-Ok-clause-answers : goal.returns-in_ok-answer_text-in-Ok-clause-answers
 returns-in_ok-answer_text-in-Ok-clause-answers g c =
     begins_read (AnswersText c.args.asked.now) _ _ _ _ _ (Ok c.in_ok-answer_text-in-Ok.field-0) c.in-Ok.ensures.bytes c.in-Ok.ensures.end
-    (rw c.as_slice.ensures at (begins_as_ok {F = Unanswered} _ _ _ _ c.in_ok-answer_text-in-Ok.ensures.answers))
+    (begins_as_ok {F = Unanswered} _ _ _ _ c.in_ok-answer_text-in-Ok.ensures.answers)
 
 pub returns-in_err-answer_text-in-Ok-clause-answers : goal.returns-in_err-answer_text-in-Ok-clause-answers
 returns-in_err-answer_text-in-Ok-clause-answers g c =
     begins_read (AnswersText c.args.asked.now) _ _ _ _ _ c.from_residual.result c.in-Ok.ensures.bytes c.in-Ok.ensures.end
-    (rw c.as_slice.ensures at (begins_as_err _ _ _ _ c.from_residual.result c.from_residual.ensures.0
-    c.in_err-answer_text-in-Ok.ensures.answers))
+    (begins_as_err _ _ _ _ c.from_residual.result c.from_residual.ensures.0 c.in_err-answer_text-in-Ok.ensures.answers)
 
 pub returns-in-Err-ReadFault-clause-answers : goal.returns-in-Err-ReadFault-clause-answers
 returns-in-Err-ReadFault-clause-answers g c =

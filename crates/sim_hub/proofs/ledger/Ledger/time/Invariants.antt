@@ -1,4 +1,4 @@
-use Rattle.sim_hub.proofs.ledger.Ledger.time_all.Given as goal
+use Rattle.sim_hub.proofs.ledger.Ledger.time.Given as goal
 
 -- the counter's own number
 abbrev pub ghosts-act : goal.ghosts-act

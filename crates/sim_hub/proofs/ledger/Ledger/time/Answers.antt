@@ -3,7 +3,7 @@ use Rattle.turn_history.specs.{declared.turn.HubTurn.HubTurn, declared.turn.HubT
 use Rattle.sim_hub.specs.Kept.{behind}
 use Rattle.sim_hub.proofs.Keeping.{kept_same, kept_verified, same_entries}
 use Rattle.sim_hub.proofs.Ledgers.{is_finished, is_idle, kept_timed}
-use Rattle.sim_hub.proofs.ledger.Ledger.time_all.Goals as goal
+use Rattle.sim_hub.proofs.ledger.Ledger.time.Goals as goal
 
 pub act-count-requires-clause-verified : goal.act-count-requires-clause-verified
 act-count-requires-clause-verified c =

@@ -28,8 +28,7 @@ pub fn permits(core: &Core, action: Action) -> Result<(), Cause>
     ensures cause { IfErr result (λ cause.
         cause_of (design core.now.plan) core.now.plan.cycles (theory_of core.now) action ≡ Some cause) }
 {
-    // This brings in what a core always keeps: it agrees with its plan.
-    let _count = core.modules();
+    core.agrees();
     try_conditions(core, action)
 }
 
@@ -219,8 +218,7 @@ fn is_busy(core: &Core, owner: u32) -> bool
     requires { owner < length core.now.plan.design.modules }
     ensures { result ≡ busy_by (design core.now.plan) core.now.plan.cycles (theory_of core.now) owner }
 {
-    // This brings in what a core always keeps: it agrees with its plan.
-    let _count = core.modules();
+    core.agrees();
     let runs = permits_run(core, owner).is_ok();
     let assigns = permits_assign(core, owner).is_ok();
     let answers = permits_answer(core, owner).is_ok();

@@ -133,7 +133,7 @@ fn second_core<R: Threads + Wait + Sync, U: Runner>(
 {
     records_are_answers();
     let core = runner.run_again(rt, alloc, opening)?;
-    let _modules = core.modules();
+    core.agrees();
     Ok(core)
 }
 
@@ -153,6 +153,6 @@ pub(crate) fn first_core<R: Threads + Wait + Sync, U: Runner>(
 {
     records_are_answers();
     let core = runner.run_plan(rt, alloc, plan)?;
-    let _modules = core.modules();
+    core.agrees();
     Ok(core)
 }

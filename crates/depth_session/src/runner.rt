@@ -145,7 +145,7 @@ fn run_by_threads<R: Threads + Wait + Sync, G: Gate + Sync>(
 {
     histories_are_legal();
     // This brings in what a core always keeps: the engine takes its plan.
-    let _modules = core.modules();
+    core.agrees();
     let mut light = light;
     let threaded = run_core(rt, alloc, core, gate, &mut light)?;
     Ok((threaded.core, light))

@@ -85,7 +85,7 @@ impl FifoWalk {
         ensures channel { self.new.channel ≡ self.old.channel }
         ensures clock { self.new.clock ≡ next_of self.old + 1 }
     {
-        let _modules = core.modules();
+        core.agrees();
         let clock = self.next();
         self.pops = pass_port(core, port_of(self.channel, Side::Pop), self.pops, clock);
         self.pushes = pass_port(core, port_of(self.channel, Side::Push), self.pushes, clock);
@@ -121,7 +121,7 @@ fn pass_port(core: &Core, port: Port, walk: PortWalk, clock: u64) -> PortWalk
     requires within { clock < last_clock core.now.plan }
     ensures { StandsAt core.now.plan port (clock + 1) result }
 {
-    let _modules = core.modules();
+    core.agrees();
     if walk.next != clock {
         return walk;
     }

@@ -89,8 +89,7 @@ pub fn run_core<G: Gate + Sync, R: Threads + Wait + Sync>(
     requires own { AreOwn core }
     ensures run { IfOk result (λ threaded. IsRun core.plan threaded) }
 {
-    // This brings in what a core always keeps: it agrees with its plan.
-    let _count = core.modules();
+    core.agrees();
     let mut driven = *light;
     driven.add_small(alloc, core.plan())?;
     let noted = ModuleSet::new(alloc, core.modules())?;

@@ -40,7 +40,7 @@ pub(crate) fn print_fifos(
     requires clock { clock ≡ last_clock core.now.plan }
     ensures { OnOk result (text.new ≡ text.old ++ text_of_lines (map (fifo_line core.now.plan) (fifos core.now.plan))) }
 {
-    let _modules = core.modules();
+    core.agrees();
     let count = core.plan().design.channels.len() as u32;
     for channel in 0..count {
         print_fifo(alloc, text, core, channel, clock)?;
@@ -87,7 +87,7 @@ fn filling_at(
     requires clock { clock ≡ last_clock core.now.plan }
     ensures { IfOk result (IsFilling core.now.plan channel) }
 {
-    let _modules = core.modules();
+    core.agrees();
     let depth = core.plan().depths.as_slice()[channel as usize];
     let pop = Port {
         side: Side::Pop,

@@ -25,7 +25,7 @@ pub(crate) fn print_ports(
     ensures { OnOk result (text.new
         ≡ text.old ++ text_of_lines (at_each_side (length core.now.plan.design.channels) (ports_of core.now.plan owner))) }
 {
-    let _modules = core.modules();
+    core.agrees();
     let count = core.plan().design.channels.len() as u32;
     for channel in 0..count {
         let pop = Port {
@@ -68,7 +68,7 @@ fn clocks_of(alloc: Global, core: &Core, owner: u32, port: Port) -> Result<Words
     requires channel { port.channel < length core.now.plan.design.channels }
     ensures { IfOk result (λ clocks. clocks ≡ port_clocks core.now.plan owner port) }
 {
-    let _modules = core.modules();
+    core.agrees();
     own_clocks(alloc, core, owner, port)
 }
 

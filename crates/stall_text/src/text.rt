@@ -74,7 +74,7 @@ fn print_module(
     requires clock { clock ≡ last_clock core.now.plan }
     ensures { OnOk result (text.new ≡ text.old ++ text_of_lines (form.clock_lines core.now.plan owner)) }
 {
-    let _modules = core.modules();
+    core.agrees();
     let design = &core.plan().design;
     let channels = design.channels.as_slice().len();
     let spans = core.spans(alloc, owner, clock)?;

@@ -30,7 +30,7 @@ pub(crate) fn write_counters<K: Sink>(
     ensures write_fault { IsErrOf result TellFault.WriteFault → Rose (K.faults sink.old) (K.faults sink.new) }
     ensures faults { K.faults sink.old ≤ K.faults sink.new }
 {
-    let _modules = core.modules();
+    core.agrees();
     let last = core.verdict().clock();
     let count = core.plan().design.channels.len() as u32;
     for channel in 0..count {
@@ -84,7 +84,7 @@ fn write_fifo<K: Sink>(
     ensures write_fault { IsErrOf result TellFault.WriteFault → Rose (K.faults sink.old) (K.faults sink.new) }
     ensures faults { K.faults sink.old ≤ K.faults sink.new }
 {
-    let _modules = core.modules();
+    core.agrees();
     let name = channel_name(&core.plan().design, channel);
     let mut walk = FifoWalk::new(core, channel);
     let mut held = walk.fill();

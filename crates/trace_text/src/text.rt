@@ -29,7 +29,7 @@ pub fn trace_text<K: Sink>(alloc: Global, core: &Core, sink: &mut K) -> Result<L
     ensures write_fault { IsErrOf result TellFault.WriteFault → Rose (K.faults sink.old) (K.faults sink.new) }
     ensures faults { K.faults sink.old ≤ K.faults sink.new }
 {
-    let _modules = core.modules();
+    core.agrees();
     let mut pending = List::from_slice(alloc, b"{\"displayTimeUnit\":\"ns\",\"traceEvents\":[")?;
     print_names(&mut pending, &core.plan().design)?;
     write_tracks(alloc, &mut pending, core, sink)?;

@@ -36,7 +36,7 @@ pub fn wave_text<K: Sink>(
     ensures write_fault { IsErrOf result TellFault.WriteFault → Rose (K.faults sink.old) (K.faults sink.new) }
     ensures faults { K.faults sink.old ≤ K.faults sink.new }
 {
-    let _modules = core.modules();
+    core.agrees();
     let mut pending = List::new(alloc);
     let fifos = print_header(&mut pending, design.channels.as_slice())?;
     print_opening(&mut pending, fifos)?;
@@ -60,7 +60,7 @@ fn write_later<K: Sink>(
     ensures write_fault { IsErrOf result TellFault.WriteFault → Rose (K.faults sink.old) (K.faults sink.new) }
     ensures faults { K.faults sink.old ≤ K.faults sink.new }
 {
-    let _modules = core.modules();
+    core.agrees();
     let last = core.verdict().clock();
     let mut walks = fifo_walks(alloc, core)?;
     let mut changes = List::new(alloc);

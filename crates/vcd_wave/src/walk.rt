@@ -26,7 +26,7 @@ pub(crate) fn fifo_walks(alloc: Global, core: &Core) -> Result<List<FifoWalk>, O
     requires { IsFinal (design core.now.plan) core.now.plan.cycles (theory_of core.now) }
     ensures { IfOk result (AreWalks core.now.plan 0) }
 {
-    let _modules = core.modules();
+    core.agrees();
     let channels = core.plan().design.channels.as_slice();
     let mut walks = List::new(alloc);
     for (number, channel) in channels.iter().enumerate() {
@@ -63,7 +63,7 @@ pub(crate) fn pass_clock(
     ensures changes { OnOk result (map change_of changes.new
         ≡ changes_between (fills core.now.plan clock) (fills core.now.plan (clock + 1))) }
 {
-    let _modules = core.modules();
+    core.agrees();
     changes.truncate(0);
     for fifo in 0..walks.len() {
         let mut walk = walks.as_slice()[fifo as usize];
@@ -106,7 +106,7 @@ fn pass_fifo(core: &Core, walk: &mut FifoWalk, clock: u64) -> Option<u64>
     ensures channel { walk.new.channel ≡ walk.old.channel }
     ensures changed { result ≡ other_fill (fill core.now.plan walk.old.channel clock) (fill core.now.plan walk.old.channel (clock + 1)) }
 {
-    let _modules = core.modules();
+    core.agrees();
     if walk.next() != clock {
         return None;
     }

@@ -130,8 +130,7 @@ fn settle(ledger: Ledger) -> Closed
     requires home { (m : ℕ) → m < length ledger.core.plan.design.modules → ∥ ComesHome m (entries_in ledger) ∥₁ }
     ensures { EndsAt (entries_in ledger) result }
 {
-    // This brings in what a core always keeps: it agrees with its plan.
-    let _count = ledger.core.modules();
+    ledger.core.agrees();
     let Ledger {
         core,
         turns,

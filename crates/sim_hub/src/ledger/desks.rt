@@ -21,8 +21,7 @@ impl Ledger {
         requires own { AreOwn core }
         ensures { IfOk result (λ ledger. entries_in ledger ≡ history_of core.plan []) }
     {
-        // This brings in what a core always keeps: it agrees with its plan.
-        let _count = core.modules();
+        core.agrees();
         let turns = Vec::with_capacity(alloc, 1)?;
         Ok(Ledger {
             core,
@@ -39,8 +38,7 @@ impl Ledger {
         ensures lending { LendingIs owner (entries_in self.old) (entries_in self.new) result.0 result.1 }
         ensures out { OutAt owner (entries_in self.new) result.0 }
     {
-        // This brings in what a core always keeps: it agrees with its plan.
-        let _count = self.core.modules();
+        self.core.agrees();
         if self.short {
             return (Desk::Short, false);
         }
@@ -81,8 +79,7 @@ impl Ledger {
         ensures short { burst.short ≡ true → result ≡ false }
         ensures home { HasNoDesk owner (entries_in self.new) }
     {
-        // This brings in what a core always keeps: it agrees with its plan.
-        let _count = self.core.modules();
+        self.core.agrees();
         if burst.short {
             drop(burst);
             self.give_up(pass, owner);

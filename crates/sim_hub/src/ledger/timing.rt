@@ -34,8 +34,7 @@ impl Ledger {
     pub(crate) fn time(&mut self) -> (PerfAnswer, bool)
         ensures { TimingIs (entries_in self.old) (entries_in self.new) result.0 result.1 }
     {
-        // This brings in what a core always keeps: it agrees with its plan.
-        let _count = self.core.modules();
+        self.core.agrees();
         if self.short {
             return (PerfAnswer::Short, false);
         }
@@ -76,8 +75,7 @@ fn act<L: Ticks>(core: &mut Core, blank: Blank) -> u64
     ensures no_earliest { result ≡ 0 → (m c : ℕ)
         → MayEarliest (design core.new.plan) core.new.plan.cycles (theory_of core.new) m c → ⊥ }
 {
-    // This brings in what a core always keeps: it agrees with its plan.
-    let _count = core.modules();
+    core.agrees();
     let mut steps = Steps::<L>::new(blank);
     let count = core.time_all(&mut steps);
     if count > 0 {

@@ -8,7 +8,7 @@ use Rattle.core_actions.proofs.permitting.is_busy.Goals as goal
 pub returns : goal.returns
 returns c =
     let v = c.args.core.now in
-    let of = c.modules-count.ensures in
+    let of = c.agrees.ensures in
     let run = c.is_ok-runs.ensures.value ∙ permissions.ok_is _ _ c.permits_run.ensures
     ∙ permissions.run_is v of.fits of.sound of.agreed c.args.owner c.requires in
     let assign = c.is_ok-assigns.ensures.value ∙ permissions.ok_is _ _ c.permits_assign.ensures

@@ -19,7 +19,7 @@ pub most_ahead-requires-clause-early : goal.most_ahead-requires-clause-early
 most_ahead-requires-clause-early c =
     let p = c.args.core.now.plan in
     subst (All (λ x. x + 1 < 2 ^ 64)) (sym c.as_slice.ensures)
-    (clock_early p c.modules-modules.ensures.fits c.in_ok-pushes.pushes c.in_ok-pushes.ensures.in_order.below)
+    (clock_early p c.agrees.ensures.fits c.in_ok-pushes.pushes c.in_ok-pushes.ensures.in_order.below)
 
 pub returns-clause-peak : goal.returns-clause-peak
 returns-clause-peak c =
@@ -27,7 +27,7 @@ returns-clause-peak c =
     c.most_ahead.ensures (last_clock p)
     (subst (All (λ x. x < last_clock p)) (sym c.as_slice.ensures) c.in_ok-pushes.ensures.in_order.below)
     ∙ (ap₂ (λ (xs ys : List ℕ). most_ahead xs ys (last_clock p)) c.as_slice.ensures c.as_slice-2.ensures
-    ∙ sym (peak_told p c.modules-modules.ensures.fits c.args.channel c.requires.channel c.requires.fifo c.in_ok-pops.pops
+    ∙ sym (peak_told p c.agrees.ensures.fits c.args.channel c.requires.channel c.requires.fifo c.in_ok-pops.pops
     c.in_ok-pushes.pushes c.in_ok-pops.ensures c.in_ok-pushes.ensures))
 
 pub returns-clause-small : goal.returns-clause-small
@@ -37,6 +37,6 @@ returns-clause-small c =
     (sym (c.most_ahead.ensures (last_clock p)
     (subst (All (λ x. x < last_clock p)) (sym c.as_slice.ensures) c.in_ok-pushes.ensures.in_order.below)
     ∙ (ap₂ (λ (xs ys : List ℕ). most_ahead xs ys (last_clock p)) c.as_slice.ensures c.as_slice-2.ensures
-    ∙ sym (peak_told p c.modules-modules.ensures.fits c.args.channel c.requires.channel c.requires.fifo c.in_ok-pops.pops
+    ∙ sym (peak_told p c.agrees.ensures.fits c.args.channel c.requires.channel c.requires.fifo c.in_ok-pops.pops
     c.in_ok-pushes.pushes c.in_ok-pops.ensures c.in_ok-pushes.ensures))))
-    (peak_small p c.modules-modules.ensures.fits c.args.channel c.requires.fifo)
+    (peak_small p c.agrees.ensures.fits c.args.channel c.requires.fifo)

@@ -20,7 +20,7 @@ pub returns-clause-verified : goal.returns-clause-verified
 returns-clause-verified g c =
     let p = c.args.core.plan in
     let run = c.in_ok-threaded.ensures.run in
-    let fits = c.modules-modules.ensures.fits in
+    let fits = c.agrees.ensures.fits in
     let turns = run.stands.turns in
     let legal = c.histories_are_legal.ensures.legal p fits turns run.at run.stands.standing in
     subst AllVerified (sym run.core) (c.histories_are_legal.ensures.verified p fits turns run.at legal)

@@ -7,7 +7,7 @@ use Rattle.stall_text.proofs.fifos.filling_at.Goals as goal
 
 pub filling_of-requires-clause-clock : goal.filling_of-requires-clause-clock
 filling_of-requires-clause-clock c =
-    clock_few c.args.core.now.plan c.modules-modules.ensures.fits c.args.clock c.requires.clock
+    clock_few c.args.core.now.plan c.agrees.ensures.fits c.args.clock c.requires.clock
 
 pub returns : goal.returns
 returns c =
@@ -16,7 +16,7 @@ returns c =
     let pops = subst (ArePortClocks p (record { side = Pop; channel = f })) (sym c.as_slice-2.ensures) c.in_ok-pops.ensures in
     let pushes = subst (ArePortClocks p (record { side = Push; channel = f })) (sym c.as_slice-3.ensures) c.in_ok-pushes.ensures in
     let depth = ap (λ (ds : List ℕ). get_or ds f 0) (c.as_slice.ensures ∙ ap (λ (q : Plan). q.depths) c.plan.ensures) in
-    filling_told p c.modules-modules.ensures.fits f c.requires.channel c.requires.fifo c.args.clock
+    filling_told p c.agrees.ensures.fits f c.requires.channel c.requires.fifo c.args.clock
     (get_or c.as_slice.result.now f 0) c.args.delay c.requires.clock depth c.requires.delay c.as_slice-2.result.now
     c.as_slice-3.result.now pops pushes c.filling_of.result c.filling_of.ensures.most c.filling_of.ensures.empty
     c.filling_of.ensures.full

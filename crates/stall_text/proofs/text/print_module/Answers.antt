@@ -21,12 +21,12 @@ still_clocks-requires-clause-inside c =
     subst (λ (cs : List Channel). All (λ (s : Span). HasChannelBelow (length cs) s.doing) c.as_slice.result.now)
     (sym (c.as_slice-channels.ensures ∙ ap (λ (p : Plan). p.design.channels) c.plan.ensures))
     (subst (All (λ (s : Span). HasChannelBelow (length c.args.core.now.plan.design.channels) s.doing)) (sym c.as_slice.ensures)
-    (spans_inside c.args.core.now.plan c.modules-modules.ensures.fits c.args.owner c.in_ok-spans.spans c.in_ok-spans.ensures))
+    (spans_inside c.args.core.now.plan c.agrees.ensures.fits c.args.owner c.in_ok-spans.spans c.in_ok-spans.ensures))
 
 pub still_clocks-requires-clause-few : goal.still_clocks-requires-clause-few
 still_clocks-requires-clause-few c =
     subst (λ (ss : List Span). (test : Doing → Bool) → spans_clocks test ss < 2 ^ 64) (sym c.as_slice.ensures)
-    (spans_few c.args.core.now.plan c.modules-modules.ensures.fits c.args.owner c.in_ok-spans.spans c.in_ok-spans.ensures)
+    (spans_few c.args.core.now.plan c.agrees.ensures.fits c.args.owner c.in_ok-spans.spans c.in_ok-spans.ensures)
 
 pub still_clocks-requires-2-clause-order : goal.still_clocks-requires-2-clause-order
 still_clocks-requires-2-clause-order c =
@@ -38,12 +38,12 @@ still_clocks-requires-2-clause-inside c =
     subst (λ (cs : List Channel). All (λ (s : Span). HasChannelBelow (length cs) s.doing) c.as_slice-2.result.now)
     (sym (c.as_slice-channels.ensures ∙ ap (λ (p : Plan). p.design.channels) c.plan.ensures))
     (subst (All (λ (s : Span). HasChannelBelow (length c.args.core.now.plan.design.channels) s.doing)) (sym c.as_slice-2.ensures)
-    (spans_inside c.args.core.now.plan c.modules-modules.ensures.fits c.args.owner c.in_ok-spans.spans c.in_ok-spans.ensures))
+    (spans_inside c.args.core.now.plan c.agrees.ensures.fits c.args.owner c.in_ok-spans.spans c.in_ok-spans.ensures))
 
 pub still_clocks-requires-2-clause-few : goal.still_clocks-requires-2-clause-few
 still_clocks-requires-2-clause-few c =
     subst (λ (ss : List Span). (test : Doing → Bool) → spans_clocks test ss < 2 ^ 64) (sym c.as_slice-2.ensures)
-    (spans_few c.args.core.now.plan c.modules-modules.ensures.fits c.args.owner c.in_ok-spans.spans c.in_ok-spans.ensures)
+    (spans_few c.args.core.now.plan c.agrees.ensures.fits c.args.owner c.in_ok-spans.spans c.in_ok-spans.ensures)
 
 pub clocks_of-requires-clause-order : goal.clocks_of-requires-clause-order
 clocks_of-requires-clause-order c =
@@ -53,7 +53,7 @@ clocks_of-requires-clause-order c =
 pub clocks_of-requires-clause-few : goal.clocks_of-requires-clause-few
 clocks_of-requires-clause-few c =
     subst (λ (ss : List Span). (test : Doing → Bool) → spans_clocks test ss < 2 ^ 64) (sym c.as_slice-3.ensures)
-    (spans_few c.args.core.now.plan c.modules-modules.ensures.fits c.args.owner c.in_ok-spans.spans c.in_ok-spans.ensures)
+    (spans_few c.args.core.now.plan c.agrees.ensures.fits c.args.owner c.in_ok-spans.spans c.in_ok-spans.ensures)
 
 pub returns : goal.returns
 returns c =

@@ -57,14 +57,14 @@ returns-in_err-write_fill-clause-err g c =
     on_err _ (prefix_as _ _ _ _ (prefix_longer _ _ _ whole.0 c.in_err-write_fill.ensures.err)
     (ap (λ (t : List ℕ). t ++ whole.0)
     (opened p c.plan.result.now c.args.channel c.fill-held.result c.args.pending.now c.channel_name-name.result.now
-    c.modules-modules.ensures.fits c.new-walk.result walk c.new-walk.ensures.channel c.new-walk.ensures.clock c.fill-held.ensures
+    c.agrees.ensures.fits c.new-walk.result walk c.new-walk.ensures.channel c.new-walk.ensures.clock c.fill-held.ensures
     c.channel_name-name.ensures c.plan.ensures)
     ∙ whole.1))
 
 pub loop-name-init : goal.loop-name-init
 loop-name-init g c =
     let p = c.args.core.now.plan in
-    let fits = c.modules-modules.ensures.fits in
+    let fits = c.agrees.ensures.fits in
     let walk = c.new-walk.ensures.walk in
     record {
       walk = walk;
@@ -95,7 +95,7 @@ loop-name-preserved g c =
     let p = c.args.core.now.plan in
     let keeps = c.loop-name.invariant in
     let less = c.loop-name-test.true in
-    let on = went_on p c.plan.result.now c.modules-modules.ensures.fits c.loop-name.walk c.pass.new.self keeps.walk c.pass.ensures.walk
+    let on = went_on p c.plan.result.now c.agrees.ensures.fits c.loop-name.walk c.pass.new.self keeps.walk c.pass.ensures.walk
     c.args.channel c.clock.result c.loop-name.held c.fill-fill.result c.args.pending.now c.channel_name-name.result.now keeps.channel
     c.pass.ensures.channel c.pass.ensures.clock (omega (arith, c.next.ensures, c.requires.last)) c.clock.ensures keeps.held
     c.fill-fill.ensures c.channel_name-name.ensures c.plan.ensures in
@@ -112,7 +112,7 @@ returns-in_err-write_change-clause-err g c =
     let p = c.args.core.now.plan in
     let keeps = c.loop-name.invariant in
     let less = c.loop-name-test.true in
-    let on = went_on p c.plan.result.now c.modules-modules.ensures.fits c.loop-name.walk c.pass.new.self keeps.walk c.pass.ensures.walk
+    let on = went_on p c.plan.result.now c.agrees.ensures.fits c.loop-name.walk c.pass.new.self keeps.walk c.pass.ensures.walk
     c.args.channel c.clock.result c.loop-name.held c.fill-fill.result c.args.pending.now c.channel_name-name.result.now keeps.channel
     c.pass.ensures.channel c.pass.ensures.clock (omega (arith, c.next.ensures, c.requires.last)) c.clock.ensures keeps.held
     c.fill-fill.ensures c.channel_name-name.ensures c.plan.ensures in
@@ -131,4 +131,4 @@ returns-clause-ok g c =
     told_as _ _ _ _ _ keeps.told
     (filled_last p c.args.channel c.args.pending.now w.clock c.args.last (omega (arith, walk.within, c.requires.last))
     (λ b from until. subst (λ (f : ℕ). fill p f b ≡ fill p f w.clock) keeps.channel
-    (walk_steady p c.modules-modules.ensures.fits w walk b from (omega (arith, c.next.ensures)) (omega (arith, c.requires.last)))))
+    (walk_steady p c.agrees.ensures.fits w walk b from (omega (arith, c.next.ensures)) (omega (arith, c.requires.last)))))

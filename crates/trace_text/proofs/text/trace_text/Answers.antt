@@ -16,7 +16,7 @@ whole p q fits a b opened named same =
 pub print_names-requires : goal.print_names-requires
 print_names-requires g c =
     subst (λ (p : Plan). length p.design.modules < 2 ^ 32) (sym c.plan.ensures)
-    (few_modules c.args.core.now.plan c.modules-modules.ensures.fits)
+    (few_modules c.args.core.now.plan c.agrees.ensures.fits)
 
 pub returns-in_err-pending-clause-prefix : goal.returns-in_err-pending-clause-prefix
 returns-in_err-pending-clause-prefix g c = on_err _ (prefix_none _ _)
@@ -29,7 +29,7 @@ returns-in_err-write_tracks-clause-prefix g c =
     let p = c.args.core.now.plan in
     on_err _ (prefix_as _ _ _ _
     (prefix_longer _ _ _ closing_text (prefix_longer _ _ _ (further (all_fills p)) c.in_err-write_tracks.ensures.err))
-    (whole p c.plan.result.now c.modules-modules.ensures.fits c.in_ok-pending.pending _ c.in_ok-pending.ensures
+    (whole p c.plan.result.now c.agrees.ensures.fits c.in_ok-pending.pending _ c.in_ok-pending.ensures
     c.in_ok-print_names.ensures c.plan.ensures))
 
 pub returns-in_err-write_counters-clause-prefix : goal.returns-in_err-write_counters-clause-prefix
@@ -37,7 +37,7 @@ returns-in_err-write_counters-clause-prefix g c =
     let p = c.args.core.now.plan in
     on_err _ (prefix_as _ _ _ _
     (told_prefix_more _ _ _ _ _ _ closing_text c.in_ok-write_tracks.ensures.ok c.in_err-write_counters.ensures.err)
-    (whole p c.plan.result.now c.modules-modules.ensures.fits c.in_ok-pending.pending _ c.in_ok-pending.ensures
+    (whole p c.plan.result.now c.agrees.ensures.fits c.in_ok-pending.pending _ c.in_ok-pending.ensures
     c.in_ok-print_names.ensures c.plan.ensures))
 
 pub returns-in_err-extend_from_slice-clause-prefix : goal.returns-in_err-extend_from_slice-clause-prefix
@@ -45,7 +45,7 @@ returns-in_err-extend_from_slice-clause-prefix g c =
     let p = c.args.core.now.plan in
     on_err _ (prefix_as _ _ _ _
     (told_prefix _ _ _ _ closing_text (told_more _ _ _ _ _ _ _ c.in_ok-write_tracks.ensures.ok c.in_ok-write_counters.ensures.ok))
-    (whole p c.plan.result.now c.modules-modules.ensures.fits c.in_ok-pending.pending _ c.in_ok-pending.ensures
+    (whole p c.plan.result.now c.agrees.ensures.fits c.in_ok-pending.pending _ c.in_ok-pending.ensures
     c.in_ok-print_names.ensures c.plan.ensures))
 
 pub returns-clause-rest : goal.returns-clause-rest
@@ -54,5 +54,5 @@ returns-clause-rest g c =
     told_as _ _ _ _ _
     (told_kept _ _ _ _ _ closing_text (told_more _ _ _ _ _ _ _ c.in_ok-write_tracks.ensures.ok c.in_ok-write_counters.ensures.ok)
     c.in_ok-extend_from_slice.ensures.ok)
-    (whole p c.plan.result.now c.modules-modules.ensures.fits c.in_ok-pending.pending _ c.in_ok-pending.ensures
+    (whole p c.plan.result.now c.agrees.ensures.fits c.in_ok-pending.pending _ c.in_ok-pending.ensures
     c.in_ok-print_names.ensures c.plan.ensures)

@@ -44,7 +44,7 @@ returns-in_err-walks-clause-err g c = on_err _ (prefix_none _ _)
 pub loop-clock-init : goal.loop-clock-init
 loop-clock-init g c =
     let p = c.args.core.now.plan in
-    let fits = c.modules-modules.ensures.fits in
+    let fits = c.agrees.ensures.fits in
     let last : c.clock-last.result ≡ last_clock p = c.clock-last.ensures ∙ ap clock_of c.verdict.ensures in
     let least = c.next_clock-clock.ensures ∙ ap least_next c.as_slice.ensures in
     record {
@@ -83,7 +83,7 @@ pass_clock-requires-clause-within g c =
 pub loop-clock-preserved : goal.loop-clock-preserved
 loop-clock-preserved g c =
     let p = c.args.core.now.plan in
-    let fits = c.modules-modules.ensures.fits in
+    let fits = c.agrees.ensures.fits in
     let first = c.args.pending.now in
     let at = c.loop-clock.clock in
     let end = c.clock-last.result in
@@ -119,7 +119,7 @@ loop-clock-smaller g c =
     let last : end ≡ last_clock p = c.clock-last.ensures ∙ ap clock_of c.verdict.ensures in
     let next = c.next_clock-clock-in-loop-clock.result in
     let least = c.next_clock-clock-in-loop-clock.ensures ∙ ap least_next c.as_slice-in-loop-clock-2.ensures in
-    let on = goes_on p c.modules-modules.ensures.fits (at + 1) next end c.pass_clock.new.walks c.in_ok-pass_clock.ensures.walks (omega arith)
+    let on = goes_on p c.agrees.ensures.fits (at + 1) next end c.pass_clock.new.walks c.in_ok-pass_clock.ensures.walks (omega arith)
     last least in
     let later : at + 1 ≤ min next end = on.later in
     omega arith

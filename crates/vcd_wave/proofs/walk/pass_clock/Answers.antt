@@ -15,7 +15,7 @@ same_count p clock k old ws changes h passed =
 
 pub loop-fifo-init : goal.loop-fifo-init
 loop-fifo-init c =
-    passed_first c.args.core.now.plan c.modules-modules.ensures.fits c.args.clock c.args.walks.now c.truncate.new.self c.requires.walks
+    passed_first c.args.core.now.plan c.agrees.ensures.fits c.args.clock c.args.walks.now c.truncate.new.self c.requires.walks
     c.truncate.ensures
 
 pub bounds-as_slice-fifo : goal.bounds-as_slice-fifo
@@ -52,7 +52,7 @@ loop-fifo-preserved c =
     let count = same_count c.args.core.now.plan c.args.clock c.loop-fifo.fifo c.args.walks.now c.loop-fifo.walks c.loop-fifo.changes
     c.requires.walks c.loop-fifo.invariant in
     let within = c.loop-fifo-test.true in
-    passed_next c.args.core.now.plan c.modules-modules.ensures.fits c.args.clock c.loop-fifo.fifo c.loop-fifo.walks c.put.new.walks
+    passed_next c.args.core.now.plan c.agrees.ensures.fits c.args.clock c.loop-fifo.fifo c.loop-fifo.walks c.put.new.walks
     c.loop-fifo.changes c.push_change.new.changes _ c.pass_fifo-fill.new.walk _ c.pass_fifo-fill.result c.loop-fifo.invariant
     (omega (arith, c.len-fifo-end.ensures)) (ap (λ (ws : List FifoWalk). get_or ws c.loop-fifo.fifo _) c.as_slice.ensures)
     c.pass_fifo-fill.ensures.channel c.pass_fifo-fill.ensures.walk c.pass_fifo-fill.ensures.changed c.put.ensures
@@ -62,12 +62,12 @@ pub returns-clause-walks : goal.returns-clause-walks
 returns-clause-walks c =
     let count = same_count c.args.core.now.plan c.args.clock c.loop-fifo.fifo c.args.walks.now c.loop-fifo.walks c.loop-fifo.changes
     c.requires.walks c.loop-fifo.invariant in
-    (passed_all c.args.core.now.plan c.modules-modules.ensures.fits c.args.clock c.loop-fifo.fifo c.loop-fifo.walks c.loop-fifo.changes
+    (passed_all c.args.core.now.plan c.agrees.ensures.fits c.args.clock c.loop-fifo.fifo c.loop-fifo.walks c.loop-fifo.changes
     c.loop-fifo.invariant (omega (arith, c.len-fifo-end.ensures, c.loop-fifo-test.false, c.loop-fifo.auto.fifo-end))).0
 
 pub returns-clause-changes : goal.returns-clause-changes
 returns-clause-changes c =
     let count = same_count c.args.core.now.plan c.args.clock c.loop-fifo.fifo c.args.walks.now c.loop-fifo.walks c.loop-fifo.changes
     c.requires.walks c.loop-fifo.invariant in
-    (passed_all c.args.core.now.plan c.modules-modules.ensures.fits c.args.clock c.loop-fifo.fifo c.loop-fifo.walks c.loop-fifo.changes
+    (passed_all c.args.core.now.plan c.agrees.ensures.fits c.args.clock c.loop-fifo.fifo c.loop-fifo.walks c.loop-fifo.changes
     c.loop-fifo.invariant (omega (arith, c.len-fifo-end.ensures, c.loop-fifo-test.false, c.loop-fifo.auto.fifo-end))).1

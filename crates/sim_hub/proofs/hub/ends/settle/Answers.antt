@@ -13,7 +13,7 @@ pub returns-else-short : goal.returns-else-short
 returns-else-short c =
     let l = c.args.ledger in
     let k = l.kept in
-    let fits = c.modules-count.ensures.fits in
+    let fits = c.agrees.ensures.fits in
     let memory = sym k.matches.short_is ∙ c.if-short.false in
     let final = final_since l.core.plan fits c.requires.over.0 (history_of l.core.plan l.turns.items) (behind l.core.plan l.turns.items)
     (kept_stands l.core l.turns.items l.out l.short _ k) c.requires.over.1 c.requires.over.2 memory in (

@@ -9,7 +9,7 @@ use Rattle.sim_hub.proofs.ledger.Ledger.lend.Goals as goal
 pub returns-then-self-clause-out : goal.returns-then-self-clause-out
 returns-then-self-clause-out c =
     let l = c.args.self.now in
-    owner_home l.core l.turns.items l.out l.short _ l.kept c.modules-count.ensures.fits c.args.owner c.requires.home
+    owner_home l.core l.turns.items l.out l.short _ l.kept c.agrees.ensures.fits c.args.owner c.requires.home
 
 pub fall_short-requires-clause-pass : goal.fall_short-requires-clause-pass
 fall_short-requires-clause-pass c =
@@ -22,7 +22,7 @@ pub returns-then-is_err-clause-out : goal.returns-then-is_err-clause-out
 returns-then-is_err-clause-out c =
     let l = c.args.self.now in
     let m = c.args.owner in
-    let home = owner_home l.core l.turns.items l.out l.short _ l.kept c.modules-count.ensures.fits m c.requires.home in
+    let home = owner_home l.core l.turns.items l.out l.short _ l.kept c.agrees.ensures.fits m c.requires.home in
     home_behind_short m (history_of l.core.plan l.turns.items) _ (λ p at. lent_at at m ≡ Some (m + 1) → ⊥) home
     (short_added l.core.plan l.core.plan l.turns.items _ _ c.args.pass m refl c.reserve.ensures.items c.requires.pass c.fall_short.ensures)
 
@@ -115,7 +115,7 @@ returns-then-is_final-clause-out c =
     let l = c.args.self.now in
     let same = (rw c.in-Ok-None.field-0-is at c.in-Ok-None.ensures.unchanged) refl in
     subst (HasNoDesk c.args.owner) (sym (same_entries l.core.plan _ l.turns.items _ (ap (λ v. v.plan) same) c.reserve.ensures.items))
-    (owner_home l.core l.turns.items l.out l.short _ l.kept c.modules-count.ensures.fits c.args.owner c.requires.home)
+    (owner_home l.core l.turns.items l.out l.short _ l.kept c.agrees.ensures.fits c.args.owner c.requires.home)
 
 pub returns-else-is_final-clause-lending : goal.returns-else-is_final-clause-lending
 returns-else-is_final-clause-lending c =
@@ -125,7 +125,7 @@ returns-else-is_final-clause-lending c =
     let none = (rw c.in-Ok-None.field-0-is at c.in-Ok-None.ensures.none) refl in
     let entries = same_entries l.core.plan _ l.turns.items _ (ap (λ v. v.plan) same) c.reserve.ensures.items in
     let inside = owner_inside l.core l.turns.items l.out l.short _ l.kept m c.requires.home in
-    let home = owner_home l.core l.turns.items l.out l.short _ l.kept c.modules-count.ensures.fits m c.requires.home in (
+    let home = owner_home l.core l.turns.items l.out l.short _ l.kept c.agrees.ensures.fits m c.requires.home in (
       refl,
       entries,
       c.count.ensures ∙ ap length entries,
@@ -138,13 +138,13 @@ returns-else-is_final-clause-out c =
     let l = c.args.self.now in
     let same = (rw c.in-Ok-None.field-0-is at c.in-Ok-None.ensures.unchanged) refl in
     subst (HasNoDesk c.args.owner) (sym (same_entries l.core.plan _ l.turns.items _ (ap (λ v. v.plan) same) c.reserve.ensures.items))
-    (owner_home l.core l.turns.items l.out l.short _ l.kept c.modules-count.ensures.fits c.args.owner c.requires.home)
+    (owner_home l.core l.turns.items l.out l.short _ l.kept c.agrees.ensures.fits c.args.owner c.requires.home)
 
 pub returns-in-Err-clause-out : goal.returns-in-Err-clause-out
 returns-in-Err-clause-out c =
     let l = c.args.self.now in
     let m = c.args.owner in
-    let home = owner_home l.core l.turns.items l.out l.short _ l.kept c.modules-count.ensures.fits m c.requires.home in
+    let home = owner_home l.core l.turns.items l.out l.short _ l.kept c.agrees.ensures.fits m c.requires.home in
     let plan = ap (λ v. v.plan) c.in-Err.ensures.no_memory in
     home_behind_short m (history_of l.core.plan l.turns.items) _ (λ p at. lent_at at m ≡ Some (m + 1) → ⊥) home
     (short_added l.core.plan c.lend.new.self.plan l.turns.items _ _ c.args.pass m plan c.reserve.ensures.items c.requires.pass

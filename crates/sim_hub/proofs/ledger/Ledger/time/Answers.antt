@@ -7,7 +7,7 @@ use Rattle.sim_hub.proofs.ledger.Ledger.time.Goals as goal
 
 pub act-count-requires-clause-verified : goal.act-count-requires-clause-verified
 act-count-requires-clause-verified c =
-    let l = c.args.self.now in kept_verified l.core l.turns.items l.out l.short _ l.kept c.modules-count.ensures.fits
+    let l = c.args.self.now in kept_verified l.core l.turns.items l.out l.short _ l.kept c.agrees.ensures.fits
 
 pub invariant_of-self-then-count-gt0 : goal.invariant_of-self-then-count-gt0
 invariant_of-self-then-count-gt0 c =

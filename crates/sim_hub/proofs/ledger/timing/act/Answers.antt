@@ -19,7 +19,7 @@ returns-then-answer_earliest-clause-did g c = λ some at core memory.
     let mid = c.time_all-count.new.self in
     let same = none_timed (design p) p.cycles (theory_of first) (theory_of mid) c.time_all-count.result
     (omega arith) c.time_all-count.ensures.rounds in
-    let inside : IsInside (design p) (theory_of first) = c.modules-count.ensures.agreed.marks.inside in
+    let inside : IsInside (design p) (theory_of first) = c.agrees.ensures.agreed.marks.inside in
     let found = c.answer_earliest.ensures.done c.if-answer_earliest.true in
     earliest_turn p at (theory_of mid) _ (same ∙ core) memory (subst (IsInside (design p)) (sym same) inside)
     (subst (λ (q : Plan). earliest_of (design q) q.cycles (theory_of mid) ≡ Some (theory_of c.answer_earliest.new.self))

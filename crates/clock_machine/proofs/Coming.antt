@@ -12,7 +12,7 @@ use Rattle.lockstep_defs.specs.Report.{steps_of, outcomes, events_of}
 use Rattle.lockstep_defs.proofs.{Agrees.all_modules, Agrees.steps_of-suc, Exits.IsAt}
 use Rattle.lockstep_defs.proofs.Settled.{state-suc, history-zero, history-suc, still_step, settled_at, settled_none, settled_stays}
 use Rattle.lockstep_defs.proofs.Settled.{history_stays}
-use Rattle.block_code.specs.declared.code.BlockCode.{BlockCode}
+use Rattle.module_code.specs.declared.code.BlockCode.{BlockCode}
 use Rattle.clock_machine.specs.{declared.run.Run.Run, declared.seat.Seat.Seat, declared.seat.Traffic.Traffic, Clocks.step_at}
 use Rattle.clock_machine.specs.{Clocks.does_move, Parts.kept, Parts.AreFit, Parts.AreFitInTime, Runs.HasCome, Seats.IsSeated, Seats.no_seat}
 use Rattle.clock_machine.proofs.{Fronts.some_at, Kept.kept-append, Sleeping.awake, Sleeping.sleeping, Sleeping.seated_state}

@@ -8,7 +8,7 @@ use Rattle.std.specs.{Prelude.find, Prelude.option_map, Prelude.nat_lt, Prelude.
 use Rattle.lockstep_defs.specs.{Machine.is_over, Machine.nobody, Channels.is_empty, Channels.contents_of, Channels.all_ready}
 use Rattle.lockstep_defs.specs.{Channels.stalls, Lockstep.requests_of, Lockstep.moves, Lockstep.module_at, Verdict.held_at, Verdict.held_by}
 use Rattle.lockstep_defs.proofs.{Agrees.not_ended, Settled.same_stalls}
-use Rattle.module_move.specs.Sound.{IsStateSound}
+use Rattle.module_code.specs.Sound.{IsStateSound}
 use Rattle.clock_machine.specs.Parts.{AreFit}
 
 -- ---- if every element could be popped

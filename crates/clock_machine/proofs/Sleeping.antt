@@ -11,9 +11,8 @@ use Rattle.lockstep_defs.specs.Lockstep.{no_module, module_at, requests_of, move
 use Rattle.lockstep_defs.specs.Quiet.{rests, skip, is_some_request}
 use Rattle.lockstep_defs.proofs.{Agrees.state_at-suc, Agrees.not_ended, Resting.skip_front, States.move_state, States.history_state}
 use Rattle.block_schedule.specs.{Schedules.KeepsLimits, Work.StandsIn, Work.IsNextDue}
-use Rattle.module_move.specs.{Moves.ticked_to, Moves.gone_on, Sound.IsStateSound}
+use Rattle.module_code.specs.{Moves.ticked_to, Moves.gone_on, Sound.IsStateSound, declared.code.BlockCode.BlockCode}
 use Rattle.module_interp.proofs.Idle.{IsIdle, skip_on, never_rests}
-use Rattle.block_code.specs.declared.code.BlockCode.{BlockCode}
 use Rattle.clock_machine.specs.{declared.seat.Seat.Seat, Clocks.does_move}
 use Rattle.clock_machine.specs.Seats.{asleep, IsKnown, IsSeated, IsQuiet, FallsAsleep}
 use Rattle.clock_machine.proofs.Moving.{moves_by_stalls}

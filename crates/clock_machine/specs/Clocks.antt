@@ -3,7 +3,7 @@ use Rattle.std.specs.Prelude.{◌≡◌, ℕ, ◌≤◌, Bool, List, ◌++◌}
 use Rattle.flow_design.specs.{declared.plan.Plan.Plan, declared.state.Element.Element, StaticRules.FitsEngine}
 use Rattle.flow_design.specs.declared.state.ModuleState.{ModuleState}
 use Rattle.lockstep_defs.specs.{Channels.HistoryStep, Lockstep.state, Lockstep.state_at, Lockstep.moves, Lockstep.step_of, Report.events_of}
-use Rattle.block_code.specs.declared.code.BlockCode.{BlockCode}
+use Rattle.module_code.specs.declared.code.BlockCode.{BlockCode}
 use Rattle.clock_machine.specs.{declared.seat.Round.Round, declared.seat.Traffic.Traffic}
 use Rattle.clock_machine.specs.Parts.{exchanges_in, popped, pushed, kept, AreFitInTime, AreCodes}
 

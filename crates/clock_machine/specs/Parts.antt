@@ -7,8 +7,7 @@ use Rattle.flow_design.specs.{declared.state.ModuleState.ModuleState, declared.s
 use Rattle.lockstep_defs.specs.{Machine.is_yes, Machine.nobody, Lockstep.module_at, Verdict.held, Report.queries, Report.outputs_in}
 use Rattle.lockstep_defs.specs.Channels.{element_from, HistoryStep, Exchange, moved_value}
 use Rattle.flow_word.specs.declared.access.Side.TheVariants.{Pop, Push}
-use Rattle.module_move.specs.Sound.{IsRunnable}
-use Rattle.block_code.specs.{declared.code.BlockCode.BlockCode, Codes.AreCodesOf}
+use Rattle.module_code.specs.{Sound.IsRunnable, declared.code.BlockCode.BlockCode, Codes.AreCodesOf}
 use Rattle.clock_machine.specs.declared.seat.Pushed.{Pushed}
 
 -- ---- what a clock adds

@@ -1,7 +1,7 @@
 -- How far a run has come.
 use Rattle.std.specs.Prelude.{◌≡◌, ◌<◌, ℕ, Bool, List, [], length, slice_index_or}
 use Rattle.flow_design.specs.declared.plan.Plan.{Plan}
-use Rattle.block_code.specs.declared.code.BlockCode.{BlockCode}
+use Rattle.module_code.specs.declared.code.BlockCode.{BlockCode}
 use Rattle.lockstep_defs.specs.{Lockstep.state, Lockstep.history, Report.steps_of, Report.outcomes, Report.events_of}
 use Rattle.clock_machine.specs.{declared.run.Run.Run, Parts.kept, Seats.AreSeated}
 

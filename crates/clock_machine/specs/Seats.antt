@@ -3,8 +3,7 @@ use Rattle.std.specs.Prelude.{◌≡◌, ◌+◌, ◌-◌, ◌<◌, ◌≤◌, �
 use Rattle.flow_design.specs.{declared.plan.Plan.Plan, declared.state.ModuleState.ModuleState}
 use Rattle.lockstep_defs.specs.{Machine.nobody, Machine.move, Quiet.rests, Quiet.skip}
 use Rattle.lockstep_defs.specs.Lockstep.{module_at, requests_of, state_at}
-use Rattle.block_code.specs.{declared.code.BlockCode.BlockCode, Notes.no_notes}
-use Rattle.module_move.specs.Sound.{AreNotesOf}
+use Rattle.module_code.specs.{declared.code.BlockCode.BlockCode, Notes.no_notes, Sound.AreNotesOf}
 use Rattle.clock_machine.specs.{declared.seat.Seat.Seat, Clocks.does_move, Clocks.step_at}
 
 -- a seat in which nothing is known

@@ -3,17 +3,15 @@ ghost use Rattle.std.specs.Prelude.{◌≡◌, ◌<◌, ◌≤◌, ◌^◌, IfOk
 ghost use Rattle.flow_design.specs.{StaticRules.FitsEngine, Module.block_of};
 ghost use Rattle.lockstep_defs.specs.{Machine.is_over, Machine.nobody, Machine.requests, Channels.all_ready};
 ghost use Rattle.lockstep_defs.specs.Lockstep.{module_at, moves, state_at};
-ghost use Rattle.block_code.specs.{declared.code.BlockCode.BlockCode as CodeOf, Codes.IsBlockCodeOf};
-ghost use Rattle.module_move.specs.Sound.{AreNotesOf, IsStateSound};
+ghost use Rattle.module_code.specs.{declared.code.BlockCode.BlockCode as CodeOf, Codes.IsBlockCodeOf, Sound.AreNotesOf, Sound.IsStateSound};
 ghost use Rattle.clock_machine.specs.{Parts.AreCodes, Seats.code_of, Seats.IsKnown, Seats.IsSeated, Clocks.Runs};
 
 use crate::channels::any_stalls_ever;
 use crate::seat::Seat;
 use crate::standing::{Compiled, Standing};
-use block_code::{BlockCode, Notes};
 use flow_design::{ClockState, Module, ModuleState, Plan, Request};
 use flow_word::{List, OutOfMemory, Words};
-use module_move::{is_over, note};
+use module_code::{BlockCode, Notes, is_over, note};
 
 /// Module i of a plan.
 #[inline(always)]

@@ -11,12 +11,11 @@ ghost use Rattle.clock_machine.specs.{Parts.AreFitInTime, Parts.AreCodes, Parts.
 use crate::asking::{note_one, state_at};
 use crate::channels::stalls_ever;
 use crate::standing::Compiled;
-use block_code::Notes;
 use flow_design::{
     ChannelKind, ClockState, Element, EventLine, Held, ModuleState, Plan, Report, Request, Verdict,
 };
 use flow_word::{Flags, List, OutOfMemory, Queue, Side, Words};
-use module_move::{is_over, is_spent};
+use module_code::{Notes, is_over, is_spent};
 use std::alloc::Global;
 
 /// What a run collected on its way, for the report.

@@ -13,6 +13,6 @@ mod telling;
 mod turn;
 mod turns;
 
-pub use block_code::BlockCode;
+pub use module_code::BlockCode;
 pub use opening::codes_of_all;
 pub use run::{clock_run, clock_run_by};

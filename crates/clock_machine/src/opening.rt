@@ -6,10 +6,9 @@ ghost use Rattle.lockstep_defs.specs.{Machine.opened, Channels.element_from, Loc
 ghost use Rattle.clock_machine.specs.Parts.{IsFit, AreFit, AreCodes};
 
 use crate::asking::module_at;
-use block_code::{BlockCode, codes_of};
 use flow_design::{ClockState, Element, ModuleState, Plan};
 use flow_word::{Flags, List, OutOfMemory, Queue, Width, cut};
-use module_move::open;
+use module_code::{BlockCode, codes_of, open};
 use std::alloc::Global;
 
 /// The first state of module i.

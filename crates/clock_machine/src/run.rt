@@ -3,7 +3,7 @@ ghost use Rattle.std.specs.Prelude.{◌≡◌, ◌+◌, ◌<◌, ◌≤◌, List
 ghost use Rattle.flow_design.specs.{StaticRules.FitsEngine, declared.report.Verdict.TheVariants.Cycles};
 ghost use Rattle.flow_design.specs.declared.state.ClockState.{ClockState as StateOf};
 ghost use Rattle.lockstep_defs.specs.{Lockstep.state, Verdict.some_moves, Verdict.is_settled, Verdict.settled_verdict, Report.report};
-ghost use Rattle.block_code.specs.declared.code.BlockCode.{BlockCode as CodeOf};
+ghost use Rattle.module_code.specs.declared.code.BlockCode.{BlockCode as CodeOf};
 ghost use Rattle.clock_machine.specs.{Parts.kept, Parts.report_from, Parts.AreCodes, Clocks.Stands, Runs.HasCome};
 
 use crate::contents::{pop_all, push_all};
@@ -12,9 +12,9 @@ use crate::opening::{codes_of_all, no_answers, open_all};
 use crate::seat::{Round, Seat, seats_for};
 use crate::standing::{Compiled, Standing};
 use crate::turns::{is_settled, take_turns};
-use block_code::BlockCode;
 use flow_design::{ClockState, Plan, Report};
 use flow_word::{Flags, List, OutOfMemory};
+use module_code::BlockCode;
 use std::alloc::Global;
 
 /// How far a run has come.

@@ -2,9 +2,9 @@
 ghost use Rattle.std.specs.Prelude.{◌≡◌, [], IfOk, replicate};
 ghost use Rattle.clock_machine.specs.Seats.{no_seat};
 
-use block_code::Notes;
 use flow_design::{EventLine, Reply, Request};
 use flow_word::{List, OutOfMemory, Words};
+use module_code::Notes;
 use std::alloc::Global;
 
 /// A value that is pushed on a channel in one clock.

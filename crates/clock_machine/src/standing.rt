@@ -1,7 +1,7 @@
 //! What all modules are given in a clock.
-use block_code::BlockCode;
 use flow_design::{Element, Plan};
 use flow_word::{List, Queue};
+use module_code::BlockCode;
 use std::alloc::Global;
 
 /// A plan with the code of its blocks, module by module.

@@ -12,7 +12,7 @@ use crate::standing::Standing;
 use crate::telling::tell_kept_events;
 use flow_design::{ModuleState, Reply, Request};
 use flow_word::{Flags, List, OutOfMemory};
-use module_move::{go_on, is_over, make_move, tick_to};
+use module_code::{go_on, is_over, make_move, tick_to};
 
 /// Whether the module is known to stall on the same request as before.
 #[inline(always)]

@@ -7,7 +7,7 @@ use Rattle.std.specs.Prelude.{slice_index}
 use Rattle.flow_design.specs.{declared.limits.TheConstants.FIFO_DEPTH, declared.plan.Plan.Plan, declared.state.Element.Element}
 use Rattle.flow_design.specs.{Plans.is_fifo, Plans.kind_at, StaticRules.FitsEngine, Reports.clock_of}
 use Rattle.lockstep_defs.specs.{Channels.contents_of, Lockstep.Moment, Lockstep.state, Report.report}
-use Rattle.fifo_fills.specs.Fills.{fill, last_clock}
+use Rattle.timelines.specs.Fills.{fill, last_clock}
 use Rattle.depth_order.specs.Depths.{with_depths, AreDepths, AreDeeper}
 use Rattle.depth_order.proofs.Plans.{depths_fit, fifo_inside}
 use Rattle.port_clocks.specs.Peaks.{peak}

@@ -5,7 +5,7 @@ use Rattle.flow_design.specs.{declared.limits.TheConstants.FIFO_DEPTH, declared.
 use Rattle.flow_design.specs.declared.report.Verdict.TheVariants.{Done}
 use Rattle.lockstep_defs.specs.Verdict.{verdict}
 use Rattle.depth_order.specs.Depths.{with_depths, AreDepths, IsNoSlower}
-use Rattle.fifo_fills.specs.Fills.{fill, last_clock}
+use Rattle.timelines.specs.Fills.{fill, last_clock}
 use Rattle.port_clocks.specs.Peaks.{peak}
 
 -- ---- depths

@@ -12,7 +12,7 @@ use sim_core::{Core, finish_alone};
 use std::alloc::Global;
 use std::sync::Wait;
 use std::thread::Threads;
-use turn_history::histories_are_legal;
+use timing_bridge::histories_are_legal;
 
 /// The leave to count a run. Only `run_plan` and `run_again` make one, so that nobody else counts.
 pub struct Asked {

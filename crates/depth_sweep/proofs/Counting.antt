@@ -10,7 +10,7 @@ use Rattle.std.specs.List.{range_with_len, filter, zip, enumerate_from}
 use Rattle.flow_design.specs.{declared.limits.TheConstants.FIFO_DEPTH, declared.plan.Plan.Plan, declared.plan.Edit.Edit, Plans.is_fifo}
 use Rattle.flow_design.specs.{Plans.kind_at, Plans.with_depth, Plans.EditFits, StaticRules.FitsEngine}
 use Rattle.outcome_guard.specs.Edits.{depth_after, plan_after}
-use Rattle.fifo_fills.specs.Fills.{fifos}
+use Rattle.timelines.specs.Fills.{fifos}
 use Rattle.depth_sweep.specs.Grid.{depth_edits, with_depths}
 use Rattle.flow_word.proofs.Ranges.{range_more}
 

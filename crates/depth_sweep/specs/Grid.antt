@@ -4,7 +4,7 @@ use Rattle.std.specs.List.{range_with_len, zip}
 use Rattle.flow_design.specs.{declared.plan.Plan.Plan, declared.plan.Edit.Edit}
 use Rattle.lockstep_defs.specs.Report.{report}
 use Rattle.outcome_guard.specs.Edits.{plan_after}
-use Rattle.fifo_fills.specs.Fills.{fifos}
+use Rattle.timelines.specs.Fills.{fifos}
 use Rattle.depth_sweep.specs.declared.point.Point.{Point}
 
 -- ---- depths

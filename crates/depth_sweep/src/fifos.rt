@@ -2,7 +2,7 @@
 ghost use Rattle.std.specs.Prelude.{◌≡◌, ◌<◌, ◌≤◌, length, All, IfOk};
 ghost use Rattle.flow_design.specs.{Plans.is_fifo, Plans.kind_at, declared.limits.TheConstants.FIFO_DEPTH, StaticRules.FitsEngine};
 ghost use Rattle.depth_sweep.specs.Grid.{with_depths};
-ghost use Rattle.fifo_fills.specs.Fills.{fifos};
+ghost use Rattle.timelines.specs.Fills.{fifos};
 
 use flow_design::{Edit, Plan, edit_plan};
 use flow_word::OutOfMemory;

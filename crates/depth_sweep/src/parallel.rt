@@ -2,7 +2,7 @@
 ghost use Rattle.std.specs.Prelude.{◌≡◌, ◌≤◌, ◌<◌, ◌↔◌, [], Err, length, map, slice_index_or, IfOk};
 ghost use Rattle.flow_design.specs.StaticRules.{FitsEngine};
 ghost use Rattle.depth_sweep.specs.{Grid.grid, Grid.grid_of, Grid.most_points, Grid.point, Shapes.IsShape};
-ghost use Rattle.fifo_fills.specs.Fills.{fifos};
+ghost use Rattle.timelines.specs.Fills.{fifos};
 
 use crate::fifos::{fifo_count, fifos};
 use crate::point::{Point, simulate};

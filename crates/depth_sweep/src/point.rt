@@ -2,7 +2,7 @@
 ghost use Rattle.std.specs.Prelude.{◌≡◌, ◌≤◌, ◌<◌, length, All, IfOk};
 ghost use Rattle.flow_design.specs.{declared.limits.TheConstants.FIFO_DEPTH, StaticRules.FitsEngine};
 ghost use Rattle.depth_sweep.specs.Grid.{point};
-ghost use Rattle.fifo_fills.specs.Fills.{fifos};
+ghost use Rattle.timelines.specs.Fills.{fifos};
 
 use crate::fifos::set_depths;
 use flow_design::{Plan, Verdict, copy_plan};

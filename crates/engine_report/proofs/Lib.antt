@@ -13,3 +13,6 @@ pub mod Happening
 pub mod Whole
 pub mod Together
 pub mod Verdicts
+pub mod Giving
+pub mod Walking
+pub mod Leading

@@ -12,7 +12,7 @@ use Rattle.event_timing.specs.Machines as theory
 use Rattle.timing_bridge.specs.Designs.{design}
 use Rattle.engine_view.specs.{Held.Held, Held.core_of, Held.step_of, Held.emitted_of, Held.seen, Known.as_known, Shown.IsSound}
 use Rattle.engine_view.proofs.Knowing.{access_known_in}
-use Rattle.stall_spans.specs.CoreDoings.{known_in, waits_at, doing_at, core_doing}
+use Rattle.timelines.specs.CoreDoings.{known_in, waits_at, doing_at, core_doing}
 use Rattle.engine_report.specs.Reading.{waits, doing_of, doing_in}
 
 same_doing : (lanes : List Lane) (channels : List Channel) (know : theory.Access → Known) (c : ℕ) (xs : List Access)

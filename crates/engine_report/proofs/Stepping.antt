@@ -10,17 +10,16 @@ use Rattle.event_timing.specs.{Views.own, Core.core_reply}
 use Rattle.timing_bridge.specs.{Designs.design, Designs.lockstep_run, OwnRuns.clocks_of_steps}
 use Rattle.timing_bridge.proofs.History.{plan_is_design, run_is_history}
 use Rattle.event_graph.specs.Lanes.{no_lane, lane_at, cycle_bound, gap_bound}
-use Rattle.fifo_fills.proofs.Ending.{last_within}
+use Rattle.timelines.proofs.{Ending.last_within, Waits.step_clocks, Waits.last_clocks}
+use Rattle.timelines.proofs.Causes.{timed_gap, timed_after, step_moves, stands-doing, last_gap, last_over}
+use Rattle.timelines.proofs.Extending.{listed_spans, spans_listed, span_over, span_none}
 use Rattle.engine_view.specs.Held.{Held, core_of, step_of, no_step, emitted_of, waited}
 use Rattle.engine_view.proofs.Knowing.{timed_within}
 use Rattle.engine_report.specs.{Finished.IsFinished, Finished.IsEndMark, Finished.end_gap, Standings.end_at, Standings.gap_of}
 use Rattle.engine_report.specs.Reading.{Stands, cycle_before, clock_after, HasPassedSteps}
 use Rattle.engine_report.proofs.{Ending.waited_is, Ending.apart_at, Ending.end_there, SpanSame.reads_core}
-use Rattle.stall_spans.specs.{declared.span.Span.Span, declared.span.Doing.TheVariants.Moves, Doings.doing, Spans.AreSpansBelow}
-use Rattle.stall_spans.specs.{Spans.AreSpans, Coming.reached, Coming.Comes, Coming.Does, CoreDoings.arrives}
-use Rattle.stall_spans.proofs.Waits.{step_clocks, last_clocks}
-use Rattle.stall_spans.proofs.Causes.{timed_gap, timed_after, step_moves, stands-doing, last_gap, last_over}
-use Rattle.stall_spans.proofs.Extending.{listed_spans, spans_listed, span_over, span_none}
+use Rattle.timelines.specs.{declared.span.Span.Span, declared.span.Doing.TheVariants.Moves, Doings.doing, Spans.AreSpansBelow}
+use Rattle.timelines.specs.{Spans.AreSpans, Coming.reached, Coming.Comes, Coming.Does, CoreDoings.arrives}
 
 -- the cycles of a module's steps, and how many have one
 abbrev cycles_of : Held → ℕ → List ℕ

@@ -3,7 +3,7 @@ use Rattle.std.proofs.Common.{◌≡◌, ℕ, ◌+◌, ◌<◌, ◌≤◌, List,
 use Rattle.std.proofs.lemmas.Bool.Decides.{nat_tests}
 use Rattle.std.specs.Prelude.{Result, Ok, Err, OnOk}
 use Rattle.flow_word.specs.{declared.access.Access.Access, declared.access.Side.Side, Kinds.side_of, Kinds.is_blocking}
-use Rattle.stall_spans.specs.{declared.span.Doing.TheVariants.Still, declared.span.Span.Span, Coming.reached, Coming.Comes, Coming.Does}
+use Rattle.timelines.specs.{declared.span.Doing.TheVariants.Still, declared.span.Span.Span, Coming.reached, Coming.Comes, Coming.Does}
 use Rattle.flow_design.specs.declared.plan.Plan.{Plan}
 use Rattle.event_graph.specs.Lanes.{Lane}
 use Rattle.fifo_table.specs.Channels.{Channel}

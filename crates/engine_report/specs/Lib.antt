@@ -3,3 +3,5 @@ pub mod Standings
 pub mod Read
 pub mod Finished
 pub mod Keys
+pub mod Walking
+pub mod Walks

@@ -10,8 +10,8 @@ use Rattle.fifo_table.specs.Channels.{Channel}
 use Rattle.time_engine.specs.{declared.known.Known.Known, Possible.when_possible}
 use Rattle.time_engine.specs.declared.known.Known.TheVariants.{From, Never, Unknown}
 use Rattle.event_timing.specs.{Views.from, Enablers.answer}
-use Rattle.stall_spans.specs.{declared.span.Doing.Doing, declared.span.Span.Span, Doings.doing, Coming.reached, Coming.Comes}
-use Rattle.stall_spans.specs.declared.span.Doing.TheVariants.{Moves, Still}
+use Rattle.timelines.specs.{declared.span.Doing.Doing, declared.span.Span.Span, Doings.doing, Coming.reached, Coming.Comes}
+use Rattle.timelines.specs.declared.span.Doing.TheVariants.{Moves, Still}
 
 -- the access blocks, and is not known to be possible in a clock
 abbrev pub waits : List Lane → List Channel → ℕ → Access → Bool

@@ -7,15 +7,15 @@ ghost use Rattle.event_graph.specs.Lanes.{HasStep, cycle_bound, gap_bound};
 ghost use Rattle.engine_view.specs.Engines.{held_in};
 ghost use Rattle.engine_report.specs.{Finished.IsFinished, Standings.end_at, Standings.gap_of};
 ghost use Rattle.engine_report.specs.Reading.{known_until, step_at, Stands, HasWaited, HasPassed};
-ghost use Rattle.stall_spans.specs.{declared.span.Doing.TheVariants.Moves, Spans.AreSpans, Coming.reached, Coming.Comes, Coming.Does};
+ghost use Rattle.timelines.specs.{declared.span.Doing.TheVariants.Moves, Spans.AreSpans, Coming.reached, Coming.Comes, Coming.Does};
 
 use engine_view::Engine;
 use event_graph::Place;
 use flow_design::Advance;
 use flow_word::{Access, List, OutOfMemory, Port};
-use stall_spans::{Doing, Span, go_on};
 use std::alloc::Global;
 use time_engine::{Known, known_of};
+use timelines::{Doing, Span, go_on};
 
 /// The spans of a module, read off what an engine holds at the end of a plan's simulation: the steps of all modules with their
 /// cycles, the pushes and pops, and the end mark of each module whose own run has come to its end. With the clock of the plan's

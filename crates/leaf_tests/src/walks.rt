@@ -2,7 +2,7 @@
 ghost use Rattle.std.specs.Prelude.{◌≡◌};
 
 use crate::graphs::step_after;
-use engine_report::TimedStep;
+use engine_report::{StepWalk, TimedStep};
 use event_graph::Graph;
 use flow_word::{OutOfMemory, Steps};
 use std::alloc::Global;
@@ -10,7 +10,6 @@ use std::marker::Brand;
 use std::process::Abort;
 use std::sync::ledger::{Blank, Ledger};
 use std::test::Fail;
-use step_walk::StepWalk;
 
 /// The step of a module with this number, done in this clock, as a walk gives it.
 fn done_in(cycle: u64, module: u32, step: u64) -> Option<TimedStep> {

@@ -16,3 +16,4 @@ pub mod Order
 pub mod Counts
 pub mod Commits
 pub mod Reported
+pub mod Computed

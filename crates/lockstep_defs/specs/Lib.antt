@@ -9,3 +9,5 @@ pub mod States
 pub mod Ports
 pub mod Commits
 pub mod Laws
+pub mod Examples
+pub mod Shows

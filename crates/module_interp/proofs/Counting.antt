@@ -7,8 +7,8 @@ use Rattle.flow_design.specs.{declared.state.ModuleState.ModuleState, declared.s
 use Rattle.flow_design.specs.declared.design.Next.TheVariants.{Goto, Branch, Stop}
 use Rattle.flow_design.specs.Module.{block_of, interval, due}
 use Rattle.lockstep_defs.specs.Machine.{move, entered, decided, finished, followed, started, stopped, again_of, is_block_over}
-use Rattle.module_move.specs.Moves.{counted, ticked_to, gone_on}
-use Rattle.module_move.proofs.Moving.{moved_is}
+use Rattle.module_code.specs.Moves.{counted, ticked_to, gone_on}
+use Rattle.module_code.proofs.Moving.{moved_is}
 
 abbrev Up : ModuleState → ModuleState → Type 0
 Up s t = (s.count ≤ t.count) × (t.count ≤ s.count + 1)

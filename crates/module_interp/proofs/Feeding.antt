@@ -12,8 +12,8 @@ use Rattle.lockstep_defs.specs.{Machine.move, Machine.requests, Machine.request_
 use Rattle.lockstep_defs.specs.{Lockstep.module_at, Lockstep.requests_of, Ports.owner, Channels.Exchange, OwnRun.OwnStep, OwnRun.Own}
 use Rattle.lockstep_defs.specs.{OwnRun.own_after, OwnRun.paired, Quiet.quiet, Quiet.skip, Quiet.is_some_request, States.IsStateOf}
 use Rattle.lockstep_defs.proofs.{States.move_state, Standing.requests_stand}
-use Rattle.module_move.proofs.Readiness.{few_due}
-use Rattle.module_move.specs.Moves.{gone_on}
+use Rattle.module_code.proofs.Readiness.{few_due}
+use Rattle.module_code.specs.Moves.{gone_on}
 use Rattle.module_interp.specs.{declared.path.Stage.Stage, declared.path.Path.Path, declared.tally.Tally.Tally}
 use Rattle.module_interp.specs.{declared.run.ModuleRun.ModuleRun, Runs.is_asked, Runs.StandsAt}
 use Rattle.module_interp.specs.declared.path.Stage.TheVariants.{Begun, Asked, Ticked}

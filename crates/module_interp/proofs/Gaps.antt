@@ -7,7 +7,7 @@ use Rattle.flow_design.specs.declared.state.Request.{Request}
 use Rattle.lockstep_defs.specs.{Machine.opened, Lockstep.module_at, Quiet.quiet, Quiet.skip, States.IsStateOf}
 use Rattle.lockstep_defs.specs.OwnRun.{OwnStep, Own, own_after}
 use Rattle.lockstep_defs.proofs.{Resting.quiet_goes, States.opened_state}
-use Rattle.module_move.proofs.Begins.{opened_clock}
+use Rattle.module_code.proofs.Begins.{opened_clock}
 use Rattle.module_interp.specs.{declared.run.ModuleRun.ModuleRun, Paths.IsInTime, Runs.StandsAt}
 use Rattle.module_interp.specs.OwnRests.{to_rest, first_rest, next_rest, requests_at, clocks_in}
 use Rattle.module_interp.proofs.Timing.{module_sound, opened_in_time, moved_in_time, skip_goes_on}

@@ -11,8 +11,8 @@ use Rattle.flow_design.specs.Module.{block_of, interval, live_count, ages, due_a
 use Rattle.lockstep_defs.specs.Machine.{move, decided, finished, is_over, requests}
 use Rattle.lockstep_defs.specs.{Lockstep.module_at, Lockstep.requests_of, Laws.IsLive, Quiet.rests, Quiet.skip, Quiet.is_some_request}
 use Rattle.lockstep_defs.proofs.Live.{live_iff}
-use Rattle.module_move.specs.Moves.{counted, ticked_to, gone_on}
-use Rattle.module_move.proofs.Moving.{moved_is}
+use Rattle.module_code.specs.Moves.{counted, ticked_to, gone_on}
+use Rattle.module_code.proofs.Moving.{moved_is}
 use Rattle.block_schedule.specs.Work.{at_clock, HasOperationAt, HasOperation, IsDecided, IsOver, HasWork}
 
 -- ---- nothing is due

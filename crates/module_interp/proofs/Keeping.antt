@@ -8,7 +8,7 @@ use Rattle.flow_design.specs.declared.state.ModuleState.{ModuleState}
 use Rattle.lockstep_defs.proofs.{Agrees.not_ended, Agrees.below_limit, Moves.move_falls}
 use Rattle.lockstep_defs.specs.{Machine.requests, Machine.is_over, Lockstep.module_at, Lockstep.requests_of, OwnRun.Own, States.IsStateOf}
 use Rattle.lockstep_defs.specs.Quiet.{quiet, skip, rests, is_some_request}
-use Rattle.module_move.proofs.Readiness.{few_due}
+use Rattle.module_code.proofs.Readiness.{few_due}
 use Rattle.module_interp.specs.{declared.path.Stage.Stage, declared.path.Path.Path}
 use Rattle.module_interp.specs.Paths.{clocks_to_go, after_move_by, after_move, HasAsked, IsStageSoundBy, IsPathOf, LeadsTo, KeepsRest}
 use Rattle.module_interp.specs.Paths.{IsPath, clocks_to_end}

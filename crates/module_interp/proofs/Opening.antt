@@ -6,9 +6,9 @@ use Rattle.flow_design.specs.{declared.design.Module.Module, declared.plan.Plan.
 use Rattle.flow_design.specs.declared.state.ModuleState.{ModuleState}
 use Rattle.lockstep_defs.specs.{Machine.opened, Lockstep.no_module, Lockstep.module_at, Quiet.quiet, Quiet.skip, States.IsStateOf}
 use Rattle.lockstep_defs.proofs.States.{opened_state}
-use Rattle.module_move.proofs.Begins.{opened_clock, opened_count}
+use Rattle.module_code.proofs.Begins.{opened_clock, opened_count}
 use Rattle.block_schedule.specs.Schedules.{KeepsLimits}
-use Rattle.block_code.specs.Codes.{AreCodesOf}
+use Rattle.module_code.specs.Codes.{AreCodesOf}
 use Rattle.block_schedule.proofs.Limits.{blocks_keep_limits}
 use Rattle.module_interp.specs.{declared.path.Stage.Stage, declared.path.Stage.TheVariants.Begun, declared.path.Stage.TheVariants.Asked}
 use Rattle.module_interp.specs.{declared.path.Path.Path, declared.run.ModuleRun.ModuleRun, OwnRests.first_rest, Runs.StandsAt}

@@ -11,8 +11,8 @@ use Rattle.flow_design.specs.declared.state.Advance.TheVariants.{Ended, Spent}
 use Rattle.lockstep_defs.specs.{Machine.is_spent, Channels.Exchange, Laws.is_query, OwnRun.Own, OwnRun.access_of}
 use Rattle.lockstep_defs.specs.Lockstep.{module_at, requests_of}
 use Rattle.lockstep_defs.proofs.{Once.asks_once, Rules.keeps_ports, Standing.requests_stand}
-use Rattle.module_move.specs.Sound.{IsStateSound}
-use Rattle.module_move.proofs.Readiness.{few_due}
+use Rattle.module_code.specs.Sound.{IsStateSound}
+use Rattle.module_code.proofs.Readiness.{few_due}
 use Rattle.module_interp.specs.{declared.path.Stage.TheVariants.Asked, declared.run.ModuleRun.ModuleRun}
 use Rattle.module_interp.specs.OwnRests.{requests_at, done_in, accesses_at, mark_at}
 use Rattle.module_interp.specs.Runs.{IsSmall, IsSmallAccess, IsSoundMark, gap_of, StandsAt}

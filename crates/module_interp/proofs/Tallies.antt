@@ -10,7 +10,7 @@ use Rattle.flow_word.specs.declared.access.Kind.TheVariants.{Read, Write, TryRea
 use Rattle.flow_design.specs.{declared.design.Module.Module, declared.state.Request.Request, declared.state.Reply.Reply, StaticRules.uses}
 use Rattle.lockstep_defs.specs.{Machine.is_yes, Machine.value_in, Report.queries, OwnRun.paired}
 use Rattle.lockstep_defs.specs.Channels.{Exchange, popped_value, pushed_value, moved_value, moved_by}
-use Rattle.module_move.proofs.Readiness.{fewer_pass}
+use Rattle.module_code.proofs.Readiness.{fewer_pass}
 use Rattle.module_interp.specs.{declared.tally.Tally.Tally, declared.counts.Counts.Counts, OwnChannels.place_in, Counts.AreCounts}
 use Rattle.module_interp.specs.{Counts.HasCount, Counts.count_at, Paths.IsTallyOf, Paths.IsCounted, Paths.HasPort, Paths.KnowsPorts}
 use Rattle.module_interp.proofs.Places.{place_set}

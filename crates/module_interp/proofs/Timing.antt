@@ -14,8 +14,8 @@ use Rattle.lockstep_defs.specs.{Lockstep.no_module, Lockstep.module_at, Lockstep
 use Rattle.lockstep_defs.specs.Quiet.{rests, skip, clocks_left, is_some_request}
 use Rattle.lockstep_defs.proofs.{Agrees.not_ended, Agrees.below_limit, States.move_state, Blocks.block_sound, Blocks.short_interval}
 use Rattle.lockstep_defs.proofs.Moves.{Fallen, move_falls, same_control}
-use Rattle.module_move.specs.Moves.{counted, ticked_to, gone_on}
-use Rattle.module_move.proofs.Moving.{moved_is}
+use Rattle.module_code.specs.Moves.{counted, ticked_to, gone_on}
+use Rattle.module_code.proofs.Moving.{moved_is}
 use Rattle.module_interp.specs.Paths.{block_bound, clock_bound, clocks_to_go, IsInTime}
 
 -- ---- blocks

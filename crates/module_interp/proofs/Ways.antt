@@ -6,8 +6,8 @@ use Rattle.flow_design.specs.{declared.design.Channel.Channel, declared.design.M
 use Rattle.flow_design.specs.{declared.state.Request.Request, declared.state.ModuleState.ModuleState, Module.block_of, Module.interval}
 use Rattle.lockstep_defs.specs.Machine.{move, requests, is_over}
 use Rattle.lockstep_defs.specs.{Lockstep.module_at, Lockstep.requests_of, Quiet.skip, Quiet.rests, States.IsStateOf}
-use Rattle.module_move.specs.{Moves.ticked_to, Moves.gone_on, Sound.IsStateSound}
-use Rattle.block_code.specs.{declared.code.BlockCode.BlockCode, declared.noted.Notes.Notes, Codes.IsBlockCodeOf, Codes.AreCodesOf}
+use Rattle.module_code.specs.{Moves.ticked_to, Moves.gone_on, Sound.IsStateSound, declared.code.BlockCode.BlockCode}
+use Rattle.module_code.specs.{declared.noted.Notes.Notes, Codes.IsBlockCodeOf, Codes.AreCodesOf}
 use Rattle.block_schedule.specs.Work.{IsNextDue, StandsIn}
 use Rattle.module_interp.specs.{declared.path.Stage.Stage, declared.path.Stage.TheVariants.Begun, declared.path.Stage.TheVariants.Ticked}
 use Rattle.module_interp.specs.{declared.path.Path.Path, Paths.clock_bound, Paths.IsInTime, Paths.after_move, Paths.AsksNothing}

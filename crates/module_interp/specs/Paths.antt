@@ -7,8 +7,7 @@ use Rattle.flow_design.specs.{declared.design.Channel.Channel, declared.design.M
 use Rattle.flow_design.specs.{declared.state.ModuleState.ModuleState, StaticRules.FitsEngine, StaticRules.longest_block, StaticRules.uses}
 use Rattle.lockstep_defs.specs.{Machine.requests, Machine.is_over, Report.queries, Lockstep.module_at, OwnRun.Own, States.IsStateOf}
 use Rattle.lockstep_defs.specs.{Channels.Exchange, Channels.moved_by, Channels.moved_value, Quiet.quiet, Quiet.skip, Quiet.clocks_left}
-use Rattle.module_move.specs.{Moves.gone_on, Sound.AreNotesOf, Sound.IsStateSound}
-use Rattle.block_code.specs.{declared.code.BlockCode.BlockCode, Codes.AreCodesOf}
+use Rattle.module_code.specs.{Moves.gone_on, Sound.AreNotesOf, Sound.IsStateSound, declared.code.BlockCode.BlockCode, Codes.AreCodesOf}
 use Rattle.module_interp.specs.{declared.path.Stage.Stage, declared.path.Path.Path, declared.counts.Counts.Counts}
 use Rattle.module_interp.specs.{declared.tally.Tally.Tally, Counts.AreCounts, Counts.HasCount, Counts.count_at}
 use Rattle.module_interp.specs.declared.path.Stage.TheVariants.{Begun, Asked, Ticked}

@@ -5,10 +5,9 @@ ghost use Rattle.module_interp.specs.{declared.path.Stage.TheVariants.Begun, Own
 ghost use Rattle.module_interp.specs.Paths.{IsPath, IsPathOf, LeadsTo};
 
 use crate::path::{Path, Stage};
-use block_code::{Notes, codes_of};
 use flow_design::Plan;
 use flow_word::{List, OutOfMemory, TryCopy};
-use module_move::open;
+use module_code::{Notes, codes_of, open};
 use std::alloc::Global;
 
 /// The path of a module of a plan, at local clock 0 of the module's first block. `OutOfMemory` where memory ran out.

@@ -1,7 +1,7 @@
 //! How far a module's own run has come.
-use block_code::{BlockCode, Notes};
 use flow_design::{Module, ModuleState, Request};
 use flow_word::{List, Words};
+use module_code::{BlockCode, Notes};
 use std::alloc::Global;
 
 /// What is left to do of the move at which a module stands.

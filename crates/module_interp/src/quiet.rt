@@ -2,7 +2,7 @@
 ghost use Rattle.std.specs.Prelude.{◌≡◌, ◌≢◌, ℕ, ◌<◌, ◌≤◌, ◌^◌, ◌⊎◌, [], true, false, IfOk, OnOk, OnErr};
 ghost use Rattle.flow_design.specs.Module.{block_of};
 ghost use Rattle.lockstep_defs.specs.Machine.{move, is_over};
-ghost use Rattle.module_move.specs.Moves.{ticked_to, gone_on};
+ghost use Rattle.module_code.specs.Moves.{ticked_to, gone_on};
 ghost use Rattle.block_schedule.specs.Work.{IsNextDue};
 ghost use Rattle.module_interp.specs.declared.path.Stage.TheVariants.{Begun, Asked, Ticked};
 ghost use Rattle.module_interp.specs.Paths.{after_move, HasAsked, HasNoted, AsksNothing, CanAnswer, IsPath, KeepsRest, clocks_to_end};
@@ -11,7 +11,7 @@ ghost use Rattle.module_interp.specs.Paths.{IsAtStep, IsAtEnd};
 use crate::path::{Path, Stage};
 use flow_design::Reply;
 use flow_word::OutOfMemory;
-use module_move::{commit, go_on, is_over, note, tick_to};
+use module_code::{commit, go_on, is_over, note, tick_to};
 
 impl Path {
     /// Runs to the next rest: the next local clock with a due FIFO operation, or the end of the run.

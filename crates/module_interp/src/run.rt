@@ -15,7 +15,7 @@ use crate::path::{Path, Stage};
 use crate::tally::Tally;
 use flow_design::{Advance, Plan, Reply, Request};
 use flow_word::{Access, Accesses, List, OutOfMemory, Step};
-use module_move::is_over;
+use module_code::is_over;
 use std::alloc::Global;
 
 /// One more than the greatest number of 32 bits.

@@ -8,9 +8,9 @@ ghost use Rattle.lockstep_defs.specs.Channels.{Exchange, moved_by, popped_value,
 ghost use Rattle.module_interp.specs.Paths.{HasPort, IsCounted, IsTallyOf, KnowsPorts};
 
 use crate::counts::Counts;
-use block_code::is_yes;
 use flow_design::{Module, Reply, Request};
 use flow_word::{Access, Kind, OutOfMemory, Side};
+use module_code::is_yes;
 use std::alloc::Global;
 
 /// The pops and pushes of each of a module's channels, and its queries, in the steps that have their replies.

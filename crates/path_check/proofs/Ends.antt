@@ -10,7 +10,7 @@ use Rattle.event_graph.specs.Lanes.{lane_at}
 use Rattle.event_timing.specs.{Views.own, Core.core_reply}
 use Rattle.timing_bridge.specs.Designs.{design, lockstep_run, start_in}
 use Rattle.timing_bridge.proofs.History.{plan_is_design, run_is_history, moves_same}
-use Rattle.stall_spans.proofs.Waits.{cycle_moves}
+use Rattle.timelines.proofs.Waits.{cycle_moves}
 use Rattle.depth_order.specs.Depths.{with_depths}
 use Rattle.engine_view.specs.{declared.engine.Engine.Engine, Engines.held_in, Held.Held, Held.core_of, Held.emitted_of}
 use Rattle.engine_view.proofs.Knowing.{timed_within}

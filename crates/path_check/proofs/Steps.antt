@@ -7,8 +7,8 @@ use Rattle.event_timing.specs.Histories.{Trace, IsHistory, moves}
 use Rattle.event_timing.specs.Core.{Core, core_accesses, core_reply, core_tally, view}
 use Rattle.event_timing.proofs.Fronts.{agrees, core_tally_is}
 use Rattle.event_timing.proofs.{Standing.early_no_step, Steps.done_more, Steps.done_same, Threshold.taken_view}
-use Rattle.stall_spans.specs.CoreDoings.{arrives}
-use Rattle.stall_spans.proofs.{Placed.arrives_is, Placed.arrives_before, Placed.stands_at, Waits.moves_early, Waits.cycle_moves}
+use Rattle.timelines.specs.CoreDoings.{arrives}
+use Rattle.timelines.proofs.{Placed.arrives_is, Placed.arrives_before, Placed.stands_at, Waits.moves_early, Waits.cycle_moves}
 use Rattle.path_check.specs.Paths.{can_wait_at, IsAfter, Later, Own, Waits}
 use Rattle.path_check.proofs.After.{owned_there}
 

@@ -3,8 +3,8 @@ use Rattle.std.proofs.Common.{◌≡◌, ◌≢◌, ℕ, zero, suc, ◌+◌, ◌
 use Rattle.std.proofs.lemmas.Bool.{cases_lt, cases_eq}
 use Rattle.std.specs.Prelude.{Contains}
 use Rattle.flow_design.specs.declared.plan.Plan.{Plan}
-use Rattle.stall_spans.specs.{declared.span.Doing.Doing, declared.span.Span.Span, Doings.doing, Spans.AreSpansBelow}
-use Rattle.stall_spans.proofs.{Existing.same_doing, Extending.some_same, Extending.some_none}
+use Rattle.timelines.specs.{declared.span.Doing.Doing, declared.span.Span.Span, Doings.doing, Spans.AreSpansBelow}
+use Rattle.timelines.proofs.{Existing.same_doing, Extending.some_same, Extending.some_none}
 
 same_option : (o : Option Doing) (d : Doing) → (o ≡ Some d) ⊎ (o ≢ Some d)
 same_option None d = inr (λ e. some_none d e)

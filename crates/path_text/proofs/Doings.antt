@@ -8,9 +8,9 @@ use Rattle.flow_design.specs.{declared.plan.Plan.Plan, declared.state.Request.Re
 use Rattle.lockstep_defs.specs.{Machine.is_over, Machine.nobody, Channels.stalls}
 use Rattle.lockstep_defs.specs.Lockstep.{moves, requests_of, state, state_at}
 use Rattle.lockstep_defs.proofs.Agrees.{all_modules}
-use Rattle.stall_spans.specs.{declared.span.Doing.Doing, Doings.doing, Doings.doing_by}
-use Rattle.stall_spans.specs.declared.span.Doing.TheVariants.{Moves, Still}
-use Rattle.stall_spans.proofs.Existing.{nobody_over, none_stays}
+use Rattle.timelines.specs.{declared.span.Doing.Doing, Doings.doing, Doings.doing_by}
+use Rattle.timelines.specs.declared.span.Doing.TheVariants.{Moves, Still}
+use Rattle.timelines.proofs.Existing.{nobody_over, none_stays}
 use Rattle.depth_order.specs.Chain.{moves_at, port_of, stands_at}
 use Rattle.depth_order.proofs.Chained.{find_any}
 

@@ -9,7 +9,7 @@ use Rattle.flow_word.specs.declared.access.Side.TheVariants.{Pop, Push}
 use Rattle.flow_design.specs.{declared.plan.Plan.Plan, Plans.is_fifo, Plans.kind_at, Plans.delay_at, StaticRules.FitsEngine}
 use Rattle.lockstep_defs.specs.{Channels.contents_of, Channels.is_empty, Lockstep.state, Ports.owner}
 use Rattle.lockstep_defs.proofs.Counts.{delay_positive}
-use Rattle.fifo_fills.specs.{Passed.acts, Fills.last_clock}
+use Rattle.timelines.specs.{Passed.acts, Fills.last_clock}
 use Rattle.port_clocks.specs.{Leads.before, Leads.is_ahead, Clocks.ArePortClocks}
 use Rattle.port_clocks.proofs.Counts.{before_below, before_most}
 use Rattle.sim_core.specs.{AccessLog.log_of, declared.access_log.LoggedAccess.LoggedAccess}

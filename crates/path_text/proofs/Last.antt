@@ -5,9 +5,9 @@ use Rattle.std.proofs.lemmas.Bool.{cases_Bool, cases_lt, cases_eq, le-leb, lt-le
 use Rattle.std.proofs.lemmas.List.{get_or_default}
 use Rattle.std.specs.{Prelude.find, Prelude.fold, List.range_with_len}
 use Rattle.flow_design.specs.declared.plan.Plan.{Plan}
-use Rattle.stall_spans.specs.{declared.span.Doing.Doing, declared.span.Span.Span, Spans.IsBefore, Spans.AreSpansBelow}
-use Rattle.stall_spans.specs.declared.span.Doing.TheVariants.{Moves, Still}
-use Rattle.stall_spans.proofs.{Lists.Member, Lists.Rising, Lists.all_of, Lists.contains_member, Extending.Listed, Extending.spans_listed}
+use Rattle.timelines.specs.{declared.span.Doing.Doing, declared.span.Span.Span, Spans.IsBefore, Spans.AreSpansBelow}
+use Rattle.timelines.specs.declared.span.Doing.TheVariants.{Moves, Still}
+use Rattle.timelines.proofs.{Lists.Member, Lists.Rising, Lists.all_of, Lists.contains_member, Extending.Listed, Extending.spans_listed}
 use Rattle.depth_order.specs.Chain.{moves_at, first_mover}
 use Rattle.depth_order.proofs.Chained.{find_any, none_among}
 use Rattle.path_text.specs.{declared.walk.At.At, Polls.last_move, Polls.move_by}

@@ -11,8 +11,8 @@ use Rattle.lockstep_defs.specs.Machine.{is_yes, nobody}
 use Rattle.lockstep_defs.specs.Channels.{HistoryStep, Exchange, contents_of, is_empty, is_possible, front, reply, reply_by}
 use Rattle.lockstep_defs.specs.Lockstep.{requests_of, answered, step_with, step_of, steps_in, state, state_at}
 use Rattle.lockstep_defs.proofs.Queue.{all-append}
-use Rattle.fifo_fills.specs.{Passed.Act, Passed.acts_in, Passed.acts_before, Passed.acts, Fills.last_clock}
-use Rattle.fifo_fills.proofs.Acts.{acts-zero, acts-suc, early}
+use Rattle.timelines.specs.{Passed.Act, Passed.acts_in, Passed.acts_before, Passed.acts, Fills.last_clock}
+use Rattle.timelines.proofs.Acts.{acts-zero, acts-suc, early}
 use Rattle.sim_core.specs.{AccessLog.log_of, declared.access_log.LoggedAccess.LoggedAccess}
 use Rattle.stall_text.specs.{Polls.is_missed, Polls.misses, Stalls.access_clocks}
 use Rattle.stall_text.proofs.Accesses.{logged_act, log_is, ActStands, all_stand, Climbs, climbs}

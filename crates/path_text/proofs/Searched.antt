@@ -6,7 +6,7 @@ use Rattle.std.proofs.lemmas.List.{take-append-drop, get_or_default}
 use Rattle.std.specs.{Prelude.AllPairs, List.filter, List.AllByRecursion}
 use Rattle.port_clocks.specs.Leads.{before}
 use Rattle.port_clocks.proofs.Counts.{before_above, before_below, before_most}
-use Rattle.stall_spans.specs.declared.span.Span.{Span}
+use Rattle.timelines.specs.declared.span.Span.{Span}
 use Rattle.flow_word.specs.declared.access.Kind.TheVariants.{Read}
 use Rattle.sim_core.specs.declared.access_log.LoggedAccess.{LoggedAccess}
 use Rattle.stall_text.specs.Polls.{is_of}

@@ -4,9 +4,9 @@ use Rattle.std.proofs.Common.{subst, arith, inl, inr}
 use Rattle.std.proofs.{lemmas.Bool.cases_Bool, lemmas.List.Elements.Contains-get_or}
 use Rattle.flow_word.specs.declared.access.Port.{Port}
 use Rattle.flow_design.specs.declared.plan.Plan.{Plan}
-use Rattle.stall_spans.specs.{declared.span.Doing.Doing, declared.span.Span.Span, Doings.doing, Spans.IsSpan, Spans.AreSpansBelow}
-use Rattle.stall_spans.specs.declared.span.Doing.TheVariants.{Moves, Still}
-use Rattle.stall_spans.proofs.Extending.{some_same}
+use Rattle.timelines.specs.{declared.span.Doing.Doing, declared.span.Span.Span, Doings.doing, Spans.IsSpan, Spans.AreSpansBelow}
+use Rattle.timelines.specs.declared.span.Doing.TheVariants.{Moves, Still}
+use Rattle.timelines.proofs.Extending.{some_same}
 use Rattle.depth_order.specs.Chain.{moves_at, span_start, stood_at}
 use Rattle.depth_order.proofs.Chained.{IsStill, starts, start_more, start_new, start_0}
 use Rattle.path_text.specs.Walks.{AreSorted, IsWith, StoodBefore, link_at, stalled_port}

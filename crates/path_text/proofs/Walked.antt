@@ -2,7 +2,7 @@
 use Rattle.std.proofs.Common.{◌≡◌, ◌∙◌, sym, ap, subst, arith, ℕ, ◌<◌, true, ◌++◌, [], List, length, get_or, Option, Some, None}
 use Rattle.std.proofs.lemmas.List.{get_or_default}
 use Rattle.flow_design.specs.declared.plan.Plan.{Plan}
-use Rattle.stall_spans.specs.{declared.span.Span.Span, Spans.AreSpansBelow}
+use Rattle.timelines.specs.{declared.span.Span.Span, Spans.AreSpansBelow}
 use Rattle.depth_order.specs.{declared.link.Link.Link, Chain.moves_at}
 use Rattle.path_text.specs.{declared.walk.At.At, declared.link.Polled.Polled, Walks.HasSpans, Walks.IsLastMove, Walks.MovesBefore}
 use Rattle.path_text.specs.Polls.{links_in, polled_from, polls_along}

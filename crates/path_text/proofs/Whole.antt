@@ -5,7 +5,7 @@ use Rattle.std.specs.Prelude.{codes, All}
 use Rattle.flow_design.specs.{declared.design.Design.Design, declared.plan.Plan.Plan, declared.report.Report.Report, StaticRules.FitsEngine}
 use Rattle.lockstep_defs.specs.{Report.report, Verdict.verdict}
 use Rattle.engine_report.specs.Finished.{report_with}
-use Rattle.stall_spans.specs.{declared.span.Span.Span, Spans.AreSpansBelow}
+use Rattle.timelines.specs.{declared.span.Span.Span, Spans.AreSpansBelow}
 use Rattle.report_text.specs.Lines.{line, text_of_lines, verdict_tokens}
 use Rattle.depth_order.specs.declared.link.Link.{Link}
 use Rattle.path_text.specs.Counts.{AreLinksOf}

@@ -5,8 +5,8 @@ use Rattle.flow_word.specs.{declared.access.Port.Port, Kinds.other_side}
 use Rattle.flow_design.specs.declared.plan.Plan.{Plan}
 use Rattle.lockstep_defs.specs.Ports.{owner}
 use Rattle.timing_bridge.specs.Designs.{lag_in}
-use Rattle.stall_spans.specs.{declared.span.Doing.Doing, declared.span.Span.Span, Spans.IsBefore, Spans.AreSpansBelow}
-use Rattle.stall_spans.specs.declared.span.Doing.TheVariants.{Moves, Still}
+use Rattle.timelines.specs.{declared.span.Doing.Doing, declared.span.Span.Span, Spans.IsBefore, Spans.AreSpansBelow}
+use Rattle.timelines.specs.declared.span.Doing.TheVariants.{Moves, Still}
 use Rattle.depth_order.specs.{declared.link.Link.Link, Chain.moves_at, Chain.span_start, Chain.stood_at}
 use Rattle.path_text.specs.declared.walk.At.{At}
 

@@ -1,13 +1,13 @@
 //! Links of the chain, read from the spans of modules.
 ghost use Rattle.std.specs.Prelude.{◌≡◌, ℕ, ◌<◌, IsTrue};
 ghost use Rattle.flow_design.specs.declared.plan.Plan.{Plan};
-ghost use Rattle.stall_spans.specs.Spans.{AreSpansBelow};
+ghost use Rattle.timelines.specs.Spans.{AreSpansBelow};
 ghost use Rattle.depth_order.specs.Chain.{moves_at, span_start};
 ghost use Rattle.path_text.specs.Walks.{AreSorted, IsWith, StoodBefore, link_at, moving_end, stalled_port};
 
 use depth_order::Link;
 use flow_word::Port;
-use stall_spans::{Doing, Span};
+use timelines::{Doing, Span};
 
 /// The link that ends with this clock, in which the module moves, read from the module's spans.
 pub(crate) fn link_to(spans: &[Span], owner: u32, clock: u64) -> Link

@@ -18,8 +18,8 @@ use flow_design::Design;
 use flow_word::{List, OutOfMemory, Side};
 use report_text::print_verdict;
 use sim_core::{Core, LoggedAccess};
-use stall_spans::Span;
 use std::alloc::Global;
+use timelines::Span;
 
 /// The text on what decides the latency of a final core's plan: the modules in which the chain back from its end spends clocks, and
 /// the channels that it crosses. With `events` it also has the links of the chain. With `polls` the chain goes back from a query

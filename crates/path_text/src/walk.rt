@@ -18,8 +18,8 @@ use depth_order::Link;
 use flow_design::{ChannelKind, Plan};
 use flow_word::{List, OutOfMemory, Side};
 use sim_core::LoggedAccess;
-use stall_spans::Span;
 use std::alloc::Global;
+use timelines::Span;
 
 /// A module, and a clock in which it moves.
 #[derive(Clone, Copy, Debug, PartialEq, Eq)]

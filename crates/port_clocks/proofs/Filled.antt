@@ -3,8 +3,8 @@ use Rattle.std.proofs.Common.{◌≡◌, ℕ, zero, suc, ◌+◌, ◌-◌, ◌<�
 use Rattle.std.specs.List.{fold, range_with_len}
 use Rattle.flow_word.specs.{declared.access.Port.Port, declared.access.Side.TheVariants.Pop, declared.access.Side.TheVariants.Push}
 use Rattle.flow_design.specs.{declared.plan.Plan.Plan, Plans.is_fifo, Plans.kind_at, StaticRules.FitsEngine}
-use Rattle.fifo_fills.specs.Fills.{fill, last_clock}
-use Rattle.fifo_fills.proofs.Counting.{counted}
+use Rattle.timelines.specs.Fills.{fill, last_clock}
+use Rattle.timelines.proofs.FillCounts.{counted}
 use Rattle.port_clocks.specs.{Leads.before, Leads.most_ahead, Clocks.ArePortClocks, Peaks.peak}
 use Rattle.port_clocks.proofs.Counting.{same_clocks}
 

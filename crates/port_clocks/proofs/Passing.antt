@@ -7,8 +7,8 @@ use Rattle.std.specs.Prelude.{Bool, false, ◌==◌, option_and_then, option_map
 use Rattle.flow_word.specs.{declared.access.Place.Place, declared.access.Port.Port, declared.access.Side.Side}
 use Rattle.flow_design.specs.{declared.plan.Plan.Plan, declared.state.Advance.Advance, declared.state.ModuleState.ModuleState}
 use Rattle.lockstep_defs.specs.{Channels.HistoryStep, Channels.moved, Ports.owner}
-use Rattle.fifo_fills.specs.Fills.{last_clock, moved_before}
-use Rattle.fifo_fills.proofs.Ending.{last_within}
+use Rattle.timelines.specs.Fills.{last_clock, moved_before}
+use Rattle.timelines.proofs.Ending.{last_within}
 use Rattle.event_graph.specs.Lanes.{Lane, lane_at, cycle_of}
 use Rattle.fifo_table.specs.Channels.{Channel, channel_at, first_module, places_of}
 use Rattle.event_timing.specs.{Machines.IsDesign, Histories.Trace, Histories.IsHistory, Views.tally, Views.Agrees}

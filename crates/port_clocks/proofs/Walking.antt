@@ -7,8 +7,8 @@ use Rattle.flow_design.specs.{declared.plan.Plan.Plan, StaticRules.FitsEngine}
 use Rattle.lockstep_defs.specs.{Channels.HistoryStep, Channels.moved, Lockstep.history, Lockstep.state, Lockstep.steps_in}
 use Rattle.lockstep_defs.proofs.Queue.{moved-nil, moved-append, moves_once}
 use Rattle.lockstep_defs.proofs.{Rules.keeps_ports, Settled.history-zero, Settled.history-suc}
-use Rattle.fifo_fills.specs.Fills.{fill, last_clock, moved_before}
-use Rattle.fifo_fills.proofs.Counting.{counted}
+use Rattle.timelines.specs.Fills.{fill, last_clock, moved_before}
+use Rattle.timelines.proofs.FillCounts.{counted}
 use Rattle.port_clocks.specs.{declared.walk.PortWalk.PortWalk, declared.walk.FifoWalk.FifoWalk}
 use Rattle.port_clocks.specs.Walks.{PassesAt, StandsAt, IsFifoWalk, next_of}
 

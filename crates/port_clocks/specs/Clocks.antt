@@ -2,7 +2,7 @@
 use Rattle.std.specs.Prelude.{ℕ, ◌≡◌, ◌≤◌, List}
 use Rattle.flow_word.specs.declared.access.Port.{Port}
 use Rattle.flow_design.specs.declared.plan.Plan.{Plan}
-use Rattle.fifo_fills.specs.Fills.{last_clock, moved_before}
+use Rattle.timelines.specs.Fills.{last_clock, moved_before}
 use Rattle.port_clocks.specs.Leads.{before, AreClocks}
 
 -- these are the clocks before the verdict's in which elements pass the port: before each clock there are as many as elements passed

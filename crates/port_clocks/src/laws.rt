@@ -2,7 +2,7 @@
 ghost use Rattle.std.specs.Prelude.{◌≡◌, ◌+◌, ◌<◌, ◌≤◌, ℕ, true, length, List as Items};
 ghost use Rattle.flow_word.specs.{declared.access.Port.Port, declared.access.Side.TheVariants.Pop, declared.access.Side.TheVariants.Push};
 ghost use Rattle.flow_design.specs.{declared.plan.Plan.Plan, Plans.is_fifo, Plans.kind_at, StaticRules.FitsEngine};
-ghost use Rattle.fifo_fills.specs.Fills.{fill, last_clock};
+ghost use Rattle.timelines.specs.Fills.{fill, last_clock};
 ghost use Rattle.port_clocks.specs.{Leads.before, Clocks.ArePortClocks};
 
 /// A port has exactly one list of clocks. In each clock up to the verdict's a FIFO holds as many elements as clocks of its pushes

@@ -5,7 +5,7 @@ ghost use Rattle.flow_design.specs.{declared.plan.Plan.Plan, Plans.is_fifo, Plan
 ghost use Rattle.event_timing.specs.Actions.{IsFinal};
 ghost use Rattle.timing_bridge.specs.Designs.{design};
 ghost use Rattle.sim_core.specs.Views.{theory_of};
-ghost use Rattle.fifo_fills.specs.Fills.{fill, last_clock};
+ghost use Rattle.timelines.specs.Fills.{fill, last_clock};
 ghost use Rattle.port_clocks.specs.Walks.{next_of, PassesAt, StandsAt, IsFifoWalk};
 
 use crate::reading::cycle_at;

@@ -22,13 +22,13 @@ use Rattle.flow_design.proofs.state.Request.TheSendSync as request
 use Rattle.flow_design.specs.contracts.design.Module as unit
 use Rattle.flow_design.specs.contracts.design.Design as design
 use Rattle.flow_design.specs.contracts.plan.Plan as plan
-use Rattle.block_code.proofs.code.BlockCode.TheSendSync as code
-use Rattle.block_code.proofs.noted.Notes.TheSendSync as notes
+use Rattle.module_code.proofs.code.BlockCode.TheSendSync as code
+use Rattle.module_code.proofs.noted.Notes.TheSendSync as notes
 use Rattle.module_interp.proofs.path.Stage.TheSendSync as stage
 use Rattle.module_interp.proofs.tally.Tally.TheSendSync as tally
 use Rattle.module_interp.specs.contracts.path.Path as path
 use Rattle.module_interp.specs.contracts.run.ModuleRun as run
-use Rattle.candidate_list.proofs.list.CandidateList.TheSendSync as candidates
+use Rattle.query_resolve.proofs.candidates.CandidateList.TheSendSync as candidates
 use Rattle.engine_view.proofs.engine.Engine.TheSendSync as held
 use Rattle.sim_core.proofs.due.Due.TheSendSync as due
 use Rattle.sim_core.proofs.machine.Scratch.TheSendSync as scratch
@@ -36,9 +36,9 @@ use Rattle.sim_core.proofs.unread.Unread.TheSendSync as unread
 use Rattle.sim_core.proofs.wiring.Wiring.TheSendSync as wiring
 use Rattle.sim_core.specs.contracts.machine.Core as engine
 use Rattle.sim_core.specs.contracts.machine.Core.TheInside as core
-use Rattle.turn_history.proofs.turn.HubTurn.TheSendSync as turn
-use Rattle.turn_history.specs.contracts.entry.HubEntry as entry
-use Rattle.turn_history.specs.Entries.{bearer}
+use Rattle.timing_bridge.proofs.turn.HubTurn.TheSendSync as turn
+use Rattle.timing_bridge.specs.contracts.entry.HubEntry as entry
+use Rattle.timing_bridge.specs.Entries.{bearer}
 use Rattle.turn_lock.proofs.pass.TurnLock.TheSendSync as lock
 use Rattle.turn_lock.proofs.pass.Pass.TheSendSync as pass
 use Rattle.sim_hub.specs.Ledgers.{entries_under}

@@ -1,7 +1,7 @@
 -- What driving a module tells its pass.
 use Rattle.std.specs.Prelude.{◌≡◌, ℕ}
 use Rattle.turn_lock.specs.declared.view.View.{View}
-use Rattle.turn_history.specs.declared.entry.HubEntry.{HubEntry}
+use Rattle.timing_bridge.specs.declared.entry.HubEntry.{HubEntry}
 use Rattle.sim_hub.specs.{declared.hub.Hub.Hub, declared.pass.ModulePass.ModulePass, Places.Behind, Places.HasNoDeskOut}
 use Rattle.sim_hub.specs.Hubs.{IsOfHub, IsFinished, WasShort, module_of, module_view}
 use Rattle.run_threads.specs.{declared.drive.Answered.Answered, declared.drive.Went.Went, declared.drive.End.End}

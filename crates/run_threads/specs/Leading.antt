@@ -2,7 +2,7 @@
 use Rattle.std.specs.Prelude.{◌≡◌}
 use mathlib.Core.List.{IsPrefix}
 use Rattle.turn_lock.specs.declared.view.View.{View}
-use Rattle.turn_history.specs.declared.entry.HubEntry.{HubEntry}
+use Rattle.timing_bridge.specs.declared.entry.HubEntry.{HubEntry}
 
 -- w is the performance pass v after further turns
 pub record HasGoneOn (v w : View HubEntry) : Type 0 where

@@ -13,11 +13,9 @@ use Rattle.module_sets.specs.{declared.mask.Mask.Mask, Sets.Has, Sets.HasMask, S
 use Rattle.lockstep_defs.specs.{Lockstep.requests_of, Ports.StandsAtPort, Ports.owner}
 use Rattle.event_timing.specs.{Machines.Design, Machines.Each, Core.Core, Actions.Action.Assign, Actions.Action.Answer, Agreement.IsAgreed}
 use Rattle.event_timing.specs.Actions.{ActsAll, Acts, MayEarliest, after_answer, runs}
-use Rattle.timing_bridge.specs.Designs.{design, lockstep_run, seen}
-use Rattle.timing_bridge.proofs.{History.plan_is_design, History.run_is_history, Requests.stand}
-use Rattle.turn_history.specs.{Apart.AreApart, Rounds.may_time, Rounds.after_timing}
-use Rattle.turn_history.proofs.Apart.{timing_apart, runs_apart}
-use Rattle.turn_history.proofs.Onward.{assigned_is, answered_is, idle_is, opened_is}
+use Rattle.timing_bridge.specs.{Designs.design, Designs.lockstep_run, Designs.seen, Apart.AreApart, Rounds.may_time, Rounds.after_timing}
+use Rattle.timing_bridge.proofs.{History.plan_is_design, History.run_is_history, Requests.stand, Apart.timing_apart, Apart.runs_apart}
+use Rattle.timing_bridge.proofs.Onward.{assigned_is, answered_is, idle_is, opened_is}
 use Rattle.outcome_guard.specs.declared.guard.Guard.{Guard}
 use Rattle.outcome_guard.specs.declared.guard.Guard.TheVariants as guard
 use Rattle.engine_view.specs.{Held.Held, Held.core_of, Turns.is_progress, Turns.IsIdle, declared.turn.Timing.Timing}

@@ -15,7 +15,8 @@ use Rattle.event_timing.specs.{Machines.Design, Machines.IsDesign, Core.Core, Ac
 use Rattle.event_timing.specs.{Edits.edited, Edits.after_edit, Growth.GrowsBeside}
 use Rattle.event_timing.proofs.{Beside.others_grow, Editing.cycles_rise, Editing.kept_same, Steps.same_clock, Touched.kept_ge}
 use Rattle.timing_bridge.specs.Designs.{design, lockstep_run}
-use Rattle.timing_bridge.proofs.{Edits.edited_fits, Edits.same_design, History.plan_is_design, History.run_is_history}
+use Rattle.timing_bridge.proofs.{Edits.edited_fits, Edits.same_design, Lending.timings_no_run}
+use Rattle.timing_bridge.proofs.History.{plan_is_design, run_is_history}
 use Rattle.engine_view.specs.{Held.core_of, Kept.IsKept, Rooms.IsRoomy, Shown.IsSound, Engines.held_in, Taking.kinds_in, Turns.IsSomeCore}
 use Rattle.engine_view.specs.declared.engine.Engine.{Engine}
 use Rattle.cycle_changes.specs.{Records.IsRightRecord, Changed.HasChanged, Moved.moved_in}
@@ -31,7 +32,6 @@ use Rattle.sim_core.proofs.{Asking.beside_edited, Asking.still_room, Listing.lis
 use Rattle.sim_core.proofs.{Cut.history_of, Cut.cut_of, Keeping.kept_of, SameSteps.marks_beside, Staying.run_stays, Staying.end_stays}
 use Rattle.sim_core.proofs.EditedRuns.{run_edited, end_edited, channel_inside, fifo_there, depth_there, kinds_edited}
 use Rattle.lockstep_defs.specs.Ports.{owner}
-use Rattle.turn_history.proofs.Lending.{timings_no_run}
 
 -- what a retiming leaves of what is stored, and of the counter
 pub record IsRetiming (guard : Guard) (e : Edit) (clock limit : ℕ) (s t : Engine) (before after : ℕ) : Type 0 where

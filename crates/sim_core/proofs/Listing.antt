@@ -7,11 +7,9 @@ use Rattle.event_graph.specs.{declared.candidate.Candidate.Candidate, declared.c
 use Rattle.query_resolve.specs.Earliest.{cycle_of}
 use Rattle.event_timing.specs.Actions.{IsDetermined, ActsAll, IsQuiet, runs}
 use Rattle.event_timing.specs.{Core.Core, Core.view, Enablers.candidate, Agreement.IsAgreed}
-use Rattle.timing_bridge.specs.Designs.{design, lockstep_run}
-use Rattle.timing_bridge.proofs.History.{plan_is_design, run_is_history}
-use Rattle.turn_history.specs.Rounds.{after_timing}
-use Rattle.turn_history.proofs.Apart.{candidate_apart, candidates_apart}
-use Rattle.turn_history.proofs.Onward.{assigned_is, answered_is, idle_is, opened_is}
+use Rattle.timing_bridge.specs.{Designs.design, Designs.lockstep_run, Rounds.after_timing}
+use Rattle.timing_bridge.proofs.{History.plan_is_design, History.run_is_history, Apart.candidate_apart, Apart.candidates_apart}
+use Rattle.timing_bridge.proofs.Onward.{assigned_is, answered_is, idle_is, opened_is}
 use Rattle.outcome_guard.specs.declared.guard.Guard.{Guard}
 use Rattle.outcome_guard.specs.declared.guard.Guard.TheVariants as guard
 use Rattle.engine_view.specs.{Turns.is_progress, declared.turn.Timing.Timing}

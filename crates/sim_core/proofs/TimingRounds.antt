@@ -11,11 +11,11 @@ use Rattle.event_timing.specs.Agreement.{IsAgreed, AllVerified}
 use Rattle.event_timing.proofs.{ActionBound.most_work, Agreement.final_closed, Deciding.determined_inside}
 use Rattle.query_log.specs.declared.query.Query.{Query}
 use Rattle.outcome_guard.specs.declared.guard.Guard.TheVariants as guard
-use Rattle.timing_bridge.specs.Designs.{design, lockstep_run}
-use Rattle.timing_bridge.proofs.{Bounded.plan_is_bounded, History.plan_is_design, History.run_is_history}
-use Rattle.turn_history.specs.{Rounds.may_time, Rounds.after_timing, Rounds.next_timing, Rounds.timings, Rounds.earliest_of, Turns.NoTiming}
-use Rattle.turn_history.proofs.{Onward.assigned_is, Onward.answered_is, Onward.idle_is, Onward.next_none, Onward.timings_none}
-use Rattle.turn_history.proofs.{Onward.timings_more, Onward.timings_on, Onward.timings_over, Onward.earliest_found, Timings.none_left_at}
+use Rattle.timing_bridge.specs.{Designs.design, Designs.lockstep_run, Turns.NoTiming}
+use Rattle.timing_bridge.specs.Rounds.{may_time, after_timing, next_timing, timings, earliest_of}
+use Rattle.timing_bridge.proofs.{Bounded.plan_is_bounded, History.plan_is_design, History.run_is_history, Timings.none_left_at}
+use Rattle.timing_bridge.proofs.Onward.{assigned_is, answered_is, idle_is, next_none, timings_none, timings_more, timings_on, timings_over}
+use Rattle.timing_bridge.proofs.Onward.{earliest_found}
 use Rattle.engine_view.specs.{declared.turn.Timing.Timing, Turns.is_progress, Turns.ticks_of}
 use Rattle.engine_view.specs.declared.turn.Timing.TheVariants as turn
 use Rattle.sim_core.specs.{Views.CoreView, Views.theory_of, Turns.HasTurned, Turns.HasAnsweredLeast, Turns.IsFirstEarliest}

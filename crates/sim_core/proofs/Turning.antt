@@ -20,8 +20,7 @@ use Rattle.event_timing.specs.Actions.{Acts, MayAssign, MayAnswer, MayEarliest, 
 use Rattle.event_timing.specs.Actions.Action.{Assign, Answer, Earliest}
 use Rattle.event_timing.proofs.{Assigning.put_at_same, Answering.first_emitted, Deciding.determined_inside}
 use Rattle.timing_bridge.specs.Designs.{design}
-use Rattle.timing_bridge.proofs.History.{plan_is_design}
-use Rattle.turn_history.proofs.Apart.{answered_assigns}
+use Rattle.timing_bridge.proofs.{History.plan_is_design, Apart.answered_assigns}
 use Rattle.engine_view.specs.{declared.turn.Timing.Timing, Kept.IsKept, declared.engine.Engine.Engine, Engines.held_in, Taking.kinds_in}
 use Rattle.engine_view.specs.declared.turn.Timing.TheVariants.{Assigned, Answered, Differs}
 use Rattle.engine_view.specs.Held.{Held, no_step, emitted_of, step_of, are_among, core_of}

@@ -5,9 +5,8 @@ use Rattle.std.specs.Prelude.{slice_index_or}
 use Rattle.flow_design.specs.{declared.plan.Plan.Plan, declared.state.ModuleState.ModuleState}
 use Rattle.module_sets.specs.{declared.mask.Mask.Mask, Sets.Has, Sets.IsRemoved}
 use Rattle.event_timing.specs.{Core.Core, Actions.ActsAll, Actions.MayRun, Actions.runs, Actions.after_assign, Actions.after_answer}
-use Rattle.timing_bridge.specs.Designs.{design}
-use Rattle.turn_history.specs.Apart.{AreApart}
-use Rattle.turn_history.proofs.{RunApart.assign_no_run, RunApart.answer_no_run, RunApart.runs_no_run, Timings.no_timing_at}
+use Rattle.timing_bridge.specs.{Designs.design, Apart.AreApart}
+use Rattle.timing_bridge.proofs.{RunApart.assign_no_run, RunApart.answer_no_run, RunApart.runs_no_run, Timings.no_timing_at}
 use Rattle.outcome_guard.specs.declared.guard.Guard.{Guard}
 use Rattle.outcome_guard.specs.declared.guard.Guard.TheVariants as guard
 use Rattle.engine_view.specs.declared.turn.Timing.{Timing}

@@ -4,8 +4,7 @@ use Rattle.flow_word.specs.{Kinds.other_side, declared.access.Port.Port}
 use Rattle.flow_design.specs.{declared.plan.Plan.Plan, declared.state.ModuleState.ModuleState}
 use Rattle.module_sets.specs.{declared.mask.Mask.Mask, Sets.Has, Sets.HasMask, Sets.capacity}
 use Rattle.event_timing.specs.Core.{Core}
-use Rattle.timing_bridge.specs.Designs.{design}
-use Rattle.turn_history.specs.{Apart.AreApart, Rounds.may_time}
+use Rattle.timing_bridge.specs.{Designs.design, Apart.AreApart, Rounds.may_time}
 
 -- module n is not in the set
 abbrev pub Lacks : List ℕ → ℕ → Type 0

@@ -2,8 +2,7 @@
 use Rattle.std.specs.Prelude.{◌≡◌, ℕ, ◌+◌, ◌<◌, ◌≤◌, ◌⊎◌, true, false, length, slice_index_or}
 use Rattle.flow_design.specs.StaticRules.{FitsEngine}
 use Rattle.event_timing.specs.{Actions.MayRun, Actions.IsDetermined, Agreement.IsAgreed, Agreement.AllVerified, Work.work}
-use Rattle.timing_bridge.specs.Designs.{design, lockstep_run}
-use Rattle.turn_history.specs.Rounds.{may_time, after_timing, timings}
+use Rattle.timing_bridge.specs.{Designs.design, Designs.lockstep_run, Rounds.may_time, Rounds.after_timing, Rounds.timings}
 use Rattle.sim_core.specs.{Views.CoreView, Views.theory_of, Drives.Goes, Drives.GoesOn}
 
 -- an Assign or an Answer of module m is permitted

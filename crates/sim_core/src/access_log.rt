@@ -9,11 +9,11 @@ ghost use Rattle.sim_core.specs.AccessLog.{exchange_of, log_of, logged, logged_a
 ghost use Rattle.sim_core.specs.Views.{theory_of};
 
 use crate::machine::Core;
-use block_code::is_yes;
 use engine_report::{TimedStep, sorted_steps};
 use event_graph::{Access, Kind, Place};
 use flow_design::{EventLine, Reply};
 use flow_word::{List, OutOfMemory};
+use module_code::is_yes;
 use run_ahead::find_replies;
 use std::alloc::Global;
 use timing_bridge::steps_in_order;

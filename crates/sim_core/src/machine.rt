@@ -9,12 +9,12 @@ ghost use Rattle.sim_core.specs.{Opening.ports_to, Readers.AreReaders, Views.the
 use crate::due::Due;
 use crate::unread::Unread;
 use crate::wiring::{Wiring, ports_of};
-use candidate_list::CandidateList;
 use cycle_changes::Changes;
 use engine_view::Engine;
 use flow_design::{Advance, Plan, Reply};
 use flow_word::{List, Port};
 use module_interp::ModuleRun;
+use query_resolve::CandidateList;
 use run_ahead::Mail;
 use std::alloc::Global;
 use std::marker::Model;

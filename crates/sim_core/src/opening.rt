@@ -12,7 +12,6 @@ use crate::due::Due;
 use crate::machine::{Core, Scratch};
 use crate::unread::nothing_unread;
 use crate::wiring::find_wiring;
-use candidate_list::CandidateList;
 use engine_view::Engine;
 use event_graph::Graph;
 use fifo_table::{FifoTable, TableChannel};
@@ -20,6 +19,7 @@ use flow_design::{Advance, ChannelKind, Plan, copy_plan};
 use flow_word::{List, OutOfMemory, Width, Words, cut};
 use module_interp::ModuleRun;
 use query_log::QueryLog;
+use query_resolve::CandidateList;
 use std::alloc::Global;
 
 impl Core {

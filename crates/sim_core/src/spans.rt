@@ -4,14 +4,14 @@ ghost use Rattle.event_timing.specs.Actions.{IsFinal};
 ghost use Rattle.timing_bridge.specs.Designs.{design};
 ghost use Rattle.lockstep_defs.specs.Verdict.{verdict};
 ghost use Rattle.flow_design.specs.Reports.{clock_of};
-ghost use Rattle.stall_spans.specs.Spans.{AreSpans};
+ghost use Rattle.timelines.specs.Spans.{AreSpans};
 ghost use Rattle.sim_core.specs.Views.{theory_of};
 
 use crate::machine::Core;
 use engine_report::spans_of;
 use flow_word::{List, OutOfMemory};
-use stall_spans::Span;
 use std::alloc::Global;
+use timelines::Span;
 
 impl Core {
     /// The spans of a module of a final core, in order, where `clock` is that of the plan's verdict. They are the lockstep

@@ -1,8 +1,7 @@
 //! The turn in which a thread gives steps cycles, and the test whether a core is final.
 ghost use Rattle.std.specs.Prelude.{◌≡◌, ℕ, ◌<◌, ◌≤◌, ◌⊎◌, true, false, length, slice_index_or, IfSome, IsNone, Some};
 ghost use Rattle.event_timing.specs.{Actions.IsDetermined, Actions.IsFinal, Actions.MayEarliest, Actions.MayRun, Agreement.AllVerified};
-ghost use Rattle.timing_bridge.specs.Designs.{design};
-ghost use Rattle.turn_history.specs.{Rounds.earliest_of, Rounds.timings, Turns.NoTiming};
+ghost use Rattle.timing_bridge.specs.{Designs.design, Rounds.earliest_of, Rounds.timings, Turns.NoTiming};
 ghost use Rattle.module_sets.specs.Sets.{Has, capacity};
 ghost use Rattle.sim_core.specs.{Views.theory_of, Drives.Goes};
 ghost use Rattle.sim_core.specs.Timings.{IsTimed, IsUntimable, AreUntimable, AreUnrunnable, IsNextFrom, IsReady};

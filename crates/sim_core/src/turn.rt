@@ -11,12 +11,12 @@ ghost use Rattle.sim_core.specs.Candidates.{AreCandidates, IsCandidate, IsListed
 use crate::beside::{ask_after, spread, wake_after};
 use crate::due::Due;
 use crate::machine::Core;
-use candidate_list::CandidateList;
 use engine_view::Timing;
 use event_graph::{Candidate, Graph};
 use fifo_table::FifoTable;
 use flow_word::Steps;
 use outcome_guard::Guard;
+use query_resolve::CandidateList;
 use std::sync::ledger::Ledger;
 use time_engine::candidate;
 

@@ -5,12 +5,11 @@ use Rattle.std.specs.Coded.{le_prop}
 use mathlib.Core.Logic.{∥∥₁_elim, ∥∥₁_map}
 use mathlib.Core.List.{IsPrefix}
 use Rattle.flow_design.specs.{declared.plan.Plan.Plan, declared.state.ModuleState.ModuleState, StaticRules.FitsEngine}
-use Rattle.timing_bridge.specs.Designs.{design}
+use Rattle.timing_bridge.specs.{Designs.design, declared.turn.HubTurn.HubTurn, declared.entry.HubEntry.HubEntry}
+use Rattle.timing_bridge.specs.{declared.entry.HubEntry.TheVariants.Turn, Turned.Turned, Turned.lent_at, Turned.after_short, Turns.TurnsOf}
+use Rattle.timing_bridge.specs.{Turns.AreOfOthers, Histories.turned_by, Entries.bearer, Entries.history_of, Entries.Stands}
+use Rattle.timing_bridge.specs.declared.turn.HubTurn.TheVariants.{Lent, Ran, Timed, Short}
 use Rattle.turn_lock.specs.{declared.view.View.View, Entries.entries_of, Entries.Owns, Turns.BeginsTurn, Turns.EndsTurn, Turns.Continues}
-use Rattle.turn_history.specs.{declared.turn.HubTurn.HubTurn, declared.entry.HubEntry.HubEntry, declared.entry.HubEntry.TheVariants.Turn}
-use Rattle.turn_history.specs.{Turned.Turned, Turned.lent_at, Turned.after_short, Turns.TurnsOf, Turns.AreOfOthers, Histories.turned_by}
-use Rattle.turn_history.specs.declared.turn.HubTurn.TheVariants.{Lent, Ran, Timed, Short}
-use Rattle.turn_history.specs.Entries.{bearer, history_of, Stands}
 use Rattle.sim_hub.specs.{declared.answer.Desk.Desk, declared.answer.PerfAnswer.PerfAnswer}
 use Rattle.sim_hub.specs.Places.{Behind, IsLegal, IsPlace, HasModule, HasModules, HasAdded, HasLooked, HasMadeAll, HasNoDesk, IsLater}
 use Rattle.sim_hub.specs.Hubs.{IsHeld, IsIdle, IsFinished, WasShort, HadMemory, FoundShort, DeskIs, PerfIs, ReturnIs}

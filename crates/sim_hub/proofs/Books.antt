@@ -1,7 +1,7 @@
 -- The ledger in books that are borrowed or closed.
 use Rattle.std.proofs.Common.{◌≡◌, ◌∙◌, sym, ap, subst, List}
 use Rattle.turn_lock.specs.{declared.view.View.View, Turns.ShowsAll}
-use Rattle.turn_history.specs.{declared.entry.HubEntry.HubEntry, Entries.bearer}
+use Rattle.timing_bridge.specs.{declared.entry.HubEntry.HubEntry, Entries.bearer}
 use Rattle.sim_hub.specs.{declared.kept.Books.Books, declared.ledger.Ledger.Ledger, Ledgers.entries_in}
 
 -- what holds of the entries of books holds of those of the ledger that is borrowed from them

@@ -7,13 +7,12 @@ use mathlib.Core.List.{IsPrefix}
 use mathlib.Core.Logic.{∥∥₁_elim, ∥∥₁_map}
 use Rattle.flow_design.specs.{StaticRules.FitsEngine, declared.plan.Plan.Plan, declared.state.ModuleState.ModuleState}
 use Rattle.event_timing.specs.Actions.{IsFinal}
-use Rattle.timing_bridge.specs.Designs.{design}
+use Rattle.timing_bridge.specs.{Designs.design, declared.entry.HubEntry.HubEntry, Turned.Turned, Turned.opening_turned}
+use Rattle.timing_bridge.specs.Entries.{bearer, history_of, Stands}
 use Rattle.turn_lock.specs.{declared.view.View.View, Entries.entries_of, Passes.TableId}
 use Rattle.turn_lock.specs.Turns.{AreAllMade, ShowsAll, ShowsEach, ShowsPass}
 use Rattle.turn_lock.proofs.{Histories.none_later, Histories.prefix_self, Joins.after_joins, Joins.shows_each}
-use Rattle.turn_history.specs.{declared.entry.HubEntry.HubEntry, Turned.Turned, Turned.opening_turned}
-use Rattle.turn_history.specs.Entries.{bearer, history_of, Stands}
-use Rattle.turn_history.proofs.Lending.{final_stays}
+use Rattle.timing_bridge.proofs.Lending.{final_stays}
 use Rattle.sim_hub.specs.{declared.pass.ModulePass.ModulePass, declared.pass.PerfPass.PerfPass, Places.HasModule, Places.HasModules}
 use Rattle.sim_hub.specs.{Places.HasNoDesk, Places.IsLegal, Steps.ComesHome, Closings.AreFrom, Closings.HasEachModule, Closings.IsWhole}
 use Rattle.sim_hub.specs.Hubs.{IsOverAt, module_of, module_hub, module_view, perf_view}

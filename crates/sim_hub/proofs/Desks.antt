@@ -5,13 +5,12 @@ use Rattle.flow_design.specs.{declared.plan.Plan.Plan, declared.state.ModuleStat
 use Rattle.event_timing.specs.{Core.Core, Agreement.IsAgreed}
 use Rattle.event_timing.proofs.Beside.{others_grow}
 use Rattle.timing_bridge.specs.Designs.{design, lockstep_run}
-use Rattle.timing_bridge.proofs.History.{plan_is_design, run_is_history}
+use Rattle.timing_bridge.specs.{declared.turn.HubTurn.HubTurn, Turned.Turned, Turned.lent_at, Turns.TurnsOf, Turns.AreOfOthers}
+use Rattle.timing_bridge.proofs.{History.plan_is_design, History.run_is_history, Lending.turns_beside}
 use Rattle.module_interp.specs.{declared.run.ModuleRun.ModuleRun, Runs.StandsAt, Runs.waits}
 use Rattle.run_ahead.specs.{declared.mail.Task.Task, declared.mail.Burst.Burst, Mails.IsBurst, Working.StandsSomewhere}
 use Rattle.sim_core.specs.{Runs.IsRunOf, Runs.rest_behind, Tasks.IsTaskOf, Tasks.IsTaskFor, Tasks.committed, Tasks.rest_of}
 use Rattle.sim_core.proofs.{Committed.committed_waits, Committed.committed_goes, Tasks.task_for, Tasks.task_stays, Tasks.burst_has_marks}
-use Rattle.turn_history.specs.{declared.turn.HubTurn.HubTurn, Turned.Turned, Turned.lent_at, Turns.TurnsOf, Turns.AreOfOthers}
-use Rattle.turn_history.proofs.Lending.{turns_beside}
 use Rattle.sim_hub.specs.Hubs.{IsBurstOn}
 
 -- a run of a core stands at its rest

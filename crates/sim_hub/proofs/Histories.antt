@@ -6,16 +6,15 @@ use Rattle.std.specs.Prelude.{get_or, slice_set, map}
 use mathlib.Core.List.{IsPrefix}
 use Rattle.flow_design.specs.{declared.plan.Plan.Plan, declared.state.ModuleState.ModuleState, StaticRules.FitsEngine}
 use Rattle.event_timing.specs.Machines.{Design}
-use Rattle.timing_bridge.specs.Designs.{design, lockstep_run}
-use Rattle.timing_bridge.proofs.History.{plan_is_design, run_is_history}
+use Rattle.timing_bridge.specs.{Designs.design, Designs.lockstep_run, declared.turn.HubTurn.HubTurn, declared.entry.HubEntry.HubEntry}
+use Rattle.timing_bridge.specs.{Rounds.then_on, Replays.turns_on, Histories.standing_of, Histories.turned_by, Entries.bearer}
+use Rattle.timing_bridge.specs.{Entries.history_of, Entries.Stands, Turns.IsTurnOf, Turns.TurnsOf, Turns.AreOfOthers, Turns.taker}
+use Rattle.timing_bridge.specs.declared.turn.HubTurn.TheVariants.{Lent, Ran, Timed, Short}
+use Rattle.timing_bridge.specs.declared.entry.HubEntry.TheVariants.{Opened, Turn}
+use Rattle.timing_bridge.specs.Turned.{Turned, lent_at, is_lent_to, not_to, opening_turned}
+use Rattle.timing_bridge.proofs.{History.plan_is_design, History.run_is_history, Legal.turns_are, Turning.turns_join}
+use Rattle.timing_bridge.proofs.Plans.{history_is, history_agrees, history_verified}
 use Rattle.turn_lock.specs.Entries.{bears, entries_of}
-use Rattle.turn_history.specs.{declared.turn.HubTurn.HubTurn, declared.entry.HubEntry.HubEntry, Rounds.then_on, Replays.turns_on}
-use Rattle.turn_history.specs.{Histories.standing_of, Histories.turned_by, Entries.bearer, Entries.history_of, Entries.Stands}
-use Rattle.turn_history.specs.declared.turn.HubTurn.TheVariants.{Lent, Ran, Timed, Short}
-use Rattle.turn_history.specs.declared.entry.HubEntry.TheVariants.{Opened, Turn}
-use Rattle.turn_history.specs.Turned.{Turned, lent_at, is_lent_to, not_to, opening_turned}
-use Rattle.turn_history.specs.Turns.{IsTurnOf, TurnsOf, AreOfOthers, taker}
-use Rattle.turn_history.proofs.{Plans.history_is, Plans.history_agrees, Plans.history_verified, Legal.turns_are, Turning.turns_join}
 use Rattle.turn_lock.proofs.Histories.{prefix_self}
 use Rattle.sim_hub.specs.Places.{Behind}
 use Rattle.flow_word.proofs.Ranges.{some_is}

@@ -6,15 +6,14 @@ use Rattle.std.proofs.lemmas.List.{length-set, length-map, length-replicate, map
 use Rattle.std.specs.Prelude.{slice_set, slice_index_or, is_some, unwrap_or}
 use Rattle.flow_design.specs.{StaticRules.FitsEngine, declared.plan.Plan.Plan, declared.state.ModuleState.ModuleState}
 use Rattle.event_timing.specs.{Core.opening_core, Agreement.AllVerified}
-use Rattle.timing_bridge.specs.Designs.{design}
+use Rattle.timing_bridge.specs.{Designs.design, declared.turn.HubTurn.HubTurn, declared.entry.HubEntry.HubEntry, Turns.taker}
+use Rattle.timing_bridge.specs.{Histories.standing_of, Histories.turned_by, Entries.bearer, Entries.history_of, Entries.Stands}
+use Rattle.timing_bridge.specs.declared.entry.HubEntry.TheVariants.{Opened, Turn}
+use Rattle.timing_bridge.specs.Turned.{Turned, lent_at, opening_turned, after_lent, after_ran, after_timed, after_short}
 use Rattle.turn_lock.specs.Entries.{entries_of}
 use Rattle.turn_lock.proofs.Histories.{Some-same, entries_other}
 use Rattle.sim_core.specs.{Views.CoreView, Views.theory_of, Drives.AreOwn}
-use Rattle.turn_history.specs.{declared.turn.HubTurn.HubTurn, declared.entry.HubEntry.HubEntry, Turns.taker, Histories.standing_of}
-use Rattle.turn_history.specs.{Histories.turned_by, Entries.bearer, Entries.history_of, Entries.Stands}
-use Rattle.turn_history.specs.declared.entry.HubEntry.TheVariants.{Opened, Turn}
-use Rattle.turn_history.specs.Turned.{Turned, lent_at, opening_turned, after_lent, after_ran, after_timed, after_short}
-use Rattle.turn_history.proofs.Plans.{history_is, history_verified}
+use Rattle.timing_bridge.proofs.Plans.{history_is, history_verified}
 use Rattle.sim_hub.specs.Places.{IsLegal, Behind, HasDesk}
 use Rattle.sim_hub.specs.Kept.{IsKept, Matches, behind, lent_count, spare}
 use Rattle.sim_hub.proofs.Lists.{set_true, set_keeps, within_false, within_some, none_replicated, count_set, count_cleared, count_none}

@@ -6,14 +6,14 @@ use Rattle.std.specs.Prelude.{slice_index_or, slice_set}
 use mathlib.Core.Logic.{∥∥₁_elim}
 use Rattle.flow_design.specs.{StaticRules.FitsEngine, declared.plan.Plan.Plan, declared.state.ModuleState.ModuleState}
 use Rattle.event_timing.specs.{Core.Core, Actions.ActsAll, Actions.MayEarliest, Actions.MayRun, Actions.IsFinal, Actions.runs}
-use Rattle.timing_bridge.specs.Designs.{design}
+use Rattle.timing_bridge.specs.{Designs.design, declared.turn.HubTurn.HubTurn, Turns.AreOfOthers, Turns.NoTiming, Histories.turned_by}
+use Rattle.timing_bridge.specs.{Entries.history_of, declared.entry.HubEntry.HubEntry}
+use Rattle.timing_bridge.specs.Turned.{lent_at, after_lent, after_ran, after_timed}
+use Rattle.timing_bridge.specs.declared.turn.HubTurn.TheVariants.{Lent, Ran, Timed}
 use Rattle.run_ahead.specs.{declared.mail.Task.Task, declared.mail.Burst.Burst, Mails.IsBurst}
 use Rattle.module_sets.specs.Sets.{Has, capacity as room_for}
 use Rattle.sim_core.specs.{Views.CoreView, Views.theory_of, Timings.IsReady, Tasks.IsTaskOf, Tasks.IsTaskFor, Tasks.IsBurstOf, Tasks.rest_of}
-use Rattle.turn_history.specs.{declared.turn.HubTurn.HubTurn, Turns.AreOfOthers, Turns.NoTiming, Histories.turned_by, Entries.history_of}
-use Rattle.turn_history.specs.{declared.entry.HubEntry.HubEntry, Turned.lent_at, Turned.after_lent, Turned.after_ran, Turned.after_timed}
-use Rattle.turn_history.specs.declared.turn.HubTurn.TheVariants.{Lent, Ran, Timed}
-use Rattle.turn_history.proofs.{Plans.history_is, Plans.history_agrees, Lending.turns_beside, Turning.lent_fits, Turning.ran_fits}
+use Rattle.timing_bridge.proofs.{Plans.history_is, Plans.history_agrees, Lending.turns_beside, Turning.lent_fits, Turning.ran_fits}
 use Rattle.sim_hub.specs.declared.answer.Desk.TheVariants as desk
 use Rattle.sim_hub.specs.{Kept.IsKept, Kept.behind, Kept.spare, Places.Behind, Places.HasNoDesk}
 use Rattle.sim_hub.specs.Hubs.{HadMemory, IsDesk, IsFinished, IsHeld, IsIdle, IsLendable, OutAt, TellsReady, WasShort}

@@ -1,8 +1,7 @@
 -- The passes of a hub that was just opened.
 use Rattle.std.proofs.Common.{refl, sym, ◌∙◌, List, [], length}
 use Rattle.flow_design.specs.declared.plan.Plan.{Plan}
-use Rattle.timing_bridge.specs.Designs.{design}
-use Rattle.turn_history.specs.Turned.{opening_turned}
+use Rattle.timing_bridge.specs.{Designs.design, Turned.opening_turned}
 use Rattle.turn_lock.specs.Passes.{TableId}
 use Rattle.sim_hub.specs.{declared.pass.ModulePass.ModulePass, Hubs.module_of, Closings.AreNew, Closings.AllHome}
 use Rattle.sim_hub.proofs.Lists.{none_replicated}

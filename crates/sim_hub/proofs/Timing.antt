@@ -3,10 +3,9 @@ use Rattle.std.proofs.Common.{◌≡◌, ℕ, ◌≤◌, sym, ap, ◌∙◌, sub
 use Rattle.std.specs.Prelude.{is_none}
 use Rattle.flow_design.specs.{declared.plan.Plan.Plan, declared.state.ModuleState.ModuleState}
 use Rattle.event_timing.specs.{Machines.Design, Core.Core, Permitted.IsInside}
-use Rattle.timing_bridge.specs.Designs.{design}
-use Rattle.turn_history.specs.{declared.turn.HubTurn.TheVariants.Timed, Turned.Turned, Turned.after_timed, Histories.turned_by}
-use Rattle.turn_history.specs.Rounds.{next_timing, timings, earliest_of}
-use Rattle.turn_history.proofs.Turning.{timed_fits, earliest_fits}
+use Rattle.timing_bridge.specs.{Designs.design, declared.turn.HubTurn.TheVariants.Timed, Turned.Turned, Turned.after_timed}
+use Rattle.timing_bridge.specs.{Histories.turned_by, Rounds.next_timing, Rounds.timings, Rounds.earliest_of}
+use Rattle.timing_bridge.proofs.Turning.{timed_fits, earliest_fits}
 
 -- where nothing was done the core is the same
 pub none_timed : (d : Design ModuleState) (limit : ℕ) (x y : Core ModuleState) (n : ℕ) → n ≡ 0 → timings d limit n 0 x ≡ Some y → y ≡ x

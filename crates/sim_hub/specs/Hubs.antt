@@ -6,11 +6,10 @@ use Rattle.module_interp.specs.Runs.{StandsAt}
 use Rattle.module_sets.specs.Sets.{Has, capacity}
 use Rattle.turn_lock.specs.{declared.view.View.View, Passes.TableId, Passes.pass_lock, Passes.lock_id, Passes.view_of}
 use Rattle.event_timing.specs.Actions.{MayRun, MayEarliest, IsFinal}
-use Rattle.timing_bridge.specs.Designs.{design}
+use Rattle.timing_bridge.specs.{Designs.design, declared.entry.HubEntry.HubEntry, Turned.Turned, Turned.lent_at, Turns.NoTiming}
+use Rattle.timing_bridge.specs.declared.turn.HubTurn.TheVariants.{Lent, Ran, Timed, Short}
 use Rattle.run_ahead.specs.{declared.mail.Task.Task, declared.mail.Burst.Burst, Mails.IsBurst, Working.StandsSomewhere}
 use Rattle.sim_core.specs.Tasks.{IsTaskOf}
-use Rattle.turn_history.specs.{declared.entry.HubEntry.HubEntry, Turned.Turned, Turned.lent_at, Turns.NoTiming}
-use Rattle.turn_history.specs.declared.turn.HubTurn.TheVariants.{Lent, Ran, Timed, Short}
 use Rattle.sim_hub.specs.{declared.hub.Hub.Hub, declared.pass.PerfPass.PerfPass, declared.pass.ModulePass.ModulePass}
 use Rattle.sim_hub.specs.{declared.answer.Desk.Desk, declared.answer.PerfAnswer.PerfAnswer}
 use Rattle.sim_hub.specs.Places.{Behind, HasAdded, HasLooked, HasDesk, HasNoDesk}

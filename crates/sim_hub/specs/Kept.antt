@@ -2,11 +2,10 @@
 use Rattle.std.specs.Prelude.{◌≡◌, ℕ, ◌+◌, ◌<◌, ◌≤◌, List, length, filter, Bool, true, false, if◌then◌else◌, Option, Some, is_some}
 use Rattle.std.specs.Prelude.{unwrap_or, slice_index_or}
 use Rattle.flow_design.specs.{declared.plan.Plan.Plan, declared.state.ModuleState.ModuleState}
-use Rattle.timing_bridge.specs.Designs.{design}
+use Rattle.timing_bridge.specs.{Designs.design, declared.turn.HubTurn.HubTurn, Histories.standing_of, Entries.bearer, Entries.history_of}
+use Rattle.timing_bridge.specs.Turned.{Turned, lent_at, opening_turned}
 use Rattle.turn_lock.specs.Entries.{entries_of}
 use Rattle.sim_core.specs.Views.{CoreView, theory_of}
-use Rattle.turn_history.specs.{declared.turn.HubTurn.HubTurn, Histories.standing_of, Entries.bearer, Entries.history_of}
-use Rattle.turn_history.specs.Turned.{Turned, lent_at, opening_turned}
 
 -- where the turns lead from the plan's opening, if they are legal
 abbrev pub behind : Plan → List HubTurn → Turned ModuleState

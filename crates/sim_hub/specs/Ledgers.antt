@@ -1,6 +1,6 @@
 -- The history of a ledger.
 use Rattle.std.specs.Prelude.{List}
-use Rattle.turn_history.specs.{declared.entry.HubEntry.HubEntry, Entries.history_of}
+use Rattle.timing_bridge.specs.{declared.entry.HubEntry.HubEntry, Entries.history_of}
 use Rattle.sim_hub.specs.{declared.kept.Books.Books, declared.ledger.Ledger.Ledger}
 
 -- the history of a ledger: the opening of its plan, and all turns since

@@ -3,8 +3,8 @@ use Rattle.std.specs.Prelude.{◌≡◌, ℕ, ◌+◌, ◌<◌, List, [], ◌∷
 use mathlib.Core.List.{IsPrefix}
 use Rattle.flow_design.specs.{declared.plan.Plan.Plan, declared.state.ModuleState.ModuleState}
 use Rattle.turn_lock.specs.{declared.view.View.View, Entries.entries_of, Turns.BeginsTurn, Turns.EndsTurn}
-use Rattle.turn_history.specs.{declared.entry.HubEntry.HubEntry, declared.entry.HubEntry.TheVariants.Turn, declared.turn.HubTurn.HubTurn}
-use Rattle.turn_history.specs.{Entries.bearer, Entries.Stands, Turned.Turned, Turned.lent_at}
+use Rattle.timing_bridge.specs.{declared.entry.HubEntry.HubEntry, declared.entry.HubEntry.TheVariants.Turn, declared.turn.HubTurn.HubTurn}
+use Rattle.timing_bridge.specs.{Entries.bearer, Entries.Stands, Turned.Turned, Turned.lent_at}
 
 -- the history is a legal one of a plan that the engine takes
 pub record IsLegal (seen : List HubEntry) : Type 0 where

@@ -1,6 +1,6 @@
 //! The answers of a hub's calls.
 use sim_core::{Core, Task};
-use turn_history::HubTurn;
+use timing_bridge::HubTurn;
 
 /// What a module's pass gets when it asks for a desk.
 #[derive(Drop)]

@@ -1,10 +1,10 @@
 //! The ledger as a turn lock keeps it: a list of entries.
 ghost use Rattle.std.specs.Prelude.{◌≡◌, length};
-ghost use Rattle.turn_history.specs.Entries.{bearer};
+ghost use Rattle.timing_bridge.specs.Entries.{bearer};
 ghost use Rattle.sim_hub.specs.Ledgers.{entries_in, entries_under};
 
 use crate::ledger::Ledger;
-use turn_history::HubEntry;
+use timing_bridge::HubEntry;
 use turn_lock::Kept;
 
 /// A ledger on the heap, so that a turn moves its address only, and not its core.

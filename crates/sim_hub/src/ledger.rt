@@ -4,7 +4,7 @@ ghost use Rattle.std.proofs.Props.{props};
 ghost use Rattle.sim_hub.specs.Kept.{IsKept};
 
 use sim_core::Core;
-use turn_history::HubTurn;
+use timing_bridge::HubTurn;
 
 mod desks;
 mod timing;

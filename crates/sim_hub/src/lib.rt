@@ -12,4 +12,4 @@ pub use answer::{Closed, Desk, PerfAnswer, Threaded};
 pub use hub::Hub;
 pub use pass::{ModulePass, PerfPass};
 pub use sim_core::{Burst, Core, Mail, Task, work};
-pub use turn_history::{HubEntry, HubTurn};
+pub use timing_bridge::{HubEntry, HubTurn};

@@ -15,8 +15,8 @@ use Rattle.lockstep_defs.specs.Channels.{HistoryStep, Exchange, moved_value, mov
 use Rattle.lockstep_defs.specs.Lockstep.{requests_of, moves, answered, step_with, step_of, steps_in, numbered, state, history}
 use Rattle.lockstep_defs.proofs.{Queue.all-append, Order.history_numbers}
 use Rattle.timing_bridge.proofs.Requests.{stand}
-use Rattle.fifo_fills.specs.{Passed.Act, Passed.acts_in, Passed.acts_before, Passed.acts, Passed.moved_in, Fills.last_clock}
-use Rattle.fifo_fills.proofs.Acts.{acts-zero, acts-suc, begins, early, late, moved_are}
+use Rattle.timelines.specs.{Passed.Act, Passed.acts_in, Passed.acts_before, Passed.acts, Passed.moved_in, Fills.last_clock}
+use Rattle.timelines.proofs.Acts.{acts-zero, acts-suc, begins, early, late, moved_are}
 use Rattle.port_clocks.specs.Leads.{before}
 use Rattle.sim_core.specs.{AccessLog.logged, AccessLog.logged_in, AccessLog.log_of, declared.access_log.LoggedAccess.LoggedAccess}
 use Rattle.stall_text.specs.Stalls.{moved_at, access_clocks}

@@ -13,7 +13,7 @@ use Rattle.flow_design.specs.StaticRules.{AreEntriesSound, FitsEngine}
 use Rattle.lockstep_defs.specs.Channels.{moved, values, contents_of, is_empty, is_full}
 use Rattle.lockstep_defs.specs.{Lockstep.state, Lockstep.history, Laws.all_in}
 use Rattle.lockstep_defs.proofs.Counts.{is_counted, delay_positive, fifo_opens_empty}
-use Rattle.fifo_fills.specs.Fills.{fill, last_clock}
+use Rattle.timelines.specs.Fills.{fill, last_clock}
 use Rattle.port_clocks.specs.{Leads.before, Leads.is_ahead, Leads.ahead_clocks, Clocks.ArePortClocks}
 use Rattle.port_clocks.proofs.Filled.{fill_told}
 use Rattle.stall_text.specs.{Stalls.empty_clocks, Stalls.full_clocks, Filling.shifted, Filling.empty_by}

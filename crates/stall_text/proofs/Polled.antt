@@ -10,8 +10,8 @@ use Rattle.std.proofs.lemmas.List.Sums.{count_by-le-length, fold-append, length-
 use Rattle.std.specs.{Prelude.count_by, List.filter, List.list_any, List.range_with_len, List.AllByRecursion}
 use Rattle.lockstep_defs.proofs.Queue.{all-append}
 use Rattle.flow_design.specs.declared.plan.Plan.{Plan}
-use Rattle.fifo_fills.specs.{Fills.last_clock, Passed.acts}
-use Rattle.fifo_fills.proofs.Acts.{early}
+use Rattle.timelines.specs.{Fills.last_clock, Passed.acts}
+use Rattle.timelines.proofs.Acts.{early}
 use Rattle.sim_core.specs.declared.access_log.LoggedAccess.{LoggedAccess}
 use Rattle.stall_text.specs.{declared.polls.Polling.Polling, Stalls.access_clocks}
 use Rattle.stall_text.specs.Polls.{is_missed, is_of, log_of_module, polls_in, polled_clocks}

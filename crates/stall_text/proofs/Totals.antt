@@ -3,13 +3,11 @@ use Rattle.std.proofs.Common.{◌≡◌, ℕ, ◌<◌, ◌≤◌, List, ◌^◌,
 use Rattle.std.proofs.{lemmas.List.get_or_default, lemmas.List.Sums.count_by-le-length, lemmas.List.FromFn.length-range_with_len}
 use Rattle.std.specs.{Prelude.All, List.range_with_len}
 use Rattle.flow_design.specs.{declared.plan.Plan.Plan, StaticRules.FitsEngine}
-use Rattle.fifo_fills.specs.Fills.{last_clock}
+use Rattle.timelines.specs.{Fills.last_clock, declared.span.Doing.Doing, declared.span.Span.Span, Doings.doing, Spans.AreSpans}
+use Rattle.timelines.specs.declared.span.Doing.TheVariants.{Moves, Still}
+use Rattle.timelines.specs.Totals.{spans_clocks, is_still_at, passes, clocks_in, still_clocks_at}
 use Rattle.flow_word.specs.declared.access.Side.{Side}
-use Rattle.stall_spans.specs.{declared.span.Doing.Doing, declared.span.Span.Span, Doings.doing, Spans.AreSpans}
-use Rattle.stall_spans.specs.declared.span.Doing.TheVariants.{Moves, Still}
-use Rattle.stall_spans.specs.Totals.{spans_clocks, is_still_at, passes, clocks_in, still_clocks_at}
-use Rattle.stall_spans.proofs.{Existing.counted_spans, Adding.cause_inside, Lists.contains_member, Extending.spans_listed}
-use Rattle.fifo_fills.proofs.Ending.{last_within}
+use Rattle.timelines.proofs.{Existing.counted_spans, Adding.cause_inside, Lists.contains_member, Extending.spans_listed, Ending.last_within}
 use Rattle.stall_text.specs.Causes.{HasChannelBelow}
 
 -- of each channel the clocks in which the module stands still at this side

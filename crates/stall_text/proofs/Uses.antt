@@ -7,7 +7,7 @@ use Rattle.flow_word.specs.{declared.access.Port.Port, declared.access.Side.Side
 use Rattle.flow_design.specs.{declared.plan.Plan.Plan, StaticRules.FitsEngine, StaticRules.same_port}
 use Rattle.lockstep_defs.specs.Ports.{owner}
 use Rattle.event_timing.proofs.OwnRuns.{same_side_is}
-use Rattle.fifo_fills.specs.{Passed.Act, Passed.acts, Passed.acts_before, Fills.last_clock, Fills.moved_before}
+use Rattle.timelines.specs.{Passed.Act, Passed.acts, Passed.acts_before, Fills.last_clock, Fills.moved_before}
 use Rattle.port_clocks.specs.{Leads.before, Clocks.ArePortClocks}
 use Rattle.port_clocks.proofs.Filled.{one_list}
 use Rattle.sim_core.specs.{AccessLog.log_of, declared.access_log.LoggedAccess.LoggedAccess}

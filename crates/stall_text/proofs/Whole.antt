@@ -14,10 +14,9 @@ use Rattle.sim_core.specs.{AccessLog.log_of, declared.access_log.LoggedAccess.Lo
 use Rattle.report_text.specs.Lines.{Token, line, text_of_lines, verdict_tokens}
 use Rattle.report_text.specs.ReportText.{module_name, channel_name}
 use Rattle.report_text.proofs.LineLemmas.{text-append, numbers_more}
-use Rattle.fifo_fills.specs.Fills.{fifos, last_clock}
-use Rattle.fifo_fills.proofs.Ending.{last_within}
+use Rattle.timelines.specs.{Fills.fifos, Fills.last_clock, Totals.moved_clocks, Totals.still_clocks, Totals.still_clocks_at}
+use Rattle.timelines.proofs.Ending.{last_within}
 use Rattle.port_clocks.specs.{Leads.most_ahead, Leads.ahead_clocks, Clocks.ArePortClocks}
-use Rattle.stall_spans.specs.Totals.{moved_clocks, still_clocks, still_clocks_at}
 use Rattle.port_clocks.proofs.Filled.{peak_told}
 use Rattle.stall_text.specs.{declared.fifos.Filling.Filling, declared.polls.Polls.Polls, Causes.causes_by, Filling.empty_by}
 use Rattle.stall_text.specs.{Filling.IsFilling, Polls.poll_lines, Polls.polls_lines, Polls.tries_of}

@@ -3,7 +3,7 @@ use Rattle.std.specs.Prelude.{ℕ, ◌<◌, List, slice_index}
 use Rattle.flow_word.specs.{declared.access.Side.Side, declared.access.Side.TheVariants.Pop, declared.access.Side.TheVariants.Push}
 use Rattle.flow_design.specs.declared.design.Design.{Design}
 use Rattle.report_text.specs.{Lines.Token, ReportText.module_name, ReportText.channel_name}
-use Rattle.stall_spans.specs.{declared.span.Doing.Doing, declared.span.Doing.TheVariants.Moves, declared.span.Doing.TheVariants.Still}
+use Rattle.timelines.specs.{declared.span.Doing.Doing, declared.span.Doing.TheVariants.Moves, declared.span.Doing.TheVariants.Still}
 use Rattle.stall_text.specs.StallText.{cause_lines}
 
 -- where a module stalls, its port is at a channel whose number is below `channels`

@@ -6,8 +6,7 @@ use Rattle.flow_design.specs.declared.plan.Plan.{Plan}
 use Rattle.lockstep_defs.specs.Verdict.{verdict}
 use Rattle.report_text.specs.Lines.{Token, text_of_lines, verdict_tokens}
 use Rattle.report_text.specs.ReportText.{module_name, channel_name, stall_word}
-use Rattle.fifo_fills.specs.Fills.{fifos}
-use Rattle.stall_spans.specs.Totals.{moved_clocks, still_clocks, still_clocks_at}
+use Rattle.timelines.specs.{Fills.fifos, Totals.moved_clocks, Totals.still_clocks, Totals.still_clocks_at}
 use Rattle.port_clocks.specs.Peaks.{peak}
 use Rattle.stall_text.specs.{Stalls.port_clocks, Stalls.empty_clocks, Stalls.full_clocks, Polls.poll_lines}
 

@@ -4,7 +4,7 @@ use Rattle.std.specs.List.{range_with_len}
 use Rattle.flow_word.specs.{declared.access.Port.Port, Kinds.side_of}
 use Rattle.flow_design.specs.{declared.plan.Plan.Plan, StaticRules.same_port}
 use Rattle.lockstep_defs.specs.{Channels.contents_of, Channels.is_empty, Channels.is_full, Lockstep.state}
-use Rattle.fifo_fills.specs.Fills.{last_clock}
+use Rattle.timelines.specs.Fills.{last_clock}
 use Rattle.sim_core.specs.{AccessLog.log_of, declared.access_log.LoggedAccess.LoggedAccess}
 
 -- ---- ports

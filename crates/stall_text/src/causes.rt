@@ -2,16 +2,16 @@
 ghost use Rattle.std.specs.Prelude.{ℕ, ◌≡◌, ◌<◌, ◌≤◌, ◌^◌, ◌+◌, ◌++◌, Bool, length, slice_index, All, IfOk, OnOk};
 ghost use Rattle.report_text.specs.Lines.{line, text_of_lines};
 ghost use Rattle.report_text.specs.ReportText.{channel_name as channel_in, module_name as module_in};
-ghost use Rattle.stall_spans.specs.declared.span.Doing.{Doing};
-ghost use Rattle.stall_spans.specs.Totals.{is_moving, is_still, is_still_at, span_clocks, spans_clocks};
+ghost use Rattle.timelines.specs.declared.span.Doing.{Doing};
+ghost use Rattle.timelines.specs.Totals.{is_moving, is_still, is_still_at, span_clocks, spans_clocks};
 ghost use Rattle.stall_text.specs.StallText.{module_tokens, cause_lines, at_each_side};
 ghost use Rattle.stall_text.specs.Causes.{HasChannelBelow, causes_by};
 
 use flow_design::Design;
 use flow_word::{List, OutOfMemory, Side, Words};
 use report_text::{channel_name, module_name, push_token, push_value, stall_word};
-use stall_spans::{Doing, Span};
 use std::alloc::Global;
+use timelines::{Doing, Span};
 
 /// How a module spends the clocks before the verdict's.
 #[derive(Clone, Copy, Debug, PartialEq, Eq)]

@@ -5,7 +5,7 @@ ghost use Rattle.timing_bridge.specs.Designs.{design};
 ghost use Rattle.flow_design.specs.declared.limits.TheConstants.{CYCLES, FIFO_DELAY, FIFO_DEPTH};
 ghost use Rattle.flow_design.specs.Plans.{delay_at, is_fifo, kind_at};
 ghost use Rattle.report_text.specs.Lines.{line, text_of_lines};
-ghost use Rattle.fifo_fills.specs.Fills.{fifos, last_clock};
+ghost use Rattle.timelines.specs.Fills.{fifos, last_clock};
 ghost use Rattle.sim_core.specs.Views.{theory_of};
 ghost use Rattle.port_clocks.specs.Leads as counts;
 ghost use Rattle.port_clocks.specs.Leads.{AreClocks};

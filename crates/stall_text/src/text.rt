@@ -4,7 +4,7 @@ ghost use Rattle.std.specs.List.{flat_map, range_with_len};
 ghost use Rattle.event_timing.specs.Actions.{IsFinal};
 ghost use Rattle.timing_bridge.specs.Designs.{design as design_of};
 ghost use Rattle.sim_core.specs.Views.{theory_of};
-ghost use Rattle.fifo_fills.specs.Fills.{last_clock};
+ghost use Rattle.timelines.specs.Fills.{last_clock};
 ghost use Rattle.report_text.specs.Lines.{text_of_lines};
 ghost use Rattle.stall_text.specs.{StallText.module_lines, Polling.ArePollsOf};
 ghost use Rattle.stall_text.specs.StallText as form;

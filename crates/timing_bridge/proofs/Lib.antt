@@ -15,3 +15,12 @@ pub mod Ordinals
 pub mod Outcomes
 pub mod Places
 pub mod InOrder
+pub mod Rounds
+pub mod Timings
+pub mod Onward
+pub mod Turning
+pub mod Lending
+pub mod Legal
+pub mod Plans
+pub mod Apart
+pub mod RunApart

@@ -2,3 +2,10 @@ pub mod Designs
 pub mod CoreReports
 pub mod OwnRuns
 pub mod Outcomes
+pub mod Turned
+pub mod Turns
+pub mod Rounds
+pub mod Replays
+pub mod Histories
+pub mod Entries
+pub mod Apart

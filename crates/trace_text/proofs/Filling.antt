@@ -9,7 +9,7 @@ use Rattle.flow_design.specs.{declared.design.ChannelKind.ChannelKind, declared.
 use Rattle.flow_design.specs.declared.design.ChannelKind.TheVariants.{Source, Sink, Fifo}
 use Rattle.flow_design.specs.StaticRules.{FitsEngine, users_wanted, uses}
 use Rattle.report_text.specs.ReportText.{channel_name}
-use Rattle.fifo_fills.specs.Fills.{fifos, fill, last_clock}
+use Rattle.timelines.specs.Fills.{fifos, fill, last_clock}
 use Rattle.port_clocks.specs.{declared.walk.FifoWalk.FifoWalk, Walks.IsFifoWalk, Walks.next_of}
 use Rattle.port_clocks.proofs.Walking.{stands_before, walk_fill}
 use Rattle.trace_text.specs.{Events.fill_event, Events.fill_events_at, Events.fill_events, TraceText.further}

@@ -9,12 +9,11 @@ use Rattle.std.specs.{Prelude.unwrap_or, Prelude.All, List.filter, List.range_wi
 use Rattle.flow_word.specs.{declared.access.Port.Port, declared.access.Side.Side, Kinds.same_side}
 use Rattle.flow_word.specs.declared.access.Side.TheVariants.{Pop, Push}
 use Rattle.flow_design.specs.{declared.plan.Plan.Plan, StaticRules.FitsEngine, StaticRules.same_port}
-use Rattle.fifo_fills.specs.Fills.{last_clock}
-use Rattle.stall_spans.specs.{declared.span.Span.Span, declared.span.Doing.Doing, Doings.doing, Spans.IsSpan, Spans.AreSpans}
-use Rattle.stall_spans.specs.declared.span.Doing.TheVariants.{Moves, Still}
-use Rattle.stall_spans.proofs.Adding.{cause_inside}
-use Rattle.stall_spans.proofs.Lists.{span_is, Member, member_left, member_last, member_cases, Rising, rising_more, contains_member}
-use Rattle.stall_spans.proofs.Extending.{Listed, listed_spans, spans_listed, only_spans, some_same}
+use Rattle.timelines.specs.{Fills.last_clock, declared.span.Span.Span, declared.span.Doing.Doing, Doings.doing, Spans.IsSpan}
+use Rattle.timelines.specs.{Spans.AreSpans, declared.span.Doing.TheVariants.Moves, declared.span.Doing.TheVariants.Still}
+use Rattle.timelines.proofs.Adding.{cause_inside}
+use Rattle.timelines.proofs.Lists.{span_is, Member, member_left, member_last, member_cases, Rising, rising_more, contains_member}
+use Rattle.timelines.proofs.Extending.{Listed, listed_spans, spans_listed, only_spans, some_same}
 use Rattle.trace_text.specs.Spans.{same_doing, is_doing, does, begins_with, begins_span, span_with, span_at, spans_of}
 use Rattle.trace_text.specs.Events.{IsDrawn}
 use Rattle.trace_text.proofs.Lines.{passed_more}

@@ -6,7 +6,7 @@ use Rattle.flow_design.specs.{declared.design.Module.Module, declared.plan.Plan.
 use Rattle.flow_design.specs.declared.report.Verdict.{Verdict}
 use Rattle.lockstep_defs.specs.Verdict.{verdict}
 use Rattle.report_text.specs.ReportText.{module_name}
-use Rattle.fifo_fills.specs.Fills.{fifos, last_clock}
+use Rattle.timelines.specs.Fills.{fifos, last_clock}
 use Rattle.trace_text.specs.Events.{name_event, names_of, span_events, fill_events}
 use Rattle.trace_text.specs.TraceText.{opening_text, closing_text, further, joined_lines, trace_text}
 use Rattle.trace_text.proofs.{Lines.whole, Lines.whole_lines, Filling.no_fifos}

@@ -3,9 +3,8 @@ use Rattle.std.specs.Prelude.{ℕ, ◌<◌, ◌+◌, ◌-◌, ◌==◌, ◌||◌
 use Rattle.std.specs.List.{flat_map, range_with_len}
 use Rattle.flow_design.specs.{declared.design.Design.Design, declared.plan.Plan.Plan}
 use Rattle.report_text.specs.{Lines.Token, ReportText.module_name, ReportText.channel_name, ReportText.stall_word}
-use Rattle.fifo_fills.specs.Fills.{fifos, fill, last_clock}
-use Rattle.stall_spans.specs.{declared.span.Doing.Doing, declared.span.Span.Span}
-use Rattle.stall_spans.specs.declared.span.Doing.TheVariants.{Moves, Still}
+use Rattle.timelines.specs.{Fills.fifos, Fills.fill, Fills.last_clock, declared.span.Doing.Doing, declared.span.Span.Span}
+use Rattle.timelines.specs.declared.span.Doing.TheVariants.{Moves, Still}
 use Rattle.trace_text.specs.Spans.{spans_of}
 
 -- ---- one event

@@ -1,3 +1,4 @@
 pub mod Spans
 pub mod Events
 pub mod TraceText
+pub mod LogText

@@ -3,7 +3,7 @@ ghost use Rattle.std.specs.Prelude.{◌≡◌, ◌<◌, ◌≤◌, ◌+◌, ◌+
 ghost use Rattle.std.specs.Prelude.{IsErrOf, OnErr, OnOk};
 ghost use Rattle.sim_io.specs.{Causes.AppendsPrefix, Causes.Rose, Telling.IsTold};
 ghost use Rattle.report_text.specs.ReportText.{channel_name, module_name};
-ghost use Rattle.stall_spans.specs.declared.span.Doing.{Doing};
+ghost use Rattle.timelines.specs.declared.span.Doing.{Doing};
 ghost use Rattle.trace_text.specs.Events.{name_event, span_event, fill_event, doing_name, IsDrawn};
 ghost use Rattle.trace_text.specs.TraceText.{further};
 
@@ -11,7 +11,7 @@ use flow_design::Design;
 use flow_word::{List, OutOfMemory};
 use report_text::{channel_name, push_number, push_token, stall_word};
 use sim_io::{Sink, TellFault, write_full};
-use stall_spans::{Doing, Span};
+use timelines::{Doing, Span};
 
 /// Adds the event that names a module's track.
 #[tactic(auto, unfolding(crate::specs::Events::name_event))]

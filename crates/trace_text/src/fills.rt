@@ -6,7 +6,7 @@ ghost use Rattle.flow_design.specs.Plans.{is_fifo, kind_at};
 ghost use Rattle.event_timing.specs.Actions.{IsFinal};
 ghost use Rattle.timing_bridge.specs.Designs.{design as design_of};
 ghost use Rattle.sim_core.specs.Views.{theory_of};
-ghost use Rattle.fifo_fills.specs.Fills.{fifos, last_clock};
+ghost use Rattle.timelines.specs.Fills.{fifos, last_clock};
 ghost use Rattle.trace_text.specs.{Events.fill_events, TraceText.further};
 
 use crate::events::{write_change, write_fill};

@@ -4,7 +4,7 @@ use Rattle.std.proofs.Common.{ap, ap₂, subst, arith, append_assoc, nat_lt, ◌
 use Rattle.std.proofs.{lemmas.Bool.cases_lt, lemmas.Bool.lt-ltb, lemmas.List.append-nil, lemmas.List.Concat.flat_map-append}
 use Rattle.std.specs.List.{flat_map, range_with_len}
 use Rattle.flow_design.specs.declared.plan.Plan.{Plan}
-use Rattle.fifo_fills.specs.Fills.{fills, last_clock}
+use Rattle.timelines.specs.Fills.{fills, last_clock}
 use Rattle.report_text.specs.Lines.{line, text_of_lines}
 use Rattle.vcd_wave.specs.Wave.{Change, Instant, Wave, fifo_names, changes_between, instant_of, instant_at, instants_to, closing_instant}
 use Rattle.vcd_wave.specs.Wave.{wave_of, has_some}

@@ -11,7 +11,7 @@ use Rattle.vcd_wave.specs.Wave.{Change, Instant, fifo_names, differs, changes_be
 use Rattle.vcd_wave.specs.WaveText.{fifo_code, var_tokens, time_tokens, change_tokens, instant_lines, opening_instant, header_lines}
 use Rattle.vcd_wave.specs.WaveText.{wave_text}
 use Rattle.report_text.proofs.LineLemmas.{line_of_four, text-append}
-use Rattle.module_move.proofs.Readiness.{fewer_pass}
+use Rattle.module_code.proofs.Readiness.{fewer_pass}
 
 -- ---- lines in general
 

@@ -10,7 +10,7 @@ use Rattle.vcd_wave.specs.{Binary.binary_digits, Wave.Change, Wave.Instant, Wave
 use Rattle.vcd_wave.specs.WaveText.{fifo_code, var_tokens, time_tokens, change_tokens, instant_lines, opening_instant, header_lines}
 use Rattle.vcd_wave.specs.WaveText.{wave_text}
 use Rattle.vcd_wave.proofs.Cutting.{Lacks, cut, decimal_lacks, binary_lacks, binary_same, name_lacks}
-use Rattle.fifo_fills.proofs.Acts.{all_map}
+use Rattle.timelines.proofs.Acts.{all_map}
 use Rattle.report_text.proofs.LineLemmas.{text-append}
 
 -- ---- lines and what follows

@@ -6,7 +6,7 @@ use Rattle.std.proofs.lemmas.List.Elements.{recursion_from_All, All-from_recursi
 use Rattle.std.specs.List.{filter, All, AllByRecursion, AllPairs}
 use Rattle.vcd_wave.specs.{Wave.Change, Wave.Instant, Told.last_or, Told.told_in, Told.Varies, Told.IsChange, Scans.change_step}
 use Rattle.vcd_wave.specs.{Scans.time_step, Scans.ChangesLead, Scans.InstantsLead, declared.scan.Asked.Asked, declared.scan.Scan.Scan}
-use Rattle.fifo_fills.proofs.Acts.{all_map as each}
+use Rattle.timelines.proofs.Acts.{all_map as each}
 
 -- ---- one change
 

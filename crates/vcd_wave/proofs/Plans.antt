@@ -3,7 +3,7 @@ use Rattle.std.proofs.Common.{◌≡◌, ℕ, ◌^◌, ◌≤◌, ◌<◌, List,
 use Rattle.std.proofs.{lemmas.List.length-map, lemmas.List.Sums.length-filter, lemmas.List.Sums.count_by-le-length}
 use Rattle.std.specs.List.{filter}
 use Rattle.flow_design.specs.{declared.design.Channel.Channel, declared.plan.Plan.Plan, StaticRules.FitsEngine, Plans.is_fifo}
-use Rattle.fifo_fills.specs.Fills.{fifos, fills, last_clock}
+use Rattle.timelines.specs.Fills.{fifos, fills, last_clock}
 use Rattle.vcd_wave.specs.{Wave.Wave, Wave.wave_of, WaveText.wave_text, Told.TellsFill, Told.told_fill, Told.last_told}
 use Rattle.vcd_wave.proofs.{Telling.told_fill_is, OneWave.one_wave, OneWave.names_long}
 use Rattle.vcd_wave.proofs.Waves.{is_wave, count_is, last_is_told, first_empty}

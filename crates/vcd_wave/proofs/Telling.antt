@@ -5,7 +5,7 @@ use Rattle.std.proofs.lemmas.Bool.{cases_lt, cases_eq, le-ltb, lt-ltb, ne_eqb, e
 use Rattle.std.proofs.{lemmas.List.append-nil, lemmas.List.length-map, lemmas.List.map-append, lemmas.List.Concat.flat_map-append}
 use Rattle.std.specs.List.{filter}
 use Rattle.flow_design.specs.declared.plan.Plan.{Plan}
-use Rattle.fifo_fills.specs.Fills.{fifos, fill, fills, last_clock}
+use Rattle.timelines.specs.Fills.{fifos, fill, fills, last_clock}
 use Rattle.vcd_wave.specs.Wave.{Change, Instant, differs, changes_between, instant_of, instant_at, instants_to, closing_instant, wave_of}
 use Rattle.vcd_wave.specs.Wave.{has_some}
 use Rattle.vcd_wave.specs.Told.{last_or, told_in, told_fill, Varies}

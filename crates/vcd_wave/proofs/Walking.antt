@@ -6,8 +6,8 @@ use Rattle.std.proofs.lemmas.List.{length-map, length-set, get_or-map, get_or-se
 use Rattle.std.proofs.lemmas.List.Elements.{All-cons, All-nil, All-head, All-tail}
 use Rattle.std.specs.{Prelude.All, List.filter, List.range_with_len}
 use Rattle.flow_design.specs.{declared.plan.Plan.Plan, StaticRules.FitsEngine}
-use Rattle.fifo_fills.specs.Fills.{fifos, fill, fills, last_clock}
-use Rattle.fifo_fills.proofs.Ending.{last_within}
+use Rattle.timelines.specs.Fills.{fifos, fill, fills, last_clock}
+use Rattle.timelines.proofs.Ending.{last_within}
 use Rattle.port_clocks.specs.{declared.walk.FifoWalk.FifoWalk, Walks.never, Walks.next_of}
 use Rattle.port_clocks.proofs.Walking.{walk_fill}
 use Rattle.vcd_wave.specs.{declared.walk.FillChange.FillChange, Wave.Change, Wave.changes_between}

@@ -9,8 +9,8 @@ use Rattle.flow_design.specs.{declared.design.Channel.Channel, declared.design.C
 use Rattle.flow_design.specs.{declared.limits.TheConstants.FIFO_DEPTH, declared.plan.Plan.Plan, Names.is_name, Plans.is_fifo}
 use Rattle.flow_design.specs.{Plans.no_channel, Plans.kind_at, StaticRules.AreEntriesSound, StaticRules.FitsEngine}
 use Rattle.flow_design.specs.declared.design.ChannelKind.TheVariants.{Source, Sink, Fifo}
-use Rattle.fifo_fills.specs.Fills.{fifos, fill, fills, last_clock}
-use Rattle.fifo_fills.proofs.{Ending.last_within, Counting.within_depth, Counting.counted, Numbers.counted_numbers, Acts.all_map}
+use Rattle.timelines.specs.Fills.{fifos, fill, fills, last_clock}
+use Rattle.timelines.proofs.{Ending.last_within, FillCounts.within_depth, FillCounts.counted, Numbers.counted_numbers, Acts.all_map}
 use Rattle.flow_word.specs.declared.access.Side.TheVariants.{Push}
 use Rattle.lockstep_defs.specs.Channels.{moved}
 use Rattle.lockstep_defs.proofs.{Settled.history-zero, Queue.moved-nil, Queue.all-append}

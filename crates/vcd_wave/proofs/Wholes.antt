@@ -10,7 +10,7 @@ use Rattle.vcd_wave.specs.{declared.scan.Scan.Scan, Scans.ChangesLead, Scans.Ins
 use Rattle.vcd_wave.proofs.OneWave.{changes_text, instants_text, opening_text, vars_from, scope, end_of_scope, wave_parts, names_long}
 use Rattle.vcd_wave.proofs.OneWave.{instants_same, IsTimed, IsWritten, both, timed}
 use Rattle.vcd_wave.proofs.Orders.{changes_told, InstantsTold, instants_told, instants_go}
-use Rattle.fifo_fills.proofs.Acts.{all_map}
+use Rattle.timelines.proofs.Acts.{all_map}
 
 abbrev last_clock : List Instant → ℕ
 last_clock is = last_or 0 (map (λ i. i.clock) is)

@@ -1,7 +1,7 @@
 -- Walks over the clocks of all FIFOs of a plan, side by side.
 use Rattle.std.specs.Prelude.{ℕ, ◌≡◌, ◌≤◌, ◌==◌, min, fold, if◌then◌else◌, Option, Some, None, List, [], ◌∷◌, All, map}
 use Rattle.flow_design.specs.declared.plan.Plan.{Plan}
-use Rattle.fifo_fills.specs.Fills.{fifos}
+use Rattle.timelines.specs.Fills.{fifos}
 use Rattle.port_clocks.specs.{declared.walk.FifoWalk.FifoWalk, Walks.IsFifoWalk, Walks.never, Walks.next_of}
 use Rattle.vcd_wave.specs.{declared.walk.FillChange.FillChange, Wave.Change}
 

@@ -6,7 +6,7 @@ ghost use Rattle.event_timing.specs.Actions.{IsFinal};
 ghost use Rattle.timing_bridge.specs.Designs.{design as design_of};
 ghost use Rattle.sim_core.specs.Views.{theory_of};
 ghost use Rattle.report_text.specs.Lines.{text_of_lines};
-ghost use Rattle.fifo_fills.specs.Fills.{last_clock};
+ghost use Rattle.timelines.specs.Fills.{last_clock};
 ghost use Rattle.vcd_wave.specs.Wave.{wave_of, instants_to, closing_instant};
 ghost use Rattle.vcd_wave.specs.WaveText as form;
 

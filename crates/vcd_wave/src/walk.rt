@@ -3,7 +3,7 @@ ghost use Rattle.std.specs.Prelude.{◌≡◌, ◌+◌, ◌<◌, ◌≤◌, ◌+
 ghost use Rattle.event_timing.specs.Actions.{IsFinal};
 ghost use Rattle.timing_bridge.specs.Designs.{design};
 ghost use Rattle.sim_core.specs.Views.{theory_of};
-ghost use Rattle.fifo_fills.specs.Fills.{fill, fills, last_clock};
+ghost use Rattle.timelines.specs.Fills.{fill, fills, last_clock};
 ghost use Rattle.vcd_wave.specs.Wave.{changes_between};
 ghost use Rattle.vcd_wave.specs.Walks.{AreWalks, StandsBy, least_next, change_if, change_of, other_fill};
 

@@ -5,7 +5,7 @@ use Rattle.std.specs.List.{flat_map, range_with_len}
 use Rattle.flow_design.specs.{declared.plan.Plan.Plan, StaticRules.FitsEngine, StaticRules.IsModuleSound}
 use Rattle.lockstep_defs.specs.Lockstep.{no_module}
 use Rattle.serial_order.specs.Orders.{HasModule}
-use Rattle.log_text.proofs.Lines.{joined}
+use Rattle.trace_text.proofs.LogLines.{joined}
 use Rattle.report_text.specs.Lines.{Token, line, text_of_lines}
 use Rattle.whole_answer.proofs.PointLines.{last_line}
 

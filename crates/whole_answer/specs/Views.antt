@@ -4,10 +4,9 @@ use Rattle.flow_design.specs.declared.plan.Plan.{Plan}
 use Rattle.lockstep_defs.specs.Report.{report}
 use Rattle.cli_words.specs.{declared.Options.Options, declared.View.View}
 use Rattle.cli_words.specs.declared.View.TheVariants.{Wave, Log, Stalls, Path, Trace}
-use Rattle.log_text.specs.LogText.{log_text}
+use Rattle.trace_text.specs.{LogText.log_text, TraceText.trace_text}
 use Rattle.path_text.specs.PathText.{path_text}
 use Rattle.stall_text.specs.StallText.{stalls_text}
-use Rattle.trace_text.specs.TraceText.{trace_text}
 use Rattle.vcd_wave.specs.{Wave.wave_of, WaveText.wave_text}
 use Rattle.whole_answer.specs.{declared.answer.Answer.Answer, Job.ending_of}
 

@@ -14,7 +14,6 @@ use cli_words::{Options, View};
 use depth_session::{Runner, ThreadRunner};
 use flow_design::Plan;
 use flow_word::List;
-use log_text::log_text;
 use path_text::path_text;
 use run_threads::Gate;
 use sim_core::Core;
@@ -23,7 +22,7 @@ use stall_text::stalls_text;
 use std::alloc::Global;
 use std::sync::Wait;
 use std::thread::Threads;
-use trace_text::trace_text;
+use trace_text::{log_text, trace_text};
 use vcd_wave::wave_text;
 
 /// Simulates a plan with a thread for each module, and begins the answer with a view of the simulation and the ending of its

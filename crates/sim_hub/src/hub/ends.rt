@@ -1,10 +1,9 @@
 //! How a hub begins and ends.
 ghost use Rattle.std.specs.Prelude.{◌≡◌, ℕ, ◌+◌, ◌^◌, ◌<◌, ◌≤◌, List, [], ◌∷◌, ◌++◌, length, IfOk};
 ghost use Rattle.event_timing.specs.Core.{opening_core};
-ghost use Rattle.timing_bridge.specs.Designs.{design};
+ghost use Rattle.timing_bridge.specs.{Designs.design, declared.entry.HubEntry.HubEntry, Entries.bearer, Entries.history_of};
 ghost use Rattle.turn_lock.specs.{Entries.entries_of, Passes.view_of, Passes.pass_lock, Passes.lock_id};
 ghost use Rattle.sim_core.specs.{Drives.AreOwn, Views.theory_of};
-ghost use Rattle.turn_history.specs.{declared.entry.HubEntry.HubEntry, Entries.bearer, Entries.history_of};
 ghost use mathlib.Core.List.{IsPrefix};
 ghost use Rattle.sim_hub.specs.{Places.IsFirst, Places.HasModule, Places.HasModules, Steps.ComesHome, Ledgers.entries_in};
 ghost use Rattle.sim_hub.specs.Hubs.{hub_id, perf_view, IsOverAt, IsPerfOf};

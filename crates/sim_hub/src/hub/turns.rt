@@ -2,7 +2,7 @@
 ghost use Rattle.std.specs.Prelude.{◌≡◌, ℕ, ◌+◌, ◌^◌, ◌<◌, List, [], ◌∷◌, ◌++◌, length};
 ghost use Rattle.turn_lock.specs.Passes.{view_of, pass_lock, turn_view, turn_lock_of, begun_at};
 ghost use Rattle.turn_lock.specs.Turns.{BeginsTurn};
-ghost use Rattle.turn_history.specs.Entries.{bearer};
+ghost use Rattle.timing_bridge.specs.Entries.{bearer};
 ghost use Rattle.sim_hub.specs.{Hubs.hub_id, Ledgers.entries_under, Steps.MayAdd, Steps.IsEnd};
 
 use super::Hub;

@@ -1,9 +1,8 @@
 //! Lending runs of a ledger's core, and taking them back.
 ghost use Rattle.std.specs.Prelude.{◌≡◌, ℕ, ◌+◌, ◌<◌, ◌≤◌, [], true, false, length, IfOk};
 ghost use Rattle.event_timing.specs.Core.{opening_core};
-ghost use Rattle.timing_bridge.specs.Designs.{design};
+ghost use Rattle.timing_bridge.specs.{Designs.design, declared.turn.HubTurn.TheVariants.Short, Entries.history_of};
 ghost use Rattle.sim_core.specs.{Drives.AreOwn, Views.theory_of};
-ghost use Rattle.turn_history.specs.{declared.turn.HubTurn.TheVariants.Short, Entries.history_of};
 ghost use Rattle.sim_hub.specs.{Places.HasDesk, Places.HasNoDesk, Hubs.OutAt, Ledgers.entries_in};
 ghost use Rattle.sim_hub.specs.Steps.{Adds, BackIs, ComesBack, ComesHome, LendingIs};
 
@@ -12,7 +11,7 @@ use crate::answer::Desk;
 use flow_word::OutOfMemory;
 use sim_core::{Burst, Core};
 use std::alloc::Global;
-use turn_history::HubTurn;
+use timing_bridge::HubTurn;
 
 impl Ledger {
     /// A ledger of a core in which nothing is emitted yet and no run is lent. After `OutOfMemory` the core is lost.

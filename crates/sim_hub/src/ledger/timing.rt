@@ -2,10 +2,9 @@
 ghost use Rattle.std.specs.Prelude.{◌≡◌, ℕ, ◌<◌, false, Some};
 ghost use Rattle.flow_design.specs.declared.state.ModuleState.{ModuleState};
 ghost use Rattle.event_timing.specs.{Actions.MayEarliest, Agreement.AllVerified};
-ghost use Rattle.timing_bridge.specs.Designs.{design};
+ghost use Rattle.timing_bridge.specs.{Designs.design, Histories.turned_by, Turned.Turned, Turned.after_timed, Turns.NoTiming};
+ghost use Rattle.timing_bridge.specs.declared.turn.HubTurn.TheVariants.{Timed};
 ghost use Rattle.sim_core.specs.Views.{theory_of};
-ghost use Rattle.turn_history.specs.declared.turn.HubTurn.TheVariants.{Timed};
-ghost use Rattle.turn_history.specs.{Histories.turned_by, Turned.Turned, Turned.after_timed, Turns.NoTiming};
 ghost use Rattle.sim_hub.specs.{Hubs.TellsReady, Ledgers.entries_in, Steps.TimingIs};
 
 use super::Ledger;
@@ -15,7 +14,7 @@ use module_sets::ModuleSet;
 use sim_core::Core;
 use std::marker::Brand;
 use std::sync::ledger::{Blank, Ledger as Ticks};
-use turn_history::HubTurn;
+use timing_bridge::HubTurn;
 
 impl Ledger {
     /// Takes a turn of the performance pass, as `time` does. Then it adds to `ready` the modules of which a Run is permitted and whose

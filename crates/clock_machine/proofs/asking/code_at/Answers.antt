@@ -2,7 +2,7 @@ use Rattle.std.proofs.Common.{◌≡◌, ◌<◌, ℕ, ◌∙◌, List, length, 
 use Rattle.std.proofs.lemmas.List.{get_or_default}
 use Rattle.flow_design.specs.{declared.plan.Plan.Plan, Module.block_of}
 use Rattle.lockstep_defs.specs.Lockstep.{module_at}
-use Rattle.block_code.specs.{declared.code.BlockCode.BlockCode, Codes.IsBlockCodeOf, Codes.AreCodesOf}
+use Rattle.module_code.specs.{declared.code.BlockCode.BlockCode, Codes.IsBlockCodeOf, Codes.AreCodesOf}
 use Rattle.clock_machine.specs.Parts.{AreCodes}
 use Rattle.clock_machine.proofs.asking.code_at.Goals as goal
 

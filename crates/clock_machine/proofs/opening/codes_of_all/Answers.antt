@@ -5,8 +5,8 @@ use Rattle.flow_design.specs.{declared.design.Channel.Channel, declared.design.M
 use Rattle.lockstep_defs.specs.Lockstep.{module_at, no_module}
 use Rattle.block_schedule.specs.Schedules.{KeepsLimits}
 use Rattle.block_schedule.proofs.Limits.{blocks_keep_limits}
-use Rattle.block_code.specs.{declared.code.BlockCode.BlockCode, Codes.AreCodesOf}
-use Rattle.block_code.proofs.Codes.{each_more}
+use Rattle.module_code.specs.{declared.code.BlockCode.BlockCode, Codes.AreCodesOf}
+use Rattle.module_code.proofs.Codes.{each_more}
 use Rattle.clock_machine.proofs.opening.codes_of_all.Goals as goal
 
 pub codes_of-requires : goal.codes_of-requires

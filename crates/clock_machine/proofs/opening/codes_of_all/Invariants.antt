@@ -1,6 +1,6 @@
 use Rattle.std.proofs.Common.{◌≡◌, ℕ, ◌<◌, List, length, get_or}
 use Rattle.lockstep_defs.specs.Lockstep.{module_at}
-use Rattle.block_code.specs.{declared.code.BlockCode.BlockCode, Codes.AreCodesOf}
+use Rattle.module_code.specs.{declared.code.BlockCode.BlockCode, Codes.AreCodesOf}
 use Rattle.clock_machine.proofs.opening.codes_of_all.Given as goal
 
 -- the code of the modules so far

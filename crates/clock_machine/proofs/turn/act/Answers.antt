@@ -5,8 +5,7 @@ use Rattle.flow_design.specs.{declared.state.Request.Request, declared.state.Ele
 use Rattle.lockstep_defs.specs.{Machine.is_over, Machine.move, Channels.reply, Channels.stalls}
 use Rattle.lockstep_defs.specs.Lockstep.{no_module, module_at, requests_of, state, state_at}
 use Rattle.lockstep_defs.proofs.Agrees.{below_limit}
-use Rattle.block_code.specs.declared.code.BlockCode.{BlockCode}
-use Rattle.module_move.specs.Sound.{AreNotesOf, CanCommit}
+use Rattle.module_code.specs.{declared.code.BlockCode.BlockCode, Sound.AreNotesOf, Sound.CanCommit}
 use Rattle.clock_machine.proofs.Sleeping.{awake, stays, has_moved, moved_state, moves_by_requests, asked_in, runs_in, seated_sound}
 use Rattle.clock_machine.proofs.Steps.{IsAnswered, given_done, given_outcomes}
 use Rattle.std.specs.List.{list_any}

@@ -1,6 +1,6 @@
 use Rattle.std.proofs.Common.{◌∙◌, ap₂, sym, subst}
 use Rattle.std.specs.Prelude.{All, AllPairs, List, ℕ, ◌≤◌, ◌<◌, ◌+◌, ◌^◌}
-use Rattle.fifo_fills.specs.Fills.{last_clock}
+use Rattle.timelines.specs.Fills.{last_clock}
 use Rattle.flow_design.specs.declared.limits.TheConstants.{FIFO_DEPTH}
 use Rattle.port_clocks.specs.Leads.{most_ahead}
 use Rattle.port_clocks.proofs.Filled.{peak_told}

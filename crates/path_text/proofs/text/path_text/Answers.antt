@@ -2,7 +2,7 @@ use Rattle.std.proofs.Common.{◌∙◌, ap, ap₂, sym, subst, arith, ℕ, ◌<
 use Rattle.std.specs.Prelude.{All, sum_by}
 use Rattle.flow_design.specs.{declared.plan.Plan.Plan, declared.report.Verdict.Verdict, StaticRules.FitsEngine, Reports.clock_of}
 use Rattle.lockstep_defs.specs.Verdict.{verdict}
-use Rattle.stall_spans.specs.declared.span.Span.{Span}
+use Rattle.timelines.specs.declared.span.Span.{Span}
 use Rattle.path_text.specs.{Walks.HasSpans, declared.link.Polled.Polled, PathText.count_lines, PathText.link_lines}
 use Rattle.path_text.specs.Polls.{AreAccesses, links_in, polled_path, polls_along}
 use Rattle.path_text.specs.Counts.{link_clocks, clocks_waiting, AreLinksOf, ArePolledIn}

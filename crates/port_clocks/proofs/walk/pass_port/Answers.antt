@@ -1,5 +1,5 @@
 use Rattle.std.proofs.Common.{arith, refl}
-use Rattle.fifo_fills.proofs.Ending.{last_within}
+use Rattle.timelines.proofs.Ending.{last_within}
 use Rattle.port_clocks.proofs.Walking.{few_passed, stands_on, stands_after}
 use Rattle.port_clocks.proofs.walk.pass_port.Goals as goal
 

@@ -1,6 +1,6 @@
 use Rattle.std.proofs.{Common.◌≡◌, Common.[], Common.length, Common.ap, Common.sym, Common.◌∙◌, Common.subst, lemmas.List.length-map}
 use mathlib.Core.List.{IsPrefix}
-use Rattle.turn_history.specs.Entries.{history_of}
+use Rattle.timing_bridge.specs.Entries.{history_of}
 use Rattle.sim_hub.specs.{Hubs.perf_view, Closings.IsRun, Closings.ClosedIs}
 use Rattle.run_threads.specs.{declared.drive.Seat.Seat, Slots.AreHere}
 use Rattle.run_threads.proofs.Openings.{prefix_trans, one_plan}

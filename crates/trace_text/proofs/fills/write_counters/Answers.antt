@@ -2,7 +2,7 @@ use Rattle.std.proofs.Common.{◌≡◌, ◌∙◌, ap, arith, cond, refl, ℕ, 
 use Rattle.std.specs.List.{flat_map, range_with_len}
 use Rattle.flow_design.specs.{declared.plan.Plan.Plan, Plans.is_fifo, Plans.kind_at, Reports.clock_of}
 use Rattle.flow_design.proofs.Failing.{on_err}
-use Rattle.fifo_fills.specs.Fills.{last_clock}
+use Rattle.timelines.specs.Fills.{last_clock}
 use Rattle.sim_io.proofs.Pending.{prefix_as, told_as, told_more, told_prefix_more}
 use Rattle.trace_text.specs.{Events.fill_events, TraceText.further}
 use Rattle.trace_text.proofs.{Filling.channel_events, Filling.all_channels, Lines.numbers_more, Lines.numbers_rest}

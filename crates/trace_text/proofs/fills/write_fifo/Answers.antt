@@ -3,7 +3,7 @@ use Rattle.std.specs.Prelude.{codes}
 use Rattle.flow_design.specs.{declared.plan.Plan.Plan, StaticRules.FitsEngine}
 use Rattle.flow_design.proofs.Failing.{on_err}
 use Rattle.report_text.specs.ReportText.{channel_name}
-use Rattle.fifo_fills.specs.Fills.{fill, last_clock}
+use Rattle.timelines.specs.Fills.{fill, last_clock}
 use Rattle.port_clocks.specs.{declared.walk.FifoWalk.FifoWalk, Walks.IsFifoWalk, Walks.next_of}
 use Rattle.sim_io.proofs.Pending.{prefix_as, prefix_longer, told_as, told_more, told_prefix_more}
 use Rattle.trace_text.specs.{Events.fill_event, TraceText.further}

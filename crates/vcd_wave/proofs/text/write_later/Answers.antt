@@ -2,7 +2,7 @@ use Rattle.std.proofs.Common.{sym, ◌∙◌, ◌≡◌, ap, subst, arith, ℕ, 
 use Rattle.std.specs.List.{flat_map}
 use Rattle.flow_design.specs.{declared.plan.Plan.Plan, StaticRules.FitsEngine, Reports.clock_of}
 use Rattle.flow_design.proofs.Failing.{on_err}
-use Rattle.fifo_fills.specs.Fills.{fills, last_clock}
+use Rattle.timelines.specs.Fills.{fills, last_clock}
 use Rattle.port_clocks.specs.declared.walk.FifoWalk.{FifoWalk}
 use Rattle.report_text.specs.Lines.{text_of_lines}
 use Rattle.sim_io.specs.Telling.{IsTold}

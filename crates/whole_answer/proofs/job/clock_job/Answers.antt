@@ -5,7 +5,7 @@ use Rattle.report_text.specs.ReportText.{report_text_of}
 use Rattle.std.specs.{Prelude.if◌then◌else◌, Io.KnownBytes.Appends}
 use Rattle.sim_io.specs.Causes.{AppendsPrefix}
 use Rattle.sim_io.proofs.Pending.{prefix_none}
-use Rattle.block_code.specs.declared.code.BlockCode.{BlockCode}
+use Rattle.module_code.specs.declared.code.BlockCode.{BlockCode}
 use Rattle.clock_machine.specs.Parts.{AreCodes}
 use Rattle.outcome_guard.specs.Runs.{first_counts, next_counts}
 use Rattle.whole_answer.specs.{Going.Told, Going.IsGoing, Going.told_of, Job.ending_of, Job.is_done, declared.ending.Ending.Ending}

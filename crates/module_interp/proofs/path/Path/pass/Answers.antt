@@ -1,6 +1,6 @@
 use Rattle.std.proofs.Common.{◌≡◌, ◌+◌, ◌≤◌, false, [], ap}
 use Rattle.lockstep_defs.specs.Machine.{move, is_over}
-use Rattle.module_move.specs.Moves.{gone_on}
+use Rattle.module_code.specs.Moves.{gone_on}
 use Rattle.module_interp.specs.{declared.path.Path.Path, Paths.AsksNothing}
 use Rattle.module_interp.specs.declared.path.Stage.TheVariants.{Begun, Ticked}
 use Rattle.module_interp.proofs.Ways.{Passes, has_begun, one_passes, passes_keep, passes_nearer}

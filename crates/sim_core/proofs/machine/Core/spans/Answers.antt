@@ -6,7 +6,7 @@ use Rattle.event_timing.specs.Actions.{IsFinal}
 use Rattle.timing_bridge.specs.Designs.{design}
 use Rattle.engine_view.specs.Engines.{held_in}
 use Rattle.engine_report.specs.Finished.{IsFinished}
-use Rattle.stall_spans.specs.Spans.{AreSpans}
+use Rattle.timelines.specs.Spans.{AreSpans}
 use Rattle.engine_report.proofs.Stepping.{has_module}
 use Rattle.sim_core.specs.{Runs.over_of, Views.CoreView, Views.theory_of}
 use Rattle.sim_core.proofs.Ending.{finished}

@@ -1,6 +1,6 @@
 use Rattle.std.proofs.Common.{refl, sym, subst}
 use Rattle.flow_design.specs.{declared.plan.Plan.Plan, StaticRules.FitsEngine}
-use Rattle.turn_history.proofs.Timings.{no_timing_at}
+use Rattle.timing_bridge.proofs.Timings.{no_timing_at}
 use Rattle.event_timing.specs.{Actions.MayAssign, Agreement.IsAgreed}
 use Rattle.timing_bridge.specs.Designs.{design, lockstep_run}
 use Rattle.engine_view.specs.{Turns.IsIdle, declared.turn.Timing.TheVariants.Assigned, declared.turn.Timing.TheVariants.Answered}

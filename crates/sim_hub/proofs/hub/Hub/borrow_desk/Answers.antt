@@ -1,6 +1,6 @@
 use Rattle.std.proofs.Common.{◌≡◌, ◌+◌, ℕ, Bool, List, sym, subst, ◌∙◌}
 use Rattle.turn_lock.specs.{declared.view.View.View, Passes.view_of, Passes.turn_view, Turns.BeginsTurn}
-use Rattle.turn_history.specs.{declared.entry.HubEntry.HubEntry, Entries.bearer}
+use Rattle.timing_bridge.specs.{declared.entry.HubEntry.HubEntry, Entries.bearer}
 use Rattle.sim_hub.specs.{declared.ledger.Ledger.Ledger, Ledgers.entries_in, Places.IsLater, Places.IsLegal, declared.answer.Desk.Desk}
 use Rattle.sim_hub.specs.{Hubs.OutAt, Steps.ComesHome, Steps.LendingIs, Steps.MayAdd, Steps.IsEnd}
 use Rattle.sim_hub.proofs.{Books.of_borrowed, Books.of_books, Keeping.kept_legal}

@@ -1,6 +1,6 @@
 use Rattle.std.proofs.Common.{sym, subst, ◌∙◌, List}
 use Rattle.turn_lock.specs.Passes.{view_of}
-use Rattle.turn_history.specs.declared.entry.HubEntry.{HubEntry}
+use Rattle.timing_bridge.specs.declared.entry.HubEntry.{HubEntry}
 use Rattle.sim_hub.specs.{declared.ledger.Ledger.Ledger, Ledgers.entries_in, Steps.TimingIs, Steps.MayAdd}
 use Rattle.sim_hub.proofs.{Books.of_books, Keeping.kept_legal}
 use Rattle.sim_hub.proofs.Answering.{timing_adds, perf_is, perf_later, perf_made}

@@ -1,6 +1,6 @@
 use Rattle.std.proofs.Common.{◌+◌, ℕ, true, List, length, sym, subst, ◌∙◌}
 use Rattle.turn_lock.specs.Passes.{view_of, turn_view}
-use Rattle.turn_history.specs.declared.entry.HubEntry.{HubEntry}
+use Rattle.timing_bridge.specs.declared.entry.HubEntry.{HubEntry}
 use Rattle.sim_hub.specs.{declared.ledger.Ledger.Ledger, Ledgers.entries_in, Places.HasNoDesk, Places.IsLegal}
 use Rattle.sim_hub.specs.Steps.{BackIs, ComesBack, MayAdd, IsEnd}
 use Rattle.sim_hub.proofs.{Books.of_borrowed, Books.of_books, Keeping.kept_legal}

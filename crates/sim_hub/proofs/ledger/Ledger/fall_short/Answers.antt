@@ -1,5 +1,5 @@
 use Rattle.std.proofs.Common.{arith, refl, ap, length, true}
-use Rattle.turn_history.specs.{declared.turn.HubTurn.TheVariants.Short, Turned.after_short}
+use Rattle.timing_bridge.specs.{declared.turn.HubTurn.TheVariants.Short, Turned.after_short}
 use Rattle.sim_hub.specs.Kept.{behind, spare}
 use Rattle.sim_hub.proofs.{Lists.count_mapped, Keeping.kept_next, Keeping.short_matches}
 use Rattle.sim_hub.proofs.ledger.Ledger.fall_short.Goals as goal

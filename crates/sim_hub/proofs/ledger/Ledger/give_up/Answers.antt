@@ -1,5 +1,5 @@
 use Rattle.std.proofs.Common.{arith, refl, sym, ap, subst, length, true, ◌≡◌, ◌+◌, ◌-◌, ◌≤◌, ◌∙◌, ◌++◌, ◌∷◌, [], Some, ℕ, eq-eqb}
-use Rattle.turn_history.specs.{declared.turn.HubTurn.TheVariants.Short, Turned.lent_at, Turned.after_short, Entries.history_of}
+use Rattle.timing_bridge.specs.{declared.turn.HubTurn.TheVariants.Short, Turned.lent_at, Turned.after_short, Entries.history_of}
 use Rattle.sim_hub.specs.Kept.{behind, lent_count}
 use Rattle.sim_hub.proofs.{Lists.count_given_up, Lists.within_some, Answering.home_behind_short}
 use Rattle.sim_hub.proofs.Keeping.{adds_turn, kept_lent, kept_next, kept_some, short_matches}

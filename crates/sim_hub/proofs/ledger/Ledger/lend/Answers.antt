@@ -1,5 +1,5 @@
 use Rattle.std.proofs.Common.{arith, rules, refl, sym, ap, subst, length, vec_capacity, ◌≡◌, ◌+◌, ◌≤◌, ◌∙◌, ◌++◌, ◌∷◌, [], ℕ, List, Some}
-use Rattle.turn_history.specs.{declared.turn.HubTurn.HubTurn, declared.turn.HubTurn.TheVariants.Lent, Turned.lent_at, Entries.history_of}
+use Rattle.timing_bridge.specs.{declared.turn.HubTurn.HubTurn, declared.turn.HubTurn.TheVariants.Lent, Turned.lent_at, Entries.history_of}
 use Rattle.sim_core.specs.Views.{theory_of}
 use Rattle.sim_hub.specs.Places.{HasNoDesk}
 use Rattle.sim_hub.proofs.{Keeping.adds_turn, Keeping.kept_same, Keeping.same_entries, Answering.home_behind_short, Answering.short_added}

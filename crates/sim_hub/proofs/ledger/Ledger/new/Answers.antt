@@ -1,5 +1,5 @@
 use Rattle.std.proofs.Common.{List, false, sym, subst, vec_capacity}
-use Rattle.turn_history.specs.declared.turn.HubTurn.{HubTurn}
+use Rattle.timing_bridge.specs.declared.turn.HubTurn.{HubTurn}
 use Rattle.sim_hub.specs.Kept.{IsKept}
 use Rattle.sim_hub.proofs.Keeping.{kept_new}
 use Rattle.sim_hub.proofs.ledger.Ledger.new.Goals as goal

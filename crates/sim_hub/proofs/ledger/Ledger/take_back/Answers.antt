@@ -1,5 +1,5 @@
 use Rattle.std.proofs.Common.{arith, refl, sym, ap, subst, length, ◌≡◌, ◌+◌, ◌∙◌, ◌++◌, ◌∷◌, [], ℕ, Some}
-use Rattle.turn_history.specs.{declared.turn.HubTurn.TheVariants.Ran, Turned.lent_at}
+use Rattle.timing_bridge.specs.{declared.turn.HubTurn.TheVariants.Ran, Turned.lent_at}
 use Rattle.sim_hub.specs.{Kept.behind, Places.HasDesk}
 use Rattle.sim_hub.proofs.{Lists.within_some, Ledgers.burst_is, Ledgers.home_ran, Ledgers.kept_ran}
 use Rattle.sim_hub.proofs.Keeping.{adds_turn, kept_behind, kept_some, same_entries}

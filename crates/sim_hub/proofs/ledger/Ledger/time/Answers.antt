@@ -1,5 +1,5 @@
 use Rattle.std.proofs.Common.{arith, rules, refl, sym, ap, length, vec_capacity, ◌≡◌, ◌+◌, ◌≤◌, ◌∙◌, ◌++◌, ◌∷◌, [], List}
-use Rattle.turn_history.specs.{declared.turn.HubTurn.HubTurn, declared.turn.HubTurn.TheVariants.Timed}
+use Rattle.timing_bridge.specs.{declared.turn.HubTurn.HubTurn, declared.turn.HubTurn.TheVariants.Timed}
 use Rattle.sim_hub.specs.Kept.{behind}
 use Rattle.sim_hub.proofs.Keeping.{kept_same, kept_verified, same_entries}
 use Rattle.sim_hub.proofs.Ledgers.{is_finished, is_idle, kept_timed}

@@ -1,4 +1,0 @@
-pub mod Counting
-pub mod Acts
-pub mod Numbers
-pub mod Ending

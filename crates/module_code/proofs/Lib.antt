@@ -1,0 +1,16 @@
+pub mod Acting
+pub mod Codes
+pub mod Flats
+pub mod Forms
+pub mod Masking
+pub mod Enough
+pub mod Reaches
+pub mod Trees
+pub mod Ages
+pub mod Asked
+pub mod Begins
+pub mod Looking
+pub mod Moving
+pub mod DueNotes
+pub mod Readiness
+pub mod Writing

@@ -1,0 +1,13 @@
+use Rattle.std.proofs.Common.{◌≡◌, ℕ, List, drop}
+use Rattle.std.specs.{Prelude.All, Prelude.filter_map, Prelude.fold, List.zip}
+use Rattle.flow_design.specs.{declared.design.Block.Block, declared.design.Channel.Channel, declared.design.Module.Module}
+use Rattle.lockstep_defs.specs.Machine.{stored}
+use Rattle.module_code.specs.{Codes.IsGuardedOf, Notes.effects_by, Notes.noted_by}
+use Rattle.module_code.proofs.commits.commit_all.Given as goal
+
+-- writing what is left gives what writing all gives
+abbrev pub invariant-loop-at : goal.invariant-loop-at
+invariant-loop-at l = (channels : List Channel) (m : Module) (b : Block) (room : ℕ) → All (IsGuardedOf channels m b room) l.actions
+    → fold (stored m b) l.state
+    (effects_by b (filter_map noted_by (zip (drop l.at l.actions) (drop l.at l.items))) (drop l.answered l.replies))
+    ≡ fold (stored m b) l.initial.state (effects_by b (filter_map noted_by (zip l.actions l.items)) l.replies)

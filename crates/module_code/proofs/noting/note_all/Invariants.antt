@@ -1,0 +1,22 @@
+use Rattle.std.proofs.Common.{◌≡◌, ◌≤◌, ℕ, ◌++◌, List, take, map, length}
+use Rattle.std.specs.Prelude.{All, filter_map}
+use Rattle.flow_design.specs.{declared.design.Channel.Channel, Module.block_of, Module.temps_of}
+use Rattle.lockstep_defs.specs.Machine.{request_for}
+use Rattle.module_code.specs.{Codes.IsGuardedOf, Moves.passing, Moves.standing}
+use Rattle.module_code.proofs.Looking.{HaveNotes}
+use Rattle.module_code.proofs.noting.note_all.Given as goal
+
+-- the operations so far have their notes, and what the due ones of them ask was added
+abbrev pub invariant-loop-at : goal.invariant-loop-at
+invariant-loop-at l = record {
+  noted : HaveNotes (block_of l.of l.state) l.state l.oldest l.actions l.items l.at;
+  places : length l.items ≡ length l.initial.items;
+  count : l.count ≡ length (passing (block_of l.of l.state) l.state (map (standing l.oldest) (take l.at l.actions)));
+  few : l.count ≤ l.at;
+  asked : (channels : List Channel) (room : ℕ) → All (IsGuardedOf channels l.of (block_of l.of l.state) room) l.actions
+      → l.asked ≡ l.initial.asked
+      ++ filter_map (request_for channels l.of l.state)
+      (passing (block_of l.of l.state) l.state (map (standing l.oldest) (take l.at l.actions)));
+  temps : l.temps ≡ temps_of l.state l.iteration;
+  room : length l.scratch ≡ length l.initial.scratch;
+}

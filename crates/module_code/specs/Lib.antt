@@ -1,0 +1,11 @@
+pub mod Actions
+pub mod Codes
+pub mod Flat
+pub mod Masks
+pub mod Notes
+pub mod Operands
+pub mod Prepared
+pub mod Ready
+pub mod Targets
+pub mod Moves
+pub mod Sound

@@ -1,0 +1,152 @@
+//! Operations as actions: their expressions are operands, and the places that they write have masks.
+ghost use Rattle.std.specs.Prelude.{◌≡◌, IfOk, slice_index, map};
+ghost use Rattle.lockstep_defs.specs.Machine.{width_of};
+ghost use Rattle.module_code.specs.{Masks.IsMaskOf, Actions.IsActionOf, Actions.action_room, Actions.takes_reply};
+
+use crate::operand::{Operand, operand_of};
+use crate::target::{Target, mask_of, target_of};
+use flow_design::{Block, Channel, Memory, Module, Op};
+use flow_word::OutOfMemory;
+use std::alloc::Global;
+
+/// What an operation does. A memory that is stored to and a channel that is pushed come with the mask of their width.
+#[derive(Debug)]
+pub enum Action {
+    Set(Target, Operand),
+    /// The target of the word, the memory's number, and the address.
+    Load(Target, u32, Operand),
+    /// The memory's number, its mask, the address, and the value.
+    Store(u32, u64, Operand, Operand),
+    Read(u32, Target),
+    Write(u32, u64, Operand),
+    /// The channel, the target of the value, and the target of the outcome.
+    TryRead(u32, Target, Target),
+    /// The channel, its mask, the target of the outcome, and the value.
+    TryWrite(u32, u64, Target, Operand),
+    Empty(u32, Target),
+    Full(u32, Target),
+}
+
+impl Drop for Action {
+    fn drop(self) {
+        match self {
+            Action::Set(_a, _b) => {}
+            Action::Load(_a, _b, _c) => {}
+            Action::Store(_a, _b, _c, _d) => {}
+            Action::Read(_a, _b) => {}
+            Action::Write(_a, _b, _c) => {}
+            Action::TryRead(_a, _b, _c) => {}
+            Action::TryWrite(_a, _b, _c, _d) => {}
+            Action::Empty(_a, _b) => {}
+            Action::Full(_a, _b) => {}
+        }
+    }
+}
+
+/// Compiles an operation of a block into an action.
+#[tactic(auto, using(crate::proofs::Acting::the_actions))]
+pub(crate) fn action_of(
+    alloc: Global,
+    channels: &[Channel],
+    of: &Module,
+    block: &Block,
+    op: &Op<u32>,
+) -> Result<Action, OutOfMemory>
+    ensures { IfOk result (λ action. IsActionOf channels.now of.now block.now action op.now) }
+{
+    match op {
+        Op::Set(place, value) => {
+            let target = target_of(of, block, *place);
+            Ok(Action::Set(target, operand_of(alloc, value)?))
+        }
+        Op::Load {
+            target,
+            memory,
+            address,
+        } => {
+            let target = target_of(of, block, *target);
+            Ok(Action::Load(target, *memory, operand_of(alloc, address)?))
+        }
+        Op::Store {
+            memory,
+            address,
+            value,
+        } => {
+            let mask = memory_mask(of.memories.as_slice(), *memory);
+            let address = operand_of(alloc, address)?;
+            let value = operand_of(alloc, value)?;
+            Ok(Action::Store(*memory, mask, address, value))
+        }
+        Op::Read { channel, target } => Ok(Action::Read(*channel, target_of(of, block, *target))),
+        Op::Write(channel, value) => {
+            let mask = channel_mask(channels, *channel);
+            Ok(Action::Write(*channel, mask, operand_of(alloc, value)?))
+        }
+        Op::TryRead {
+            channel,
+            target,
+            outcome,
+        } => {
+            let target = target_of(of, block, *target);
+            Ok(Action::TryRead(*channel, target, target_of(of, block, *outcome)))
+        }
+        Op::TryWrite {
+            channel,
+            outcome,
+            value,
+        } => {
+            let mask = channel_mask(channels, *channel);
+            let outcome = target_of(of, block, *outcome);
+            Ok(Action::TryWrite(*channel, mask, outcome, operand_of(alloc, value)?))
+        }
+        Op::Empty { channel, target } => Ok(Action::Empty(*channel, target_of(of, block, *target))),
+        Op::Full { channel, target } => Ok(Action::Full(*channel, target_of(of, block, *target))),
+    }
+}
+
+/// The mask of a channel's width.
+fn channel_mask(channels: &[Channel], number: u32) -> u64
+    ensures { IsMaskOf (width_of channels.now number) result }
+{
+    match channels.get(number as usize) {
+        Some(channel) => mask_of(channel.width),
+        None => 1,
+    }
+}
+
+/// The mask of a memory's width, or 0 where there is no such memory.
+fn memory_mask(memories: &[Memory], number: u32) -> u64
+    ensures { IsMaskOf (slice_index (map (λ memory. memory.width) memories.now) number) result }
+{
+    match memories.get(number as usize) {
+        Some(memory) => mask_of(memory.width),
+        None => 0,
+    }
+}
+
+impl Action {
+    /// How many words of `scratch` the action needs for the results of its instructions.
+    pub(crate) fn room(&self) -> u64
+        ensures { result ≡ action_room self.now }
+    {
+        match self {
+            Action::Set(_, value) | Action::Load(_, _, value) => value.room(),
+            Action::Write(_, _, value) | Action::TryWrite(_, _, _, value) => value.room(),
+            Action::Store(_, _, address, value) => address.room().max(value.room()),
+            Action::Read(_, _) | Action::TryRead(_, _, _) => 0,
+            Action::Empty(_, _) | Action::Full(_, _) => 0,
+        }
+    }
+
+    /// Whether the action is that of a FIFO operation, which takes a reply.
+    #[inline(always)]
+    pub fn takes_reply(&self) -> bool
+        ensures { result ≡ takes_reply self.now }
+    {
+        match self {
+            Action::Set(_, _) | Action::Load(_, _, _) | Action::Store(_, _, _, _) => false,
+            Action::Read(_, _) | Action::Write(_, _, _) | Action::TryRead(_, _, _) => true,
+            Action::TryWrite(_, _, _, _) | Action::Empty(_, _) | Action::Full(_, _) => true,
+        }
+    }
+}

@@ -1,0 +1,208 @@
+//! What is noted of the due operations before the replies, and what they ask of the channels.
+ghost use Rattle.std.specs.Prelude.{◌≡◌, ℕ, ◌+◌, ◌*◌, ◌<◌, ◌≤◌, ◌^◌, ◌++◌, ◌∷◌, [], true, if◌then◌else◌, length, map, filter_map, All};
+ghost use Rattle.std.specs.Prelude.{List as Items, IfOk, IfSome, OnOk};
+ghost use Rattle.std.specs.List.{zip};
+ghost use Rattle.flow_design.specs.declared.limits.TheConstants.{LIVE_ITERATIONS, OPERATIONS};
+ghost use Rattle.flow_design.specs.declared.design.Channel.{Channel as ChannelOf};
+ghost use Rattle.flow_design.specs.{Module.block_of, Module.passes, Module.temps_of, StaticRules.IsModuleSound};
+ghost use Rattle.lockstep_defs.specs.Machine.{request_for, requests};
+ghost use Rattle.block_schedule.specs.Schedules.{IsSlotOf};
+ghost use Rattle.module_code.specs.{Actions.action_request, Actions.action_room, Codes.IsBlockCodeOf, Codes.IsGuardedOf, Moves.passing};
+ghost use Rattle.module_code.specs.{Moves.standing, Moves.notes_of, Sound.HasCode, Sound.IsActionAt, Sound.IsStateSound};
+ghost use Rattle.module_code.specs.Notes.{noted_for, noted_by, listed, AreNotesIn};
+
+use crate::action::Action;
+use crate::code::{BlockCode, Guarded};
+use crate::noted::{Note, Notes};
+use crate::running::{Prepared, prepare, temps_of};
+use flow_design::{Due, Module, ModuleState, Request};
+use flow_expr::variable;
+use flow_word::{List, OutOfMemory, Words};
+
+/// Notes the due operations, and fills `asked` with the requests of the FIFO operations among them, in commit order. The code is that
+/// of the block in which the module stands. What the notes and the list held before is lost. `scratch` is memory that is used again:
+/// its words mean nothing. After `OutOfMemory` the notes mean nothing, and the list may have only some of the requests.
+pub fn note(
+    of: &Module,
+    code: &BlockCode,
+    state: &ModuleState,
+    scratch: &mut Words,
+    notes: &mut Notes,
+    asked: &mut List<Request>,
+) -> Result<(), OutOfMemory>
+    requires sound { IsStateSound of.now state.now }
+    requires code { (channels : Items ChannelOf) × HasCode channels of.now state.now code.now }
+    requires small { state.now.control.clock < 2 ^ 60 }
+    ensures noted { OnOk result (listed code.now notes.new ≡ notes_of of.now state.now) }
+    ensures asked { OnOk result ((channels : Items ChannelOf)
+        → IsBlockCodeOf channels of.now (block_of of.now state.now) code.now → asked.new ≡ requests channels of.now state.now) }
+    ensures notes { OnOk result (AreNotesIn code.now notes.new) }
+    ensures few { OnOk result (notes.new.count ≤ LIVE_ITERATIONS * OPERATIONS) }
+{
+    make_room(scratch, code.room)?;
+    let age = state.control.clock - state.control.newest;
+    let due = code.schedule.due(age, state.temps.len());
+    let actions = &code.actions.as_slice()[due.from..due.to];
+    make_places(&mut notes.items, actions.len())?;
+    asked.truncate(0);
+    let items = notes.items.as_mut_slice();
+    let room = scratch.as_mut_slice();
+    let count = note_all(of, actions, due.oldest, state, room, items, asked)?;
+    notes.from = due.from;
+    notes.to = due.to;
+    notes.count = count;
+    Ok(())
+}
+
+/// Makes `scratch` hold at least `room` words.
+fn make_room(scratch: &mut Words, room: u64) -> Result<(), OutOfMemory>
+    ensures { OnOk result (room ≤ length scratch.new) }
+{
+    while scratch.len() < room {
+        scratch.push(0)?;
+    }
+    Ok(())
+}
+
+/// Makes the list have places for so many notes.
+fn make_places(items: &mut List<Note>, places: usize) -> Result<(), OutOfMemory>
+    ensures { OnOk result (places ≤ length items.new) }
+{
+    while items.len() < places as u64 {
+        items.push(Note {
+            passes: false,
+            iteration: 0,
+            value: 0,
+            address: 0,
+        })?;
+    }
+    Ok(())
+}
+
+/// Notes each of these operations, and adds the requests of those that are due. Returns how many are due. The iteration of an
+/// operation is its rank less that of the oldest.
+#[inline(always)]
+fn note_all(
+    of: &Module,
+    actions: &[Guarded],
+    oldest: u64,
+    state: &ModuleState,
+    scratch: &mut [u64],
+    items: &mut [Note],
+    asked: &mut List<Request>,
+) -> Result<u64, OutOfMemory>
+    requires sound { IsStateSound of.now state.now }
+    requires code { (channels : Items ChannelOf) × (IsModuleSound (length channels) of.now
+        × All (IsGuardedOf channels of.now (block_of of.now state.now) (length scratch.old)) actions.now) }
+    requires slots { All (λ g. IsSlotOf (block_of of.now state.now) oldest (length state.now.temps) g.slot) actions.now }
+    requires few { length state.now.temps ≤ LIVE_ITERATIONS }
+    requires places { length actions.now ≤ length items.old }
+    ensures noted { OnOk result (filter_map noted_by (zip actions.now items.new)
+        ≡ map (noted_for (block_of of.now state.now) state.now)
+        (passing (block_of of.now state.now) state.now (map (standing oldest) actions.now))) }
+    ensures places { OnOk result (length items.new ≡ length items.old) }
+    ensures count { IfOk result (λ count. count
+        ≡ length (passing (block_of of.now state.now) state.now (map (standing oldest) actions.now))) }
+    ensures asked { OnOk result ((channels : Items ChannelOf) (room : ℕ)
+        → All (IsGuardedOf channels of.now (block_of of.now state.now) room) actions.now
+        → asked.new ≡ asked.old ++ filter_map (request_for channels of.now state.now)
+        (passing (block_of of.now state.now) state.now (map (standing oldest) actions.now))) }
+{
+    let mut iteration = 0u32;
+    let mut temps = temps_of(state, iteration);
+    let mut count = 0u64;
+    for (at, guarded) in actions.iter().enumerate() {
+        let due = Due {
+            iteration: (guarded.slot.rank - oldest) as u32,
+            op: guarded.slot.op,
+        };
+        temps = temps_after(state, temps, iteration, due.iteration);
+        iteration = due.iteration;
+        let passes = passes(guarded.guard, state.registers.as_slice(), temps);
+        note_one(
+            passes,
+            of,
+            &guarded.action,
+            state,
+            due,
+            temps,
+            scratch,
+            &mut items[at],
+            asked,
+        )?;
+        count += passes as u64;
+    }
+    Ok(count)
+}
+
+/// The temps of a live iteration, where those of another, or of the same, were looked up before.
+#[inline(always)]
+fn temps_after<'a>(
+    state: &'a ModuleState,
+    temps: &'a [u64],
+    before: u32,
+    iteration: u32,
+) -> &'a [u64]
+    requires { temps.now ≡ temps_of state.now before }
+    ensures { result.now ≡ temps_of state.now iteration }
+{
+    if iteration == before {
+        temps
+    } else {
+        temps_of(state, iteration)
+    }
+}
+
+/// Whether there is no guard, or one that is not 0.
+#[inline(always)]
+fn passes(guard: Option<u32>, registers: &[u64], temps: &[u64]) -> bool
+    requires { IfSome guard (λ at. at < length registers.now + length temps.now) }
+    ensures { result ≡ passes registers.now temps.now guard }
+{
+    match guard {
+        None => true,
+        Some(at) => variable(at, registers, temps) != 0,
+    }
+}
+
+/// Notes an operation of an iteration with these temps, and adds its request if it is due and a FIFO operation.
+#[inline(always)]
+fn note_one(
+    passes: bool,
+    of: &Module,
+    action: &Action,
+    state: &ModuleState,
+    due: Due,
+    temps: &[u64],
+    scratch: &mut [u64],
+    note: &mut Note,
+    asked: &mut List<Request>,
+) -> Result<(), OutOfMemory>
+    requires action { IsActionAt of.now state.now due action.now }
+    requires temps { temps.now ≡ temps_of state.now due.iteration }
+    requires room { action_room action.now ≤ length scratch.old }
+    ensures passes { OnOk result (note.new.passes ≡ passes) }
+    ensures iteration { OnOk result (passes ≡ true → note.new.iteration ≡ due.iteration) }
+    ensures value { OnOk result (passes ≡ true → note.new.value ≡ (noted_for (block_of of.now state.now) state.now due).value) }
+    ensures address { OnOk result (passes ≡ true → note.new.address ≡ (noted_for (block_of of.now state.now) state.now due).address) }
+    ensures asked { OnOk result (asked.new
+        ≡ asked.old ++ filter_map (λ d. action_request state.now d.iteration action.now) (if passes then due ∷ [] else [])) }
+    ensures room { OnOk result (length scratch.new ≡ length scratch.old) }
+{
+    note.passes = passes;
+    if passes {
+        note.iteration = due.iteration;
+        match prepare(action, state, due.iteration, temps, scratch) {
+            Prepared::Writes(value, address) => {
+                note.value = value;
+                note.address = address;
+            }
+            Prepared::Asks(request) => {
+                note.value = 0;
+                note.address = 0;
+                asked.push(request)?;
+            }
+        }
+    }
+    Ok(())
+}

@@ -1,8 +1,0 @@
-pub mod Ages
-pub mod Asked
-pub mod Begins
-pub mod Looking
-pub mod Moving
-pub mod Noted
-pub mod Readiness
-pub mod Writing

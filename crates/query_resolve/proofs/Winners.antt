@@ -1,0 +1,228 @@
+-- Who wins all rounds is the first of the least.
+use Rattle.std.proofs.Common.{◌≡◌, ◌≢◌, refl, sym, ap, subst, ◌∙◌, ℕ, zero, suc, ◌+◌, ◌*◌, ◌/◌, ◌^◌, ◌-◌, ◌<◌, ◌≤◌, ◌⊎◌, inl, inr, List}
+use Rattle.std.proofs.Common.{Option, None, Some, length, get_or, set, arith}
+use Rattle.std.proofs.{lemmas.Bool.cases_eq, lemmas.Bool.cases_lt, lemmas.Option.get_or_from_slice_get, lemmas.Option.slice_get-get_or}
+use Rattle.std.proofs.lemmas.List.{get_or_past, get_or_default, get_or-set_same, get_or-set_other, length-set}
+use Rattle.std.specs.Prelude.{slice_get}
+use Rattle.event_graph.specs.declared.candidate.Candidate.{Candidate}
+use Rattle.event_graph.specs.declared.candidate.Candidate.TheVariants.{At, Waits, Beyond, Nothing}
+use Rattle.query_resolve.specs.{Earliest.cycle_of, Earliest.IsEarliest, declared.rounds.First.First}
+use Rattle.query_resolve.specs.Firsts.{told, IsNoLater, IsBeaten, IsWinner, at_place, IsWonAt, AreWonBut, HasWinners}
+
+trans : (a b c : First) → IsNoLater a b → IsNoLater b c → IsNoLater a c
+trans a b c (inl u) (inl v) = inl (omega arith)
+trans a b c (inl u) (inr (e, v)) = inl (omega arith)
+trans a b c (inr (d, u)) (inl v) = inl (omega arith)
+trans a b c (inr (d, u)) (inr (e, v)) = inr (omega arith, omega arith)
+
+-- ---- one place more
+
+module _ (places : List (Option First)) (count at : ℕ) (roomed : length places ≡ 2 * count) (above : 1 ≤ at) (below : at < count)
+    (won : AreWonBut places count at) (winner : Option First)
+    (is : IsWinner (at_place places (2 * at)) (at_place places (2 * at + 1)) winner) where
+  other : (j : ℕ) → j ≢ at → at_place (set places at winner) j ≡ at_place places j
+  other j e = get_or-set_other places at j winner None e
+
+  pub won_anew : AreWonBut (set places at winner) count (at / 2)
+  won_anew j low high but =
+      elim (cases_eq j at) [
+        | inl e ↦
+            rw (
+              e,
+              get_or-set_same places at winner None (omega arith),
+              other (2 * at) (λ d. omega arith),
+              other (2 * at + 1)
+                  (λ d. omega arith),
+            ) is
+        | inr e ↦
+            rw (other j e, other (2 * j) (λ d. but (omega arith)), other (2 * j + 1) (λ d. but (omega arith))) (won j low high e)
+      ]
+
+-- ---- another candidate
+
+module _ (candidates : List Candidate) (places : List (Option First)) (h : HasWinners candidates places) (owner : ℕ) (a : Candidate)
+    (inside : owner < length candidates) where
+  abbrev count : ℕ
+  count = length candidates
+
+  abbrev begun : List (Option First)
+  begun = set places (count + owner) (told owner a)
+
+  -- only the winner of its first round may be another
+  pub won_else : AreWonBut begun count ((count + owner) / 2)
+  won_else j low high but =
+      rw (
+        get_or-set_other places (count + owner) j (told owner a) None (λ e. omega arith),
+        get_or-set_other places (count + owner) (2 * j) (told owner a) None (λ e. but (omega arith)),
+        get_or-set_other places (count + owner) (2 * j + 1) (told owner a) None (λ e. but (omega arith)),
+      ) (h.won j low high (omega arith))
+
+  pub winners_set : (now : List (Option First)) → length now ≡ length begun
+      → ((j : ℕ) → count ≤ j → at_place now j ≡ at_place begun j) → AreWonBut now count 0 → HasWinners (set candidates owner a) now
+  winners_set now roomed begins won =
+      let same = length-set candidates owner a in
+      let room = length-set places (count + owner) (told owner a) in
+      let all = h.count in
+      record {
+        few = let few = h.few in omega arith;
+        count = omega arith;
+        begins = λ n l.
+            ap (λ (k : ℕ). at_place now (k + n)) same ∙ begins (count + n) (omega arith) ∙ began n (omega arith);
+        won = subst (λ (k : ℕ). AreWonBut now k 0) (sym same) won;
+      }
+    where
+      began : (n : ℕ) → n < count → at_place begun (count + n) ≡ told n (get_or (set candidates owner a) n Nothing)
+      began n l =
+          elim (cases_eq n owner) [
+            | inl e ↦
+                let all = h.count in
+                rw (e, get_or-set_same candidates owner a Nothing inside)
+                (get_or-set_same places (count + owner) (told owner a) None (omega arith))
+            | inr other ↦
+                get_or-set_other places (count + owner) (count + n) (told owner a) None (λ e. other (omega arith)) ∙ h.begins n l
+                ∙ ap (told n) (sym (get_or-set_other candidates owner n a Nothing other))
+          ]
+
+-- ---- the winner of all
+
+-- none has a cycle at the beginning
+pub winners_new : (candidates : List Candidate) (places : List (Option First)) → length candidates < 2 ^ 32
+    → length places ≡ 2 * length candidates → ((n : ℕ) → get_or candidates n Nothing ≡ Nothing) → ((j : ℕ) → at_place places j ≡ None)
+    → HasWinners candidates places
+winners_new candidates places few count nothing none = record {
+  few = few;
+  count = count;
+  begins = λ n l. none (length candidates + n) ∙ sym (ap (told n) (nothing n));
+  won = λ j low high but. record {
+    is = inl (none j ∙ sym (none (2 * j)));
+    beats_one = subst (λ (o : Option First). IsBeaten o (at_place places j)) (sym (none (2 * j))) tt;
+    beats_other = subst (λ (o : Option First). IsBeaten o (at_place places j)) (sym (none (2 * j + 1))) tt;
+  };
+}
+
+module _ (candidates : List Candidate) (places : List (Option First)) (h : HasWinners candidates places) where
+  -- who stands at a place is beaten at place 1
+  beaten : (most j : ℕ) → j ≤ most → 1 ≤ j → j < 2 * length candidates → (b : First) → at_place places j ≡ Some b
+      → (a : First) × ((at_place places 1 ≡ Some a) × IsNoLater a b)
+  beaten zero j l low high b e = absurd (omega (arith, l, low))
+  beaten (suc most) j l low high b e =
+      elim (cases_eq j 1) [
+        | inl first ↦ (b, (ap (at_place places) (sym first) ∙ e, inr (refl, omega arith)))
+        | inr later ↦
+            let (c, (there, less)) = above (omega (arith, low, later)) in
+            let (a, (top, more)) = beaten most (j / 2) (omega (arith, l, low, later)) (omega (arith, low, later)) (omega (arith, high)) c there in
+            (a, (top, trans a c b more less))
+      ]
+    where
+      one_of : (j ≡ 2 * (j / 2)) ⊎ (j ≡ 2 * (j / 2) + 1)
+      one_of = elim (cases_eq j (2 * (j / 2))) [
+        | inl d ↦ inl d
+        | inr d ↦ inr (omega arith)
+      ]
+
+      above : 2 ≤ j → (c : First) × ((at_place places (j / 2) ≡ Some c) × IsNoLater c b)
+      above two =
+          let won = h.won (j / 2) (omega (arith, two)) (omega (arith, high)) (omega (arith, two)) in
+          elim one_of [
+            | inl d ↦
+                subst (λ (o : Option First). IsBeaten o (at_place places (j / 2))) (ap (at_place places) (sym d) ∙ e) won.beats_one
+            | inr d ↦
+                subst (λ (o : Option First). IsBeaten o (at_place places (j / 2))) (ap (at_place places) (sym d) ∙ e) won.beats_other
+          ]
+
+  has_told : (n : ℕ) (b : First) (c : Candidate) → told n c ≡ Some b → (c ≡ At b.cycle) × (b.owner ≡ n)
+  has_told n b (At cycle) e =
+      let same : record { cycle = cycle; owner = n } ≡ b = cc in
+      (ap At (ap (λ (f : First). f.cycle) same), sym (ap (λ (f : First). f.owner) same))
+  has_told n b (Waits i) e = cc
+  has_told n b Beyond e = cc
+  has_told n b Nothing e = cc
+
+  -- who stands at a place is a module with its cycle
+  real : (most j : ℕ) → 2 * length candidates ≤ j + most → 1 ≤ j → j < 2 * length candidates → (b : First) → at_place places j ≡ Some b
+      → (b.owner < length candidates) × (get_or candidates b.owner Nothing ≡ At b.cycle)
+  real zero j l low high b e = absurd (omega (arith, l, high))
+  real (suc most) j l low high b e =
+      elim (cases_lt j (length candidates)) [
+        | inl inner ↦
+            elim (h.won j low inner (omega (arith, low))).is [
+              | inl same ↦ real most (2 * j) (omega (arith, l, low)) (omega (arith, low)) (omega (arith, inner)) b (sym same ∙ e)
+              | inr same ↦ real most (2 * j + 1) (omega (arith, l, low)) (omega (arith, low)) (omega (arith, inner)) b (sym same ∙ e)
+            ]
+        | inr outer ↦
+            let n = j - length candidates in
+            let sum : length candidates + (j - length candidates) ≡ j = omega (arith, outer) in
+            let (here, own) = has_told n b (get_or candidates n Nothing)
+            (sym (h.begins n (omega (arith, outer, high))) ∙ ap (at_place places) sum ∙ e) in (
+              omega (arith, own, outer, high),
+              ap (λ (k : ℕ). get_or candidates k Nothing) own ∙ here,
+            )
+      ]
+
+  at_inside : (n cycle : ℕ) → get_or candidates n Nothing ≡ At cycle → n < length candidates
+  at_inside n cycle at =
+      elim (cases_lt n (length candidates)) [
+        | inl l ↦ l
+        | inr l ↦ let past = get_or_past candidates n Nothing l in absurd (no_at (sym past ∙ at))
+      ]
+    where
+      no_at : Nothing ≡ At cycle → ⊥
+      no_at e = cc
+
+  -- a module with a cycle is beaten by the winner
+  beats : (n cycle : ℕ) → get_or candidates n Nothing ≡ At cycle
+      → (a : First) × ((at_place places 1 ≡ Some a) × IsNoLater a (record { cycle = cycle; owner = n }))
+  beats n cycle at =
+      let l = at_inside n cycle at in
+      beaten (length candidates + n) (length candidates + n) (omega arith) (omega (arith, l)) (omega (arith, l))
+      (record { cycle = cycle; owner = n }) (h.begins n l ∙ ap (told n) at)
+
+  pub none_at_all : at_place places 1 ≡ None → (k : ℕ) (d : Candidate) → k < length candidates → cycle_of (get_or candidates k d) ≡ None
+  none_at_all none k d l =
+      ap cycle_of (get_or_default candidates k d Nothing l)
+      ∙ by (get_or candidates k Nothing) (λ other at. let (a, (top, less)) = beats k other at in no_one a (sym none ∙ top))
+    where
+      no_one : (a : First) → None ≡ Some a → ⊥
+      no_one a e = cc
+
+      by : (c : Candidate) → ((other : ℕ) → c ≡ At other → ⊥) → cycle_of c ≡ None
+      by (At other) f = absurd (f other refl)
+      by (Waits i) f = refl
+      by Beyond f = refl
+      by Nothing f = refl
+
+  -- where there is a winner, some module has a cycle
+  pub some_one : (b : First) → 1 < length places → at_place places 1 ≡ Some b
+      → ((k : ℕ) (d : Candidate) → k < length candidates → cycle_of (get_or candidates k d) ≡ None) → ⊥
+  some_one b some top none =
+      let all = h.count in
+      let (inside, here) = real (2 * length candidates) 1 (omega arith) (omega arith) (omega (arith, some, all)) b top in
+      no_cycle (sym (none b.owner Nothing inside) ∙ ap cycle_of here)
+    where
+      no_cycle : None ≡ Some b.cycle → ⊥
+      no_cycle e = cc
+
+  pub earliest : (b : First) → 1 < length places → at_place places 1 ≡ Some b → IsEarliest candidates b.owner b.cycle
+  earliest b some top =
+      let all = h.count in
+      let (inside, here) = real (2 * length candidates) 1 (omega arith) (omega arith) (omega (arith, some, all)) b top in
+      record {
+        here = slice_get-get_or candidates b.owner Nothing inside ∙ ap Some here;
+        least = λ n other at.
+            let (a, (same, less)) = beats n other (get_or_from_slice_get candidates n (At other) Nothing at) in
+            later_cycle n other a (is_one a (sym top ∙ same)) less;
+        first = λ n at.
+            let (a, (same, less)) = beats n b.cycle (get_or_from_slice_get candidates n (At b.cycle) Nothing at) in
+            lower_owner n a (is_one a (sym top ∙ same)) less;
+      }
+    where
+      is_one : (a : First) → Some b ≡ Some a → b ≡ a
+      is_one a e = cc
+
+      later_cycle : (n other : ℕ) (a : First) → b ≡ a → IsNoLater a (record { cycle = other; owner = n }) → b.cycle ≤ other
+      later_cycle n other a e (inl less) = let c = ap (λ (f : First). f.cycle) e in omega arith
+      later_cycle n other a e (inr (same, lower)) = let c = ap (λ (f : First). f.cycle) e in omega arith
+
+      lower_owner : (n : ℕ) (a : First) → b ≡ a → IsNoLater a (record { cycle = b.cycle; owner = n }) → b.owner ≤ n
+      lower_owner n a e (inl less) = let c = ap (λ (f : First). f.cycle) e in absurd (omega arith)
+      lower_owner n a e (inr (same, lower)) = let c = ap (λ (f : First). f.owner) e in omega arith

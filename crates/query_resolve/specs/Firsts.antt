@@ -1,0 +1,47 @@
+-- The first of the least cycles, found by rounds: of two the sooner one goes on to the next round.
+use Rattle.std.specs.Prelude.{◌≡◌, ℕ, ◌+◌, ◌*◌, ◌^◌, ◌<◌, ◌≤◌, ◌≢◌, ◌⊎◌, List, Option, None, Some, length, slice_index_or}
+use Rattle.event_graph.specs.declared.candidate.Candidate.{Candidate}
+use Rattle.event_graph.specs.declared.candidate.Candidate.TheVariants.{At, Waits, Beyond, Nothing}
+use Rattle.query_resolve.specs.declared.rounds.First.{First}
+
+-- what module n has, by its candidate
+abbrev pub told : ℕ → Candidate → Option First
+told n (At cycle) = Some (record { cycle = cycle; owner = n })
+told n (Waits i) = None
+told n Beyond = None
+told n Nothing = None
+
+-- the first one is no later: its cycle is less, or the same and its module no higher
+abbrev pub IsNoLater : First → First → Type 0
+IsNoLater a b = (a.cycle < b.cycle) ⊎ ((a.cycle ≡ b.cycle) × (a.owner ≤ b.owner))
+
+-- where there is one, it is beaten by this
+abbrev pub IsBeaten : Option First → Option First → Type 0
+IsBeaten None winner = Unit {0}
+IsBeaten (Some b) winner = (a : First) × ((winner ≡ Some a) × IsNoLater a b)
+
+-- the winner of two
+pub record IsWinner (one other winner : Option First) : Type 0 where
+  pub is : (winner ≡ one) ⊎ (winner ≡ other)
+  pub beats_one : IsBeaten one winner
+  pub beats_other : IsBeaten other winner
+
+-- who came to place j
+abbrev pub at_place : List (Option First) → ℕ → Option First
+at_place places j = slice_index_or places j None
+
+-- at place j stands the winner of places 2j and 2j + 1
+abbrev pub IsWonAt : List (Option First) → ℕ → Type 0
+IsWonAt places j = IsWinner (at_place places (2 * j)) (at_place places (2 * j + 1)) (at_place places j)
+
+-- so it is at each place from 1 on, up to a count, but perhaps at one
+abbrev pub AreWonBut : List (Option First) → ℕ → ℕ → Type 0
+AreWonBut places count but = (j : ℕ) → 1 ≤ j → j < count → j ≢ but → IsWonAt places j
+
+-- the modules begin at the places from their count on, and the winner of all is at place 1
+pub record HasWinners (candidates : List Candidate) (places : List (Option First)) : Type 0 where
+  pub few : length candidates < 2 ^ 32
+  pub count : length places ≡ 2 * length candidates
+  pub begins : (n : ℕ) → n < length candidates
+      → at_place places (length candidates + n) ≡ told n (slice_index_or candidates n Nothing)
+  pub won : AreWonBut places (length candidates) 0

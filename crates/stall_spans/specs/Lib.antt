@@ -1,6 +1,0 @@
-pub mod Doings
-pub mod Spans
-pub mod Covers
-pub mod CoreDoings
-pub mod Coming
-pub mod Totals

@@ -1,0 +1,14 @@
+pub mod FillCounts
+pub mod Acts
+pub mod Numbers
+pub mod Ending
+pub mod Placed
+pub mod Waits
+pub mod Causes
+pub mod Lists
+pub mod Extending
+pub mod Existing
+pub mod Going
+pub mod Counting
+pub mod Adding
+pub mod Covering

@@ -1,0 +1,73 @@
+-- The lines of the steps that a walk has given, one step after the other.
+use Rattle.std.proofs.Common.{◌≡◌, ℕ, List, [], ◌∷◌, ◌++◌, map, refl, sym, ◌∙◌, ap, ap₂, Option, append-nil}
+use Rattle.std.proofs.{lemmas.List.map-append, lemmas.List.Elements.All-cons, lemmas.List.Elements.All-nil}
+use Rattle.std.specs.Prelude.{All}
+use Rattle.event_graph.specs.Lanes.{IsSoundLane}
+use Rattle.flow_design.specs.{declared.plan.Plan.Plan, declared.state.Advance.Advance}
+use Rattle.lockstep_defs.specs.{Channels.HistoryStep, Laws.HasNumbersOf, Report.report}
+use Rattle.timing_bridge.specs.{Designs.design, CoreReports.steps_at}
+use Rattle.engine_view.specs.Held.{Held, core_of}
+use Rattle.engine_report.specs.{declared.events.TimedStep.TimedStep, Finished.IsFinished, Keys.place_of, Keys.IsTimedKey}
+use Rattle.engine_report.specs.{declared.walk.StepWalk.StepWalk, Walking.IsWalk, Walking.HasGiven}
+use Rattle.report_text.specs.Lines.{text_of_lines}
+use Rattle.sim_core.specs.{declared.access_log.LoggedAccess.LoggedAccess, AccessLog.log_of, AccessLog.logged_at, AccessLog.logged_in}
+use Rattle.sim_core.proofs.AccessLogs.{all_logged}
+use Rattle.sim_io.specs.Telling.{IsTold}
+use Rattle.engine_report.proofs.Giving.{given_first}
+use Rattle.trace_text.specs.LogText.{access_tokens, IsOfDesign}
+use Rattle.trace_text.proofs.{LogLines.step_lines, LogLines.steps_more, LogLines.history_lines, Named.part_named}
+
+-- what these keys stand for
+abbrev pub steps_by : Plan → Held → List TimedStep → List HistoryStep
+steps_by p h keys = steps_at p (core_of (design p) h) (map place_of keys)
+
+-- the lines of the steps that the walk has given are told
+pub record IsTelling (p : Plan) (h : Held) (walk : StepWalk) (old new : Option (List ℕ)) (pending first : List ℕ) : Type 0 where
+  pub keys : List TimedStep
+  pub given : HasGiven h.lanes walk keys
+  pub text : IsTold old new pending (first ++ step_lines p (steps_by p h keys))
+
+steps_both : (p : Plan) (h : Held) (keys : List TimedStep) (key : TimedStep)
+    → steps_by p h (keys ++ key ∷ []) ≡ steps_by p h keys ++ steps_by p h (key ∷ [])
+steps_both p h keys key =
+    ap (steps_at p (core_of (design p) h)) (map-append place_of keys (key ∷ []))
+    ∙ map-append _ (map place_of keys) (place_of key ∷ [])
+
+module _ (p : Plan) (h : Held) (ends : List (Option Advance)) (f : IsFinished p h ends) where
+  -- what was read of a step is its part of the log
+  pub step_read : (key : TimedStep) → IsTimedKey h.lanes key → (log : List LoggedAccess) → log ≡ [] ++ logged_at h key
+      → log ≡ logged_in (steps_by p h (key ∷ []))
+  step_read key timed log is =
+      is ∙ (sym (append-nil (logged_at h key))
+      ∙ all_logged p h f.sound f.agreed (key ∷ []) (All-cons (IsTimedKey h.lanes) key [] timed (All-nil (IsTimedKey h.lanes))))
+
+  module _ (lanes_sound : All IsSoundLane h.lanes) where
+    -- the text behind the steps that were given begins the whole
+    pub rest_of : (walk : StepWalk) → IsWalk h.lanes walk → (first : List ℕ) (keys : List TimedStep) → HasGiven h.lanes walk keys
+        → (rest : List ℕ)
+        × ((first ++ step_lines p (steps_by p h keys)) ++ rest ≡ first ++ text_of_lines (map (access_tokens p.design) (log_of p)))
+    rest_of walk w first keys given =
+        let (more, are) = given_first h.lanes lanes_sound walk w keys given p h ends f refl in (
+          step_lines p more,
+          steps_more p first (steps_by p h keys) more
+              ∙ ap (λ (t : List ℕ). first ++ t) (ap (step_lines p) are ∙ history_lines p),
+        )
+
+    -- a step that was given is one of the plan
+    pub step_named : HasNumbersOf p (report p) → (walk : StepWalk) → IsWalk h.lanes walk → (keys : List TimedStep) (key : TimedStep)
+        → HasGiven h.lanes walk (keys ++ key ∷ []) → All (IsOfDesign p.design) (logged_in (steps_by p h (key ∷ [])))
+    step_named numbers walk w keys key given =
+        let (more, are) = given_first h.lanes lanes_sound walk w (keys ++ key ∷ []) given p h ends f refl in
+        part_named p numbers (steps_by p h keys) (steps_by p h (key ∷ [])) more
+        (ap (λ (steps : List HistoryStep). steps ++ more) (sym (steps_both p h keys key)) ∙ are)
+
+-- one step more
+pub text_more : (p q : Plan) (h : Held) (first : List ℕ) (keys : List TimedStep) (key : TimedStep) (log read : List LoggedAccess)
+    → log ≡ logged_in (steps_by p h (key ∷ [])) → read ≡ log → q ≡ p
+    → (first ++ step_lines p (steps_by p h keys)) ++ text_of_lines (map (access_tokens q.design) read)
+    ≡ first ++ step_lines p (steps_by p h (keys ++ key ∷ []))
+text_more p q h first keys key log read is same plan =
+    ap₂ (λ (x : Plan) (xs : List LoggedAccess). (first ++ step_lines p (steps_by p h keys)) ++ text_of_lines (map (access_tokens x.design) xs))
+    plan (same ∙ is)
+    ∙ (steps_more p first (steps_by p h keys) (steps_by p h (key ∷ []))
+    ∙ ap (λ (steps : List HistoryStep). first ++ step_lines p steps) (sym (steps_both p h keys key)))

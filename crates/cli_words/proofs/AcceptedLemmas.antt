@@ -4,7 +4,7 @@ use Rattle.std.proofs.Common.{length-append, is_some}
 use Rattle.std.proofs.lemmas.Bool.Decides.{nat_tests}
 use Rattle.std.specs.Prelude.{ℕ, ◌^◌, option_and_then, nat_lt, not, Result, Ok, Err}
 use Rattle.flow_design.specs.Limits.{limits_at}
-use Rattle.flow_word.specs.{Number.number_of, declared.number.NumberFault.NumberFault}
+use Rattle.flow_word.specs.{Number.number_written, declared.number.NumberFault.NumberFault}
 use Rattle.cli_words.specs.{declared.Command.Command, declared.rules.CommandName.CommandName}
 use Rattle.cli_words.specs.CommandWords.{Key, Cycles, Ops, Slack, Arguments, Text, Word, End, Events, Polls, Large, Lone, Takes, Has}
 use Rattle.cli_words.specs.CommandWords.{Positional, Unknown, after_word, command_by, command_named, command_of, limit_in, name_of}
@@ -19,7 +19,7 @@ is_written (Err fault) = false
 -- the value is a number, if one is given
 abbrev is_number : Option Text → Bool
 is_number None = true
-is_number (Some text) = is_written (number_of text)
+is_number (Some text) = is_written (number_written text)
 
 -- the values of the options are numbers, in bounds or not
 abbrev pub has_values : Arguments → Bool

@@ -4,7 +4,7 @@ use Rattle.std.specs.Prelude.{Err, codes, if◌then◌else◌, IfSome, is_some, 
 use Rattle.std.specs.{List.after_first, List.before_first, List.list_any, Str.bytes_eq}
 use Rattle.flow_design.specs.{Limits.limits_at, declared.limits.Scale.Scale}
 use Rattle.flow_design.specs.declared.limits.Scale.TheVariants as scales
-use Rattle.flow_word.specs.{Number.number_of, declared.number.NumberFault.NumberFault}
+use Rattle.flow_word.specs.{Number.number_written, declared.number.NumberFault.NumberFault}
 use Rattle.cli_words.specs.{declared.Command.Command, declared.Command.TheVariants.Of, declared.Command.TheVariants.Gen}
 use Rattle.cli_words.specs.{declared.Options.Options, declared.Task.Task, declared.View.View, declared.rules.CommandName.CommandName}
 use Rattle.cli_words.specs.declared.Simulator.TheVariants.{Threads, Alone, Clock}
@@ -153,7 +153,7 @@ in_bounds low high (Err fault) = None
 
 -- the number that a text of digits writes, if it is within the bounds
 abbrev pub number_in : ℕ → ℕ → Text → Option ℕ
-number_in low high text = in_bounds low high (number_of text)
+number_in low high text = in_bounds low high (number_written text)
 
 -- the value of a limit, which need not be given; none where it is given and is no number from 1 to `high`
 abbrev pub limit_in : ℕ → Option Text → Option (Option ℕ)
@@ -304,17 +304,17 @@ abbrev pub AreLimits : Scale → Options → Type 0
 AreLimits scale options = IsLimit (10 ^ 15) options.cycles × IsLimit (limits_at scale).counted_operations options.ops
 
 -- the numbers of a task are within their bounds at this scale
-abbrev pub IsSound : Scale → Task → Type 0
-IsSound scale (Simulate by options) = AreLimits scale options
-IsSound scale Check = Unit {0}
-IsSound scale (Advise options) = AreLimits scale options
-IsSound scale (Show view options) = AreLimits scale options
-IsSound scale Order = Unit {0}
-IsSound scale (Sweep lo hi options) = (1 ≤ lo) × (lo ≤ hi) × (hi ≤ 64) × AreLimits scale options
-IsSound scale (Size slack options) = (slack ≤ 10 ^ 15) × AreLimits scale options
-IsSound scale (Least slack options) = (slack ≤ 10 ^ 15) × AreLimits scale options
+abbrev pub IsWithinBounds : Scale → Task → Type 0
+IsWithinBounds scale (Simulate by options) = AreLimits scale options
+IsWithinBounds scale Check = Unit {0}
+IsWithinBounds scale (Advise options) = AreLimits scale options
+IsWithinBounds scale (Show view options) = AreLimits scale options
+IsWithinBounds scale Order = Unit {0}
+IsWithinBounds scale (Sweep lo hi options) = (1 ≤ lo) × (lo ≤ hi) × (hi ≤ 64) × AreLimits scale options
+IsWithinBounds scale (Size slack options) = (slack ≤ 10 ^ 15) × AreLimits scale options
+IsWithinBounds scale (Least slack options) = (slack ≤ 10 ^ 15) × AreLimits scale options
 
 -- the numbers of a command are within their bounds
 abbrev pub IsInRange : Command → Type 0
-IsInRange (Of asked) = IsSound asked.scale asked.task
+IsInRange (Of asked) = IsWithinBounds asked.scale asked.task
 IsInRange (Gen seed modules) = (seed ≤ 65_535) × (1 ≤ modules) × (modules ≤ 64)

@@ -14,17 +14,20 @@ use Rattle.lockstep_defs.proofs.Settled.{state-suc, history-zero, history-suc, s
 use Rattle.lockstep_defs.proofs.Settled.{history_stays}
 use Rattle.module_code.specs.declared.code.BlockCode.{BlockCode}
 use Rattle.clock_machine.specs.{declared.run.Run.Run, declared.seat.Seat.Seat, declared.seat.Traffic.Traffic, Clocks.step_at}
-use Rattle.clock_machine.specs.{Clocks.does_move, Parts.kept, Parts.AreFit, Parts.AreFitInTime, Runs.HasCome, Seats.IsSeated, Seats.no_seat}
+use Rattle.clock_machine.specs.{Clocks.does_move, Runs.HasCome, Seats.IsSeated, Seats.no_seat}
+use Rattle.clock_machine.specs.Parts.{events_kept, AreFit, AreFitInTime}
 use Rattle.clock_machine.proofs.{Fronts.some_at, Kept.kept-append, Sleeping.awake, Sleeping.sleeping, Sleeping.seated_state}
 
 -- ---- the next clock
 
-pub events_next : (p : Plan) (keep : Bool) (clock : ℕ) (before now : List EventLine) → before ≡ kept keep (events_of (history p clock))
-    → now ≡ before ++ kept keep (events_of (steps_in p clock (state p clock))) → now ≡ kept keep (events_of (history p (clock + 1)))
+pub events_next : (p : Plan) (keep : Bool) (clock : ℕ) (before now : List EventLine)
+    → before ≡ events_kept keep (events_of (history p clock))
+    → now ≡ before ++ events_kept keep (events_of (steps_in p clock (state p clock)))
+    → now ≡ events_kept keep (events_of (history p (clock + 1)))
 events_next p keep clock before now e f = rw (add-one, history-suc)
-    (f ∙ (ap (λ (es : List EventLine). es ++ kept keep (events_of (steps_in p clock (state p clock)))) e
+    (f ∙ (ap (λ (es : List EventLine). es ++ events_kept keep (events_of (steps_in p clock (state p clock)))) e
     ∙ (sym (kept-append keep (events_of (history p clock)) (events_of (steps_in p clock (state p clock))))
-    ∙ ap (kept keep) (sym (flat_map-append _ (history p clock) (steps_in p clock (state p clock)))))))
+    ∙ ap (events_kept keep) (sym (flat_map-append _ (history p clock) (steps_in p clock (state p clock)))))))
 
 pub answers_next : (p : Plan) (clock i : ℕ) (before now : List Bool) → i < length p.design.modules
     → before ≡ outcomes (steps_of i (history p clock)) → now ≡ before ++ outcomes (step_at p clock i)
@@ -166,7 +169,7 @@ first_state : (p : Plan) → state p 0 ≡ opening p
 unfolding moment
 first_state p = refl
 
-no_events : (keep : Bool) (p : Plan) → [] ≡ kept keep (events_of (history p 0))
+no_events : (keep : Bool) (p : Plan) → [] ≡ events_kept keep (events_of (history p 0))
 no_events true p = ap events_of (sym (history-zero p))
 no_events false p = refl
 

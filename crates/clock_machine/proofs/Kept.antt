@@ -3,14 +3,14 @@ use Rattle.std.proofs.Common.{◌≡◌, ◌++◌, List, Bool, true, false, refl
 use Rattle.flow_design.specs.{declared.plan.Plan.Plan, declared.report.EventLine.EventLine, declared.report.Report.Report}
 use Rattle.flow_design.specs.{declared.report.Verdict.Verdict, declared.state.ClockState.ClockState}
 use Rattle.lockstep_defs.specs.Report.{report}
-use Rattle.clock_machine.specs.Parts.{kept, report_from}
+use Rattle.clock_machine.specs.Parts.{events_kept, report_from}
 
-pub kept-append : (keep : Bool) (xs ys : List EventLine) → kept keep (xs ++ ys) ≡ kept keep xs ++ kept keep ys
+pub kept-append : (keep : Bool) (xs ys : List EventLine) → events_kept keep (xs ++ ys) ≡ events_kept keep xs ++ events_kept keep ys
 kept-append true xs ys = refl
 kept-append false xs ys = refl
 
 -- a report from the kept events is the plan's with these
 pub kept_report : (keep : Bool) (p : Plan) (v : Verdict) (st : ClockState) (events : List EventLine) (answers : List (List Bool))
     → report p ≡ report_from p v st events answers
-    → report_from p v st (kept keep events) answers ≡ record (report p) { events = kept keep (report p).events }
-kept_report keep p v st events answers e = ap (λ (r : Report). record r { events = kept keep r.events }) (sym e)
+    → report_from p v st (events_kept keep events) answers ≡ record (report p) { events = events_kept keep (report p).events }
+kept_report keep p v st events answers e = ap (λ (r : Report). record r { events = events_kept keep r.events }) (sym e)

@@ -14,7 +14,7 @@ use Rattle.block_schedule.specs.{Schedules.KeepsLimits, Work.StandsIn, Work.IsNe
 use Rattle.module_code.specs.{Moves.ticked_to, Moves.gone_on, Sound.IsStateSound, declared.code.BlockCode.BlockCode}
 use Rattle.module_interp.proofs.Idle.{IsIdle, skip_on, never_rests}
 use Rattle.clock_machine.specs.{declared.seat.Seat.Seat, Clocks.does_move}
-use Rattle.clock_machine.specs.Seats.{asleep, IsKnown, IsSeated, IsQuiet, FallsAsleep}
+use Rattle.clock_machine.specs.Seats.{asleep, IsKnown, IsSeated, MovesQuietly, FallsAsleep}
 use Rattle.clock_machine.proofs.Moving.{moves_by_stalls}
 
 -- ---- what a module does in a clock
@@ -40,7 +40,7 @@ asks_nothing p clock i contents s e =
     let parts = or_parts (is_over p.ops s) (is_some_request (requests_of p (i, s))) e in
     rw (parts.0, no_requests (requests_of p (i, s)) parts.1) refl
 
-pub quiet_move : (p : Plan) (clock i : ℕ) → i < length p.design.modules → rests p i (state_at p clock i) ≡ false → IsQuiet p clock i
+pub quiet_move : (p : Plan) (clock i : ℕ) → i < length p.design.modules → rests p i (state_at p clock i) ≡ false → MovesQuietly p clock i
 quiet_move p clock i h e =
     let s = state_at p clock i in
     let parts = or_parts (is_over p.ops s) (is_some_request (requests_of p (i, s))) e in
@@ -65,7 +65,7 @@ awake p clock i s seat h l =
 -- a module that sleeps moves, and does nothing
 pub sleeping : (p : Plan) {codes : List (List BlockCode)} (clock i : ℕ) (s : ModuleState) (seat : Seat) → i < length p.design.modules
     → IsSeated p codes clock i s seat
-    → clock < seat.wakes → IsQuiet p clock i
+    → clock < seat.wakes → MovesQuietly p clock i
 sleeping p clock i s seat h is l = quiet_move p clock i h (is.quiet 0 (omega arith))
 
 -- and sleeps on

@@ -12,7 +12,7 @@ use Rattle.lockstep_defs.specs.Lockstep.{requests_of, answered, step_with, conte
 use Rattle.lockstep_defs.specs.Report.{outcomes, event_of, events_of}
 use Rattle.clock_machine.specs.{declared.seat.Pushed.Pushed, declared.seat.Round.Round, declared.seat.Traffic.Traffic}
 use Rattle.clock_machine.specs.Clocks.{does_move, step_at, HasMoved, HasDone}
-use Rattle.clock_machine.specs.Parts.{exchanges_in, event_by, kept, outcomes_in, popped, pushed, after_pops, after_pushes}
+use Rattle.clock_machine.specs.Parts.{exchanges_in, event_by, events_kept, outcomes_in, popped, pushed, after_pops, after_pushes}
 use Rattle.clock_machine.proofs.{Kept.kept-append, Listed.popped_adds, Listed.pushed_adds, Listed.popped_at, Listed.pushed_at, Queues.twice}
 
 -- ---- one step
@@ -53,7 +53,7 @@ pub done_more : (keep : Bool) (old now next : Round) (steps more : List HistoryS
     → HasDone keep old next (steps ++ more)
 done_more keep old now next steps more a b = record {
   traffic = moved_more old.traffic now.traffic next.traffic steps more a.traffic b.traffic;
-  events = joined (λ ss. kept keep (events_of ss)) (λ xs ys. ap (kept keep) (flat_map-append _ xs ys)
+  events = joined (λ ss. events_kept keep (events_of ss)) (λ xs ys. ap (events_kept keep) (flat_map-append _ xs ys)
       ∙ kept-append keep (events_of xs) (events_of ys)) old.events now.events next.events steps more a.events b.events;
 }
 
@@ -92,7 +92,7 @@ given_outcomes p clock i contents asked goes before now h e =
     given outcomes_in outcomes p clock i (λ xs. sym (outcomes_in_step clock i xs)) refl contents asked goes before now h.holding h.asked_is
     h.goes_is e
 
-kept_none : (keep : Bool) → kept keep [] ≡ []
+kept_none : (keep : Bool) → events_kept keep [] ≡ []
 kept_none true = refl
 kept_none false = refl
 
@@ -115,7 +115,7 @@ pub given_done : (p : Plan) (clock i : ℕ) (contents : List (List Element)) (as
     → IsAnswered p clock i contents asked goes
     → now.traffic.pops ≡ before.traffic.pops ++ cond goes (popped (map (answered p clock contents) asked)) []
     → now.traffic.pushes ≡ before.traffic.pushes ++ cond goes (pushed (map (answered p clock contents) asked)) []
-    → now.events ≡ before.events ++ cond goes (kept keep (map (event_by clock i) asked)) []
+    → now.events ≡ before.events ++ cond goes (events_kept keep (map (event_by clock i) asked)) []
     → HasDone keep before now (step_at p clock i)
 given_done p clock i contents asked goes keep before now h pops pushes events = record {
   traffic = record {
@@ -124,10 +124,11 @@ given_done p clock i contents asked goes keep before now h pops pushes events = 
     pushes = given pushed (λ ss. pushed (exchanges_in ss)) p clock i (λ xs. ap pushed (sym (operations_in_step clock i xs))) refl contents
         asked goes before.traffic.pushes now.traffic.pushes h.holding h.asked_is h.goes_is pushes;
   };
-  events = given (λ xs. kept keep (map (λ x. event_by clock i x.request) xs)) (λ ss. kept keep (events_of ss)) p clock i
-      (λ xs. ap (kept keep) (sym (events_in_step clock i xs))) (kept_none keep) contents asked goes before.events now.events h.holding
+  events = given (λ xs. events_kept keep (map (λ x. event_by clock i x.request) xs)) (λ ss. events_kept keep (events_of ss)) p clock i
+      (λ xs. ap (events_kept keep) (sym (events_in_step clock i xs)))
+      (kept_none keep) contents asked goes before.events now.events h.holding
       h.asked_is h.goes_is
-      (events ∙ ap (λ (es : List EventLine). before.events ++ cond goes (kept keep es) []) (asked_events p clock i contents asked));
+      (events ∙ ap (λ (es : List EventLine). before.events ++ cond goes (events_kept keep es) []) (asked_events p clock i contents asked));
 }
 
 -- ---- what they leave in the channels

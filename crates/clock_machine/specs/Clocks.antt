@@ -2,13 +2,14 @@
 use Rattle.std.specs.Prelude.{◌≡◌, ℕ, ◌≤◌, Bool, List, ◌++◌}
 use Rattle.flow_design.specs.{declared.plan.Plan.Plan, declared.state.Element.Element, StaticRules.FitsEngine}
 use Rattle.flow_design.specs.declared.state.ModuleState.{ModuleState}
-use Rattle.lockstep_defs.specs.{Channels.HistoryStep, Lockstep.state, Lockstep.state_at, Lockstep.moves, Lockstep.step_of, Report.events_of}
+use Rattle.lockstep_defs.specs.{Channels.HistoryStep, Report.events_of}
+use Rattle.lockstep_defs.specs.Lockstep.{state, state_at, moves, module_step}
 use Rattle.module_code.specs.declared.code.BlockCode.{BlockCode}
 use Rattle.clock_machine.specs.{declared.seat.Round.Round, declared.seat.Traffic.Traffic}
-use Rattle.clock_machine.specs.Parts.{exchanges_in, popped, pushed, kept, AreFitInTime, AreCodes}
+use Rattle.clock_machine.specs.Parts.{exchanges_in, popped, pushed, events_kept, AreFitInTime, AreCodes}
 
 -- the engine takes the plan, this is the plan's code, and its modules can come to these states
-pub record Stands (p : Plan) (codes : List (List BlockCode)) (states : List ModuleState) : Type 0 where
+pub record MachineStands (p : Plan) (codes : List (List BlockCode)) (states : List ModuleState) : Type 0 where
   pub fits : FitsEngine p
   pub made : AreCodes p codes
   pub fit : AreFitInTime p states
@@ -26,7 +27,7 @@ does_move p clock i = moves p clock (state p clock).contents (i, state_at p cloc
 
 -- the step of module i in a clock; none where it does no FIFO operation
 abbrev pub step_at : Plan → ℕ → ℕ → List HistoryStep
-step_at p clock i = step_of p clock (state p clock).contents (i, state_at p clock i)
+step_at p clock i = module_step p clock (state p clock).contents (i, state_at p clock i)
 
 -- what these steps pop and push was added to the traffic
 pub record HasMoved (old new : Traffic) (steps : List HistoryStep) : Type 0 where
@@ -36,4 +37,4 @@ pub record HasMoved (old new : Traffic) (steps : List HistoryStep) : Type 0 wher
 -- what these steps pop and push was added to the traffic, and their events were added where events are kept
 pub record HasDone (keep : Bool) (old new : Round) (steps : List HistoryStep) : Type 0 where
   pub traffic : HasMoved old.traffic new.traffic steps
-  pub events : new.events ≡ old.events ++ kept keep (events_of steps)
+  pub events : new.events ≡ old.events ++ events_kept keep (events_of steps)

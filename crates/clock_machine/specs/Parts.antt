@@ -25,8 +25,8 @@ abbrev pub event_by : ℕ → ℕ → Request → EventLine
 event_by clock i r = record { «module» = i; kind = r.kind; channel = r.channel; cycle = clock }
 
 -- these events where events are kept, else none
-abbrev pub kept : Bool → List EventLine → List EventLine
-kept keep events = if keep then events else []
+abbrev pub events_kept : Bool → List EventLine → List EventLine
+events_kept keep events = if keep then events else []
 
 -- ---- what the operations leave in the channels
 

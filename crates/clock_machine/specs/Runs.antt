@@ -3,7 +3,7 @@ use Rattle.std.specs.Prelude.{◌≡◌, ◌<◌, ℕ, Bool, List, [], length, s
 use Rattle.flow_design.specs.declared.plan.Plan.{Plan}
 use Rattle.module_code.specs.declared.code.BlockCode.{BlockCode}
 use Rattle.lockstep_defs.specs.{Lockstep.state, Lockstep.history, Report.steps_of, Report.outcomes, Report.events_of}
-use Rattle.clock_machine.specs.{declared.run.Run.Run, Parts.kept, Seats.AreSeated}
+use Rattle.clock_machine.specs.{declared.run.Run.Run, Parts.events_kept, Seats.AreSeated}
 
 -- a run is at a clock: its modules are kept as of that clock, the channels hold what they hold then, and all that was done before
 -- is collected
@@ -12,6 +12,6 @@ pub record HasCome (p : Plan) (codes : List (List BlockCode)) (keep : Bool) (clo
   pub holding : run.state.contents ≡ (state p clock).contents
   pub no_pops : run.round.traffic.pops ≡ []
   pub no_pushes : run.round.traffic.pushes ≡ []
-  pub events : run.round.events ≡ kept keep (events_of (history p clock))
+  pub events : run.round.events ≡ events_kept keep (events_of (history p clock))
   pub answer_count : length run.answers ≡ length p.design.modules
   pub answers : (i : ℕ) → i < length p.design.modules → slice_index_or run.answers i [] ≡ outcomes (steps_of i (history p clock))

@@ -11,12 +11,12 @@ abbrev pub no_seat : Seat
 no_seat = record { wakes = 0; known = false; place = 0; notes = no_notes; requests = [] }
 
 -- the code of the block in which a module stands, with a default
-abbrev pub code_of : List (List BlockCode) → ℕ × ModuleState → BlockCode → BlockCode
-code_of codes m d = slice_index_or (slice_index_or codes m.0 []) (m.1).control.block d
+abbrev pub code_of_block : List (List BlockCode) → ℕ × ModuleState → BlockCode → BlockCode
+code_of_block codes m d = slice_index_or (slice_index_or codes m.0 []) (m.1).control.block d
 
 -- what a seat says to be known of a module is right: the notes, by the module's code, and the requests of what is due
 pub record IsKnown (p : Plan) (codes : List (List BlockCode)) (m : ℕ × ModuleState) (seat : Seat) : Type 0 where
-  pub noted : seat.known ≡ true → (d : BlockCode) → AreNotesOf (module_at p m.0) m.1 (code_of codes m d) seat.notes
+  pub noted : seat.known ≡ true → (d : BlockCode) → AreNotesOf (module_at p m.0) m.1 (code_of_block codes m d) seat.notes
   pub requests : seat.known ≡ true → seat.requests ≡ requests_of p m
 
 -- how many clocks a module still sleeps from this one on
@@ -38,7 +38,7 @@ pub record AreSeated (p : Plan) (codes : List (List BlockCode)) (clock : ℕ) (s
       → IsSeated p codes clock i (slice_index_or states i nobody) (slice_index_or seats i no_seat)
 
 -- module i moves in a clock without asking for anything
-pub record IsQuiet (p : Plan) (clock i : ℕ) : Type 0 where
+pub record MovesQuietly (p : Plan) (clock i : ℕ) : Type 0 where
   pub moving : does_move p clock i ≡ true
   pub state : state_at p (clock + 1) i ≡ move (module_at p i) (state_at p clock i) []
   pub step : step_at p clock i ≡ []
@@ -46,4 +46,4 @@ pub record IsQuiet (p : Plan) (clock i : ℕ) : Type 0 where
 -- module i moves in a clock without asking for anything, and is kept as of the next one
 pub record FallsAsleep (p : Plan) (codes : List (List BlockCode)) (clock i : ℕ) (state : ModuleState) (seat : Seat) : Type 0 where
   pub seated : IsSeated p codes (clock + 1) i state seat
-  pub quiet : IsQuiet p clock i
+  pub quiet : MovesQuietly p clock i

@@ -4,7 +4,7 @@ ghost use Rattle.flow_design.specs.{StaticRules.FitsEngine, Module.block_of};
 ghost use Rattle.lockstep_defs.specs.{Machine.is_over, Machine.nobody, Machine.requests, Channels.all_ready};
 ghost use Rattle.lockstep_defs.specs.Lockstep.{module_at, moves, state_at};
 ghost use Rattle.module_code.specs.{declared.code.BlockCode.BlockCode as CodeOf, Codes.IsBlockCodeOf, Sound.AreNotesOf, Sound.IsStateSound};
-ghost use Rattle.clock_machine.specs.{Parts.AreCodes, Seats.code_of, Seats.IsKnown, Seats.IsSeated, Clocks.Runs};
+ghost use Rattle.clock_machine.specs.{Parts.AreCodes, Seats.code_of_block, Seats.IsKnown, Seats.IsSeated, Clocks.Runs};
 
 use crate::channels::any_stalls_ever;
 use crate::seat::Seat;
@@ -39,7 +39,7 @@ pub fn code_at<'a>(of: &Compiled<'a>, i: usize, state: &ModuleState) -> &'a Bloc
     requires block { state.now.control.block < length (module_at of.now.plan.now i).blocks }
     ensures own { IsBlockCodeOf of.now.plan.now.design.channels (module_at of.now.plan.now i)
         (block_of (module_at of.now.plan.now i) state.now) result.now }
-    ensures code { (d : CodeOf) → result.now ≡ code_of of.now.codes.now (i, state.now) d }
+    ensures code { (d : CodeOf) → result.now ≡ code_of_block of.now.codes.now (i, state.now) d }
 {
     let own = &of.codes[i];
     &own.as_slice()[state.control.block as usize]
@@ -62,7 +62,7 @@ pub fn note_one(
     requires sound { IsStateSound (module_at of.now.plan.now i) state.now }
     requires small { state.now.control.clock < 2 ^ 60 }
     ensures noted { OnOk result ((d : CodeOf)
-        → AreNotesOf (module_at of.now.plan.now i) state.now (code_of of.now.codes.now (i, state.now) d) notes.new) }
+        → AreNotesOf (module_at of.now.plan.now i) state.now (code_of_block of.now.codes.now (i, state.now) d) notes.new) }
     ensures asked { OnOk result (asked.new ≡ requests of.now.plan.now.design.channels (module_at of.now.plan.now i) state.now) }
 {
     note(

@@ -3,7 +3,7 @@ ghost use Rattle.std.specs.Prelude.{◌≡◌, ◌++◌, ◌∷◌, true, false,
 ghost use Rattle.std.specs.Prelude.{is_some, IfOk, OnOk};
 ghost use Rattle.std.specs.List.{list_any};
 ghost use Rattle.flow_design.specs.{Plans.is_fifo, Plans.kind_at, Plans.delay_at, declared.state.Reply.TheVariants.Flag};
-ghost use Rattle.lockstep_defs.specs.Channels.{contents_of, front, is_empty, all_ready, is_full, is_possible, stalls, reply};
+ghost use Rattle.lockstep_defs.specs.Channels.{contents_of, front, is_empty, all_ready, is_full, can_take, stalls, reply};
 ghost use Rattle.lockstep_defs.specs.Lockstep.{answered};
 ghost use Rattle.clock_machine.specs.Parts.{outcomes_in, popped, pushed};
 
@@ -110,7 +110,7 @@ fn is_full(plan: &Plan, contents: &[Queue<Element>], channel: u32) -> bool
 /// Whether a channel has, in this clock, an element to pop, or a place for a push, by the given side.
 #[inline(always)]
 fn is_possible(at: &Standing<'_>, side: Side, channel: u32) -> bool
-    ensures { result ≡ is_possible at.now.of.now.plan.now at.now.clock at.now.contents.now side channel }
+    ensures { result ≡ can_take at.now.of.now.plan.now at.now.clock at.now.contents.now side channel }
 {
     match side {
         Side::Pop => !is_empty(at.clock, at.contents, channel),
@@ -130,7 +130,7 @@ pub fn stalls(at: &Standing<'_>, request: &Request) -> bool
 /// Whether a channel would have an element to pop, or a place for a push, if every element could be popped. No clock matters for
 /// this.
 fn is_possible_ever(plan: &Plan, contents: &[Queue<Element>], side: Side, channel: u32) -> bool
-    ensures { result ≡ is_possible plan.now 0 (all_ready contents.now) side channel }
+    ensures { result ≡ can_take plan.now 0 (all_ready contents.now) side channel }
 {
     match side {
         Side::Pop => 0 < held(contents, channel),

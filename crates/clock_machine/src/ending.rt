@@ -5,8 +5,8 @@ ghost use Rattle.flow_design.specs.{StaticRules.FitsEngine, Plans.kind_at, Plans
 ghost use Rattle.flow_design.specs.declared.state.ClockState.{ClockState as StateOf};
 ghost use Rattle.lockstep_defs.specs.{Machine.is_spent, Machine.nobody, Report.sinks, Report.outputs_in};
 ghost use Rattle.lockstep_defs.specs.Channels.{stalls, all_ready, values, contents_of};
-ghost use Rattle.lockstep_defs.specs.Verdict.{settled_verdict, held_at, held_by, held_in, held};
-ghost use Rattle.clock_machine.specs.{Parts.AreFitInTime, Parts.AreCodes, Parts.report_from, Clocks.Stands};
+ghost use Rattle.lockstep_defs.specs.Verdict.{settled_verdict, held_at, held_by, held_modules, held};
+ghost use Rattle.clock_machine.specs.{Parts.AreFitInTime, Parts.AreCodes, Parts.report_from, Clocks.MachineStands};
 
 use crate::asking::{note_one, state_at};
 use crate::channels::stalls_ever;
@@ -141,7 +141,7 @@ fn hold_all(alloc: Global, of: &Compiled<'_>, state: &ClockState) -> Result<List
     requires fits { FitsEngine of.now.plan.now }
     requires codes { AreCodes of.now.plan.now of.now.codes.now }
     requires fit { AreFitInTime of.now.plan.now state.now.modules }
-    ensures { IfOk result (λ list. (clock : ℕ) → list ≡ held_in of.now.plan.now clock state.now) }
+    ensures { IfOk result (λ list. (clock : ℕ) → list ≡ held_modules of.now.plan.now clock state.now) }
 {
     let mut held = List::new(alloc);
     let mut room = Room::new(alloc);
@@ -159,7 +159,7 @@ fn held_with(
     verdict: Verdict,
     state: &ClockState,
 ) -> Result<List<Held>, OutOfMemory>
-    requires { Stands of.now.plan.now of.now.codes.now state.now.modules }
+    requires { MachineStands of.now.plan.now of.now.codes.now state.now.modules }
     ensures { IfOk result (λ list. list ≡ held of.now.plan.now verdict state.now) }
 {
     match verdict {
@@ -278,7 +278,7 @@ pub fn settled_report(
     mut state: ClockState,
     told: Told,
 ) -> Result<Report, OutOfMemory>
-    requires { Stands of.now.plan.now of.now.codes.now state.modules }
+    requires { MachineStands of.now.plan.now of.now.codes.now state.modules }
     ensures { IfOk result (λ report. report
         ≡ report_from of.now.plan.now (settled_verdict of.now.plan.now clock state) state told.events told.answers) }
 {

@@ -4,7 +4,7 @@ ghost use Rattle.flow_design.specs.{StaticRules.FitsEngine, declared.report.Verd
 ghost use Rattle.flow_design.specs.declared.state.ClockState.{ClockState as StateOf};
 ghost use Rattle.lockstep_defs.specs.{Lockstep.state, Verdict.some_moves, Verdict.is_settled, Verdict.settled_verdict, Report.report};
 ghost use Rattle.module_code.specs.declared.code.BlockCode.{BlockCode as CodeOf};
-ghost use Rattle.clock_machine.specs.{Parts.kept, Parts.report_from, Parts.AreCodes, Clocks.Stands, Runs.HasCome};
+ghost use Rattle.clock_machine.specs.{Parts.events_kept, Parts.report_from, Parts.AreCodes, Clocks.MachineStands, Runs.HasCome};
 
 use crate::contents::{pop_all, push_all};
 use crate::ending::{Told, limit_report, settled_report};
@@ -142,7 +142,7 @@ fn go_on(
 
 /// The report of a run that has come to a settled clock.
 fn settle(alloc: Global, of: &Compiled<'_>, clock: u64, run: Run) -> Result<Report, OutOfMemory>
-    requires { Stands of.now.plan.now of.now.codes.now run.state.modules }
+    requires { MachineStands of.now.plan.now of.now.codes.now run.state.modules }
     ensures { IfOk result (λ r. r
         ≡ report_from of.now.plan.now (settled_verdict of.now.plan.now clock run.state) run.state run.round.events run.answers) }
 {
@@ -189,7 +189,7 @@ pub fn clock_run_by(
 ) -> Result<Report, OutOfMemory>
     requires fits { FitsEngine plan.now }
     requires codes { AreCodes plan.now codes.now }
-    ensures { IfOk result (λ r. r ≡ record (report plan.now) { events = kept keep (report plan.now).events }) }
+    ensures { IfOk result (λ r. r ≡ record (report plan.now) { events = events_kept keep (report plan.now).events }) }
 {
     let of = Compiled { plan, codes };
     let mut run = open_run(alloc, plan)?;

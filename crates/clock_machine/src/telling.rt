@@ -1,6 +1,6 @@
 //! The events that a clock adds.
 ghost use Rattle.std.specs.Prelude.{◌≡◌, ◌<◌, ◌^◌, ◌++◌, map, OnOk};
-ghost use Rattle.clock_machine.specs.Parts.{event_by, kept};
+ghost use Rattle.clock_machine.specs.Parts.{event_by, events_kept};
 
 use crate::standing::Standing;
 use flow_design::{EventLine, Request};
@@ -35,7 +35,7 @@ pub fn tell_kept_events(
     events: &mut List<EventLine>,
 ) -> Result<(), OutOfMemory>
     requires few { i < 2 ^ 32 }
-    ensures { OnOk result (events.new ≡ events.old ++ kept at.now.keep (map (event_by at.now.clock i) requests.now)) }
+    ensures { OnOk result (events.new ≡ events.old ++ events_kept at.now.keep (map (event_by at.now.clock i) requests.now)) }
 {
     if at.keep {
         tell_events(events, at.clock, i as u32, requests)?;

@@ -8,12 +8,12 @@ use Rattle.event_timing.specs.{Machines.Access, Machines.Design, Views.first_acc
 use Rattle.event_timing.specs.Enablers.{Known, all_decided, both, bound, candidate, known_of}
 use Rattle.event_timing.specs.Core.{Core, all_below, core_accesses, core_tally, core_values, has_query, pops_now, view}
 use Rattle.event_timing.specs.Permitted.{decides, has_replies, is_determined, is_open, is_quiet, is_open_before, may_answer, may_assign}
-use Rattle.event_timing.specs.Permitted.{may_earliest, may_run, no_module}
+use Rattle.event_timing.specs.Permitted.{may_earliest, may_run, passes_no_module}
 use Rattle.event_timing.proofs.Candidate.{candidate_parts}
 use Rattle.core_actions.specs.declared.actions.Action.TheVariants.{Run, Assign, Answer, Earliest}
 use Rattle.core_actions.specs.declared.actions.Cause.{Cause}
-use Rattle.core_actions.specs.Causes.{cause_of, cycle_causes, first_module, first_some, has_clock, is_busy, is_earlier, is_held}
-use Rattle.core_actions.specs.Causes.{is_undecided, is_unverified, later, open_causes, waiting}
+use Rattle.core_actions.specs.Causes.{cause_of, cycle_causes, first_passing, first_some, has_clock, is_busy, is_earlier, is_held}
+use Rattle.core_actions.specs.Causes.{is_undecided, is_unverified, later, open_causes, waiting_cause}
 use Rattle.core_actions.specs.declared.actions.Cause.TheVariants as cause
 use Rattle.core_actions.proofs.Firsts as firsts
 
@@ -87,7 +87,7 @@ module _ {S : Type 0} (d : Design S) (limit : ℕ) (x : Core S) (m : ℕ) where
   -- and what permits each action
   waits_none : (n : ℕ) → ((k : ℕ) → suc k ≡ n → FlagsFit (core_accesses d x m k) (x.flags m k))
       → ((k : ℕ) → suc k ≡ n → has_query (core_accesses d x m k) ≡ false → x.answered m k ≡ true)
-      → is_none (waiting d x m n) ≡ has_replies d x m n
+      → is_none (waiting_cause d x m n) ≡ has_replies d x m n
   waits_none zero fit plain = refl
   waits_none (suc k) fit plain =
       let none = lacks_none (λ c. length (core_values d x c)) (λ c. core_tally d x m Pop c k) (x.answered m k) (core_accesses d x m k)
@@ -120,36 +120,37 @@ module _ {S : Type 0} (d : Design S) (limit : ℕ) (x : Core S) (m : ℕ) where
 
 -- ---- an Earliest
 
-none_passes : (test : ℕ → Bool) (n : ℕ) → no_module test n ≡ true → (k : ℕ) → k < n → test k ≡ false
-unfolding no_module
+none_passes : (test : ℕ → Bool) (n : ℕ) → passes_no_module test n ≡ true → (k : ℕ) → k < n → test k ≡ false
+unfolding passes_no_module
 none_passes test zero e k l = absurd (omega arith)
 none_passes test (suc n) e k l =
     elim (cases_eq k n) [ inl same ↦ rw same (grind arith) | inr other ↦ none_passes test n (grind arith) k (omega arith) ]
 
-none_found : (test : ℕ → Bool) (n : ℕ) → ((k : ℕ) → k < n → test k ≡ false) → no_module test n ≡ true
-unfolding no_module
+none_found : (test : ℕ → Bool) (n : ℕ) → ((k : ℕ) → k < n → test k ≡ false) → passes_no_module test n ≡ true
+unfolding passes_no_module
 none_found test zero f = refl
 none_found test (suc n) f =
     let last = f n (omega arith) in
     let others = none_found test n (λ k l. f k (omega arith)) in grind arith
 
-module_none : (test : ℕ → Bool) (n : ℕ) → is_none (position test (range_with_len 0 n)) ≡ no_module test n
+module_none : (test : ℕ → Bool) (n : ℕ) → is_none (position test (range_with_len 0 n)) ≡ passes_no_module test n
 module_none test n =
     let there = λ (e : position test (range_with_len 0 n) ≡ None). none_found test n (firsts.no_module_passes test n e) in
-    let back = λ (e : no_module test n ≡ true). firsts.no_module_found test n (none_passes test n e) in grind arith
+    let back = λ (e : passes_no_module test n ≡ true). firsts.no_module_found test n (none_passes test n e) in grind arith
 
-no_module_or : (f g : ℕ → Bool) (n : ℕ) → no_module (λ k. f k || g k) n ≡ (no_module f n && no_module g n)
-unfolding no_module
+no_module_or : (f g : ℕ → Bool) (n : ℕ) → passes_no_module (λ k. f k || g k) n ≡ (passes_no_module f n && passes_no_module g n)
+unfolding passes_no_module
 no_module_or f g zero = refl
 no_module_or f g (suc n) = let later = no_module_or f g n in grind arith
 
 module _ {S : Type 0} (d : Design S) (limit : ℕ) (x : Core S) where
-  quiet_none : is_none (first_module d (is_busy d limit x)) ≡ is_quiet d limit x
+  quiet_none : is_none (first_passing d (is_busy d limit x)) ≡ is_quiet d limit x
   unfolding is_quiet
   quiet_none =
       module_none (is_busy d limit x) d.modules
       ∙ no_module_or (may_run d x) (λ n. may_assign d limit x n || may_answer d limit x n) d.modules
-      ∙ ap (λ (b : Bool). no_module (may_run d x) d.modules && b) (no_module_or (may_assign d limit x) (may_answer d limit x) d.modules)
+      ∙ ap (λ (b : Bool). passes_no_module (may_run d x) d.modules && b)
+      (no_module_or (may_assign d limit x) (may_answer d limit x) d.modules)
 
   -- whether a module's open step, where it has one, comes before a cycle
   pub open_at : (n c e : ℕ) → candidate d (view d x) n ≡ Some e → None ≡ first_some (open_causes d limit x n)

@@ -20,7 +20,7 @@ use Rattle.engine_view.specs.{Known.as_known, Shown.AreWhole, Shown.IsSound, Sho
 use Rattle.engine_view.proofs.{Knowing.access_known, Emitted.queries_mono, Comparing.queries_cons as queries_first}
 use Rattle.engine_view.proofs.Answered.{queries_step, among_is, among_if}
 use Rattle.run_ahead.specs.Replies.{reply_now, told_by, first_missing, value_now}
-use Rattle.core_actions.specs.Missing.{asks, is_open_query}
+use Rattle.core_actions.specs.Missing.{is_query_access, is_open_query}
 use Rattle.core_actions.specs.Causes.{first_lacking, is_held, is_undecided, is_unverified, lacks_reply}
 use Rattle.core_actions.proofs.Causing.{ArePlain, lacks}
 use Rattle.sim_core.proofs.Finding.{flags_from, some_there}
@@ -58,7 +58,7 @@ pub record IsFirst {S : Type 0} (d : Design S) (h : Held) (m : ℕ) (step : Step
   pub verified : step.first_query < (log_at h.logs m).verified
       → None ≡ position (is_unverified (core_of d h) m) (first_accesses (view d (core_of d h)) m)
   pub unverified : (log_at h.logs m).verified ≤ step.first_query
-      → position asks step.accesses ≡ position (is_unverified (core_of d h) m) (first_accesses (view d (core_of d h)) m)
+      → position is_query_access step.accesses ≡ position (is_unverified (core_of d h) m) (first_accesses (view d (core_of d h)) m)
   pub undecided : position (is_open_query h.lanes h.channels) step.accesses
       ≡ position (is_undecided (known_of d (view d (core_of d h)) m)) (first_accesses (view d (core_of d h)) m)
 
@@ -75,7 +75,7 @@ whole_step h m k n l first w less =
       | inr q ↦ let up = queries_mono h m w.steps k q in omega arith
     ]
 
-no_queries : (xs : List Access) → queries_in xs ≡ 0 → All (λ (a : Access). asks a ≡ false) xs
+no_queries : (xs : List Access) → queries_in xs ≡ 0 → All (λ (a : Access). is_query_access a ≡ false) xs
 no_queries [] e k f l = absurd (omega arith)
 no_queries (a ∷ xs) e zero f l = let more = queries_first a xs in grind arith
 no_queries (a ∷ xs) e (suc k) f l = let more = queries_first a xs in no_queries xs (grind arith) k f (omega arith)
@@ -116,16 +116,16 @@ module _ {S : Type 0} (d : Design S) (h : Held) (s : IsSound d h) where
         (lt-ltb (first_of h m) (emitted_of h m) less) (among_if mine (log_at h.logs m).verified all)
 
     unsure : (log_at h.logs m).verified ≤ mine.first_query
-        → position asks mine.accesses ≡ position (is_unverified (core_of d h) m) (first_accesses (view d (core_of d h)) m)
+        → position is_query_access mine.accesses ≡ position (is_unverified (core_of d h) m) (first_accesses (view d (core_of d h)) m)
     unsure more =
         let accesses = s.accesses m (first_of h m) less in
-        rw accesses (sym (firsts.position_seen (is_unverified (core_of d h) m) asks seen mine.accesses (λ j e q.
+        rw accesses (sym (firsts.position_seen (is_unverified (core_of d h) m) is_query_access seen mine.accesses (λ j e q.
         same (get_or mine.accesses j e) (queries_of j e q))))
       where
         v : Bool
         v = (core_of d h).verified m (first_of h m)
 
-        queries_of : (j : ℕ) (e : Access) → j < length mine.accesses → v ≡ true → asks (get_or mine.accesses j e) ≡ false
+        queries_of : (j : ℕ) (e : Access) → j < length mine.accesses → v ≡ true → is_query_access (get_or mine.accesses j e) ≡ false
         queries_of j e q sure =
             elim (among_is mine (log_at h.logs m).verified (and_parts (ltb (first_of h m) (emitted_of h m))
             (are_among mine (log_at h.logs m).verified) sure).1) [
@@ -133,7 +133,7 @@ module _ {S : Type 0} (d : Design S) (h : Held) (s : IsSound d h) where
               | inr n ↦ no_queries mine.accesses (omega arith) j e q
             ]
 
-        same : (a : Access) → (v ≡ true → asks a ≡ false) → (asks a && not v) ≡ asks a
+        same : (a : Access) → (v ≡ true → is_query_access a ≡ false) → (is_query_access a && not v) ≡ is_query_access a
         same a f = grind arith
 
     pub first_is : (step : Step) → slice_get (lane_at h.lanes m).steps (first_of h m) ≡ Some step → IsFirst d h m step

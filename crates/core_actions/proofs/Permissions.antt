@@ -20,7 +20,8 @@ use Rattle.engine_view.specs.Held.{Held, no_step as empty_step, step_of, emitted
 use Rattle.engine_view.proofs.Bounds.{candidate_is}
 use Rattle.core_actions.specs.{declared.actions.Action.Action, declared.actions.Cause.Cause}
 use Rattle.core_actions.specs.declared.actions.Action.TheVariants.{Run, Assign, Answer, Earliest}
-use Rattle.core_actions.specs.Causes.{IsPermitted, cause_of, cycle_causes, first_place, first_some, is_unverified, module_of, waiting}
+use Rattle.core_actions.specs.Causes.{IsPermitted, cause_of, cycle_causes, first_place, first_some, is_unverified, acting_module}
+use Rattle.core_actions.specs.Causes.{waiting_cause}
 use Rattle.core_actions.specs.declared.actions.Cause.TheVariants as cause
 use Rattle.run_ahead.specs.Replies.{first_missing, value_now}
 use Rattle.sim_core.specs.Views.{CoreView, theory_of}
@@ -57,13 +58,14 @@ module _ (v : CoreView) (fits : FitsEngine v.plan) (sound : IsSound (design v.pl
     pub assign_is : (m : ℕ) → is_none (cause_of d limit x (Assign m)) ≡ may_assign d limit x m
     assign_is m = causing.assign_none d limit x m (looking.are_plain d h sound)
 
-    decided : (a : Action) → module_of a < length v.plan.design.modules → (is_none (cause_of d limit x a) ≡ true) ↔ IsPermitted d limit x a
+    decided : (a : Action) → acting_module a < length v.plan.design.modules
+        → (is_none (cause_of d limit x a) ≡ true) ↔ IsPermitted d limit x a
     decided (Run m) l = rw (run_is m l) (run_decided d x m)
     decided (Assign m) l = rw (assign_is m) (assign_decided d limit x m)
     decided (Answer m) l = rw (causing.answer_none d limit x m) (answer_decided d limit x m)
     decided (Earliest m) l = rw (causing.earliest_none d limit x m) (earliest_decided d limit x agreed.marks.inside m)
 
-    module _ {A : Type 0} (a : Action) (l : module_of a < length v.plan.design.modules) where
+    module _ {A : Type 0} (a : Action) (l : acting_module a < length v.plan.design.modules) where
       pub ok_permitted : (r : Result A Cause) → result_err r ≡ cause_of d limit x a → OnOk r (IsPermitted d limit x a)
       ok_permitted (Ok t) e = (decided a l).0 (ap (λ (o : Option Cause). is_none o) (sym e))
       ok_permitted (Err c) e = tt
@@ -139,11 +141,11 @@ module _ (v : CoreView) (fits : FitsEngine v.plan) (sound : IsSound (design v.pl
       pub waits_at : last ≡ emitted_of h m - 1
           → option_map (cause.Waiting (place_of m last))
           (first_missing (log_at h.logs m).outcomes (value_now h.channels) step.first_query step.accesses)
-          ≡ waiting d x m (emitted_of h m)
+          ≡ waiting_cause d x m (emitted_of h m)
       waits_at e =
           let l = last_within in
           let n : emitted_of h m ≡ suc last = omega arith in
-          sym (ap (waiting d x m) n
+          sym (ap (waiting_cause d x m) n
           ∙ ap (option_map (cause.Waiting (place_of m last)))
           (sym (looking.missing_reply d h sound m last l (let e = sound.logs in omega arith) (let e = sound.lanes in omega arith))
           ∙ ap (λ (t : Step). first_missing (log_at h.logs m).outcomes (value_now h.channels) t.first_query t.accesses) last_is))

@@ -23,11 +23,11 @@ as_theory (Assign m) = theory.Action.Assign m
 as_theory (Answer m) = theory.Action.Answer m
 as_theory (Earliest m) = theory.Action.Earliest m
 
-abbrev pub module_of : Action → ℕ
-module_of (Run m) = m
-module_of (Assign m) = m
-module_of (Answer m) = m
-module_of (Earliest m) = m
+abbrev pub acting_module : Action → ℕ
+acting_module (Run m) = m
+acting_module (Assign m) = m
+acting_module (Answer m) = m
+acting_module (Earliest m) = m
 
 -- the theory permits the action
 abbrev pub IsPermitted : {S : Type 0} → Design S → ℕ → Core S → Action → Type 0
@@ -57,15 +57,15 @@ abbrev pub first_lacking : {S : Type 0} → Design S → Core S → ℕ → ℕ 
 first_lacking {S} d x m k = position (λ p. lacks_reply d x m k p.0 p.1) (zip (core_accesses d x m k) (x.flags m k))
 
 -- the cause that the last of the first n steps of module m lacks a reply
-abbrev pub waiting : {S : Type 0} → Design S → Core S → ℕ → ℕ → Option Cause
-waiting {S} d x m zero = None
-waiting {S} d x m (suc k) = option_map (cause.Waiting (place_of m k)) (first_lacking d x m k)
+abbrev pub waiting_cause : {S : Type 0} → Design S → Core S → ℕ → ℕ → Option Cause
+waiting_cause {S} d x m zero = None
+waiting_cause {S} d x m (suc k) = option_map (cause.Waiting (place_of m k)) (first_lacking d x m k)
 
 abbrev pub over : {S : Type 0} → Core S → ℕ → Option Cause
 over {S} x m = cause_if (x.over m) (cause.Over m)
 
-abbrev pub no_step : {S : Type 0} → Core S → ℕ → Option Cause
-no_step {S} x m = cause_if (not (ltb (x.timed m) (x.emitted m))) (cause.NoStep m)
+abbrev pub no_step_cause : {S : Type 0} → Core S → ℕ → Option Cause
+no_step_cause {S} x m = cause_if (not (ltb (x.timed m) (x.emitted m))) (cause.NoStep m)
 
 -- it is known from which clock on an access is possible; and then, an access blocks, and this is not known
 abbrev pub has_clock : Known → Bool
@@ -105,18 +105,18 @@ undecided {S} d x m =
 abbrev pub no_query : {S : Type 0} → Core S → ℕ → Option Cause
 no_query {S} x m = cause_if (x.verified m (x.timed m)) (cause.NoQuery (first_place x m))
 
-abbrev pub decided : {S : Type 0} → Design S → Core S → ℕ → Option Cause
-decided {S} d x m = cause_if (decides d x m) (cause.Decided (first_place x m))
+abbrev pub decided_cause : {S : Type 0} → Design S → Core S → ℕ → Option Cause
+decided_cause {S} d x m = cause_if (decides d x m) (cause.Decided (first_place x m))
 
 -- the first module that passes the test
-abbrev pub first_module : {S : Type 0} → Design S → (ℕ → Bool) → Option ℕ
-first_module {S} d test = position test (range_with_len 0 d.modules)
+abbrev pub first_passing : {S : Type 0} → Design S → (ℕ → Bool) → Option ℕ
+first_passing {S} d test = position test (range_with_len 0 d.modules)
 
 abbrev pub is_busy : {S : Type 0} → Design S → ℕ → Core S → ℕ → Bool
 is_busy {S} d limit x n = may_run d x n || (may_assign d limit x n || may_answer d limit x n)
 
 abbrev pub busy : {S : Type 0} → Design S → ℕ → Core S → Option Cause
-busy {S} d limit x = option_map cause.Busy (first_module d (is_busy d limit x))
+busy {S} d limit x = option_map cause.Busy (first_passing d (is_busy d limit x))
 
 -- module n has an open step with a lesser cycle than that of module m
 abbrev pub is_earlier : {S : Type 0} → Design S → ℕ → Core S → ℕ → ℕ → Bool
@@ -126,7 +126,7 @@ abbrev pub later_than : {S : Type 0} → Design S → Core S → ℕ → Cause
 later_than {S} d x n = cause.Later n (unwrap_or (candidate d (view d x) n) 0)
 
 abbrev pub later : {S : Type 0} → Design S → ℕ → Core S → ℕ → Option Cause
-later {S} d limit x m = option_map (later_than d x) (first_module d (is_earlier d limit x m))
+later {S} d limit x m = option_map (later_than d x) (first_passing d (is_earlier d limit x m))
 
 -- ---- the first condition that fails
 
@@ -137,15 +137,15 @@ first_some {A} (Some a ∷ rest) = Some a
 
 -- the conditions of a determined step: module m's first step without a cycle has a determined cycle, below the limit
 abbrev pub cycle_causes : {S : Type 0} → Design S → ℕ → Core S → ℕ → List (Option Cause)
-cycle_causes {S} d limit x m = no_step x m ∷ undetermined d x m ∷ at_limit d limit x m ∷ []
+cycle_causes {S} d limit x m = no_step_cause x m ∷ undetermined d x m ∷ at_limit d limit x m ∷ []
 
 -- the conditions of an open step: it is determined, and has queries without a verified outcome of which some are undecided
 abbrev pub open_causes : {S : Type 0} → Design S → ℕ → Core S → ℕ → List (Option Cause)
-open_causes {S} d limit x m = cycle_causes d limit x m ++ no_query x m ∷ decided d x m ∷ []
+open_causes {S} d limit x m = cycle_causes d limit x m ++ no_query x m ∷ decided_cause d x m ∷ []
 
 -- the conditions of each action, in the order in which they are tried
 abbrev pub causes : {S : Type 0} → Design S → ℕ → Core S → Action → List (Option Cause)
-causes {S} d limit x (Run m) = waiting d x m (x.emitted m) ∷ over x m ∷ []
+causes {S} d limit x (Run m) = waiting_cause d x m (x.emitted m) ∷ over x m ∷ []
 causes {S} d limit x (Assign m) = cycle_causes d limit x m ++ unverified d x m ∷ []
 causes {S} d limit x (Answer m) = cycle_causes d limit x m ++ undecided d x m ∷ no_query x m ∷ []
 causes {S} d limit x (Earliest m) = open_causes d limit x m ++ busy d limit x ∷ later d limit x m ∷ []

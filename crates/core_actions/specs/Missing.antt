@@ -7,9 +7,9 @@ use Rattle.engine_view.specs.Known.{as_known}
 use Rattle.flow_word.specs.{declared.access.Access.Access, Kinds.is_blocking}
 use Rattle.fifo_table.specs.Channels.{Channel}
 
-abbrev pub asks : Access → Bool
-asks a = not (is_blocking a.kind)
+abbrev pub is_query_access : Access → Bool
+is_query_access a = not (is_blocking a.kind)
 
 -- the access is a query that is undecided, by the graph and the table
 abbrev pub is_open_query : List Lane → List Channel → Access → Bool
-is_open_query lanes channels a = asks a && not (is_decided (as_known (when_possible lanes channels a)))
+is_open_query lanes channels a = is_query_access a && not (is_decided (as_known (when_possible lanes channels a)))

@@ -3,7 +3,7 @@ ghost use Rattle.std.specs.Prelude.{◌≡◌, ◌↔◌, ◌+◌, ◌<◌, leng
 ghost use Rattle.timing_bridge.specs.Designs.{design};
 ghost use Rattle.sim_core.specs.Views.{theory_of};
 ghost use Rattle.core_actions.specs.Acted.{HasActed, HasRun, IsRun, gives, guard_of as guard_by};
-ghost use Rattle.core_actions.specs.Causes.{IsPermitted, cause_of, module_of};
+ghost use Rattle.core_actions.specs.Causes.{IsPermitted, cause_of, acting_module};
 
 use crate::actions::{ActFault, Action, Cause};
 use crate::permitting::{next_cycle, permits};
@@ -22,7 +22,7 @@ pub fn act<L: Ledger>(
     action: Action,
     steps: &mut Steps<L>,
 ) -> Result<Guard, ActFault>
-    requires inside { module_of action < length core.old.plan.design.modules }
+    requires inside { acting_module action < length core.old.plan.design.modules }
     requires here { HasRun core.old action }
     ensures acted { IfOk result (λ guard. HasActed guard core.old action core.new) }
     ensures refused { (cause : Cause) → IsErrOf result (ActFault.NotPermitted cause)
@@ -44,7 +44,7 @@ fn act_now<L: Ledger>(
     action: Action,
     steps: &mut Steps<L>,
 ) -> Result<Guard, OutOfMemory>
-    requires inside { module_of action < length core.old.plan.design.modules }
+    requires inside { acting_module action < length core.old.plan.design.modules }
     requires here { HasRun core.old action }
     requires permitted { IsPermitted (design core.old.plan) core.old.plan.cycles (theory_of core.old) action }
     ensures acted { IfOk result (λ guard. HasActed guard core.old action core.new) }

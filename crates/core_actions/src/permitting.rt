@@ -6,8 +6,9 @@ ghost use Rattle.event_timing.specs.Enablers.{candidate as candidate_of, known_o
 ghost use Rattle.timing_bridge.specs.Designs.{design};
 ghost use Rattle.engine_view.specs.{Held.emitted_of, Turns.first_of};
 ghost use Rattle.sim_core.specs.Views.{theory_of};
-ghost use Rattle.core_actions.specs.Causes.{IsPermitted, module_of, cause_of, cycle_causes, first_some, is_undecided, is_unverified};
-ghost use Rattle.core_actions.specs.Causes.{first_module, first_place, open_causes, waiting, is_busy as busy_by, later as later_cause};
+ghost use Rattle.core_actions.specs.Causes.{IsPermitted, acting_module, cause_of, cycle_causes, first_some, is_undecided, is_unverified};
+ghost use Rattle.core_actions.specs.Causes.{first_passing, first_place, open_causes, waiting_cause, is_busy as busy_by};
+ghost use Rattle.core_actions.specs.Causes.{later as later_cause};
 
 use crate::actions::{Action, Cause};
 use crate::searching::{number_of, query_in, undecided_in};
@@ -21,7 +22,7 @@ use time_engine::candidate;
 ///
 /// It takes no memory. An Earliest looks at all modules, and any other action at one step alone.
 pub fn permits(core: &Core, action: Action) -> Result<(), Cause>
-    requires { module_of action < length core.now.plan.design.modules }
+    requires { acting_module action < length core.now.plan.design.modules }
     ensures permitted { OnOk result (IsPermitted (design core.now.plan) core.now.plan.cycles (theory_of core.now) action) }
     ensures no_cause { OnOk result (cause_of (design core.now.plan) core.now.plan.cycles (theory_of core.now) action ≡ None) }
     ensures refused { IfErr result (λ cause. IsPermitted (design core.now.plan) core.now.plan.cycles (theory_of core.now) action → ⊥) }
@@ -34,7 +35,7 @@ pub fn permits(core: &Core, action: Action) -> Result<(), Cause>
 
 /// Tests the conditions of an action in order. The error is the first one that fails.
 fn try_conditions(core: &Core, action: Action) -> Result<(), Cause>
-    requires { module_of action < length core.now.plan.design.modules }
+    requires { acting_module action < length core.now.plan.design.modules }
     ensures { result_err result ≡ cause_of (design core.now.plan) core.now.plan.cycles (theory_of core.now) action }
 {
     match action {
@@ -150,7 +151,7 @@ fn first_place(core: &Core, owner: u32) -> Place
 /// The cause that a reply to a module's newest step is not there. `None` where all are there.
 fn waiting(core: &Core, owner: u32) -> Option<Cause>
     requires { owner < length core.now.plan.design.modules }
-    ensures { result ≡ waiting (design core.now.plan) (theory_of core.now) owner (emitted_of core.now.held owner) }
+    ensures { result ≡ waiting_cause (design core.now.plan) (theory_of core.now) owner (emitted_of core.now.held owner) }
 {
     let engine = core.engine();
     let last = engine.graph.len(owner).checked_sub(1)?;
@@ -203,7 +204,7 @@ fn first_undecided(core: &Core, owner: u32) -> Option<u32>
 
 /// The first module for which a Run, an Assign or an Answer is permitted. `None` where there is none.
 fn first_busy(core: &Core) -> Option<u32>
-    ensures { result ≡ first_module (design core.now.plan) (busy_by (design core.now.plan) core.now.plan.cycles (theory_of core.now)) }
+    ensures { result ≡ first_passing (design core.now.plan) (busy_by (design core.now.plan) core.now.plan.cycles (theory_of core.now)) }
 {
     for owner in 0..core.modules() {
         if is_busy(core, owner) {

@@ -1,7 +1,7 @@
 //! The first access of a step that keeps an action from being permitted.
 ghost use Rattle.std.specs.Prelude.{◌≡◌, ◌<◌, ◌^◌, All, length, position, IfSome};
 ghost use Rattle.time_engine.specs.Conditions.{HasPlaces, IsAccess};
-ghost use Rattle.core_actions.specs.Missing.{asks, is_open_query};
+ghost use Rattle.core_actions.specs.Missing.{is_query_access, is_open_query};
 
 use event_graph::{Access, Graph};
 use fifo_table::FifoTable;
@@ -10,20 +10,20 @@ use query_resolve::{Decision, decide};
 /// The number of the first query among these accesses.
 pub(crate) fn query_in(accesses: &[Access]) -> Option<u32>
     requires { length accesses.now < 2 ^ 32 }
-    ensures { result ≡ position asks accesses.now }
+    ensures { result ≡ position is_query_access accesses.now }
 {
     number_of(query_at(accesses))
 }
 
 fn query_at(accesses: &[Access]) -> Option<usize>
-    ensures { result ≡ position asks accesses.now }
+    ensures { result ≡ position is_query_access accesses.now }
 {
     accesses.iter().position(|access| is_query(access))
 }
 
 /// Whether the access is a query.
 fn is_query(access: &Access) -> bool
-    ensures { result ≡ asks access.now }
+    ensures { result ≡ is_query_access access.now }
 {
     !access.kind.is_blocking()
 }

@@ -1,6 +1,6 @@
 //! Single actions of a core that are not permitted. The expected causes were worked out from the rules of the actions.
 ghost use Rattle.std.specs.Prelude.{◌≡◌};
-ghost use Rattle.core_actions.specs.Causes.{module_of};
+ghost use Rattle.core_actions.specs.Causes.{acting_module};
 ghost use Rattle.sim_core.specs.Drives.{AreOwn};
 
 use core_actions::{ActFault, Action, Cause, act};
@@ -41,7 +41,7 @@ end
 
 /// The module that an action is of.
 pub fn owner_of(action: Action) -> u32
-    ensures { result ≡ module_of action }
+    ensures { result ≡ acting_module action }
 {
     match action {
         Action::Run(owner)

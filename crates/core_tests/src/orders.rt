@@ -1,7 +1,7 @@
 //! Whole simulations by single actions, with the modules in several orders.
 ghost use Rattle.std.specs.Prelude.{◌≡◌, ◌<◌, length, IfSome};
 ghost use Rattle.flow_design.specs.StaticRules.{FitsEngine};
-ghost use Rattle.core_actions.specs.Causes.{module_of};
+ghost use Rattle.core_actions.specs.Causes.{acting_module};
 ghost use Rattle.sim_core.specs.Drives.{AreOwn};
 
 use crate::actions::{act_same, owner_of};
@@ -43,7 +43,7 @@ impl Order {
 /// A permitted action of this module. `None` where it has none.
 fn permitted_of(core: &Core, owner: u32) -> Option<Action>
     requires { owner < length core.now.plan.design.modules }
-    ensures { IfSome result (λ action. module_of action ≡ owner) }
+    ensures { IfSome result (λ action. acting_module action ≡ owner) }
 {
     if permits(core, Action::Run(owner)).is_ok() {
         Some(Action::Run(owner))
@@ -60,7 +60,7 @@ fn permitted_of(core: &Core, owner: u32) -> Option<Action>
 
 /// The next permitted action in this order. `None` where no action is permitted.
 fn next_action(core: &Core, order: Order, before: u32) -> Option<Action>
-    ensures { IfSome result (λ action. module_of action < length core.now.plan.design.modules) }
+    ensures { IfSome result (λ action. acting_module action < length core.now.plan.design.modules) }
 {
     let modules = core.modules();
     for place in 0..modules {
@@ -74,7 +74,7 @@ fn next_action(core: &Core, order: Order, before: u32) -> Option<Action>
 
 /// Tries an action that is not permitted, and asserts that it is refused.
 fn try_refused<L: Ledger, R: Abort>(rt: &R, core: &mut Core, action: Action, steps: &mut Steps<L>)
-    requires inside { module_of action < length core.old.plan.design.modules }
+    requires inside { acting_module action < length core.old.plan.design.modules }
     requires own { AreOwn core.old }
     ensures same { core.new ≡ core.old }
 {

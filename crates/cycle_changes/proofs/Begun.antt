@@ -6,7 +6,7 @@ use Rattle.flow_word.specs.declared.access.Side.TheVariants.{Pop}
 use Rattle.event_timing.specs.{Machines.Design, Machines.IsDesign, Machines.Access, Machines.Reply, Steps.steps, Steps.done, Views.from}
 use Rattle.event_timing.specs.{Views.tally, Agreement.AreOwnMarks, Agreement.FlagsFit, Agreement.possible_all, Edits.kept, Edits.after_edit}
 use Rattle.event_timing.specs.Histories.{Trace, IsHistory, replies, reply_to}
-use Rattle.event_timing.specs.Enablers.{known_of, reach, flags_at, to_clock, bound}
+use Rattle.event_timing.specs.Enablers.{known_of, unblocked_clock, flags_at, to_clock, bound}
 use Rattle.event_timing.specs.Core.{Core, core_accesses, core_reply, core_tally, core_values, replies_of, view}
 use Rattle.event_timing.proofs.{Steps.done_mono, Steps.same_clock, Earliest.candidate_can, Earliest.flags_late, Earliest.step_determined}
 use Rattle.event_timing.proofs.{Fronts.IsDone, Fronts.agrees_done, Editing.kept_le, Editing.kept_below, Editing.kept_same}
@@ -107,7 +107,7 @@ module _ {S : Type 0} (d : Design S) (h : Trace S) (i : IsDesign d) (y : IsHisto
       let j : ℕ = kept (x.cycle m) c (x.timed m) in
       let asked : List Access = core_accesses d x m j in
       let whole = bound_up c (known_of d v m) (known_at d x m j) cuts asked p bd in
-      let reached : reach v m ≡ from (x.cycle m) j + x.wait m j =
+      let reached : unblocked_clock v m ≡ from (x.cycle m) j + x.wait m j =
       ap (λ (z : ℕ). z + x.wait m j) (from_kept (x.cycle m) c (x.timed m) j (omega arith)) in
       let clock : to_clock (from (x.cycle m) j + x.wait m j) (bound (known_at d x m j) asked) ≡ Some c =
       ap (to_clock (from (x.cycle m) j + x.wait m j)) whole

@@ -9,7 +9,7 @@ use Rattle.flow_word.specs.declared.access.Side.TheVariants.{Pop, Push}
 use Rattle.event_graph.specs.Lanes.{Lane, IsSoundLane, lane_at, no_lane, put_in}
 use Rattle.fifo_table.specs.{declared.channel.TableChannel.TableChannel, Roomed.RoomedChannels}
 use Rattle.fifo_table.specs.declared.channel.TableChannel.TheVariants.{Source, Sink, Fifo}
-use Rattle.fifo_table.specs.Channels.{Channel, channel_at, deepened, depth_of, unused, with_depth}
+use Rattle.fifo_table.specs.Channels.{Channel, channel_at, deepened, depth_of, unused, deepened_channels}
 use Rattle.engine_view.specs.{Emitted.place_of, Rooms.room_of, declared.engine.Engine.Engine, Engines.held_in}
 use Rattle.flow_design.specs.declared.plan.Edit.{Edit}
 use Rattle.query_log.specs.Logs.{RoomedLogs}
@@ -85,7 +85,7 @@ deepened_same Sink = refl
 deepened_same (Fifo depth delay) = refl
 
 -- a depth that stands, set again
-pub depth_stands : (channels : List Channel) (c : ℕ) → with_depth channels c (depth_of (channel_at channels c).kind) ≡ channels
+pub depth_stands : (channels : List Channel) (c : ℕ) → deepened_channels channels c (depth_of (channel_at channels c).kind) ≡ channels
 depth_stands channels c =
     ap (λ (k : TableChannel). set channels c (record (channel_at channels c) { kind = k })) (deepened_same (channel_at channels c).kind)
     ∙ set-get_or channels c (unused Sink)
@@ -97,13 +97,13 @@ deepened_back (Fifo old delay) depth = refl
 
 -- a depth set back
 pub depth_back : (channels : List Channel) (c depth : ℕ) → c < length channels
-    → with_depth (with_depth channels c depth) c (depth_of (channel_at channels c).kind) ≡ channels
+    → deepened_channels (deepened_channels channels c depth) c (depth_of (channel_at channels c).kind) ≡ channels
 depth_back channels c depth within =
     let here = channel_at channels c in
     let deep : Channel = record here { kind = deepened here.kind depth } in
     let at = get_or-set_same channels c deep (unused Sink) within in
     let back : Channel → Channel = λ (q : Channel). record q { kind = deepened q.kind (depth_of here.kind) } in
-    ap (λ (q : Channel). set (with_depth channels c depth) c (back q)) at
+    ap (λ (q : Channel). set (deepened_channels channels c depth) c (back q)) at
     ∙ (set-set channels c deep (back deep)
     ∙ (ap (λ (k : TableChannel). set channels c (record here { kind = k })) (deepened_back here.kind depth)
     ∙ set-get_or channels c (unused Sink)))
@@ -114,7 +114,7 @@ depth_back channels c depth within =
 pub record IsPutEdited (s : Engine) (edit : Edit) (puts : List Put) (t : Engine) : Type 0 where
   pub lanes : ArePut s.graph.lanes puts t.graph.lanes
   pub lane_rooms : t.graph.rooms ≡ s.graph.rooms
-  pub channels : t.fifos.channels ≡ with_depth s.fifos.channels edit.channel edit.depth
+  pub channels : t.fifos.channels ≡ deepened_channels s.fifos.channels edit.channel edit.depth
   pub push_rooms : t.fifos.push_rooms ≡ s.fifos.push_rooms
   pub pop_rooms : t.fifos.pop_rooms ≡ s.fifos.pop_rooms
   pub log : t.log ≡ s.log
@@ -122,7 +122,7 @@ pub record IsPutEdited (s : Engine) (edit : Edit) (puts : List Put) (t : Engine)
 
 -- so it is where puts followed a depth that was set
 pub put_edited : (s t : Engine) (fifos : RoomedChannels) (edit : Edit) (puts : List Put)
-    → fifos.channels ≡ with_depth s.fifos.channels edit.channel edit.depth → fifos.push_rooms ≡ s.fifos.push_rooms
+    → fifos.channels ≡ deepened_channels s.fifos.channels edit.channel edit.depth → fifos.push_rooms ≡ s.fifos.push_rooms
     → fifos.pop_rooms ≡ s.fifos.pop_rooms → HasPut (record s { fifos = fifos }) puts t → IsPutEdited s edit puts t
 put_edited s t fifos edit puts channels pushes pops put = record {
   lanes = put.lanes;

@@ -3,14 +3,14 @@ use Rattle.std.proofs.Common.{◌≡◌, ℕ, ◌+◌, ◌<◌, ◌≤◌, List,
 use Rattle.std.proofs.lemmas.List.Sums.{sum_by_more, sum_by-le-sum_by, length-filter, count_by-le-length}
 use Rattle.std.specs.Prelude.{All}
 use Rattle.event_graph.specs.Lanes.{Lane, IsSoundLane, lane_at, no_lane, timed_below}
-use Rattle.retime.specs.Rounds.{cycles_in, steps_in}
+use Rattle.retime.specs.Rounds.{cycles_in, steps_in_lanes}
 use Rattle.retime.proofs.Counts.{sum_map, cycles_within}
 
 -- one lane more
 pub left_more : (lanes : List Lane) (clock i left more total : ℕ) → i < length lanes
     → more + length (timed_below clock (lane_at lanes i)).cycles ≡ length (lane_at lanes i).steps
-    → left + cycles_in (map (timed_below clock) (take i lanes)) ≤ steps_in (take i lanes) → total ≤ left + more
-    → total + cycles_in (map (timed_below clock) (take (i + 1) lanes)) ≤ steps_in (take (i + 1) lanes)
+    → left + cycles_in (map (timed_below clock) (take i lanes)) ≤ steps_in_lanes (take i lanes) → total ≤ left + more
+    → total + cycles_in (map (timed_below clock) (take (i + 1) lanes)) ≤ steps_in_lanes (take (i + 1) lanes)
 left_more lanes clock i left more total within here before most =
     let count = λ (l : Lane). length l.cycles in
     let f = λ (l : Lane). length (timed_below clock l).cycles in
@@ -21,7 +21,8 @@ left_more lanes clock i left more total within here before most =
     omega (arith, a, b, c, d)
 
 -- cycles below a clock are no more than steps
-pub below_within : (clock : ℕ) (lanes : List Lane) → All IsSoundLane lanes → cycles_in (map (timed_below clock) lanes) ≤ steps_in lanes
+pub below_within : (clock : ℕ) (lanes : List Lane) → All IsSoundLane lanes
+    → cycles_in (map (timed_below clock) lanes) ≤ steps_in_lanes lanes
 below_within clock lanes s =
     let count = λ (l : Lane). length l.cycles in
     let few = λ (l : Lane). count_by-le-length (λ n. nat_lt n clock) l.cycles in

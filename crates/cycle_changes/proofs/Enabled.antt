@@ -5,7 +5,7 @@ use Rattle.std.proofs.lemmas.Bool.{cases_Bool}
 use Rattle.flow_word.specs.Kinds.{other_side}
 use Rattle.event_timing.specs.{Machines.Access, Machines.Design, Machines.Each, Views.from, Core.Core, Core.core_accesses, Core.core_reply}
 use Rattle.event_timing.proofs.OwnRuns.{place_says, tally_mono}
-use Rattle.cycle_changes.specs.Records.{IsAmong, IsBetween, IsSaidAround, IsStill, KeepsEnabler, is_free_at, IsTaking, count_before}
+use Rattle.cycle_changes.specs.Records.{IsAmong, IsBetween, IsSaidAround, IsUnmoved, KeepsEnabler, is_free_at, IsTaking, count_before}
 use Rattle.cycle_changes.specs.Records.{enabling_step, partner}
 
 module _ {S : Type 0} (d : Design S) (x : Core S) (m k : ℕ) (a : Access) where
@@ -51,12 +51,12 @@ module _ {S : Type 0} (d : Design S) (x : Core S) (cycles : ℕ → ℕ → ℕ)
     each [] within = inl tt
     each (a ∷ xs) within = grind (arith, one a (within a (inl refl)), each xs (λ b w. within b (inr w)))
 
-    still_or : cycles m k ≡ x.cycle m k → from (cycles m) k ≡ from (x.cycle m) k → IsStill d x cycles m k ⊎ P m k
+    still_or : cycles m k ≡ x.cycle m k → from (cycles m) k ≡ from (x.cycle m) k → IsUnmoved d x cycles m k ⊎ P m k
     still_or e f = grind (arith, each (core_accesses d x m k) (λ b w. w))
 
   before : (m k : ℕ) → k < x.timed m → (from (cycles m) k ≡ from (x.cycle m) k) ⊎ P m k
   before m zero l = inl refl
   before m (suc k) l = grind (arith, r.following m k, r.same m k)
 
-  pub around : (m k : ℕ) → k < x.timed m → IsStill d x cycles m k ⊎ P m k
+  pub around : (m k : ℕ) → k < x.timed m → IsUnmoved d x cycles m k ⊎ P m k
   around m k l = grind (arith, r.own m k, r.same m k, before m k l, still_or m k l)

@@ -8,7 +8,7 @@ use Rattle.event_timing.specs.Enablers.{Known, known, from_step, bound, flags_at
 use Rattle.event_timing.specs.Core.{Core, core_accesses, core_reply, view}
 use Rattle.event_timing.proofs.{OwnRuns.same_side_is, Candidate.bound_blocks, Candidate.bound_free, Candidate.both_parts}
 use Rattle.event_timing.proofs.Threshold.{known_free, known_never, known_event, enabler}
-use Rattle.cycle_changes.specs.Records.{KeepsEnabler, IsRight, IsStill, IsBeside, IsSlack, HasSlack, known_at, with_cycles, enabling_step}
+use Rattle.cycle_changes.specs.Records.{KeepsEnabler, IsRight, IsUnmoved, IsBeside, IsSlack, HasSlack, known_at, with_cycles, enabling_step}
 use Rattle.cycle_changes.specs.Records.{partner}
 
 -- ---- accesses of which the same is known
@@ -57,7 +57,7 @@ module _ {S : Type 0} (d : Design S) (x : Core S) (cycles : ℕ → ℕ → ℕ)
   each_still m k [] s = tt
   each_still m k (a ∷ xs) (s, ss) = (known_still m k a s, each_still m k xs ss)
 
-  pub still_right : (m k : ℕ) → IsStill d x cycles m k → IsRight d x m k → IsRight d (with_cycles x cycles) m k
+  pub still_right : (m k : ℕ) → IsUnmoved d x cycles m k → IsRight d x m k → IsRight d (with_cycles x cycles) m k
   still_right m k s r =
       let asked : List Access = core_accesses d x m k in
       let e = each_still m k asked s.enablers in

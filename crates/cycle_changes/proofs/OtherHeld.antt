@@ -7,7 +7,7 @@ use Rattle.std.specs.{List.Sorted.IsStrictlyIncreasing, Prelude.All}
 use Rattle.flow_design.specs.declared.plan.Edit.{Edit}
 use Rattle.flow_word.specs.{Kinds.side_of, declared.access.Side.Side, declared.access.Access.Access, declared.access.Step.Step}
 use Rattle.event_graph.specs.Lanes.{Lane, cycle_bound, IsSoundLane, lane_at, no_lane, timed_below}
-use Rattle.fifo_table.specs.Channels.{Channel, IsFifo, channel_at, places_of, with_depth, lag_of}
+use Rattle.fifo_table.specs.Channels.{Channel, IsFifo, channel_at, places_of, deepened_channels, lag_of}
 use Rattle.fifo_table.specs.Roomed.{RoomedChannels}
 use Rattle.query_log.specs.Logs.{Log, IsSoundLog, log_at, no_log}
 use Rattle.time_engine.specs.Conditions.{IsAccess, HasAccesses}
@@ -17,7 +17,7 @@ use Rattle.cycle_changes.specs.{Records.with_cycles, Looks.cycle_held, OtherCycl
 use Rattle.cycle_changes.proofs.{Keeping.kept_none, Marks.marks_on}
 use Rattle.engine_view.specs.{Edited.IsCut, Kept.IsKept, Kept.IsNow, Rooms.HasRoom, Rooms.room_of, Rooms.pending}
 use Rattle.engine_view.specs.Held.{Held, step_of, no_step, emitted_of, seen, are_among, flags_by, replies_at, waited, core_of, values_at}
-use Rattle.engine_view.specs.Shown.{Shows, IsKind, AreTaken, AreWhole, queries_before}
+use Rattle.engine_view.specs.Shown.{ShowsCore, IsKind, AreTaken, AreWhole, queries_before}
 use Rattle.engine_view.proofs.{Answered.queries_zero, Answered.steps_only, Keeping.cut_now, Keeping.now_kept, Placing.places_from}
 use Rattle.engine_view.proofs.{Reading.IsRead, Reading.read_sound, Roomy.pending_same, Roomy.room_on}
 
@@ -45,7 +45,7 @@ bare_sound lanes sound =
 
 module _ {S : Type 0} (d : Design S) (h g : Held) (edit : Edit) (k : IsKept d h) (inside : edit.channel < length h.channels)
     (is_fifo : IsFifo (channel_at h.channels edit.channel).kind) (o : HasOtherCycles h g edit) where
-  abbrev s : Shows d h (core_of d h)
+  abbrev s : ShowsCore d h (core_of d h)
   s = k.sound
 
   abbrev x : Core S
@@ -62,7 +62,7 @@ module _ {S : Type 0} (d : Design S) (h g : Held) (edit : Edit) (k : IsKept d h)
   bare : Held
   bare = record {
     lanes = map (timed_below 0) h.lanes;
-    channels = with_depth h.channels edit.channel edit.depth;
+    channels = deepened_channels h.channels edit.channel edit.depth;
     logs = map unsure h.logs;
     over = h.over;
   }
@@ -85,8 +85,8 @@ module _ {S : Type 0} (d : Design S) (h g : Held) (edit : Edit) (k : IsKept d h)
     verified = λ m. ap (λ (q : Log). q.verified) (get_or-map unsure h.logs m no_log) ∙ none_verified m;
   }
 
-  shown : Shows e bare (after_edit d x 0)
-  shown = let n = cut_now d h k edit.channel edit.depth 0 inside is_fifo bare bare_cut in subst (Shows e bare) n.core n.kept.sound
+  shown : ShowsCore e bare (after_edit d x 0)
+  shown = let n = cut_now d h k edit.channel edit.depth 0 inside is_fifo bare bare_cut in subst (ShowsCore e bare) n.core n.kept.sound
 
   channels_are : bare.channels ≡ g.channels
   unfolding bare
@@ -132,7 +132,7 @@ module _ {S : Type 0} (d : Design S) (h g : Held) (edit : Edit) (k : IsKept d h)
         each = λ i p q. let a = t'.each i p q in record { owner = a.owner; emitted = a.emitted; from = a.from; to = a.to };
       }
 
-  other_shown : Shows e g y
+  other_shown : ShowsCore e g y
   other_shown = record {
     lanes = o.lanes ∙ s.lanes;
     logs = ap (λ (l : List Log). length l) o.logs ∙ s.logs;

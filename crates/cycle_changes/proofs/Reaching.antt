@@ -13,7 +13,7 @@ use Rattle.event_timing.specs.Machines.{Design, IsDesign}
 use Rattle.engine_view.specs.Held.{Held, step_of, emitted_of}
 use Rattle.engine_view.specs.{declared.engine.Engine.Engine, Engines.held_in, Shown.IsSound, Turns.IsSomeCore, Turns.first_of}
 use Rattle.engine_view.proofs.Knowing.{timed_within}
-use Rattle.cycle_changes.specs.{Looks.IsLooked, Around.AreLooked, Around.HasAccessAt, Around.StandsAs, Around.WaitsAt, Around.WaitsFor}
+use Rattle.cycle_changes.specs.{Looks.IsLooked, Around.AreLooked, Around.HasAccessAt, Around.StandsAs, Around.WaitsAt, Around.WaitsForStep}
 use Rattle.cycle_changes.proofs.InTurn.{inside, taker_owner, taker_before, taker_after, takers_there}
 use Rattle.cycle_changes.proofs.Waiting.{IsFreedBy, no_access, numbered, taking, waits_freed}
 
@@ -141,7 +141,7 @@ module _ (e : Engine) (core : IsSomeCore e) where
         }
 
   -- what waits for a step waits for one of its accesses, at the other side of its channel
-  pub waits_some : (at : Place) (m k : ℕ) → k < first_of h m → WaitsFor h.channels (step_of h m k) at
+  pub waits_some : (at : Place) (m k : ℕ) → k < first_of h m → WaitsForStep h.channels (step_of h m k) at
       → (j : ℕ) × (j < length (step_of h at.module at.step).accesses)
       × WaitsAt h.channels (other_side (side_of (get_or (step_of h at.module at.step).accesses j no_access).kind))
       (get_or (step_of h at.module at.step).accesses j no_access).channel at (step_of h m k)

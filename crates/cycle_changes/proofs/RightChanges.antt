@@ -7,19 +7,19 @@ use Rattle.std.specs.Prelude.{Any, Contains}
 use Rattle.flow_design.specs.{declared.plan.Edit.Edit, declared.state.ModuleState.ModuleState}
 use Rattle.flow_word.specs.{Kinds.side_of, Kinds.same_side, declared.access.Access.Access, declared.access.Place.Place}
 use Rattle.flow_word.specs.{declared.access.Side.Side, declared.access.Side.TheVariants.Push}
-use Rattle.fifo_table.specs.{declared.enabler.Enabler.TheVariants.Event, Channels.IsFifo, Channels.channel_at, Channels.with_depth}
+use Rattle.fifo_table.specs.{declared.enabler.Enabler.TheVariants.Event, Channels.IsFifo, Channels.channel_at, Channels.deepened_channels}
 use Rattle.event_timing.specs.Machines as theory
 use Rattle.event_timing.specs.Machines.{Design, IsDesign, Each}
 use Rattle.event_timing.specs.{Core.Core, Core.core_accesses, Core.view, Enablers.candidate, Edits.edited}
 use Rattle.event_timing.proofs.{Editing.edit_design, OwnRuns.same_side_is}
-use Rattle.cycle_changes.specs.Records.{IsRightRecord, IsRight, IsStill, IsBeside, IsChecked, IsAmong, IsSaidAround, with_cycles, partner}
+use Rattle.cycle_changes.specs.Records.{IsRightRecord, IsRight, IsUnmoved, IsBeside, IsChecked, IsAmong, IsSaidAround, with_cycles, partner}
 use Rattle.cycle_changes.specs.{Looks.IsLooked, Looks.cycle_held, OtherCycles.HasOtherCycles, Changed.AreRightChanges}
-use Rattle.cycle_changes.specs.Around.{IsLookedAround, StandsAt, WaitsFor}
+use Rattle.cycle_changes.specs.Around.{IsLookedAround, IsAccessAt, WaitsForStep}
 use Rattle.cycle_changes.specs.Records as records
 use Rattle.cycle_changes.proofs.{Enabled.around, Onward.record_on, OtherHeld.other_now, RightLooks.look_is}
 use Rattle.cycle_changes.proofs.Waiting.{event_found, no_access}
 use Rattle.engine_view.specs.{Emitted.place_of, Kept.IsKept, Kept.IsNow, declared.engine.Engine.Engine, Engines.held_in}
-use Rattle.engine_view.specs.Held.{Held, held, step_of, emitted_of, seen, core_of}
+use Rattle.engine_view.specs.Held.{Held, held_parts, step_of, emitted_of, seen, core_of}
 use Rattle.engine_view.proofs.{Bounds.candidate_is, Knowing.timed_within}
 
 -- ---- lists of accesses
@@ -33,7 +33,7 @@ in_at b (a ∷ xs) (inr q) = let (j, l, e) = in_at b xs q in (suc j, omega arith
 
 -- none of them stands at the FIFO's pushing side, or one does
 beside_or : (fifo : ℕ) (xs : List Access)
-    → Each (λ a. a.side ≡ Push → a.channel ≡ fifo → ⊥) (map seen xs) ⊎ Any (StandsAt Push fifo) xs
+    → Each (λ a. a.side ≡ Push → a.channel ≡ fifo → ⊥) (map seen xs) ⊎ Any (IsAccessAt Push fifo) xs
 beside_or fifo [] = inl tt
 beside_or fifo (a ∷ xs) =
     elim (cases_Bool (same_side (side_of a.kind) Push && eqb a.channel fifo)) [
@@ -88,7 +88,7 @@ module _ (s t : Engine) (edit : Edit) (limit : ℕ) (seeds puts : List Place) (i
 
   -- the old cycles under the new depth
   abbrev felt : Held
-  felt = held s.graph.lanes (with_depth s.fifos.channels edit.channel edit.depth) s.log.logs over
+  felt = held_parts s.graph.lanes (deepened_channels s.fifos.channels edit.channel edit.depth) s.log.logs over
 
   felt_now : IsNow e felt x
   felt_now = other_now d h felt edit k inside is_fifo (record {
@@ -110,7 +110,7 @@ module _ (s t : Engine) (edit : Edit) (limit : ℕ) (seeds puts : List Place) (i
       (record { cycle = looked.cycle; outcomes = looked.outcomes }))
 
   felt_right : (m j : ℕ) → j < x.timed m
-      → IsLooked (held s.graph.lanes (with_depth s.fifos.channels edit.channel edit.depth) s.log.logs []) m j → IsRight e x m j
+      → IsLooked (held_parts s.graph.lanes (deepened_channels s.fifos.channels edit.channel edit.depth) s.log.logs []) m j → IsRight e x m j
   felt_right m j l looked =
       subst (λ (z : Core ModuleState). IsRight e z m j) felt_now.core
       ((look_is e i_edited felt felt_now.kept.sound m j l).0 (record { cycle = looked.cycle; outcomes = looked.outcomes }))
@@ -141,7 +141,7 @@ module _ (s t : Engine) (edit : Edit) (limit : ℕ) (seeds puts : List Place) (i
   emitted m j l = omega (arith, timed_within d h k.sound m, ap (λ (ss : List _). length ss) (other.steps m))
 
   waits : (m j : ℕ) (a : theory.Access) → j < x.timed m → IsAmong a (core_accesses e x m j) → records.is_free_at e x m j a ≡ false → (n : ℕ)
-      → records.enabling_step e x m j a ≡ Some n → WaitsFor t.fifos.channels (step_of (held_in t []) m j) (place_of (partner e a) n)
+      → records.enabling_step e x m j a ≡ Some n → WaitsForStep t.fifos.channels (step_of (held_in t []) m j) (place_of (partner e a) n)
   waits m j a l at free n f =
       let l' = emitted m j l in
       let xs = (step_of g m j).accesses in
@@ -171,7 +171,7 @@ module _ (s t : Engine) (edit : Edit) (limit : ℕ) (seeds puts : List Place) (i
 
   -- ---- each step
 
-  stays : (m j : ℕ) → j < x.timed m → IsStill e x (cycle_held g) m j → IsChecked d x (cycle_held g) edit.channel edit.depth 0 m j
+  stays : (m j : ℕ) → j < x.timed m → IsUnmoved e x (cycle_held g) m j → IsChecked d x (cycle_held g) edit.channel edit.depth 0 m j
   stays m j l still =
       let l' : j < emitted_of h m = omega (arith, timed_within d h k.sound m) in
       elim (beside_or edit.channel (step_of h m j).accesses) [

@@ -4,7 +4,7 @@ use Rattle.std.proofs.Common.{◌≡◌, ℕ, zero, suc, ◌+◌, ◌<◌, ◌�
 use Rattle.event_timing.specs.{Machines.Access, Machines.Design, Machines.IsDesign, Histories.Trace, Histories.IsHistory, Views.from}
 use Rattle.event_timing.specs.{Views.own_state, Views.tally, Enablers.Known.From, Core.Core, Core.core_accesses, Core.core_reply, Core.view}
 use Rattle.event_timing.specs.{Actions.new_flags, Agreement.AreOwnMarks, Agreement.IsTimed, Edits.kept, Edits.after_edit}
-use Rattle.event_timing.specs.Enablers.{known_of, bound, candidate, reach, IsStuck}
+use Rattle.event_timing.specs.Enablers.{known_of, bound, candidate, unblocked_clock, IsStuck}
 use Rattle.event_timing.proofs.{Candidate.candidate_parts, Candidate.candidate_from, Fronts.IsDone, Agreement.run_ended}
 use Rattle.event_timing.proofs.Editing.{kept_le, kept_same, time_from, edit_plain}
 use Rattle.cycle_changes.specs.Records.{IsRight, IsRightRecord, known_at}
@@ -52,7 +52,7 @@ module _ {S : Type 0} (d : Design S) (i : IsDesign d) (limit : ℕ) (x : Core S)
     first_cut m a =
         cut_known d i x t a.side a.channel (tally (core_accesses d x m) (core_reply d x m) a.side a.channel (stay m))
 
-    reach_same : (m : ℕ) → reach (view d rest) m ≡ from (x.cycle m) (stay m) + x.wait m (stay m)
+    reach_same : (m : ℕ) → unblocked_clock (view d rest) m ≡ from (x.cycle m) (stay m) + x.wait m (stay m)
     reach_same m = ap (λ (z : ℕ). z + x.wait m (stay m)) (from_kept (x.cycle m) t (x.timed m) (stay m) (omega arith))
 
     -- the first step that does not stay is determined, if it is at this clock
@@ -84,8 +84,8 @@ module _ {S : Type 0} (d : Design S) (i : IsDesign d) (limit : ℕ) (x : Core S)
               let b'' = subst (λ (z : ℕ). bound (known_at d x m z) (core_accesses d x m z) ≡ From u) p b' in
               let o' = subst (λ (z : ℕ). ltb z (x.emitted m) ≡ true) p o in
               let f = candidate_from d (view d x) m u o' b'' in
-              let s' = subst (λ (z : ℕ). reach (view d rest) m ≡ from (x.cycle m) z + x.wait m z) p s in
-              omega (arith, r.beyond m (max (reach (view d x) m) u) f)
+              let s' = subst (λ (z : ℕ). unblocked_clock (view d rest) m ≡ from (x.cycle m) z + x.wait m z) p s in
+              omega (arith, r.beyond m (max (unblocked_clock (view d x) m) u) f)
         ]
 
     next_ended : (m : ℕ) → ltb (stay m) (x.emitted m) ≡ false → d.is_over m (own_state d (view d rest) m (stay m)) ≡ true

@@ -8,24 +8,24 @@ use Rattle.engine_view.specs.{Held.Held, Held.step_of, Turns.first_of}
 use Rattle.cycle_changes.specs.Looks.{IsLooked, cycle_held}
 
 -- the access is at this side of the channel
-abbrev pub StandsAt : Side → ℕ → Access → Type 0
-StandsAt side channel a = (side_of a.kind ≡ side) × (a.channel ≡ channel)
+abbrev pub IsAccessAt : Side → ℕ → Access → Type 0
+IsAccessAt side channel a = (side_of a.kind ≡ side) × (a.channel ≡ channel)
 
 -- the step has an access at this side of the channel
 abbrev pub HasAccessAt : Side → ℕ → Step → Type 0
-HasAccessAt side channel step = Any (StandsAt side channel) step.accesses
+HasAccessAt side channel step = Any (IsAccessAt side channel) step.accesses
 
 -- the step has an access at this side of the channel with this ordinal
 abbrev pub StandsAs : Side → ℕ → ℕ → Step → Type 0
-StandsAs side channel ordinal step = Any (λ a. StandsAt side channel a × (a.ordinal ≡ ordinal)) step.accesses
+StandsAs side channel ordinal step = Any (λ a. IsAccessAt side channel a × (a.ordinal ≡ ordinal)) step.accesses
 
 -- the step has an access at this side of the channel that waits for the step at the place
 abbrev pub WaitsAt : List Channel → Side → ℕ → Place → Step → Type 0
-WaitsAt channels side channel at step = Any (λ a. StandsAt side channel a × (enabler_at channels a ≡ Event at)) step.accesses
+WaitsAt channels side channel at step = Any (λ a. IsAccessAt side channel a × (enabler_at channels a ≡ Event at)) step.accesses
 
 -- the step has an access, at any channel, that waits for the step at the place
-abbrev pub WaitsFor : List Channel → Step → Place → Type 0
-WaitsFor channels step at = Any (λ a. enabler_at channels a ≡ Event at) step.accesses
+abbrev pub WaitsForStep : List Channel → Step → Place → Type 0
+WaitsForStep channels step at = Any (λ a. enabler_at channels a ≡ Event at) step.accesses
 
 -- a look finds each step with a cycle right for which P holds
 abbrev pub AreLooked : Held → (Step → Type 0) → Type 0
@@ -37,7 +37,7 @@ pub record IsLookedAround (h : Held) (limit : ℕ) (at : Place) : Type 0 where
   pub below : cycle_held h at.module at.step < limit
   pub own : IsLooked h at.module at.step
   pub following : suc at.step < first_of h at.module → IsLooked h at.module (suc at.step)
-  pub waiting : AreLooked h (λ step. WaitsFor h.channels step at)
+  pub waiting : AreLooked h (λ step. WaitsForStep h.channels step at)
 
 -- no module's first step without a cycle is determined below the limit
 abbrev pub NoneIsDue : Held → ℕ → Type 0

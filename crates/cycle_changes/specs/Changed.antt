@@ -3,11 +3,11 @@ use Rattle.std.specs.Prelude.{◌≡◌, ℕ, ◌≤◌, ◌⊎◌, List, [], le
 use Rattle.flow_design.specs.declared.plan.Edit.{Edit}
 use Rattle.flow_word.specs.{declared.access.Place.Place, declared.access.Side.Side}
 use Rattle.event_graph.specs.Lanes.{lane_at}
-use Rattle.fifo_table.specs.Channels.{with_depth}
+use Rattle.fifo_table.specs.Channels.{deepened_channels}
 use Rattle.event_timing.specs.Edits.{edited}
 use Rattle.cycle_changes.specs.{Records.IsRightRecord, Looks.IsLooked, Looks.cycle_held, OtherCycles.HasOtherCycles, Seeds.AreSeeds}
 use Rattle.cycle_changes.specs.Around.{IsLookedAround, NoneIsDue}
-use Rattle.engine_view.specs.{Emitted.place_of, Held.held, Held.core_of, Kept.IsKept, Rooms.room_of, declared.engine.Engine.Engine}
+use Rattle.engine_view.specs.{Emitted.place_of, Held.held_parts, Held.core_of, Kept.IsKept, Rooms.room_of, declared.engine.Engine.Engine}
 use Rattle.engine_view.specs.{Engines.held_in, Taking.kinds_in, Turns.IsSomeCore, Turns.OfEach}
 use Rattle.retime.specs.{Cuts.KeepsRoomEdited, Rounds.only_steps}
 
@@ -25,14 +25,15 @@ pub record HasChanged (edit : Edit) (limit : ℕ) (s t : Engine) : Type 0 where
   pub room : KeepsRoomEdited edit s t
   pub steps : only_steps t.graph.lanes ≡ only_steps s.graph.lanes
   pub counts : (m : ℕ) → length (lane_at t.graph.lanes m).cycles ≡ length (lane_at s.graph.lanes m).cycles
-  pub kinds : kinds_in t.fifos.channels ≡ kinds_in (with_depth s.fifos.channels edit.channel edit.depth)
+  pub kinds : kinds_in t.fifos.channels ≡ kinds_in (deepened_channels s.fifos.channels edit.channel edit.depth)
   pub log : t.log ≡ s.log
 
 -- what a check of new cycles finds: each step in which the new depth is felt, by the old cycles, is a seed, and each seed is right
 -- now; each step with another cycle is a put, and what it can reach is right; no further step is determined below the limit
 pub record AreRightChanges (s t : Engine) (edit : Edit) (limit : ℕ) (seeds puts : List Place) : Type 0 where
   pub other : HasOtherCycles (held_in s []) (held_in t []) edit
-  pub felt : AreSeeds (held s.graph.lanes (with_depth s.fifos.channels edit.channel edit.depth) s.log.logs []) edit.channel seeds
+  pub felt : AreSeeds
+      (held_parts s.graph.lanes (deepened_channels s.fifos.channels edit.channel edit.depth) s.log.logs []) edit.channel seeds
   pub looked : All (λ p. IsLooked (held_in t []) p.module p.step) seeds
   pub same : (m k : ℕ) → (cycle_held (held_in t []) m k ≡ cycle_held (held_in s []) m k) ⊎ Contains puts (place_of m k)
   pub around : All (IsLookedAround (held_in t []) limit) puts

@@ -69,7 +69,7 @@ KeepsEnabler {S} d x cycles m k a =
     is_free_at d x m k a ≡ false → (e : ℕ) → enabling_step d x m k a ≡ Some e → cycles (partner d a) e ≡ x.cycle (partner d a) e
 
 -- the step keeps its cycle, and so do the step before it and the steps that enable its accesses
-pub record IsStill {S : Type 0} (d : Design S) (x : Core S) (cycles : ℕ → ℕ → ℕ) (m k : ℕ) : Type 0 where
+pub record IsUnmoved {S : Type 0} (d : Design S) (x : Core S) (cycles : ℕ → ℕ → ℕ) (m k : ℕ) : Type 0 where
   pub own : cycles m k ≡ x.cycle m k
   pub before : from (cycles m) k ≡ from (x.cycle m) k
   pub enablers : Each (KeepsEnabler d x cycles m k) (core_accesses d x m k)
@@ -117,6 +117,6 @@ HasSlack {S} d x fifo depth m k =
 -- right in the new record
 abbrev pub IsChecked : {S : Type 0} → Design S → Core S → (ℕ → ℕ → ℕ) → ℕ → ℕ → ℕ → ℕ → ℕ → Type 0
 IsChecked {S} d x cycles fifo depth t m k =
-    (IsStill (edited d fifo depth) x cycles m k
+    (IsUnmoved (edited d fifo depth) x cycles m k
     × (IsBeside d x fifo m k ⊎ ((x.cycle m k < t) ⊎ IsRight (edited d fifo depth) x m k)))
     ⊎ IsRight (edited d fifo depth) (with_cycles x cycles) m k

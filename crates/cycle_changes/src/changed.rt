@@ -4,7 +4,7 @@ ghost use Rattle.event_graph.specs.Lanes.{IsSoundLane, lane_at, cycle_bound, tim
 ghost use Rattle.time_engine.specs.Conditions.{HasAccesses};
 ghost use Rattle.fifo_table.specs.Channels.{IsFifo, channel_at};
 ghost use Rattle.engine_view.specs.Turns.{IsSomeCore};
-ghost use Rattle.retime.specs.{Rounds.cycles_in, Rounds.steps_in, Touched.IsEditIn};
+ghost use Rattle.retime.specs.{Rounds.cycles_in, Rounds.steps_in_lanes, Touched.IsEditIn};
 ghost use Rattle.cycle_changes.specs.{Changed.HasChanged, Moved.moved_in, Puts.HasPut};
 ghost use Rattle.cycle_changes.specs.Found.{AreFoundRight, IsFoundRight, put_places};
 
@@ -48,7 +48,7 @@ pub fn retime_changes<L: Ledger>(
     ensures changed { result ≡ true → HasChanged edit.now limit engine.old engine.new }
     ensures ticked { result ≡ true → steps.new ≡ steps.old + moved_in engine.old.graph.lanes engine.new.graph.lanes }
     ensures few { steps.new + cycles_in (map (timed_below from) engine.old.graph.lanes)
-        ≤ steps.old + steps_in engine.old.graph.lanes }
+        ≤ steps.old + steps_in_lanes engine.old.graph.lanes }
 {
     match try_changes::<Brand>(engine, changes, edit, from, limit, Blank::new(1)) {
         Some(count) => {
@@ -77,7 +77,7 @@ fn try_changes<L: Ledger>(
     ensures changed { IsSome result → HasChanged edit.now limit engine.old engine.new }
     ensures ticked { IfSome result (λ count. count ≡ moved_in engine.old.graph.lanes engine.new.graph.lanes) }
     ensures few { IfSome result (λ count. count + cycles_in (map (timed_below from) engine.old.graph.lanes)
-        ≤ steps_in engine.old.graph.lanes) }
+        ≤ steps_in_lanes engine.old.graph.lanes) }
 {
     let mut tried = Steps::<L>::new(blank);
     let stands = engine.fifos.depth(edit.channel);
@@ -118,7 +118,7 @@ fn change<L: Ledger>(
     ensures right { result ≡ true → IsFoundRight engine.old engine.new channel limit changes.new.seeds.items
         (put_places changes.new.puts.items) }
     ensures few { result ≡ true → length changes.new.puts.items + cycles_in (map (timed_below from) engine.old.graph.lanes)
-        ≤ steps_in engine.old.graph.lanes }
+        ≤ steps_in_lanes engine.old.graph.lanes }
 {
     changes.puts.clear();
     changes.seeds.clear();
@@ -199,7 +199,7 @@ fn tick_each<L: Ledger>(count: u64, steps: &mut Steps<L>)
 
 /// How many steps have no cycle below the given one: a retiming from there gives at most this many cycles.
 fn count_left(graph: &Graph, from: u64) -> u64
-    ensures { result + cycles_in (map (timed_below from) graph.now.lanes) ≤ steps_in graph.now.lanes }
+    ensures { result + cycles_in (map (timed_below from) graph.now.lanes) ≤ steps_in_lanes graph.now.lanes }
 {
     let mut left: u64 = 0;
     for owner in 0..graph.modules() {

@@ -2,7 +2,7 @@
 ghost use Rattle.std.specs.Prelude.{◌≡◌, ◌↔◌, ◌<◌, [], true, length, slice_index_or};
 ghost use Rattle.event_graph.specs.Lanes.{HasStep, lane_at, cycle_bound};
 ghost use Rattle.time_engine.specs.Conditions.{HasAccesses, HasPlaces};
-ghost use Rattle.engine_view.specs.{Held.held, Held.step_of, Held.flags_of, Known.found_flags, Engines.held_in, Turns.IsSomeCore};
+ghost use Rattle.engine_view.specs.{Held.held_parts, Held.step_of, Held.flags_of, Known.found_flags, Engines.held_in, Turns.IsSomeCore};
 ghost use Rattle.cycle_changes.specs.Looks.{IsLooked, looked, previous_cycle as before};
 
 use engine_view::{Engine, compare_outcomes};
@@ -66,7 +66,7 @@ fn due_cycle(graph: &Graph, fifos: &FifoTable, at: Place) -> Option<u64>
     requires there { HasStep graph.now.lanes at }
     requires accesses { HasAccesses graph.now.lanes fifos.now.channels }
     requires places { HasPlaces graph.now.lanes fifos.now.channels }
-    ensures { result ≡ looked (held graph.now.lanes fifos.now.channels [] []) at.module at.step }
+    ensures { result ≡ looked (held_parts graph.now.lanes fifos.now.channels [] []) at.module at.step }
 {
     let step = graph.look(at);
     let arrival = cycle_before(graph, at) + step.gap;

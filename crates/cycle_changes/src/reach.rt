@@ -4,7 +4,7 @@ ghost use Rattle.flow_word.specs.Kinds.{side_of, other_side};
 ghost use Rattle.event_graph.specs.Lanes.{HasStep};
 ghost use Rattle.engine_view.specs.{Held.step_of, Engines.held_in, Turns.IsSomeCore, Turns.first_of};
 ghost use Rattle.cycle_changes.specs.Looks.{IsLooked};
-ghost use Rattle.cycle_changes.specs.Around.{AreLooked, StandsAt, HasAccessAt, StandsAs, WaitsFor, WaitsAt};
+ghost use Rattle.cycle_changes.specs.Around.{AreLooked, IsAccessAt, HasAccessAt, StandsAs, WaitsForStep, WaitsAt};
 
 use crate::looking::look;
 use engine_view::Engine;
@@ -16,7 +16,7 @@ pub fn are_waiting_right(engine: &Engine, at: Place) -> bool
     requires there { HasStep engine.now.graph.lanes at }
     requires core { IsSomeCore engine.now }
     ensures { result ≡ true → AreLooked (held_in engine.now [])
-        (λ step. WaitsFor engine.now.fifos.channels step at) }
+        (λ step. WaitsForStep engine.now.fifos.channels step at) }
 {
     let step = engine.graph.step(at);
     for access in step.accesses.as_slice() {
@@ -136,7 +136,7 @@ pub fn is_right_or_elsewhere(engine: &Engine, port: Port, at: Place) -> bool
 
 /// Whether one of these accesses is at the port.
 fn stands_at(accesses: &[Access], port: Port) -> bool
-    ensures { result ≡ false → All (λ a. StandsAt port.side port.channel a → ⊥) accesses.now }
+    ensures { result ≡ false → All (λ a. IsAccessAt port.side port.channel a → ⊥) accesses.now }
 {
     for access in accesses {
         if access.channel == port.channel && access.kind.side() == port.side {

@@ -2,7 +2,7 @@
 ghost use Rattle.std.specs.Prelude.{Bool, ◌⊎◌, ◌≡◌, ℕ, ◌-◌, ◌<◌, ◌≤◌, Some};
 ghost use Rattle.event_timing.specs.{Machines.Access, Machines.Design, Machines.IsDesign, Histories.Trace, Histories.IsHistory, Core.Core};
 ghost use Rattle.event_timing.specs.{Core.view, Actions.IsFinal, Agreement.IsAgreed, Edits.edited, Enablers.candidate};
-ghost use Rattle.cycle_changes.specs.Records.{IsRightRecord, IsRight, with_cycles, IsStill, IsBeside, IsChecked, HasSlack, IsTaking};
+ghost use Rattle.cycle_changes.specs.Records.{IsRightRecord, IsRight, with_cycles, IsUnmoved, IsBeside, IsChecked, HasSlack, IsTaking};
 ghost use Rattle.cycle_changes.specs.Records.{enabling_step, partner, count_before, IsBetween, AreRightAround};
 ghost use Rattle.flow_word.specs.Kinds.{other_side};
 
@@ -25,7 +25,7 @@ pub fn right_records<S>()
 /// access comes after the step that takes just before it at its own side, and not after the one that takes next: so the steps that
 /// a changed step enables are found between two others. Where steps are right, the cycles of a module rise.
 pub fn local_changes<S>()
-    ensures still { (d : Design S) (x : Core S) (cycles : ℕ → ℕ → ℕ) (m k : ℕ) → IsStill d x cycles m k → IsRight d x m k
+    ensures still { (d : Design S) (x : Core S) (cycles : ℕ → ℕ → ℕ) (m k : ℕ) → IsUnmoved d x cycles m k → IsRight d x m k
         → IsRight d (with_cycles x cycles) m k }
     ensures beside { (d : Design S) (x : Core S) (fifo depth m k : ℕ) → IsBeside d x fifo m k → IsRight d x m k
         → IsRight (edited d fifo depth) x m k }
@@ -37,7 +37,7 @@ pub fn local_changes<S>()
         → IsBetween d x m a.side a.channel (count_before d x m k a) k }
     ensures around { (d : Design S) (x : Core S) (cycles : ℕ → ℕ → ℕ) (changed : ℕ → ℕ → Bool)
         → AreRightAround d x cycles changed → (m k : ℕ) → k < x.timed m
-        → IsStill d x cycles m k ⊎ IsRight d (with_cycles x cycles) m k }
+        → IsUnmoved d x cycles m k ⊎ IsRight d (with_cycles x cycles) m k }
     ensures rise { (d : Design S) (x : Core S) → ((m k : ℕ) → k < x.timed m → IsRight d x m k) → (m j k : ℕ) → j < k → k < x.timed m
         → x.cycle m j < x.cycle m k }
 {}

@@ -9,11 +9,11 @@ use Rattle.flow_design.specs.{declared.plan.Plan.Plan, declared.report.Held.Held
 use Rattle.flow_design.specs.{declared.state.ClockState.ClockState, declared.state.Element.Element, declared.state.ModuleState.ModuleState}
 use Rattle.flow_design.specs.{declared.state.Request.Request, declared.state.Reply.Reply, Reports.clock_of}
 use Rattle.flow_design.specs.declared.report.Verdict.TheVariants.{Done, Deadlock, Cycles, Ops}
-use Rattle.lockstep_defs.specs.{Machine.is_over, Machine.move, Report.report, Report.report_at, Report.report_with, Laws.NoneBefore}
-use Rattle.lockstep_defs.specs.Channels.{contents_of, is_full, all_ready, is_possible, stalls, reply, reply_by, front, HistoryStep}
-use Rattle.lockstep_defs.specs.Lockstep.{numbered, requests_of, moves, next_state, step_of, step_with, steps_in, contents_after, clock_step}
-use Rattle.lockstep_defs.specs.Lockstep.{module_at, opening, Moment, next_moment, moment, state, history}
-use Rattle.lockstep_defs.specs.Verdict.{some_moves, is_settled, settled_verdict, verdict, held_at, held_by, held_in, held}
+use Rattle.lockstep_defs.specs.{Machine.is_over, Machine.move, Report.report, Report.report_at, Report.report_in_state, Laws.NoneBefore}
+use Rattle.lockstep_defs.specs.Channels.{contents_of, is_full, all_ready, can_take, stalls, reply, reply_by, front, HistoryStep}
+use Rattle.lockstep_defs.specs.Lockstep.{numbered, requests_of, moves, next_state, module_step, step_with, steps_in, contents_after}
+use Rattle.lockstep_defs.specs.Lockstep.{clock_step, module_at, opening, Moment, next_moment, moment, state, history}
+use Rattle.lockstep_defs.specs.Verdict.{some_moves, is_settled, settled_verdict, verdict, held_at, held_by, held_modules, held}
 use Rattle.lockstep_defs.proofs.{Settled.full_ready, Found.verdict_none, Exits.clock_settled}
 use Rattle.depth_order.specs.Depths.{with_depths}
 use Rattle.depth_order.proofs.First.{IsFirst, first_among, verdict_first}
@@ -29,7 +29,7 @@ NeitherFull p ds contents = NoneFull p contents × NoneFull (with_depths p ds) c
 -- ---- one clock
 
 possible_same : (p : Plan) (ds : List ℕ) (contents : List (List Element)) → NeitherFull p ds contents → (c : ℕ) (side : Side) (f : ℕ)
-    → is_possible (with_depths p ds) c contents side f ≡ is_possible p c contents side f
+    → can_take (with_depths p ds) c contents side f ≡ can_take p c contents side f
 possible_same p ds contents h c Pop f = refl
 possible_same p ds contents h c Push f = ap not (h.1 f ∙ sym (h.0 f))
 
@@ -59,7 +59,7 @@ next_same p ds contents h c m =
     (moves_same p ds contents h c m) (λ i r. reply_same p ds contents h c r i)
 
 step_same : (p : Plan) (ds : List ℕ) (contents : List (List Element)) → NeitherFull p ds contents → (c : ℕ) (m : ℕ × ModuleState)
-    → step_of (with_depths p ds) c contents m ≡ step_of p c contents m
+    → module_step (with_depths p ds) c contents m ≡ module_step p c contents m
 step_same p ds contents h c m =
     ap₂ (λ (b : Bool) (f : Request → Reply). cond b (step_with c m.0 (map (λ r. record { request = r; reply = f r }) (requests_of p m))) [])
     (moves_same p ds contents h c m) (λ i r. reply_same p ds contents h c r i)
@@ -157,7 +157,7 @@ held_by_same p ds contents h c m =
     (λ i r. stalls_same p ds contents h c r i)
 
 held_in_same : (p : Plan) (ds : List ℕ) (st : ClockState) → NeitherFull p ds st.contents → (c : ℕ)
-    → held_in (with_depths p ds) c st ≡ held_in p c st
+    → held_modules (with_depths p ds) c st ≡ held_modules p c st
 held_in_same p ds st h c =
     ap (λ (f : ℕ × ModuleState → Option Held). filter_map f (numbered st))
     (λ i m. held_by_same p ds (all_ready st.contents) (ready_neither p ds st.contents h) c m i)
@@ -177,5 +177,5 @@ report_same p ds h =
     let c = clock_of v in
     let here = h c (omega arith) in
     ap (report_at (with_depths p ds)) (verdict_same p ds h)
-    ∙ (ap (λ (x : Moment). report_with (with_depths p ds) v x.state x.history) (moment_same p ds c (λ b l. h b (omega arith)))
-    ∙ (λ i. record (report_with p v (state p c) (history p c)) { held = held_same p ds v (state p c) here i }))
+    ∙ (ap (λ (x : Moment). report_in_state (with_depths p ds) v x.state x.history) (moment_same p ds c (λ b l. h b (omega arith)))
+    ∙ (λ i. record (report_in_state p v (state p c) (history p c)) { held = held_same p ds v (state p c) here i }))

@@ -2,8 +2,8 @@
 use Rattle.std.proofs.Common.{◌≡◌, refl, sym, ◌∙◌, ap, arith, ℕ, ◌+◌, ◌<◌, Bool, true, false, cond, List, ◌∷◌, [], ◌++◌, length, drop}
 use Rattle.std.proofs.Common.{get_or, add-one, append_assoc}
 use Rattle.std.proofs.{lemmas.Grind.common_steps, Math.Seq.drop-cons}
-use Rattle.flow_design.specs.{declared.design.Channel.Channel, Plans.is_fifo, Plans.no_channel}
-use Rattle.report_text.specs.Lines.{Token, line, text_of_lines}
+use Rattle.flow_design.specs.{declared.design.Channel.Channel, Plans.is_fifo, Plans.no_channel, Names.Token}
+use Rattle.report_text.specs.Lines.{line, text_of_lines}
 use Rattle.depth_advice.specs.DepthLines.{depth_tokens, depth_lines}
 
 -- a line of three tokens

@@ -6,7 +6,7 @@ use Rattle.std.specs.Prelude.{slice_index, slice_index_or, slice_set, All}
 use Rattle.depth_cuts.specs.{declared.cuts.Need.Need, declared.cuts.Cut.Cut, declared.cuts.Demands.Demands, declared.order.Choice.Choice}
 use Rattle.depth_cuts.specs.{declared.search.Before.Before, Met.IsMet, Met.IsUnmet, Met.cut_at, Met.MeetsBetween}
 use Rattle.depth_cuts.specs.Cuts.{AreAbove, AreDemands, bits_of, IsNeed, IsNoWorse}
-use Rattle.depth_cuts.specs.Searching.{AreTried, Improves, IsAt, IsFound, IsSearched, IsTried, need_at, swapped}
+use Rattle.depth_cuts.specs.Searching.{AreTried, Improves, IsAt, IsFound, IsSearched, IsNeedTried, need_at, swapped}
 use Rattle.depth_cuts.proofs.Orders.{above_trans, no_worse_trans, above_no_better}
 
 -- ---- cuts
@@ -165,10 +165,10 @@ all_tried demands ds best cut next first turns l is_it within all tried es above
 
 pub one_more_tried : (demands : Demands) (ds : List ℕ) (old best : Option Choice) (needs : List Need) (first turn : ℕ)
     → AreTried demands ds old needs first turn → Improves demands.widths old best
-    → IsTried demands ds best (need_at needs (swapped first turn)) → AreTried demands ds best needs first (turn + 1)
+    → IsNeedTried demands ds best (need_at needs (swapped first turn)) → AreTried demands ds best needs first (turn + 1)
 one_more_tried demands ds old best needs first turn tried better here k l = elim (cases_lt k turn) [
   | inl m ↦ λ es above met deep. better es (tried k m es above met deep)
   | inr m ↦
       let e : k ≡ turn = omega arith in
-      subst (λ (j : ℕ). IsTried demands ds best (need_at needs (swapped first j))) (sym e) here
+      subst (λ (j : ℕ). IsNeedTried demands ds best (need_at needs (swapped first j))) (sym e) here
 ]

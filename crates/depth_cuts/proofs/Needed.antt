@@ -12,8 +12,8 @@ use Rattle.engine_view.specs.Held.{Held}
 use Rattle.engine_report.specs.Finished.{IsFinished}
 use Rattle.path_check.specs.Waits.{IsTried}
 use Rattle.path_check.proofs.Shown.{done_form}
-use Rattle.depth_cuts.specs.{declared.cuts.Need.Need, declared.cuts.Cut.Cut, Met.IsUnmet, Raised.AreRaised, Raised.IsNext, Raised.AreNext}
-use Rattle.depth_cuts.specs.PlanCuts.{AreDeepest, IsNeedOf, IsCutFor}
+use Rattle.depth_cuts.specs.{declared.cuts.Need.Need, declared.cuts.Cut.Cut, Met.IsUnmet, Raised.AreRaised, Raised.IsNextNeed}
+use Rattle.depth_cuts.specs.{Raised.AreNext, PlanCuts.AreDeepest, PlanCuts.IsNeedOf, PlanCuts.IsCutFor}
 use Rattle.depth_cuts.proofs.Needs.{met_or_short}
 
 -- ---- done by a clock
@@ -64,7 +64,7 @@ module _ (p : Plan) (ds zs : List ℕ) (a : AreDepths p ds) (r : AreRaised ds zs
     | inr e ↦ let none = none_past f e in absurd (omega arith)
   ]
 
-  need_of : (need : Need) → IsNext zs need → IsNeedOf p need
+  need_of : (need : Need) → IsNextNeed zs need → IsNeedOf p need
   need_of need n = let some = n.some in let next = n.next in record {
     fifo = some_fifo need.channel n.some;
     least = omega arith;
@@ -75,7 +75,7 @@ module _ (p : Plan) (ds zs : List ℕ) (a : AreDepths p ds) (r : AreRaised ds zs
     unmet : IsUnmet cut ds
     unmet k d l =
         let need = slice_index_or cut.needs k d in
-        let its : IsNext zs need = n.each k d l in
+        let its : IsNextNeed zs need = n.each k d l in
         let next = its.next in
         let up = (r.each need.channel (fifo_within need.channel (some_fifo need.channel its.some))).up in
         omega arith
@@ -89,7 +89,7 @@ module _ (p : Plan) (ds zs : List ℕ) (a : AreDepths p ds) (r : AreRaised ds zs
           let within = fifo_within f e in
           let some = raised_depths.least f e in
           let (k, need, inside, is, channel) = n.all f (omega arith) (omega arith) l in
-          let its : IsNext zs need = rw is at (n.each k need inside) in
+          let its : IsNextNeed zs need = rw is at (n.each k need inside) in
           let below : slice_index es need.channel < need.depth = rw is at (short k need inside) in
           let next = its.next in
           let here = rw channel at next in

@@ -4,7 +4,7 @@ use Rattle.std.proofs.{lemmas.Bool.cases_lt, lemmas.Bool.cases_eq, lemmas.List.g
 use Rattle.std.proofs.lemmas.List.Elements.{All-append, All-nil, All-cons}
 use Rattle.std.specs.Prelude.{slice_index, All, Any}
 use Rattle.flow_design.specs.declared.limits.TheConstants.{FIFO_DEPTH}
-use Rattle.depth_cuts.specs.{declared.cuts.Need.Need, Raised.IsNext, Raised.AreNext}
+use Rattle.depth_cuts.specs.{declared.cuts.Need.Need, Raised.IsNextNeed, Raised.AreNext}
 
 -- ---- lists of needs
 
@@ -30,6 +30,6 @@ met_or_short depths (n ∷ needs) = elim (cases_lt (slice_index depths n.channel
 
 pub next_none : (depths : List ℕ) → AreNext depths 0 []
 next_none depths = record {
-  each = All-nil (IsNext depths);
+  each = All-nil (IsNextNeed depths);
   all = λ c l. absurd (omega arith);
 }

@@ -16,12 +16,12 @@ pub record AreRaised (depths raised : List ℕ) : Type 0 where
   pub each : (c : ℕ) → c < length depths → IsRaised (slice_index depths c) (slice_index raised c)
 
 -- the need is for one more than the depth that its FIFO has, within the limit
-pub record IsNext (depths : List ℕ) (need : Need) : Type 0 where
+pub record IsNextNeed (depths : List ℕ) (need : Need) : Type 0 where
   pub some : 0 < slice_index depths need.channel
   pub next : need.depth ≡ slice_index depths need.channel + 1
   pub most : need.depth ≤ FIFO_DEPTH
 
 -- the needs are for one more element in each FIFO among the first n channels that can be deeper
 pub record AreNext (depths : List ℕ) (n : ℕ) (needs : List Need) : Type 0 where
-  pub each : All (IsNext depths) needs
+  pub each : All (IsNextNeed depths) needs
   pub all : (c : ℕ) → c < n → 0 < slice_index depths c → slice_index depths c < FIFO_DEPTH → Any (λ need. need.channel ≡ c) needs

@@ -9,7 +9,7 @@ AddsBits demands depths rises =
     → bits_of demands.widths depths + rises ≤ bits_of demands.widths es
 
 -- there are depths that differ from `depths` in used channels alone, are no greater than `es`, and take at least `rises` bits more
-pub record IsBetween (widths used depths es : List ℕ) (rises : ℕ) : Type 0 where
+pub record HasDepthsBetween (widths used depths es : List ℕ) (rises : ℕ) : Type 0 where
   pub between : List ℕ
   pub count : length between ≡ length depths
   pub unused : (f : ℕ) → slice_index used f ≡ 0 → slice_index between f ≡ slice_index depths f
@@ -19,4 +19,4 @@ pub record IsBetween (widths used depths es : List ℕ) (rises : ℕ) : Type 0 w
 -- for all depths that are no less than these and meet the cuts, such depths lie between the two
 abbrev pub ReachesBits : Demands → List ℕ → List ℕ → ℕ → Type 0
 ReachesBits demands used depths rises =
-    (es : List ℕ) → AreAbove depths es → All (λ cut. IsMet cut es) demands.cuts → IsBetween demands.widths used depths es rises
+    (es : List ℕ) → AreAbove depths es → All (λ cut. IsMet cut es) demands.cuts → HasDepthsBetween demands.widths used depths es rises

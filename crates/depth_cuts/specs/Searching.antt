@@ -35,8 +35,8 @@ IsSearched demands depths best =
     (es : List ℕ) → AreAbove depths es → All (λ cut. IsMet cut es) demands.cuts → Beats demands.widths best es
 
 -- what is found is no worse than any depths that meet all cuts and this need and are no less than these
-abbrev pub IsTried : Demands → List ℕ → Option Choice → Need → Type 0
-IsTried demands depths best need =
+abbrev pub IsNeedTried : Demands → List ℕ → Option Choice → Need → Type 0
+IsNeedTried demands depths best need =
     (es : List ℕ) → AreAbove depths es → All (λ cut. IsMet cut es) demands.cuts → need.depth ≤ slice_index es need.channel
     → Beats demands.widths best es
 
@@ -51,4 +51,4 @@ need_at needs k = slice_index_or needs k (record { channel = 0; depth = 0 })
 
 -- the needs of the first n tries have been tried
 abbrev pub AreTried : Demands → List ℕ → Option Choice → List Need → ℕ → ℕ → Type 0
-AreTried demands depths best needs first n = (k : ℕ) → k < n → IsTried demands depths best (need_at needs (swapped first k))
+AreTried demands depths best needs first n = (k : ℕ) → k < n → IsNeedTried demands depths best (need_at needs (swapped first k))

@@ -11,10 +11,10 @@ use Rattle.lockstep_defs.specs.Lockstep.{requests_of, state, state_at}
 use Rattle.event_timing.specs.Histories.{Trace, IsHistory, can_do, can_all, is_possible}
 use Rattle.event_timing.specs.Histories as counted
 use Rattle.event_timing.proofs.Standing.{moves_can}
-use Rattle.timing_bridge.specs.Designs.{design, lockstep_run, seen, lag_in}
+use Rattle.timing_bridge.specs.Designs.{design, lockstep_run, seen_request, lag_in}
 use Rattle.timing_bridge.proofs.{Alike.Alike, Alike.alike, Requests.stand}
 use Rattle.timing_bridge.proofs.History.{plan_is_design, run_is_history, moves_same}
-use Rattle.depth_order.specs.Chain.{moves_at, span_start, port_of, stood_at, goes_on, chain, first_mover, chain_from, path}
+use Rattle.depth_order.specs.Chain.{moves_at, span_start, request_port, stood_at, chain_across, chain, first_mover, chain_from, path}
 use Rattle.depth_order.specs.Sums.{spent, clocks_across, under_way, chain_clocks, IsEnd, IsWhole, MovesLast, NoneMoves}
 use Rattle.depth_order.proofs.{First.IsFirst, First.first_among, First.verdict_first, Bound.must_be}
 use Rattle.depth_order.proofs.Chained.{IsStill, starts, found_in, found_stalls, kept_still, next_clock, chain_more, path_more, found_true}
@@ -47,13 +47,13 @@ was_moved p h b m side f still owned absent present =
     let d = design p in
     let w = lockstep_run p in
     let y = run_is_history p h in
-    let stays = y.taken_stays b side f (subst (λ (k : ℕ). counted.moves d w b k ≡ false) (sym owned) (moves_same p h b m ∙ still)) in
+    let stays = y.taken_stays b side f (subst (λ (k : ℕ). counted.can_move d w b k ≡ false) (sym owned) (moves_same p h b m ∙ still)) in
     let before = limited (d.unlimited side f) (w.taken b side f)
     (d.start side f + w.taken (suc b - d.lag side f) (other_side side) f) absent in
     let there = enough (d.unlimited side f) (w.taken (suc b) side f)
     (d.start side f + w.taken (suc (suc b) - d.lag side f) (other_side side) f) before.0 present in
     by_clock (next_clock b (d.lag side f)) stays before.1 there
-    (cases_Bool (counted.moves d w (suc b - d.lag side f) (d.owner (other_side side) f)))
+    (cases_Bool (counted.can_move d w (suc b - d.lag side f) (d.owner (other_side side) f)))
   where
     by_clock : (suc (suc b) - (design p).lag side f ≡ suc (suc b - (design p).lag side f))
         ⊎ (suc (suc b) - (design p).lag side f ≡ suc b - (design p).lag side f)
@@ -62,8 +62,8 @@ was_moved p h b m side f still owned absent present =
         ≤ (lockstep_run p).taken b side f
         → (lockstep_run p).taken (suc b) side f
         < (design p).start side f + (lockstep_run p).taken (suc (suc b) - (design p).lag side f) (other_side side) f
-        → (counted.moves (design p) (lockstep_run p) (suc b - (design p).lag side f) ((design p).owner (other_side side) f) ≡ true)
-        ⊎ (counted.moves (design p) (lockstep_run p) (suc b - (design p).lag side f) ((design p).owner (other_side side) f) ≡ false)
+        → (counted.can_move (design p) (lockstep_run p) (suc b - (design p).lag side f) ((design p).owner (other_side side) f) ≡ true)
+        ⊎ (counted.can_move (design p) (lockstep_run p) (suc b - (design p).lag side f) ((design p).owner (other_side side) f) ≡ false)
         → WasMoved p b side f
     by_clock (inr same) stays before there move = let there = rw same at there in absurd (omega arith)
     by_clock (inl next) stays before there (inl move) = record {
@@ -78,9 +78,9 @@ was_moved p h b m side f still owned absent present =
 -- ---- at the first clock of a span
 
 abbrev CanDo : Plan → ℕ → Request → Type 0
-CanDo p c r = can_do (design p) (lockstep_run p) c (seen r) ≡ true
+CanDo p c r = can_do (design p) (lockstep_run p) c (seen_request r) ≡ true
 
-can_each : (p : Plan) (c : ℕ) (rs : List Request) → can_all (design p) (lockstep_run p) c (map seen rs) ≡ true
+can_each : (p : Plan) (c : ℕ) (rs : List Request) → can_all (design p) (lockstep_run p) c (map seen_request rs) ≡ true
     → AllByRecursion (CanDo p c) rs
 can_each p c [] e = tt
 can_each p c (r ∷ rs) e = let parts = and_parts _ _ e in (parts.0, can_each p c rs parts.1)
@@ -98,8 +98,8 @@ crossing_moves p h b m still move r e =
     let owned = (found_in p m (StandsAtPort p m) test rs r (stand p h m (state_at p b m)) e).owned in
     let absent : is_possible d w b (side_of r.kind) r.channel ≡ false =
     (found_in p m (Alike p b) test rs r (alike p h b m (state_at p b m)) e).possible ∙ not-true _ stalled.1 in
-    let can : can_all d w (suc b) (map seen rs) ≡ true =
-    ap (λ (s : ModuleState). can_all d w (suc b) (map seen (requests_of p (m, s)))) (sym stays)
+    let can : can_all d w (suc b) (map seen_request rs) ≡ true =
+    ap (λ (s : ModuleState). can_all d w (suc b) (map seen_request (requests_of p (m, s)))) (sym stays)
     ∙ moves_can d w (suc b) m (moves_same p h (suc b) m ∙ move) in
     let done = found_in p m (CanDo p (suc b)) test rs r (can_each p (suc b) rs can) e in
     was_moved p h b m (side_of r.kind) r.channel still owned absent
@@ -112,15 +112,15 @@ abbrev AddsUp : Plan → ℕ → Type 0
 AddsUp p n = (m t : ℕ) → t < n → moves_at p t m ≡ true → spent (chain p n m t) + under_way p (chain p n m t) ≡ suc t
 
 before_start : (p : Plan) → FitsEngine p → (n : ℕ) → AddsUp p n → (m x : ℕ) → x < suc n → moves_at p x m ≡ true → IsStill p m x
-    → let rest = goes_on p (λ k c. chain p n k c) x (stood_at p x m) in
+    → let rest = chain_across p (λ k c. chain p n k c) x (stood_at p x m) in
     (spent rest + (clocks_across p (stood_at p x m) + under_way p rest)) ≡ x
 before_start p h n all m zero l move still = refl
 before_start p h n all m (suc b) l move still =
     by_found (find (stalls p b (state p b).contents) (requests_of p (m, state_at p b m))) refl
   where
     by_found : (o : Option Request) → find (stalls p b (state p b).contents) (requests_of p (m, state_at p b m)) ≡ o
-        → let rest = goes_on p (λ k c. chain p n k c) (suc b) (option_map port_of o) in
-        (spent rest + (clocks_across p (option_map port_of o) + under_way p rest)) ≡ suc b
+        → let rest = chain_across p (λ k c. chain p n k c) (suc b) (option_map request_port o) in
+        (spent rest + (clocks_across p (option_map request_port o) + under_way p rest)) ≡ suc b
     by_found None e = absurd (kept_still p h b m still move e)
     by_found (Some r) e =
         let crossing = crossing_moves p h b m still move r e in

@@ -17,12 +17,13 @@ use Rattle.event_timing.specs.Machines.{Design, IsDesign}
 use Rattle.event_timing.specs.Histories.{Trace, IsHistory, can_do, can_all, is_possible}
 use Rattle.event_timing.specs.Histories as counted
 use Rattle.event_timing.proofs.Standing.{moves_lives, moves_can, moves_from}
-use Rattle.timing_bridge.specs.Designs.{design, lockstep_run, seen, lag_in}
+use Rattle.timing_bridge.specs.Designs.{design, lockstep_run, seen_request, lag_in}
 use Rattle.timing_bridge.proofs.Alike.{Alike, alike, can_same}
 use Rattle.timing_bridge.proofs.History.{plan_is_design, run_is_history, moves_same}
-use Rattle.depth_order.specs.{Earliest.waits_for, Earliest.pops_of, Earliest.IsEarliest, Earliest.Start, Earliest.Own, Earliest.Empty}
-use Rattle.depth_order.specs.{Chain.moves_at, Chain.span_start, Chain.port_of, Chain.stood_at, Chain.goes_on, Chain.chain, Chain.is_push}
-use Rattle.depth_order.specs.{Chain.crosses_full, Chain.first_mover, Chain.chain_from, Chain.path, Chain.NoneEndsBefore, Depths.AsksNothing}
+use Rattle.depth_order.specs.Earliest.{waits_for, pops_of, IsSoonest, Start, Own, Empty}
+use Rattle.depth_order.specs.Chain.{moves_at, span_start, request_port, stood_at, chain_across, chain, is_push, crosses_full, first_mover}
+use Rattle.depth_order.specs.Chain.{chain_from, path, NoneEndsBefore}
+use Rattle.depth_order.specs.Depths.{AsksNothing}
 use Rattle.depth_order.proofs.Order.{done_ended, done_none_before, ended_settled}
 use Rattle.depth_order.proofs.{Latency.no_earlier_end, Bound.waited, Bound.came, Bound.waits_owned}
 
@@ -61,13 +62,13 @@ starts p m (suc c) e = elim (cases_Bool (moves_at p c m)) [
 ]
 
 -- no depths make the later clocks of a span earlier, if not its first
-along : (p : Plan) → FitsEngine p → (m t : ℕ) → IsEarliest (design p) (lockstep_run p) m (span_start p m t)
-    → IsEarliest (design p) (lockstep_run p) m t
-along p h m zero early = subst (λ (x : ℕ). IsEarliest (design p) (lockstep_run p) m x) (start_0 p m) early
+along : (p : Plan) → FitsEngine p → (m t : ℕ) → IsSoonest (design p) (lockstep_run p) m (span_start p m t)
+    → IsSoonest (design p) (lockstep_run p) m t
+along p h m zero early = subst (λ (x : ℕ). IsSoonest (design p) (lockstep_run p) m x) (start_0 p m) early
 along p h m (suc c) early = elim (cases_Bool (moves_at p c m)) [
   | inl here ↦ Own m c (moves_same p h c m ∙ here)
-      (along p h m c (subst (λ (x : ℕ). IsEarliest (design p) (lockstep_run p) m x) (start_more p m c here) early))
-  | inr still ↦ subst (λ (x : ℕ). IsEarliest (design p) (lockstep_run p) m x) (start_new p m c still) early
+      (along p h m c (subst (λ (x : ℕ). IsSoonest (design p) (lockstep_run p) m x) (start_more p m c here) early))
+  | inr still ↦ subst (λ (x : ℕ). IsSoonest (design p) (lockstep_run p) m x) (start_new p m c still) early
 ]
 
 -- ---- who stands still
@@ -83,25 +84,25 @@ find_any P (x ∷ xs) e = by_test (P x) refl (find_any P xs) e
 
 -- the first request that stalls is one of the requests: where it pops, the module waits for an element
 found_waits : (p : Plan) (c : ℕ) (rs : List Request) (r : Request) → find (stalls p c (state p c).contents) rs ≡ Some r
-    → side_of r.kind ≡ Pop → waits_for r.channel (map seen rs) ≡ true
+    → side_of r.kind ≡ Pop → waits_for r.channel (map seen_request rs) ≡ true
 found_waits p c [] r e side = absurd (cc)
 found_waits p c (q ∷ rs) r e side = by_test (stalls p c (state p c).contents q) refl (λ f. found_waits p c rs r f side) e
   where
     by_test : (b : Bool) → stalls p c (state p c).contents q ≡ b
-        → (find (stalls p c (state p c).contents) rs ≡ Some r → waits_for r.channel (map seen rs) ≡ true)
+        → (find (stalls p c (state p c).contents) rs ≡ Some r → waits_for r.channel (map seen_request rs) ≡ true)
         → cond b (Some q) (find (stalls p c (state p c).contents) rs) ≡ Some r
-        → (pops_of r.channel (seen q) || waits_for r.channel (map seen rs)) ≡ true
+        → (pops_of r.channel (seen_request q) || waits_for r.channel (map seen_request rs)) ≡ true
     by_test true at rest e =
         let same : q ≡ r = cc in
         let blocks = (and_parts _ _ at).0 in
-        let first : pops_of r.channel (seen q) ≡ true =
+        let first : pops_of r.channel (seen_request q) ≡ true =
         and_from _ _ blocks (and_from _ _ (ap (λ (x : Request). same_side (side_of x.kind) Pop) same
         ∙ ap (λ (s : Side). same_side s Pop) side)
         (ap (λ (x : Request). eqb x.channel r.channel) same ∙ eq-eqb r.channel r.channel refl)) in
         rw first refl
     by_test false at rest e =
         let more = rest e in
-        ap (λ (b : Bool). pops_of r.channel (seen q) || b) more ∙ or-true (pops_of r.channel (seen q))
+        ap (λ (b : Bool). pops_of r.channel (seen_request q) || b) more ∙ or-true (pops_of r.channel (seen_request q))
 
 pub found_stalls : (p : Plan) (c : ℕ) (rs : List Request) (r : Request) → find (stalls p c (state p c).contents) rs ≡ Some r
     → stalls p c (state p c).contents r ≡ true
@@ -131,7 +132,7 @@ kept_still p h b m still move none =
     let w = lockstep_run p in
     let stays = (run_is_history p h).state_stays b m (moves_same p h b m ∙ still) in
     let lives = moves_lives d w (suc b) m (moves_same p h (suc b) m ∙ move) in
-    let can : can_all d w b (map seen (requests_of p (m, state_at p b m))) ≡ true =
+    let can : can_all d w b (map seen_request (requests_of p (m, state_at p b m))) ≡ true =
     can_same p b (requests_of p (m, state_at p b m)) (alike p h b m (state_at p b m))
     ∙ ap not (find_any (stalls p b (state p b).contents) (requests_of p (m, state_at p b m)) none) in
     let lived : d.is_over m (w.state b m) ≡ false = ap (d.is_over m) (sym stays) ∙ lives in
@@ -167,18 +168,18 @@ was_pushed p h b m f still owned absent present =
     let w = lockstep_run p in
     let y = run_is_history p h in
     let i = plan_is_design p h in
-    let stays = y.taken_stays b Pop f (subst (λ (k : ℕ). counted.moves d w b k ≡ false) (sym owned) (moves_same p h b m ∙ still)) in
+    let stays = y.taken_stays b Pop f (subst (λ (k : ℕ). counted.can_move d w b k ≡ false) (sym owned) (moves_same p h b m ∙ still)) in
     let before = not_come d w i b f absent in
     let there = came d w i (suc b) f present in
-    by_clock (next_clock b (d.lag Pop f)) stays before there (cases_Bool (counted.moves d w (suc b - d.lag Pop f) (d.owner Push f)))
+    by_clock (next_clock b (d.lag Pop f)) stays before there (cases_Bool (counted.can_move d w (suc b - d.lag Pop f) (d.owner Push f)))
   where
     by_clock : (suc (suc b) - (design p).lag Pop f ≡ suc (suc b - (design p).lag Pop f))
         ⊎ (suc (suc b) - (design p).lag Pop f ≡ suc b - (design p).lag Pop f)
         → (lockstep_run p).taken (suc b) Pop f ≡ (lockstep_run p).taken b Pop f
         → (design p).start Pop f + (lockstep_run p).taken (suc b - (design p).lag Pop f) Push f ≤ (lockstep_run p).taken b Pop f
         → (lockstep_run p).taken (suc b) Pop f < (design p).start Pop f + (lockstep_run p).taken (suc (suc b) - (design p).lag Pop f) Push f
-        → (counted.moves (design p) (lockstep_run p) (suc b - (design p).lag Pop f) ((design p).owner Push f) ≡ true)
-        ⊎ (counted.moves (design p) (lockstep_run p) (suc b - (design p).lag Pop f) ((design p).owner Push f) ≡ false)
+        → (counted.can_move (design p) (lockstep_run p) (suc b - (design p).lag Pop f) ((design p).owner Push f) ≡ true)
+        ⊎ (counted.can_move (design p) (lockstep_run p) (suc b - (design p).lag Pop f) ((design p).owner Push f) ≡ false)
         → WasPushed p b f
     by_clock q stays before there (inl move) = record {
       few = omega arith;
@@ -201,13 +202,13 @@ goes_back b n lag positive l = omega arith
 -- what is to be shown of each shorter chain
 abbrev AreEarliest : Plan → ℕ → Type 0
 AreEarliest p n = (m t : ℕ) → t < n → moves_at p t m ≡ true → crosses_full (chain p n m t) ≡ false
-    → IsEarliest (design p) (lockstep_run p) m t
+    → IsSoonest (design p) (lockstep_run p) m t
 
 from_pop : (p : Plan) → FitsEngine p → (n : ℕ) → AreEarliest p n → (m b : ℕ) → suc b < suc n → moves_at p b m ≡ false
     → moves_at p (suc b) m ≡ true → (r : Request)
     → find (stalls p b (state p b).contents) (requests_of p (m, state_at p b m)) ≡ Some r → side_of r.kind ≡ Pop
     → crosses_full (chain p n (owner p (record { side = Push; channel = r.channel })) (suc b - (design p).lag Pop r.channel)) ≡ false
-    → IsEarliest (design p) (lockstep_run p) m (suc b)
+    → IsSoonest (design p) (lockstep_run p) m (suc b)
 from_pop p h n all m b l still move r e side clear =
     let d = design p in
     let w = lockstep_run p in
@@ -230,28 +231,29 @@ from_pop p h n all m b l still move r e side clear =
     (all (d.owner Push f) (suc b - d.lag Pop f) (goes_back b n (d.lag Pop f) (i.lag_positive Pop f) l) pushed.moves clear)
 
 from_start : (p : Plan) → FitsEngine p → (n : ℕ) → AreEarliest p n → (m x : ℕ) → x < suc n → moves_at p x m ≡ true → IsStill p m x
-    → is_push (stood_at p x m) ≡ false → crosses_full (goes_on p (λ k c. chain p n k c) x (stood_at p x m)) ≡ false
-    → IsEarliest (design p) (lockstep_run p) m x
+    → is_push (stood_at p x m) ≡ false → crosses_full (chain_across p (λ k c. chain p n k c) x (stood_at p x m)) ≡ false
+    → IsSoonest (design p) (lockstep_run p) m x
 from_start p h n all m zero l move still first rest = Start m
 from_start p h n all m (suc b) l move still first rest =
     by_found (find (stalls p b (state p b).contents) (requests_of p (m, state_at p b m))) refl first rest
   where
     by_found : (o : Option Request) → find (stalls p b (state p b).contents) (requests_of p (m, state_at p b m)) ≡ o
-        → is_push (option_map port_of o) ≡ false → crosses_full (goes_on p (λ k c. chain p n k c) (suc b) (option_map port_of o)) ≡ false
-        → IsEarliest (design p) (lockstep_run p) m (suc b)
+        → is_push (option_map request_port o) ≡ false
+        → crosses_full (chain_across p (λ k c. chain p n k c) (suc b) (option_map request_port o)) ≡ false
+        → IsSoonest (design p) (lockstep_run p) m (suc b)
     by_found None e first rest = absurd (kept_still p h b m still move e)
     by_found (Some r) e first rest = by_side (side_of r.kind) refl first rest
       where
         by_side : (side : Side) → side_of r.kind ≡ side → same_side side Push ≡ false
             → crosses_full (chain p n (owner p (record { side = other_side side; channel = r.channel }))
             (suc b - lag_in p side r.channel)) ≡ false
-            → IsEarliest (design p) (lockstep_run p) m (suc b)
+            → IsSoonest (design p) (lockstep_run p) m (suc b)
         by_side Pop side first rest = from_pop p h n all m b l still move r e side rest
         by_side Push side first rest = absurd (cc)
 
 pub chain_more : (p : Plan) (n m t : ℕ) → chain p (suc n) m t
     ≡ record { «module» = m; first = span_start p m t; last = t; crossed = stood_at p (span_start p m t) m }
-    ∷ goes_on p (λ k c. chain p n k c) (span_start p m t) (stood_at p (span_start p m t) m)
+    ∷ chain_across p (λ k c. chain p n k c) (span_start p m t) (stood_at p (span_start p m t) m)
 unfolding chain
 chain_more p n m t = refl
 
@@ -327,7 +329,7 @@ none_ends_before p h none (suc c) done clear ds a earlier e =
         let unsettled = done_none_before p (suc c) done c (omega arith) in
         absurd (someone_moved p c unsettled settled found)
 
-pub none_ends_by : (p : Plan) → FitsEngine p → AsksNothing p → (m t : ℕ) → IsEarliest (design p) (lockstep_run p) m t
+pub none_ends_by : (p : Plan) → FitsEngine p → AsksNothing p → (m t : ℕ) → IsSoonest (design p) (lockstep_run p) m t
     → moves_at p t m ≡ true → NoneEndsBefore p (suc t)
 none_ends_by p h none m t early move ds a earlier e =
     no_earlier_end p h none m t early (moves_same p h t m ∙ move) ds a earlier e

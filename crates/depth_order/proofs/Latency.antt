@@ -9,12 +9,12 @@ use Rattle.event_timing.specs.Histories as counted
 use Rattle.event_timing.proofs.Standing.{moves_lives}
 use Rattle.timing_bridge.specs.Designs.{design, lockstep_run, start_in}
 use Rattle.timing_bridge.proofs.History.{plan_is_design, run_is_history}
-use Rattle.depth_order.specs.{Depths.with_depths, Depths.AreDepths, Depths.AsksNothing, Earliest.IsEarliest}
+use Rattle.depth_order.specs.{Depths.with_depths, Depths.AreDepths, Depths.AsksNothing, Earliest.IsSoonest}
 use Rattle.depth_order.proofs.{Plans.depths_fit, Ahead.with_start, Same.made_mono, Same.made_reached, Same.always_alike, Bound.no_further}
 use Rattle.depth_order.proofs.Order.{no_queries, same_design, same_elements, over_stays, over_of, done_ended}
 
-pub no_earlier_end : (p : Plan) → FitsEngine p → AsksNothing p → (m t : ℕ) → IsEarliest (design p) (lockstep_run p) m t
-    → counted.moves (design p) (lockstep_run p) t m ≡ true → (ds : List ℕ) → AreDepths p ds → (clock : ℕ)
+pub no_earlier_end : (p : Plan) → FitsEngine p → AsksNothing p → (m t : ℕ) → IsSoonest (design p) (lockstep_run p) m t
+    → counted.can_move (design p) (lockstep_run p) t m ≡ true → (ds : List ℕ) → AreDepths p ds → (clock : ℕ)
     → verdict (with_depths p ds) ≡ Done clock → suc t ≤ clock
 no_earlier_end p h none m t early move ds a clock e = elim (cases_lt t clock) [
   | inl l ↦ l

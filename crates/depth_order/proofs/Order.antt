@@ -19,7 +19,7 @@ use Rattle.lockstep_defs.proofs.{Found.verdict_none, Once.asks_once, Rules.keeps
 use Rattle.event_timing.specs.{Machines.Design, Machines.Each, Machines.IsDesign, Histories.Trace, Histories.IsHistory}
 use Rattle.event_timing.specs.Histories as counted
 use Rattle.event_timing.proofs.Standing.{moves_lives}
-use Rattle.timing_bridge.specs.Designs.{design, lockstep_run, seen, start_in, lag_in}
+use Rattle.timing_bridge.specs.Designs.{design, lockstep_run, seen_request, start_in, lag_in}
 use Rattle.timing_bridge.proofs.History.{plan_is_design, run_is_history}
 use Rattle.depth_order.specs.Depths.{with_depths, AreDepths, AreDeeper, AsksNothing, IsDoneBy, IsNoSlower}
 use Rattle.depth_order.proofs.{First.IsFirst, First.first_among, First.verdict_first, Plans.depths_fit}
@@ -55,7 +55,7 @@ counted_query : (blocks : Bool) (n : ℕ) → cond (not blocks) 1 0 + n ≤ 0 �
 counted_query true n h = (refl, omega arith)
 counted_query false n h = absurd (omega arith)
 
-all_block : (rs : List Request) → count_by (λ r. not (is_blocking r.kind)) rs ≤ 0 → Each (λ a. a.blocks ≡ true) (map seen rs)
+all_block : (rs : List Request) → count_by (λ r. not (is_blocking r.kind)) rs ≤ 0 → Each (λ a. a.blocks ≡ true) (map seen_request rs)
 all_block [] h = tt
 all_block (r ∷ rs) h =
     let more = sum_by-cons (λ r. cond (not (is_blocking r.kind)) 1 0) r rs in
@@ -96,7 +96,7 @@ over_stays p h m c (suc n) e =
     let d = design p in
     let w = lockstep_run p in
     let over = over_of p.ops (state_at p (n + c) m) before in
-    rw at (elim (cases_Bool (counted.moves d w (n + c) m)) [
+    rw at (elim (cases_Bool (counted.can_move d w (n + c) m)) [
       | inl e ↦ let lives = moves_lives d w (n + c) m e in absurd (cc)
       | inr e ↦ ap (λ (s : ModuleState). s.ended) ((run_is_history p h).state_stays (n + c) m e) ∙ before
     ])

@@ -6,17 +6,17 @@ use Rattle.std.specs.Prelude.{All}
 use Rattle.flow_design.specs.{declared.plan.Plan.Plan, declared.state.Element.Element, StaticRules.FitsEngine}
 use Rattle.flow_design.specs.declared.state.Request.{Request}
 use Rattle.lockstep_defs.specs.{Channels.Exchange, Machine.is_yes}
-use Rattle.lockstep_defs.specs.Lockstep.{requests_of, moves, answered, step_with, step_of, state, state_at, history}
+use Rattle.lockstep_defs.specs.Lockstep.{requests_of, moves, answered, step_with, module_step, state, state_at, history}
 use Rattle.lockstep_defs.specs.Report.{steps_of, queries, outcomes, answers_in, report}
 use Rattle.lockstep_defs.proofs.{Settled.history-zero, Agrees.steps_of-suc}
 use Rattle.event_timing.specs.Machines.{Each}
-use Rattle.timing_bridge.specs.Designs.{design, seen}
+use Rattle.timing_bridge.specs.Designs.{design, seen_request}
 use Rattle.depth_order.specs.Depths.{AsksNothing}
 use Rattle.depth_order.proofs.{Ahead.NoQueries, Order.no_queries}
 
 -- ---- one step
 
-none_asked : (p : Plan) (c : ℕ) (contents : List (List Element)) (rs : List Request) → Each (λ a. a.blocks ≡ true) (map seen rs)
+none_asked : (p : Plan) (c : ℕ) (contents : List (List Element)) (rs : List Request) → Each (λ a. a.blocks ≡ true) (map seen_request rs)
     → queries (map (answered p c contents) rs) ≡ []
 none_asked p c contents [] h = refl
 none_asked p c contents (r ∷ rs) h = rw h.0 (none_asked p c contents rs h.1)
@@ -25,7 +25,7 @@ none_told : (c i : ℕ) (xs : List Exchange) → queries xs ≡ [] → outcomes 
 none_told c i [] e = refl
 none_told c i (x ∷ xs) e = ap (λ (ys : List Exchange). map (λ x. is_yes x.reply) ys ++ []) e
 
-silent_step : (p : Plan) → NoQueries (design p) → (c i : ℕ) → outcomes (step_of p c (state p c).contents (i, state_at p c i)) ≡ []
+silent_step : (p : Plan) → NoQueries (design p) → (c i : ℕ) → outcomes (module_step p c (state p c).contents (i, state_at p c i)) ≡ []
 silent_step p none c i = by_test (moves p c (state p c).contents (i, state_at p c i))
   where
     by_test : (b : Bool)
@@ -41,7 +41,7 @@ silent : (p : Plan) → NoQueries (design p) → (i : ℕ) → i < length p.desi
 silent p none i l zero = rw history-zero refl
 silent p none i l (suc c) =
     ap outcomes (steps_of-suc p c i l)
-    ∙ (flat_map-append _ (steps_of i (history p c)) (step_of p c (state p c).contents (i, state_at p c i))
+    ∙ (flat_map-append _ (steps_of i (history p c)) (module_step p c (state p c).contents (i, state_at p c i))
     ∙ ap₂ (λ (a b : List Bool). a ++ b) (silent p none i l c) (silent_step p none c i))
 
 silent_answers : (p : Plan) → NoQueries (design p) → (c : ℕ) → All (λ (os : List Bool). os ≡ []) (answers_in p (history p c))

@@ -21,13 +21,13 @@ unfoldable pub span_start : Plan → ℕ → ℕ → ℕ
 span_start p m zero = zero
 span_start p m (suc c) = if moves_at p c m then span_start p m c else suc c
 
-abbrev pub port_of : Request → Port
-port_of r = record { side = side_of r.kind; channel = r.channel }
+abbrev pub request_port : Request → Port
+request_port r = record { side = side_of r.kind; channel = r.channel }
 
 -- the port that stalls module m in clock c: that of its first due blocking operation, in commit order, that cannot be done; a Pop
 -- is of an empty channel, and a Push of a full one
 abbrev pub stands_at : Plan → ℕ → ℕ → Option Port
-stands_at p c m = option_map port_of (find (stalls p c (state p c).contents) (requests_of p (m, state_at p c m)))
+stands_at p c m = option_map request_port (find (stalls p c (state p c).contents) (requests_of p (m, state_at p c m)))
 
 -- the port that stalls module m in the clock before this one; none before clock 0
 abbrev pub stood_at : Plan → ℕ → ℕ → Option Port
@@ -38,9 +38,9 @@ stood_at p (suc c) m = stands_at p c m
 
 -- the rest of the chain across a port: it goes on in the module at the other side, earlier by the port's lag, which is the
 -- channel's delay for a pop and one clock for a push
-abbrev pub goes_on : Plan → (ℕ → ℕ → List Link) → ℕ → Option Port → List Link
-goes_on p rest x None = []
-goes_on p rest x (Some a) =
+abbrev pub chain_across : Plan → (ℕ → ℕ → List Link) → ℕ → Option Port → List Link
+chain_across p rest x None = []
+chain_across p rest x (Some a) =
     rest (owner p (record { side = other_side a.side; channel = a.channel })) (x - lag_in p a.side a.channel)
 
 -- the chain back from clock t, in which module m moves, of at most n links; the latest link stands first
@@ -48,7 +48,7 @@ unfoldable pub chain : Plan → ℕ → ℕ → ℕ → List Link
 chain p zero m t = []
 chain p (suc n) m t =
     record { «module» = m; first = span_start p m t; last = t; crossed = stood_at p (span_start p m t) m }
-    ∷ goes_on p (λ k c. chain p n k c) (span_start p m t) (stood_at p (span_start p m t) m)
+    ∷ chain_across p (λ k c. chain p n k c) (span_start p m t) (stood_at p (span_start p m t) m)
 
 -- the first module, in order, that moves in clock c
 abbrev pub first_mover : Plan → ℕ → Option ℕ

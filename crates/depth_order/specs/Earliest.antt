@@ -2,12 +2,12 @@
 -- can come that is pushed as early as possible.
 use Rattle.std.specs.Prelude.{◌≡◌, ℕ, zero, suc, ◌+◌, ◌≤◌, Bool, true, false, cond, ◌&&◌, ◌||◌, eqb, List, [], ◌∷◌}
 use Rattle.flow_word.specs.{declared.access.Side.TheVariants.Pop, declared.access.Side.TheVariants.Push, Kinds.same_side}
-use Rattle.event_timing.specs.{Machines.Access, Machines.Design, Histories.Trace, Histories.moves}
+use Rattle.event_timing.specs.{Machines.Access, Machines.Design, Histories.Trace, Histories.can_move}
 
 -- how many local clocks a module has made before clock c
-unfoldable pub made : {S : Type 0} → Design S → Trace S → ℕ → ℕ → ℕ
-made {S} d h m zero = 0
-made {S} d h m (suc c) = cond (moves d h c m) (suc (made d h m c)) (made d h m c)
+unfoldable pub moves_made : {S : Type 0} → Design S → Trace S → ℕ → ℕ → ℕ
+moves_made {S} d h m zero = 0
+moves_made {S} d h m (suc c) = cond (can_move d h c m) (suc (moves_made d h m c)) (moves_made d h m c)
 
 -- the access blocks and pops the channel
 abbrev pub pops_of : ℕ → Access → Bool
@@ -22,9 +22,9 @@ waits_for ch (a ∷ xs) = pops_of ch a || waits_for ch xs
 --   this holds of the clock before, in which the module moves; or
 --   the module waits for an element of a channel, all that were pushed before clock b are popped, c is at most the channel's delay after b,
 --   and no depths let the pushing module make more local clocks before b
-pub data IsEarliest {S : Type 0} (d : Design S) (h : Trace S) : ℕ → ℕ → Type 0 where
-  Start : (m : ℕ) → IsEarliest d h m zero
-  Own : (m c : ℕ) → moves d h c m ≡ true → IsEarliest d h m c → IsEarliest d h m (suc c)
+pub data IsSoonest {S : Type 0} (d : Design S) (h : Trace S) : ℕ → ℕ → Type 0 where
+  Start : (m : ℕ) → IsSoonest d h m zero
+  Own : (m c : ℕ) → can_move d h c m ≡ true → IsSoonest d h m c → IsSoonest d h m (suc c)
   Empty : (m c b ch : ℕ) → waits_for ch (d.accesses m (h.state c m)) ≡ true
-      → d.start Pop ch + h.taken b Push ch ≤ h.taken c Pop ch → c ≤ b + d.lag Pop ch → IsEarliest d h (d.owner Push ch) b
-      → IsEarliest d h m c
+      → d.start Pop ch + h.taken b Push ch ≤ h.taken c Pop ch → c ≤ b + d.lag Pop ch → IsSoonest d h (d.owner Push ch) b
+      → IsSoonest d h m c

@@ -12,8 +12,8 @@ use Rattle.retime.specs.Edits.{OutcomesGrow}
 use Rattle.sim_core.specs.{Views.CoreView, Drives.AreOwn, Drives.Goes, Drives.HasDriven, Drives.IsDiffering, Edits.IsEdited}
 use Rattle.sim_core.specs.Records.{IsSoundCore, IsEditedOn, HasOtherAnswer, recorded_in, verified_in}
 use Rattle.sim_core.proofs.Rounds.{goes_same}
-use Rattle.depth_session.specs.{Records.RepeatsAnswers, Records.answers_of, Records.counted, Sessions.Session, Sessions.plan_behind}
-use Rattle.depth_session.specs.Settled.{IsSettled, HasGoneOn, count_of, count_with, session_of}
+use Rattle.depth_session.specs.{Records.RepeatsAnswers, Records.answers_of, Records.run_count, Sessions.Session, Sessions.plan_behind}
+use Rattle.depth_session.specs.Settled.{IsCoreSettled, HasGoneOn, count_of, count_with, settled_session}
 use Rattle.depth_session.proofs.Going.{apart, counts_differ, nothing_new}
 use Rattle.depth_session.proofs.Logs.{counts_of_logs, log_goes_on, recorded_at}
 
@@ -23,7 +23,8 @@ own_same v w lent count own m l = ap (λ (bs : List Bool). get_or bs m true) len
 -- ---- behind an edit
 
 -- it was found at once that a query is another
-pub differs_at_once : (v : CoreView) (e : Edit) (w : CoreView) (q : Query) (before now : ℕ) → IsSoundCore v → IsSoundCore w → IsSettled v
+pub differs_at_once : (v : CoreView) (e : Edit) (w : CoreView) (q : Query) (before now : ℕ) → IsSoundCore v → IsSoundCore w
+    → IsCoreSettled v
     → EditFits v.plan e → w.plan ≡ with_depth v.plan e.channel e.depth → IsEdited v w e (Differs q) before now
     → HasGoneOn (Differs q) v e w
 differs_at_once v e w q before now from to settled fits plan edited = (
@@ -51,7 +52,7 @@ differs_at_once v e w q before now from to settled fits plan edited = (
     found (inr (inr changed)) = let no : Differs q ≡ Same = changed.same in cc
 
 -- what was left was done, as far as it went
-pub went_on : (v : CoreView) (e : Edit) (middle w : CoreView) (before now after : ℕ) → IsSoundCore v → IsSoundCore w → IsSettled v
+pub went_on : (v : CoreView) (e : Edit) (middle w : CoreView) (before now after : ℕ) → IsSoundCore v → IsSoundCore w → IsCoreSettled v
     → EditFits v.plan e → middle.plan ≡ with_depth v.plan e.channel e.depth → IsEdited v middle e Same before now
     → Goes middle now w after → IsEditedOn v e w
 went_on v e middle w before now after from to settled fits plan edited goes = record {
@@ -71,7 +72,7 @@ went_on v e middle w before now after from to settled fits plan edited goes = re
 }
 
 -- all of it
-pub driven : (v : CoreView) (e : Edit) (w : CoreView) → IsEditedOn v e w → IsSettled v → w.lent ≡ v.lent → (guard : Guard)
+pub driven : (v : CoreView) (e : Edit) (w : CoreView) → IsEditedOn v e w → IsCoreSettled v → w.lent ≡ v.lent → (guard : Guard)
     → HasDriven guard w → HasGoneOn guard v e w
 driven v e w on settled lent Same final =
     let modules = ap (λ (p : Plan). length p.design.modules) (on.goes.plan ∙ on.plan) in
@@ -94,7 +95,7 @@ is_kept v w q o = ap (λ (os : List Bool). slice_get os q.number) (recorded_at v
 
 -- else one run more is counted
 pub counts_again : (v w : CoreView) (runs : ℕ) (q : Query) → HasOtherAnswer v.held.logs w.plan q
-    → count_with v runs w ≡ counted (report w.plan).answers (runs + 1)
+    → count_with v runs w ≡ run_count (report w.plan).answers (runs + 1)
 counts_again v w runs q o =
     let answers = (report w.plan).answers in
     let count = length-map v.held.logs (λ (l : Log). l.outcomes) in
@@ -164,7 +165,7 @@ none_added v e w t grow begin repeat m l =
     (subst (IsPrefix found) (recorded_at v.held.logs m) (repeat m (omega arith)))
 
 -- what is said of the session is said of its core
-pub repeats_in_core : (v : CoreView) (runs : ℕ) (live : Bool) (s : Session) (e : Edit) (p : Plan) → session_of v runs live ≡ s
+pub repeats_in_core : (v : CoreView) (runs : ℕ) (live : Bool) (s : Session) (e : Edit) (p : Plan) → settled_session v runs live ≡ s
     → p ≡ with_depth v.plan e.channel e.depth → RepeatsAnswers s.count.kept (report (plan_behind s e)).answers
     → RepeatsAnswers (recorded_in v.held.logs) (report p).answers
 repeats_in_core v runs live s e p is plan repeat =

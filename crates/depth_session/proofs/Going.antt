@@ -3,13 +3,13 @@ use Rattle.std.proofs.Common.{◌≡◌, ◌≢◌, refl, sym, ap, ap₂, subst,
 use Rattle.std.proofs.Common.{cond, List, [], ◌∷◌, ◌++◌, length, Some, arith, append-nil}
 use Rattle.std.proofs.{lemmas.Bool.cases_lt, lemmas.Bool.lt-ltb, lemmas.Bool.le-ltb, lemmas.List.length-append}
 use Rattle.std.specs.Prelude.{slice_get}
-use Rattle.outcome_guard.specs.{Prefixes.IsPrefix, Runs.goes_on, Runs.longer, Runs.all_go_on, Runs.all_longer, Runs.next_counts}
+use Rattle.outcome_guard.specs.{Prefixes.IsPrefix, Runs.agree_so_far, Runs.longer, Runs.all_go_on, Runs.all_longer, Runs.next_counts}
 use Rattle.outcome_guard.proofs.Kept.{tells_alike, goes_alike}
-use Rattle.depth_session.specs.Records.{GoesOn, RepeatsAnswers, answers_of, counted}
+use Rattle.depth_session.specs.Records.{RecordGoesOn, RepeatsAnswers, answers_of, run_count}
 
 -- ---- one module
 
-apart_stops : (a b : List Bool) → (IsPrefix a b → ⊥) → (IsPrefix b a → ⊥) → goes_on a b ≡ false
+apart_stops : (a b : List Bool) → (IsPrefix a b → ⊥) → (IsPrefix b a → ⊥) → agree_so_far a b ≡ false
 apart_stops a b p q = sym (tells_alike false a b ((λ e. cc), (λ s. absurd (elim s [ inl r ↦ p r | inr r ↦ q r ]))))
 
 at_most : (a b : List Bool) → IsPrefix a b → length a ≤ length b
@@ -29,7 +29,7 @@ first_longer a b l = ap (λ (t : Bool). cond t b a) (le-ltb (length a) (length b
 second_longer : (a b : List Bool) → length a < length b → longer a b ≡ b
 second_longer a b l = ap (λ (t : Bool). cond t b a) (lt-ltb (length a) (length b) l)
 
-one_goes_on : (kept found now : List Bool) → GoesOn kept found now → (goes_on kept found ≡ true) × (now ≡ longer kept found)
+one_goes_on : (kept found now : List Bool) → RecordGoesOn kept found now → (agree_so_far kept found ≡ true) × (now ≡ longer kept found)
 one_goes_on kept found now g =
     elim g.ends [
       | inl e ↦
@@ -46,7 +46,7 @@ one_goes_on kept found now g =
     ]
 
 -- it is as it was, where what is found is among others, which are among what is kept
-pub nothing_new : (kept found now all : List Bool) → GoesOn kept found now → IsPrefix found all → IsPrefix all kept → now ≡ kept
+pub nothing_new : (kept found now all : List Bool) → RecordGoesOn kept found now → IsPrefix found all → IsPrefix all kept → now ≡ kept
 nothing_new kept found now all g begin repeat =
     elim g.ends [
       | inl e ↦ e
@@ -68,18 +68,18 @@ apart a b j v w p q n (more, e) =
     n (cc)
 
 one_differs : (kept found : List Bool) (j : ℕ) (a b : Bool) → slice_get kept j ≡ Some a → slice_get found j ≡ Some b → a ≢ b
-    → goes_on kept found ≡ false
+    → agree_so_far kept found ≡ false
 one_differs kept found j a b p q n = apart_stops kept found (apart kept found j a b p q n) (apart found kept j b a q p (λ r. n (sym r)))
 
 -- ---- all modules
 
 later : (a b c : List Bool) (kept found now : List (List Bool))
-    → ((m : ℕ) → m < suc (length kept) → GoesOn (answers_of (a ∷ kept) m) (answers_of (b ∷ found) m) (answers_of (c ∷ now) m))
-    → (m : ℕ) → m < length kept → GoesOn (answers_of kept m) (answers_of found m) (answers_of now m)
+    → ((m : ℕ) → m < suc (length kept) → RecordGoesOn (answers_of (a ∷ kept) m) (answers_of (b ∷ found) m) (answers_of (c ∷ now) m))
+    → (m : ℕ) → m < length kept → RecordGoesOn (answers_of kept m) (answers_of found m) (answers_of now m)
 later a b c kept found now f m l = f (suc m) (omega arith)
 
 all_on : (kept found now : List (List Bool)) → length found ≡ length kept → length now ≡ length kept
-    → ((m : ℕ) → m < length kept → GoesOn (answers_of kept m) (answers_of found m) (answers_of now m))
+    → ((m : ℕ) → m < length kept → RecordGoesOn (answers_of kept m) (answers_of found m) (answers_of now m))
     → (all_go_on kept found ≡ true) × (all_longer kept found ≡ now)
 all_on [] [] [] e l f = (refl, refl)
 all_on [] [] (c ∷ now) e l f = absurd (omega arith)
@@ -98,30 +98,30 @@ none_on true = refl
 none_on false = refl
 
 all_off : (kept found : List (List Bool)) (m : ℕ) → m < length kept → m < length found
-    → goes_on (answers_of kept m) (answers_of found m) ≡ false → all_go_on kept found ≡ false
+    → agree_so_far (answers_of kept m) (answers_of found m) ≡ false → all_go_on kept found ≡ false
 all_off [] found m l u e = absurd (omega arith)
 all_off (a ∷ kept) [] m l u e = absurd (omega arith)
 all_off (a ∷ kept) (b ∷ found) zero l u e = ap (λ (p : Bool). p && all_go_on kept found) e
 all_off (a ∷ kept) (b ∷ found) (suc m) l u e =
-    ap (λ (q : Bool). goes_on a b && q) (all_off kept found m (omega arith) (omega arith) e) ∙ none_on (goes_on a b)
+    ap (λ (q : Bool). agree_so_far a b && q) (all_off kept found m (omega arith) (omega arith) e) ∙ none_on (agree_so_far a b)
 
 -- ---- the count
 
 pub counts_go_on : (kept found now : List (List Bool)) → length found ≡ length kept → length now ≡ length kept
-    → ((m : ℕ) → m < length kept → GoesOn (answers_of kept m) (answers_of found m) (answers_of now m))
-    → (runs : ℕ) → next_counts (counted kept runs) found ≡ counted now runs
+    → ((m : ℕ) → m < length kept → RecordGoesOn (answers_of kept m) (answers_of found m) (answers_of now m))
+    → (runs : ℕ) → next_counts (run_count kept runs) found ≡ run_count now runs
 unfolding next_counts
 counts_go_on kept found now e l f runs = let (on, is) = all_on kept found now e l f in rw (on, is) refl
 
 pub counts_repeat : (kept found : List (List Bool)) → length found ≡ length kept → RepeatsAnswers kept found
-    → (runs : ℕ) → next_counts (counted kept runs) found ≡ counted kept runs
+    → (runs : ℕ) → next_counts (run_count kept runs) found ≡ run_count kept runs
 counts_repeat kept found e f runs =
     counts_go_on kept found kept e refl
     (λ m l. record { grew = ([], sym (append-nil (answers_of kept m))); begins = f m l; ends = inl refl }) runs
 
 pub counts_differ : (kept found : List (List Bool)) (m j : ℕ) (a b : Bool) → m < length kept → m < length found
     → slice_get (answers_of kept m) j ≡ Some a → slice_get (answers_of found m) j ≡ Some b → a ≢ b
-    → (runs : ℕ) → next_counts (counted kept runs) found ≡ counted found (runs + 1)
+    → (runs : ℕ) → next_counts (run_count kept runs) found ≡ run_count found (runs + 1)
 unfolding next_counts
 counts_differ kept found m j a b l u p q n runs =
     let off = all_off kept found m l u (one_differs (answers_of kept m) (answers_of found m) j a b p q n) in

@@ -4,12 +4,12 @@ use Rattle.std.proofs.{Math.ListN.get_or-map, Math.Seq.take-length, lemmas.List.
 use Rattle.query_log.specs.Logs.{Log, no_log, log_at}
 use Rattle.outcome_guard.specs.Runs.{next_counts}
 use Rattle.retime.specs.Edits.{OutcomesGrow}
-use Rattle.depth_session.specs.Records.{GoesOn, answers_of, counted}
+use Rattle.depth_session.specs.Records.{RecordGoesOn, answers_of, run_count}
 use Rattle.sim_core.specs.Records.{recorded_in, verified_in}
 use Rattle.depth_session.proofs.Going.{counts_go_on}
 
 -- of one module
-pub log_goes_on : (old now : Log) → OutcomesGrow old now → GoesOn old.outcomes (take now.verified now.outcomes) now.outcomes
+pub log_goes_on : (old now : Log) → OutcomesGrow old now → RecordGoesOn old.outcomes (take now.verified now.outcomes) now.outcomes
 log_goes_on old now g = record {
   grew = g.grew;
   begins = (drop now.verified now.outcomes, sym (take-append-drop now.verified now.outcomes));
@@ -26,17 +26,18 @@ verified_at : (logs : List Log) (m : ℕ) → answers_of (verified_in logs) m �
 verified_at logs m = get_or-map (λ (l : Log). take l.verified l.outcomes) logs m no_log
 
 goes_on_at : (old now : List Log) (m : ℕ) → OutcomesGrow (log_at old m) (log_at now m)
-    → GoesOn (answers_of (recorded_in old) m) (answers_of (verified_in now) m) (answers_of (recorded_in now) m)
+    → RecordGoesOn (answers_of (recorded_in old) m) (answers_of (verified_in now) m) (answers_of (recorded_in now) m)
 goes_on_at old now m g =
-    subst (λ (kept : List Bool). GoesOn kept (answers_of (verified_in now) m) (answers_of (recorded_in now) m)) (sym (recorded_at old m))
-    (subst (λ (found : List Bool). GoesOn (log_at old m).outcomes found (answers_of (recorded_in now) m)) (sym (verified_at now m))
-    (subst (λ (all : List Bool). GoesOn (log_at old m).outcomes (take (log_at now m).verified (log_at now m).outcomes) all)
+    subst (λ (kept : List Bool). RecordGoesOn kept (answers_of (verified_in now) m) (answers_of (recorded_in now) m))
+    (sym (recorded_at old m))
+    (subst (λ (found : List Bool). RecordGoesOn (log_at old m).outcomes found (answers_of (recorded_in now) m)) (sym (verified_at now m))
+    (subst (λ (all : List Bool). RecordGoesOn (log_at old m).outcomes (take (log_at now m).verified (log_at now m).outcomes) all)
     (sym (recorded_at now m))
     (log_goes_on (log_at old m) (log_at now m) g)))
 
 pub counts_of_logs : (old now : List Log) → length now ≡ length old
     → ((m : ℕ) → m < length old → OutcomesGrow (log_at old m) (log_at now m))
-    → (runs : ℕ) → next_counts (counted (recorded_in old) runs) (verified_in now) ≡ counted (recorded_in now) runs
+    → (runs : ℕ) → next_counts (run_count (recorded_in old) runs) (verified_in now) ≡ run_count (recorded_in now) runs
 counts_of_logs old now e f runs =
     let a = length-map old (λ (l : Log). l.outcomes) in
     let b = length-map now (λ (l : Log). l.outcomes) in

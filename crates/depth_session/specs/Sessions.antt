@@ -11,8 +11,8 @@ pub record Session : Type 0 where
   pub live : Bool
 
 -- the session of a plan before any edit
-abbrev pub opened : Plan → Session
-opened p = record { plan = p; count = first_counts (report p).answers; live = true }
+abbrev pub opening_session : Plan → Session
+opening_session p = record { plan = p; count = first_counts (report p).answers; live = true }
 
 abbrev pub plan_behind : Session → Edit → Plan
 plan_behind s e = with_depth s.plan e.channel e.depth

@@ -8,7 +8,7 @@ ghost use Rattle.sim_core.specs.{Views.theory_of, Drives.AreOwn, Drives.Goes, Dr
 ghost use Rattle.sim_core.specs.Records.{IsSoundCore, IsEditedOn, recorded_in};
 ghost use Rattle.depth_order.specs.Depths.{AsksNothing};
 ghost use Rattle.depth_session.specs.Records.{RepeatsAnswers};
-ghost use Rattle.depth_session.specs.Settled.{IsSettled, HasGoneOn, HasRun, count_of, count_with};
+ghost use Rattle.depth_session.specs.Settled.{IsCoreSettled, HasGoneOn, MayRunSome, count_of, count_with};
 
 use crate::runner::Runner;
 use flow_design::{Edit, Plan};
@@ -33,11 +33,11 @@ pub(crate) fn follow<R: Threads + Wait + Sync, U: Runner>(
     edit: &Edit,
     runner: &mut U,
 ) -> Result<u64, OutOfMemory>
-    requires settled { IsSettled core.old }
+    requires settled { IsCoreSettled core.old }
     requires few { runs < u64.MAX }
     requires fits { EditFits core.old.plan edit.now }
     ensures plan { core.new.plan ≡ with_depth core.old.plan edit.now.channel edit.now.depth }
-    ensures settled { OnOk result (IsSettled core.new) }
+    ensures settled { OnOk result (IsCoreSettled core.new) }
     ensures counted { IfOk result (λ now. count_of core.new now ≡ count_with core.old runs core.new) }
     ensures made { U.made runner.old < u64.MAX → IfOk result (λ now. U.made runner.new + runs ≡ U.made runner.old + now) }
     ensures at_most { U.made runner.old < u64.MAX
@@ -62,12 +62,12 @@ fn go_on<L: Ledger>(core: &mut Core, edit: &Edit, blank: Blank) -> Result<Guard,
     requires name { blank.name ≡ L.name }
     requires parts { blank.parts ≡ L.parts }
     requires one { L.parts ≡ 1 }
-    requires settled { IsSettled core.old }
+    requires settled { IsCoreSettled core.old }
     requires fits { EditFits core.old.plan edit.now }
     ensures plan { core.new.plan ≡ with_depth core.old.plan edit.now.channel edit.now.depth }
     ensures sound { IsSoundCore core.new }
     ensures gone { IfOk result (λ guard. HasGoneOn guard core.old edit.now core.new) }
-    ensures no_memory { OnErr result (IsEditedOn core.old edit.now core.new × HasRun core.new) }
+    ensures no_memory { OnErr result (IsEditedOn core.old edit.now core.new × MayRunSome core.new) }
 {
     let _before = core.modules();
     let mut steps = Steps::<L>::new(blank);
@@ -87,7 +87,7 @@ fn drive_on<L: Ledger>(core: &mut Core, steps: &mut Steps<L>) -> Result<Guard, O
     ensures goes { Goes core.old steps.old core.new steps.new }
     ensures sound { IsSoundCore core.new }
     ensures driven { IfOk result (λ guard. HasDriven guard core.new) }
-    ensures no_memory { OnErr result (HasRun core.new) }
+    ensures no_memory { OnErr result (MayRunSome core.new) }
 {
     let guard = core.drive(steps);
     let _now = core.modules();
@@ -104,7 +104,7 @@ fn run_again<R: Threads + Wait + Sync, U: Runner>(
 ) -> Result<(), OutOfMemory>
     requires { FitsEngine core.old.plan }
     ensures plan { core.new.plan ≡ core.old.plan }
-    ensures settled { OnOk result (IsSettled core.new) }
+    ensures settled { OnOk result (IsCoreSettled core.new) }
     ensures answers { OnOk result (recorded_in core.new.held.logs ≡ (report core.new.plan).answers) }
     ensures counted { U.made runner.old < u64.MAX → OnOk result (U.made runner.new ≡ U.made runner.old + 1) }
     ensures at_most { U.made runner.old < u64.MAX → U.made runner.new ≤ U.made runner.old + 1 }
@@ -126,7 +126,7 @@ fn second_core<R: Threads + Wait + Sync, U: Runner>(
     requires verified { AllVerified (theory_of opening) }
     requires own { AreOwn opening }
     ensures plan { IfOk result (λ core. core.plan ≡ opening.plan) }
-    ensures settled { IfOk result (λ core. IsSettled core) }
+    ensures settled { IfOk result (λ core. IsCoreSettled core) }
     ensures answers { IfOk result (λ core. recorded_in core.held.logs ≡ (report opening.plan).answers) }
     ensures counted { U.made runner.old < u64.MAX → U.made runner.new ≡ U.made runner.old + 1 }
     ensures stays { u64.MAX ≤ U.made runner.old → U.made runner.new ≡ U.made runner.old }
@@ -146,7 +146,7 @@ pub(crate) fn first_core<R: Threads + Wait + Sync, U: Runner>(
 ) -> Result<Core, OutOfMemory>
     requires { FitsEngine plan }
     ensures plan { IfOk result (λ core. core.plan ≡ plan) }
-    ensures settled { IfOk result (λ core. IsSettled core) }
+    ensures settled { IfOk result (λ core. IsCoreSettled core) }
     ensures answers { IfOk result (λ core. recorded_in core.held.logs ≡ (report plan).answers) }
     ensures counted { U.made runner.old < u64.MAX → U.made runner.new ≡ U.made runner.old + 1 }
     ensures stays { u64.MAX ≤ U.made runner.old → U.made runner.new ≡ U.made runner.old }

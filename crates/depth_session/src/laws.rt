@@ -1,7 +1,7 @@
 //! The laws of the answers that a session keeps.
 ghost use Rattle.std.specs.Prelude.{◌≡◌, ◌≢◌, ℕ, ◌+◌, ◌<◌, Bool, List, length, slice_get, Some};
 ghost use Rattle.outcome_guard.specs.Runs.{next_counts};
-ghost use Rattle.depth_session.specs.Records.{GoesOn, RepeatsAnswers, answers_of, counted};
+ghost use Rattle.depth_session.specs.Records.{RecordGoesOn, RepeatsAnswers, answers_of, run_count};
 ghost use Rattle.query_log.specs.Logs.{Log, log_at};
 ghost use Rattle.sim_core.specs.Records.{recorded_in, verified_in};
 ghost use Rattle.retime.specs.Edits.{OutcomesGrow};
@@ -11,18 +11,18 @@ ghost use Rattle.retime.specs.Edits.{OutcomesGrow};
 /// found that differs from the recorded one, there is one more run, whose answers are kept.
 pub fn records_go_on()
     ensures goes_on { (kept found now : List (List Bool)) → length found ≡ length kept → length now ≡ length kept
-        → ((m : ℕ) → m < length kept → GoesOn (answers_of kept m) (answers_of found m) (answers_of now m))
-        → (runs : ℕ) → next_counts (counted kept runs) found ≡ counted now runs }
+        → ((m : ℕ) → m < length kept → RecordGoesOn (answers_of kept m) (answers_of found m) (answers_of now m))
+        → (runs : ℕ) → next_counts (run_count kept runs) found ≡ run_count now runs }
     ensures repeats { (kept found : List (List Bool)) → length found ≡ length kept → RepeatsAnswers kept found
-        → (runs : ℕ) → next_counts (counted kept runs) found ≡ counted kept runs }
+        → (runs : ℕ) → next_counts (run_count kept runs) found ≡ run_count kept runs }
     ensures differs { (kept found : List (List Bool)) (m j : ℕ) (a b : Bool) → m < length kept → m < length found
         → slice_get (answers_of kept m) j ≡ Some a → slice_get (answers_of found m) j ≡ Some b → a ≢ b
-        → (runs : ℕ) → next_counts (counted kept runs) found ≡ counted found (runs + 1) }
+        → (runs : ℕ) → next_counts (run_count kept runs) found ≡ run_count found (runs + 1) }
 {}
 
 /// A session need not keep answers of its own where an edit only added to the outcomes in the log, and its report has the verified
 /// ones: after the report what is kept is what the log holds, and no run is counted.
 pub fn logs_are_kept()
     ensures { (old now : List Log) → length now ≡ length old → ((m : ℕ) → m < length old → OutcomesGrow (log_at old m) (log_at now m))
-        → (runs : ℕ) → next_counts (counted (recorded_in old) runs) (verified_in now) ≡ counted (recorded_in now) runs }
+        → (runs : ℕ) → next_counts (run_count (recorded_in old) runs) (verified_in now) ≡ run_count (recorded_in now) runs }
 {}

@@ -8,7 +8,8 @@ ghost use Rattle.timing_bridge.specs.Designs.{design};
 ghost use Rattle.engine_report.specs.Finished.{report_with};
 ghost use Rattle.sim_core.specs.Views.{theory_of};
 ghost use Rattle.depth_order.specs.Depths.{AsksNothing};
-ghost use Rattle.depth_session.specs.{Records.RepeatsAnswers, Sessions.opened, Sessions.plan_behind, Sessions.with_edit, Sessions.IsBroken};
+ghost use Rattle.depth_session.specs.Records.{RepeatsAnswers};
+ghost use Rattle.depth_session.specs.Sessions.{opening_session, plan_behind, with_edit, IsBroken};
 
 use crate::following::{first_core, follow};
 use crate::runner::Runner;
@@ -46,15 +47,15 @@ impl Model for DepthSession {
     ghost use Rattle.std.specs.Coded.{codes};
     ghost use Rattle.flow_design.specs.Codes.{plan_code};
     ghost use Rattle.depth_session.specs.Sessions.{Session};
-    ghost use Rattle.depth_session.specs.Settled.{IsSettled, session_of};
+    ghost use Rattle.depth_session.specs.Settled.{IsCoreSettled, settled_session};
 
     ghost Value = { Session };
 
     ghost coded = { Prim.hlevel (codes, plan_code) };
 
-    ghost view = { λ s. session_of s.core s.runs s.live };
+    ghost view = { λ s. settled_session s.core s.runs s.live };
 
-    ghost invariant = { λ s. s.live ≡ true → IsSettled s.core };
+    ghost invariant = { λ s. s.live ≡ true → IsCoreSettled s.core };
 }
 
 impl DepthSession {
@@ -68,7 +69,7 @@ impl DepthSession {
         runner: &mut U,
     ) -> Result<DepthSession, OutOfMemory>
         requires { FitsEngine plan }
-        ensures opened { IfOk result (λ session. session ≡ opened plan) }
+        ensures opened { IfOk result (λ session. session ≡ opening_session plan) }
         ensures counted { U.made runner.old < u64.MAX → U.made runner.new ≡ U.made runner.old + 1 }
         ensures stays { u64.MAX ≤ U.made runner.old → U.made runner.new ≡ U.made runner.old }
     {

@@ -11,7 +11,7 @@ use Rattle.flow_design.specs.{declared.limits.TheConstants.FIFO_DEPTH, declared.
 use Rattle.flow_design.specs.{Plans.kind_at, Plans.with_depth, Plans.EditFits, StaticRules.FitsEngine}
 use Rattle.outcome_guard.specs.Edits.{depth_after, plan_after}
 use Rattle.timelines.specs.Fills.{fifos}
-use Rattle.depth_sweep.specs.Grid.{depth_edits, with_depths}
+use Rattle.depth_sweep.specs.Grid.{depth_edits, with_fifo_depths}
 use Rattle.flow_word.proofs.Ranges.{range_more}
 
 -- ---- the FIFOs that were passed
@@ -110,8 +110,8 @@ module _ (p : Plan) (channels : List ℕ) (are : channels ≡ fifos p) where
 
   -- all edits are made
   pub all_edited : (now : Plan) (k : ℕ) (depths : List ℕ) → now ≡ plan_after p (take k (depth_edits channels depths))
-      → length channels ≤ k → length depths ≡ length channels → now ≡ with_depths p depths
-  unfolding with_depths
+      → length channels ≤ k → length depths ≡ length channels → now ≡ with_fifo_depths p depths
+  unfolding with_fifo_depths
   all_edited now k depths is over count =
       is ∙ (ap (plan_after p) (take_all k (depth_edits channels depths) (omega (arith, edits_long depths count)))
       ∙ ap (λ (xs : List ℕ). plan_after p (depth_edits xs depths)) are)

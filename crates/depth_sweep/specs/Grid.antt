@@ -29,14 +29,14 @@ abbrev pub depth_edits : List ℕ → List ℕ → List Edit
 depth_edits channels depths = map (λ e. record { channel = e.0; depth = e.1 }) (zip channels depths)
 
 -- the plan with these depths on its FIFOs
-unfoldable pub with_depths : Plan → List ℕ → Plan
-with_depths p depths = plan_after p (depth_edits (fifos p) depths)
+unfoldable pub with_fifo_depths : Plan → List ℕ → Plan
+with_fifo_depths p depths = plan_after p (depth_edits (fifos p) depths)
 
 -- ---- points
 
 -- the point of these depths, with the verdict of the plan that has them
 unfoldable pub point : Plan → List ℕ → Point
-point p depths = record { depths = depths; verdict = (report (with_depths p depths)).verdict }
+point p depths = record { depths = depths; verdict = (report (with_fifo_depths p depths)).verdict }
 
 -- the most points that a sweep simulates
 abbrev pub most_points : ℕ

@@ -11,6 +11,6 @@ pub record IsBestOf (points : List Point) (n : ℕ) (kept : Finish) : Type 0 whe
   pub first : (other : ℕ) → other < n → IsDoneAt points other kept.latency kept.total → kept.place ≤ other
 
 -- `Some` is the best of the first n points; with `None`, none of them is done
-abbrev pub IsKept : List Point → ℕ → Option Finish → Type 0
-IsKept points n None = (other l t : ℕ) → other < n → ¬ IsDoneAt points other l t
-IsKept points n (Some kept) = IsBestOf points n kept
+abbrev pub IsBestKept : List Point → ℕ → Option Finish → Type 0
+IsBestKept points n None = (other l t : ℕ) → other < n → ¬ IsDoneAt points other l t
+IsBestKept points n (Some kept) = IsBestOf points n kept

@@ -1,7 +1,7 @@
 //! The FIFOs of a plan, and how to give them other depths.
 ghost use Rattle.std.specs.Prelude.{◌≡◌, ◌<◌, ◌≤◌, length, All, IfOk};
 ghost use Rattle.flow_design.specs.{Plans.is_fifo, Plans.kind_at, declared.limits.TheConstants.FIFO_DEPTH, StaticRules.FitsEngine};
-ghost use Rattle.depth_sweep.specs.Grid.{with_depths};
+ghost use Rattle.depth_sweep.specs.Grid.{with_fifo_depths};
 ghost use Rattle.timelines.specs.Fills.{fifos};
 
 use flow_design::{Edit, Plan, edit_plan};
@@ -51,7 +51,7 @@ pub(crate) fn set_depths(plan: &mut Plan, channels: &[u32], depths: &[u64])
     requires channels { channels.now ≡ fifos plan.old }
     requires count { length depths.now ≡ length channels.now }
     requires limits { All (λ depth. (1 ≤ depth) × (depth ≤ FIFO_DEPTH)) depths.now }
-    ensures depths { plan.new ≡ with_depths plan.old depths.now }
+    ensures depths { plan.new ≡ with_fifo_depths plan.old depths.now }
     ensures fits { FitsEngine plan.new }
 {
     edits_in_order();

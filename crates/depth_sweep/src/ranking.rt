@@ -1,7 +1,7 @@
 //! The best of some points.
 ghost use Rattle.std.specs.Prelude.{◌≡◌, ◌≢◌, ℕ, ◌<◌, ◌+◌, ◌⊎◌, ◌↔◌, IsTrue, length, sum, slice_index_or, IfSome, IfNone};
 ghost use Rattle.flow_design.specs.declared.report.Verdict.TheVariants.{Done};
-ghost use Rattle.depth_sweep.specs.{Best.IsBest, Best.IsDoneAt, Best.point_at, Kept.IsKept};
+ghost use Rattle.depth_sweep.specs.{Best.IsBest, Best.IsDoneAt, Best.point_at, Kept.IsBestKept};
 
 use crate::point::Point;
 use flow_design::Verdict;
@@ -34,8 +34,8 @@ pub fn best(points: &[Point]) -> Option<u64>
 /// The best of the points up to this place, given the best of those before it.
 fn with_next(kept: Option<Finish>, points: &[Point], place: usize) -> Option<Finish>
     requires place { place < length points.now }
-    requires kept { IsKept points.now place kept }
-    ensures { IsKept points.now (place + 1) result }
+    requires kept { IsBestKept points.now place kept }
+    ensures { IsBestKept points.now (place + 1) result }
 {
     let Some(next) = finish_of(place as u64, &points[place]) else {
         return kept;

@@ -23,12 +23,12 @@ kind_in a = kind_by a.side a.blocks a.takes
 pub kind_seen : (a : Access) → kind_in (seen a) ≡ a.kind
 kind_seen a = grind arith
 
-kind_asked : (r : Request) → kind_in (bridge.seen r) ≡ r.kind
+kind_asked : (r : Request) → kind_in (bridge.seen_request r) ≡ r.kind
 kind_asked r = grind arith
 
 -- they are of the same kind
-pub same_kind : (r : Request) (a : Access) → bridge.seen r ≡ seen a → r.kind ≡ a.kind
+pub same_kind : (r : Request) (a : Access) → bridge.seen_request r ≡ seen a → r.kind ≡ a.kind
 same_kind r a e = let asked = kind_asked r in let there = kind_seen a in cc
 
-pub same_channel : (r : Request) (a : Access) → bridge.seen r ≡ seen a → r.channel ≡ a.channel
+pub same_channel : (r : Request) (a : Access) → bridge.seen_request r ≡ seen a → r.channel ≡ a.channel
 same_channel r a e = ap (λ (t : theory.Access). t.channel) e

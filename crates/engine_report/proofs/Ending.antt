@@ -16,13 +16,13 @@ use Rattle.time_engine.specs.Cycles.{open_step, determined}
 use Rattle.event_timing.specs.{Machines.ready, Views.own, Views.from, Enablers.candidate, Agreement.stop}
 use Rattle.event_timing.specs.Core.{Core, core_reply, view}
 use Rattle.timing_bridge.specs.{Designs.design, OwnRuns.clocks_of_steps}
-use Rattle.timing_bridge.specs.CoreReports.{core_state, core_states, is_determined, core_verdict, modules_of}
+use Rattle.timing_bridge.specs.CoreReports.{core_state, core_states, determines_some, core_verdict, modules_of}
 use Rattle.timing_bridge.specs.CoreReports as theory
 use Rattle.timing_bridge.proofs.History.{plan_is_design}
 use Rattle.engine_view.specs.Held.{Held, step_of, no_step, emitted_of, waited, core_of}
 use Rattle.engine_view.proofs.{Bounds.candidate_is, Knowing.timed_within}
 use Rattle.engine_report.specs.declared.verdict.Standing.{Standing}
-use Rattle.engine_report.specs.Standings.{end_at, standing_behind, standing_at, last_stop, verdict_by}
+use Rattle.engine_report.specs.Standings.{end_at, standing_behind, standing_at, latest_stop, verdict_by}
 use Rattle.engine_report.specs.Finished.{IsEndMark, IsFinished, emitted_state, end_gap}
 use Rattle.engine_report.proofs.{Same.map_same, Loops.mapped_more}
 
@@ -161,14 +161,14 @@ any_mapped : {X Y : Type 0} (q : X → Bool) (g : Y → X) (ys : List Y) → lis
 any_mapped q g [] = refl
 any_mapped q g (y ∷ ys) = let later = any_mapped q g ys in grind arith
 
-last_is : (p : Plan) (x : Core ModuleState) (n : ℕ) → last_stop (map (standing_in p x) (range_with_len 0 n)) ≡ theory.last_stop p x n
+last_is : (p : Plan) (x : Core ModuleState) (n : ℕ) → latest_stop (map (standing_in p x) (range_with_len 0 n)) ≡ theory.last_stop p x n
 last_is p x zero = refl
 last_is p x (suc n) =
     let folded = fold-append (λ (clock : ℕ) (s : Standing). max clock s.stop) 0 (map (standing_in p x) (range_with_len 0 n))
     (standing_in p x n ∷ []) in
     let later = last_is p x n in
-    ap (λ (k : ℕ). last_stop (map (standing_in p x) (range_with_len 0 k))) (sym (add-one n))
-    ∙ (ap last_stop (mapped_more (standing_in p x) n) ∙ (folded ∙ omega arith))
+    ap (λ (k : ℕ). latest_stop (map (standing_in p x) (range_with_len 0 k))) (sym (add-one n))
+    ∙ (ap latest_stop (mapped_more (standing_in p x) n) ∙ (folded ∙ omega arith))
 
 abbrev decide : ℕ → Bool → Bool → Bool → ℕ → Verdict
 decide limit determined ended spent last = cond (determined || nat_lt limit last) (Cycles limit)

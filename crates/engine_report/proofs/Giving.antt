@@ -14,8 +14,8 @@ use Rattle.event_timing.specs.Core.{Core}
 use Rattle.timing_bridge.specs.{Designs.design, CoreReports.core_step, CoreReports.steps_at}
 use Rattle.engine_view.specs.Held.{Held, core_of}
 use Rattle.engine_report.specs.declared.events.TimedStep.{TimedStep}
-use Rattle.engine_report.specs.{Finished.IsFinished, Keys.place_of, Keys.IsTimedKey, Walks.IsWalked, declared.walk.StepWalk.StepWalk}
-use Rattle.engine_report.specs.Walking.{never, next_cycle, to_give, IsWalk, HasGiven, FoundIn}
+use Rattle.engine_report.specs.{Finished.IsFinished, Keys.step_place, Keys.IsTimedKey, Walks.IsWalked, declared.walk.StepWalk.StepWalk}
+use Rattle.engine_report.specs.Walking.{past_every_cycle, next_cycle, to_give, IsWalk, HasGiven, FoundIn}
 use Rattle.engine_report.proofs.Leading.{walk_leads}
 use Rattle.engine_report.proofs.Walking.{walk_begins, walk_passes, walk_skips, walk_goes_on, walk_ends}
 
@@ -26,9 +26,9 @@ sound_at lanes sound i l = sound i no_lane l
 
 -- a cycle is earlier than never
 cycle_early : (lanes : List Lane) → All IsSoundLane lanes → (i k : ℕ) → i < length lanes → k < length (lane_at lanes i).cycles
-    → next_cycle lanes i k < never
+    → next_cycle lanes i k < past_every_cycle
 cycle_early lanes sound i k l m =
-    let bound : get_or (lane_at lanes i).cycles k never < cycle_bound = (sound_at lanes sound i l).below k never m in
+    let bound : get_or (lane_at lanes i).cycles k past_every_cycle < cycle_bound = (sound_at lanes sound i l).below k past_every_cycle m in
     omega arith
 
 -- the next one is later
@@ -37,18 +37,24 @@ cycle_later : (lanes : List Lane) → All IsSoundLane lanes → (i k : ℕ) → 
 cycle_later lanes sound i k l m = elim (cases_lt (k + 1) (length (lane_at lanes i).cycles)) [
   | inl w ↦
       let rises : get_or (lane_at lanes i).cycles k 0 < get_or (lane_at lanes i).cycles (k + 1) 0 = (sound_at lanes sound i l).rising k w in
-      omega (arith, get_or_default (lane_at lanes i).cycles k never 0 m, get_or_default (lane_at lanes i).cycles (k + 1) never 0 w)
+      omega (
+        arith,
+        get_or_default (lane_at lanes i).cycles k past_every_cycle 0 m,
+        get_or_default (lane_at lanes i).cycles
+            (k + 1) past_every_cycle 0 w,
+      )
   | inr w ↦
       let early = cycle_early lanes sound i k l m in
-      let none : next_cycle lanes i (k + 1) ≡ never = get_or_past (lane_at lanes i).cycles (k + 1) never w in
+      let none : next_cycle lanes i (k + 1) ≡ past_every_cycle = get_or_past (lane_at lanes i).cycles (k + 1) past_every_cycle w in
       omega arith
 ]
 
 -- a step whose cycle is earlier than never is there
-cycle_there : (lanes : List Lane) (i k : ℕ) → next_cycle lanes i k < never → k < length (lane_at lanes i).cycles
+cycle_there : (lanes : List Lane) (i k : ℕ) → next_cycle lanes i k < past_every_cycle → k < length (lane_at lanes i).cycles
 cycle_there lanes i k l = elim (cases_lt k (length (lane_at lanes i).cycles)) [
   | inl w ↦ w
-  | inr w ↦ (let none : next_cycle lanes i k ≡ never = get_or_past (lane_at lanes i).cycles k never w in absurd (omega arith))
+  | inr w ↦ (let none : next_cycle lanes i k ≡ past_every_cycle = get_or_past (lane_at lanes i).cycles k past_every_cycle w in
+      absurd (omega arith))
 ]
 
 -- ---- how many are left
@@ -75,7 +81,8 @@ sum_more given i l = omega (arith, sum_by-set (λ (n : ℕ). n) given i (get_or 
 -- ---- the beginning
 
 pub walk_new : (lanes : List Lane) (walk : StepWalk) → walk.given ≡ replicate (length lanes) 0
-    → walk.next ≡ map (λ i. next_cycle lanes i 0) (range_with_len 0 (length lanes)) → walk.clock ≡ 0 → walk.module ≡ 0 → walk.later ≡ never
+    → walk.next ≡ map (λ i. next_cycle lanes i 0) (range_with_len 0 (length lanes)) → walk.clock ≡ 0 → walk.module ≡ 0
+    → walk.later ≡ past_every_cycle
     → IsWalk lanes walk × HasGiven lanes walk []
 walk_new lanes walk g n c m t = (
   record {
@@ -180,7 +187,7 @@ module _ (lanes : List Lane) (sound : All IsSoundLane lanes) (old new : StepWalk
   key_timed = record {
     is_key = record {
       there = record { owner = inside; step = let all = (sound_at lanes sound o inside).prefix in let l = there in omega arith };
-      cycle = sym its_cycle ∙ get_or_default (lane_at lanes o).cycles k never 0 there;
+      cycle = sym its_cycle ∙ get_or_default (lane_at lanes o).cycles k past_every_cycle 0 there;
     };
     timed = there;
   }
@@ -195,14 +202,15 @@ module _ (lanes : List Lane) (sound : All IsSoundLane lanes) (old new : StepWalk
   more_given steps h = record {
     done = λ p held e.
         let x = core_of (design p) held in
-        let at = map place_of steps in
+        let at = map step_place steps in
         let now : (core_of (design p) held).cycle o k ≡ old.clock =
-        ap (λ (ls : List Lane). get_or (lane_at ls o).cycles k 0) e ∙ (sym (get_or_default (lane_at lanes o).cycles k never 0 there) ∙ its_cycle) in
+        ap (λ (ls : List Lane). get_or (lane_at ls o).cycles k 0) e
+        ∙ (sym (get_or_default (lane_at lanes o).cycles k past_every_cycle 0 there) ∙ its_cycle) in
         let passed = walk_passes p x (steps_at p x at) old.given old.clock old.module o (h.done p held e)
         (let n = w.givens in omega arith) (omega arith) now in
-        let steps_now : steps_at p x (map place_of (steps ++ key ∷ [])) ≡ steps_at p x at ++ core_step p x o k ∷ [] =
-        ap (steps_at p x) (map-append place_of steps (key ∷ [])) ∙ map-append (λ (a : ℕ × ℕ). core_step p x a.0 a.1) at ((o, k) ∷ []) in
-        walked_as p x (steps_at p x at ++ core_step p x o k ∷ []) (steps_at p x (map place_of (steps ++ key ∷ [])))
+        let steps_now : steps_at p x (map step_place (steps ++ key ∷ [])) ≡ steps_at p x at ++ core_step p x o k ∷ [] =
+        ap (steps_at p x) (map-append step_place steps (key ∷ [])) ∙ map-append (λ (a : ℕ × ℕ). core_step p x a.0 a.1) at ((o, k) ∷ []) in
+        walked_as p x (steps_at p x at ++ core_step p x o k ∷ []) (steps_at p x (map step_place (steps ++ key ∷ [])))
         (set old.given o (k + 1)) new.given old.clock new.clock (suc o) new.module passed steps_now given clock (omega arith);
   }
 
@@ -247,21 +255,22 @@ module _ (lanes : List Lane) (old new : StepWalk) (w : IsWalk lanes old) (o : �
   same_steps steps h = record {
     done = λ p held e.
         let x = core_of (design p) held in
-        let at = steps_at p x (map place_of steps) in
+        let at = steps_at p x (map step_place steps) in
         walked_as p x at at old.given new.given old.clock new.clock (suc o) new.module
         (walk_skips p x at old.given old.clock old.module (suc o) (h.done p held e) (omega arith)) refl given clock (omega arith);
   }
 
 -- ---- a round begins
 
-module _ (lanes : List Lane) (old new : StepWalk) (w : IsWalk lanes old) (round : old.module ≡ length lanes) (more : old.later < never)
-    (given : new.given ≡ old.given) (next : new.next ≡ old.next) (clock : new.clock ≡ old.later) (later : new.later ≡ never)
+module _ (lanes : List Lane) (old new : StepWalk) (w : IsWalk lanes old) (round : old.module ≡ length lanes)
+    (more : old.later < past_every_cycle)
+    (given : new.given ≡ old.given) (next : new.next ≡ old.next) (clock : new.clock ≡ old.later) (later : new.later ≡ past_every_cycle)
     (after : new.module ≡ 0) where
   pub begun_steps : (steps : List TimedStep) → HasGiven lanes old steps → HasGiven lanes new steps
   begun_steps steps h = record {
     done = λ p held e.
         let x = core_of (design p) held in
-        let at = steps_at p x (map place_of steps) in
+        let at = steps_at p x (map step_place steps) in
         walked_as p x at at old.given new.given old.later new.clock 0 new.module
         (walk_goes_on p x at old.given old.clock old.module old.later (h.done p held e) w.later) refl given clock (omega arith);
   }
@@ -269,7 +278,7 @@ module _ (lanes : List Lane) (old new : StepWalk) (w : IsWalk lanes old) (round 
 -- ---- the end
 
 module _ (lanes : List Lane) (sound : All IsSoundLane lanes) (walk : StepWalk) (w : IsWalk lanes walk) (round : walk.module ≡ length lanes)
-    (over : never ≤ walk.later) where
+    (over : past_every_cycle ≤ walk.later) where
   all_given : (i : ℕ) → get_or walk.given i 0 ≡ length (lane_at lanes i).cycles
   all_given i = elim (cases_lt i (length lanes)) [
     | inl l ↦ elim (cases_lt (get_or walk.given i 0) (length (lane_at lanes i).cycles)) [
@@ -285,10 +294,10 @@ module _ (lanes : List Lane) (sound : All IsSoundLane lanes) (walk : StepWalk) (
 
   pub given_all : (steps : List TimedStep) → HasGiven lanes walk steps → (p : Plan) (held : Held) (ends : List (Option Advance))
       → IsFinished p held ends → held.lanes ≡ lanes
-      → steps_at p (core_of (design p) held) (map place_of steps) ≡ history p (clock_of (verdict p))
+      → steps_at p (core_of (design p) held) (map step_place steps) ≡ history p (clock_of (verdict p))
   given_all steps h p held ends f e =
       let x = core_of (design p) held in
-      walk_ends p f.fits x f.agreed f.final (steps_at p x (map place_of steps)) walk.given walk.clock walk.module (h.done p held e)
+      walk_ends p f.fits x f.agreed f.final (steps_at p x (map step_place steps)) walk.given walk.clock walk.module (h.done p held e)
       (λ i. all_given i ∙ ap (λ (ls : List Lane). length (lane_at ls i).cycles) (sym e))
 
 -- ---- before the end
@@ -305,7 +314,7 @@ module _ (lanes : List Lane) (sound : All IsSoundLane lanes) (walk : StepWalk) (
       → get_or walk.next i 0 ≤ get_or (lane_at lanes i).cycles k 0
   cycle_after i k l from to =
       let n = get_or walk.given i 0 in
-      let first = get_or_default (lane_at lanes i).cycles n never 0 (omega arith) in
+      let first = get_or_default (lane_at lanes i).cycles n past_every_cycle 0 (omega arith) in
       let here = w.each i l in
       elim (cases_lt n k) [
         | inl less ↦ (let rises = rising_between (lane_at lanes i).cycles (sound_at lanes sound i l).rising n (k - n) (omega arith) in
@@ -348,10 +357,10 @@ module _ (lanes : List Lane) (sound : All IsSoundLane lanes) (walk : StepWalk) (
   -- what it has given begins the history
   pub given_first : (steps : List TimedStep) → HasGiven lanes walk steps → (p : Plan) (held : Held) (ends : List (Option Advance))
       → IsFinished p held ends → held.lanes ≡ lanes
-      → (rest : List HistoryStep) × (steps_at p (core_of (design p) held) (map place_of steps) ++ rest ≡ history p (clock_of (verdict p)))
+      → (rest : List HistoryStep) × (steps_at p (core_of (design p) held) (map step_place steps) ++ rest ≡ history p (clock_of (verdict p)))
   given_first steps h p held ends f e =
       let x = core_of (design p) held in
-      walk_leads p f.fits x f.agreed f.final (steps_at p x (map place_of steps)) walk.given walk.clock walk.module (h.done p held e)
+      walk_leads p f.fits x f.agreed f.final (steps_at p x (map step_place steps)) walk.given walk.clock walk.module (h.done p held e)
       (λ i. subst (λ (ls : List Lane). get_or walk.given i 0 ≤ length (lane_at ls i).cycles) (sym e) (few_given i))
       (λ i k from to. subst (λ (ls : List Lane). k < length (lane_at ls i).cycles
       → (walk.clock < get_or (lane_at ls i).cycles k 0) ⊎ ((walk.clock ≡ get_or (lane_at ls i).cycles k 0) × (walk.module ≤ i))) (sym e)
@@ -371,17 +380,18 @@ module _ (lanes : List Lane) (sound : All IsSoundLane lanes) (old between : Step
   )
 
   pub round_found : (begun new : StepWalk) (so_far found : Option TimedStep) → IsNone so_far → IsWalk lanes between
-      → FoundIn lanes old so_far between → between.later < never → begun.given ≡ between.given → begun.next ≡ between.next
-      → begun.clock ≡ between.later → begun.later ≡ never → begun.module ≡ 0 → FoundIn lanes begun found new → FoundIn lanes old found new
+      → FoundIn lanes old so_far between → between.later < past_every_cycle → begun.given ≡ between.given → begun.next ≡ between.next
+      → begun.clock ≡ between.later → begun.later ≡ past_every_cycle → begun.module ≡ 0 → FoundIn lanes begun found new
+      → FoundIn lanes old found new
   round_found begun new (Some step) found none w h more given next clock later after k = cc
   round_found begun new None found none w h more given next clock later after k =
       found_after begun new found (given ∙ h.1)
       (λ steps g. begun_steps lanes between begun w h.0 more given next clock later after steps (h.2 steps g)) k
 
   pub end_found : (found : Option TimedStep) → IsWalk lanes between → FoundIn lanes old found between
-      → never ≤ between.later → IsNone found → (steps : List TimedStep) → HasGiven lanes old steps
+      → past_every_cycle ≤ between.later → IsNone found → (steps : List TimedStep) → HasGiven lanes old steps
       → (p : Plan) (held : Held) (ends : List (Option Advance)) → IsFinished p held ends → held.lanes ≡ lanes
-      → steps_at p (core_of (design p) held) (map place_of steps) ≡ history p (clock_of (verdict p))
+      → steps_at p (core_of (design p) held) (map step_place steps) ≡ history p (clock_of (verdict p))
   end_found (Some step) w h over none steps g p held ends f e = cc
   end_found None w h over none steps g p held ends f e =
       given_all lanes sound between w h.0 over steps (h.2 steps g) p held ends f e

@@ -13,7 +13,7 @@ use Rattle.timing_bridge.specs.{Designs.design, Designs.told_all, CoreReports.co
 use Rattle.timing_bridge.specs.Designs as bridge
 use Rattle.engine_view.specs.{Held.Held, Held.step_of, Held.seen, Held.core_of, Shown.IsSound}
 use Rattle.engine_view.proofs.Knowing.{timed_within}
-use Rattle.engine_report.specs.Read.{event_of, events_at, places_of, timed_places, AreEvents}
+use Rattle.engine_report.specs.Read.{event_line, events_at, numbered_places, timed_places, AreEvents}
 use Rattle.engine_report.proofs.{Loops.all_mapped, Loops.all_given, Asking.same_kind, Asking.same_channel}
 
 -- ---- one step
@@ -21,11 +21,11 @@ use Rattle.engine_report.proofs.{Loops.all_mapped, Loops.all_given, Asking.same_
 abbrev event_with : ℕ → ℕ → Kind → ℕ → EventLine
 event_with i cycle kind channel = record { «module» = i; kind = kind; channel = channel; cycle = cycle }
 
-told_events : (s : HistoryStep) (rs : List Request) (xs : List Access) (ys : List Reply) → map bridge.seen rs ≡ map seen xs
-    → map (machine.event_of s) (paired rs ys) ≡ map (event_of s.module s.clock) xs
+told_events : (s : HistoryStep) (rs : List Request) (xs : List Access) (ys : List Reply) → map bridge.seen_request rs ≡ map seen xs
+    → map (machine.event_of s) (paired rs ys) ≡ map (event_line s.module s.clock) xs
 told_events s [] [] ys e = refl
 told_events s (r ∷ rs) (a ∷ xs) ys e =
-    let one : bridge.seen r ≡ seen a = cc in
+    let one : bridge.seen_request r ≡ seen a = cc in
     rw (same_kind r a one, same_channel r a one, told_events s rs xs (drop 1 ys) (cc)) refl
 told_events s rs xs ys e = absurd cc
 
@@ -51,8 +51,8 @@ all_events p h s (a ∷ places) all =
 
 -- ---- all steps
 
-pub all_timed : (h : Held) (a n : ℕ) → All (IsTimed h) (flat_map (places_of h.lanes) (range_with_len a n))
-all_timed h a n = all_given (IsTimed h) (places_of h.lanes) a n (λ i l.
+pub all_timed : (h : Held) (a n : ℕ) → All (IsTimed h) (flat_map (numbered_places h.lanes) (range_with_len a n))
+all_timed h a n = all_given (IsTimed h) (numbered_places h.lanes) a n (λ i l.
     all_mapped (IsTimed h) (λ (k : ℕ). (i, k)) (length (lane_at h.lanes i).cycles) (λ k less. record { less = less }))
 
 pub events_are : (p : Plan) (h : Held) → IsSound (design p) h → (events : List EventLine) → AreEvents h.lanes events
@@ -60,7 +60,7 @@ pub events_are : (p : Plan) (h : Held) → IsSound (design p) h → (events : Li
 events_are p h s events e = (
   e.places,
   record {
-    all = subst (λ (n : ℕ). IsPermutation (flat_map (places_of h.lanes) (range_with_len 0 n)) e.places) s.lanes e.all;
+    all = subst (λ (n : ℕ). IsPermutation (flat_map (numbered_places h.lanes) (range_with_len 0 n)) e.places) s.lanes e.all;
     sorted = e.sorted;
   },
   e.are ∙ all_events p h s e.places (All-permutation (IsTimed h) (timed_places h.lanes) e.places e.all (all_timed h 0 (length h.lanes))),

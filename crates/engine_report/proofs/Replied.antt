@@ -33,7 +33,8 @@ abbrev AreFirst : (ℕ → List ℕ) → (ℕ → ℕ) → List Request → List
 AreFirst V t rs xs outs = outcomes_in (paired rs (told_all rs (replies_of V t (map seen xs) (flags_by xs outs)))) ≡ take
     (queries_in xs) outs
 
-step_outcomes : (V : ℕ → List ℕ) (t : ℕ → ℕ) (rs : List Request) (xs : List Access) → map bridge.seen rs ≡ map seen xs → (outs : List Bool)
+step_outcomes : (V : ℕ → List ℕ) (t : ℕ → ℕ) (rs : List Request) (xs : List Access) → map bridge.seen_request rs ≡ map seen xs
+    → (outs : List Bool)
     → queries_in xs ≤ length outs → AreFirst V t rs xs outs
 step_outcomes V t [] [] e outs l = refl
 step_outcomes V t (r ∷ rs) (a ∷ xs) e [] l =

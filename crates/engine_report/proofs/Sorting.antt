@@ -6,8 +6,8 @@ use Rattle.std.specs.{Prelude.All, Prelude.IsPermutation, List.Sorted.IsSorted, 
 use Rattle.std.specs.{Ordering.nat_cmp, Ordering.ordering_then, Cmp.nat_cmp_is, declared.cmp.Ordering.Ordering}
 use Rattle.std.specs.declared.cmp.Ordering.TheVariants.{Less, Equal}
 use Rattle.event_graph.specs.Lanes.{Lane, lane_at, no_lane, IsSoundLane}
-use Rattle.engine_report.specs.{declared.events.TimedStep.TimedStep, Read.is_before, Read.owners, Read.places_of}
-use Rattle.engine_report.specs.Keys.{key_of, keys_of, place_of, HasKey, AreSortedKeys}
+use Rattle.engine_report.specs.{declared.events.TimedStep.TimedStep, Read.is_step_before, Read.owners, Read.numbered_places}
+use Rattle.engine_report.specs.Keys.{key_of, keys_of, step_place, HasKey, AreSortedKeys}
 use Rattle.engine_report.proofs.Loops.{all_mapped, all_given}
 
 -- by cycle, then by module, then by number
@@ -25,13 +25,13 @@ all_keys lanes sound = all_given (HasKey lanes) (keys_of lanes) 0 (length lanes)
 -- ---- they are the places
 
 places_in : (lanes : List Lane) (a n : ℕ)
-    → map place_of (flat_map (keys_of lanes) (range_with_len a n)) ≡ flat_map (places_of lanes) (range_with_len a n)
+    → map step_place (flat_map (keys_of lanes) (range_with_len a n)) ≡ flat_map (numbered_places lanes) (range_with_len a n)
 places_in lanes a zero = refl
 places_in lanes a (suc n) =
     rw (
-      map-append place_of (keys_of lanes a) (flat_map (keys_of lanes) (range_with_len (a + 1) n)),
+      map-append step_place (keys_of lanes a) (flat_map (keys_of lanes) (range_with_len (a + 1) n)),
       places_in lanes (a + 1) n,
-      map-map place_of (key_of lanes a) (range_with_len 0 (length (lane_at lanes a).cycles)),
+      map-map step_place (key_of lanes a) (range_with_len 0 (length (lane_at lanes a).cycles)),
     ) refl
 
 -- ---- the order
@@ -43,7 +43,7 @@ equal_is : (x y : ℕ) → x ≡ y → nat_cmp x y ≡ Equal
 equal_is x y e = sym (nat_cmp_is x y Equal e)
 
 not_before : (lanes : List Lane) (a b : TimedStep) → HasKey lanes a → HasKey lanes b → is_lt (key_cmp a b) ≡ false
-    → is_before lanes (place_of a) (place_of b) ≡ false
+    → is_step_before lanes (step_place a) (step_place b) ≡ false
 not_before lanes a b ka kb e =
     let at_a = ka.cycle in
     let at_b = kb.cycle in
@@ -58,17 +58,17 @@ pub sorted_keys : (lanes : List Lane) (old new : List TimedStep) → All IsSound
 sorted_keys lanes old new sound is moved sorted =
     let each = All-permutation (HasKey lanes) old new moved
     (subst (All (HasKey lanes)) (sym is) (all_keys lanes sound)) in
-    let count = length-map new place_of in
+    let count = length-map new step_place in
     record {
       each = each;
-      all = subst (λ (places : List (ℕ × ℕ)). IsPermutation places (map place_of new))
-          (ap (map place_of) is ∙ places_in lanes 0 (length lanes)) (IsPermutation-map place_of old new moved);
+      all = subst (λ (places : List (ℕ × ℕ)). IsPermutation places (map step_place new))
+          (ap (map step_place) is ∙ places_in lanes 0 (length lanes)) (IsPermutation-map step_place old new moved);
       sorted = λ k d low high.
           let z : TimedStep = record { cycle = 0; «module» = 0; step = 0 } in
           let first : k < length new = omega arith in
           let second : k + 1 < length new = omega arith in
-          let a = get_or-map place_of new k z d first in
-          let b = get_or-map place_of new (k + 1) z d second in
+          let a = get_or-map step_place new k z d first in
+          let b = get_or-map step_place new (k + 1) z d second in
           rw (a, b) (not_before lanes (get_or new (k + 1) z) (get_or new k z) (each (k + 1) z second) (each k z first)
           (sorted k z low second));
     }

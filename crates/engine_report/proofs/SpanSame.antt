@@ -13,18 +13,18 @@ use Rattle.timing_bridge.specs.Designs.{design}
 use Rattle.engine_view.specs.{Held.Held, Held.core_of, Held.step_of, Held.emitted_of, Held.seen, Known.as_known, Shown.IsSound}
 use Rattle.engine_view.proofs.Knowing.{access_known_in}
 use Rattle.timelines.specs.CoreDoings.{known_in, waits_at, doing_at, core_doing}
-use Rattle.engine_report.specs.Reading.{waits, doing_of, doing_in}
+use Rattle.engine_report.specs.Reading.{must_wait, doing_of, doing_in}
 
 same_doing : (lanes : List Lane) (channels : List Channel) (know : theory.Access → Known) (c : ℕ) (xs : List Access)
     → AllByRecursion (λ (a : Access). as_known (when_possible lanes channels a) ≡ know (seen a)) xs
     → doing_in lanes channels xs c ≡ doing_at (find (waits_at know c) (map seen xs))
 same_doing lanes channels know c [] h = refl
 same_doing lanes channels know c (a ∷ xs) h =
-    by_test (waits lanes channels c a) (waits_at know c (seen a))
+    by_test (must_wait lanes channels c a) (waits_at know c (seen a))
     (ap (λ (k : Known). is_blocking a.kind && not (answer k c)) h.0) (same_doing lanes channels know c xs h.1)
   where
     by_test : (b e : Bool) → b ≡ e → doing_in lanes channels xs c ≡ doing_at (find (waits_at know c) (map seen xs))
-        → doing_of (cond b (Some a) (find (waits lanes channels c) xs))
+        → doing_of (cond b (Some a) (find (must_wait lanes channels c) xs))
         ≡ doing_at (cond e (Some (seen a)) (find (waits_at know c) (map seen xs)))
     by_test true true q h = refl
     by_test true false q h = cc

@@ -15,8 +15,8 @@ use Rattle.timelines.proofs.Causes.{timed_gap, timed_after, step_moves, stands-d
 use Rattle.timelines.proofs.Extending.{listed_spans, spans_listed, span_over, span_none}
 use Rattle.engine_view.specs.Held.{Held, core_of, step_of, no_step, emitted_of, waited}
 use Rattle.engine_view.proofs.Knowing.{timed_within}
-use Rattle.engine_report.specs.{Finished.IsFinished, Finished.IsEndMark, Finished.end_gap, Standings.end_at, Standings.gap_of}
-use Rattle.engine_report.specs.Reading.{Stands, cycle_before, clock_after, HasPassedSteps}
+use Rattle.engine_report.specs.{Finished.IsFinished, Finished.IsEndMark, Finished.end_gap, Standings.end_at, Standings.gap_of_end}
+use Rattle.engine_report.specs.Reading.{StandsBetween, cycle_before, clock_after, HasPassedSteps}
 use Rattle.engine_report.proofs.{Ending.waited_is, Ending.apart_at, Ending.end_there, SpanSame.reads_core}
 use Rattle.timelines.specs.{declared.span.Span.Span, declared.span.Doing.TheVariants.Moves, Doings.doing, Spans.AreSpansBelow}
 use Rattle.timelines.specs.{Spans.AreSpans, Coming.reached, Coming.Comes, Coming.Does, CoreDoings.arrives}
@@ -58,7 +58,7 @@ arrives_at p h ends f i k inside less =
     omega arith
 
 mark_gap : (p : Plan) (h : Held) (i : ℕ) (mark : Advance) → IsEndMark p (core_of (design p) h) i mark
-    → gap_of (Some mark) ≡ end_gap p (core_of (design p) h) i
+    → gap_of_end (Some mark) ≡ end_gap p (core_of (design p) h) i
 mark_gap p h i (Step step) m = absurd m
 mark_gap p h i (Ended gap) m = m.1
 mark_gap p h i (Spent gap) m = m.1
@@ -66,10 +66,10 @@ mark_gap p h i (Spent gap) m = m.1
 ends_at : (p : Plan) (h : Held) (ends : List (Option Advance)) → IsFinished p h ends → (i : ℕ) → i < length h.lanes
     → emitted_of h i ≡ timed_of h i
     → arrives (design p) (core_of (design p) h) i (timed_of h i)
-    ≡ cycle_before (cycles_of h i) (timed_of h i) + gap_of (end_at ends i)
+    ≡ cycle_before (cycles_of h i) (timed_of h i) + gap_of_end (end_at ends i)
 ends_at p h ends f i inside all =
     let (mark, there) = end_there p h ends f i inside (omega arith) in
-    let gap : gap_of (end_at ends i) ≡ end_gap p (core_of (design p) h) i = ap (λ (o : Option Advance). gap_of o) there
+    let gap : gap_of_end (end_at ends i) ≡ end_gap p (core_of (design p) h) i = ap (λ (o : Option Advance). gap_of_end o) there
     ∙ mark_gap p h i mark (f.marks.each i mark there) in
     let last = rw all at gap in
     let first = after_before (cycles_of h i) (timed_of h i) in
@@ -101,7 +101,7 @@ gap_told p h ends i clock r k b last cycle until less e l q u = λ c y z.
 wait_told : (p : Plan) (h : Held) (ends : List (Option Advance)) (i clock : ℕ) → IsRead p h ends i clock → (k b last cycle until : ℕ)
     → k < timed_of h i → last ≡ cycle_before (cycles_of h i) k
     → cycle ≡ get_or (cycles_of h i) k 0 → until ≡ min cycle clock
-    → Stands p i h.lanes h.channels (step_of h i k).accesses (max b (min (last + (step_of h i k).gap) until)) until
+    → StandsBetween p i h.lanes h.channels (step_of h i k).accesses (max b (min (last + (step_of h i k).gap) until)) until
 wait_told p h ends i clock r k b last cycle until less l q u = λ c y z.
     let f = r.finished in
     let x = core_of (design p) h in
@@ -129,7 +129,7 @@ pub step_told : (p : Plan) (h : Held) (ends : List (Option Advance)) (i clock : 
     → cycle ≡ get_or (cycles_of h i) k 0 → until ≡ min cycle clock → next ≡ min (cycle + 1) clock
     → HasPassedSteps p i clock (cycles_of h i) k old
     → (Comes p i old → Does p i (reached old) (min (last + (step_of h i k).gap) until) Moves
-    → Stands p i h.lanes h.channels (step_of h i k).accesses (max (reached old) (min (last + (step_of h i k).gap) until)) until
+    → StandsBetween p i h.lanes h.channels (step_of h i k).accesses (max (reached old) (min (last + (step_of h i k).gap) until)) until
     → Comes p i mid)
     → reached mid ≡ max (reached old) until → (Comes p i mid → Does p i (reached mid) next Moves → Comes p i new)
     → reached new ≡ max (reached mid) next → HasPassedSteps p i clock (cycles_of h i) (k + 1) new
@@ -161,7 +161,7 @@ open_gap_told p h ends i clock r b last less e l = λ c y z.
 -- and stands at it up to the verdict's clock
 open_wait_told : (p : Plan) (h : Held) (ends : List (Option Advance)) (i clock : ℕ) → IsRead p h ends i clock → (b last : ℕ)
     → timed_of h i < emitted_of h i → last ≡ cycle_before (cycles_of h i) (timed_of h i)
-    → Stands p i h.lanes h.channels (step_of h i (timed_of h i)).accesses
+    → StandsBetween p i h.lanes h.channels (step_of h i (timed_of h i)).accesses
     (max b (min (last + (step_of h i (timed_of h i)).gap) clock)) clock
 open_wait_told p h ends i clock r b last less l = λ c y z.
     let f = r.finished in
@@ -180,7 +180,7 @@ pub open_told : (p : Plan) (h : Held) (ends : List (Option Advance)) (i clock : 
     → (old new : List Span) → k ≡ timed_of h i → k < emitted_of h i
     → last ≡ cycle_before (cycles_of h i) (timed_of h i) → HasPassedSteps p i clock (cycles_of h i) (timed_of h i) old
     → (Comes p i old → Does p i (reached old) (min (last + (step_of h i k).gap) clock) Moves
-    → Stands p i h.lanes h.channels (step_of h i k).accesses (max (reached old) (min (last + (step_of h i k).gap) clock)) clock
+    → StandsBetween p i h.lanes h.channels (step_of h i k).accesses (max (reached old) (min (last + (step_of h i k).gap) clock)) clock
     → Comes p i new)
     → reached new ≡ max (reached old) clock → AreSpans p i new
 open_told p h ends i clock r k last old new t less l s stood to =
@@ -193,7 +193,7 @@ open_told p h ends i clock r k last old new t less l s stood to =
 -- or it moves up to its end, where there is no further step, and is over
 pub end_told : (p : Plan) (h : Held) (ends : List (Option Advance)) (i clock : ℕ) → IsRead p h ends i clock → (last next : ℕ)
     → (old new : List Span) → emitted_of h i ≡ timed_of h i
-    → last ≡ cycle_before (cycles_of h i) (timed_of h i) → next ≡ min (last + gap_of (end_at ends i)) clock
+    → last ≡ cycle_before (cycles_of h i) (timed_of h i) → next ≡ min (last + gap_of_end (end_at ends i)) clock
     → HasPassedSteps p i clock (cycles_of h i) (timed_of h i) old
     → (Comes p i old → Does p i (reached old) next Moves → Comes p i new) → reached new ≡ max (reached old) next → AreSpans p i new
 end_told p h ends i clock r last next old new n l u s moved to =
@@ -221,7 +221,7 @@ none_told p i clock cycles = record {
 pub record HasModule (h : Held) (ends : List (Option Advance)) (i : ℕ) : Type 0 where
   pub lane : i < length h.lanes
   pub mark : i < length ends
-  pub short : gap_of (end_at ends i) < gap_bound
+  pub short : gap_of_end (end_at ends i) < gap_bound
 
 pub has_module : (p : Plan) (h : Held) (ends : List (Option Advance)) → IsFinished p h ends → (i : ℕ) → i < length p.design.modules
     → HasModule h ends i

@@ -18,14 +18,14 @@ use Rattle.timing_bridge.specs.Designs as bridge
 use Rattle.engine_view.specs.Held as view
 use Rattle.engine_view.specs.{Held.step_of, Held.no_step, Held.emitted_of, Held.seen, Held.core_of, Known.as_known, Shown.IsSound}
 use Rattle.engine_view.proofs.Knowing.{access_known}
-use Rattle.engine_report.specs.Read.{held_at, held_by, all_held}
+use Rattle.engine_report.specs.Read.{held_by_access, held_at_open_step, all_held}
 use Rattle.engine_report.proofs.{Asking.same_kind, Asking.same_channel, Same.found_same}
 
 no_clock : (k : of_code.Known) → is_none (known_clock k) ≡ not (is_from (as_known k))
 no_clock k = grind arith
 
 -- the access waits where the request is stuck
-waits_same : (p : Plan) (h : view.Held) (i : ℕ) (r : Request) (a : Access) → bridge.seen r ≡ seen a
+waits_same : (p : Plan) (h : view.Held) (i : ℕ) (r : Request) (a : Access) → bridge.seen_request r ≡ seen a
     → as_known (when_possible h.lanes h.channels a) ≡ known_of (design p) (view (design p) (core_of (design p) h)) i (seen a)
     → is_waiting h.lanes h.channels a ≡ is_stuck p (core_of (design p) h) i r
 waits_same p h i r a e known =
@@ -33,17 +33,17 @@ waits_same p h i r a e known =
     let none = no_clock (when_possible h.lanes h.channels a) in
     grind arith
 
-held_same : (i : ℕ) (r : Request) (a : Access) → bridge.seen r ≡ seen a → held_at i a ≡ machine.held_at i r
+held_same : (i : ℕ) (r : Request) (a : Access) → bridge.seen_request r ≡ seen a → held_by_access i a ≡ machine.held_at i r
 held_same i r a e = rw (same_kind r a e, same_channel r a e) refl
 
-first_held : (p : Plan) (h : view.Held) (i : ℕ) (rs : List Request) (xs : List Access) → map bridge.seen rs ≡ map seen xs
+first_held : (p : Plan) (h : view.Held) (i : ℕ) (rs : List Request) (xs : List Access) → map bridge.seen_request rs ≡ map seen xs
     → AllByRecursion (λ (a : Access). as_known (when_possible h.lanes h.channels a)
     ≡ known_of (design p) (view (design p) (core_of (design p) h)) i (seen a)) xs
-    → option_map (held_at i) (find (is_waiting h.lanes h.channels) xs) ≡ option_map (machine.held_at i)
+    → option_map (held_by_access i) (find (is_waiting h.lanes h.channels) xs) ≡ option_map (machine.held_at i)
     (find (is_stuck p (core_of (design p) h) i) rs)
 first_held p h i [] [] e all = refl
 first_held p h i (r ∷ rs) (a ∷ xs) e all =
-    let one : bridge.seen r ≡ seen a = cc in
+    let one : bridge.seen_request r ≡ seen a = cc in
     let waits = waits_same p h i r a one all.0 in
     let rest = first_held p h i rs xs (cc) all.1 in
     let same = held_same i r a one in
@@ -51,7 +51,7 @@ first_held p h i (r ∷ rs) (a ∷ xs) e all =
 first_held p h i rs xs e all = absurd cc
 
 module_held : (p : Plan) → IsDesign (design p) → (h : view.Held) → IsSound (design p) h → (i : ℕ)
-    → held_by h.lanes h.channels i ≡ core_held_by p (core_of (design p) h) i
+    → held_at_open_step h.lanes h.channels i ≡ core_held_by p (core_of (design p) h) i
 module_held p y h s i =
     let x = core_of (design p) h in
     let lane = lane_at h.lanes i in
@@ -68,9 +68,11 @@ pub all_held_is : (p : Plan) → IsDesign (design p) → (h : view.Held) → IsS
     → all_held h.lanes h.channels v ≡ core_held p (core_of (design p) h) v
 all_held_is p y h s (Done c) = refl
 all_held_is p y h s (Deadlock c) =
-    found_same (held_by h.lanes h.channels) (core_held_by p (core_of (design p) h)) 0 (length h.lanes) (λ i l. module_held p y h s i)
+    found_same (held_at_open_step h.lanes h.channels) (core_held_by p (core_of (design p) h)) 0 (length h.lanes)
+    (λ i l. module_held p y h s i)
     ∙ ap (λ (n : ℕ). filter_map (core_held_by p (core_of (design p) h)) (range_with_len 0 n)) s.lanes
 all_held_is p y h s (Cycles c) = refl
 all_held_is p y h s (Ops c) =
-    found_same (held_by h.lanes h.channels) (core_held_by p (core_of (design p) h)) 0 (length h.lanes) (λ i l. module_held p y h s i)
+    found_same (held_at_open_step h.lanes h.channels) (core_held_by p (core_of (design p) h)) 0 (length h.lanes)
+    (λ i l. module_held p y h s i)
     ∙ ap (λ (n : ℕ). filter_map (core_held_by p (core_of (design p) h)) (range_with_len 0 n)) s.lanes

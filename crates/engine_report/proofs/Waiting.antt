@@ -11,7 +11,7 @@ use Rattle.time_engine.specs.{declared.known.Known.Known, Possible.when_possible
 use Rattle.event_timing.specs.Enablers.{answer}
 use Rattle.engine_view.specs.Known.{as_known}
 use Rattle.engine_report.proofs.Loops.{first_found, none_found}
-use Rattle.engine_report.specs.Reading.{waits, doing_of, known_until, HasWaited, HasPassed}
+use Rattle.engine_report.specs.Reading.{must_wait, doing_of, known_until, HasWaited, HasPassed}
 
 until_within : (k : Known) (until : ℕ) → known_until k until ≤ until
 until_within k until = grind arith
@@ -50,10 +50,10 @@ pub waited_more : (lanes : List Lane) (channels : List Channel) (accesses : List
 waited_more lanes channels accesses until n old new next d l w f = record {
   comes = λ p i h s. f.comes p i (w.comes p i h s) (λ c x y t.
       s c (omega (arith, w.later)) y
-      ∙ ap (λ o. Some (doing_of o)) (first_found (waits lanes channels c) accesses n d l (w.clear c x y) t));
+      ∙ ap (λ o. Some (doing_of o)) (first_found (must_wait lanes channels c) accesses n d l (w.clear c x y) t));
   later = omega (arith, w.later, f.later);
   within = omega (arith, w.within, f.within);
-  clear = λ c x y. none_found (waits lanes channels c) accesses n d l (w.clear c (omega (arith, f.later)) y) (f.clear c x y);
+  clear = λ c x y. none_found (must_wait lanes channels c) accesses n d l (w.clear c (omega (arith, f.later)) y) (f.clear c x y);
 }
 
 pub both_ok : {T E P Q R : Type 0} (r : Result T E) → (P → Q → R) → OnOk r P → OnOk r Q → OnOk r R

@@ -9,7 +9,7 @@ use Rattle.event_graph.specs.Lanes.{gap_bound}
 use Rattle.event_timing.specs.{Machines.ready, Views.own, Core.Core, Core.core_reply, Actions.IsFinal, Agreement.IsAgreed}
 use Rattle.timing_bridge.specs.{Designs.design, Designs.lockstep_run, OwnRuns.clocks_of_steps}
 use Rattle.engine_view.specs.{Held.Held, Held.core_of, Shown.IsSound}
-use Rattle.engine_report.specs.Standings.{end_at, gap_of}
+use Rattle.engine_report.specs.Standings.{end_at, gap_of_end}
 
 -- ---- end marks
 
@@ -31,7 +31,7 @@ IsEndMark p x i (Spent gap) = (machine.is_spent p.ops (ready (design p) i (emitt
 pub record AreEndMarks (p : Plan) (h : Held) (ends : List (Option Advance)) : Type 0 where
   pub over : h.over ≡ map is_some ends
   pub each : (i : ℕ) (mark : Advance) → end_at ends i ≡ Some mark → IsEndMark p (core_of (design p) h) i mark
-  pub short : (i : ℕ) → gap_of (end_at ends i) < gap_bound
+  pub short : (i : ℕ) → gap_of_end (end_at ends i) < gap_bound
 
 -- ---- the end of a simulation
 

@@ -30,20 +30,20 @@ outputs_of plan lanes channels = map (λ f. timed_values lanes (channel_at chann
 -- ---- held modules
 
 -- module i as it is held by an access
-abbrev pub held_at : ℕ → Access → Held
-held_at i access = record { «module» = i; full = same_side Push (side_of access.kind); channel = access.channel }
+abbrev pub held_by_access : ℕ → Access → Held
+held_by_access i access = record { «module» = i; full = same_side Push (side_of access.kind); channel = access.channel }
 
 -- module i as it is held by the first access that waits, in its first step without a cycle; none where there is no such access
-abbrev pub held_by : List Lane → List Channel → ℕ → Option Held
-held_by lanes channels i =
-    option_and_then (λ step. option_map (held_at i) (find (is_waiting lanes channels) step.accesses)) (open_step (lane_at lanes i))
+abbrev pub held_at_open_step : List Lane → List Channel → ℕ → Option Held
+held_at_open_step lanes channels i =
+    option_and_then (λ step. option_map (held_by_access i) (find (is_waiting lanes channels) step.accesses)) (open_step (lane_at lanes i))
 
 -- the held modules of a report with this verdict; none where all modules are ended or the cycle limit was reached
 abbrev pub all_held : List Lane → List Channel → Verdict → List Held
 all_held lanes channels (Done clock) = []
-all_held lanes channels (Deadlock clock) = filter_map (held_by lanes channels) (owners lanes)
+all_held lanes channels (Deadlock clock) = filter_map (held_at_open_step lanes channels) (owners lanes)
 all_held lanes channels (Cycles clock) = []
-all_held lanes channels (Ops clock) = filter_map (held_by lanes channels) (owners lanes)
+all_held lanes channels (Ops clock) = filter_map (held_at_open_step lanes channels) (owners lanes)
 
 -- ---- answers
 
@@ -59,33 +59,34 @@ timed_outcomes lanes logs i = outcomes_before (log_at logs i).outcomes (open_ste
 -- ---- events
 
 -- module i's steps with a cycle, each as the module's number and the step's
-abbrev pub places_of : List Lane → ℕ → List (ℕ × ℕ)
-places_of lanes i = map (λ k. (i, k)) (range_with_len 0 (length (lane_at lanes i).cycles))
+abbrev pub numbered_places : List Lane → ℕ → List (ℕ × ℕ)
+numbered_places lanes i = map (λ k. (i, k)) (range_with_len 0 (length (lane_at lanes i).cycles))
 
 -- all modules' steps with a cycle, module by module
 abbrev pub timed_places : List Lane → List (ℕ × ℕ)
-timed_places lanes = flat_map (places_of lanes) (owners lanes)
+timed_places lanes = flat_map (numbered_places lanes) (owners lanes)
 
-abbrev pub cycle_at : List Lane → ℕ × ℕ → ℕ
-cycle_at lanes place = slice_index_or (lane_at lanes place.0).cycles place.1 0
+abbrev pub numbered_cycle : List Lane → ℕ × ℕ → ℕ
+numbered_cycle lanes place = slice_index_or (lane_at lanes place.0).cycles place.1 0
 
 -- a step comes before another: its cycle is less, or the cycles are equal and its module's number is less
-abbrev pub is_before : List Lane → ℕ × ℕ → ℕ × ℕ → Bool
-is_before lanes a b = nat_lt (cycle_at lanes a) (cycle_at lanes b) || (cycle_at lanes a == cycle_at lanes b && nat_lt a.0 b.0)
+abbrev pub is_step_before : List Lane → ℕ × ℕ → ℕ × ℕ → Bool
+is_step_before lanes a b =
+    nat_lt (numbered_cycle lanes a) (numbered_cycle lanes b) || (numbered_cycle lanes a == numbered_cycle lanes b && nat_lt a.0 b.0)
 
-abbrev pub event_of : ℕ → ℕ → Access → EventLine
-event_of i cycle access = record { «module» = i; kind = access.kind; channel = access.channel; cycle = cycle }
+abbrev pub event_line : ℕ → ℕ → Access → EventLine
+event_line i cycle access = record { «module» = i; kind = access.kind; channel = access.channel; cycle = cycle }
 
-abbrev pub step_at : List Lane → ℕ × ℕ → Step
-step_at lanes place = slice_index_or (lane_at lanes place.0).steps place.1 no_step
+abbrev pub numbered_step : List Lane → ℕ × ℕ → Step
+numbered_step lanes place = slice_index_or (lane_at lanes place.0).steps place.1 no_step
 
 -- the events of a step
 abbrev pub events_at : List Lane → ℕ × ℕ → List EventLine
-events_at lanes place = map (event_of place.0 (cycle_at lanes place)) (step_at lanes place).accesses
+events_at lanes place = map (event_line place.0 (numbered_cycle lanes place)) (numbered_step lanes place).accesses
 
 -- these are the events of all steps with a cycle, in order
 pub record AreEvents (lanes : List Lane) (events : List EventLine) : Type 0 where
   pub places : List (ℕ × ℕ)
   pub all : IsPermutation (timed_places lanes) places
-  pub sorted : IsSortedBy (is_before lanes) places
+  pub sorted : IsSortedBy (is_step_before lanes) places
   pub are : events ≡ flat_map (events_at lanes) places

@@ -14,8 +14,8 @@ use Rattle.timelines.specs.{declared.span.Doing.Doing, declared.span.Span.Span, 
 use Rattle.timelines.specs.declared.span.Doing.TheVariants.{Moves, Still}
 
 -- the access blocks, and is not known to be possible in a clock
-abbrev pub waits : List Lane → List Channel → ℕ → Access → Bool
-waits lanes channels clock a = is_blocking a.kind && not (answer (as_known (when_possible lanes channels a)) clock)
+abbrev pub must_wait : List Lane → List Channel → ℕ → Access → Bool
+must_wait lanes channels clock a = is_blocking a.kind && not (answer (as_known (when_possible lanes channels a)) clock)
 
 -- what a module does at a step, by the first access that waits: it moves where none does
 abbrev pub doing_of : Option Access → Doing
@@ -23,11 +23,12 @@ doing_of None = Moves
 doing_of (Some a) = Still (record { side = side_of a.kind; channel = a.channel })
 
 abbrev pub doing_in : List Lane → List Channel → List Access → ℕ → Doing
-doing_in lanes channels accesses clock = doing_of (find (waits lanes channels clock) accesses)
+doing_in lanes channels accesses clock = doing_of (find (must_wait lanes channels clock) accesses)
 
 -- module i is at a step with these accesses from clock `first` on, up to clock `until`
-abbrev pub Stands : Plan → ℕ → List Lane → List Channel → List Access → ℕ → ℕ → Type 0
-Stands p i lanes channels accesses first until = (c : ℕ) → first ≤ c → c < until → doing p c i ≡ Some (doing_in lanes channels accesses c)
+abbrev pub StandsBetween : Plan → ℕ → List Lane → List Channel → List Access → ℕ → ℕ → Type 0
+StandsBetween p i lanes channels accesses first until =
+    (c : ℕ) → first ≤ c → c < until → doing p c i ≡ Some (doing_in lanes channels accesses c)
 
 -- the clock from which on an access is possible, or `until` where that is earlier
 abbrev pub known_until : Known → ℕ → ℕ
@@ -39,23 +40,24 @@ known_until Unknown until = until
 -- cause of its stall
 pub record HasWaited (lanes : List Lane) (channels : List Channel) (accesses : List Access) (until n : ℕ)
     (old new : List Span) : Type 0 where
-  pub comes : (p : Plan) (i : ℕ) → Comes p i old → Stands p i lanes channels accesses (reached old) until → Comes p i new
+  pub comes : (p : Plan) (i : ℕ) → Comes p i old → StandsBetween p i lanes channels accesses (reached old) until → Comes p i new
   pub later : reached old ≤ reached new
   pub within : reached new ≤ max (reached old) until
   -- after the new spans none of these accesses is the cause
-  pub clear : (c : ℕ) → reached new ≤ c → c < until → find (waits lanes channels c) (take n accesses) ≡ None
+  pub clear : (c : ℕ) → reached new ≤ c → c < until → find (must_wait lanes channels c) (take n accesses) ≡ None
 
 -- the new spans are the old ones and those clocks, up to `until`, in which the given access waits and so is the cause
 pub record HasPassed (lanes : List Lane) (channels : List Channel) (a : Access) (until : ℕ) (old new : List Span) : Type 0 where
   pub comes : (p : Plan) (i : ℕ) → Comes p i old
-      → ((c : ℕ) → reached old ≤ c → c < until → waits lanes channels c a ≡ true → doing p c i ≡ Some (doing_of (Some a))) → Comes p i new
+      → ((c : ℕ) → reached old ≤ c → c < until → must_wait lanes channels c a ≡ true → doing p c i ≡ Some (doing_of (Some a)))
+      → Comes p i new
   pub later : reached old ≤ reached new
   pub within : reached new ≤ max (reached old) until
-  pub clear : (c : ℕ) → reached new ≤ c → c < until → waits lanes channels c a ≡ false
+  pub clear : (c : ℕ) → reached new ≤ c → c < until → must_wait lanes channels c a ≡ false
 
 -- the step at a place
-abbrev pub step_at : List Lane → Place → Step
-step_at lanes place = slice_index_or (lane_at lanes place.module).steps place.step no_step
+abbrev pub lane_step : List Lane → Place → Step
+lane_step lanes place = slice_index_or (lane_at lanes place.module).steps place.step no_step
 
 -- the cycle of the step before step k, or clock 0 before the first step
 abbrev pub cycle_before : List ℕ → ℕ → ℕ

@@ -14,11 +14,11 @@ use Rattle.engine_report.specs.declared.verdict.Standing.{Standing}
 -- ---- end marks
 
 -- the gap of an end mark: the local clocks from the last step to the end; 0 where there is no end mark
-abbrev pub gap_of : Option Advance → ℕ
-gap_of None = 0
-gap_of (Some (Step step)) = 0
-gap_of (Some (Ended gap)) = gap
-gap_of (Some (Spent gap)) = gap
+abbrev pub gap_of_end : Option Advance → ℕ
+gap_of_end None = 0
+gap_of_end (Some (Step step)) = 0
+gap_of_end (Some (Ended gap)) = gap
+gap_of_end (Some (Spent gap)) = gap
 
 abbrev pub is_ended : Option Advance → Bool
 is_ended None = false
@@ -26,11 +26,11 @@ is_ended (Some (Step step)) = false
 is_ended (Some (Ended gap)) = true
 is_ended (Some (Spent gap)) = false
 
-abbrev pub is_spent : Option Advance → Bool
-is_spent None = false
-is_spent (Some (Step step)) = false
-is_spent (Some (Ended gap)) = false
-is_spent (Some (Spent gap)) = true
+abbrev pub tells_spent : Option Advance → Bool
+tells_spent None = false
+tells_spent (Some (Step step)) = false
+tells_spent (Some (Ended gap)) = false
+tells_spent (Some (Spent gap)) = true
 
 -- the end mark of module i, if there is one
 abbrev pub end_at : List (Option Advance) → ℕ → Option Advance
@@ -40,7 +40,7 @@ end_at ends i = slice_index_or ends i None
 
 -- the standing of a module whose steps all have a cycle, the last of them the given one: it came to its end mark
 abbrev pub standing_behind : ℕ → Option Advance → Standing
-standing_behind last end = record { stop = last + gap_of end; ended = is_ended end; spent = is_spent end; determined = false }
+standing_behind last end = record { stop = last + gap_of_end end; ended = is_ended end; spent = tells_spent end; determined = false }
 
 -- the standing of module i: with a first step without a cycle it came to this step, and counts as neither ended nor spent
 abbrev pub standing_by : List Lane → List Channel → Option Advance → ℕ → Option StepOf → Standing
@@ -58,13 +58,13 @@ standing_at lanes channels ends i = standing_by lanes channels (end_at ends i) i
 -- ---- the verdict
 
 -- the latest clock in which one of these modules stops
-abbrev pub last_stop : List Standing → ℕ
-last_stop standings = fold (λ clock s. max clock s.stop) 0 standings
+abbrev pub latest_stop : List Standing → ℕ
+latest_stop standings = fold (λ clock s. max clock s.stop) 0 standings
 
 -- the standing of these modules together: at the last stop, ended where each is ended, spent or determined where one is
 abbrev pub together : List Standing → Standing
 together standings = record {
-  stop = last_stop standings;
+  stop = latest_stop standings;
   ended = list_all (λ s. s.ended) standings;
   spent = list_any (λ s. s.spent) standings;
   determined = list_any (λ s. s.determined) standings;

@@ -7,15 +7,15 @@ use Rattle.event_graph.specs.Lanes.{Lane, lane_at}
 use Rattle.timing_bridge.specs.{Designs.design, CoreReports.steps_at}
 use Rattle.engine_view.specs.Held.{Held, core_of}
 use Rattle.engine_report.specs.declared.events.TimedStep.{TimedStep}
-use Rattle.engine_report.specs.{Keys.place_of, Keys.IsTimedKey, Walks.IsWalked, declared.walk.StepWalk.StepWalk}
+use Rattle.engine_report.specs.{Keys.step_place, Keys.IsTimedKey, Walks.IsWalked, declared.walk.StepWalk.StepWalk}
 
 -- a number that is later than each cycle
-abbrev pub never : ℕ
-never = 2 ^ 64 - 1
+abbrev pub past_every_cycle : ℕ
+past_every_cycle = 2 ^ 64 - 1
 
--- the cycle of module i's step k, or `never` where it has none
+-- the cycle of module i's step k, or `past_all` where it has none
 abbrev pub next_cycle : List Lane → ℕ → ℕ → ℕ
-next_cycle lanes i k = slice_index_or (lane_at lanes i).cycles k never
+next_cycle lanes i k = slice_index_or (lane_at lanes i).cycles k past_every_cycle
 
 -- the cycle of each module's first step
 abbrev pub first_cycles : List Lane → List ℕ
@@ -31,7 +31,7 @@ pub record IsWalk (lanes : List Lane) (walk : StepWalk) : Type 0 where
   pub within : (i : ℕ) → i < length lanes → slice_index walk.given i ≤ length (lane_at lanes i).cycles
   -- modules that have had their turn have no step before `later`, and the others none before this round's clock
   pub later : walk.clock < walk.later
-  pub bound : walk.later ≤ never
+  pub bound : walk.later ≤ past_every_cycle
   pub early : (i : ℕ) → i < walk.module → walk.later ≤ slice_index walk.next i
   pub due : (i : ℕ) → walk.module ≤ i → i < length lanes → walk.clock ≤ slice_index walk.next i
 
@@ -39,7 +39,7 @@ pub record IsWalk (lanes : List Lane) (walk : StepWalk) : Type 0 where
 -- this point
 pub record HasGiven (lanes : List Lane) (walk : StepWalk) (steps : List TimedStep) : Type 0 where
   pub done : (p : Plan) (held : Held) → held.lanes ≡ lanes → let x = core_of (design p) held in
-      IsWalked p x (steps_at p x (map place_of steps)) walk.given walk.clock walk.module
+      IsWalked p x (steps_at p x (map step_place steps)) walk.given walk.clock walk.module
 
 -- how many steps the walk has not given yet
 abbrev pub to_give : List Lane → StepWalk → ℕ

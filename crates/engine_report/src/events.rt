@@ -1,8 +1,8 @@
 //! The events, in order.
 ghost use Rattle.std.specs.Prelude.{◌≡◌, ◌<◌, ◌+◌, ◌-◌, ◌^◌, ◌++◌, length, min, fold, All, IfOk, OnOk};
 ghost use Rattle.event_graph.specs.Lanes.{HasStep};
-ghost use Rattle.engine_report.specs.Read.{step_at, event_of, events_at, AreEvents};
-ghost use Rattle.engine_report.specs.Keys.{key_of, keys_of, place_of, place_at, HasKey, AreSortedKeys};
+ghost use Rattle.engine_report.specs.Read.{numbered_step, event_line, events_at, AreEvents};
+ghost use Rattle.engine_report.specs.Keys.{key_of, keys_of, step_place, place_at, HasKey, AreSortedKeys};
 
 use event_graph::{Access, Graph, Place};
 use flow_design::EventLine;
@@ -35,7 +35,8 @@ pub fn events(alloc: Global, graph: &Graph) -> Result<List<EventLine>, OutOfMemo
 /// How many accesses these steps have, or the greatest number of 64 bits if they are more: the room for their events.
 fn count_accesses(graph: &Graph, keys: &[TimedStep]) -> u64
     requires { All (HasKey graph.now.lanes) keys.now }
-    ensures { result ≡ fold (λ count key. min (count + length (step_at graph.now.lanes (place_of key)).accesses) (2 ^ 64 - 1)) 0 keys.now }
+    ensures { result
+        ≡ fold (λ count key. min (count + length (numbered_step graph.now.lanes (step_place key)).accesses) (2 ^ 64 - 1)) 0 keys.now }
 {
     let mut count = 0u64;
     for key in keys {
@@ -87,8 +88,8 @@ fn timed_step(graph: &Graph, owner: u32, step: u64) -> TimedStep
         step,
     };
     TimedStep {
-        cycle: graph.cycle_of(place).unwrap_or(0),
         module: owner,
+        cycle: graph.cycle_of(place).unwrap_or(0),
         step,
     }
 }
@@ -100,7 +101,7 @@ fn add_events(
     events: &mut List<EventLine>,
 ) -> Result<(), OutOfMemory>
     requires { HasKey graph.now.lanes key.now }
-    ensures { OnOk result (events.new ≡ events.old ++ events_at graph.now.lanes (place_of key.now)) }
+    ensures { OnOk result (events.new ≡ events.old ++ events_at graph.now.lanes (step_place key.now)) }
 {
     let step = graph.step(Place {
         module: key.module,
@@ -114,7 +115,7 @@ fn add_events(
 
 /// The event of an access in a step.
 fn event_of(key: &TimedStep, access: &Access) -> EventLine
-    ensures { result ≡ event_of key.now.module key.now.cycle access.now }
+    ensures { result ≡ event_line key.now.module key.now.cycle access.now }
 {
     EventLine {
         module: key.module,

@@ -1,7 +1,7 @@
 //! The modules that are held at the end.
 ghost use Rattle.std.specs.Prelude.{◌≡◌, ◌<◌, length, filter_map, find, option_map, All, IfOk};
 ghost use Rattle.time_engine.specs.{Conditions.IsAccess, Conditions.HasAccesses, Conditions.HasPlaces, Cycles.is_waiting};
-ghost use Rattle.engine_report.specs.Read.{owners, held_at, held_by, all_held};
+ghost use Rattle.engine_report.specs.Read.{owners, held_by_access, held_at_open_step, all_held};
 
 use engine_view::Engine;
 use event_graph::{Access, Place};
@@ -35,7 +35,7 @@ fn hold_all(alloc: Global, engine: &Engine) -> Result<List<Held>, OutOfMemory>
     requires accesses { HasAccesses engine.now.graph.lanes engine.now.fifos.channels }
     requires places { HasPlaces engine.now.graph.lanes engine.now.fifos.channels }
     ensures { IfOk result (λ held. held
-        ≡ filter_map (held_by engine.now.graph.lanes engine.now.fifos.channels) (owners engine.now.graph.lanes)) }
+        ≡ filter_map (held_at_open_step engine.now.graph.lanes engine.now.fifos.channels) (owners engine.now.graph.lanes)) }
 {
     let mut all = List::with_room(alloc, engine.graph.modules() as u64)?;
     for owner in 0..engine.graph.modules() {
@@ -51,7 +51,7 @@ fn held_by(engine: &Engine, owner: u32) -> Option<Held>
     requires owner { owner < length engine.now.graph.lanes }
     requires accesses { HasAccesses engine.now.graph.lanes engine.now.fifos.channels }
     requires places { HasPlaces engine.now.graph.lanes engine.now.fifos.channels }
-    ensures { result ≡ held_by engine.now.graph.lanes engine.now.fifos.channels owner }
+    ensures { result ≡ held_at_open_step engine.now.graph.lanes engine.now.fifos.channels owner }
 {
     let first = engine.graph.frontier(owner);
     if first == engine.graph.len(owner) {
@@ -68,7 +68,7 @@ fn held_by(engine: &Engine, owner: u32) -> Option<Held>
 fn first_waiting(engine: &Engine, owner: u32, accesses: &[Access]) -> Option<Held>
     requires inside { All (IsAccess engine.now.fifos.channels) accesses.now }
     requires places { HasPlaces engine.now.graph.lanes engine.now.fifos.channels }
-    ensures { result ≡ option_map (held_at owner) (find (is_waiting engine.now.graph.lanes engine.now.fifos.channels) accesses.now) }
+    ensures { result ≡ option_map (held_by_access owner) (find (is_waiting engine.now.graph.lanes engine.now.fifos.channels) accesses.now) }
 {
     for access in accesses {
         if is_waiting(engine, access) {
@@ -95,7 +95,7 @@ fn is_waiting(engine: &Engine, access: &Access) -> bool
 
 /// A module as it is held by an access.
 fn held_at(owner: u32, access: &Access) -> Held
-    ensures { result ≡ held_at owner access.now }
+    ensures { result ≡ held_by_access owner access.now }
 {
     let full = match access.kind.side() {
         Side::Pop => false,

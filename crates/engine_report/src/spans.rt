@@ -5,8 +5,8 @@ ghost use Rattle.flow_design.specs.{declared.plan.Plan.Plan, Reports.clock_of};
 ghost use Rattle.lockstep_defs.specs.Verdict.{verdict};
 ghost use Rattle.event_graph.specs.Lanes.{HasStep, cycle_bound, gap_bound};
 ghost use Rattle.engine_view.specs.Engines.{held_in};
-ghost use Rattle.engine_report.specs.{Finished.IsFinished, Standings.end_at, Standings.gap_of};
-ghost use Rattle.engine_report.specs.Reading.{known_until, step_at, Stands, HasWaited, HasPassed};
+ghost use Rattle.engine_report.specs.{Finished.IsFinished, Standings.end_at, Standings.gap_of_end};
+ghost use Rattle.engine_report.specs.Reading.{known_until, lane_step, StandsBetween, HasWaited, HasPassed};
 ghost use Rattle.timelines.specs.{declared.span.Doing.TheVariants.Moves, Spans.AreSpans, Coming.reached, Coming.Comes, Coming.Does};
 
 use engine_view::Engine;
@@ -34,7 +34,7 @@ pub fn spans_of(
     requires accesses { HasAccesses engine.now.graph.lanes engine.now.fifos.channels }
     requires places { HasPlaces engine.now.graph.lanes engine.now.fifos.channels }
     requires ends { owner < length ends.now }
-    requires short { gap_of (end_at ends.now owner) < gap_bound }
+    requires short { gap_of_end (end_at ends.now owner) < gap_bound }
     ensures { IfOk result (λ spans. (p : Plan)
         → IsFinished p (held_in engine.now (map is_some ends.now)) ends.now → clock ≡ clock_of (verdict p)
         → AreSpans p owner spans) }
@@ -79,9 +79,9 @@ fn stand(
     requires accesses { HasAccesses engine.now.graph.lanes engine.now.fifos.channels }
     requires places { HasPlaces engine.now.graph.lanes engine.now.fifos.channels }
     ensures spans { OnOk result ((p : Plan) (i : ℕ) → Comes p i spans.old
-        → Does p i (reached spans.old) (min (last + (step_at engine.now.graph.lanes place).gap) until) Moves
-        → Stands p i engine.now.graph.lanes engine.now.fifos.channels (step_at engine.now.graph.lanes place).accesses
-        (max (reached spans.old) (min (last + (step_at engine.now.graph.lanes place).gap) until)) until
+        → Does p i (reached spans.old) (min (last + (lane_step engine.now.graph.lanes place).gap) until) Moves
+        → StandsBetween p i engine.now.graph.lanes engine.now.fifos.channels (lane_step engine.now.graph.lanes place).accesses
+        (max (reached spans.old) (min (last + (lane_step engine.now.graph.lanes place).gap) until)) until
         → Comes p i spans.new) }
     ensures reached { OnOk result (reached spans.new ≡ max (reached spans.old) until) }
 {
@@ -103,7 +103,7 @@ fn stand_from(
     requires places { HasPlaces engine.now.graph.lanes engine.now.fifos.channels }
     requires arrival { arrival ≤ until }
     ensures spans { OnOk result ((p : Plan) (i : ℕ) → Comes p i spans.old → Does p i (reached spans.old) arrival Moves
-        → Stands p i engine.now.graph.lanes engine.now.fifos.channels accesses.now (max (reached spans.old) arrival) until
+        → StandsBetween p i engine.now.graph.lanes engine.now.fifos.channels accesses.now (max (reached spans.old) arrival) until
         → Comes p i spans.new) }
     ensures reached { OnOk result (reached spans.new ≡ max (reached spans.old) until) }
 {
@@ -166,7 +166,7 @@ fn possible_from(engine: &Engine, access: &Access, until: u64) -> u64
 
 /// The local clocks from a module's last step to its end, or 0 where it has no end mark.
 fn gap_of(end: &Option<Advance>) -> u64
-    ensures { result ≡ gap_of end.now }
+    ensures { result ≡ gap_of_end end.now }
 {
     match end {
         Some(Advance::Ended(gap)) | Some(Advance::Spent(gap)) => *gap,

@@ -3,7 +3,8 @@ ghost use Rattle.std.specs.Prelude.{◌≡◌, ℕ, ◌<◌, ◌≤◌, [], leng
 ghost use Rattle.event_graph.specs.Lanes.{cycle_bound, gap_bound};
 ghost use Rattle.time_engine.specs.{Conditions.HasAccesses, Conditions.HasPlaces, Cycles.determined};
 ghost use Rattle.engine_report.specs.Read.{owners};
-ghost use Rattle.engine_report.specs.Standings.{end_at, gap_of, standing_behind, standing_at, together, joined, verdict_for, verdict_by};
+ghost use Rattle.engine_report.specs.Standings.{end_at, gap_of_end, standing_behind, standing_at, together, joined, verdict_for};
+ghost use Rattle.engine_report.specs.Standings.{verdict_by};
 
 use engine_view::Engine;
 use event_graph::Place;
@@ -54,7 +55,7 @@ impl Standing {
 #[tactic(auto, using(crate::proofs::Together::together_more))]
 pub fn verdict(engine: &Engine, ends: &[Option<Advance>], limit: u64) -> Verdict
     requires ends { length ends.now ≡ length engine.now.graph.lanes }
-    requires gaps { (i : ℕ) → gap_of (end_at ends.now i) < gap_bound }
+    requires gaps { (i : ℕ) → gap_of_end (end_at ends.now i) < gap_bound }
     requires accesses { HasAccesses engine.now.graph.lanes engine.now.fifos.channels }
     requires places { HasPlaces engine.now.graph.lanes engine.now.fifos.channels }
     requires limit { limit ≤ cycle_bound }
@@ -72,7 +73,7 @@ pub fn verdict(engine: &Engine, ends: &[Option<Advance>], limit: u64) -> Verdict
 fn stand(engine: &Engine, ends: &[Option<Advance>], owner: u32, limit: u64) -> Standing
     requires owner { owner < length engine.now.graph.lanes }
     requires ends { length ends.now ≡ length engine.now.graph.lanes }
-    requires gaps { (i : ℕ) → gap_of (end_at ends.now i) < gap_bound }
+    requires gaps { (i : ℕ) → gap_of_end (end_at ends.now i) < gap_bound }
     requires accesses { HasAccesses engine.now.graph.lanes engine.now.fifos.channels }
     requires places { HasPlaces engine.now.graph.lanes engine.now.fifos.channels }
     requires limit { limit ≤ cycle_bound }
@@ -98,7 +99,7 @@ fn stand(engine: &Engine, ends: &[Option<Advance>], owner: u32, limit: u64) -> S
 /// The standing of a module whose steps all have a cycle. The last of these cycles is given.
 fn stand_at_end(last: u64, end: &Option<Advance>) -> Standing
     requires last { last < cycle_bound }
-    requires gap { gap_of end.now < gap_bound }
+    requires gap { gap_of_end end.now < gap_bound }
     ensures { result ≡ standing_behind last end.now }
 {
     let stop = match end {

@@ -5,8 +5,8 @@ ghost use Rattle.flow_design.specs.{declared.plan.Plan.Plan, declared.state.Adva
 ghost use Rattle.lockstep_defs.specs.{Lockstep.history, Verdict.verdict};
 ghost use Rattle.timing_bridge.specs.{Designs.design, CoreReports.steps_at};
 ghost use Rattle.engine_view.specs.Held.{Held, core_of};
-ghost use Rattle.engine_report.specs.{Finished.IsFinished, Keys.place_of, Keys.IsTimedKey};
-ghost use Rattle.engine_report.specs.Walking.{never, next_cycle, first_cycles, to_give, IsWalk, HasGiven, FoundIn};
+ghost use Rattle.engine_report.specs.{Finished.IsFinished, Keys.step_place, Keys.IsTimedKey};
+ghost use Rattle.engine_report.specs.Walking.{past_every_cycle, next_cycle, first_cycles, to_give, IsWalk, HasGiven, FoundIn};
 
 use crate::events::TimedStep;
 use event_graph::{Graph, Place};
@@ -39,10 +39,10 @@ impl StepWalk {
         ensures given { IfOk result (λ walk. HasGiven graph.now.lanes walk []) }
     {
         Ok(StepWalk {
+            module: 0,
             given: List::zeros(alloc, graph.modules() as u64)?,
             next: first_cycles(alloc, graph)?,
             clock: 0,
-            module: 0,
             later: NEVER,
         })
     }
@@ -59,7 +59,7 @@ impl StepWalk {
         ensures left { IfSome result (λ step. to_give graph.now.lanes self.new < to_give graph.now.lanes self.old) }
         ensures none { IsNone result → (steps : Items TimedStep) → HasGiven graph.now.lanes self.old steps
             → (p : Plan) (held : Held) (ends : Items (Option Advance)) → IsFinished p held ends → held.lanes ≡ graph.now.lanes
-            → steps_at p (core_of (design p) held) (map place_of steps) ≡ history p (clock_of (verdict p)) }
+            → steps_at p (core_of (design p) held) (map step_place steps) ≡ history p (clock_of (verdict p)) }
     {
         let _modules = graph.modules();
         let mut found = self.find(graph);
@@ -105,8 +105,8 @@ impl StepWalk {
         self.later = self.later.min(next);
         self.module = owner + 1;
         TimedStep {
-            cycle: self.clock,
             module: owner,
+            cycle: self.clock,
             step,
         }
     }
@@ -132,7 +132,7 @@ impl StepWalk {
         ensures next { self.new.next ≡ self.old.next }
         ensures clock { self.new.clock ≡ self.old.later }
         ensures turn { self.new.module ≡ 0 }
-        ensures later { self.new.later ≡ never }
+        ensures later { self.new.later ≡ past_every_cycle }
     {
         self.clock = self.later;
         self.module = 0;

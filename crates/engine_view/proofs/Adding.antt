@@ -10,8 +10,8 @@ use Rattle.flow_word.specs.{declared.access.Side.Side, declared.access.Access.Ac
 use Rattle.fifo_table.specs.{Channels.Channel, Channels.AreAllOf, Channels.channel_at, Channels.places_of, Roomed.RoomedChannels}
 use Rattle.time_engine.specs.Conditions.{IsAccess}
 use Rattle.engine_view.specs.{Held.possible_by, Held.flags_by, Emitted.done_at_once, Answered.done_late}
-use Rattle.engine_view.specs.Taking.{taken_by, taken_all, kinds_in}
-use Rattle.engine_view.specs.Rooms.{room_of, TakesAt, AreApart, HasRoomFor, StandAtOwn, done_by}
+use Rattle.engine_view.specs.Taking.{with_access, taken_all, kinds_in}
+use Rattle.engine_view.specs.Rooms.{room_of, TakesAt, TakeOncePerPort, HasRoomFor, StandAtOwn, done_by}
 use Rattle.engine_view.proofs.Taking.{all_length, all_channel, kind_after, kinds_behind, places_after}
 
 -- the accesses before this index were taken, the outcomes of which end before this number
@@ -23,7 +23,7 @@ pub record TakesOn (at : Place) (late : Bool) (accesses : List Access) (outcomes
   pub within : number ≤ first + index
   pub inside : All (IsAccess now.channels) (drop index accesses)
   pub own : StandAtOwn at.module now.channels (drop index accesses)
-  pub apart : AreApart (drop index accesses)
+  pub apart : TakeOncePerPort (drop index accesses)
   pub rooms : HasRoomFor now (drop index accesses)
   -- a side from which a place was taken is not taken from again
   pub one : (side : Side) (c : ℕ) → (room_of old side c ≤ room_of now side c)
@@ -40,7 +40,7 @@ drop_next {X} true n xs = grind arith
 drop_next {X} false n xs = drop-drop 1 n xs
 
 pub takes_init : (at : Place) (late : Bool) (xs : List Access) (outs : List Bool) (first : ℕ) (t : RoomedChannels)
-    → All (IsAccess t.channels) xs → StandAtOwn at.module t.channels xs → AreApart xs → HasRoomFor t xs
+    → All (IsAccess t.channels) xs → StandAtOwn at.module t.channels xs → TakeOncePerPort xs → HasRoomFor t xs
     → TakesOn at late xs outs first t t 0 first
 takes_init at late xs outs first t inside own apart rooms = record {
   channels = refl;
@@ -56,7 +56,7 @@ takes_init at late xs outs first t inside own apart rooms = record {
 
 -- one access keeps what the others need
 one_kept : (at : Place) (channels : List Channel) (a : Access) (b : Bool) (y : Access) → a.channel < length channels → IsAccess channels y
-    → IsAccess (cond (is_taking a.kind && b) (taken_by (side_of a.kind) at channels a) channels) y
+    → IsAccess (cond (is_taking a.kind && b) (with_access (side_of a.kind) at channels a) channels) y
 one_kept at channels a b y inside k =
     let inside' : All (λ (q : Access). q.channel < length channels) (a ∷ []) = λ j e l.
     let first : j ≡ 0 = omega arith in rw first inside in
@@ -74,7 +74,7 @@ one_kept at channels a b y inside k =
 own_kept : (at : Place) (channels : List Channel) (a : Access) (b : Bool) (y : Access) → a.channel < length channels
     → AreAllOf at.module (places_of (side_of y.kind) (channel_at channels y.channel))
     → AreAllOf at.module (places_of (side_of y.kind) (channel_at (cond (is_taking a.kind && b)
-    (taken_by (side_of a.kind) at channels a) channels) y.channel))
+    (with_access (side_of a.kind) at channels a) channels) y.channel))
 own_kept at channels a b y inside own =
     let inside' : All (λ (q : Access). q.channel < length channels) (a ∷ []) = λ j e l.
     let first : j ≡ 0 = omega arith in rw first inside in
@@ -103,7 +103,7 @@ module _ (at : Place) (late : Bool) (xs : List Access) (outs : List Bool) (first
     (done : Bool)
     (r : TakesOn at late xs outs first old now i n) (l : i < length xs)
     (is : done ≡ cond (is_blocking (get_or xs i d).kind) (not late) (late && possible_by (get_or xs i d).kind (slice_get outs n)))
-    (channels : next.channels ≡ cond (is_taking (get_or xs i d).kind && done) (taken_by (side_of (get_or xs i d).kind) at now.channels
+    (channels : next.channels ≡ cond (is_taking (get_or xs i d).kind && done) (with_access (side_of (get_or xs i d).kind) at now.channels
     (get_or xs i d)) now.channels)
     (one : (side : Side) (c : ℕ) → room_of now side c ≤ room_of next side c + 1)
     (others : (side : Side) (c : ℕ) → (TakesAt side c (get_or xs i d) → ⊥) → room_of now side c ≤ room_of next side c) where
@@ -114,8 +114,8 @@ module _ (at : Place) (late : Bool) (xs : List Access) (outs : List Bool) (first
   line = here at late xs outs first old now i n d r l
 
   apart_here : All (λ (q : Access). is_taking a.kind ≡ true → TakesAt (side_of a.kind) a.channel q → ⊥) (drop (i + 1) xs)
-      × AreApart (drop (i + 1) xs)
-  apart_here = subst AreApart line r.apart
+      × TakeOncePerPort (drop (i + 1) xs)
+  apart_here = subst TakeOncePerPort line r.apart
 
   channels_now : taken_all at next.channels (drop (i + 1) xs)
       (done_by late (drop (i + 1) xs) (drop (n + cond (is_blocking a.kind) 0 1) outs))

@@ -21,7 +21,7 @@ use Rattle.event_timing.specs.Actions.{put_at, after_answer, new_flags}
 use Rattle.event_timing.proofs.{Assigning.put_at_same, Assigning.put_at_other, Fronts.tally_same, Fronts.pushed_same, OwnRuns.tally_more}
 use Rattle.event_timing.proofs.{OwnRuns.tally_mono, Values.pushed_in_more, Answering.answer_marks}
 use Rattle.engine_view.specs.{Held.Held, Held.step_of, Held.no_step, Held.emitted_of, Held.seen, Held.queries_in, Held.flags_by}
-use Rattle.engine_view.specs.{Held.flags_of, Held.are_among, Held.has_all, Held.values_at, Held.core_of, Held.possible_by, Shown.Shows}
+use Rattle.engine_view.specs.{Held.flags_of, Held.are_among, Held.has_all, Held.values_at, Held.core_of, Held.possible_by, Shown.ShowsCore}
 use Rattle.engine_view.specs.{Shown.IsSound, Shown.AreTaken, Shown.IsTakenAt, Shown.AreWhole, Shown.queries_before, Emitted.done_at_once}
 use Rattle.engine_view.specs.{Emitted.place_of, Answered.outcome_by, Answered.outcomes_of, Answered.done_late, Answered.with_answered}
 use Rattle.engine_view.proofs.Taking.{channel_after, all_length, all_channel, kind_after, places_after, values_on, values_after}
@@ -451,7 +451,7 @@ module _ {S : Type 0} (d : Design S) (i : IsDesign d) (h : Held) (m c : ℕ) (in
   taken_shown : (side : Side) (ch : ℕ) → ch < length g.channels → AreTaken d z side ch (places_of side (channel_at g.channels ch))
   taken_shown side ch l = let e = count_now in taken_now side ch (s.taken side ch (omega arith))
 
-  shown : Shows d g z
+  shown : ShowsCore d g z
   shown =
       let channels = count_now in
       let logs = length-set h.logs m (all_answered old_log new) in

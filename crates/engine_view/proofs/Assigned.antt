@@ -4,20 +4,21 @@ use Rattle.std.proofs.lemmas.Bool.Decides.{nat_tests}
 use Rattle.std.proofs.lemmas.List.{length-set, get_or-set_same, get_or-set_other, length-append, get_or_push}
 use Rattle.std.specs.Prelude.{All}
 use mathlib.Core.Path.{fun_ext}
-use Rattle.event_graph.specs.Lanes.{Lane, IsSoundLane, no_lane, lane_at, timed, with_cycle}
+use Rattle.event_graph.specs.Lanes.{Lane, IsSoundLane, no_lane, lane_at, lane_with_cycle, with_cycle}
 use Rattle.time_engine.proofs.Given.{accesses_stay, places_stay, steps_stay}
 use Rattle.event_timing.specs.{Machines.Design, Core.Core, Actions.put, Actions.put_at, Actions.after_assign}
 use Rattle.engine_view.specs.{Held.Held, Held.replies_at, Held.core_of, Timed.with_timed}
-use Rattle.engine_view.specs.Shown.{Shows, IsSound, AreWhole, queries_before}
+use Rattle.engine_view.specs.Shown.{ShowsCore, IsSound, AreWhole, queries_before}
 use Rattle.engine_view.proofs.{Cores.same_core, Placing.taken_stays}
 
 cycles_there : (lanes : List Lane) (owner cycle : ℕ) → owner < length lanes
     → (lane_at (with_cycle lanes owner cycle) owner).cycles ≡ (lane_at lanes owner).cycles ++ cycle ∷ []
-cycles_there lanes owner cycle inside = rw (get_or-set_same lanes owner (timed (lane_at lanes owner) cycle) no_lane inside) refl
+cycles_there lanes owner cycle inside = rw (get_or-set_same lanes owner (lane_with_cycle (lane_at lanes owner) cycle) no_lane inside) refl
 
 cycles_other : (lanes : List Lane) (owner cycle k : ℕ) → owner < length lanes → (k ≡ owner → ⊥)
     → (lane_at (with_cycle lanes owner cycle) k).cycles ≡ (lane_at lanes k).cycles
-cycles_other lanes owner cycle k inside apart = rw (get_or-set_other lanes owner k (timed (lane_at lanes owner) cycle) no_lane apart) refl
+cycles_other lanes owner cycle k inside apart =
+    rw (get_or-set_other lanes owner k (lane_with_cycle (lane_at lanes owner) cycle) no_lane apart) refl
 
 -- ---- what is read off the steps alone
 
@@ -95,12 +96,12 @@ pub whole_kept : (g h : Held) → IsAlike g h → (m n : ℕ) → AreWhole h m n
 whole_kept g h a m n w = record { steps = w.steps; within = rw (a.steps m) w.within; all = w.all ∙ sym (alike_queries g h a m w.steps) }
 
 pub assigned_shows : {S : Type 0} → (d : Design S) (h : Held) (x : Core S) (m c : ℕ) → m < length h.lanes
-    → All IsSoundLane (with_cycle h.lanes m c) → Shows d h x
-    → Shows d (with_timed h m c) (after_assign x m c)
+    → All IsSoundLane (with_cycle h.lanes m c) → ShowsCore d h x
+    → ShowsCore d (with_timed h m c) (after_assign x m c)
 assigned_shows {S} d h x m c inside lanes s =
     let a = timed_alike h m c inside in
     record {
-      lanes = length-set h.lanes m (timed (lane_at h.lanes m) c) ∙ s.lanes;
+      lanes = length-set h.lanes m (lane_with_cycle (lane_at h.lanes m) c) ∙ s.lanes;
       logs = s.logs;
       overs = s.overs;
       sound_lanes = lanes;
@@ -122,4 +123,4 @@ assigned_shows {S} d h x m c inside lanes s =
 pub assigned_sound : {S : Type 0} → (d : Design S) (h : Held) (m c : ℕ) → m < length h.lanes → All IsSoundLane (with_cycle h.lanes m c)
     → IsSound d h → IsSound d (with_timed h m c)
 assigned_sound {S} d h m c inside lanes s =
-    subst (Shows d (with_timed h m c)) (sym (assigned_core d h m c inside)) (assigned_shows d h (core_of d h) m c inside lanes s)
+    subst (ShowsCore d (with_timed h m c)) (sym (assigned_core d h m c inside)) (assigned_shows d h (core_of d h) m c inside lanes s)

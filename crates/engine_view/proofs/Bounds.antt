@@ -16,7 +16,7 @@ use Rattle.time_engine.proofs.LatestClocks.{clocks_of-append, clocks_of_query, c
 use Rattle.event_timing.specs.Machines as theory
 use Rattle.event_timing.specs.Machines.{Design, IsDesign}
 use Rattle.event_timing.specs.{Views.from, Views.first_accesses, Core.Core, Core.view, Enablers.Known.From}
-use Rattle.event_timing.specs.Enablers.{Known, known_of, both, bound, reach, to_clock, candidate}
+use Rattle.event_timing.specs.Enablers.{Known, known_of, both, bound, unblocked_clock, to_clock, candidate}
 use Rattle.event_timing.proofs.Candidate.{bound_blocks, bound_free}
 use Rattle.engine_view.specs.{Held.Held, Held.step_of, Held.no_step, Held.seen, Held.core_of, Held.waited, Shown.IsSound, Known.as_known}
 use Rattle.engine_view.proofs.Knowing.{access_known}
@@ -130,7 +130,7 @@ unfolding candidate
 candidate_none {S} d x m l = rw (le-ltb (x.timed m) (x.emitted m) l) refl
 
 candidate_some : {S : Type 0} → (d : Design S) (x : Core S) (m : ℕ) → x.timed m < x.emitted m
-    → candidate d (view d x) m ≡ to_clock (reach (view d x) m) (bound (known_of d (view d x) m) (first_accesses (view d x) m))
+    → candidate d (view d x) m ≡ to_clock (unblocked_clock (view d x) m) (bound (known_of d (view d x) m) (first_accesses (view d x) m))
 unfolding candidate
 candidate_some {S} d x m l = rw (lt-ltb (x.timed m) (x.emitted m) l) refl
 

@@ -10,7 +10,7 @@ use Rattle.event_timing.specs.{Machines.Design, Machines.IsDesign, Agreement.Are
 use Rattle.event_timing.specs.Core.{Core, core_accesses, core_tally, core_values, bare_replies}
 use Rattle.event_timing.proofs.{Answering.answer_marks, Fronts.tally_same, Fronts.pushed_same}
 use Rattle.engine_view.specs.Held.{Held, step_of, emitted_of, are_among, has_all, core_of}
-use Rattle.engine_view.specs.{Shown.Shows, Shown.IsSound, Shown.AreWhole, Shown.queries_before, Answered.with_confirmed}
+use Rattle.engine_view.specs.{Shown.ShowsCore, Shown.IsSound, Shown.AreWhole, Shown.queries_before, Answered.with_confirmed}
 use Rattle.engine_view.proofs.{Placing.taken_stays, Assigned.put_at_is, Emitted.queries_mono, Reading.IsRead, Reading.read_sound}
 use Rattle.engine_view.proofs.Answered.{queries_step, steps_only, among_if}
 
@@ -119,7 +119,7 @@ module _ {S : Type 0} (d : Design S) (i : IsDesign d) (h : Held) (m c : ℕ) (in
             | inr l ↦ later k (elim (eqb_tells k k₀) [ inl p ↦ absurd (f p.1) | inr p ↦ let w = p.1 in omega arith ])
           ]
 
-  confirmed_shown : Shows d g z
+  confirmed_shown : ShowsCore d g z
   confirmed_shown =
       let logs = length-set h.logs m (record (log_at h.logs m) { verified = V }) in
       record {

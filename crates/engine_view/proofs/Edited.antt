@@ -14,7 +14,8 @@ use Rattle.query_log.specs.Logs.{log_at}
 use Rattle.event_timing.specs.Edits.{kept, kept_cycle, edited, after_edit}
 use Rattle.event_timing.specs.{Machines.Design, Core.Core, Core.core_values, Agreement.AreOwnMarks}
 use Rattle.engine_view.specs.Held.{Held, step_of, emitted_of, queries_in, are_among, has_all, values_at, core_of}
-use Rattle.engine_view.specs.{Shown.AreWhole, Shown.queries_before, Shown.Shows, Shown.IsSound, Shown.IsKind, Shown.AreTaken, Edited.IsCut}
+use Rattle.engine_view.specs.Shown.{AreWhole, queries_before, ShowsCore, IsSound, IsKind, AreTaken}
+use Rattle.engine_view.specs.Edited.{IsCut}
 use Rattle.engine_view.proofs.{Answered.queries_step, Answered.steps_only, Emitted.queries_mono, Emitted.has_query_is, Knowing.timed_within}
 use Rattle.engine_view.proofs.{Placing.places_from, Reading.IsRead, Reading.read_sound}
 use Rattle.fifo_table.specs.{declared.channel.Pushed.Pushed, declared.channel.TableChannel.TableChannel}
@@ -265,7 +266,7 @@ module _ {S : Type 0} (d : Design S) (h g : Held) (fifo depth t : ℕ) (s : IsSo
   kept_within : (m : ℕ) → kept (x.cycle m) t (x.timed m) ≤ emitted_of h m
   kept_within m = let l = kept_le (x.cycle m) t (x.timed m) in let w = timed_within d h s m in omega arith
 
-  edited_shown : Shows e g z
+  edited_shown : ShowsCore e g z
   edited_shown =
       let logs = cut.count in
       record {

@@ -9,7 +9,7 @@ use Rattle.std.proofs.lemmas.List.Elements.{All-head, All-tail, All-set, All-pus
 use Rattle.std.specs.Prelude.{All}
 use Rattle.flow_word.specs.{Kinds.is_blocking, Kinds.side_of, declared.access.Side.Side, declared.access.Side.TheVariants.Push}
 use Rattle.flow_word.specs.{declared.access.Access.Access, declared.access.Step.Step, declared.access.Place.Place}
-use Rattle.event_graph.specs.Lanes.{Lane, IsSoundLane, no_lane, lane_at, longer, with_step}
+use Rattle.event_graph.specs.Lanes.{Lane, IsSoundLane, no_lane, lane_at, lane_with_step, with_step}
 use Rattle.event_graph.proofs.Growth.{longer_sound}
 use Rattle.fifo_table.specs.{declared.channel.TableChannel.TheVariants.Source, Channels.Channel, Channels.channel_at, Channels.places_of}
 use Rattle.query_log.specs.Logs.{log_at}
@@ -24,7 +24,7 @@ use Rattle.event_timing.proofs.Running.{emit_up, old_at, run_marks}
 use Rattle.event_timing.proofs.{Fronts.tally_same, Fronts.pushed_same, OwnRuns.tally_more, OwnRuns.same_side_is, Values.pushed_in_more}
 use Rattle.engine_view.specs.Held.{Held, step_of, no_step, emitted_of, seen, queries_in, flags_by, flags_of, are_among, has_all, values_at}
 use Rattle.engine_view.specs.Held.{waited, core_of}
-use Rattle.engine_view.specs.Shown.{Shows, IsSound, AreTaken, IsTakenAt, AreWhole, queries_before}
+use Rattle.engine_view.specs.Shown.{ShowsCore, IsSound, AreTaken, IsTakenAt, AreWhole, queries_before}
 use Rattle.engine_view.specs.Emitted.{done_at_once, place_of, with_emitted, IsNextStep}
 use Rattle.engine_view.proofs.Taking.{channel_after, all_length, all_channel, kind_after, places_after, values_on, values_after}
 use Rattle.engine_view.proofs.Taking.{values_longer}
@@ -34,15 +34,16 @@ use Rattle.engine_view.proofs.{Assigned.put_at_is, Placing.places_from, Reading.
 
 pub steps_there : (lanes : List Lane) (m : ℕ) (t : Step) → m < length lanes
     → (lane_at (with_step lanes m t) m).steps ≡ (lane_at lanes m).steps ++ t ∷ []
-steps_there lanes m t inside = rw (get_or-set_same lanes m (longer (lane_at lanes m) t) no_lane inside) refl
+steps_there lanes m t inside = rw (get_or-set_same lanes m (lane_with_step (lane_at lanes m) t) no_lane inside) refl
 
 pub lane_other : (lanes : List Lane) (m n : ℕ) (t : Step) → (n ≡ m → ⊥) → lane_at (with_step lanes m t) n ≡ lane_at lanes n
-lane_other lanes m n t apart = get_or-set_other lanes m n (longer (lane_at lanes m) t) no_lane apart
+lane_other lanes m n t apart = get_or-set_other lanes m n (lane_with_step (lane_at lanes m) t) no_lane apart
 
 cycles_stay : (lanes : List Lane) (m n : ℕ) (t : Step) → m < length lanes
     → (lane_at (with_step lanes m t) n).cycles ≡ (lane_at lanes n).cycles
 cycles_stay lanes m n t inside =
-    let same = get_or-set_same lanes m (longer (lane_at lanes m) t) no_lane inside in let other = lane_other lanes m n t in grind arith
+    let same = get_or-set_same lanes m (lane_with_step (lane_at lanes m) t) no_lane inside in let other = lane_other lanes m n t in
+    grind arith
 
 push_other : {X : Type 0} (xs : List X) (y e : X) (k : ℕ) → (k ≡ length xs → ⊥) → get_or (xs ++ y ∷ []) k e ≡ get_or xs k e
 push_other [] y e zero f = absurd (f refl)
@@ -351,7 +352,7 @@ module _ {S : Type 0} (d : Design S) (i : IsDesign d) (h : Held) (m : ℕ) (t : 
   lanes_now : All IsSoundLane (with_step h.lanes m t)
   lanes_now =
       let here = s.sound_lanes m no_lane inside in
-      All-set IsSoundLane h.lanes m (longer (lane_at h.lanes m) t)
+      All-set IsSoundLane h.lanes m (lane_with_step (lane_at h.lanes m) t)
       (longer_sound (lane_at h.lanes m) t ((lane_at h.lanes m).steps ++ t ∷ []) (lane_at h.lanes m).cycles here next.sound next.apart refl
       refl) s.sound_lanes
 
@@ -367,7 +368,7 @@ module _ {S : Type 0} (d : Design S) (i : IsDesign d) (h : Held) (m : ℕ) (t : 
 
   inside_now : HasAccesses (with_step h.lanes m t) (with_emitted h m t).channels
   inside_now =
-      All-set (InLane (with_emitted h m t).channels) h.lanes m (longer (lane_at h.lanes m) t)
+      All-set (InLane (with_emitted h m t).channels) h.lanes m (lane_with_step (lane_at h.lanes m) t)
       (All-push (λ (step : Step). All (IsAccess (with_emitted h m t).channels) step.accesses) (lane_at h.lanes m).steps t
       (λ k y u j z v. access_kept _ (s.inside m no_lane inside k y u j z v)) (λ j z v. access_kept _ (next.inside j z v)))
       (λ n e l k y u j z v. access_kept _ (s.inside n e l k y u j z v))
@@ -411,9 +412,9 @@ module _ {S : Type 0} (d : Design S) (i : IsDesign d) (h : Held) (m : ℕ) (t : 
       → AreTaken d z side c (places_of side (channel_at (with_emitted h m t).channels c))
   taken_shown side c l = let e = all_length at h.channels t.accesses bs in taken_now side c (s.taken side c (omega arith))
 
-  shown : Shows d (with_emitted h m t) z
+  shown : ShowsCore d (with_emitted h m t) z
   shown = record {
-    lanes = length-set h.lanes m (longer (lane_at h.lanes m) t) ∙ s.lanes;
+    lanes = length-set h.lanes m (lane_with_step (lane_at h.lanes m) t) ∙ s.lanes;
     logs = s.logs;
     overs = s.overs;
     sound_lanes = lanes_now;

@@ -5,7 +5,7 @@ use Rattle.std.proofs.lemmas.List.{length-set, get_or-set_same, get_or-set_other
 use Rattle.event_timing.specs.{Machines.Design, Machines.ready, Core.Core, Agreement.AreOwnMarks}
 use Rattle.event_timing.specs.Actions.{newest, emit_over, after_run, MayRun}
 use Rattle.event_timing.proofs.Running.{run_marks}
-use Rattle.engine_view.specs.{Held.Held, Held.emitted_of, Held.core_of, Shown.Shows, Shown.IsSound, Emitted.with_over}
+use Rattle.engine_view.specs.{Held.Held, Held.emitted_of, Held.core_of, Shown.ShowsCore, Shown.IsSound, Emitted.with_over}
 use Rattle.engine_view.proofs.Assigned.{put_is, IsAlike, alike_queries, whole_kept}
 use Rattle.engine_view.proofs.{Placing.taken_stays, Reading.IsRead, Reading.read_sound}
 
@@ -22,7 +22,7 @@ module _ {S : Type 0} (d : Design S) (h : Held) (m : ℕ) (inside : m < length h
   alike : IsAlike g h
   alike = record { steps = λ n. refl; channels = refl; logs = refl }
 
-  over_shown : Shows d g z
+  over_shown : ShowsCore d g z
   over_shown = record {
     lanes = s.lanes;
     logs = s.logs;

@@ -19,8 +19,8 @@ use Rattle.event_timing.specs.Core.{Core, core_accesses, core_tally, core_reply,
 use Rattle.event_timing.specs.Machines as theory
 use Rattle.event_timing.proofs.OwnRuns.{IsPlace, place_says, place_unique, tally_mono}
 use Rattle.event_timing.proofs.{Fronts.core_tally_is, Threshold.known_free, Threshold.known_never}
-use Rattle.engine_view.specs.Held.{Held, step_of, no_step, emitted_of, seen, core_of}
-use Rattle.engine_view.specs.{Shown.Shows, Shown.IsSound, Shown.IsKind, Shown.IsTakenAt, Shown.AreTaken, Known.as_known}
+use Rattle.engine_view.specs.{Held.Held, Held.step_of, Held.no_step, Held.emitted_of, Held.seen, Held.core_of, Known.as_known}
+use Rattle.engine_view.specs.Shown.{ShowsCore, IsSound, IsKind, IsTakenAt, AreTaken}
 
 -- ---- the step of an event
 
@@ -103,7 +103,7 @@ lane_inside : (lanes : List Lane) (channels : List Channel) → HasAccesses lane
 lane_inside lanes channels all m k l =
     let past = get_or_past lanes m no_lane in let inside : m < length lanes = grind arith in all m no_lane inside k no_step l
 
-pub shown_inside : {S : Type 0} → (d : Design S) (h : Held) (x : Core S) → Shows d h x → (m k : ℕ) → k < emitted_of h m
+pub shown_inside : {S : Type 0} → (d : Design S) (h : Held) (x : Core S) → ShowsCore d h x → (m k : ℕ) → k < emitted_of h m
     → All (IsAccess h.channels) (step_of h m k).accesses
 shown_inside {S} d h x s m k l = lane_inside h.lanes h.channels s.inside m k l
 

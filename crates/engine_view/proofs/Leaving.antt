@@ -1,7 +1,7 @@
 -- What is left to do falls by each cycle and each answer.
 use Rattle.std.proofs.Common.{◌≡◌, refl, ap, ℕ, zero, suc, ◌<◌, ◌≤◌, true, false, [], ◌∷◌, length, arith}
 use Rattle.std.proofs.lemmas.List.{length-set, get_or-set_same, get_or-set_other, length-append}
-use Rattle.event_graph.specs.{Lanes.no_lane, Lanes.lane_at, Lanes.timed, Lanes.with_cycle, Roomed.RoomedLanes}
+use Rattle.event_graph.specs.{Lanes.no_lane, Lanes.lane_at, Lanes.lane_with_cycle, Lanes.with_cycle, Roomed.RoomedLanes}
 use Rattle.query_log.specs.Logs.{log_at}
 use Rattle.event_timing.specs.Work.{sum_to}
 use Rattle.engine_view.specs.{Held.Held, Held.step_of, Held.emitted_of, Held.are_among, Timed.with_timed, declared.engine.Engine.Engine}
@@ -29,10 +29,10 @@ pub left_assigned : (h : Held) (m c : ℕ) → m < length h.lanes → first_of h
 unfolding left_of
 left_assigned h m c l less among =
     let g = with_timed h m c in
-    let lane = get_or-set_same h.lanes m (timed (lane_at h.lanes m) c) no_lane l in
+    let lane = get_or-set_same h.lanes m (lane_with_cycle (lane_at h.lanes m) c) no_lane l in
     let longer = length-append (lane_at h.lanes m).cycles (c ∷ []) in
-    left_falls g h m (length-set h.lanes m (timed (lane_at h.lanes m) c)) l
-    (λ n f. rw (get_or-set_other h.lanes m n (timed (lane_at h.lanes m) c) no_lane f) refl)
+    left_falls g h m (length-set h.lanes m (lane_with_cycle (lane_at h.lanes m) c)) l
+    (λ n f. rw (get_or-set_other h.lanes m n (lane_with_cycle (lane_at h.lanes m) c) no_lane f) refl)
     (rw lane (grind arith))
 
 -- by an answer that leaves the lanes and makes them verified

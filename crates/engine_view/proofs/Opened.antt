@@ -13,7 +13,7 @@ use Rattle.time_engine.specs.Conditions.{IsAccess}
 use Rattle.event_timing.specs.{Machines.Design, Core.Core, Core.opening_core, Agreement.AreOwnMarks}
 use Rattle.event_timing.proofs.{OwnRuns.tally_0, Values.pushed_in_0}
 use Rattle.engine_view.specs.{Held.Held, Held.emitted_of, Held.waited, Held.core_of, Opened.opening_held, Opened.AreKinds}
-use Rattle.engine_view.specs.Shown.{Shows, IsSound, AreTaken, AreWhole, queries_before}
+use Rattle.engine_view.specs.Shown.{ShowsCore, IsSound, AreTaken, AreWhole, queries_before}
 use Rattle.engine_view.proofs.{Placing.places_from, Reading.IsRead, Reading.read_sound}
 
 pub copy_at : {X : Type 0} (n k : ℕ) (x : X) → get_or (replicate n x) k x ≡ x
@@ -70,7 +70,7 @@ module _ {S : Type 0} (d : Design S) (n : ℕ) (kinds : List TableChannel) (modu
   no_places : (side : Side) (c : ℕ) → places_of side (channel_at h.channels c) ≡ []
   no_places side c = let is = channel_is c in grind arith
 
-  opening_shown : Shows d h x
+  opening_shown : ShowsCore d h x
   opening_shown = record {
     lanes = length-replicate n no_lane ∙ modules;
     logs = length-replicate n no_log ∙ modules;

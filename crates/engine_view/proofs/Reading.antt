@@ -12,7 +12,7 @@ use Rattle.event_timing.specs.{Machines.Design, Machines.Reply, Machines.ready, 
 use Rattle.event_timing.specs.Core.{Core, core_tally, core_values, core_reply, replies_of, pops_now}
 use Rattle.event_timing.proofs.OwnRuns.{own_0, own_more, same_side_is}
 use Rattle.engine_view.specs.Held.{Held, step_of, emitted_of, seen, flags_of, has_all, values_at, replies_by, replies_at, waited, core_of}
-use Rattle.engine_view.specs.Shown.{Shows, IsSound}
+use Rattle.engine_view.specs.Shown.{ShowsCore, IsSound}
 use Rattle.engine_view.proofs.{Cores.same_core, Knowing.shown_inside}
 
 -- ---- replies
@@ -36,7 +36,8 @@ replies_are channels V t (a ∷ xs) (b ∷ bs) o v =
     (All-tail (λ (a : Access). values_at channels a.channel ≡ V a.channel) a xs v))
 
 -- the replies that are read off are the core's
-pub reply_is : {S : Type 0} → (d : Design S) (h : Held) (x : Core S) → Shows d h x → ((m : ℕ) → emitted_of h m ≡ x.emitted m) → (m k : ℕ)
+pub reply_is : {S : Type 0} → (d : Design S) (h : Held) (x : Core S) → ShowsCore d h x → ((m : ℕ) → emitted_of h m ≡ x.emitted m)
+    → (m k : ℕ)
     → k < x.emitted m → flags_of h m k ≡ x.flags m k
     → replies_at h m k ≡ core_reply d x m k
 reply_is {S} d h x s n m k l f =
@@ -66,7 +67,7 @@ pub record IsRead {S : Type 0} (d : Design S) (h : Held) (x : Core S) : Type 0 w
   pub timed : (m : ℕ) → length (lane_at h.lanes m).cycles ≡ x.timed m
   pub cycle : (m k : ℕ) → get_or (lane_at h.lanes m).cycles k 0 ≡ x.cycle m k
 
-pub read_back : {S : Type 0} → (d : Design S) (h : Held) (x : Core S) → AreOwnMarks d x → Shows d h x → IsRead d h x → core_of d h ≡ x
+pub read_back : {S : Type 0} → (d : Design S) (h : Held) (x : Core S) → AreOwnMarks d x → ShowsCore d h x → IsRead d h x → core_of d h ≡ x
 read_back {S} d h x b s r =
     same_core (core_of d h) x (record {
       emitted = r.emitted;
@@ -91,6 +92,6 @@ read_back {S} d h x b s r =
         grind (arith, nat_tests)
 
 -- and so what is held is sound
-pub read_sound : {S : Type 0} → (d : Design S) (h : Held) (x : Core S) → AreOwnMarks d x → Shows d h x → IsRead d h x
+pub read_sound : {S : Type 0} → (d : Design S) (h : Held) (x : Core S) → AreOwnMarks d x → ShowsCore d h x → IsRead d h x
     → (core_of d h ≡ x) × IsSound d h
 read_sound {S} d h x b s r = let e = read_back d h x b s r in (e, rw e s)

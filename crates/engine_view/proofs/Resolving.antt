@@ -12,10 +12,11 @@ use Rattle.event_timing.specs.Machines as theory
 use Rattle.event_timing.specs.Machines.{Design, IsDesign, Each, takers}
 use Rattle.event_timing.specs.{Core.Core, Actions.after_answer, Actions.new_flags}
 use Rattle.event_timing.proofs.Assigning.{put_at_same, put_at_other}
-use Rattle.engine_view.specs.Held.{Held, held, step_of, no_step, emitted_of, seen, queries_in, core_of}
+use Rattle.engine_view.specs.Held.{Held, held_parts, step_of, no_step, emitted_of, seen, queries_in, core_of}
 use Rattle.engine_view.specs.{Shown.IsSound, Shown.queries_before, Known.found_flags, Emitted.place_of, Taking.taken_all, Turns.first_of}
 use Rattle.engine_view.specs.Answered.{outcomes_of, done_late, with_answered}
-use Rattle.engine_view.specs.Rooms.{query_bound, room_of, TakesAt, AreApart, HasRoomFor, StandAtOwn, CanTake, done_by, pending, HasRoom}
+use Rattle.engine_view.specs.Rooms.{query_bound, room_of, TakesAt, TakeOncePerPort, HasRoomFor, StandAtOwn, CanTake, done_by, pending}
+use Rattle.engine_view.specs.Rooms.{HasRoom}
 use Rattle.engine_view.proofs.{Unsure.IsFresh, Taking.all_length, Deciding.flags_are, Adding.done_later}
 use Rattle.engine_view.proofs.Answered.{queries_step, answered_core, last, verified_least, recorded_most, new_length, same_queries}
 use Rattle.engine_view.proofs.Answered.{flags_here, log_now, log_else}
@@ -60,7 +61,7 @@ module _ {S : Type 0} {d : Design S} {h : Held} {m : ℕ} (f : IsFresh d h m) (c
   owned = subst (Each (λ a. d.owner a.side a.channel ≡ m)) (f.unsure.kept.sound.accesses m k₀ f.unsure.less)
       (f.unsure.design.owned m (x.state m k₀))
 
-  pub fresh_apart : AreApart t.accesses
+  pub fresh_apart : TakeOncePerPort t.accesses
   fresh_apart = apart_of t.accesses (λ side ch. subst (λ (xs : List theory.Access). takers side ch xs ≤ 1)
       (f.unsure.kept.sound.accesses m k₀ f.unsure.less) (f.unsure.design.single side m (x.state m k₀) ch))
 
@@ -171,7 +172,7 @@ pub behind_is : {S : Type 0} {d : Design S} {h : Held} {m : ℕ} (f : IsFresh d 
     {logs : List Log} {channels : List Channel} → n ≡ first_of h m → step_of h m (first_of h m) ≡ step → xs ≡ step.accesses
     → ys ≡ step.accesses → logs ≡ with_outcomes h.logs m (outcomes_of xs (found_flags h.lanes h.channels c xs))
     → channels ≡ taken_all (place_of m n) h.channels ys (done_by true ys (drop step.first_query (log_at logs m).outcomes))
-    → held h.lanes channels logs h.over ≡ with_answered h m (first_of h m) (new_flags d (core_of d h) m c)
+    → held_parts h.lanes channels logs h.over ≡ with_answered h m (first_of h m) (new_flags d (core_of d h) m c)
 behind_is {S} {d} {h} {m} f c {n} {step} {xs} {ys} {logs} {channels} en es ex ey el ec =
     let same : logs ≡ (with_answered h m (first_of h m) (new_flags d (core_of d h) m c)).logs = el ∙ rw (ex, sym es) (fresh_logs f c) in
-    ap₂ (λ (cs : List Channel) (ls : List Log). held h.lanes cs ls h.over) (ec ∙ rw (en, ey, sym es, same) (fresh_channels f c)) same
+    ap₂ (λ (cs : List Channel) (ls : List Log). held_parts h.lanes cs ls h.over) (ec ∙ rw (en, ey, sym es, same) (fresh_channels f c)) same

@@ -12,10 +12,11 @@ use Rattle.event_timing.specs.Machines as theory
 use Rattle.event_timing.specs.Machines.{Design, IsDesign, Each, ready, takers, takes_at}
 use Rattle.event_timing.specs.{Core.Core, Agreement.AreOwnMarks, Actions.MayRun, Actions.newest, Actions.emit_step}
 use Rattle.event_timing.proofs.Assigning.{put_same, put_other, put_at_other}
-use Rattle.engine_view.specs.Held.{Held, step_of, emitted_of, seen, queries_in, are_among, core_of, held}
+use Rattle.engine_view.specs.Held.{Held, step_of, emitted_of, seen, queries_in, are_among, core_of, held_parts}
 use Rattle.engine_view.specs.{Shown.IsSound, Shown.queries_before, declared.engine.Engine.Engine, Engines.held_in}
 use Rattle.engine_view.specs.Emitted.{IsNextStep, with_emitted, place_of, done_at_once}
-use Rattle.engine_view.specs.Rooms.{query_bound, room_of, TakesAt, AreApart, HasRoomFor, StandAtOwn, UsesRoom, pending, HasRoom, IsRoomy}
+use Rattle.engine_view.specs.Rooms.{query_bound, room_of, TakesAt, TakeOncePerPort, HasRoomFor, StandAtOwn, UsesRoom, pending, HasRoom}
+use Rattle.engine_view.specs.Rooms.{IsRoomy}
 use Rattle.engine_view.proofs.{Taking.all_length, Emitted.there, Emitted.queries_same, Emitted.emitted_core}
 use Rattle.engine_view.proofs.Answered.{queries_step, queries_zero, all_among}
 
@@ -34,7 +35,7 @@ some_taker side c (a ∷ xs) zero e l k = rw (takes_seen side c a k) (omega arit
 some_taker side c (a ∷ xs) (suc j) e l k = let r = some_taker side c xs j e (omega arith) k in omega arith
 
 -- where each side of each channel is taken from at most once
-pub apart_of : (xs : List Access) → ((side : Side) (c : ℕ) → takers side c (map seen xs) ≤ 1) → AreApart xs
+pub apart_of : (xs : List Access) → ((side : Side) (c : ℕ) → takers side c (map seen xs) ≤ 1) → TakeOncePerPort xs
 apart_of [] f = tt
 apart_of (a ∷ xs) f = (
   λ j e l t k.
@@ -107,7 +108,7 @@ module _ {S : Type 0} (d : Design S) (i : IsDesign d) (h : Held) (m : ℕ) (t : 
   pub owned_next : Each (λ a. d.owner a.side a.channel ≡ m) (map seen t.accesses)
   owned_next = subst (Each (λ a. d.owner a.side a.channel ≡ m)) next.accesses (i.owned m (ready d m (newest d (core_of d h) m)))
 
-  pub apart_next : AreApart t.accesses
+  pub apart_next : TakeOncePerPort t.accesses
   apart_next = apart_of t.accesses (λ side c. subst (λ (xs : List theory.Access). takers side c xs ≤ 1) next.accesses
       (i.single side m (ready d m (newest d (core_of d h) m)) c))
 
@@ -284,6 +285,7 @@ pub roomy_kept : {S : Type 0} → (d : Design S) (s t : Engine) (over : List Boo
     → HasRoom d (held_in t over) t.graph.rooms t.fifos t.log.rooms s.credits.items
 roomy_kept {S} d s t over el ec eo f g q r =
     rw (el, eo)
-    (subst (λ (cs : List Channel). HasRoom d (held s.graph.lanes cs s.log.logs over) t.graph.rooms t.fifos t.log.rooms s.credits.items)
+    (subst (λ (cs : List Channel). HasRoom d
+    (held_parts s.graph.lanes cs s.log.logs over) t.graph.rooms t.fifos t.log.rooms s.credits.items)
     (sym ec)
     (room_kept d (held_in s over) s.graph.rooms t.graph.rooms s.fifos t.fifos s.log.rooms t.log.rooms s.credits.items r f g q))

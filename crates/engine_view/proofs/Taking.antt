@@ -11,7 +11,7 @@ use Rattle.fifo_table.specs.declared.channel.Pushed.{Pushed}
 use Rattle.fifo_table.specs.declared.channel.TableChannel.TheVariants.{Sink, Source}
 use Rattle.fifo_table.specs.Channels.{Channel, channel_at, unused, push_of, places_of, values_of}
 use Rattle.event_timing.specs.{Machines.takes_in, Machines.values_in, Core.bare_replies}
-use Rattle.engine_view.specs.{Held.seen, Taking.taken_by, Taking.taken_all, Taking.kinds_in}
+use Rattle.engine_view.specs.{Held.seen, Taking.with_access, Taking.taken_all, Taking.kinds_in}
 
 -- ---- one channel
 
@@ -21,12 +21,12 @@ grown Pop at a channel = record channel { pops = channel.pops ++ at ∷ [] }
 grown Push at a channel = record channel { pushes = channel.pushes ++ push_of at a.value ∷ [] }
 
 by_is : (side : Side) (at : Place) (channels : List Channel) (a : Access)
-    → taken_by side at channels a ≡ set channels a.channel (grown side at a (channel_at channels a.channel))
+    → with_access side at channels a ≡ set channels a.channel (grown side at a (channel_at channels a.channel))
 by_is Pop at channels a = refl
 by_is Push at channels a = refl
 
 abbrev after_one : Place → List Channel → Access → Bool → List Channel
-after_one at channels a b = cond (is_taking a.kind && b) (taken_by (side_of a.kind) at channels a) channels
+after_one at channels a b = cond (is_taking a.kind && b) (with_access (side_of a.kind) at channels a) channels
 
 one_length : (at : Place) (channels : List Channel) (a : Access) (b : Bool) → length (after_one at channels a b) ≡ length channels
 one_length at channels a b = grind (arith, by_is, length-set {A = Channel})
@@ -46,7 +46,8 @@ grown_kind : (side : Side) (at : Place) (a : Access) (channel : Channel) → (gr
 grown_kind Pop at a channel = refl
 grown_kind Push at a channel = refl
 
-one_kinds : (side : Side) (at : Place) (channels : List Channel) (a : Access) → kinds_in (taken_by side at channels a) ≡ kinds_in channels
+one_kinds : (side : Side) (at : Place) (channels : List Channel) (a : Access)
+    → kinds_in (with_access side at channels a) ≡ kinds_in channels
 one_kinds side at channels a =
     rw (by_is side at channels a) (map-set_same (λ (q : Channel). q.kind) channels a.channel _ (unused Sink) (grown_kind side at a _))
 

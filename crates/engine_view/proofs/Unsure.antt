@@ -5,7 +5,7 @@ use Rattle.query_log.specs.Logs.{log_at}
 use Rattle.event_timing.specs.{Machines.Design, Machines.IsDesign, Core.Core, Actions.IsSame, Actions.after_answer}
 use Rattle.event_timing.proofs.{Assigning.put_at_same, Assigning.put_at_other, Answering.answer_marks}
 use Rattle.engine_view.specs.Held.{Held, step_of, emitted_of, are_among, core_of}
-use Rattle.engine_view.specs.{Shown.IsSound, Kept.IsKept, Turns.HasUnsure, Turns.IsAnswered, Turns.first_of}
+use Rattle.engine_view.specs.{Shown.IsSound, Kept.IsKept, Turns.HasUnsure, Turns.IsAfterAnswer, Turns.first_of}
 use Rattle.engine_view.proofs.Keeping.{now_kept}
 
 -- there is such a step, and all before it are verified
@@ -32,7 +32,7 @@ pub record IsFresh {S : Type 0} (d : Design S) (h : Held) (m : ℕ) : Type 0 whe
 
 -- what is held behind the answers is kept
 pub answered_on : {S : Type 0} → (d : Design S) (h : Held) (m c : ℕ) (g : Held) → IsUnsure d h m → IsSame d (core_of d h) m c
-    → (core_of d g ≡ after_answer d (core_of d h) m c) × IsSound d g → IsAnswered d h m c g
+    → (core_of d g ≡ after_answer d (core_of d h) m c) × IsSound d g → IsAfterAnswer d h m c g
 answered_on {S} d h m c g u same read = record {
   same = same;
   now = now_kept d g (after_answer d (core_of d h) m c) read (answer_marks d u.design (core_of d h) u.kept.marks m c u.less same) before;
@@ -46,7 +46,7 @@ answered_on {S} d h m c g u same read = record {
         grind arith
 
 -- and behind them the step is verified
-pub verified_now : {S : Type 0} → (d : Design S) (h : Held) (m c : ℕ) (g : Held) → IsAnswered d h m c g
+pub verified_now : {S : Type 0} → (d : Design S) (h : Held) (m c : ℕ) (g : Held) → IsAfterAnswer d h m c g
     → are_among (step_of g m (first_of h m)) (log_at g.logs m).verified ≡ true
 verified_now {S} d h m c g a =
     let k = first_of h m in

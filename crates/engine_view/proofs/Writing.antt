@@ -5,7 +5,7 @@ use Rattle.std.proofs.lemmas.List.{drop_more, length-set, get_or-set_same}
 use Rattle.flow_word.specs.{Kinds.is_blocking, declared.access.Access.Access}
 use Rattle.event_graph.specs.Lanes.{Lane}
 use Rattle.fifo_table.specs.Channels.{Channel}
-use Rattle.query_log.specs.Logs.{RoomedLogs, no_log, log_at, answered, with_outcome, with_outcomes}
+use Rattle.query_log.specs.Logs.{RoomedLogs, no_log, log_at, verified_more, with_outcome, with_outcomes}
 use Rattle.query_log.proofs.Adding.{outcomes_more}
 use Rattle.time_engine.specs.Possible.{when_possible}
 use Rattle.event_timing.specs.Enablers.{answer}
@@ -66,8 +66,8 @@ module _ (lanes : List Lane) (channels : List Channel) (c m : ℕ) (xs : List Ac
       → ((k : ℕ) → (k ≡ m → ⊥) → get_or now.rooms k 0 ≤ get_or next.rooms k 0) → WritesOn lanes channels c m xs old next (i + 1)
   writes_one next u₀ e is logs own others =
       let q = queries_first false e in
-      let here = get_or-set_same now.logs m (answered (log_at now.logs m) u₀) no_log r.inside in
-      let many = length-set now.logs m (answered (log_at now.logs m) u₀) in
+      let here = get_or-set_same now.logs m (verified_more (log_at now.logs m) u₀) no_log r.inside in
+      let many = length-set now.logs m (verified_more (log_at now.logs m) u₀) in
       let longer = length-append (log_at now.logs m).outcomes (u₀ ∷ []) in
       record {
         logs = rw (logs, outcomes_more now.logs m u₀ late r.inside, is, ← (first false e)) r.logs;

@@ -1,7 +1,7 @@
 -- What is held after an edit, from which a retiming begins.
 use Rattle.std.specs.Prelude.{◌≡◌, ℕ, min, map, length, All}
 use Rattle.event_graph.specs.Lanes.{IsSoundLane, timed_below}
-use Rattle.fifo_table.specs.Channels.{with_depth}
+use Rattle.fifo_table.specs.Channels.{deepened_channels}
 use Rattle.query_log.specs.Logs.{IsSoundLog, log_at}
 use Rattle.event_timing.specs.{Machines.Design, Edits.kept}
 use Rattle.engine_view.specs.{Held.Held, Held.core_of, Shown.queries_before}
@@ -11,7 +11,7 @@ use Rattle.engine_view.specs.{Held.Held, Held.core_of, Shown.queries_before}
 pub record IsCut {S : Type 0} (d : Design S) (h g : Held) (fifo depth t : ℕ) : Type 0 where
   pub lanes : g.lanes ≡ map (timed_below t) h.lanes
   pub sound : All IsSoundLane g.lanes
-  pub channels : g.channels ≡ with_depth h.channels fifo depth
+  pub channels : g.channels ≡ deepened_channels h.channels fifo depth
   pub over : g.over ≡ h.over
   pub count : length g.logs ≡ length h.logs
   pub sound_logs : All IsSoundLog g.logs

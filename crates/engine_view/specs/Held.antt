@@ -19,8 +19,8 @@ pub record Held : Type 0 where
   pub logs : List Log
   pub over : List Bool
 
-abbrev pub held : List Lane → List Channel → List Log → List Bool → Held
-held lanes channels logs over = record { lanes = lanes; channels = channels; logs = logs; over = over }
+abbrev pub held_parts : List Lane → List Channel → List Log → List Bool → Held
+held_parts lanes channels logs over = record { lanes = lanes; channels = channels; logs = logs; over = over }
 
 abbrev pub no_step : Step
 no_step = record { gap = 0; accesses = []; first_query = 0 }

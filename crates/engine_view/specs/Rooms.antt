@@ -27,9 +27,9 @@ pub record TakesAt (side : Side) (c : ℕ) (a : Access) : Type 0 where
   pub same_channel : c ≡ a.channel
 
 -- no two of these accesses take at the same side of the same channel
-abbrev pub AreApart : List Access → Type 0
-AreApart [] = Unit {0}
-AreApart (a ∷ as') = All (λ b. is_taking a.kind ≡ true → TakesAt (side_of a.kind) a.channel b → ⊥) as' × AreApart as'
+abbrev pub TakeOncePerPort : List Access → Type 0
+TakeOncePerPort [] = Unit {0}
+TakeOncePerPort (a ∷ as') = All (λ b. is_taking a.kind ≡ true → TakesAt (side_of a.kind) a.channel b → ⊥) as' × TakeOncePerPort as'
 
 -- there is room for each of these accesses that takes
 abbrev pub HasRoomFor : RoomedChannels → List Access → Type 0
@@ -84,7 +84,7 @@ AreAllPorts {S} d m channels ports = (port : Port) → port.channel < channels �
 -- ---- engines with more room, or one more step
 
 -- the engine has a module with this number
-pub record HasModule (e : Engine) (m : ℕ) : Type 0 where
+pub record EngineHasModule (e : Engine) (m : ℕ) : Type 0 where
   pub lane : m < length e.graph.lanes
   pub log : m < length e.log.logs
   pub credit : m < length e.credits.items
@@ -101,12 +101,12 @@ pub record IsSameButRoom (m : ℕ) (e f : Engine) : Type 0 where
 pub record CanTake (m : ℕ) (t : RoomedChannels) (accesses : List Access) : Type 0 where
   pub inside : All (IsAccess t.channels) accesses
   pub own : StandAtOwn m t.channels accesses
-  pub apart : AreApart accesses
+  pub apart : TakeOncePerPort accesses
   pub room : HasRoomFor t accesses
 
 -- the step can come next in module m's lane, and there is room for it
 pub record CanEmit (e : Engine) (m : ℕ) (step : Step) : Type 0 where
-  pub owner : HasModule e m
+  pub owner : EngineHasModule e m
   pub sound : IsSoundStep step
   pub after : 0 < length (lane_at e.graph.lanes m).steps → 1 ≤ step.gap
   pub takes : CanTake m e.fifos step.accesses

@@ -49,7 +49,7 @@ pub record AreWhole (h : Held) (m n : ℕ) : Type 0 where
 
 -- ---- what is held shows the core
 
-pub record Shows {S : Type 0} (d : Design S) (h : Held) (x : Core S) : Type 0 where
+pub record ShowsCore {S : Type 0} (d : Design S) (h : Held) (x : Core S) : Type 0 where
   pub lanes : length h.lanes ≡ d.modules
   pub logs : length h.logs ≡ d.modules
   pub overs : length h.over ≡ d.modules
@@ -73,4 +73,4 @@ pub record Shows {S : Type 0} (d : Design S) (h : Held) (x : Core S) : Type 0 wh
 
 -- what is held is a core of the design
 abbrev pub IsSound : {S : Type 0} → Design S → Held → Type 0
-IsSound {S} d h = Shows d h (core_of d h)
+IsSound {S} d h = ShowsCore d h (core_of d h)

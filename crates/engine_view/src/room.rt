@@ -3,7 +3,7 @@ ghost use Rattle.std.specs.Prelude.{◌≡◌, ℕ, ◌+◌, ◌^◌, ◌<◌, �
 ghost use Rattle.flow_word.specs.declared.access.Side.{Side as side_type};
 ghost use Rattle.flow_design.specs.declared.state.ModuleState.{ModuleState};
 ghost use Rattle.event_timing.specs.Machines.{Design};
-ghost use Rattle.engine_view.specs.Rooms.{room_of, HasModule, IsSameButRoom, IsRoomy, AreAllPorts};
+ghost use Rattle.engine_view.specs.Rooms.{room_of, EngineHasModule, IsSameButRoom, IsRoomy, AreAllPorts};
 
 use crate::engine::Engine;
 use fifo_table::FifoTable;
@@ -19,7 +19,7 @@ impl Engine {
     /// `OutOfMemory` too.
     #[inline(always)]
     pub fn make_room(&mut self, owner: u32, ports: &[Port], queries: u64) -> Result<(), OutOfMemory>
-        requires owner { HasModule self.old owner }
+        requires owner { EngineHasModule self.old owner }
         requires ports { All (λ port. port.channel < length self.old.fifos.channels) ports.now }
         ensures same { IsSameButRoom owner self.old self.new }
         ensures credit { OnOk result (2 ≤ slice_index self.new.credits.items owner) }
@@ -47,7 +47,7 @@ impl Engine {
         queries: u64,
         places: u64,
     ) -> Result<(), OutOfMemory>
-        requires owner { HasModule self.old owner }
+        requires owner { EngineHasModule self.old owner }
         requires ports { All (λ port. port.channel < length self.old.fifos.channels) ports.now }
         requires places { places + 1 < 2 ^ 64 }
         ensures same { IsSameButRoom owner self.old self.new }

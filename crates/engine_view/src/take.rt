@@ -4,7 +4,7 @@ ghost use Rattle.flow_word.specs.{Kinds.side_of, Kinds.is_blocking, Kinds.is_tak
 ghost use Rattle.fifo_table.specs.Channels.{AreAllOf, channel_at, places_of};
 ghost use Rattle.query_log.specs.Logs.{log_at, outcome_of};
 ghost use Rattle.time_engine.specs.Conditions.{IsAccess};
-ghost use Rattle.engine_view.specs.{Held.possible_by, Taking.taken_by, Taking.taken_all, Taking.kinds_in};
+ghost use Rattle.engine_view.specs.{Held.possible_by, Taking.with_access, Taking.taken_all, Taking.kinds_in};
 ghost use Rattle.engine_view.specs.Rooms.{room_of, TakesAt, CanTake, done_by};
 
 use event_graph::{Access, Kind, Place};
@@ -75,7 +75,7 @@ fn take_if(fifos: &mut FifoTable, at: Place, access: &Access, done: bool)
     requires step { at.step < 2 ^ 32 }
     requires room { is_taking access.now.kind ≡ true → 0 < room_of fifos.old (side_of access.now.kind) access.now.channel }
     ensures channels { fifos.new.channels ≡ cond (is_taking access.now.kind && done)
-        (taken_by (side_of access.now.kind) at fifos.old.channels access.now) fifos.old.channels }
+        (with_access (side_of access.now.kind) at fifos.old.channels access.now) fifos.old.channels }
     ensures one { (side : side_type) (c : ℕ) → room_of fifos.old side c ≤ room_of fifos.new side c + 1 }
     ensures others { (side : side_type) (c : ℕ) → (TakesAt side c access.now → ⊥) → room_of fifos.old side c ≤ room_of fifos.new side c }
 {
@@ -92,7 +92,7 @@ fn add(fifos: &mut FifoTable, at: Place, access: &Access)
     requires step { at.step < 2 ^ 32 }
     requires taking { is_taking access.now.kind ≡ true }
     requires room { 0 < room_of fifos.old (side_of access.now.kind) access.now.channel }
-    ensures channels { fifos.new.channels ≡ taken_by (side_of access.now.kind) at fifos.old.channels access.now }
+    ensures channels { fifos.new.channels ≡ with_access (side_of access.now.kind) at fifos.old.channels access.now }
     ensures one { (side : side_type) (c : ℕ) → room_of fifos.old side c ≤ room_of fifos.new side c + 1 }
     ensures others { (side : side_type) (c : ℕ) → (TakesAt side c access.now → ⊥) → room_of fifos.old side c ≤ room_of fifos.new side c }
 {

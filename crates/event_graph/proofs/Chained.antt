@@ -4,11 +4,11 @@ use Rattle.std.proofs.Common.{length, get_or, arith}
 use Rattle.std.proofs.lemmas.Bool.{cases_Bool, cond_both}
 use Rattle.std.specs.Prelude.{Some, slice_get}
 use Rattle.flow_word.specs.declared.access.Access.{Access}
-use Rattle.event_graph.specs.Words.{has_value, goes_on, access_in, behind, accesses_in, HasAccess, HasAccesses}
+use Rattle.event_graph.specs.Words.{has_value, goes_on, access_in, behind_access, accesses_in, HasAccess, BeginWithAccesses}
 
 -- the first access is there
-pub has_first : (most : ℕ) (words : List ℕ) → HasAccesses most words → HasAccess words
-unfolding HasAccesses
+pub has_first : (most : ℕ) (words : List ℕ) → BeginWithAccesses most words → HasAccess words
+unfolding BeginWithAccesses
 has_first zero words here = absurd here
 has_first (suc most) words here = here.0
 
@@ -18,32 +18,32 @@ some_word words here =
     cond_both (has_value (get_or words 0 0)) 2 1 (λ n. n ≤ length words → 0 < length words) (λ h. omega arith) (λ h. omega arith) here
 
 -- an access that does not go on is the only one
-pub only : (most : ℕ) (words : List ℕ) → HasAccesses most words → goes_on (get_or words 0 0) ≡ false
+pub only : (most : ℕ) (words : List ℕ) → BeginWithAccesses most words → goes_on (get_or words 0 0) ≡ false
     → accesses_in most words ≡ access_in words ∷ []
-unfolding accesses_in HasAccesses
+unfolding accesses_in BeginWithAccesses
 only zero words here last = absurd here
-only (suc most) words here last = ap (λ (t : Bool). access_in words ∷ cond t (accesses_in most (behind words)) []) last
+only (suc most) words here last = ap (λ (t : Bool). access_in words ∷ cond t (accesses_in most (behind_access words)) []) last
 
 -- after an access that goes on come the others, which are there
 pub record GoesOn (most : ℕ) (words : List ℕ) : Type 0 where
-  pub there : HasAccesses most (behind words)
-  pub others : accesses_in (suc most) words ≡ access_in words ∷ accesses_in most (behind words)
+  pub there : BeginWithAccesses most (behind_access words)
+  pub others : accesses_in (suc most) words ≡ access_in words ∷ accesses_in most (behind_access words)
 
-pub going_on : (most : ℕ) (words : List ℕ) → HasAccesses (suc most) words → goes_on (get_or words 0 0) ≡ true → GoesOn most words
-unfolding accesses_in HasAccesses
+pub going_on : (most : ℕ) (words : List ℕ) → BeginWithAccesses (suc most) words → goes_on (get_or words 0 0) ≡ true → GoesOn most words
+unfolding accesses_in BeginWithAccesses
 going_on most words here on = record {
   there = here.1 on;
-  others = ap (λ (t : Bool). access_in words ∷ cond t (accesses_in most (behind words)) []) on;
+  others = ap (λ (t : Bool). access_in words ∷ cond t (accesses_in most (behind_access words)) []) on;
 }
 
 -- the same for any number of accesses
 pub record GoesFrom (most : ℕ) (words : List ℕ) : Type 0 where
   pub fewer : ℕ
-  pub there : HasAccesses fewer (behind words)
-  pub others : accesses_in most words ≡ access_in words ∷ accesses_in fewer (behind words)
+  pub there : BeginWithAccesses fewer (behind_access words)
+  pub others : accesses_in most words ≡ access_in words ∷ accesses_in fewer (behind_access words)
 
-pub going_from : (most : ℕ) (words : List ℕ) → HasAccesses most words → goes_on (get_or words 0 0) ≡ true → GoesFrom most words
-unfolding HasAccesses
+pub going_from : (most : ℕ) (words : List ℕ) → BeginWithAccesses most words → goes_on (get_or words 0 0) ≡ true → GoesFrom most words
+unfolding BeginWithAccesses
 going_from zero words here on = absurd here
 going_from (suc most) words here on =
     let g = going_on most words here on in
@@ -52,47 +52,49 @@ going_from (suc most) words here on =
 -- ---- how many accesses there are
 
 -- one more than after the first
-pub one_more : (words rest : List ℕ) (count : ℕ) → goes_on (get_or words 0 0) ≡ true → rest ≡ behind words
-    → ((fewer : ℕ) → HasAccesses fewer rest → count ≡ length (accesses_in fewer rest))
-    → (most : ℕ) → HasAccesses most words → 1 + count ≡ length (accesses_in most words)
+pub one_more : (words rest : List ℕ) (count : ℕ) → goes_on (get_or words 0 0) ≡ true → rest ≡ behind_access words
+    → ((fewer : ℕ) → BeginWithAccesses fewer rest → count ≡ length (accesses_in fewer rest))
+    → (most : ℕ) → BeginWithAccesses most words → 1 + count ≡ length (accesses_in most words)
 one_more words rest count on is so most here =
     let g = going_from most words here on in
     let counted = so g.fewer (rw is g.there) in
     let all = ap length g.others in
     omega (arith, rw is at counted)
 
-pub some_in : (most : ℕ) (words : List ℕ) → HasAccesses most words → 1 ≤ length (accesses_in most words)
-unfolding accesses_in HasAccesses
+pub some_in : (most : ℕ) (words : List ℕ) → BeginWithAccesses most words → 1 ≤ length (accesses_in most words)
+unfolding accesses_in BeginWithAccesses
 some_in zero words here = absurd here
 some_in (suc most) words here = omega arith
 
-pub few_in : (most : ℕ) (words : List ℕ) → HasAccesses most words → length (accesses_in most words) ≤ most
-unfolding HasAccesses
+pub few_in : (most : ℕ) (words : List ℕ) → BeginWithAccesses most words → length (accesses_in most words) ≤ most
+unfolding BeginWithAccesses
 few_in zero words here = absurd here
 few_in (suc most) words here = elim (cases_Bool (goes_on (get_or words 0 0))) [
-  | inl on ↦ let g = going_on most words here on in let rest = few_in most (behind words) g.there in omega (arith, ap length g.others)
+  | inl on ↦ let g = going_on most words here on in let rest = few_in most (behind_access words) g.there in
+      omega (arith, ap length g.others)
   | inr last ↦ omega (arith, ap length (only (suc most) words here last))
 ]
 
 -- ---- the access with a number
 
-pub first_in : (most : ℕ) (words : List ℕ) → HasAccesses most words → slice_get (accesses_in most words) 0 ≡ Some (access_in words)
-unfolding accesses_in HasAccesses
+pub first_in : (most : ℕ) (words : List ℕ) → BeginWithAccesses most words → slice_get (accesses_in most words) 0 ≡ Some (access_in words)
+unfolding accesses_in BeginWithAccesses
 first_in zero words here = absurd here
 first_in (suc most) words here = refl
 
 -- a later access has the number before it among those after the first
 pub record IsLater (most : ℕ) (words : List ℕ) (number : ℕ) : Type 0 where
   pub fewer : ℕ
-  pub there : HasAccesses fewer (behind words)
-  pub within : number - 1 < length (accesses_in fewer (behind words))
-  pub is : slice_get (accesses_in most words) number ≡ slice_get (accesses_in fewer (behind words)) (number - 1)
+  pub there : BeginWithAccesses fewer (behind_access words)
+  pub within : number - 1 < length (accesses_in fewer (behind_access words))
+  pub is : slice_get (accesses_in most words) number ≡ slice_get (accesses_in fewer (behind_access words)) (number - 1)
 
 get_later : (a : Access) (items : List Access) (number : ℕ) → 0 < number → slice_get (a ∷ items) number ≡ slice_get items (number - 1)
 get_later a items zero some = absurd (omega (arith, some))
 get_later a items (suc number) some = let e : suc number - 1 ≡ number = omega arith in rw e refl
 
-pub later_in : (most : ℕ) (words : List ℕ) (number : ℕ) → HasAccesses most words → number < length (accesses_in most words) → 0 < number
+pub later_in : (most : ℕ) (words : List ℕ) (number : ℕ) → BeginWithAccesses most words → number < length (accesses_in most words)
+    → 0 < number
     → IsLater most words number
 later_in most words number here within later = elim (cases_Bool (goes_on (get_or words 0 0))) [
   | inl on ↦
@@ -102,7 +104,7 @@ later_in most words number here within later = elim (cases_Bool (goes_on (get_or
         there = g.there;
         within = omega (arith, ap length g.others);
         is = ap (λ (xs : List Access). slice_get xs number) g.others
-            ∙ get_later (access_in words) (accesses_in g.fewer (behind words)) number later;
+            ∙ get_later (access_in words) (accesses_in g.fewer (behind_access words)) number later;
       }
   | inr last ↦ absurd (omega (arith, ap length (only most words here last)))
 ]

@@ -9,9 +9,9 @@ use Rattle.std.specs.{Prelude.All, Int.from_bool}
 use Rattle.flow_word.specs.{declared.access.Access.Access, declared.access.Kind.Kind, declared.access.Step.Step}
 use Rattle.flow_word.specs.declared.access.Kind.TheVariants.{Read, Write, TryRead, TryWrite, Empty, Full}
 use Rattle.event_graph.specs.declared.steps.Head.{Head}
-use Rattle.event_graph.specs.Words.{Fits, kind_of, code_of, is_kept, has_value, goes_on, upper, access_in, behind, accesses_in, HasAccess}
-use Rattle.event_graph.specs.Words.{HasAccesses, most_accesses, word_of, words_of}
-use Rattle.event_graph.specs.Packed.{nothing, opened, opened_at, packed, BeginsStep, IsInside, KeepsInside, IsKept}
+use Rattle.event_graph.specs.Words.{Fits, kind_with_code, code_of, is_kept, has_value, goes_on, upper, access_in, behind_access}
+use Rattle.event_graph.specs.Words.{accesses_in, HasAccess, BeginWithAccesses, most_accesses, access_word, words_of}
+use Rattle.event_graph.specs.Packed.{nothing, unpacked_step, opened_at, packed, BeginsStep, IsStepThere, KeepsInside, IsStepKept}
 use Rattle.event_graph.proofs.Chained.{has_first, only, going_on}
 
 -- ---- what a step's words mean, by its word
@@ -32,7 +32,8 @@ opens_kept words others head kept =
 -- ---- what stands at the front stays, with other words behind it
 
 -- an access, and what is behind it
-access_more : (ws more : List ℕ) → HasAccess ws → (access_in (ws ++ more) ≡ access_in ws) × (behind (ws ++ more) ≡ behind ws ++ more)
+access_more : (ws more : List ℕ) → HasAccess ws
+    → (access_in (ws ++ more) ≡ access_in ws) × (behind_access (ws ++ more) ≡ behind_access ws ++ more)
 access_more [] more here = absurd (omega (arith, here))
 access_more (w ∷ []) more here = elim (cases_Bool (has_value w)) [
   | inl e ↦ absurd (let two : 2 ≤ 1 = rw e at here in omega arith)
@@ -49,20 +50,20 @@ has_more ws more here = rw (first_more ws more here) (let l = length-append ws m
 
 -- the accesses of a step
 record AreSame (most : ℕ) (ws more : List ℕ) : Type 0 where
-  there : HasAccesses most (ws ++ more)
+  there : BeginWithAccesses most (ws ++ more)
   same : accesses_in most (ws ++ more) ≡ accesses_in most ws
 
-accesses_more : (most : ℕ) (ws more : List ℕ) → HasAccesses most ws → AreSame most ws more
-unfolding HasAccesses
+accesses_more : (most : ℕ) (ws more : List ℕ) → BeginWithAccesses most ws → AreSame most ws more
+unfolding BeginWithAccesses
 accesses_more zero ws more here = absurd here
 accesses_more (suc most) ws more here =
     let first = ap goes_on (first_more ws more here.0) in
     let (access, rest) = access_more ws more here.0 in
     elim (cases_Bool (goes_on (get_or ws 0 0))) [
       | inl on ↦
-          let others = accesses_more most (behind ws) more (here.1 on) in
-          let there : HasAccesses (suc most) (ws ++ more) =
-          (has_more ws more here.0, λ e. subst (HasAccesses most) (sym rest) others.there) in
+          let others = accesses_more most (behind_access ws) more (here.1 on) in
+          let there : BeginWithAccesses (suc most) (ws ++ more) =
+          (has_more ws more here.0, λ e. subst (BeginWithAccesses most) (sym rest) others.there) in
           record {
             there = there;
             same =
@@ -71,7 +72,7 @@ accesses_more (suc most) ws more here =
                 ∙ sym (going_on most ws here on).others);
           }
       | inr last ↦
-          let there : HasAccesses (suc most) (ws ++ more) =
+          let there : BeginWithAccesses (suc most) (ws ++ more) =
           (has_more ws more here.0, λ e. absurd (both_ways _ last (sym first ∙ e))) in
           record {
             there = there;
@@ -126,7 +127,7 @@ small TryWrite = omega arith
 small Empty = omega arith
 small Full = omega arith
 
-coded : (k : Kind) → kind_of (code_of k) ≡ k
+coded : (k : Kind) → kind_with_code (code_of k) ≡ k
 coded Read = refl
 coded Write = refl
 coded TryRead = refl
@@ -167,32 +168,32 @@ same_access : (a : Access) {kind : Kind} {channel ordinal value : ℕ} → kind 
 same_access a k c o v = rw (k, c, o, v) refl
 
 module _ (a : Access) (more : Bool) (fits : Fits a) where
-  parts : HasParts (word_of a more) (code_of a.kind) (from_bool (not (a.value == 0))) (from_bool more) a.channel a.ordinal
-  parts = has_parts (code_of a.kind) (from_bool (not (a.value == 0))) (from_bool more) a.channel a.ordinal (word_of a more) refl
+  parts : HasParts (access_word a more) (code_of a.kind) (from_bool (not (a.value == 0))) (from_bool more) a.channel a.ordinal
+  parts = has_parts (code_of a.kind) (from_bool (not (a.value == 0))) (from_bool more) a.channel a.ordinal (access_word a more) refl
       (small a.kind) (bit_small (not (a.value == 0))) (bit_small more) fits.channel
 
-  goes_back : goes_on (word_of a more) ≡ more
+  goes_back : goes_on (access_word a more) ≡ more
   goes_back = rw parts.more_is (bit_set more)
 
-  not_kept : is_kept (word_of a more) ≡ false
+  not_kept : is_kept (access_word a more) ≡ false
   not_kept = rw parts.code_is (ne_eqb (code_of a.kind) 6 (λ e. let s = small a.kind in omega arith))
 
-  kind_back : kind_of (word_of a more % 8) ≡ a.kind
+  kind_back : kind_with_code (access_word a more % 8) ≡ a.kind
   kind_back = rw parts.code_is (coded a.kind)
 
   -- what is read from an access's word and what follows it, as it has a value or not
   record IsRead (words rest : List ℕ) : Type 0 where
     there : HasAccess words
     access : access_in words ≡ a
-    others : behind words ≡ rest
+    others : behind_access words ≡ rest
 
   read_back : (rest : List ℕ) → IsRead (words_of a more ++ rest) rest
   read_back rest = by_value (a.value == 0) refl
     where
-      valued : (t : Bool) → (a.value == 0) ≡ t → has_value (word_of a more) ≡ not t
+      valued : (t : Bool) → (a.value == 0) ≡ t → has_value (access_word a more) ≡ not t
       valued t e = rw (parts.value_is, e) (bit_set (not t))
 
-      by_value : (t : Bool) → (a.value == 0) ≡ t → IsRead (word_of a more ∷ (cond t [] (a.value ∷ []) ++ rest)) rest
+      by_value : (t : Bool) → (a.value == 0) ≡ t → IsRead (access_word a more ∷ (cond t [] (a.value ∷ []) ++ rest)) rest
       by_value true e = let v = valued true e in record {
         there = rw v (omega arith);
         access = same_access a kind_back parts.channel_is parts.ordinal_is (rw v (sym (eqb-true a.value 0 e)));
@@ -213,26 +214,26 @@ record IsPackedAs (words : List ℕ) (others : List Step) (head : Head) (step : 
   opens : opened_at words others head ≡ step
 
 -- words with one access alone
-has_one : (most : ℕ) (words : List ℕ) → HasAccess words → goes_on (get_or words 0 0) ≡ false → 0 < most → HasAccesses most words
-unfolding HasAccesses
+has_one : (most : ℕ) (words : List ℕ) → HasAccess words → goes_on (get_or words 0 0) ≡ false → 0 < most → BeginWithAccesses most words
+unfolding BeginWithAccesses
 has_one zero words here ends some = absurd (omega arith)
 has_one (suc most) words here ends some = (here, λ e. absurd (both_ways _ ends e))
 
 -- the accesses that were packed are read back
 record AreRead (most : ℕ) (words : List ℕ) (items : List Access) : Type 0 where
-  there : HasAccesses most words
+  there : BeginWithAccesses most words
   are : accesses_in most words ≡ items
   first : is_kept (get_or words 0 0) ≡ false
 
 all_read : (most : ℕ) (a : Access) (items : List Access) → length items < most → All Fits (a ∷ items)
     → AreRead most (packed (a ∷ items)) (a ∷ items)
-unfolding HasAccesses
+unfolding BeginWithAccesses
 all_read zero a items few fits = absurd (omega arith)
 all_read (suc most) a [] few fits =
     let h = All-head Fits a [] fits in
     let one = read_alone a false h in
     let last = goes_back a false h in
-    let there : HasAccesses (suc most) (words_of a false) = (one.there, λ e. absurd (both_ways _ last e)) in
+    let there : BeginWithAccesses (suc most) (words_of a false) = (one.there, λ e. absurd (both_ways _ last e)) in
     record {
       there = there;
       are = only (suc most) (words_of a false) there last ∙ ap (λ (x : Access). x ∷ []) one.access;
@@ -243,7 +244,7 @@ all_read (suc most) a (b ∷ items) few fits =
     let one = read_back a true h (packed (b ∷ items)) in
     let rest = all_read most b items (omega arith) (All-tail Fits a (b ∷ items) fits) in
     let words = packed (a ∷ b ∷ items) in
-    let there : HasAccesses (suc most) words = (one.there, λ e. subst (HasAccesses most) (sym one.others) rest.there) in
+    let there : BeginWithAccesses (suc most) words = (one.there, λ e. subst (BeginWithAccesses most) (sym one.others) rest.there) in
     record {
       there = there;
       are =
@@ -264,35 +265,38 @@ few_packed (a ∷ items) others head some few fits =
 
 -- ---- a step more
 
-still_opened : (heads : List Head) (words words' : List ℕ) (others others' : List Step) → All (IsInside words others) heads
-    → KeepsInside words others words' others' → map (opened words' others') heads ≡ map (opened words others) heads
+still_opened : (heads : List Head) (words words' : List ℕ) (others others' : List Step) → All (IsStepThere words others) heads
+    → KeepsInside words others words' others' → map (unpacked_step words' others') heads ≡ map (unpacked_step words others) heads
 still_opened [] words words' others others' inside kept = refl
 still_opened (head ∷ heads) words words' others others' inside kept =
-    let here = (kept head (All-head (IsInside words others) head heads inside)).1 in
-    let rest = still_opened heads words words' others others' (All-tail (IsInside words others) head heads inside) kept in
+    let here = (kept head (All-head (IsStepThere words others) head heads inside)).1 in
+    let rest = still_opened heads words words' others others' (All-tail (IsStepThere words others) head heads inside) kept in
     rw (here, rest) refl
 
-still_inside : (heads : List Head) (words words' : List ℕ) (others others' : List Step) → All (IsInside words others) heads
-    → KeepsInside words others words' others' → All (IsInside words' others') heads
+still_inside : (heads : List Head) (words words' : List ℕ) (others others' : List Step) → All (IsStepThere words others) heads
+    → KeepsInside words others words' others' → All (IsStepThere words' others') heads
 still_inside heads words words' others others' inside kept = λ k d l. (kept (get_or heads k d) (inside k d l)).0
 
 module _ (heads new : List Head) (words words' : List ℕ) (others others' : List Step) (head : Head) (step : Step)
-    (inside : All (IsInside words others) heads) (more : new ≡ heads ++ head ∷ []) (is : IsKept words others words' others' step head) where
+    (inside : All (IsStepThere words others) heads) (more : new ≡ heads ++ head ∷ [])
+    (is : IsStepKept words others words' others' step head) where
   -- the steps with one more
-  pub opened_with : (steps : List Step) → map (opened words others) heads ≡ steps → map (opened words' others') new ≡ steps ++ step ∷ []
+  pub opened_with : (steps : List Step) → map (unpacked_step words others) heads ≡ steps
+      → map (unpacked_step words' others') new ≡ steps ++ step ∷ []
   opened_with steps so =
-      ap (map (opened words' others')) more
-      ∙ (map-append (opened words' others') heads (head ∷ [])
+      ap (map (unpacked_step words' others')) more
+      ∙ (map-append (unpacked_step words' others') heads (head ∷ [])
       ∙ ap₂ (λ (xs : List Step) (x : Step). xs ++ x ∷ []) (still_opened heads words words' others others' inside is.before ∙ so) is.is)
 
   -- which stand inside
-  pub inside_with : All (IsInside words' others') new
+  pub inside_with : All (IsStepThere words' others') new
   inside_with =
-      rw more (All-push (IsInside words' others') heads head (still_inside heads words words' others others' inside is.before) is.inside)
+      rw more (All-push (IsStepThere words' others') heads head (still_inside heads words words' others others' inside is.before) is.inside)
 
 -- words and maybe a step were added for a step
 is_kept_with : (words more words' : List ℕ) (others steps others' : List Step) (step : Step) (head : Head) → words' ≡ words ++ more
-    → others' ≡ others ++ steps → head.at ≡ length words → IsPackedAs more others' head step → IsKept words others words' others' step head
+    → others' ≡ others ++ steps → head.at ≡ length words → IsPackedAs more others' head step
+    → IsStepKept words others words' others' step head
 is_kept_with words more words' others steps others' step head added joined at as_packed =
     let behind_all : drop head.at words' ≡ more = rw (added, at) (drop_at words more (length words) refl) in
     record {
@@ -304,7 +308,7 @@ is_kept_with words more words' others steps others' step head added joined at as
 -- a step of few accesses
 pub few_kept : (words words' : List ℕ) (others : List Step) (items : List Access) (head : Head) → words' ≡ words ++ packed items
     → head.at ≡ length words → 1 ≤ length items → length items ≤ most_accesses → All Fits items
-    → IsKept words others words' others (record { gap = head.gap; accesses = items; first_query = head.first_query }) head
+    → IsStepKept words others words' others (record { gap = head.gap; accesses = items; first_query = head.first_query }) head
 few_kept words words' others items head added at some few fits =
     is_kept_with words (packed items) words' others [] others _ head added (sym (append-nil others)) at
     (few_packed items others head some few fits)
@@ -312,7 +316,7 @@ few_kept words words' others items head added at some few fits =
 -- a step that is kept as it is
 pub whole_kept : (words words' : List ℕ) (others others' : List Step) (word : ℕ) (step : Step) (head : Head) → words' ≡ words ++ word ∷ []
     → others' ≡ others ++ step ∷ [] → head.at ≡ length words → is_kept word ≡ true → upper word ≡ length others → has_value word ≡ false
-    → goes_on word ≡ false → IsKept words others words' others' step head
+    → goes_on word ≡ false → IsStepKept words others words' others' step head
 whole_kept words words' others others' word step head added joined at kept number alone ends =
     is_kept_with words (word ∷ []) words' others (step ∷ []) others' step head added joined at (record {
       begins = record {

@@ -3,7 +3,7 @@ use Rattle.std.specs.Prelude.{List, take}
 use Rattle.flow_word.specs.declared.access.Access.{Access}
 use Rattle.event_graph.specs.{declared.view.Held.Held, declared.view.Listed.Listed, declared.view.Listed.TheVariants.Words}
 use Rattle.event_graph.specs.declared.view.Held.TheVariants.{One, Two, Few, Slice}
-use Rattle.event_graph.specs.Words.{most_accesses, accesses_in, HasAccesses}
+use Rattle.event_graph.specs.Words.{most_accesses, accesses_in, BeginWithAccesses}
 use Rattle.event_graph.specs.declared.view.Listed.TheVariants as listed
 
 abbrev pub accesses_of : Held → List Access
@@ -17,6 +17,6 @@ listed_in (Words words) = accesses_in most_accesses words.now
 listed_in (listed.Slice items) = items.now
 
 -- the words hold the accesses of a step
-abbrev pub IsListed : Listed → Type 0
-IsListed (Words words) = HasAccesses most_accesses words.now
-IsListed (listed.Slice items) = Unit {0}
+abbrev pub HoldsAccesses : Listed → Type 0
+HoldsAccesses (Words words) = BeginWithAccesses most_accesses words.now
+HoldsAccesses (listed.Slice items) = Unit {0}

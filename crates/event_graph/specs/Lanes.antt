@@ -53,12 +53,12 @@ pub record IsSoundLane (lane : Lane) : Type 0 where
   pub below : All (λ cycle. cycle < cycle_bound) lane.cycles
 
 -- the lane with one more step
-abbrev pub longer : Lane → Step → Lane
-longer lane step = record { steps = lane.steps ++ step ∷ []; cycles = lane.cycles }
+abbrev pub lane_with_step : Lane → Step → Lane
+lane_with_step lane step = record { steps = lane.steps ++ step ∷ []; cycles = lane.cycles }
 
 -- the lane with a cycle for its first step that had none
-abbrev pub timed : Lane → ℕ → Lane
-timed lane cycle = record { steps = lane.steps; cycles = lane.cycles ++ cycle ∷ [] }
+abbrev pub lane_with_cycle : Lane → ℕ → Lane
+lane_with_cycle lane cycle = record { steps = lane.steps; cycles = lane.cycles ++ cycle ∷ [] }
 
 -- the lane with only those cycles that are below the given one
 abbrev pub timed_below : ℕ → Lane → Lane
@@ -70,11 +70,11 @@ put_in lane step cycle = record { steps = lane.steps; cycles = slice_set lane.cy
 
 -- the lanes with one more step of a module
 abbrev pub with_step : List Lane → ℕ → Step → List Lane
-with_step lanes owner step = slice_set lanes owner (longer (lane_at lanes owner) step)
+with_step lanes owner step = slice_set lanes owner (lane_with_step (lane_at lanes owner) step)
 
 -- the lanes with a cycle for a module's first step that had none
 abbrev pub with_cycle : List Lane → ℕ → ℕ → List Lane
-with_cycle lanes owner cycle = slice_set lanes owner (timed (lane_at lanes owner) cycle)
+with_cycle lanes owner cycle = slice_set lanes owner (lane_with_cycle (lane_at lanes owner) cycle)
 
 -- the lanes with another cycle of the step at a place
 abbrev pub with_put : List Lane → Place → ℕ → List Lane

@@ -13,8 +13,8 @@ pub record Fits (access : Access) : Type 0 where
 -- ---- the parts of a word
 
 -- the kind with this code
-abbrev pub kind_of : ℕ → Kind
-kind_of code = slice_index_or (Read ∷ Write ∷ TryRead ∷ TryWrite ∷ Empty ∷ []) code Full
+abbrev pub kind_with_code : ℕ → Kind
+kind_with_code code = slice_index_or (Read ∷ Write ∷ TryRead ∷ TryWrite ∷ Empty ∷ []) code Full
 
 -- the word is that of a step that is kept whole
 abbrev pub is_kept : ℕ → Bool
@@ -42,15 +42,15 @@ abbrev pub access_in : List ℕ → Access
 access_in words =
     let word = slice_index words 0 in
     record {
-      kind = kind_of (word % 8);
+      kind = kind_with_code (word % 8);
       channel = word / 32 % 2 ^ 27;
       ordinal = upper word;
       value = if has_value word then slice_index words 1 else 0;
     }
 
 -- the words after the first access
-abbrev pub behind : List ℕ → List ℕ
-behind words = drop (size_of (slice_index words 0)) words
+abbrev pub behind_access : List ℕ → List ℕ
+behind_access words = drop (size_of (slice_index words 0)) words
 
 -- the most accesses of a step that is kept as words
 abbrev pub most_accesses : ℕ
@@ -59,16 +59,16 @@ most_accesses = 4
 -- the accesses with which the words begin, up to the first that does not go on; `most` of them at most
 unfoldable pub accesses_in : ℕ → List ℕ → List Access
 accesses_in zero words = []
-accesses_in (suc most) words = access_in words ∷ (if goes_on (slice_index words 0) then accesses_in most (behind words) else [])
+accesses_in (suc most) words = access_in words ∷ (if goes_on (slice_index words 0) then accesses_in most (behind_access words) else [])
 
 -- all words of the first access are there
 abbrev pub HasAccess : List ℕ → Type 0
 HasAccess words = size_of (slice_index words 0) ≤ length words
 
 -- all words of the accesses with which the words begin are there, and one of the first `most` does not go on
-unfoldable pub HasAccesses : ℕ → List ℕ → Type 0
-HasAccesses zero words = ⊥
-HasAccesses (suc most) words = HasAccess words × (goes_on (slice_index words 0) ≡ true → HasAccesses most (behind words))
+unfoldable pub BeginWithAccesses : ℕ → List ℕ → Type 0
+BeginWithAccesses zero words = ⊥
+BeginWithAccesses (suc most) words = HasAccess words × (goes_on (slice_index words 0) ≡ true → BeginWithAccesses most (behind_access words))
 
 -- ---- an access as words
 
@@ -80,9 +80,9 @@ code_of TryWrite = 3
 code_of Empty = 4
 code_of Full = 5
 
-abbrev pub word_of : Access → Bool → ℕ
-word_of access more =
+abbrev pub access_word : Access → Bool → ℕ
+access_word access more =
     code_of access.kind + 8 * from_bool (not (access.value == 0)) + 16 * from_bool more + 32 * access.channel + 2 ^ 32 * access.ordinal
 
 abbrev pub words_of : Access → Bool → List ℕ
-words_of access more = word_of access more ∷ (if access.value == 0 then [] else access.value ∷ [])
+words_of access more = access_word access more ∷ (if access.value == 0 then [] else access.value ∷ [])

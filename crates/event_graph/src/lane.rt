@@ -1,7 +1,8 @@
 //! One module's lane, with its room.
 ghost use Rattle.std.specs.Prelude.{◌≡◌, ◌+◌, ◌<◌, ◌≤◌, ◌^◌, length, take, filter, nat_lt, slice_get, slice_set, Some, IsOk, OnOk, OnErr};
 ghost use Rattle.std.specs.{Option.ForSome, List.Sorted.IsStrictlyIncreasing};
-ghost use Rattle.event_graph.specs.Lanes.{no_lane, last_cycle, cycle_bound, IsSoundStep, IsSoundLane, longer, timed, timed_below, put_in};
+ghost use Rattle.event_graph.specs.Lanes.{no_lane, last_cycle, cycle_bound, IsSoundStep, IsSoundLane, lane_with_step, lane_with_cycle};
+ghost use Rattle.event_graph.specs.Lanes.{timed_below, put_in};
 ghost use Rattle.event_graph.specs.Packed.{whole, in_lane, IsFewStep};
 
 use crate::steps::StepList;
@@ -108,7 +109,7 @@ impl RoomyLane {
     pub fn push_step(&mut self, step: Step) -> Result<(), OutOfMemory>
         requires sound { IsSoundStep step }
         requires apart { 0 < length self.old.lane.steps → 1 ≤ step.gap }
-        ensures ok { OnOk result (self.new.lane ≡ longer self.old.lane step) }
+        ensures ok { OnOk result (self.new.lane ≡ lane_with_step self.old.lane step) }
         ensures err { OnErr result (self.new.lane ≡ self.old.lane) }
         ensures succeeds { 0 < self.old.room → IsOk result }
         ensures room { self.old.room ≤ self.new.room + 1 }
@@ -127,7 +128,7 @@ impl RoomyLane {
         requires few { IsFewStep (whole step.now) }
         requires sound { IsSoundStep (whole step.now) }
         requires apart { 0 < length self.old.lane.steps → 1 ≤ step.now.gap }
-        ensures ok { OnOk result (self.new.lane ≡ longer self.old.lane (whole step.now)) }
+        ensures ok { OnOk result (self.new.lane ≡ lane_with_step self.old.lane (whole step.now)) }
         ensures err { OnErr result (self.new.lane ≡ self.old.lane) }
         ensures succeeds { 0 < self.old.room → IsOk result }
         ensures room { self.old.room ≤ self.new.room + 1 }
@@ -144,7 +145,7 @@ impl RoomyLane {
         requires waiting { length self.old.lane.cycles < length self.old.lane.steps }
         requires below { cycle < cycle_bound }
         requires later { ForSome (last_cycle self.old.lane) (λ last. last < cycle) }
-        ensures lane { self.new.lane ≡ timed self.old.lane cycle }
+        ensures lane { self.new.lane ≡ lane_with_cycle self.old.lane cycle }
         ensures kept { self.old.room ≤ self.new.room }
         ensures sound { IsSoundLane self.new.lane }
         ensures ticks { steps.new ≡ steps.old + 1 }

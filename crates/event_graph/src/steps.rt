@@ -1,7 +1,7 @@
 //! The steps of a lane, each in as few bytes as it needs.
 ghost use Rattle.std.specs.Prelude.{◌≡◌, ◌+◌, ◌<◌, ◌≤◌, ◌^◌, [], ◌∷◌, ◌++◌, true, length, slice_get, Some, All, IsOk, OnOk, OnErr};
-ghost use Rattle.event_graph.specs.Packed.{whole, in_lane, packed, IsFewStep, IsKept};
-ghost use Rattle.event_graph.specs.Words.{Fits, HasAccesses, accesses_in, most_accesses};
+ghost use Rattle.event_graph.specs.Packed.{whole, in_lane, packed, IsFewStep, IsStepKept};
+ghost use Rattle.event_graph.specs.Words.{Fits, BeginWithAccesses, accesses_in, most_accesses};
 
 use crate::view::{AccessesView, LaneAccesses, LaneStep, StepView};
 use crate::words::{
@@ -41,11 +41,11 @@ impl Model for StepList {
     ghost use Rattle.std.specs.Prelude.{◌≤◌, ◌<◌, ◌+◌, ◌*◌, ◌^◌, length, map};
     ghost use Rattle.flow_word.specs.declared.access.Step.{Step};
     ghost use Rattle.flow_word.specs.Room.{Roomed};
-    ghost use Rattle.event_graph.specs.Packed.{opened, IsPacked};
+    ghost use Rattle.event_graph.specs.Packed.{unpacked_step, IsPacked};
 
     ghost Value = { Roomed Step };
 
-    ghost view = { λ l. record { items = map (opened l.words.items l.others.items) l.heads.items; room = l.room } };
+    ghost view = { λ l. record { items = map (unpacked_step l.words.items l.others.items) l.heads.items; room = l.room } };
 
     ghost invariant = { λ l. IsPacked l.heads l.words l.others l.room };
 }
@@ -192,7 +192,7 @@ fn look_kept(step: &Step) -> LaneStep<'_>
 /// The accesses of the step with which these words begin.
 #[inline(always)]
 fn read_accesses<'a>(words: &[u64]) -> AccessesView<'a>
-    requires { HasAccesses most_accesses words.now }
+    requires { BeginWithAccesses most_accesses words.now }
     ensures { result ≡ accesses_in most_accesses words.now }
 {
     let first = read_access(words);
@@ -208,7 +208,7 @@ fn read_accesses<'a>(words: &[u64]) -> AccessesView<'a>
 
 /// As `read_accesses`, for words of any number of accesses.
 fn read_few<'a>(words: &[u64]) -> AccessesView<'a>
-    requires { HasAccesses most_accesses words.now }
+    requires { BeginWithAccesses most_accesses words.now }
     ensures { result ≡ accesses_in most_accesses words.now }
 {
     let mut items = [Access::default(); MOST_ACCESSES];
@@ -222,7 +222,7 @@ fn keep(words: &mut RoomyList<u64>, others: &mut RoomyList<Step>, step: Step) ->
     requires others_room { 1 ≤ others.old.room }
     requires words_few { length words.old.items < 2 ^ 32 }
     requires others_few { length others.old.items < 2 ^ 32 }
-    ensures kept { IsKept words.old.items others.old.items words.new.items others.new.items step result }
+    ensures kept { IsStepKept words.old.items others.old.items words.new.items others.new.items step result }
     ensures words_more { length words.new.items ≤ length words.old.items + 8 }
     ensures others_more { length others.new.items ≤ length others.old.items + 1 }
     ensures words_room { words.old.room ≤ words.new.room + 8 }

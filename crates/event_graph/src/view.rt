@@ -1,6 +1,6 @@
 //! Views of a step in its lane.
 ghost use Rattle.std.specs.Prelude.{◌≡◌, ◌<◌, [], ◌∷◌, length, take, slice_get, Some};
-ghost use Rattle.event_graph.specs.Words.{HasAccesses, accesses_in, most_accesses};
+ghost use Rattle.event_graph.specs.Words.{BeginWithAccesses, accesses_in, most_accesses};
 
 use crate::words::{MOST_ACCESSES, access_at, count_accesses};
 use flow_word::Access;
@@ -128,20 +128,20 @@ pub struct LaneAccesses<'a> {
 impl<'a> Model for LaneAccesses<'a> {
     ghost use Rattle.std.specs.Prelude.{List};
     ghost use Rattle.flow_word.specs.declared.access.Access.{Access};
-    ghost use Rattle.event_graph.specs.Held.{listed_in, IsListed};
+    ghost use Rattle.event_graph.specs.Held.{listed_in, HoldsAccesses};
 
     ghost Value = { List Access };
 
     ghost view = { λ accesses. listed_in accesses.listed };
 
-    ghost invariant = { λ accesses. IsListed accesses.listed };
+    ghost invariant = { λ accesses. HoldsAccesses accesses.listed };
 }
 
 impl<'a> LaneAccesses<'a> {
     /// A view of the accesses with which these words begin.
     #[inline(always)]
     pub(crate) fn of_words(words: &'a [u64]) -> LaneAccesses<'a>
-        requires { HasAccesses most_accesses words.now }
+        requires { BeginWithAccesses most_accesses words.now }
         ensures { result ≡ accesses_in most_accesses words.now }
     {
         LaneAccesses {

@@ -5,8 +5,8 @@
 //! of 0 is left out. The code 6 stands for a step that is kept whole: its number is in the upper half.
 ghost use Rattle.std.specs.Prelude.{◌≡◌, ℕ, ◌+◌, ◌*◌, ◌<◌, ◌≤◌, ◌++◌, true, false, length, take, slice_get, Some, All};
 ghost use Rattle.event_graph.specs.Words.{Fits, is_kept as is_kept_by, has_value as has_value_by, goes_on as goes_on_by, upper as upper_by};
-ghost use Rattle.event_graph.specs.Words.{kind_of as kind_by, code_of as code_by, word_of as word_by, words_of, access_in};
-ghost use Rattle.event_graph.specs.Words.{behind as behind_by, size_of as size_by, HasAccess, HasAccesses, accesses_in, most_accesses};
+ghost use Rattle.event_graph.specs.Words.{kind_with_code, code_of as code_by, access_word, words_of, access_in, behind_access};
+ghost use Rattle.event_graph.specs.Words.{size_of as size_by, HasAccess, BeginWithAccesses, accesses_in, most_accesses};
 ghost use Rattle.event_graph.specs.Packed.{packed};
 
 use flow_word::{Access, Kind, RoomyList};
@@ -71,7 +71,7 @@ pub(crate) fn goes_on(word: u64) -> bool
 /// The kind with this code.
 #[inline(always)]
 fn kind_of(code: u64) -> Kind
-    ensures { result ≡ kind_by code }
+    ensures { result ≡ kind_with_code code }
 {
     match code {
         0 => Kind::Read,
@@ -111,7 +111,7 @@ fn size_of(word: u64) -> usize
 #[inline(always)]
 pub(crate) fn behind(words: &[u64]) -> &[u64]
     requires { HasAccess words.now }
-    ensures words { result.now ≡ behind_by words.now }
+    ensures words { result.now ≡ behind_access words.now }
     ensures fewer { length result.now < length words.now }
 {
     &words[size_of(words[0])..]
@@ -135,7 +135,7 @@ pub(crate) fn read_access(words: &[u64]) -> Access
 /// How many accesses these words begin with: those of one step.
 #[inline(always)]
 pub(crate) fn count_accesses(words: &[u64]) -> usize
-    requires { HasAccesses most_accesses words.now }
+    requires { BeginWithAccesses most_accesses words.now }
     ensures { result ≡ length (accesses_in most_accesses words.now) }
 {
     if !goes_on(words[0]) {
@@ -150,8 +150,8 @@ pub(crate) fn count_accesses(words: &[u64]) -> usize
 
 /// As `count_accesses`, for words of any number of accesses.
 fn count_on(words: &[u64]) -> usize
-    requires { (most : ℕ) × HasAccesses most words.now }
-    ensures count { (most : ℕ) → HasAccesses most words.now → result ≡ length (accesses_in most words.now) }
+    requires { (most : ℕ) × BeginWithAccesses most words.now }
+    ensures count { (most : ℕ) → BeginWithAccesses most words.now → result ≡ length (accesses_in most words.now) }
     ensures few { result ≤ length words.now }
 {
     if !goes_on(words[0]) {
@@ -163,7 +163,7 @@ fn count_on(words: &[u64]) -> usize
 /// The access with this number, counted from 0, among those with which the words begin.
 #[inline(always)]
 pub(crate) fn access_at(words: &[u64], number: usize) -> Access
-    requires words { HasAccesses most_accesses words.now }
+    requires words { BeginWithAccesses most_accesses words.now }
     requires number { number < length (accesses_in most_accesses words.now) }
     ensures { slice_get (accesses_in most_accesses words.now) number ≡ Some result }
 {
@@ -179,8 +179,8 @@ pub(crate) fn access_at(words: &[u64], number: usize) -> Access
 
 /// As `access_at`, for words of any number of accesses.
 fn walk_to(words: &[u64], number: usize) -> Access
-    requires { (most : ℕ) × (HasAccesses most words.now × (number < length (accesses_in most words.now))) }
-    ensures { (most : ℕ) → HasAccesses most words.now → number < length (accesses_in most words.now)
+    requires { (most : ℕ) × (BeginWithAccesses most words.now × (number < length (accesses_in most words.now))) }
+    ensures { (most : ℕ) → BeginWithAccesses most words.now → number < length (accesses_in most words.now)
         → slice_get (accesses_in most words.now) number ≡ Some result }
 {
     if number == 0 {
@@ -191,8 +191,8 @@ fn walk_to(words: &[u64], number: usize) -> Access
 
 /// Writes the accesses with which the words begin into the list, from a place on, and answers how many the list then has.
 pub(crate) fn read_all(words: &[u64], items: &mut [Access; MOST_ACCESSES], at: usize) -> usize
-    requires { (most : ℕ) × (HasAccesses most words.now × (at + length (accesses_in most words.now) ≤ most_accesses)) }
-    ensures { (most : ℕ) → HasAccesses most words.now → at + length (accesses_in most words.now) ≤ most_accesses
+    requires { (most : ℕ) × (BeginWithAccesses most words.now × (at + length (accesses_in most words.now) ≤ most_accesses)) }
+    ensures { (most : ℕ) → BeginWithAccesses most words.now → at + length (accesses_in most words.now) ≤ most_accesses
         → take result items.new ≡ take at items.old ++ accesses_in most words.now }
 {
     items[at] = read_access(words);
@@ -206,7 +206,7 @@ pub(crate) fn read_all(words: &[u64], items: &mut [Access; MOST_ACCESSES], at: u
 #[inline(always)]
 fn word_of(access: Access, more: bool) -> u64
     requires { Fits access }
-    ensures { result ≡ word_by access more }
+    ensures { result ≡ access_word access more }
 {
     code_of(access.kind)
         + 8 * (access.value != 0) as u64

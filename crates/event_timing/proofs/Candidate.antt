@@ -8,7 +8,7 @@ use Rattle.event_timing.specs.{Machines.Design, Machines.IsDesign, Machines.Acce
 use Rattle.event_timing.specs.{Steps.rest, Steps.since, Enablers.Known.From, Enablers.Known.Never, Enablers.Known.Unknown}
 use Rattle.event_timing.specs.Histories.{Trace, IsHistory, is_possible, can_all, can_do}
 use Rattle.event_timing.specs.Views.{own, tally, View, Agrees, from, first_accesses, own_state}
-use Rattle.event_timing.specs.Enablers.{Known, known, known_of, both, bound, reach, candidate}
+use Rattle.event_timing.specs.Enablers.{Known, known, known_of, both, bound, unblocked_clock, candidate}
 use Rattle.event_timing.proofs.Steps.{done_more, done_same, done_mono, since_more, since_same}
 use Rattle.event_timing.proofs.Standing.{early_no_step, late_ready, moves_can, moves_from, steps_moves, steps_from, since_0}
 use Rattle.event_timing.proofs.OwnRuns.{follows, rest_own, done_0, own_fits}
@@ -147,38 +147,38 @@ rest_first {S} d h i y v g m c k =
 
 -- the facts of a determined step
 pub candidate_parts : {S : Type 0} → (d : Design S) (v : View) (m c : ℕ) → candidate d v m ≡ Some c
-    → (v.more m ≡ true) × (u : ℕ) × (bound (known_of d v m) (first_accesses v m) ≡ From u) × (max (reach v m) u ≡ c)
+    → (v.more m ≡ true) × (u : ℕ) × (bound (known_of d v m) (first_accesses v m) ≡ From u) × (max (unblocked_clock v m) u ≡ c)
 unfolding candidate
 candidate_parts {S} d v m c e = grind arith
 
 pub candidate_from : {S : Type 0} → (d : Design S) (v : View) (m u : ℕ) → v.more m ≡ true
-    → bound (known_of d v m) (first_accesses v m) ≡ From u → candidate d v m ≡ Some (max (reach v m) u)
+    → bound (known_of d v m) (first_accesses v m) ≡ From u → candidate d v m ≡ Some (max (unblocked_clock v m) u)
 unfolding candidate
 candidate_from {S} d v m u o b = grind arith
 
 pub reach_then : {S : Type 0} → (d : Design S) (h : Trace S) → IsDesign d → IsHistory d h → (v : View) → Agrees d h v → (m c : ℕ)
-    → v.more m ≡ true → begin v m ≤ c → done d h m c ≡ v.timed m → since d h m c + d.quiet m (rest d h m c) ≡ reach v m
+    → v.more m ≡ true → begin v m ≤ c → done d h m c ≡ v.timed m → since d h m c + d.quiet m (rest d h m c) ≡ unblocked_clock v m
 reach_then {S} d h i y v g m c o l k = rw (since_first d h v g m c l k, rest_first d h i y v g m c k, g.wait_first m o) refl
 
 -- behind its reach, a module that did no further step stands at its first step without a cycle
 pub first_ready : {S : Type 0} → (d : Design S) (h : Trace S) → IsDesign d → IsHistory d h → (v : View) → Agrees d h v → (m c : ℕ)
-    → v.more m ≡ true → reach v m ≤ c → done d h m c ≡ v.timed m → h.state c m ≡ own_state d v m (v.timed m)
+    → v.more m ≡ true → unblocked_clock v m ≤ c → done d h m c ≡ v.timed m → h.state c m ≡ own_state d v m (v.timed m)
 first_ready {S} d h i y v g m c o l k =
     let s = late_ready d h i y m c (rw (reach_then d h i y v g m c o (omega arith) k) l) in
     s ∙ ap (ready d m) (rest_first d h i y v g m c k)
 
 pub no_step_before : {S : Type 0} → (d : Design S) (h : Trace S) → IsDesign d → IsHistory d h → (v : View) → Agrees d h v → (m c u : ℕ)
     → v.more m ≡ true
-    → bound (known_of d v m) (first_accesses v m) ≡ From u → begin v m ≤ c → done d h m c ≡ v.timed m → c < max (reach v m) u
+    → bound (known_of d v m) (first_accesses v m) ≡ From u → begin v m ≤ c → done d h m c ≡ v.timed m → c < max (unblocked_clock v m) u
     → steps d h c m ≡ false
 no_step_before {S} d h i y v g m c u o b l k q =
     let r = reach_then d h i y v g m c o l k in
-    let a = λ (p : reach v m ≤ c). first_ready d h i y v g m c o p k in
+    let a = λ (p : unblocked_clock v m ≤ c). first_ready d h i y v g m c o p k in
     let e = bound_exact d h v c (known_of d v m) (first_accesses v m) u (first_means d h i y v g m c o k) b in
     grind (arith, nat_tests, early_no_step d h i y m c, moves_can d h c m, steps_moves d h c m, g.accesses_first m o)
 
 still_first : {S : Type 0} → (d : Design S) (h : Trace S) → IsDesign d → IsHistory d h → (v : View) → Agrees d h v → (m u : ℕ)
-    → v.more m ≡ true → bound (known_of d v m) (first_accesses v m) ≡ From u → (n : ℕ) → n + begin v m ≤ max (reach v m) u
+    → v.more m ≡ true → bound (known_of d v m) (first_accesses v m) ≡ From u → (n : ℕ) → n + begin v m ≤ max (unblocked_clock v m) u
     → done d h m (n + begin v m) ≡ v.timed m
 still_first {S} d h i y v g m u o b zero l = rw zero-add (done_begin d h v g m (v.timed m) refl)
 still_first {S} d h i y v g m u o b (suc n) l =

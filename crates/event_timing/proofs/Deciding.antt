@@ -4,7 +4,7 @@ use Rattle.std.proofs.Common.{◌≡◌, ℕ, zero, suc, ◌<◌, ◌≤◌, ◌
 use Rattle.event_timing.specs.{Machines.Design, Enablers.candidate, Core.Core, Core.values_there, Core.view}
 use Rattle.event_timing.specs.Actions.{MayRun, IsDetermined, MayAssign, MayAnswer, IsOpen, IsQuiet, MayEarliest, IsFinal}
 use Rattle.event_timing.specs.Permitted.{IsInside, has_replies, may_run, is_before, is_determined, may_assign, decides, may_answer, is_open}
-use Rattle.event_timing.specs.Permitted.{no_module, is_quiet, is_open_before, may_earliest, is_final}
+use Rattle.event_timing.specs.Permitted.{passes_no_module, is_quiet, is_open_before, may_earliest, is_final}
 use Rattle.event_timing.proofs.{Agreement.final_closed, Answering.first_emitted}
 
 -- ---- Run
@@ -55,13 +55,13 @@ module _ {S : Type 0} (d : Design S) (limit : ℕ) (x : Core S) (m : ℕ) where
 
 -- ---- over all modules
 
-none_passes : (test : ℕ → Bool) (n : ℕ) → no_module test n ≡ true → (m : ℕ) → m < n → test m ≡ false
-unfolding no_module
+none_passes : (test : ℕ → Bool) (n : ℕ) → passes_no_module test n ≡ true → (m : ℕ) → m < n → test m ≡ false
+unfolding passes_no_module
 none_passes test zero e m l = absurd (omega arith)
 none_passes test (suc n) e m l = grind (arith, none_passes test n)
 
-none_found : (test : ℕ → Bool) (n : ℕ) → ((m : ℕ) → test m ≡ true → ⊥) → no_module test n ≡ true
-unfolding no_module
+none_found : (test : ℕ → Bool) (n : ℕ) → ((m : ℕ) → test m ≡ true → ⊥) → passes_no_module test n ≡ true
+unfolding passes_no_module
 none_found test zero f = refl
 none_found test (suc n) f = grind (arith, f n, none_found test n f)
 
@@ -96,14 +96,14 @@ module _ {S : Type 0} (d : Design S) (limit : ℕ) (x : Core S) (inside : IsInsi
 
   -- no open step comes before that of the module
   least_there : (m c : ℕ) → candidate d (view d x) m ≡ Some c
-      → no_module (is_open_before d limit x (candidate d (view d x) m)) d.modules ≡ true → (n e : ℕ) → IsOpen d limit x n e → c ≤ e
+      → passes_no_module (is_open_before d limit x (candidate d (view d x) m)) d.modules ≡ true → (n e : ℕ) → IsOpen d limit x n e → c ≤ e
   unfolding is_open_before
   least_there m c at p n e o =
       let f = none_passes (is_open_before d limit x (candidate d (view d x) m)) d.modules p n (determined_inside d x inside n e o.determined.at) in
       grind (arith, nat_tests, o.determined.at, (open_decided d limit x n).1 (e, o))
 
   least_back : (m c : ℕ) → candidate d (view d x) m ≡ Some c → ((n e : ℕ) → IsOpen d limit x n e → c ≤ e)
-      → no_module (is_open_before d limit x (candidate d (view d x) m)) d.modules ≡ true
+      → passes_no_module (is_open_before d limit x (candidate d (view d x) m)) d.modules ≡ true
   unfolding is_open_before
   least_back m c at f =
       none_found (is_open_before d limit x (candidate d (view d x) m)) d.modules (λ n p.

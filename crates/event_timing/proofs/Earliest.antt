@@ -4,7 +4,7 @@ use Rattle.flow_word.specs.declared.access.Side.{Side}
 use Rattle.event_timing.specs.Machines.{Design, IsDesign, Access, ready}
 use Rattle.event_timing.specs.Histories.{Trace, IsHistory, is_possible, can_all}
 use Rattle.event_timing.specs.{Steps.steps, Steps.done, Views.View, Views.Agrees, Views.from, Views.first_accesses, Agreement.possible_all}
-use Rattle.event_timing.specs.Enablers.{Known, known_of, reach, candidate, IsStuck, answer, is_decided, all_decided, flags_at}
+use Rattle.event_timing.specs.Enablers.{Known, known_of, unblocked_clock, candidate, IsStuck, answer, is_decided, all_decided, flags_at}
 use Rattle.event_timing.specs.Enablers.Known.{From, Never, Unknown}
 use Rattle.event_timing.proofs.{Steps.done_more, Steps.done_same, Steps.done_less, OwnRuns.done_0, Threshold.Means}
 use Rattle.event_timing.proofs.Standing.{step_ready, step_reached, moves_can, moves_lives, steps_moves}
@@ -24,12 +24,12 @@ pub step_determined : {S : Type 0} → (d : Design S) (h : Trace S) → IsDesign
     → (e : ℕ) × (candidate d v m ≡ Some e) × (e ≤ c)
 step_determined {S} d h i y v g m c n w k o =
     let b = begin_passed d h v g m c (v.timed m) refl k in
-    let r : reach v m ≤ c = rw (← reach_then d h i y v g m c o b k) (step_reached d h i y m c w) in
+    let r : unblocked_clock v m ≤ c = rw (← reach_then d h i y v g m c o b k) (step_reached d h i y m c w) in
     let s = step_ready d h i y m c w ∙ ap (ready d m) (rest_first d h i y v g m c k) in
     let a = moves_can d h c m (steps_moves d h c m w) in
     let a' : can_all d h c (first_accesses v m) ≡ true = rw (g.accesses_first m o, ← s) a in
     let (u, f, l) = bound_found d h v c (known_of d v m) (first_accesses v m) n (first_means d h i y v g m c o k) a' in
-    (max (reach v m) u, candidate_from d v m u o f, omega arith)
+    (max (unblocked_clock v m) u, candidate_from d v m u o f, omega arith)
 
 ahead_never : {S : Type 0} → (d : Design S) (h : Trace S) → IsDesign d → IsHistory d h → (v : View) → Agrees d h v → (t : ℕ)
     → IsStuck d v t → (m c : ℕ) → c < t → ((n : ℕ) → done d h n c ≤ v.timed n) → steps d h c m ≡ true → done d h m c ≡ v.timed m → ⊥

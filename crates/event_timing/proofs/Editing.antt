@@ -6,7 +6,7 @@ use mathlib.Core.Path.{fun_ext}
 use Rattle.event_timing.specs.{Core.values_there, Core.Core, Core.core_accesses, Core.has_query, Machines.Design, Machines.IsDesign}
 use Rattle.event_timing.specs.{Machines.Access, Steps.steps, Steps.done, Views.own, Agreement.AreOwnMarks, Agreement.IsTimed}
 use Rattle.event_timing.specs.{Agreement.IsAgreed, Edits.edited, Edits.IsUntouched, Edits.kept, Edits.kept_cycle, Edits.after_edit}
-use Rattle.event_timing.specs.Histories.{Trace, IsHistory, replies, reply_to, moves, is_possible, can_all}
+use Rattle.event_timing.specs.Histories.{Trace, IsHistory, replies, reply_to, can_move, is_possible, can_all}
 use Rattle.flow_word.specs.{declared.access.Side.Side, declared.access.Side.TheVariants.Pop, declared.access.Side.TheVariants.Push}
 use Rattle.event_timing.proofs.{Steps.done_less, Fronts.IsDone, Assigning.can_emitted, Assigning.plain_possible}
 
@@ -105,8 +105,8 @@ module _ {S : Type 0} (d : Design S) (h g : Trace S) (i : IsDesign d) (y : IsHis
     (z : IsHistory (edited d fifo depth) g) (one : (ch : ℕ) → d.lag Push ch ≡ 1) (u : IsUntouched d h fifo depth t) where
   -- in a clock before t, up to which both stand alike
   module _ (c : ℕ) (l : c < t) (a : Alike h g c) where
-    moves_alike : (m : ℕ) → moves (edited d fifo depth) g c m ≡ moves d h c m
-    unfolding moves
+    moves_alike : (m : ℕ) → can_move (edited d fifo depth) g c m ≡ can_move d h c m
+    unfolding can_move
     moves_alike m =
         let f = possible_alike d h g i fifo depth t c one u l a in
         rw (a.state c (omega arith) m, can_alike d (edited d fifo depth) h g c f (d.accesses m (h.state c m))) refl

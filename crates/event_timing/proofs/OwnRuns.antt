@@ -2,7 +2,7 @@
 use Rattle.std.proofs.{lemmas.Bool.Decides.nat_tests, lemmas.Bool.cases_Bool}
 use Rattle.std.proofs.Common.{◌≡◌, ℕ, zero, suc, ◌+◌, ◌<◌, ◌≤◌, true, false, inl, inr, List, [], ◌∷◌, refl, ◌∙◌, arith, Option, Some, None}
 use Rattle.flow_word.specs.{declared.access.Side.Side, Kinds.other_side, Kinds.same_side}
-use Rattle.event_timing.specs.Machines.{Design, IsDesign, Access, Reply, ready, skip, is_some_access, takes_in, Each}
+use Rattle.event_timing.specs.Machines.{Design, IsDesign, Access, Reply, ready, after_skip, is_some_access, takes_in, Each}
 use Rattle.event_timing.specs.{Histories.Trace, Histories.IsHistory, Histories.replies, Steps.steps, Steps.done, Steps.rest}
 use Rattle.event_timing.specs.Views.{own, own_accesses, tally, place, View, Agrees}
 use Rattle.event_timing.proofs.Steps.{never_falls, done_more, done_same, rest_more, rest_same, done_up, done_past, same_clock}
@@ -21,9 +21,9 @@ pub own_more : {S : Type 0} → (d : Design S) (m : ℕ) (r : ℕ → List Reply
 unfolding own
 own_more {S} d m r k = refl
 
-skip_fits : {S : Type 0} → (d : Design S) → (i : IsDesign d) → (m n : ℕ) (s : S) → i.fits m s ≡ true → i.fits m (skip d m n s) ≡ true
+skip_fits : {S : Type 0} → (d : Design S) → (i : IsDesign d) → (m n : ℕ) (s : S) → i.fits m s ≡ true → i.fits m (after_skip d m n s) ≡ true
 skip_fits {S} d i m zero s f = f
-skip_fits {S} d i m (suc n) s f = i.fits_move m (skip d m n s) [] (skip_fits d i m n s f)
+skip_fits {S} d i m (suc n) s f = i.fits_move m (after_skip d m n s) [] (skip_fits d i m n s f)
 
 -- every state of an own run fits
 pub own_fits : {S : Type 0} → (d : Design S) → (i : IsDesign d) → (m : ℕ) (r : ℕ → List Reply) (k : ℕ) → i.fits m (own d m r k) ≡ true

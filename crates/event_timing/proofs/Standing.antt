@@ -1,14 +1,14 @@
 -- Where a module stands in each clock: so many local clocks behind its latest step.
 use Rattle.std.proofs.Common.{◌≡◌, ℕ, zero, suc, ◌+◌, ◌-◌, ◌<◌, ◌≤◌, min, true, false, inl, inr, [], refl, arith}
 use Rattle.std.proofs.lemmas.Bool.{cases_Bool, and_parts, and_from, cases_lt, not-true, not_from_false}
-use Rattle.event_timing.specs.Machines.{Design, IsDesign, skip, ready, is_some_access}
-use Rattle.event_timing.specs.Histories.{Trace, IsHistory, moves, replies, can_all}
+use Rattle.event_timing.specs.Machines.{Design, IsDesign, after_skip, ready, is_some_access}
+use Rattle.event_timing.specs.Histories.{Trace, IsHistory, can_move, replies, can_all}
 use Rattle.event_timing.specs.Steps.{steps, rest, since}
 use Rattle.event_timing.proofs.Steps.{rest_more, rest_same, since_more, since_same}
 
 pub idle_moves : {S : Type 0} → (d : Design S) (h : Trace S) (c m : ℕ) → d.is_over m (h.state c m) ≡ false → d.accesses m (h.state c m) ≡ []
-    → moves d h c m ≡ true
-unfolding moves
+    → can_move d h c m ≡ true
+unfolding can_move
 idle_moves {S} d h c m o a = rw (o, a) refl
 
 idle_replies : {S : Type 0} → (d : Design S) (h : Trace S) (c m : ℕ) → d.accesses m (h.state c m) ≡ [] → replies d h c m ≡ []
@@ -16,21 +16,21 @@ unfolding replies
 idle_replies {S} d h c m a = rw a refl
 
 -- a module that moves is not over
-pub moves_lives : {S : Type 0} → (d : Design S) (h : Trace S) (c m : ℕ) → moves d h c m ≡ true → d.is_over m (h.state c m) ≡ false
-unfolding moves
+pub moves_lives : {S : Type 0} → (d : Design S) (h : Trace S) (c m : ℕ) → can_move d h c m ≡ true → d.is_over m (h.state c m) ≡ false
+unfolding can_move
 moves_lives {S} d h c m e = not-true _ (and_parts _ _ e).0
 
-pub moves_can : {S : Type 0} → (d : Design S) (h : Trace S) (c m : ℕ) → moves d h c m ≡ true
+pub moves_can : {S : Type 0} → (d : Design S) (h : Trace S) (c m : ℕ) → can_move d h c m ≡ true
     → can_all d h c (d.accesses m (h.state c m)) ≡ true
-unfolding moves
+unfolding can_move
 moves_can {S} d h c m e = (and_parts _ _ e).1
 
 pub moves_from : {S : Type 0} → (d : Design S) (h : Trace S) (c m : ℕ) → d.is_over m (h.state c m) ≡ false
-    → can_all d h c (d.accesses m (h.state c m)) ≡ true → moves d h c m ≡ true
-unfolding moves
+    → can_all d h c (d.accesses m (h.state c m)) ≡ true → can_move d h c m ≡ true
+unfolding can_move
 moves_from {S} d h c m o a = and_from _ _ (not_from_false _ o) a
 
-pub steps_moves : {S : Type 0} → (d : Design S) (h : Trace S) (c m : ℕ) → steps d h c m ≡ true → moves d h c m ≡ true
+pub steps_moves : {S : Type 0} → (d : Design S) (h : Trace S) (c m : ℕ) → steps d h c m ≡ true → can_move d h c m ≡ true
 unfolding steps
 steps_moves {S} d h c m e = (and_parts _ _ e).0
 
@@ -39,7 +39,7 @@ pub steps_some : {S : Type 0} → (d : Design S) (h : Trace S) (c m : ℕ) → s
 unfolding steps
 steps_some {S} d h c m e = (and_parts _ _ e).1
 
-pub steps_from : {S : Type 0} → (d : Design S) (h : Trace S) (c m : ℕ) → moves d h c m ≡ true
+pub steps_from : {S : Type 0} → (d : Design S) (h : Trace S) (c m : ℕ) → can_move d h c m ≡ true
     → is_some_access (d.accesses m (h.state c m)) ≡ true → steps d h c m ≡ true
 unfolding steps
 steps_from {S} d h c m e s = and_from _ _ e s
@@ -51,7 +51,7 @@ since_le {S} d h m (suc c) = grind (arith, since_le d h m c)
 
 -- in clocks with no access it moves on
 young : {S : Type 0} → (d : Design S) (h : Trace S) → IsDesign d → IsHistory d h → (m c t j : ℕ) (s : S) → j < d.quiet m s
-    → h.state c m ≡ skip d m j s → h.state (suc c) m ≡ skip d m (suc j) s
+    → h.state c m ≡ after_skip d m j s → h.state (suc c) m ≡ after_skip d m (suc j) s
 young {S} d h i y m c t j s l e =
     let o = i.quiet_lives m s j l in
     let a = i.quiet_idle m s j l in
@@ -65,7 +65,7 @@ old {S} d h i y m c s f e n =
 
 -- so many local clocks behind the state s that it had at clock t
 abbrev pub Stands : {S : Type 0} → Design S → Trace S → ℕ → ℕ → ℕ → S → Type 0
-Stands {S} d h m c t s = h.state c m ≡ skip d m (min (c - t) (d.quiet m s)) s
+Stands {S} d h m c t s = h.state c m ≡ after_skip d m (min (c - t) (d.quiet m s)) s
 
 stands_fresh : {S : Type 0} → (d : Design S) (h : Trace S) (m c : ℕ) → Stands d h m c c (h.state c m)
 stands_fresh {S} d h m c =

@@ -4,7 +4,7 @@ use Rattle.std.proofs.Common.{arith, append_assoc, append-nil, length-append}
 use Rattle.std.proofs.{lemmas.Bool.cases_eq, lemmas.Bool.cases_Bool, lemmas.Grind.common_steps}
 use Rattle.flow_word.specs.{declared.access.Side.Side, declared.access.Side.TheVariants.Pop, declared.access.Side.TheVariants.Push}
 use Rattle.event_timing.specs.Machines.{Design, IsDesign, Access, Reply, is_some_access, values_in, takes_in, took, takers, takes_at}
-use Rattle.event_timing.specs.Histories.{Trace, IsHistory, replies, moves}
+use Rattle.event_timing.specs.Histories.{Trace, IsHistory, replies, can_move}
 use Rattle.event_timing.specs.{Steps.steps, Steps.done, Views.tally, Views.View, Views.Agrees, Views.pushed_in, Views.Begins}
 use Rattle.event_timing.proofs.Steps.{done_more, done_same, done_up}
 use Rattle.event_timing.proofs.Standing.{step_ready, steps_moves, steps_from}
@@ -93,7 +93,7 @@ begins_rise f up a (suc b) l =
 
 pushed_up : {S : Type 0} → (d : Design S) (h : Trace S) → IsHistory d h → (ch c : ℕ) → Begins (h.pushed (suc c) ch) (h.pushed c ch)
 pushed_up {S} d h y ch c =
-    elim (cases_Bool (moves d h c (d.owner Push ch))) [
+    elim (cases_Bool (can_move d h c (d.owner Push ch))) [
       | inl e ↦ (_, y.pushed_moves c ch e)
       | inr e ↦ ([], y.pushed_stays c ch e ∙ sym (append-nil _))
     ]

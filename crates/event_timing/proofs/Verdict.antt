@@ -1,7 +1,7 @@
 -- The verdict of a final core is that of the history.
 use Rattle.std.proofs.Common.{◌≡◌, ℕ, zero, suc, ◌+◌, ◌-◌, ◌<◌, ◌≤◌, min, true, false, inl, inr, refl, ap₂, arith, Some}
 use Rattle.std.proofs.lemmas.Bool.{cases_lt}
-use Rattle.event_timing.specs.{Machines.Design, Machines.IsDesign, Histories.Trace, Histories.IsHistory, Histories.moves, Steps.done}
+use Rattle.event_timing.specs.{Machines.Design, Machines.IsDesign, Histories.Trace, Histories.IsHistory, Histories.can_move, Steps.done}
 use Rattle.event_timing.specs.{Steps.since, Steps.rest, Enablers.candidate, Enablers.IsStuck, Views.from, Core.Core, Core.view}
 use Rattle.event_timing.specs.{Agreement.IsAgreed, Agreement.IsAtRest, Agreement.stop, Agreement.IsUndetermined, Actions.IsFinal}
 use Rattle.event_timing.proofs.{Steps.done_more, Steps.done_mono, Fronts.agrees, Earliest.nobody_ahead}
@@ -10,7 +10,7 @@ use Rattle.event_timing.proofs.Candidate.{begin, done_begin, since_first, rest_f
 use Rattle.event_timing.proofs.Agreement.{final_stuck, stuck_ended}
 
 pub early_moves : {S : Type 0} → (d : Design S) (h : Trace S) → IsDesign d → IsHistory d h → (m c : ℕ)
-    → c < since d h m c + d.quiet m (rest d h m c) → moves d h c m ≡ true
+    → c < since d h m c + d.quiet m (rest d h m c) → can_move d h c m ≡ true
 early_moves {S} d h i y m c l =
     let j : min (c - since d h m c) (d.quiet m (rest d h m c)) ≡ c - since d h m c = omega (arith, since_le d h m c) in
     let e = rw j at (where_now d h i y m c) in
@@ -27,12 +27,12 @@ stop_then {S} d h i y limit x g m c l k =
 
 -- before its stop a module moves
 before_stop : {S : Type 0} → (d : Design S) (h : Trace S) → IsDesign d → IsHistory d h → (limit : ℕ) (x : Core S) → IsAgreed d h limit x
-    → (m c : ℕ) → begin (view d x) m ≤ c → done d h m c ≡ x.timed m → c < stop d x m → moves d h c m ≡ true
+    → (m c : ℕ) → begin (view d x) m ≤ c → done d h m c ≡ x.timed m → c < stop d x m → can_move d h c m ≡ true
 before_stop {S} d h i y limit x g m c l k q = early_moves d h i y m c (rw (stop_then d h i y limit x g m c l k) q)
 
 -- from then on it keeps still, unless it does its next step
 behind_stop : {S : Type 0} → (d : Design S) (h : Trace S) → IsDesign d → IsHistory d h → (limit : ℕ) (x : Core S) → IsAgreed d h limit x
-    → (m c : ℕ) → stop d x m ≤ c → done d h m c ≡ x.timed m → done d h m (suc c) ≤ x.timed m → moves d h c m ≡ false
+    → (m c : ℕ) → stop d x m ≤ c → done d h m c ≡ x.timed m → done d h m (suc c) ≤ x.timed m → can_move d h c m ≡ false
 behind_stop {S} d h i y limit x g m c l k n =
     let e = late_ready d h i y m c (rw (stop_then d h i y limit x g m c (omega arith) k) l) in
     let s = i.quiet_ends m (rest d h m c) (rest_fits d h i y m c) in
@@ -68,14 +68,14 @@ rests {S} d h i y limit x g f u last s e l m =
 
 -- and the module of a stop moves in the clock before it
 pub moved : {S : Type 0} → (d : Design S) (h : Trace S) → IsDesign d → IsHistory d h → (limit : ℕ) (x : Core S) → IsAgreed d h limit x
-    → IsFinal d limit x → IsUndetermined d x → (m c : ℕ) → suc c ≡ stop d x m → moves d h c m ≡ true
+    → IsFinal d limit x → IsUndetermined d x → (m c : ℕ) → suc c ≡ stop d x m → can_move d h c m ≡ true
 moved {S} d h i y limit x g f u m c e =
     elim (cases_lt c (begin (view d x) m)) [
       | inr w ↦ before_stop d h i y limit x g m c w (done_last d h i y limit x g f u m c w) (omega arith)
       | inl w ↦ step (x.timed m) refl (omega arith)
     ]
   where
-    step : (n : ℕ) → n ≡ x.timed m → suc c ≡ from (x.cycle m) n → moves d h c m ≡ true
+    step : (n : ℕ) → n ≡ x.timed m → suc c ≡ from (x.cycle m) n → can_move d h c m ≡ true
     step zero q r = absurd (omega arith)
     step (suc n) q r =
         let k : c ≡ x.cycle m n = omega arith in
@@ -83,7 +83,7 @@ moved {S} d h i y limit x g f u m c e =
 
 -- a determined step moves at the limit or later
 pub determined_late : {S : Type 0} → (d : Design S) (h : Trace S) → IsDesign d → IsHistory d h → (limit : ℕ) (x : Core S)
-    → IsAgreed d h limit x → IsFinal d limit x → (m c : ℕ) → candidate d (view d x) m ≡ Some c → (limit ≤ c) × (moves d h c m ≡ true)
+    → IsAgreed d h limit x → IsFinal d limit x → (m c : ℕ) → candidate d (view d x) m ≡ Some c → (limit ≤ c) × (can_move d h c m ≡ true)
 determined_late {S} d h i y limit x g f m c e = (
   (final_stuck d h i limit x g f).later m c e,
   steps_moves d h c m

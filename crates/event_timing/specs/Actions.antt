@@ -168,3 +168,11 @@ assigns m (Run n ∷ rest) = assigns m rest
 assigns m (Assign n ∷ rest) = cond (eqb m n) 1 0 + assigns m rest
 assigns m (Answer n ∷ rest) = assigns m rest
 assigns m (Earliest n ∷ rest) = assigns m rest
+
+-- each of these actions is an Assign or an Answer
+abbrev pub AreTimings : List Action → Type 0
+AreTimings [] = ⊤
+AreTimings (Run m ∷ rest) = ⊥
+AreTimings (Assign m ∷ rest) = AreTimings rest
+AreTimings (Answer m ∷ rest) = AreTimings rest
+AreTimings (Earliest m ∷ rest) = ⊥

@@ -2,7 +2,7 @@
 use Rattle.std.specs.Prelude.{Bool, List, Some, [], false, suc, true, ℕ, ◌+◌, ◌<◌, ◌∷◌, ◌≡◌, ◌≤◌, ⊤}
 use Rattle.flow_word.specs.declared.access.Side.TheVariants.{Pop, Push}
 use Rattle.event_timing.specs.{Machines.Access, Machines.Reply, Machines.Design, Machines.ready, Histories.Trace, Histories.is_possible}
-use Rattle.event_timing.specs.{Histories.moves, Histories.replies, Steps.steps, Steps.done, Views.own, Views.from, Enablers.candidate}
+use Rattle.event_timing.specs.{Histories.can_move, Histories.replies, Steps.steps, Steps.done, Views.own, Views.from, Enablers.candidate}
 use Rattle.event_timing.specs.Core.{Core, core_accesses, core_tally, all_below, core_reply, values_there, view, has_query, no_outcomes}
 
 -- there is one flag for each access, and it is true where the access blocks
@@ -83,7 +83,7 @@ pub record IsAgreed {S : Type 0} (d : Design S) (h : Trace S) (limit : ℕ) (x :
 
 -- no module moves from clock c on
 abbrev pub IsAtRest : {S : Type 0} → Design S → Trace S → ℕ → Type 0
-IsAtRest {S} d h c = (e : ℕ) → c ≤ e → (m : ℕ) → moves d h e m ≡ false
+IsAtRest {S} d h c = (e : ℕ) → c ≤ e → (m : ℕ) → can_move d h e m ≡ false
 
 -- the clock in which module m comes to its first step without a cycle, or to its end
 abbrev pub stop : {S : Type 0} → Design S → Core S → ℕ → ℕ

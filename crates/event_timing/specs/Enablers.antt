@@ -45,8 +45,8 @@ bound know [] = From 0
 bound know (a ∷ xs) = cond a.blocks (both (know a) (bound know xs)) (bound know xs)
 
 -- the clock in which the module comes to its first step without a cycle, if nothing blocks it
-abbrev pub reach : View → ℕ → ℕ
-reach v m = from (v.cycle m) (v.timed m) + v.wait m (v.timed m)
+abbrev pub unblocked_clock : View → ℕ → ℕ
+unblocked_clock v m = from (v.cycle m) (v.timed m) + v.wait m (v.timed m)
 
 -- the later one of a clock and that from which an access is possible; none where that is not known
 abbrev pub to_clock : ℕ → Known → Option ℕ
@@ -56,7 +56,7 @@ to_clock t Unknown = None
 
 -- the determined cycle of module m's first step without one; none where the step or its enablers are not known
 unfoldable pub candidate : {S : Type 0} → Design S → View → ℕ → Option ℕ
-candidate {S} d v m = cond (v.more m) (to_clock (reach v m) (bound (known_of d v m) (first_accesses v m))) None
+candidate {S} d v m = cond (v.more m) (to_clock (unblocked_clock v m) (bound (known_of d v m) (first_accesses v m))) None
 
 -- no module can go on before clock t: each is over, or its first step without a cycle is not determined below t
 pub record IsStuck {S : Type 0} (d : Design S) (v : View) (t : ℕ) : Type 0 where

@@ -36,8 +36,8 @@ can_all {S} d h c [] = true
 can_all {S} d h c (a ∷ xs) = can_do d h c a && can_all d h c xs
 
 -- a module moves unless it is over, or an access that blocks is not possible
-unfoldable pub moves : {S : Type 0} → Design S → Trace S → ℕ → ℕ → Bool
-moves {S} d h c m = not (d.is_over m (h.state c m)) && can_all d h c (d.accesses m (h.state c m))
+unfoldable pub can_move : {S : Type 0} → Design S → Trace S → ℕ → ℕ → Bool
+can_move {S} d h c m = not (d.is_over m (h.state c m)) && can_all d h c (d.accesses m (h.state c m))
 
 unfoldable pub replies : {S : Type 0} → Design S → Trace S → ℕ → ℕ → List Reply
 replies {S} d h c m = map (reply_to d h c) (d.accesses m (h.state c m))
@@ -54,11 +54,11 @@ pub record IsHistory {S : Type 0} (d : Design S) (h : Trace S) : Type 0 where
   pub state_0 : (m : ℕ) → h.state 0 m ≡ d.opening m
   pub taken_0 : (side : Side) (ch : ℕ) → h.taken 0 side ch ≡ 0
   pub pushed_0 : (ch : ℕ) → h.pushed 0 ch ≡ d.inputs ch
-  pub state_moves : (c m : ℕ) → moves d h c m ≡ true → h.state (suc c) m ≡ d.move m (h.state c m) (replies d h c m)
-  pub state_stays : (c m : ℕ) → moves d h c m ≡ false → h.state (suc c) m ≡ h.state c m
-  pub taken_moves : (c : ℕ) (side : Side) (ch : ℕ) → moves d h c (d.owner side ch) ≡ true
+  pub state_moves : (c m : ℕ) → can_move d h c m ≡ true → h.state (suc c) m ≡ d.move m (h.state c m) (replies d h c m)
+  pub state_stays : (c m : ℕ) → can_move d h c m ≡ false → h.state (suc c) m ≡ h.state c m
+  pub taken_moves : (c : ℕ) (side : Side) (ch : ℕ) → can_move d h c (d.owner side ch) ≡ true
       → h.taken (suc c) side ch ≡ h.taken c side ch + taken_by d h c (d.owner side ch) side ch
-  pub taken_stays : (c : ℕ) (side : Side) (ch : ℕ) → moves d h c (d.owner side ch) ≡ false → h.taken (suc c) side ch ≡ h.taken c side ch
-  pub pushed_moves : (c ch : ℕ) → moves d h c (d.owner Push ch) ≡ true
+  pub taken_stays : (c : ℕ) (side : Side) (ch : ℕ) → can_move d h c (d.owner side ch) ≡ false → h.taken (suc c) side ch ≡ h.taken c side ch
+  pub pushed_moves : (c ch : ℕ) → can_move d h c (d.owner Push ch) ≡ true
       → h.pushed (suc c) ch ≡ h.pushed c ch ++ pushed_by d h c (d.owner Push ch) ch
-  pub pushed_stays : (c ch : ℕ) → moves d h c (d.owner Push ch) ≡ false → h.pushed (suc c) ch ≡ h.pushed c ch
+  pub pushed_stays : (c ch : ℕ) → can_move d h c (d.owner Push ch) ≡ false → h.pushed (suc c) ch ≡ h.pushed c ch

@@ -44,13 +44,13 @@ pub record Design (S : Type 0) : Type 0 where
   pub lag : Side → ℕ → ℕ
 
 -- the state after n local clocks without an access
-abbrev pub skip : {S : Type 0} → Design S → ℕ → ℕ → S → S
-skip {S} d m zero s = s
-skip {S} d m (suc n) s = d.move m (skip d m n s) []
+abbrev pub after_skip : {S : Type 0} → Design S → ℕ → ℕ → S → S
+after_skip {S} d m zero s = s
+after_skip {S} d m (suc n) s = d.move m (after_skip d m n s) []
 
 -- the state of module m after its quiet clocks: it has an access, or is over
 abbrev pub ready : {S : Type 0} → Design S → ℕ → S → S
-ready {S} d m s = skip d m (d.quiet m s) s
+ready {S} d m s = after_skip d m (d.quiet m s) s
 
 abbrev pub is_some_access : List Access → Bool
 is_some_access [] = false
@@ -72,8 +72,8 @@ takers side ch (a ∷ xs) = cond (takes_at side ch a) 1 0 + takers side ch xs
 -- the rules of a design
 pub record IsDesign {S : Type 0} (d : Design S) : Type 0 where
   -- in its quiet clocks a module is not over and asks nothing
-  pub quiet_lives : (m : ℕ) (s : S) (i : ℕ) → i < d.quiet m s → d.is_over m (skip d m i s) ≡ false
-  pub quiet_idle : (m : ℕ) (s : S) (i : ℕ) → i < d.quiet m s → d.accesses m (skip d m i s) ≡ []
+  pub quiet_lives : (m : ℕ) (s : S) (i : ℕ) → i < d.quiet m s → d.is_over m (after_skip d m i s) ≡ false
+  pub quiet_idle : (m : ℕ) (s : S) (i : ℕ) → i < d.quiet m s → d.accesses m (after_skip d m i s) ≡ []
   -- each state that a module can come to fits, whatever the replies are
   pub fits : ℕ → S → Bool
   pub fits_opening : (m : ℕ) → fits m (d.opening m) ≡ true

@@ -37,13 +37,14 @@ unfoldable pub is_open : {S : Type 0} → Design S → ℕ → Core S → ℕ �
 is_open {S} d limit x m = is_determined d limit x m && (not (x.verified m (x.timed m)) && not (decides d x m))
 
 -- none of the first n modules passes the test
-unfoldable pub no_module : (ℕ → Bool) → ℕ → Bool
-no_module test zero = true
-no_module test (suc n) = not (test n) && no_module test n
+unfoldable pub passes_no_module : (ℕ → Bool) → ℕ → Bool
+passes_no_module test zero = true
+passes_no_module test (suc n) = not (test n) && passes_no_module test n
 
 unfoldable pub is_quiet : {S : Type 0} → Design S → ℕ → Core S → Bool
 is_quiet {S} d limit x =
-    no_module (may_run d x) d.modules && (no_module (may_assign d limit x) d.modules && no_module (may_answer d limit x) d.modules)
+    passes_no_module (may_run d x) d.modules
+    && (passes_no_module (may_assign d limit x) d.modules && passes_no_module (may_answer d limit x) d.modules)
 
 -- module n has an open step with a cycle less than the given clock
 unfoldable pub is_open_before : {S : Type 0} → Design S → ℕ → Core S → Option ℕ → ℕ → Bool
@@ -52,8 +53,8 @@ is_open_before {S} d limit x (Some c) n = is_open d limit x n && is_before c (ca
 
 unfoldable pub may_earliest : {S : Type 0} → Design S → ℕ → Core S → ℕ → Bool
 may_earliest {S} d limit x m =
-    is_open d limit x m && (is_quiet d limit x && no_module (is_open_before d limit x (candidate d (view d x) m)) d.modules)
+    is_open d limit x m && (is_quiet d limit x && passes_no_module (is_open_before d limit x (candidate d (view d x) m)) d.modules)
 
 -- no action is permitted: with an open step there would be one with the least cycle, and its Earliest would be permitted
 unfoldable pub is_final : {S : Type 0} → Design S → ℕ → Core S → Bool
-is_final {S} d limit x = is_quiet d limit x && no_module (is_open d limit x) d.modules
+is_final {S} d limit x = is_quiet d limit x && passes_no_module (is_open d limit x) d.modules

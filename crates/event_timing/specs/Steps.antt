@@ -1,10 +1,10 @@
 -- The steps of a module in a history: the clocks in which it does accesses.
 use Rattle.std.specs.Prelude.{Bool, cond, suc, zero, ℕ, ◌&&◌}
-use Rattle.event_timing.specs.{Machines.Design, Machines.is_some_access, Histories.Trace, Histories.moves}
+use Rattle.event_timing.specs.{Machines.Design, Machines.is_some_access, Histories.Trace, Histories.can_move}
 
 -- module m does a step in clock c: it moves and has an access
 unfoldable pub steps : {S : Type 0} → Design S → Trace S → ℕ → ℕ → Bool
-steps {S} d h c m = moves d h c m && is_some_access (d.accesses m (h.state c m))
+steps {S} d h c m = can_move d h c m && is_some_access (d.accesses m (h.state c m))
 
 -- how many steps module m did before a clock
 unfoldable pub done : {S : Type 0} → Design S → Trace S → ℕ → ℕ → ℕ

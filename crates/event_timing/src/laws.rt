@@ -2,7 +2,7 @@
 ghost use Rattle.std.specs.Prelude.{◌≡◌, ◌↔◌, ℕ, suc, ◌+◌, ◌-◌, ◌*◌, ◌<◌, ◌≤◌, min, ◌++◌, ◌⊎◌, true, false, Some, List, length};
 ghost use Rattle.flow_word.specs.{declared.access.Side.Side, declared.access.Side.TheVariants.Push};
 ghost use Rattle.event_timing.specs.Machines.{Design, IsDesign, Access, Reply, Each};
-ghost use Rattle.event_timing.specs.Histories.{Trace, IsHistory, moves, is_possible};
+ghost use Rattle.event_timing.specs.Histories.{Trace, IsHistory, can_move, is_possible};
 ghost use Rattle.event_timing.specs.{Steps.steps, Steps.done, Views.own, Views.tally, Views.place, Enablers.candidate, Enablers.known_of};
 ghost use Rattle.event_timing.specs.{Enablers.answer, Growth.Grows, Growth.GrowsBeside, Growth.IsSettled, Growth.RepliesAlike, Work.work};
 ghost use Rattle.event_timing.specs.Core.{Core, opening_core, view, core_accesses, core_reply, core_pushed, has_query};
@@ -88,9 +88,9 @@ pub fn final_cores<S>()
     ensures rests { (d : Design S) (h : Trace S) → IsDesign d → IsHistory d h → (limit : ℕ) (x : Core S) → IsAgreed d h limit x
         → IsFinal d limit x → IsUndetermined d x → (last : ℕ) → ((m : ℕ) → stop d x m ≤ last) → IsAtRest d h last }
     ensures moved { (d : Design S) (h : Trace S) → IsDesign d → IsHistory d h → (limit : ℕ) (x : Core S) → IsAgreed d h limit x
-        → IsFinal d limit x → IsUndetermined d x → (m c : ℕ) → suc c ≡ stop d x m → moves d h c m ≡ true }
+        → IsFinal d limit x → IsUndetermined d x → (m c : ℕ) → suc c ≡ stop d x m → can_move d h c m ≡ true }
     ensures late { (d : Design S) (h : Trace S) → IsDesign d → IsHistory d h → (limit : ℕ) (x : Core S) → IsAgreed d h limit x
-        → IsFinal d limit x → (m c : ℕ) → candidate d (view d x) m ≡ Some c → (limit ≤ c) × (moves d h c m ≡ true) }
+        → IsFinal d limit x → (m c : ℕ) → candidate d (view d x) m ≡ Some c → (limit ≤ c) × (can_move d h c m ≡ true) }
 {}
 
 /// The rest of a report is read off a core as well. Its events are the steps with a cycle, each before its module's stop. What went

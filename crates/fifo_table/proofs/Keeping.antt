@@ -4,7 +4,7 @@ use Rattle.std.proofs.{lemmas.List.map-append, lemmas.List.length-map, lemmas.Si
 use Rattle.std.proofs.lemmas.Slice.Zip.{firsts-zip, seconds-zip}
 use Rattle.std.specs.List.{zip}
 use Rattle.flow_word.specs.declared.access.Place.{Place}
-use Rattle.fifo_table.specs.{declared.channel.Pushed.Pushed, Kept.places_in, Kept.pushes_in}
+use Rattle.fifo_table.specs.{declared.channel.Pushed.Pushed, Kept.places_numbered, Kept.pushes_in}
 use Rattle.fifo_table.specs.Channels.{AreAllOf, push_of, first_module}
 
 -- ---- places
@@ -13,14 +13,15 @@ abbrev place_at : ℕ → ℕ → Place
 place_at m k = record { «module» = m; step = k }
 
 -- where they are all of a module, it may be taken for theirs
-pub place_same : (m n : ℕ) (steps new : List ℕ) → AreAllOf n (places_in m steps) → new ≡ steps → places_in n new ≡ places_in m steps
+pub place_same : (m n : ℕ) (steps new : List ℕ) → AreAllOf n (places_numbered m steps) → new ≡ steps
+    → places_numbered n new ≡ places_numbered m steps
 place_same m n [] new own same = rw same refl
 place_same m n (k ∷ steps) new own same =
     let is : m ≡ n = own 0 (place_at m k) (omega arith) in
-    rw same (ap (λ (i : ℕ). places_in i (k ∷ steps)) (sym is))
+    rw same (ap (λ (i : ℕ). places_numbered i (k ∷ steps)) (sym is))
 
-pub place_more : (m : ℕ) (at : Place) (steps new : List ℕ) → AreAllOf at.module (places_in m steps) → new ≡ steps ++ at.step ∷ []
-    → places_in at.module new ≡ places_in m steps ++ at ∷ []
+pub place_more : (m : ℕ) (at : Place) (steps new : List ℕ) → AreAllOf at.module (places_numbered m steps) → new ≡ steps ++ at.step ∷ []
+    → places_numbered at.module new ≡ places_numbered m steps ++ at ∷ []
 place_more m at steps new own more =
     rw (
       more,
@@ -29,7 +30,7 @@ place_more m at steps new own more =
     ) refl
 
 -- they are of the module of the first
-pub first_place : (m : ℕ) (steps : List ℕ) → (length steps ≡ 0 → ⊥) → Some m ≡ first_module (places_in m steps)
+pub first_place : (m : ℕ) (steps : List ℕ) → (length steps ≡ 0 → ⊥) → Some m ≡ first_module (places_numbered m steps)
 first_place m [] some = absurd (some refl)
 first_place m (k ∷ steps) some = refl
 

@@ -5,19 +5,19 @@ use Rattle.std.proofs.lemmas.List.{map-set, get_or-map, length-map, length-set}
 use Rattle.std.specs.Prelude.{◌^◌, All}
 use Rattle.flow_word.specs.{declared.access.Side.Side, declared.access.Side.TheVariants.Pop, declared.access.Side.TheVariants.Push}
 use Rattle.flow_design.specs.declared.limits.TheConstants.{FIFO_DEPTH, FIFO_DELAY}
-use Rattle.fifo_table.specs.{declared.channel.TableChannel.TableChannel, Roomed.channel_of, Roomed.channels_of}
+use Rattle.fifo_table.specs.{declared.channel.TableChannel.TableChannel, Roomed.channel_of, Roomed.bare_channels}
 use Rattle.fifo_table.specs.declared.channel.TableChannel.TheVariants.{Source, Sink, Fifo}
 use Rattle.fifo_table.specs.declared.channel.RoomyChannel.{RoomyChannel}
 use Rattle.fifo_table.specs.Channels.{Channel, IsSoundKind, deepened, lag_of, unused}
 
 -- the kinds are sound, and a channel's number fits
 abbrev pub AreSound : List RoomyChannel → Type 0
-AreSound items = All (λ (a : Channel). IsSoundKind a.kind) (channels_of items) × (length items < 2 ^ 32)
+AreSound items = All (λ (a : Channel). IsSoundKind a.kind) (bare_channels items) × (length items < 2 ^ 32)
 
 -- where one channel is replaced by one of a sound kind
 pub replaced : (items : List RoomyChannel) (c : ℕ) (new : RoomyChannel) → AreSound items → IsSoundKind new.kind → AreSound (set items c new)
 replaced items c new sound here = (
-  rw (map-set channel_of items c new) (All-set (λ (a : Channel). IsSoundKind a.kind) (channels_of items) c (channel_of new) here sound.0),
+  rw (map-set channel_of items c new) (All-set (λ (a : Channel). IsSoundKind a.kind) (bare_channels items) c (channel_of new) here sound.0),
   rw (length-set items c new) sound.1,
 )
 

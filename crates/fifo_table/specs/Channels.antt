@@ -120,5 +120,6 @@ abbrev pub with_pop : List Channel → ℕ → Place → List Channel
 with_pop channels c at = slice_set channels c (record (channel_at channels c) { pops = (channel_at channels c).pops ++ at ∷ [] })
 
 -- the channels with another depth of one of them
-abbrev pub with_depth : List Channel → ℕ → ℕ → List Channel
-with_depth channels c depth = slice_set channels c (record (channel_at channels c) { kind = deepened (channel_at channels c).kind depth })
+abbrev pub deepened_channels : List Channel → ℕ → ℕ → List Channel
+deepened_channels channels c depth =
+    slice_set channels c (record (channel_at channels c) { kind = deepened (channel_at channels c).kind depth })

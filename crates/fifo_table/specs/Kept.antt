@@ -4,8 +4,8 @@ use Rattle.flow_word.specs.declared.access.Place.{Place}
 use Rattle.fifo_table.specs.{declared.channel.Pushed.Pushed, Channels.push_of}
 
 -- the places of module m's steps with these numbers
-abbrev pub places_in : ℕ → List ℕ → List Place
-places_in m steps = map (λ k. record { «module» = m; step = k }) steps
+abbrev pub places_numbered : ℕ → List ℕ → List Place
+places_numbered m steps = map (λ k. record { «module» = m; step = k }) steps
 
 -- the pushes at these places, with these values
 abbrev pub pushes_in : List Place → List ℕ → List Pushed

@@ -17,8 +17,8 @@ channel_of roomy = record {
 }
 
 -- the channels without their rooms
-abbrev pub channels_of : List RoomyChannel → List Channel
-channels_of channels = map channel_of channels
+abbrev pub bare_channels : List RoomyChannel → List Channel
+bare_channels channels = map channel_of channels
 
 -- the rooms for further pushes
 abbrev pub push_rooms_of : List RoomyChannel → List ℕ

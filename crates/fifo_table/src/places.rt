@@ -18,11 +18,11 @@ pub struct Places {
 impl Model for Places {
     ghost use Rattle.flow_word.specs.Room.{Roomed};
     ghost use Rattle.flow_word.specs.declared.access.Place.{Place as place_type};
-    ghost use Rattle.fifo_table.specs.Kept.{places_in};
+    ghost use Rattle.fifo_table.specs.Kept.{places_numbered};
 
     ghost Value = { Roomed place_type };
 
-    ghost view = { λ p. record { items = places_in p.module p.steps.items; room = p.steps.room } };
+    ghost view = { λ p. record { items = places_numbered p.module p.steps.items; room = p.steps.room } };
 }
 
 impl Places {

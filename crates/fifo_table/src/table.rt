@@ -3,7 +3,7 @@ ghost use Rattle.std.specs.Prelude.{◌≡◌, ◌≢◌, ◌↔◌, true, ℕ, 
 ghost use Rattle.std.specs.Prelude.{OnErr};
 ghost use Rattle.flow_design.specs.declared.limits.TheConstants.{FIFO_DEPTH, FIFO_DELAY};
 ghost use Rattle.fifo_table.specs.Channels.{IsSoundKind, IsSource, IsSink, IsFifo, HasSide, depth_of, lag_of, free_of, unused, channel_at};
-ghost use Rattle.fifo_table.specs.Channels.{nth, places_of, first_module, AreAllOf, values_of, with_push, with_pop, with_depth};
+ghost use Rattle.fifo_table.specs.Channels.{nth, places_of, first_module, AreAllOf, values_of, with_push, with_pop, deepened_channels};
 ghost use Rattle.fifo_table.specs.Enablers.{enabler_of, event_at};
 
 use crate::channel::{Pushed, RoomyChannel, TableChannel};
@@ -31,18 +31,18 @@ impl Drop for FifoTable {
 impl Model for FifoTable {
     ghost use Rattle.std.specs.Prelude.{◌<◌, ◌^◌, length, All};
     ghost use Rattle.fifo_table.specs.Channels.{IsSoundKind};
-    ghost use Rattle.fifo_table.specs.Roomed.{RoomedChannels, channels_of, push_rooms_of, pop_rooms_of};
+    ghost use Rattle.fifo_table.specs.Roomed.{RoomedChannels, bare_channels, push_rooms_of, pop_rooms_of};
 
     ghost Value = { RoomedChannels };
 
     ghost view = { λ t. record {
-      channels = channels_of t.channels.items;
+      channels = bare_channels t.channels.items;
       push_rooms = push_rooms_of t.channels.items;
       pop_rooms =
           pop_rooms_of t.channels.items;
     } };
 
-    ghost invariant = { λ t. All (λ c. IsSoundKind c.kind) (channels_of t.channels.items) × (length t.channels.items < 2 ^ 32) };
+    ghost invariant = { λ t. All (λ c. IsSoundKind c.kind) (bare_channels t.channels.items) × (length t.channels.items < 2 ^ 32) };
 }
 
 impl FifoTable {
@@ -278,7 +278,7 @@ impl FifoTable {
         requires fifo { IsFifo (channel_at self.old.channels channel).kind }
         requires least { 1 ≤ depth }
         requires most { depth ≤ FIFO_DEPTH }
-        ensures channels { self.new.channels ≡ with_depth self.old.channels channel depth }
+        ensures channels { self.new.channels ≡ deepened_channels self.old.channels channel depth }
         ensures push_rooms { self.new.push_rooms ≡ self.old.push_rooms }
         ensures pop_rooms { self.new.pop_rooms ≡ self.old.pop_rooms }
     {

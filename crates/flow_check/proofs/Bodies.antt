@@ -10,17 +10,17 @@ use Rattle.std.specs.List.{list_all, filter_map, cons_option, All}
 use Rattle.flow_design.specs.{declared.session.Statement.Statement, declared.limits.TheConstants.BLOCK_CLOCKS, declared.limits.Scale.Scale}
 use Rattle.flow_design.specs.{Limits.limits_at, declared.expr.Expr.Expr, declared.expr.Expr.TheVariants.Unary, declared.expr.UnOp.UnOp}
 use Rattle.flow_design.specs.{declared.expr.UnOp.TheVariants.Not, declared.expr.Op.Op, Words.reach, Words.nodes, Words.depth}
-use Rattle.flow_design.specs.{StaticRules.IsExpressionSound, declared.design.Timed.Timed, declared.design.Next.Next}
+use Rattle.flow_design.specs.{StaticRules.IsExpressionSound, declared.design.Timed.Timed, declared.design.Next.Next, Names.Name}
 use Rattle.flow_design.specs.declared.session.Statement.TheVariants.{Module, Block, Loop}
-use Rattle.flow_design.specs.Operations.{places_of, expressions_of, memory_of, port_of}
+use Rattle.flow_design.specs.Operations.{places_written, expressions_of, memory_used, port_of}
 use Rattle.flow_grammar.specs.{Parts.parts, Parts.Part, Parts.expr_parts, Parts.op_parts, Places.may_follow}
-use Rattle.flow_grammar.specs.Before.{is_among, is_no_module, is_no_block, channels, registers, memories, temps, channel_name}
+use Rattle.flow_grammar.specs.Before.{is_among, is_no_module, is_no_block, channels, registers, memories, temps, declared_channel}
 use Rattle.flow_grammar.specs.Before.{register_name, memory_name, temp_name, is_operation, in_body}
 use Rattle.flow_grammar.specs.Rules.{is_well_named, is_in_range, is_new, is_known, is_sized, has_room, statement_fault, KeepsRules}
 use Rattle.flow_grammar.specs.Rules.{KeepsReadingRules, is_small, has_small_trees}
-use Rattle.session_plan.specs.{Names.Name, Names.number_of, Names.Scope, Sections.begins, Sections.body_of, Sections.declared}
-use Rattle.session_plan.specs.{declared.section.Level.Level, Plans.first_or, Plans.kind_of, Plans.len_of}
-use Rattle.session_plan.specs.Numbered.{numbered, places, operation, timed, terminator}
+use Rattle.session_plan.specs.{Names.name_number, Names.Scope, declared.section.Level.Level, Plans.first_or, Plans.kind_of, Plans.len_of}
+use Rattle.session_plan.specs.Sections.{begins, body_of, declared}
+use Rattle.session_plan.specs.Numbered.{numbered_expr, places, operation, timed, terminator}
 use Rattle.flow_grammar.proofs.Induction.{by_cases}
 use Rattle.flow_grammar.proofs.Trees.{folded-Number, folded-Var, folded-Unary, folded-Binary, folded-Sext, folded-Pick}
 use Rattle.flow_grammar.proofs.SpellingLaws.{parts_Var, parts_Unary, parts_Binary, parts_Sext, parts_Pick}
@@ -156,7 +156,7 @@ as_many f g same (x ∷ xs) = let one = same x in let later = as_many f g same x
 -- ---- names
 
 -- the number of a name that is among these is below their count
-pub number_below : (names : List Name) (n : Name) → is_among names n ≡ true → number_of names n < length names
+pub number_below : (names : List Name) (n : Name) → is_among names n ≡ true → name_number names n < length names
 number_below [] n h = absurd cc
 number_below (m ∷ names) n h = let later = number_below names n in grind arith
 
@@ -206,9 +206,9 @@ at_most_as n most h = grind (arith, nat_tests)
 -- ---- sizes
 
 module _ (names : List Name) where
-  sizes_kept : (e : Expr Name) → (nodes (numbered names e) ≡ nodes e) × (depth (numbered names e) ≡ depth e)
+  sizes_kept : (e : Expr Name) → (nodes (numbered_expr names e) ≡ nodes e) × (depth (numbered_expr names e) ≡ depth e)
   unfolding nodes depth
-  sizes_kept = by_cases Name (λ e. (nodes (numbered names e) ≡ nodes e) × (depth (numbered names e) ≡ depth e)) (record {
+  sizes_kept = by_cases Name (λ e. (nodes (numbered_expr names e) ≡ nodes e) × (depth (numbered_expr names e) ≡ depth e)) (record {
     number = λ n. (simp (numbered_number, folded-Number), simp (numbered_number, folded-Number));
     var = λ x. (simp (numbered_var, folded-Var), simp (numbered_var, folded-Var));
     unary = λ o a h. (simp (numbered_unary, folded-Unary, h.0), simp (numbered_unary, folded-Unary, h.1));
@@ -225,13 +225,13 @@ module _ (earlier : List Statement) (names : List Name) (heard : Within (registe
   Known ps = list_all (is_known earlier) ps ≡ true
 
   abbrev Reaches : Expr Name → Type 0
-  Reaches e = Known (expr_parts e) → reach (numbered names e) ≤ length names
+  Reaches e = Known (expr_parts e) → reach (numbered_expr names e) ≤ length names
 
   halves : (ps qs : List Part) → Known (ps ++ qs) → Known ps × Known qs
   halves ps qs h = and_parts (list_all (is_known earlier) ps) (list_all (is_known earlier) qs)
       (sym (list_all-append (is_known earlier) ps qs) ∙ h)
 
-  pub variable_below : (x : Name) → is_among (registers earlier ++ temps earlier) x ≡ true → number_of names x < length names
+  pub variable_below : (x : Name) → is_among (registers earlier ++ temps earlier) x ≡ true → name_number names x < length names
   variable_below x h = number_below names x (heard x h)
 
   reach_unary : (o : UnOp) (a : Expr Name) → Reaches a → Reaches (Unary o a)
@@ -255,7 +255,7 @@ module _ (earlier : List Statement) (names : List Name) (heard : Within (registe
         let one = h first.0 in let two = k later.0 in let three = l later.1 in simp (numbered_pick, folded-Pick) (omega arith);
   })
 
-  sound : (e : Expr Name) → Known (expr_parts e) → is_small e ≡ true → IsExpressionSound (length names) (numbered names e)
+  sound : (e : Expr Name) → Known (expr_parts e) → is_small e ≡ true → IsExpressionSound (length names) (numbered_expr names e)
   sound e known small =
       let sizes = sizes_kept names e in
       record { variables = reached e known; size = grind (arith, nat_tests); height = grind (arith, nat_tests) }
@@ -264,9 +264,9 @@ module _ (earlier : List Statement) (names : List Name) (heard : Within (registe
 
 -- an operation over so many places, memories and channels
 pub record OpRead (places memories channels : ℕ) (o : Op ℕ) : Type 0 where
-  pub at : All (λ x. x < places) (places_of o)
+  pub at : All (λ x. x < places) (places_written o)
   pub expressions : All (IsExpressionSound places) (expressions_of o)
-  pub memory : IfSome (memory_of o) (λ n. n < memories)
+  pub memory : IfSome (memory_used o) (λ n. n < memories)
   pub channel : IfSome (port_of o) (λ a. a.channel < channels)
 
 module _ (earlier : List Statement) (scope : Scope) (heard : Within (registers earlier ++ temps earlier) (places scope))
@@ -280,21 +280,21 @@ module _ (earlier : List Statement) (scope : Scope) (heard : Within (registers e
   abbrev IsSound : Expr ℕ → Type 0
   IsSound e = IsExpressionSound (length (places scope)) e
 
-  place : (x : Name) → V x ≡ true → IsPlace (number_of (places scope) x)
+  place : (x : Name) → V x ≡ true → IsPlace (name_number (places scope) x)
   place x h = variable_below earlier (places scope) heard x h
 
-  tree : (e : Expr Name) → list_all (is_known earlier) (expr_parts e) ≡ true → is_small e ≡ true → IsSound (numbered (places scope) e)
+  tree : (e : Expr Name) → list_all (is_known earlier) (expr_parts e) ≡ true → is_small e ≡ true → IsSound (numbered_expr (places scope) e)
   tree e known small = sound earlier (places scope) heard e known small
 
   one : {X : Type 0} (P : X → Type 0) (x : X) → P x → All P (x ∷ [])
   one P x h = All-cons P x [] h (All-nil P)
 
-  channel : (f : Name) → is_among (channels earlier) f ≡ true → number_of scope.channels f < length scope.channels
+  channel : (f : Name) → is_among (channels earlier) f ≡ true → name_number scope.channels f < length scope.channels
   channel f h = number_below scope.channels f (heard_channels f h)
 
   -- a channel and a variable
   named : (f x : Name) → (is_among (channels earlier) f && (V x && true)) ≡ true
-      → All IsPlace (number_of (places scope) x ∷ []) × (number_of scope.channels f < length scope.channels)
+      → All IsPlace (name_number (places scope) x ∷ []) × (name_number scope.channels f < length scope.channels)
   named f x known =
       let a = and_parts _ _ known in
       (one IsPlace _ (place x (and_parts _ _ a.1).0), channel f a.0)
@@ -314,7 +314,7 @@ module _ (earlier : List Statement) (scope : Scope) (heard : Within (registers e
       let s = and_parts _ _ small in
       record {
         at = All-nil IsPlace;
-        expressions = All-cons IsSound _ (numbered (places scope) f ∷ []) (tree e b.0 s.0)
+        expressions = All-cons IsSound _ (numbered_expr (places scope) f ∷ []) (tree e b.0 s.0)
             (one IsSound _ (tree f b.1 s.1));
         memory = number_below scope.memories m (heard_memories m a.0);
         channel = tt;
@@ -326,7 +326,7 @@ module _ (earlier : List Statement) (scope : Scope) (heard : Within (registers e
       record { at = All-nil IsPlace; expressions = one IsSound _ (tree e a.1 small); memory = tt; channel = channel f a.0 }
   op_read (op.TryRead f x ok) known small =
       let a = and_parts _ _ known in let b = and_parts _ _ a.1 in let c = and_parts _ _ b.1 in
-      let both = All-cons IsPlace _ (number_of (places scope) ok ∷ []) (place x b.0) (one IsPlace _ (place ok c.0)) in
+      let both = All-cons IsPlace _ (name_number (places scope) ok ∷ []) (place x b.0) (one IsPlace _ (place ok c.0)) in
       record { at = both; expressions = All-nil IsSound; memory = tt; channel = channel f a.0 }
   op_read (op.TryWrite f ok e) known small =
       let a = and_parts _ _ known in let b = and_parts _ _ a.1 in
@@ -349,7 +349,7 @@ memory_same x = grind arith
 pub temp_same : (x : Statement) → temp_name x ≡ declared sort.Temps x
 temp_same x = grind arith
 
-pub channel_same : (x : Statement) → channel_name x ≡ declared sort.Channels x
+pub channel_same : (x : Statement) → declared_channel x ≡ declared sort.Channels x
 channel_same x = grind arith
 
 -- where g declares what f does, all the names that f gives are heard
@@ -373,7 +373,7 @@ heard_body f names level (x ∷ rest) h =
     (λ e. heard_more f names x (body_of level rest) rest (heard_body f names level rest (heard_later f names x rest h)) h)
 
 pub record Hears (scope : Scope) (earlier rest : List Statement) : Type 0 where
-  pub channels : Both channel_name scope.channels earlier rest
+  pub channels : Both declared_channel scope.channels earlier rest
   pub registers : Both register_name scope.registers (inside level.Modules earlier) rest
   pub memories : Both memory_name scope.memories (inside level.Modules earlier) rest
 
@@ -382,7 +382,7 @@ pub hears_more : (scope : Scope) (earlier : List Statement) (x : Statement) (res
 hears_more scope earlier x rest plain h =
     let e : inside level.Modules (x ∷ earlier) ≡ x ∷ inside level.Modules earlier = no_beginning level.Modules x plain earlier in
     record {
-      channels = both_more channel_name scope.channels x earlier rest h.channels;
+      channels = both_more declared_channel scope.channels x earlier rest h.channels;
       registers = rw e (both_more register_name scope.registers x (inside level.Modules earlier) rest h.registers);
       memories = rw e (both_more memory_name scope.memories x (inside level.Modules earlier) rest h.memories);
     }
@@ -390,7 +390,7 @@ hears_more scope earlier x rest plain h =
 pub hears_body : (scope : Scope) (earlier : List Statement) (level : Level) (rest : List Statement) → Hears scope earlier rest
     → Hears scope earlier (body_of level rest)
 hears_body scope earlier level rest h = record {
-  channels = (h.channels.0, heard_body channel_name scope.channels level rest h.channels.1);
+  channels = (h.channels.0, heard_body declared_channel scope.channels level rest h.channels.1);
   registers = (h.registers.0, heard_body register_name scope.registers level rest h.registers.1);
   memories = (h.memories.0, heard_body memory_name scope.memories level rest h.memories.1);
 }
@@ -408,7 +408,7 @@ TimedRead own t = IfSome t.guard (λ g. g < length (places own))
 at_read : (scale : Scale) (earlier : List Statement) (own : Scope) → Within (registers earlier ++ temps earlier) (places own)
     → Within (memories earlier) own.memories → Within (channels earlier) own.channels
     → (offset : ℕ) (guard : Option Name) (o : Op Name) → Keeps scale earlier (s.At offset guard o)
-    → TimedRead own (record { offset = offset; guard = option_map (number_of (places own)) guard; op = operation own o })
+    → TimedRead own (record { offset = offset; guard = option_map (name_number (places own)) guard; op = operation own o })
 at_read scale earlier own v m c offset None o keeps =
     let small = and_parts _ _ keeps.room in
     (tt, op_read earlier own v m c o keeps.known small.1)

@@ -8,7 +8,7 @@ use Rattle.flow_design.specs.{declared.design.Block.Block, declared.design.Chann
 use Rattle.flow_design.specs.{declared.limits.Scale.Scale, declared.plan.Plan.Plan, declared.session.Statement.Statement}
 use Rattle.flow_grammar.specs.declared.fault.Code.{Code}
 use Rattle.flow_check.specs.{declared.item.Spot.Spot, declared.item.Item.Item, First.sooner, First.first_in, First.first_behind}
-use Rattle.flow_check.specs.{First.place_where, Broken.passes, Broken.spot_breaks, Broken.channel_breaks, Broken.breaks}
+use Rattle.flow_check.specs.{First.place_where, Broken.some_passes, Broken.spot_breaks, Broken.channel_breaks, Broken.breaks}
 use Rattle.flow_check.specs.{declared.place.Counts.Counts, Places.counts, Places.counts_more, Places.item_behind, Places.items_behind}
 use Rattle.flow_check.specs.declared.item.Spot.TheVariants.{Head, Operation, Terminator}
 use Rattle.flow_check.specs.Rules.{leads_out, breaks_limits, lacks_users, clashes, is_bad_loop, is_too_late, is_on_wrong_side, spot}
@@ -34,7 +34,7 @@ Upto i j = ⊥
 
 -- ---- options
 
-pub passed : {A : Type 0} (test : A → Bool) (o : Option A) → passes test o ≡ true → (x : A) × (o ≡ Some x) × (test x ≡ true)
+pub passed : {A : Type 0} (test : A → Bool) (o : Option A) → some_passes test o ≡ true → (x : A) × (o ≡ Some x) × (test x ≡ true)
 passed test None h = absurd (true≢false (sym h))
 passed test (Some x) h = (x, refl, h)
 
@@ -58,25 +58,25 @@ found_here {A} {B} f g xs at x y before there is gives =
 
 -- what f gives at the first item passes the test of what f gives there
 pub in_some : {A B : Type 0} (f : A → Option B) (test : B → A → Bool) → ((x : A) (v : B) → f x ≡ Some v → test v x ≡ true)
-    → (xs : List A) (k : ℕ) (v : B) → first_in f xs ≡ Some (k, v) → passes (test v) (slice_get xs k) ≡ true
+    → (xs : List A) (k : ℕ) (v : B) → first_in f xs ≡ Some (k, v) → some_passes (test v) (slice_get xs k) ≡ true
 in_some f test each [] k v h = absurd cc
 in_some {A} {B} f test each (x ∷ xs) k v h = by (f x) refl h (in_some f test each xs)
   where
     by : (o : Option B) → f x ≡ o → sooner o (first_in f xs) ≡ Some (k, v)
-        → ((j : ℕ) (w : B) → first_in f xs ≡ Some (j, w) → passes (test w) (slice_get xs j) ≡ true)
-        → passes (test v) (slice_get (x ∷ xs) k) ≡ true
+        → ((j : ℕ) (w : B) → first_in f xs ≡ Some (j, w) → some_passes (test w) (slice_get xs j) ≡ true)
+        → some_passes (test v) (slice_get (x ∷ xs) k) ≡ true
     by (Some w) e q later =
         let pair = some_pair_parts 0 k w v q in
         rw (sym pair.0, sym pair.1) (each x w e)
     by None e q later =
         let p = mapped (λ (r : ℕ × B). (r.0 + 1, r.1)) (first_in f xs) (k, v) q in
         let at : suc (p.0).0 ≡ k = omega (arith, ap (λ (r : ℕ × B). r.0) p.2) in
-        subst (λ (w : B). passes (test w) (slice_get (x ∷ xs) k) ≡ true) (ap (λ (r : ℕ × B). r.1) p.2)
-        (subst (λ (n : ℕ). passes (test (p.0).1) (slice_get (x ∷ xs) n) ≡ true) at (later (p.0).0 (p.0).1 p.1))
+        subst (λ (w : B). some_passes (test w) (slice_get (x ∷ xs) k) ≡ true) (ap (λ (r : ℕ × B). r.1) p.2)
+        (subst (λ (n : ℕ). some_passes (test (p.0).1) (slice_get (x ∷ xs) n) ≡ true) at (later (p.0).0 (p.0).1 p.1))
 
 -- where an item passes a test by which f gives something, f gives something there or sooner
 pub in_least : {A B : Type 0} (f : A → Option B) (test : A → Bool) (R : B → Type 0)
-    → ((x : A) → test x ≡ true → (w : B) × (f x ≡ Some w) × R w) → (xs : List A) (j : ℕ) → passes test (slice_get xs j) ≡ true
+    → ((x : A) → test x ≡ true → (w : B) × (f x ≡ Some w) × R w) → (xs : List A) (j : ℕ) → some_passes test (slice_get xs j) ≡ true
     → (w : ℕ × B) × (first_in f xs ≡ Some w) × ((w.0 < j) ⊎ ((w.0 ≡ j) × R w.1))
 in_least f test R each [] j h = absurd (true≢false (sym h))
 in_least f test R each (y ∷ xs) zero h =
@@ -92,11 +92,11 @@ in_least {A} {B} f test R each (y ∷ xs) (suc j) h = by (f y) (in_least f test 
         (((later.0).0 + 1, (later.0).1), ap (option_map (λ (r : ℕ × B). (r.0 + 1, r.1))) later.1, moved)
 
 pub behind_some : {A : Type 0} (fails : List A → A → Bool) (before xs : List A) (k : ℕ) → first_behind fails before xs ≡ Some k
-    → passes (fails (before ++ take k xs)) (slice_get xs k) ≡ true
+    → some_passes (fails (before ++ take k xs)) (slice_get xs k) ≡ true
 behind_some fails before [] k h = absurd cc
 behind_some fails before (x ∷ xs) k h =
     cond_both (fails before x) (Some 0) (option_map (λ j. j + 1) (first_behind fails (before ++ x ∷ []) xs))
-    (λ (o : Option ℕ). o ≡ Some k → passes (fails (before ++ take k (x ∷ xs))) (slice_get (x ∷ xs) k) ≡ true)
+    (λ (o : Option ℕ). o ≡ Some k → some_passes (fails (before ++ take k (x ∷ xs))) (slice_get (x ∷ xs) k) ≡ true)
     (λ e q. let at : k ≡ 0 = cc in rw (at, append-nil) e)
     (λ e q.
     let r = mapped (λ (j : ℕ). j + 1) (first_behind fails (before ++ x ∷ []) xs) k q in
@@ -105,7 +105,7 @@ behind_some fails before (x ∷ xs) k h =
     h
 
 pub behind_least : {A : Type 0} (fails : List A → A → Bool) (before xs : List A) (j : ℕ)
-    → passes (fails (before ++ take j xs)) (slice_get xs j) ≡ true → (k : ℕ) × (first_behind fails before xs ≡ Some k) × (k ≤ j)
+    → some_passes (fails (before ++ take j xs)) (slice_get xs j) ≡ true → (k : ℕ) × (first_behind fails before xs ≡ Some k) × (k ≤ j)
 behind_least fails before [] j is = absurd (true≢false (sym is))
 behind_least fails before (y ∷ xs) zero is =
     (0, ap (λ b. cond b (Some 0) (option_map (λ j. j + 1) (first_behind fails (before ++ y ∷ []) xs))) (rw append-nil at is), omega arith)
@@ -123,10 +123,10 @@ where_behind p before [] = refl
 where_behind p before (x ∷ xs) =
     ap (λ (o : Option ℕ). cond (p x) (Some 0) (option_map (λ j. j + 1) o)) (where_behind p (before ++ x ∷ []) xs)
 
-pub where_some : {A : Type 0} (p : A → Bool) (xs : List A) (k : ℕ) → place_where p xs ≡ Some k → passes p (slice_get xs k) ≡ true
+pub where_some : {A : Type 0} (p : A → Bool) (xs : List A) (k : ℕ) → place_where p xs ≡ Some k → some_passes p (slice_get xs k) ≡ true
 where_some p xs k h = behind_some (λ earlier. p) [] xs k (sym (where_behind p [] xs) ∙ h)
 
-pub where_least : {A : Type 0} (p : A → Bool) (xs : List A) (j : ℕ) → passes p (slice_get xs j) ≡ true
+pub where_least : {A : Type 0} (p : A → Bool) (xs : List A) (j : ℕ) → some_passes p (slice_get xs j) ≡ true
     → (k : ℕ) × (place_where p xs ≡ Some k) × (k ≤ j)
 where_least p xs j is = let least = behind_least (λ earlier. p) [] xs j is in (least.0, where_behind p [] xs ∙ least.1, least.2)
 
@@ -166,14 +166,15 @@ module _ (scale : Scale) (plan : Plan) (rule : Code) where
   module_some i h =
       let p = mapped in_module (first_in (spot_in scale rule) plan.design.modules) i h in
       rw (← p.2) (in_some (spot_in scale rule)
-      (λ v own. passes (λ (b : Block). spot_breaks scale rule own b v.1) (slice_get own.blocks v.0))
+      (λ v own. some_passes (λ (b : Block). spot_breaks scale rule own b v.1) (slice_get own.blocks v.0))
       (λ own v. in_some (spot scale rule own) (λ a b. spot_breaks scale rule own b a) (spot_some scale rule own) own.blocks v.0 v.1)
       plan.design.modules (p.0).0 (p.0).1 p.1)
 
   pub module_least : (n c : ℕ) (d : Spot) → breaks scale plan rule (item.InModule n (c, d)) ≡ true
       → (i : Item) × (option_map in_module (first_in (spot_in scale rule) plan.design.modules) ≡ Some i) × Upto i (item.InModule n (c, d))
   module_least n c d h =
-      let least = in_least (spot_in scale rule) (λ own. passes (λ (b : Block). spot_breaks scale rule own b d) (slice_get own.blocks c))
+      let least = in_least (spot_in scale rule)
+      (λ own. some_passes (λ (b : Block). spot_breaks scale rule own b d) (slice_get own.blocks c))
       (λ w. (w.0 < c) ⊎ ((w.0 ≡ c) × SpotUpto w.1 d))
       (λ own. in_least (spot scale rule own) (λ b. spot_breaks scale rule own b d) (λ a. SpotUpto a d) (λ b. spot_least scale rule own b d)
       own.blocks c)
@@ -189,13 +190,13 @@ enumerated {A} (x ∷ xs) n (suc k) =
 
 -- a channel with its number, and the channel of a number
 lacking : (scale : Scale) (plan : Plan) (f : ℕ)
-    → passes (lacks_users plan.design.modules) (slice_get (enumerate_from 0 plan.design.channels) f)
+    → some_passes (lacks_users plan.design.modules) (slice_get (enumerate_from 0 plan.design.channels) f)
     ≡ breaks scale plan code.Ends (item.Channel f)
 lacking scale plan f =
-    ap (passes (lacks_users plan.design.modules)) (enumerated plan.design.channels 0 f) ∙ by (slice_get plan.design.channels f)
+    ap (some_passes (lacks_users plan.design.modules)) (enumerated plan.design.channels 0 f) ∙ by (slice_get plan.design.channels f)
   where
-    by : (o : Option Channel) → passes (lacks_users plan.design.modules) (option_map (λ x. (0 + f, x)) o)
-        ≡ passes (channel_breaks code.Ends plan f) o
+    by : (o : Option Channel) → some_passes (lacks_users plan.design.modules) (option_map (λ x. (0 + f, x)) o)
+        ≡ some_passes (channel_breaks code.Ends plan f) o
     by None = refl
     by (Some c) = ap (λ (k : ℕ). lacks_users plan.design.modules (k, c)) (omega arith)
 

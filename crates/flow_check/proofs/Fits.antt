@@ -17,7 +17,7 @@ use Rattle.flow_design.specs.StaticRules.{IsChannelSound, FitsEngine}
 use Rattle.session_plan.proofs.Giving.{numbered_at}
 use Rattle.flow_grammar.specs.declared.fault.Code.{Code}
 use Rattle.flow_check.specs.declared.item.Spot.TheVariants.{Head, Operation, Terminator}
-use Rattle.flow_check.specs.{declared.item.Item.Item, Scales.IsLive, Scales.IsBlockWithin, Scales.KeepsScale}
+use Rattle.flow_check.specs.{declared.item.Item.Item, Scales.HasFewLive, Scales.IsBlockWithin, Scales.KeepsScale}
 use Rattle.flow_check.specs.First.{first_in, first_behind, first_for, place_where}
 use Rattle.flow_check.specs.Rules.{leads_out, breaks_limits, lacks_users, is_served, phase, slot, is_slot, takes_again, clashes}
 use Rattle.flow_check.specs.Rules.{is_bad_loop, is_too_late, lacks_port, is_on_wrong_side, spot, spot_in, in_module, broken_by, rules}
@@ -79,7 +79,7 @@ side_kept m a h = grind arith
 
 -- ---- blocks
 
-kept_live : (scale : Scale) (len : ℕ) (kind : BlockKind) → is_bad_loop scale len kind ≡ false → IsLive scale len kind
+kept_live : (scale : Scale) (len : ℕ) (kind : BlockKind) → is_bad_loop scale len kind ≡ false → HasFewLive scale len kind
 kept_live scale len kind h = grind (arith, nat_tests)
 
 kind_sound : (scale : Scale) (registers len : ℕ) (kind : BlockKind) → IsKindRead registers kind → is_bad_loop scale len kind ≡ false
@@ -302,7 +302,7 @@ no_clash b d apart k there = by (slot b.kind (get_or b.ops k d)) refl
 next_within : (registers blocks : ℕ) (next : Next) → IsNextSound registers blocks next → leads_out blocks next ≡ false
 next_within registers blocks next sound = grind (arith, nat_tests)
 
-loop_within : (scale : Scale) (registers len : ℕ) (kind : BlockKind) → IsKindSound registers len kind → IsLive scale len kind
+loop_within : (scale : Scale) (registers len : ℕ) (kind : BlockKind) → IsKindSound registers len kind → HasFewLive scale len kind
     → is_bad_loop scale len kind ≡ false
 loop_within scale registers len kind sound live = grind (arith, nat_tests)
 

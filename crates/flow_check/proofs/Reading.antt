@@ -12,21 +12,22 @@ use Rattle.flow_word.specs.declared.access.Port.{Port}
 use Rattle.flow_design.specs.declared.limits.TheConstants.{MEMORY_WORDS, FIFO_DEPTH, FIFO_DELAY}
 use Rattle.flow_design.specs.{declared.limits.Scale.Scale, Limits.limits_at, declared.session.Statement.Statement}
 use Rattle.flow_design.specs.{declared.design.Timed.Timed, declared.design.Next.Next, declared.design.Block.Block}
-use Rattle.flow_design.specs.{declared.design.Module.Module, Operations.places_of, Operations.expressions_of, Operations.memory_of}
-use Rattle.flow_design.specs.{Operations.port_of, StaticRules.IsExpressionSound, StaticRules.AreEntriesSound, declared.design.Memory.Memory}
-use Rattle.flow_design.specs.{Names.is_name, declared.session.Statement.TheVariants.Input, declared.design.ChannelKind.ChannelKind}
+use Rattle.flow_design.specs.{declared.design.Module.Module, declared.design.Memory.Memory, Names.is_name, Names.Name}
+use Rattle.flow_design.specs.{declared.session.Statement.TheVariants.Input, declared.design.ChannelKind.ChannelKind}
 use Rattle.flow_design.specs.{declared.design.Channel.Channel, Plans.no_channel, Plans.is_fifo, Plans.EditFits, declared.plan.Edit.Edit}
-use Rattle.flow_grammar.specs.Before.{temp_name, is_among, channel_name, register_name, memory_name, block_name, blocks, in_module}
-use Rattle.flow_grammar.specs.Before.{input_count, input_values, module_name, channels, modules, fifo_name}
-use Rattle.flow_grammar.specs.{Tokens.is_name as is_name_token, Rules.is_over, Rules.KeepsReadingRules}
+use Rattle.flow_design.specs.Operations.{places_written, expressions_of, memory_used, port_of}
+use Rattle.flow_design.specs.StaticRules.{IsExpressionSound, AreEntriesSound}
+use Rattle.flow_grammar.specs.Before.{temp_name, is_among, declared_channel, register_name, memory_name, block_name, blocks}
+use Rattle.flow_grammar.specs.Before.{statements_in_module, input_count, input_values, declared_module, channels, modules, declared_fifo}
+use Rattle.flow_grammar.specs.{Tokens.token_is_name, Rules.is_complete, Rules.KeepsReadingRules}
 use Rattle.flow_grammar.specs.declared.place.Place.TheVariants.{AmongRegisters, AtEnd}
-use Rattle.flow_grammar.specs.Places.{place, may_stand, may_follow}
-use Rattle.session_plan.specs.{Names.Name, Names.Scope, Names.number_of, Numbered.timed, Numbered.terminator, declared.section.Level.Level}
-use Rattle.session_plan.specs.Plans.{first_or, kind_of, block, memory, scope_of, module_of, values_for, inputs_of, inputs_for, channel}
+use Rattle.flow_grammar.specs.Places.{place_reached, may_stand, may_follow}
+use Rattle.session_plan.specs.{Names.Scope, Names.name_number, Numbered.timed, Numbered.terminator, declared.section.Level.Level}
+use Rattle.session_plan.specs.Plans.{first_or, kind_of, block, memory, scope_of, plan_module, values_for, cut_inputs, inputs_for, channel}
 use Rattle.session_plan.specs.Plans.{depth_in, channels_of, channel_names, plan_of, edit, edits_of}
 use Rattle.session_plan.specs.Sections.{begins, body_of, sections, declared, declared_width}
 use Rattle.flow_check.specs.Read.{IsTimedRead, IsKindRead, IsNextRead, IsBlockRead, IsMemoryRead, IsModuleRead, IsPlanRead}
-use Rattle.flow_check.specs.Broken.{passes}
+use Rattle.flow_check.specs.Broken.{some_passes}
 use Rattle.flow_check.proofs.Bodies.{Keeps, Follow, Plain, plain_body, follow_body, inside, nothing_inside, grows, at_most, as_many, Heard}
 use Rattle.flow_check.proofs.Bodies.{heard_none, Grows, Both, both_more, all_follow, temp_same, heard_all, Hears, hears_more, hears_body}
 use Rattle.flow_check.proofs.Bodies.{plain_later, TimedRead, ops_read, next_read, few_temps, few_operations, len_read, kind_read}
@@ -55,9 +56,9 @@ module _ (scale : Scale) (count : ℕ) (m : Module) (scope : Scope) (chans : len
       ∙ omega arith in
       record {
         guard = subst (λ (n : ℕ). IfSome t.guard (λ g. g < n)) total h.0;
-        places = subst (λ (n : ℕ). All (λ x. x < n) (places_of t.op)) total h.1.at;
+        places = subst (λ (n : ℕ). All (λ x. x < n) (places_written t.op)) total h.1.at;
         expressions = subst (λ (n : ℕ). All (IsExpressionSound n) (expressions_of t.op)) total h.1.expressions;
-        memory = subst (λ (n : ℕ). IfSome (memory_of t.op) (λ k. k < n)) mems h.1.memory;
+        memory = subst (λ (n : ℕ). IfSome (memory_used t.op) (λ k. k < n)) mems h.1.memory;
         channel = subst (λ (n : ℕ). IfSome (port_of t.op) (λ (a : Port). a.channel < n)) chans h.1.channel;
       }
 
@@ -118,25 +119,25 @@ module _ (scale : Scale) (count : ℕ) (m : Module) (scope : Scope) (chans : len
 -- ---- a session is over
 
 abbrev pub Over : List Statement → List Statement → Type 0
-Over earlier [] = place earlier ≡ AtEnd
+Over earlier [] = place_reached earlier ≡ AtEnd
 Over earlier (x ∷ rest) = Over (x ∷ earlier) rest
 
-over_behind : (earlier rest : List Statement) → place (reverse rest ++ earlier) ≡ AtEnd → Over earlier rest
+over_behind : (earlier rest : List Statement) → place_reached (reverse rest ++ earlier) ≡ AtEnd → Over earlier rest
 over_behind earlier [] h = h
 over_behind earlier (x ∷ rest) h =
     over_behind (x ∷ earlier) rest
-    (ap place (sym (ap (λ (l : List Statement). l ++ earlier) (reverse-append (x ∷ []) rest)
+    (ap place_reached (sym (ap (λ (l : List Statement). l ++ earlier) (reverse-append (x ∷ []) rest)
     ∙ append_assoc (reverse rest) (x ∷ []) earlier)) ∙ h)
 
-ends : (statements : List Statement) → is_over statements ≡ true → place (reverse statements) ≡ AtEnd
-unfolding is_over
+ends : (statements : List Statement) → is_complete statements ≡ true → place_reached (reverse statements) ≡ AtEnd
+unfolding is_complete
 ends statements h = grind arith
 
-pub all_over : (statements : List Statement) → is_over statements ≡ true → Over [] statements
-all_over statements h = over_behind [] statements (ap place (append-nil (reverse statements)) ∙ ends statements h)
+pub all_over : (statements : List Statement) → is_complete statements ≡ true → Over [] statements
+all_over statements h = over_behind [] statements (ap place_reached (append-nil (reverse statements)) ∙ ends statements h)
 
 -- a module has a block
-some_block : (scale : Scale) (earlier rest : List Statement) → place earlier ≡ AmongRegisters → Follow scale earlier rest
+some_block : (scale : Scale) (earlier rest : List Statement) → place_reached earlier ≡ AmongRegisters → Follow scale earlier rest
     → Over earlier rest
     → 1 ≤ length (sections level.Blocks (body_of level.Modules rest))
 unfolding may_follow
@@ -161,7 +162,7 @@ few_registers : (scale : Scale) (earlier : List Statement) (x : Statement) → K
     → length (filter_map (declared sort.Registers) (inside level.Modules earlier)) < (limits_at scale).registers
 few_registers scale earlier x keeps h =
     let room = keeps.room in
-    let long = as_many register_name (declared sort.Registers) (λ y. ap is_some (register_same y)) (in_module earlier) in
+    let long = as_many register_name (declared sort.Registers) (λ y. ap is_some (register_same y)) (statements_in_module earlier) in
     grind (arith, nat_tests)
 
 few_memories : (scale : Scale) (earlier : List Statement) (x : Statement) → Keeps scale earlier x
@@ -169,7 +170,7 @@ few_memories : (scale : Scale) (earlier : List Statement) (x : Statement) → Ke
     → length (filter_map (declared sort.Memories) (inside level.Modules earlier)) < (limits_at scale).memories
 few_memories scale earlier x keeps h =
     let room = keeps.room in
-    let long = as_many memory_name (declared sort.Memories) (λ y. ap is_some (memory_same y)) (in_module earlier) in
+    let long = as_many memory_name (declared sort.Memories) (λ y. ap is_some (memory_same y)) (statements_in_module earlier) in
     grind (arith, nat_tests)
 
 few_blocks : (scale : Scale) (earlier : List Statement) (x : Statement) → Keeps scale earlier x → is_some (block_name x) ≡ true
@@ -204,9 +205,9 @@ memories_long body = as_many _ _ (λ x. grind arith) body
 module_read : (scale : Scale) (names : List Name) (earlier : List Statement) (n : Name) (rest : List Statement)
     → Keeps scale earlier (s.Module n)
     → Follow scale (s.Module n ∷ earlier) rest
-    → Over (s.Module n ∷ earlier) rest → Both channel_name names (s.Module n ∷ earlier) rest
-    → IsModuleRead scale (length names) (module_of names (s.Module n, body_of level.Modules rest))
-unfolding module_of is_name_token
+    → Over (s.Module n ∷ earlier) rest → Both declared_channel names (s.Module n ∷ earlier) rest
+    → IsModuleRead scale (length names) (plan_module names (s.Module n, body_of level.Modules rest))
+unfolding plan_module token_is_name
 module_read scale names earlier n rest keeps follow over heard =
     let body : List Statement = body_of level.Modules rest in
     let e0 : List Statement = s.Module n ∷ earlier in
@@ -215,11 +216,11 @@ module_read scale names earlier n rest keeps follow over heard =
     let follows : Follow scale e0 body = follow_body scale level.Modules e0 rest follow in
     let plain : Plain level.Modules body = plain_body level.Modules rest in
     let hears : Hears own e0 body = record {
-      channels = (heard.0, heard_body channel_name names level.Modules rest heard.1);
+      channels = (heard.0, heard_body declared_channel names level.Modules rest heard.1);
       registers = (heard_none register_name own.registers, heard_all register_name (declared sort.Registers) register_same body);
       memories = (heard_none memory_name own.memories, heard_all memory_name (declared sort.Memories) memory_same body);
     } in
-    let m : Module = module_of names (s.Module n, body) in
+    let m : Module = plan_module names (s.Module n, body) in
     let grown : Grows (inside level.Modules) body = grows level.Modules body plain in
     let a : length (filter_map (declared sort.Registers) body) ≤ (limits_at scale).registers
     = at_most scale (inside level.Modules) (declared sort.Registers) (limits_at scale).registers (few_registers scale) e0 body nothing
@@ -245,18 +246,19 @@ module_read scale names earlier n rest keeps follow over heard =
     }
 
 pub modules_read : (scale : Scale) (names : List Name) (earlier rest : List Statement) → Follow scale earlier rest → Over earlier rest
-    → Both channel_name names earlier rest → All (IsModuleRead scale (length names)) (map (module_of names) (sections level.Modules rest))
+    → Both declared_channel names earlier rest
+    → All (IsModuleRead scale (length names)) (map (plan_module names) (sections level.Modules rest))
 modules_read scale names earlier [] follow over heard = All-nil (IsModuleRead scale (length names))
 modules_read scale names earlier (x ∷ rest) follow over heard =
-    let next = both_more channel_name names x earlier rest heard in
+    let next = both_more declared_channel names x earlier rest heard in
     more x follow.0 follow.1 over next (modules_read scale names (x ∷ earlier) rest follow.1 over next)
   where
     more : (x : Statement) → Keeps scale earlier x → Follow scale (x ∷ earlier) rest → Over (x ∷ earlier) rest
-        → Both channel_name names (x ∷ earlier) rest
-        → All (IsModuleRead scale (length names)) (map (module_of names) (sections level.Modules rest))
-        → All (IsModuleRead scale (length names)) (map (module_of names) (sections level.Modules (x ∷ rest)))
+        → Both declared_channel names (x ∷ earlier) rest
+        → All (IsModuleRead scale (length names)) (map (plan_module names) (sections level.Modules rest))
+        → All (IsModuleRead scale (length names)) (map (plan_module names) (sections level.Modules (x ∷ rest)))
     more (s.Module n) keeps follow over heard h =
-        All-cons (IsModuleRead scale (length names)) _ (map (module_of names) (sections level.Modules rest))
+        All-cons (IsModuleRead scale (length names)) _ (map (plan_module names) (sections level.Modules rest))
         (module_read scale names earlier n rest keeps follow over heard) h
     more y keeps follow over heard h = h
 
@@ -264,7 +266,7 @@ modules_read scale names earlier (x ∷ rest) follow over heard =
 
 -- the values that are given for the channels from number a on
 abbrev given_from : List Name → ℕ → Statement → ℕ
-given_from names a (Input n values) = if nat_le a (number_of names n) then length values else 0
+given_from names a (Input n values) = if nat_le a (name_number names n) then length values else 0
 given_from names a x = 0
 
 abbrev amount : List Name → ℕ → List Statement → ℕ
@@ -279,7 +281,7 @@ one_taken names a (x ∷ rest) =
     let later = one_taken names a rest in let own = flat_map-cons (values_for names a) x rest in
     let long = length-append (values_for names a x) (flat_map (values_for names a) rest) in grind (arith, nat_tests)
 
-kept : (k : ChannelKind) (width : ℕ) (values : List ℕ) → length (inputs_of k width values) ≤ length values
+kept : (k : ChannelKind) (width : ℕ) (values : List ℕ) → length (cut_inputs k width values) ≤ length values
 kept kind.Source width values = simp length-map (omega arith)
 kept k width values = omega arith
 
@@ -309,14 +311,14 @@ grows_all : (rest : List Statement) → Grows (λ l. l) rest
 grows_all [] = tt
 grows_all (x ∷ rest) = (λ earlier. refl, grows_all rest)
 
-few_channels : (scale : Scale) (earlier : List Statement) (x : Statement) → Keeps scale earlier x → is_some (channel_name x) ≡ true
+few_channels : (scale : Scale) (earlier : List Statement) (x : Statement) → Keeps scale earlier x → is_some (declared_channel x) ≡ true
     → length (channels earlier) < (limits_at scale).channels
 few_channels scale earlier x keeps h = let room = keeps.room in grind (arith, nat_tests)
 
 channels_long : (xs : List Statement) → length (channels_of xs) ≡ length (channels xs)
 channels_long xs = as_many _ _ (λ x. grind arith) xs
 
-few_modules : (scale : Scale) (earlier : List Statement) (x : Statement) → Keeps scale earlier x → is_some (module_name x) ≡ true
+few_modules : (scale : Scale) (earlier : List Statement) (x : Statement) → Keeps scale earlier x → is_some (declared_module x) ≡ true
     → length (modules earlier) < (limits_at scale).modules
 few_modules scale earlier x keeps h = let room = keeps.room in grind (arith, nat_tests)
 
@@ -333,7 +335,7 @@ ChannelRead scale c = IsTrue (is_name c.name) × IsKindOf scale c.kind
 channel_more : (scale : Scale) (earlier : List Statement) (x : Statement) → Keeps scale earlier x → (later : List Channel)
     → All (ChannelRead scale) later
     → All (ChannelRead scale) (cons_option (channel x) later)
-unfolding is_name_token
+unfolding token_is_name
 channel_more scale earlier (s.Source n w) keeps later h = All-cons (ChannelRead scale) _ later ((and_parts _ _ keeps.named).0, tt) h
 channel_more scale earlier (s.Sink n w) keeps later h = All-cons (ChannelRead scale) _ later ((and_parts _ _ keeps.named).0, tt) h
 channel_more scale earlier (s.Fifo n w d l) keeps later h =
@@ -350,7 +352,7 @@ channels_read scale earlier (x ∷ rest) follow
     = channel_more scale earlier x follow.0 (filter_map channel rest) (channels_read scale (x ∷ earlier) rest follow.1)
 
 entries : (scale : Scale) (k : ChannelKind) (width : ℕ) (values : List ℕ) → IsKindOf scale k
-    → AreEntriesSound k (inputs_of k width values) (depth_in k)
+    → AreEntriesSound k (cut_inputs k width values) (depth_in k)
 entries scale kind.Source width values h = refl
 entries scale kind.Sink width values h = (refl, refl)
 entries scale (kind.Fifo d l) width values h = (refl, h.0, h.1, h.2, h.3)
@@ -368,20 +370,21 @@ plan_read scale statements rules =
     let cs : List Channel = channels_of statements in
     let names : List Name = channel_names statements in
     let a : length (channels statements) ≤ (limits_at scale).channels
-    = at_most scale (λ l. l) channel_name (limits_at scale).channels (few_channels scale) [] statements refl follow
+    = at_most scale (λ l. l) declared_channel (limits_at scale).channels (few_channels scale) [] statements refl follow
     (grows_all statements) in
     let b : length (modules statements) ≤ (limits_at scale).modules
-    = at_most scale (λ l. l) module_name (limits_at scale).modules (few_modules scale) [] statements refl follow (grows_all statements) in
+    = at_most scale (λ l. l) declared_module (limits_at scale).modules (few_modules scale) [] statements refl follow
+    (grows_all statements) in
     let long_a : length cs ≡ length (channels statements) = channels_long statements in
-    let long_b = sections_long level.Modules module_name (λ y. grind arith) statements in
-    let long_c : length (map (module_of names) (sections level.Modules statements)) ≡ length (sections level.Modules statements)
+    let long_b = sections_long level.Modules declared_module (λ y. grind arith) statements in
+    let long_c : length (map (plan_module names) (sections level.Modules statements)) ≡ length (sections level.Modules statements)
     = simp length-map in
     let long_d : length (map (inputs_for names statements) (enumerate_from 0 cs)) ≡ length cs = simp (length-map, length-enumerate_from) in
     let long_e : length (map (λ (c : Channel). depth_in c.kind) cs) ≡ length cs = simp length-map in
     let read : All (ChannelRead scale) cs = channels_read scale [] statements follow in
     let most = amount_most scale names [] statements follow (omega arith) in
     let took = taken_most names statements 0 cs in
-    let heard : Heard channel_name names statements = heard_all channel_name (declared sort.Channels) channel_same statements in
+    let heard : Heard declared_channel names statements = heard_all declared_channel (declared sort.Channels) channel_same statements in
     record {
       channel_count = omega arith;
       module_count = omega arith;
@@ -404,9 +407,9 @@ plan_read scale statements rules =
           subst (λ (d : ℕ). d ≤ (limits_at scale).fifo_depth)
           (sym (get_or-map (λ (d : Channel). depth_in d.kind) cs f no_channel none within))
           (depth_kept scale (get_or cs f no_channel).kind (read f no_channel within).1);
-      modules = subst (λ (n : ℕ). All (IsModuleRead scale n) (map (module_of names) (sections level.Modules statements)))
+      modules = subst (λ (n : ℕ). All (IsModuleRead scale n) (map (plan_module names) (sections level.Modules statements)))
           (names_long statements)
-          (modules_read scale names [] statements follow (all_over statements rules.over) (heard_none channel_name names, heard));
+          (modules_read scale names [] statements follow (all_over statements rules.over) (heard_none declared_channel names, heard));
     }
 
 -- ---- the edits of a session that was read are those of FIFOs of its plan
@@ -420,8 +423,8 @@ first_kind n [] = None
 first_kind n (c ∷ cs) = cond (bytes_eq n c.name) (Some c.kind) (first_kind n cs)
 
 -- it stands at the name's place
-kind_placed : (n : Name) (cs : List Channel) → passes is_fifo (first_kind n cs) ≡ true
-    → (number_of (map name cs) n < length cs) × (is_fifo (get_or cs (number_of (map name cs) n) no_channel).kind ≡ true)
+kind_placed : (n : Name) (cs : List Channel) → some_passes is_fifo (first_kind n cs) ≡ true
+    → (name_number (map name cs) n < length cs) × (is_fifo (get_or cs (name_number (map name cs) n) no_channel).kind ≡ true)
 kind_placed n [] h = absurd (true≢false (sym h))
 kind_placed n (c ∷ cs) h = let later = kind_placed n cs in (grind arith, grind arith)
 
@@ -433,15 +436,15 @@ names_are (x ∷ rest) = let later = names_are rest in grind arith
 
 -- no FIFO behind has the name of a channel before
 no_later : (scale : Scale) (n : Name) (earlier rest : List Statement) → Follow scale earlier rest → is_among (channels earlier) n ≡ true
-    → is_among (filter_map fifo_name rest) n ≡ false
+    → is_among (filter_map declared_fifo rest) n ≡ false
 no_later scale n earlier [] follow h = refl
 no_later scale n earlier (x ∷ rest) follow h =
     let fresh = follow.0.fresh in let later = no_later scale n (x ∷ earlier) rest follow.1 in grind (arith, bytes_eq-Decides)
 
 -- the first channel of a FIFO's name is a FIFO
 fifo_first : (scale : Scale) (n : Name) (earlier rest : List Statement) → Follow scale earlier rest
-    → is_among (filter_map fifo_name rest) n ≡ true
-    → passes is_fifo (first_kind n (filter_map channel rest)) ≡ true
+    → is_among (filter_map declared_fifo rest) n ≡ true
+    → some_passes is_fifo (first_kind n (filter_map channel rest)) ≡ true
 fifo_first scale n earlier [] follow h = absurd (true≢false (sym h))
 fifo_first scale n earlier (x ∷ rest) follow h =
     let none = no_later scale n (x ∷ earlier) rest follow.1 in let later = fifo_first scale n (x ∷ earlier) rest follow.1 in grind arith
@@ -449,15 +452,15 @@ fifo_first scale n earlier (x ∷ rest) follow h =
 -- ---- edits
 
 edit_fits : (scale : Scale) (statements : List Statement) → Follow scale [] statements → (n : Name) (depth : ℕ)
-    → is_among (filter_map fifo_name statements) n ≡ true → 1 ≤ depth → depth ≤ FIFO_DEPTH
-    → EditFits (plan_of scale statements) (record { channel = number_of (channel_names statements) n; depth = depth })
+    → is_among (filter_map declared_fifo statements) n ≡ true → 1 ≤ depth → depth ≤ FIFO_DEPTH
+    → EditFits (plan_of scale statements) (record { channel = name_number (channel_names statements) n; depth = depth })
 unfolding plan_of
 edit_fits scale statements follow n depth there least most =
     let placed = rw (← names_are statements) at (kind_placed n (channels_of statements) (fifo_first scale n [] statements follow there)) in
     record { fifo = placed.1; entry = simp length-map placed.0; least = least; most = most }
 
 edit_more : (scale : Scale) (statements earlier : List Statement) → Follow scale [] statements
-    → Heard fifo_name (filter_map fifo_name statements) earlier
+    → Heard declared_fifo (filter_map declared_fifo statements) earlier
     → (x : Statement) → Keeps scale earlier x
     → (later : List Edit) → All (EditFits (plan_of scale statements)) later
     → All (EditFits (plan_of scale statements)) (cons_option (edit (channel_names statements) x) later)
@@ -468,20 +471,20 @@ edit_more scale statements earlier follow heard (s.Depth n depth) keeps later h 
 edit_more scale statements earlier follow heard x keeps later h = h
 
 edits_from : (scale : Scale) (statements earlier rest : List Statement) → Follow scale [] statements → Follow scale earlier rest
-    → Both fifo_name (filter_map fifo_name statements) earlier rest
+    → Both declared_fifo (filter_map declared_fifo statements) earlier rest
     → All (EditFits (plan_of scale statements)) (filter_map (edit (channel_names statements)) rest)
 edits_from scale statements earlier [] whole follow heard = All-nil (EditFits (plan_of scale statements))
 edits_from scale statements earlier (x ∷ rest) whole follow heard =
     edit_more scale statements earlier whole heard.0 x follow.0 (filter_map (edit (channel_names statements)) rest)
     (edits_from scale statements (x ∷ earlier) rest whole follow.1
-    (both_more fifo_name (filter_map fifo_name statements) x earlier rest heard))
+    (both_more declared_fifo (filter_map declared_fifo statements) x earlier rest heard))
 
 pub edits_fit : (scale : Scale) (statements : List Statement) → KeepsReadingRules scale statements
     → All (EditFits (plan_of scale statements)) (edits_of statements)
 unfolding edits_of
 edits_fit scale statements rules =
     let follow : Follow scale [] statements = all_follow scale statements rules in
-    edits_from scale statements [] statements follow follow (heard_none fifo_name (filter_map fifo_name statements), λ n h. h)
+    edits_from scale statements [] statements follow follow (heard_none declared_fifo (filter_map declared_fifo statements), λ n h. h)
 
 -- ---- the depths of edits
 

@@ -5,20 +5,20 @@ use Rattle.std.proofs.{lemmas.Bool.Decides.nat_tests, lemmas.List.Elements.All-n
 use Rattle.std.proofs.lemmas.Bool.{cond_both, false_from_ne_true, or_right}
 use Rattle.std.proofs.lemmas.Option.{same_Some, some_pair_parts, slice_get_within}
 use Rattle.std.specs.List.{filter_map, All, list_any}
-use Rattle.flow_design.specs.{declared.limits.Scale.Scale, declared.design.Block.Block, declared.design.Module.Module}
+use Rattle.flow_design.specs.{declared.limits.Scale.Scale, declared.design.Block.Block, declared.design.Module.Module, Names.Name}
 use Rattle.flow_design.specs.declared.limits.Scale.TheVariants.{Standard, Large}
 use Rattle.flow_design.specs.declared.session.Statement.{Statement}
 use Rattle.flow_grammar.specs.{declared.fault.Code.Code, declared.fault.TextFault.TextFault}
-use Rattle.session_plan.specs.{Names.Name, Names.Scope, Numbered.timed, Numbered.terminator, declared.section.Level.Level}
-use Rattle.session_plan.specs.Plans.{first_or, channel, limits_of, block, scope_of, module_of, channels_of, channel_names, modules_of}
-use Rattle.session_plan.specs.Plans.{plan_of}
+use Rattle.session_plan.specs.{Names.Scope, Numbered.timed, Numbered.terminator, declared.section.Level.Level}
+use Rattle.session_plan.specs.Plans.{first_or, channel, session_limits, block, scope_of, plan_module, channels_of, channel_names}
+use Rattle.session_plan.specs.Plans.{plan_modules, plan_of}
 use Rattle.session_plan.specs.Sections.{begins, body_of, sections, declared}
-use Rattle.flow_check.specs.{declared.item.Spot.Spot, declared.item.Item.Item, declared.place.Counts.Counts, Checked.at_line}
+use Rattle.flow_check.specs.{declared.item.Spot.Spot, declared.item.Item.Item, declared.place.Counts.Counts, Checked.fault_on_line}
 use Rattle.flow_check.specs.{Checked.fault_of, First.first_for, First.or_later, First.place_where}
 use Rattle.flow_check.specs.declared.item.Spot.TheVariants.{Head, Operation, Terminator}
-use Rattle.flow_check.specs.Places.{counts, item_behind, items_behind, items_of, same_item, is_item, place_of}
+use Rattle.flow_check.specs.Places.{counts, item_behind, items_behind, items_of, same_item, is_item, item_place}
 use Rattle.flow_check.specs.Rules.{leads_out, breaks_limits, clashes, is_too_late, is_on_wrong_side, broken_by, rules, checking_fault}
-use Rattle.flow_check.specs.Broken.{passes, spot_breaks, channel_breaks, breaks, statement_breaks, TellsFirst}
+use Rattle.flow_check.specs.Broken.{some_passes, spot_breaks, channel_breaks, breaks, statement_breaks, TellsFirst}
 use Rattle.flow_check.proofs.{Bodies.Plain, Bodies.of_body, Bodies.plain_body, Bodies.plain_later, Counting.counted}
 use Rattle.flow_check.proofs.Firsts.{passed, mapped, where_some, where_least, broken_some, broken_least, one_item}
 use Rattle.flow_design.specs.declared.session.Statement.TheVariants as s
@@ -53,12 +53,12 @@ channel_stands earlier (st ∷ rest) n least most =
     let step = counted earlier st in let later = channel_stands (st ∷ earlier) rest n in grind (arith, nat_tests)
 
 -- the limits of a session that gives none are in their ranges
-default_kept : (scale : Scale) → breaks_limits scale (limits_of scale []).0 (limits_of scale []).1 ≡ false
+default_kept : (scale : Scale) → breaks_limits scale (session_limits scale []).0 (session_limits scale []).1 ≡ false
 default_kept Standard = refl
 default_kept Large = refl
 
 limits_stand : (scale : Scale) (earlier rest : List Statement)
-    → breaks_limits scale (limits_of scale rest).0 (limits_of scale rest).1 ≡ true
+    → breaks_limits scale (session_limits scale rest).0 (session_limits scale rest).1 ≡ true
     → stands earlier rest item.Limits ≡ true
 limits_stand scale earlier [] h = absurd (true≢false (sym h ∙ default_kept scale))
 limits_stand scale earlier (st ∷ rest) h = let later = limits_stand scale (st ∷ earlier) rest in grind arith
@@ -102,7 +102,7 @@ There count b Head = Unit {0}
 There count b (Operation k) = k < length b.ops
 There count b Terminator = leads_out count b.next ≡ true
 
-there_is : {A : Type 0} (test : A → Bool) (xs : List A) (k : ℕ) → passes test (slice_get xs k) ≡ true → k < length xs
+there_is : {A : Type 0} (test : A → Bool) (xs : List A) (k : ℕ) → some_passes test (slice_get xs k) ≡ true → k < length xs
 there_is test xs k h = let p = passed test (slice_get xs k) h in slice_get_within xs k p.0 p.1
 
 there : (scale : Scale) (rule : Code) (m : Module) (b : Block) (a : Spot) → spot_breaks scale rule m b a ≡ true
@@ -171,14 +171,14 @@ block_stands scope m count earlier (st ∷ body) k n blk a plain e is at h =
 
 module_stands : (names : List Name) (earlier rest : List Statement) (k n c : ℕ) (own : Module) (blk : Block) (a : Spot)
     → n ≡ (counts earlier).modules + k
-    → slice_get (map (module_of names) (sections level.Modules rest)) k ≡ Some own → slice_get own.blocks c ≡ Some blk
+    → slice_get (map (plan_module names) (sections level.Modules rest)) k ≡ Some own → slice_get own.blocks c ≡ Some blk
     → There (length own.blocks) blk a → stands earlier rest (item.InModule n (c, a)) ≡ true
-unfolding module_of
+unfolding plan_module
 module_stands names earlier [] k n c own blk a is at block_at h = absurd cc
 module_stands names earlier (s.Module x ∷ rest) zero n c own blk a is at block_at h =
     let body : List Statement = body_of level.Modules rest in
     let step = counted earlier (s.Module x) in
-    let same : module_of names (s.Module x, body) ≡ own = cc in
+    let same : plan_module names (s.Module x, body) ≡ own = cc in
     let blocks : slice_get (map (block (scope_of names body)) (sections level.Blocks body)) c ≡ Some blk
     = ap (λ (o : Module). slice_get o.blocks c) same ∙ block_at in
     behind earlier rest (s.Module x) (item.InModule n (c, a))
@@ -202,8 +202,8 @@ exists scale statements code.Ends (item.Channel f) h =
     let below = there_is (channel_breaks code.Ends (plan_of scale statements) f) (channels_of statements) f h in
     channel_stands [] statements f (omega arith) (omega arith)
 exists scale statements rule (item.InModule n (c, a)) h =
-    let own = passed (λ (o : Module). passes (λ (b : Block). spot_breaks scale rule o b a) (slice_get o.blocks c))
-    (slice_get (modules_of statements) n) h in
+    let own = passed (λ (o : Module). some_passes (λ (b : Block). spot_breaks scale rule o b a) (slice_get o.blocks c))
+    (slice_get (plan_modules statements) n) h in
     let blk = passed (λ (b : Block). spot_breaks scale rule own.0 b a) (slice_get (own.0).blocks c) own.2 in
     module_stands (channel_names statements) [] statements n n c own.0 blk.0 a (omega arith) own.1 blk.1
     (there scale rule own.0 blk.0 a blk.2)
@@ -269,27 +269,27 @@ module _ (scale : Scale) (statements : List Statement) (rule : Code) (i : Item)
   found : (k : ℕ) × (place_where (is_item i) (items_of statements) ≡ Some k)
   found = has_place (is_item i) (items_of statements) (exists scale statements rule i breaking)
 
-  at_place : slice_get (items_of statements) (place_of statements i) ≡ Some (Some i)
+  at_place : slice_get (items_of statements) (item_place statements i) ≡ Some (Some i)
   at_place =
       let there = passed (is_item i) (slice_get (items_of statements) found.0)
       (where_some (is_item i) (items_of statements) found.0 found.1) in
       ap (λ (o : Option ℕ). slice_get (items_of statements) (unwrap_or o (length statements))) found.1
       ∙ there.1 ∙ ap Some (stands_for i there.0 there.2)
 
-  broken : statement_breaks scale statements rule (place_of statements i) ≡ true
-  broken = ap (passes (passes (breaks scale (plan_of scale statements) rule))) at_place ∙ breaking
+  broken : statement_breaks scale statements rule (item_place statements i) ≡ true
+  broken = ap (some_passes (some_passes (breaks scale (plan_of scale statements) rule))) at_place ∙ breaking
 
-  first : (k : ℕ) → k < place_of statements i → statement_breaks scale statements rule k ≡ false
+  first : (k : ℕ) → k < item_place statements i → statement_breaks scale statements rule k ≡ false
   first k before = false_from_ne_true (statement_breaks scale statements rule k) (λ h.
-      let at = passed (passes (breaks scale (plan_of scale statements) rule)) (slice_get (items_of statements) k) h in
+      let at = passed (some_passes (breaks scale (plan_of scale statements) rule)) (slice_get (items_of statements) k) h in
       let j = passed (breaks scale (plan_of scale statements) rule) at.0 at.2 in
       let at_j : slice_get (items_of statements) k ≡ Some (Some j.0) = at.1 ∙ ap Some j.1 in
       let least = broken_least scale (plan_of scale statements) rule j.0 j.2 in
       let same : i ≡ least.0 = same_Some _ _ (sym is ∙ least.1) in
-      let one : j.0 ≡ i = one_item [] statements k (place_of statements i) j.0 i before at_j at_place (rw same least.2) in
+      let one : j.0 ≡ i = one_item [] statements k (item_place statements i) j.0 i before at_j at_place (rw same least.2) in
       let sooner = where_least (is_item i) (items_of statements) k
-      (ap (passes (is_item i)) at_j ∙ ap (same_item i) one ∙ item_itself i) in
-      let place : place_of statements i ≡ sooner.0 = ap (λ (o : Option ℕ). unwrap_or o (length statements)) sooner.1 in
+      (ap (some_passes (is_item i)) at_j ∙ ap (same_item i) one ∙ item_itself i) in
+      let place : item_place statements i ≡ sooner.0 = ap (λ (o : Option ℕ). unwrap_or o (length statements)) sooner.1 in
       let l : sooner.0 ≤ k = sooner.2 in
       absurd (omega arith))
 
@@ -298,12 +298,12 @@ pub tells_first : (scale : Scale) (statements : List Statement) (lines : List �
     → TellsFirst scale statements lines fault
 unfolding checking_fault
 tells_first scale statements lines fault h =
-    let p = mapped (at_line statements lines) (checking_fault scale (plan_of scale statements)) fault h in
+    let p = mapped (fault_on_line statements lines) (checking_fault scale (plan_of scale statements)) fault h in
     let rule : Code = (p.0).0 in
     let i : Item = (p.0).1 in
     let f = first_rule (broken_by scale (plan_of scale statements)) rules rule i p.1 in
     subst (TellsFirst scale statements lines) p.2 (record {
-      place = place_of statements i;
+      place = item_place statements i;
       line = refl;
       broken = broken scale statements rule i f.gives;
       first = first scale statements rule i f.gives;

@@ -12,17 +12,17 @@ use Rattle.flow_check.specs.Rules.{leads_out, breaks_limits, lacks_users, clashe
 use Rattle.flow_check.specs.declared.item.Item.TheVariants as item
 
 -- there is a value, and it passes the test
-abbrev pub passes : {A : Type 0} → (A → Bool) → Option A → Bool
-passes test None = false
-passes test (Some x) = test x
+abbrev pub some_passes : {A : Type 0} → (A → Bool) → Option A → Bool
+some_passes test None = false
+some_passes test (Some x) = test x
 
 -- a spot of a block breaks a rule
 abbrev pub spot_breaks : Scale → Code → Module → Block → Spot → Bool
 spot_breaks scale code.UnknownName m b Terminator = leads_out (length m.blocks) b.next
-spot_breaks scale code.PortClash m b (Operation k) = passes (clashes b.kind (take k b.ops)) (slice_get b.ops k)
+spot_breaks scale code.PortClash m b (Operation k) = some_passes (clashes b.kind (take k b.ops)) (slice_get b.ops k)
 spot_breaks scale code.BadLoop m b Head = is_bad_loop scale b.len b.kind
-spot_breaks scale code.BadOffset m b (Operation k) = passes (is_too_late b.len) (slice_get b.ops k)
-spot_breaks scale code.WrongSide m b (Operation k) = passes (is_on_wrong_side m) (slice_get b.ops k)
+spot_breaks scale code.BadOffset m b (Operation k) = some_passes (is_too_late b.len) (slice_get b.ops k)
+spot_breaks scale code.WrongSide m b (Operation k) = some_passes (is_on_wrong_side m) (slice_get b.ops k)
 spot_breaks scale rule m b spot = false
 
 -- the limits of a plan break a rule
@@ -38,14 +38,15 @@ channel_breaks rule plan f c = false
 -- an item of a plan breaks a rule
 abbrev pub breaks : Scale → Plan → Code → Item → Bool
 breaks scale plan rule item.Limits = limits_break scale rule plan
-breaks scale plan rule (item.Channel f) = passes (channel_breaks rule plan f) (slice_get plan.design.channels f)
+breaks scale plan rule (item.Channel f) = some_passes (channel_breaks rule plan f) (slice_get plan.design.channels f)
 breaks scale plan rule (item.InModule m (b, spot)) =
-    passes (λ own. passes (λ block. spot_breaks scale rule own block spot) (slice_get own.blocks b)) (slice_get plan.design.modules m)
+    some_passes (λ own. some_passes (λ block. spot_breaks scale rule own block spot) (slice_get own.blocks b))
+    (slice_get plan.design.modules m)
 
 -- the item of the statement at a place breaks a rule
 abbrev pub statement_breaks : Scale → List Statement → Code → ℕ → Bool
 statement_breaks scale statements rule place =
-    passes (passes (breaks scale (plan_of scale statements) rule)) (slice_get (items_of statements) place)
+    some_passes (some_passes (breaks scale (plan_of scale statements) rule)) (slice_get (items_of statements) place)
 
 -- a refusal tells the first statement that breaks the first rule that is broken
 pub record TellsFirst (scale : Scale) (statements : List Statement) (lines : List ℕ) (fault : TextFault) : Type 0 where

@@ -6,12 +6,12 @@ use Rattle.flow_grammar.specs.declared.fault.ReadFail.TheVariants.{Text, OutOfMe
 use Rattle.session_plan.specs.Plans.{plan_of}
 use Rattle.flow_check.specs.{declared.item.Item.Item, Places.line_of, Rules.checking_fault}
 
-abbrev pub at_line : List Statement → List ℕ → Code × Item → TextFault
-at_line statements lines (code, item) = record { line = line_of statements lines item; code = code }
+abbrev pub fault_on_line : List Statement → List ℕ → Code × Item → TextFault
+fault_on_line statements lines (code, item) = record { line = line_of statements lines item; code = code }
 
 -- the checking fault of these statements at a scale, if they have one; these are the numbers of their lines
 abbrev pub fault_of : Scale → List Statement → List ℕ → Option TextFault
-fault_of scale statements lines = option_map (at_line statements lines) (checking_fault scale (plan_of scale statements))
+fault_of scale statements lines = option_map (fault_on_line statements lines) (checking_fault scale (plan_of scale statements))
 
 -- a refusal is right: it tells the checking fault, or that memory ran out
 abbrev pub IsRefusal : Scale → List Statement → List ℕ → ReadFail → Type 0

@@ -87,9 +87,9 @@ is_item i None = false
 is_item i (Some j) = same_item i j
 
 -- the place of the first statement that an item comes from, or the number of statements where there is none
-abbrev pub place_of : List Statement → Item → ℕ
-place_of statements item = unwrap_or (place_where (is_item item) (items_of statements)) (length statements)
+abbrev pub item_place : List Statement → Item → ℕ
+item_place statements item = unwrap_or (place_where (is_item item) (items_of statements)) (length statements)
 
 -- the line of the statement that an item comes from
 abbrev pub line_of : List Statement → List ℕ → Item → ℕ
-line_of statements lines item = slice_index lines (place_of statements item)
+line_of statements lines item = slice_index lines (item_place statements item)

@@ -6,14 +6,14 @@ use Rattle.flow_design.specs.{declared.design.Timed.Timed, declared.design.Block
 use Rattle.flow_design.specs.{declared.design.Module.Module, declared.plan.Plan.Plan, Names.is_name, Plans.no_channel, Plans.kind_at}
 use Rattle.flow_design.specs.declared.design.BlockKind.TheVariants.{Plain, Loop}
 use Rattle.flow_design.specs.declared.design.Next.TheVariants.{Goto, Branch, Stop}
-use Rattle.flow_design.specs.Operations.{places_of, expressions_of, memory_of, port_of}
+use Rattle.flow_design.specs.Operations.{places_written, expressions_of, memory_used, port_of}
 use Rattle.flow_design.specs.StaticRules.{IsExpressionSound, AreEntriesSound}
 
 pub record IsTimedRead (channels : ℕ) (m : Module) (b : Block) (t : Timed) : Type 0 where
   pub guard : IfSome t.guard (λ g. g < length m.registers + length b.temps)
-  pub places : All (λ x. x < length m.registers + length b.temps) (places_of t.op)
+  pub places : All (λ x. x < length m.registers + length b.temps) (places_written t.op)
   pub expressions : All (IsExpressionSound (length m.registers + length b.temps)) (expressions_of t.op)
-  pub memory : IfSome (memory_of t.op) (λ n. n < length m.memories)
+  pub memory : IfSome (memory_used t.op) (λ n. n < length m.memories)
   pub channel : IfSome (port_of t.op) (λ a. a.channel < channels)
 
 abbrev pub IsKindRead : ℕ → BlockKind → Type 0

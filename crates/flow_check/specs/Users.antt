@@ -1,10 +1,7 @@
 -- How many modules use each channel at one side, where 2 stands for two or more.
 use Rattle.std.specs.Prelude.{◌≡◌, ℕ, ◌+◌, ◌<◌, min, List, length, count_by, slice_index}
 use Rattle.flow_word.specs.{declared.access.Port.Port, declared.access.Side.Side}
-use Rattle.flow_design.specs.{declared.design.Module.Module, StaticRules.uses}
-
-abbrev pub port_at : Side → ℕ → Port
-port_at side c = record { side = side; channel = c }
+use Rattle.flow_design.specs.{declared.design.Module.Module, StaticRules.uses, Operations.port_at}
 
 -- two counts are equal, or both are two or more
 abbrev pub AreAlike : ℕ → ℕ → Type 0
@@ -21,5 +18,5 @@ pub record IsCounting (left all : ℕ → ℕ) (before now : List ℕ) : Type 0 
   pub each : (c : ℕ) → c < length before → AreAlike (slice_index now c + left c) (slice_index before c + all c)
 
 -- the list has for each channel how many of these modules use it at this side
-pub record AreUsers (modules : List Module) (side : Side) (users : List ℕ) : Type 0 where
+pub record AreUserCounts (modules : List Module) (side : Side) (users : List ℕ) : Type 0 where
   pub each : (c : ℕ) → c < length users → AreAlike (slice_index users c) (count_by (uses (port_at side c)) modules)

@@ -1,7 +1,7 @@
 //! The statement of a session that a part of its plan comes from.
 ghost use Rattle.std.specs.Prelude.{◌≡◌, ◌<◌, ◌^◌, []};
 ghost use Rattle.flow_check.specs.Places.{counts, counts_more, in_last_module, in_last_block, item_behind, same_spot, same_item, is_item};
-ghost use Rattle.flow_check.specs.Places.{place_of, line_of};
+ghost use Rattle.flow_check.specs.Places.{item_place, line_of};
 
 use crate::item::{Item, Spot};
 use flow_design::Statement;
@@ -132,7 +132,7 @@ fn is_item(item: &Item, stands: &Option<Item>) -> bool
 
 /// The place of the first statement that an item comes from, or the number of statements where there is none.
 fn place_of(statements: &[Statement], item: &Item) -> usize
-    ensures { result ≡ place_of statements.now item.now }
+    ensures { result ≡ item_place statements.now item.now }
 {
     let mut before = nothing();
     for (at, statement) in statements.iter().enumerate() {

@@ -4,7 +4,7 @@ ghost use Rattle.std.specs.List.{enumerate_from};
 ghost use Rattle.flow_design.specs.{declared.design.Module.Module as ModuleOf, StaticRules.users_wanted};
 ghost use Rattle.flow_word.specs.declared.access.Side.TheVariants.{Pop, Push};
 ghost use Rattle.flow_check.specs.First.{first_in, first_for, place_where};
-ghost use Rattle.flow_check.specs.{Ports.has, Ports.HasPorts, Ports.HavePorts, Users.AreUsers};
+ghost use Rattle.flow_check.specs.{Ports.has, Ports.HasPorts, Ports.HavePorts, Users.AreUserCounts};
 ghost use Rattle.flow_check.specs.Rules.{leads_out, breaks_limits, has_users, is_served, lacks_users, is_bad_loop, is_too_late};
 ghost use Rattle.flow_check.specs.Rules.{is_on_wrong_side, spot, spot_in, in_module, broken_by, rules, checking_fault};
 
@@ -179,7 +179,7 @@ fn users_wanted(kind: ChannelKind, side: Side) -> u64
 /// Whether a channel has as many users at a side as its kind must have. `users` has the number of users of each channel.
 fn has_users(users: &[u8], channel: u32, kind: ChannelKind, side: Side) -> bool
     requires { channel < length users.now }
-    ensures { (modules : Items ModuleOf) → AreUsers modules side users.now → result ≡ has_users modules channel kind side }
+    ensures { (modules : Items ModuleOf) → AreUserCounts modules side users.now → result ≡ has_users modules channel kind side }
 {
     users[channel as usize] as u64 == users_wanted(kind, side)
 }
@@ -188,7 +188,7 @@ fn has_users(users: &[u8], channel: u32, kind: ChannelKind, side: Side) -> bool
 fn is_served(readers: &[u8], writers: &[u8], channel: u32, kind: ChannelKind) -> bool
     requires popped { channel < length readers.now }
     requires pushed { channel < length writers.now }
-    ensures { (modules : Items ModuleOf) → AreUsers modules Pop readers.now → AreUsers modules Push writers.now
+    ensures { (modules : Items ModuleOf) → AreUserCounts modules Pop readers.now → AreUserCounts modules Push writers.now
         → result ≡ is_served modules channel kind }
 {
     let popped = has_users(readers, channel, kind, Side::Pop);
@@ -201,7 +201,7 @@ fn first_unserved(readers: &[u8], writers: &[u8], channels: &[Channel]) -> Optio
     requires few { length channels.now ≤ 2 ^ 30 }
     requires popped { length readers.now ≡ length channels.now }
     requires pushed { length writers.now ≡ length channels.now }
-    ensures { (modules : Items ModuleOf) → AreUsers modules Pop readers.now → AreUsers modules Push writers.now
+    ensures { (modules : Items ModuleOf) → AreUserCounts modules Pop readers.now → AreUserCounts modules Push writers.now
         → result ≡ place_where (lacks_users modules) (enumerate_from 0 channels.now) }
 {
     for (at, channel) in channels.iter().enumerate() {

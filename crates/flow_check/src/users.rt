@@ -1,7 +1,7 @@
 //! How many modules use each channel at one side.
 ghost use Rattle.std.specs.Prelude.{◌≡◌, List as Items, cond, nat_eq, length, IfOk};
-ghost use Rattle.flow_design.specs.{declared.design.Module.Module as ModuleOf, StaticRules.same_port};
-ghost use Rattle.flow_check.specs.{Ports.has, Ports.HavePorts, Users.port_at, Users.AreCounted, Users.AreUsers};
+ghost use Rattle.flow_design.specs.{declared.design.Module.Module as ModuleOf, StaticRules.same_port, Operations.port_at};
+ghost use Rattle.flow_check.specs.{Ports.has, Ports.HavePorts, Users.AreCounted, Users.AreUserCounts};
 
 use flow_word::{OutOfMemory, Port, Side};
 use indexmap::IndexSet;
@@ -43,7 +43,7 @@ pub(crate) fn count_users(
     channels: usize,
 ) -> Result<Vec<u8>, OutOfMemory>
     ensures count { IfOk result (λ users. length users.items ≡ channels) }
-    ensures users { (modules : Items ModuleOf) → HavePorts all.now modules → IfOk result (λ users. AreUsers modules side users.items) }
+    ensures users { (modules : Items ModuleOf) → HavePorts all.now modules → IfOk result (λ users. AreUserCounts modules side users.items) }
 {
     let mut users = vec![in alloc; 0; channels]?;
     for ports in all {

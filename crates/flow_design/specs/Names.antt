@@ -2,6 +2,14 @@
 use Rattle.std.specs.Prelude.{ℕ, Bool, false, not, ◌&&◌, ◌||◌, ◌==◌, nat_le, List, [], ◌∷◌, length, codes}
 use Rattle.std.specs.{List.list_all, Char.is_ascii_alphabetic, Char.is_ascii_alphanumeric, Str.bytes_eq}
 
+-- a token of a text, as its bytes
+abbrev pub Token : Type 0
+Token = List ℕ
+
+-- a name, as its bytes
+abbrev pub Name : Type 0
+Name = List ℕ
+
 -- the byte is a letter, a digit or an underscore
 abbrev pub is_name_byte : ℕ → Bool
 is_name_byte c = is_ascii_alphanumeric c || (c == 95)

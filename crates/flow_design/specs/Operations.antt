@@ -1,22 +1,22 @@
 -- What an operation names: registers and temps, expressions, a memory, and the port of a channel at which it stands.
 use Rattle.std.specs.Prelude.{ℕ, if◌then◌else◌, List, [], ◌∷◌, Option, Some, None, option_and_then}
 use Rattle.std.specs.Option.{option_map}
-use Rattle.flow_word.specs.{declared.access.Kind.Kind, declared.access.Port.Port, Kinds.side_of, Kinds.is_taking}
+use Rattle.flow_word.specs.{declared.access.Kind.Kind, declared.access.Port.Port, Kinds.side_of, Kinds.is_taking, declared.access.Side.Side}
 use Rattle.flow_word.specs.declared.access.Kind.TheVariants as kind
 use Rattle.flow_design.specs.{declared.expr.Expr.Expr, declared.expr.Op.Op}
 use Rattle.flow_design.specs.declared.expr.Op.TheVariants.{Set, Load, Store, Read, Write, TryRead, TryWrite, Empty, Full}
 
 -- the registers and temps that an operation writes
-abbrev pub places_of : Op ℕ → List ℕ
-places_of (Set x e) = x ∷ []
-places_of (Load x n e) = x ∷ []
-places_of (Store n e a) = []
-places_of (Read f x) = x ∷ []
-places_of (Write f e) = []
-places_of (TryRead f x ok) = x ∷ ok ∷ []
-places_of (TryWrite f ok e) = ok ∷ []
-places_of (Empty f x) = x ∷ []
-places_of (Full f x) = x ∷ []
+abbrev pub places_written : Op ℕ → List ℕ
+places_written (Set x e) = x ∷ []
+places_written (Load x n e) = x ∷ []
+places_written (Store n e a) = []
+places_written (Read f x) = x ∷ []
+places_written (Write f e) = []
+places_written (TryRead f x ok) = x ∷ ok ∷ []
+places_written (TryWrite f ok e) = ok ∷ []
+places_written (Empty f x) = x ∷ []
+places_written (Full f x) = x ∷ []
 
 -- the expressions of an operation
 abbrev pub expressions_of : Op ℕ → List (Expr ℕ)
@@ -31,28 +31,28 @@ expressions_of (Empty f x) = []
 expressions_of (Full f x) = []
 
 -- the memory that an operation uses, if it uses one
-abbrev pub memory_of : Op ℕ → Option ℕ
-memory_of (Set x e) = None
-memory_of (Load x n e) = Some n
-memory_of (Store n e a) = Some n
-memory_of (Read f x) = None
-memory_of (Write f e) = None
-memory_of (TryRead f x ok) = None
-memory_of (TryWrite f ok e) = None
-memory_of (Empty f x) = None
-memory_of (Full f x) = None
+abbrev pub memory_used : Op ℕ → Option ℕ
+memory_used (Set x e) = None
+memory_used (Load x n e) = Some n
+memory_used (Store n e a) = Some n
+memory_used (Read f x) = None
+memory_used (Write f e) = None
+memory_used (TryRead f x ok) = None
+memory_used (TryWrite f ok e) = None
+memory_used (Empty f x) = None
+memory_used (Full f x) = None
 
 -- the kind and the channel of a FIFO operation; none for any other operation
-abbrev pub access_of : Op ℕ → Option (Kind × ℕ)
-access_of (Set x e) = None
-access_of (Load x n e) = None
-access_of (Store n e a) = None
-access_of (Read f x) = Some (kind.Read, f)
-access_of (Write f e) = Some (kind.Write, f)
-access_of (TryRead f x ok) = Some (kind.TryRead, f)
-access_of (TryWrite f ok e) = Some (kind.TryWrite, f)
-access_of (Empty f x) = Some (kind.Empty, f)
-access_of (Full f x) = Some (kind.Full, f)
+abbrev pub kind_and_channel : Op ℕ → Option (Kind × ℕ)
+kind_and_channel (Set x e) = None
+kind_and_channel (Load x n e) = None
+kind_and_channel (Store n e a) = None
+kind_and_channel (Read f x) = Some (kind.Read, f)
+kind_and_channel (Write f e) = Some (kind.Write, f)
+kind_and_channel (TryRead f x ok) = Some (kind.TryRead, f)
+kind_and_channel (TryWrite f ok e) = Some (kind.TryWrite, f)
+kind_and_channel (Empty f x) = Some (kind.Empty, f)
+kind_and_channel (Full f x) = Some (kind.Full, f)
 
 -- the port of an access of this kind
 abbrev pub port : Kind → ℕ → Port
@@ -65,8 +65,12 @@ taken_port k f = if is_taking k then Some (port k f) else None
 -- the port at which an operation stands: `read`, `tryread` and `empty` at the popping side, `write`, `trywrite` and `full` at the pushing
 -- side
 abbrev pub port_of : Op ℕ → Option Port
-port_of op = option_map (λ a. port a.0 a.1) (access_of op)
+port_of op = option_map (λ a. port a.0 a.1) (kind_and_channel op)
 
 -- the port at which an operation pops or pushes: only `read`, `tryread`, `write` and `trywrite` have one
 abbrev pub used_port : Op ℕ → Option Port
-used_port op = option_and_then (λ a. taken_port a.0 a.1) (access_of op)
+used_port op = option_and_then (λ a. taken_port a.0 a.1) (kind_and_channel op)
+
+-- this side of this channel
+abbrev pub port_at : Side → ℕ → Port
+port_at side c = record { side = side; channel = c }

@@ -6,5 +6,5 @@ abbrev pub window : ℕ → ℕ → List (List ℕ) → List (List ℕ)
 window first count rows = take count (drop first rows ++ take first rows)
 
 -- the place that lies `after` places after `first` in a ring of `len` places
-abbrev pub slot : ℕ → ℕ → ℕ → ℕ
-slot len first after = if nat_lt after (len - first) then first + after else after - (len - first)
+abbrev pub ring_place : ℕ → ℕ → ℕ → ℕ
+ring_place len first after = if nat_lt after (len - first) then first + after else after - (len - first)

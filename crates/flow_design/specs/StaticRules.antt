@@ -15,7 +15,7 @@ use Rattle.flow_design.specs.{Words.nodes, Words.depth, Module.interval, Names.i
 use Rattle.flow_design.specs.declared.design.BlockKind.TheVariants.{Plain, Loop}
 use Rattle.flow_design.specs.declared.design.Next.TheVariants.{Goto, Branch, Stop}
 use Rattle.flow_design.specs.declared.design.ChannelKind.TheVariants.{Source, Sink, Fifo}
-use Rattle.flow_design.specs.Operations.{places_of, expressions_of, memory_of, port_of, used_port}
+use Rattle.flow_design.specs.Operations.{places_written, expressions_of, memory_used, port_of, used_port}
 
 -- ---- ports
 
@@ -48,9 +48,9 @@ pub record IsExpressionSound (places : ℕ) (e : Expr ℕ) : Type 0 where
 
 -- all that an operation of module m names is there, in a design with this many channels and a body with this many temps
 pub record IsOperationSound (channels : ℕ) (m : Module) (temps : ℕ) (op : Op ℕ) : Type 0 where
-  pub places : All (λ x. x < length m.registers + temps) (places_of op)
+  pub places : All (λ x. x < length m.registers + temps) (places_written op)
   pub expressions : All (IsExpressionSound (length m.registers + temps)) (expressions_of op)
-  pub memory : IfSome (memory_of op) (λ n. n < length m.memories)
+  pub memory : IfSome (memory_used op) (λ n. n < length m.memories)
   pub channel : IfSome (port_of op) (λ a. a.channel < channels)
   -- `empty` may be asked only by the channel's reader, and `full` only by its writer
   pub side : IfSome (port_of op) (λ a. IsTrue (uses a m))

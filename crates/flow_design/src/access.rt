@@ -1,6 +1,6 @@
 //! Where an operation stands, and what it does there.
 ghost use Rattle.std.specs.Prelude.{◌≡◌};
-ghost use Rattle.flow_design.specs.Operations.{access_of, port_of, used_port};
+ghost use Rattle.flow_design.specs.Operations.{kind_and_channel, port_of, used_port};
 
 use crate::expr::Op;
 use flow_word::{Kind, Port};
@@ -8,7 +8,7 @@ use flow_word::{Kind, Port};
 impl Op<u32> {
     /// The kind and the channel of a FIFO operation. `None` for any other operation.
     pub fn access(&self) -> Option<(Kind, u32)>
-        ensures { result ≡ access_of self.now }
+        ensures { result ≡ kind_and_channel self.now }
     {
         match self {
             Op::Set(_, _) | Op::Load { .. } | Op::Store { .. } => None,

@@ -1,7 +1,7 @@
 //! The temps of the live iterations of a block.
 ghost use Rattle.std.specs.Prelude.{◌≡◌, ◌-◌, ◌+◌, ◌<◌, ◌≤◌, ◌++◌, ◌∷◌, [], length, drop, replicate, OnOk, OnErr, slice_index_or};
 ghost use Rattle.std.specs.Prelude.{slice_set};
-ghost use Rattle.flow_design.specs.Rings.{slot};
+ghost use Rattle.flow_design.specs.Rings.{ring_place};
 
 use crate::places::put_at;
 use flow_word::{List, OutOfMemory, Words};
@@ -128,7 +128,7 @@ impl LiveTemps {
 fn slot(len: u64, first: u64, after: u64) -> u64
     requires first { first ≤ len }
     requires after { after ≤ len }
-    ensures { result ≡ slot len first after }
+    ensures { result ≡ ring_place len first after }
 {
     let rest = len - first;
     if after < rest {

@@ -8,13 +8,14 @@ use Rattle.flow_design.specs.{declared.session.Statement.Statement, declared.des
 use Rattle.flow_design.specs.declared.session.Statement.TheVariants.{Block, Loop, At}
 use Rattle.flow_grammar.specs.declared.fault.Code.{Code}
 use Rattle.flow_grammar.specs.declared.fault.Code.TheVariants as code
-use Rattle.session_plan.specs.{Names.Scope, Numbered.timed, Plans.block, Plans.channel_names, Plans.len_of, Plans.module_of, Plans.plan_of}
-use Rattle.session_plan.specs.{Plans.scope_of, Sections.begins, Sections.declared, Sections.sections, declared.section.Level.Level}
+use Rattle.session_plan.specs.{Names.Scope, Numbered.timed, declared.section.Level.Level, Plans.block, Plans.channel_names, Plans.len_of}
+use Rattle.session_plan.specs.{Plans.plan_module, Plans.plan_of, Plans.scope_of, Sections.begins, Sections.declared, Sections.sections}
 use Rattle.session_plan.specs.declared.section.Level.TheVariants as level
 use Rattle.session_plan.specs.declared.section.Sort.TheVariants as sort
-use Rattle.flow_check.specs.{declared.item.Spot.TheVariants.Operation, Checked.at_line, Checked.fault_of, First.first_in, First.place_where}
+use Rattle.flow_check.specs.declared.item.Spot.TheVariants.{Operation}
+use Rattle.flow_check.specs.{Checked.fault_on_line, Checked.fault_of, First.first_in, First.place_where}
 use Rattle.flow_check.specs.Rules.{broken_by, checking_fault, in_module, is_too_late, spot, spot_in}
-use Rattle.flow_gen.specs.Generated.{drawn, session, session_of}
+use Rattle.flow_gen.specs.Generated.{drawn, session, generated_session}
 use Rattle.flow_gen.proofs.{Passing.checks, Passing.all_checked, Fitting.AllFit, Fitting.Fits, Fitting.IsPaced, Fitting.session_fits}
 
 abbrev Section : Type 0
@@ -72,13 +73,13 @@ offsets_kept m scope x p = ap (option_map Operation)
 -- a rule that each block keeps
 kept : (rule : Code) → ((m : Module) (scope : Scope) (x : Section) → IsSection level.Blocks x → spot Standard rule m (block scope x) ≡ None)
     → (ss : List Statement) → AllFit ss
-    → option_map in_module (first_in (spot_in Standard rule) (map (module_of (channel_names ss)) (sections level.Modules ss)))
+    → option_map in_module (first_in (spot_in Standard rule) (map (plan_module (channel_names ss)) (sections level.Modules ss)))
     ≡ None
-unfolding module_of
+unfolding plan_module
 kept rule keeps ss f =
-    ap (option_map in_module) (none_in level.Modules (spot_in Standard rule) (module_of (channel_names ss)) (sections level.Modules ss)
-    (λ x p. none_in level.Blocks (spot Standard rule (module_of (channel_names ss) x)) (block (scope_of (channel_names ss) x.1))
-    (sections level.Blocks x.1) (keeps (module_of (channel_names ss) x) (scope_of (channel_names ss) x.1))
+    ap (option_map in_module) (none_in level.Modules (spot_in Standard rule) (plan_module (channel_names ss)) (sections level.Modules ss)
+    (λ x p. none_in level.Blocks (spot Standard rule (plan_module (channel_names ss) x)) (block (scope_of (channel_names ss) x.1))
+    (sections level.Blocks x.1) (keeps (plan_module (channel_names ss) x) (scope_of (channel_names ss) x.1))
     (sections_fit level.Blocks x.1 p.2)) (sections_fit level.Modules ss f))
 
 -- ---- all rules
@@ -90,7 +91,7 @@ pub faultless : (seed modules : ℕ) → 1 ≤ modules → modules ≤ 64 → ch
 unfolding session checks checking_fault plan_of
 faultless seed zero some most = absurd (omega arith)
 faultless seed (suc n) some most =
-    let ss : List Statement = session_of (drawn seed) (suc n) in
+    let ss : List Statement = generated_session (drawn seed) (suc n) in
     let fits : AllFit ss = session_fits seed (suc n) in
     let names = and_parts _ _ (all_checked (drawn seed) n (omega arith)) in
     let limits = and_parts _ _ names.1 in let ends = and_parts _ _ limits.1 in let ports = and_parts _ _ ends.1 in
@@ -105,4 +106,4 @@ faultless seed (suc n) some most =
     ) refl
 
 pub checked : (seed modules : ℕ) (lines : List ℕ) → 1 ≤ modules → modules ≤ 64 → fault_of Standard (session seed modules) lines ≡ None
-checked seed modules lines some most = ap (option_map (at_line (session seed modules) lines)) (faultless seed modules some most)
+checked seed modules lines some most = ap (option_map (fault_on_line (session seed modules) lines)) (faultless seed modules some most)

@@ -5,7 +5,7 @@ use Rattle.std.proofs.{lemmas.Bool.and_from, lemmas.Bool.and_parts, lemmas.Bool.
 use Rattle.std.specs.{Prelude.max, Prelude.nat_le, Prelude.codes, List.AllByRecursion, List.list_all}
 use Rattle.flow_design.specs.declared.limits.TheConstants.{BLOCK_CLOCKS, EXPRESSION_DEPTH, EXPRESSION_NODES, FIFO_DEPTH, STANDARD}
 use Rattle.flow_design.specs.{declared.limits.Scale.TheVariants.Standard, declared.session.Statement.Statement, declared.expr.Expr.Expr}
-use Rattle.flow_design.specs.{declared.expr.BinOp.BinOp, Words.nodes, Words.depth, Words.layer_nodes, Words.layer_depth}
+use Rattle.flow_design.specs.{declared.expr.BinOp.BinOp, Words.nodes, Words.depth, Words.layer_nodes, Words.layer_depth, Names.Name}
 use Rattle.flow_design.specs.declared.session.Statement.TheVariants.{Flow, Source, Sink, Block, Loop, At, Input, End}
 use Rattle.flow_design.specs.declared.expr.Op.TheVariants.{Set, Write}
 use Rattle.flow_design.specs.declared.expr.Expr.TheVariants.{Number, Var, Binary}
@@ -14,8 +14,8 @@ use Rattle.flow_grammar.specs.{Operators.binary_word, Rules.is_in_range, Rules.i
 use Rattle.flow_grammar.specs.Parts.{Part, Word, Use, AVariable, plain, parts, expr_parts}
 use Rattle.flow_grammar.proofs.SpellingLaws.{parts_Number, parts_Var, parts_Binary}
 use Rattle.flow_grammar.proofs.Trees.{folded-Number, folded-Var, folded-Binary}
-use Rattle.flow_gen.specs.Generated.{Name, drawn, drawn_from, each, fifo_behind, first_clock, head_of, module_of, second_clock, session_of}
-use Rattle.flow_gen.specs.Generated.{state_after, values}
+use Rattle.flow_gen.specs.Generated.{drawn, drawn_from, each, fifo_behind, first_clock, head_of, module_statements, second_clock}
+use Rattle.flow_gen.specs.Generated.{generated_session, state_after, generated_values}
 use Rattle.flow_gen.specs.declared.draws.Drawn.{Drawn}
 use Rattle.flow_gen.proofs.Passing.{has_place, most_parts, seen, variables}
 
@@ -169,7 +169,7 @@ fifo_fits k d drawn =
     let sized = le-leb d.depth STANDARD.fifo_depth (omega (arith, drawn.few)) in
     (whole _ refl (λ e h. h) (and_from _ _ (and_from _ _ low high) refl) sized (omega arith) tt, tt)
 
-module_fits : (modules k : ℕ) (d : Drawn) → IsDrawn d → AllFit (module_of modules k d)
+module_fits : (modules k : ℕ) (d : Drawn) → IsDrawn d → AllFit (module_statements modules k d)
 unfolding head_of first_clock second_clock
 module_fits modules k d drawn =
     let at_least = le-leb 1 d.interval drawn.least in
@@ -215,8 +215,8 @@ module_fits modules k d drawn =
       ),
     )
 
-pub session_fits : (seed modules : ℕ) → AllFit (session_of (drawn seed) modules)
-unfolding values
+pub session_fits : (seed modules : ℕ) → AllFit (generated_session (drawn seed) modules)
+unfolding generated_values
 session_fits seed modules =
     let good : (k : ℕ) → IsDrawn (drawn seed k) = λ k. from_state (state_after seed (3 * k)) in
     both_fit (Flow 1 ∷ Source (codes "a") 32 ∷ Sink (codes "y") 32 ∷ []) _ (
@@ -228,6 +228,6 @@ session_fits seed modules =
     )
     (both_fit (each fifo_behind (drawn seed) (modules - 1)) _
     (each_fits fifo_behind (drawn seed) (modules - 1) (λ k. fifo_fits k (drawn seed k) (good k)))
-    (both_fit (each (module_of modules) (drawn seed) modules) (Input (codes "a") values ∷ End ∷ [])
-    (each_fits (module_of modules) (drawn seed) modules (λ k. module_fits modules k (drawn seed k) (good k)))
+    (both_fit (each (module_statements modules) (drawn seed) modules) (Input (codes "a") generated_values ∷ End ∷ [])
+    (each_fits (module_statements modules) (drawn seed) modules (λ k. module_fits modules k (drawn seed k) (good k)))
     (whole _ refl (λ e h. h) refl refl (omega arith) tt, (whole _ refl (λ e h. h) refl refl (omega arith) tt, tt))))

@@ -6,14 +6,14 @@ use Rattle.flow_design.specs.{declared.limits.TheConstants.STANDARD, declared.se
 use Rattle.flow_design.specs.declared.limits.Scale.TheVariants.{Standard}
 use Rattle.flow_design.specs.declared.session.Statement.TheVariants.{At, Input}
 use Rattle.flow_design.specs.declared.expr.Op.TheVariants as op
-use Rattle.flow_gen.specs.Generated.{each, first_clock, head_of, second_clock, session_of, values}
+use Rattle.flow_gen.specs.Generated.{each, first_clock, head_of, second_clock, generated_session, generated_values}
 use Rattle.flow_gen.specs.declared.draws.Drawn.{Drawn}
-use Rattle.flow_grammar.specs.{declared.fault.Code.Code, Tokens.is_name, Before.version, Before.operations, Places.may_follow}
+use Rattle.flow_grammar.specs.{declared.fault.Code.Code, Tokens.token_is_name, Before.version, Before.operations, Places.may_follow}
 use Rattle.flow_grammar.specs.Parts.{Part, Num, Use, AnyChannel, AVariable, parts}
-use Rattle.flow_grammar.specs.Rules.{is_well_named, fits_version, is_new, is_first_input, is_known, has_room, is_over}
+use Rattle.flow_grammar.specs.Rules.{is_well_named, fits_version, is_new, is_first_input, is_known, has_room, is_complete}
 use Rattle.flow_grammar.specs.declared.fault.Code.TheVariants as code
 use Rattle.flow_print.specs.Canonical.{token_of}
-use Rattle.session_plan.specs.Plans.{plan_of, module_of, block}
+use Rattle.session_plan.specs.Plans.{plan_of, plan_module, block}
 use Rattle.flow_check.specs.Rules.{broken_by}
 
 -- the parts of a statement, but for its expression the variables that may stand there
@@ -58,16 +58,17 @@ rules = code.UnknownName ∷ code.BadLimit ∷ code.Ends ∷ code.PortClash ∷ 
 module _ (draws : ℕ → Drawn) where
   unfoldable pub reads : ℕ → Bool
   reads n =
-      follow [] (session_of draws (suc n))
-      && (is_over (session_of draws (suc n)) && nat_le (sum_by (λ s. 65 * most_parts s + 1) (session_of draws (suc n))) STANDARD.text_bytes)
+      follow [] (generated_session draws (suc n))
+      && (is_complete (generated_session draws (suc n))
+      && nat_le (sum_by (λ s. 65 * most_parts s + 1) (generated_session draws (suc n))) STANDARD.text_bytes)
 
   unfoldable pub checks : ℕ → Bool
-  checks n = list_all (λ rule. not (is_some (broken_by Standard (plan_of Standard (session_of draws (suc n))) rule))) rules
+  checks n = list_all (λ rule. not (is_some (broken_by Standard (plan_of Standard (generated_session draws (suc n))) rule))) rules
 
   pub all_read : (n : ℕ) → n < 64 → reads n ≡ true
-  unfolding reads each head_of first_clock second_clock values digits is_name may_follow is_over
+  unfolding reads each head_of first_clock second_clock generated_values digits token_is_name may_follow is_complete
   all_read n below = agree_below_at reads (λ k. true) 64 n refl below
 
   pub all_checked : (n : ℕ) → n < 64 → checks n ≡ true
-  unfolding checks each head_of first_clock second_clock values digits plan_of module_of block
+  unfolding checks each head_of first_clock second_clock generated_values digits plan_of plan_module block
   all_checked n below = agree_below_at checks (λ k. true) 64 n refl below

@@ -10,9 +10,9 @@ use Rattle.flow_grammar.specs.{Parts.Part, Parts.Word, Parts.Num, Parts.parts, T
 use Rattle.flow_grammar.specs.Rules.{is_well_named, is_first_input, is_in_range, is_new, is_known, statement_fault, KeepsReadingRules}
 use Rattle.flow_grammar.specs.Rules.{KeepsRules}
 use Rattle.report_text.specs.Lines.{line, text_of_lines}
-use Rattle.flow_print.specs.Canonical.{token_of, tokens_of, written_parts, canonical_text}
+use Rattle.flow_print.specs.Canonical.{token_of, statement_tokens, written_parts, canonical_text}
 use Rattle.flow_print.proofs.{PartLemmas.written_pass, ReadBack.reads_back}
-use Rattle.flow_gen.specs.Generated.{drawn, session, session_of, session_text}
+use Rattle.flow_gen.specs.Generated.{drawn, session, generated_session, session_text}
 use Rattle.flow_gen.proofs.Passing.{is_brief, keeps, follow, most_parts, reads, all_read}
 use Rattle.flow_gen.proofs.Fitting.{Fits, AllFit, session_fits}
 
@@ -73,20 +73,20 @@ no_more : (s : Statement) → length (written_parts 1 s) ≤ length (parts s)
 no_more s = grind arith
 
 line_short : (earlier : List Statement) (s : Statement) → keeps earlier s ≡ true → Fits s
-    → length (line (tokens_of 1 s)) ≤ 65 * most_parts s + 1
+    → length (line (statement_tokens 1 s)) ≤ 65 * most_parts s + 1
 line_short earlier s h f =
     let brief = written_pass 1 is_brief s (f.covers is_brief (λ w short. short) (λ n below. refl) (and_parts _ _ h).0) in
     let short = tokens_short (written_parts 1 s) brief (written_pass 1 is_in_range s f.ranges) in
-    omega (arith, short, no_more s, f.few, length-append (join_with_byte 32 (tokens_of 1 s)) (10 ∷ []))
+    omega (arith, short, no_more s, f.few, length-append (join_with_byte 32 (statement_tokens 1 s)) (10 ∷ []))
 
 text_short : (earlier rest : List Statement) → follow earlier rest ≡ true → AllFit rest
-    → length (text_of_lines (map (tokens_of 1) rest)) ≤ sum_by (λ s. 65 * most_parts s + 1) rest
+    → length (text_of_lines (map (statement_tokens 1) rest)) ≤ sum_by (λ s. 65 * most_parts s + 1) rest
 text_short earlier [] h f = omega arith
 text_short earlier (s ∷ rest) h f =
     let own = line_short earlier s (and_parts _ _ h).0 f.0 in
     let later = text_short (s ∷ earlier) rest (and_parts _ _ h).1 f.1 in
-    rw (flat_map-cons line (tokens_of 1 s) (map (tokens_of 1) rest), sum_by-cons (λ s. 65 * most_parts s + 1) s rest)
-    (omega (arith, own, later, length-append (line (tokens_of 1 s)) (text_of_lines (map (tokens_of 1) rest))))
+    rw (flat_map-cons line (statement_tokens 1 s) (map (statement_tokens 1) rest), sum_by-cons (λ s. 65 * most_parts s + 1) s rest)
+    (omega (arith, own, later, length-append (line (statement_tokens 1 s)) (text_of_lines (map (statement_tokens 1) rest))))
 
 -- ---- the whole
 
@@ -94,8 +94,8 @@ pub kept : (seed modules : ℕ) → 1 ≤ modules → modules ≤ 64 → KeepsRe
 unfolding session reads
 kept seed zero some most = absurd (omega arith)
 kept seed (suc n) some most =
-    let tests = and_parts (follow [] (session_of (drawn seed) (suc n))) _ (all_read (drawn seed) n (omega arith)) in record {
-      each = each_keeps [] (session_of (drawn seed) (suc n)) tests.0 (session_fits seed (suc n));
+    let tests = and_parts (follow [] (generated_session (drawn seed) (suc n))) _ (all_read (drawn seed) n (omega arith)) in record {
+      each = each_keeps [] (generated_session (drawn seed) (suc n)) tests.0 (session_fits seed (suc n));
       over = (and_parts _ _ tests.1).0;
     }
 
@@ -103,7 +103,7 @@ short : (seed modules : ℕ) → 1 ≤ modules → modules ≤ 64 → length (se
 unfolding session reads canonical_text
 short seed zero some most = absurd (omega arith)
 short seed (suc n) some most =
-    let ss : List Statement = session_of (drawn seed) (suc n) in
+    let ss : List Statement = generated_session (drawn seed) (suc n) in
     let tests = and_parts (follow [] ss) _ (all_read (drawn seed) n (omega arith)) in
     let few : sum_by (λ s. 65 * most_parts s + 1) ss ≤ STANDARD.text_bytes = leb-true _ STANDARD.text_bytes (and_parts _ _ tests.1).1 in
     omega (arith, few, text_short [] ss tests.0 (session_fits seed (suc n)))

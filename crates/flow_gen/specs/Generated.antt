@@ -4,7 +4,7 @@ use Rattle.std.specs.List.{range_with_len}
 use Rattle.flow_design.specs.declared.expr.Expr.TheVariants.{Number, Var, Binary}
 use Rattle.flow_design.specs.declared.expr.BinOp.TheVariants.{Add, LtU}
 use Rattle.flow_design.specs.declared.expr.Op.TheVariants.{Set, Read, Write, Full}
-use Rattle.flow_design.specs.declared.session.Statement.{Statement}
+use Rattle.flow_design.specs.{declared.session.Statement.Statement, Names.Name}
 use Rattle.flow_design.specs.declared.session.Statement.TheVariants.{Flow, Source, Sink, Fifo, Module, Reg, Loop, At, Stop, Input, End}
 use Rattle.flow_gen.specs.declared.draws.Drawn.{Drawn}
 use Rattle.flow_print.specs.Canonical.{canonical_text}
@@ -34,18 +34,15 @@ drawn seed k = drawn_from (state_after seed (3 * k))
 
 -- ---- names
 
-abbrev pub Name : Type 0
-Name = List ℕ
-
 abbrev pub fifo_name : ℕ → Name
 fifo_name k = codes "f" ++ decimal k
 
-abbrev pub module_name : ℕ → Name
-module_name k = codes "m" ++ decimal k
+abbrev pub generated_name : ℕ → Name
+generated_name k = codes "m" ++ decimal k
 
 -- the channel that module k pops: the first module pops the source, and each other one the FIFO before it
-abbrev pub input_of : ℕ → Name
-input_of k = if k == 0 then codes "a" else fifo_name k
+abbrev pub input_channel : ℕ → Name
+input_channel k = if k == 0 then codes "a" else fifo_name k
 
 -- the channel that module k pushes: the last module pushes the sink, and each other one the FIFO after it
 abbrev pub output_of : ℕ → ℕ → Name
@@ -78,10 +75,10 @@ second_clock output addend =
     At 1 None (Write output (Binary Add (Var (codes "x")) (Binary Add (Number addend) (Var (codes "e"))))) ∷ Stop ∷ []
 
 -- the statements of module k of a session with this many modules
-abbrev pub module_of : ℕ → ℕ → Drawn → List Statement
-module_of modules k drawn =
-    head_of (module_name k) drawn.interval
-    ++ (first_clock (input_of k) (output_of modules k) ++ second_clock (output_of modules k) drawn.addend)
+abbrev pub module_statements : ℕ → ℕ → Drawn → List Statement
+module_statements modules k drawn =
+    head_of (generated_name k) drawn.interval
+    ++ (first_clock (input_channel k) (output_of modules k) ++ second_clock (output_of modules k) drawn.addend)
 
 -- the statements for each of the first n modules, with their draws
 unfoldable pub each : (ℕ → Drawn → List Statement) → (ℕ → Drawn) → ℕ → List Statement
@@ -89,18 +86,19 @@ each statements draws zero = []
 each statements draws (suc n) = each statements draws n ++ statements n (draws n)
 
 -- the values of the source: the numbers from 0 to 999
-unfoldable pub values : List ℕ
-values = range_with_len 0 1000
+unfoldable pub generated_values : List ℕ
+generated_values = range_with_len 0 1000
 
 -- the session whose modules have these draws: there is a FIFO after each module but the last
-abbrev pub session_of : (ℕ → Drawn) → ℕ → List Statement
-session_of draws modules =
+abbrev pub generated_session : (ℕ → Drawn) → ℕ → List Statement
+generated_session draws modules =
     (Flow 1 ∷ Source (codes "a") 32 ∷ Sink (codes "y") 32 ∷ [])
-    ++ (each fifo_behind draws (modules - 1) ++ (each (module_of modules) draws modules ++ Input (codes "a") values ∷ End ∷ []))
+    ++ (each fifo_behind draws (modules - 1)
+    ++ (each (module_statements modules) draws modules ++ Input (codes "a") generated_values ∷ End ∷ []))
 
 -- the session with this many modules that a seed gives; and then, its text
 unfoldable pub session : ℕ → ℕ → List Statement
-session seed modules = session_of (drawn seed) modules
+session seed modules = generated_session (drawn seed) modules
 
 abbrev pub session_text : ℕ → ℕ → List ℕ
 session_text seed modules = canonical_text (session seed modules)

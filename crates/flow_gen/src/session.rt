@@ -1,8 +1,8 @@
 //! The statements of the generated session.
 ghost use Rattle.std.specs.Prelude.{◌≡◌, ◌++◌, ◌≤◌, ◌<◌, IfOk, OnOk};
 ghost use Rattle.flow_design.specs.declared.limits.TheConstants.{STANDARD};
-ghost use Rattle.flow_gen.specs.Generated.{drawn, each, fifo_behind, fifo_name, first_clock, head_of, input_of, module_name, module_of};
-ghost use Rattle.flow_gen.specs.Generated.{output_of, second_clock, session, values as values_given};
+ghost use Rattle.flow_gen.specs.Generated.{drawn, each, fifo_behind, fifo_name, first_clock, head_of, input_channel, generated_name};
+ghost use Rattle.flow_gen.specs.Generated.{module_statements, output_of, second_clock, session, generated_values};
 
 use crate::draws::{Drawn, draw_module};
 use flow_design::{BinOp, Expr, Name, Op, Session, Statement};
@@ -60,7 +60,7 @@ impl Maker {
     fn push_modules(&mut self, seed: u64, modules: u64) -> Result<(), OutOfMemory>
         requires seed { seed ≤ 65_535 }
         requires most { modules ≤ STANDARD.modules }
-        ensures { OnOk result (self.new.statements ≡ self.old.statements ++ each (module_of modules) (drawn seed) modules) }
+        ensures { OnOk result (self.new.statements ≡ self.old.statements ++ each (module_statements modules) (drawn seed) modules) }
     {
         let mut state = seed;
         for k in 0..modules {
@@ -85,7 +85,7 @@ impl Maker {
 
     fn push_module(&mut self, modules: u64, k: u64, drawn: Drawn) -> Result<(), OutOfMemory>
         requires { k < STANDARD.modules }
-        ensures { OnOk result (self.new.statements ≡ self.old.statements ++ module_of modules k drawn) }
+        ensures { OnOk result (self.new.statements ≡ self.old.statements ++ module_statements modules k drawn) }
     {
         self.push_head(k, u64::from(drawn.interval))?;
         let (input, output) = (input_of(self.alloc, k)?, output_of(self.alloc, modules, k)?);
@@ -98,7 +98,7 @@ impl Maker {
     #[tactic(auto, unfolding(crate::specs::Generated::head_of))]
     fn push_head(&mut self, k: u64, interval: u64) -> Result<(), OutOfMemory>
         requires { interval ≤ 255 }
-        ensures { OnOk result (self.new.statements ≡ self.old.statements ++ head_of (module_name k) interval) }
+        ensures { OnOk result (self.new.statements ≡ self.old.statements ++ head_of (generated_name k) interval) }
     {
         self.statements
             .push(Statement::Module(module_name(self.alloc, k)?))?;
@@ -176,7 +176,7 @@ impl Maker {
 
 /// The channel that module k pops: the source, or the FIFO before it.
 fn input_of(alloc: Global, k: u64) -> Result<Name, OutOfMemory>
-    ensures { IfOk result (λ name. name ≡ input_of k) }
+    ensures { IfOk result (λ name. name ≡ input_channel k) }
 {
     if k == 0 {
         Name::new(alloc, b"a")
@@ -204,7 +204,7 @@ fn fifo_name(alloc: Global, k: u64) -> Result<Name, OutOfMemory>
 }
 
 fn module_name(alloc: Global, k: u64) -> Result<Name, OutOfMemory>
-    ensures { IfOk result (λ name. name ≡ module_name k) }
+    ensures { IfOk result (λ name. name ≡ generated_name k) }
 {
     Name::new(alloc, format!(in alloc; "m{k}")?.as_bytes())
 }
@@ -234,9 +234,9 @@ fn width(bits: u64) -> Width
 }
 
 /// The values of the source: the numbers from 0 to 999.
-#[tactic(auto, using(crate::proofs::Steps::range_more), unfolding(crate::specs::Generated::values))]
+#[tactic(auto, using(crate::proofs::Steps::range_more), unfolding(crate::specs::Generated::generated_values))]
 fn values(alloc: Global) -> Result<Words, OutOfMemory>
-    ensures { IfOk result (λ words. words ≡ values_given) }
+    ensures { IfOk result (λ words. words ≡ generated_values) }
 {
     let mut words = List::new(alloc);
     for value in 0..VALUES {

@@ -4,7 +4,7 @@ use Rattle.std.proofs.{lemmas.Bool.Decides.nat_tests, lemmas.List.Folds.list_all
 use Rattle.std.specs.{Prelude.◌&&◌, Prelude.nat_le, Prelude.nat_lt, List.list_all}
 use Rattle.flow_design.specs.{declared.expr.Expr.Expr, declared.expr.Expr.TheVariants.Unary, declared.expr.UnOp.UnOp}
 use Rattle.flow_design.specs.{declared.expr.UnOp.TheVariants.Not, Words.nodes, Words.depth}
-use Rattle.flow_grammar.specs.{Parts.expr_parts, Rules.is_in_range, Operands.seen, Operands.kept, Operands.is_known_by}
+use Rattle.flow_grammar.specs.{Parts.expr_parts, Rules.is_in_range, Operands.operand_seen, Operands.operand_kept, Operands.is_known_by}
 use Rattle.flow_grammar.proofs.Induction.{by_cases}
 use Rattle.flow_grammar.proofs.Trees.{folded-Number, folded-Var, folded-Unary, folded-Binary, folded-Sext, folded-Pick}
 use Rattle.flow_grammar.proofs.SpellingLaws.{parts_Number, parts_Var, parts_Unary, parts_Binary, parts_Sext, parts_Pick}
@@ -21,14 +21,14 @@ module _ (known : List ℕ → Bool) where
   familiar e = list_all (is_known_by known) (expr_parts e)
 
   abbrev Told : Expr (List ℕ) → Type 0
-  Told e = seen known e ≡ verdict (ranged e) (familiar e) e (nodes e) (depth e)
+  Told e = operand_seen known e ≡ verdict (ranged e) (familiar e) e (nodes e) (depth e)
 
   told_unary : (o : UnOp) (a : Expr (List ℕ)) → Told a → Told (Unary o a)
-  unfolding nodes depth seen
+  unfolding nodes depth operand_seen
   told_unary Not a h = simp (folded-Unary, h, verdict_one, parts_Unary)
 
   told : (e : Expr (List ℕ)) → Told e
-  unfolding nodes depth seen
+  unfolding nodes depth operand_seen
   told = by_cases (List ℕ) Told (record {
     number = λ n. simp (parts_Number, folded-Number, word_test);
     var = λ x. simp (parts_Var, folded-Var) (grind arith);
@@ -38,9 +38,9 @@ module _ (known : List ℕ → Bool) where
     pick = λ a b c h k l. simp (folded-Pick, h, k, l, verdict_pick, parts_Pick, list_all-append);
   })
 
-  pub kept_of : (e : Expr (List ℕ)) → seen known e ≡ kept known e
-  unfolding kept
+  pub kept_of : (e : Expr (List ℕ)) → operand_seen known e ≡ operand_kept known e
+  unfolding operand_kept
   kept_of e = told e ∙ grind arith
 
-  pub kept_all : seen known ≡ kept known
+  pub kept_all : operand_seen known ≡ operand_kept known
   kept_all = λ i e. kept_of e i

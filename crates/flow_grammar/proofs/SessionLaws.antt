@@ -4,11 +4,11 @@ use Rattle.std.proofs.Common.{◌∙◌, append_assoc, inl, inr, arith}
 use Rattle.std.proofs.{lemmas.List.append-nil, lemmas.List.Kept.AllPairs-cons, lemmas.Bool.or_right, lemmas.Bool.and_from}
 use Rattle.std.proofs.lemmas.List.Elements.{All-nil, All-cons}
 use Rattle.std.specs.{Prelude.slice_get, Prelude.reverse, Prelude.◌||◌, Prelude.◌==◌, List.list_all, List.All, List.AllPairs}
-use Rattle.flow_design.specs.{declared.limits.Scale.Scale, declared.session.Statement.Statement}
+use Rattle.flow_design.specs.{declared.limits.Scale.Scale, declared.session.Statement.Statement, Names.Token, Names.Name}
 use Rattle.flow_design.specs.declared.session.Statement.TheVariants.{Fifo}
-use Rattle.flow_grammar.specs.Tokens.{Line, Token, is_name, lines_of, tokens_of}
+use Rattle.flow_grammar.specs.Tokens.{Line, token_is_name, lines_of, tokens_of}
 use Rattle.flow_grammar.specs.{Before.version, Before.has_delays, Text.statements_among, Text.numbers_among, Text.StandsFor}
-use Rattle.flow_grammar.specs.Parts.{Name, Part, Word, Num, parts, bare_parts, depth_parts, fifo_parts, default_delay}
+use Rattle.flow_grammar.specs.Parts.{Part, Word, Num, parts, bare_parts, depth_parts, fifo_parts, default_delay}
 use Rattle.flow_grammar.specs.Spelling.{Spells, Spelled, WritesFifo, Writes}
 use Rattle.flow_grammar.specs.Rules.{is_well_named, fits_version, KeepsRules, KeepsReadingRules}
 use Rattle.flow_grammar.proofs.TextLaws.{Words, InOrderFrom, ordered}
@@ -18,7 +18,7 @@ use Rattle.flow_grammar.proofs.TextLaws.{Words, InOrderFrom, ordered}
 spelled_named : (t : Token) (p : Part) → Spells t p → is_well_named p ≡ true
 spelled_named t (Word w) s = refl
 spelled_named t (Num least most n) s = refl
-spelled_named t name s = subst (λ (x : Token). is_name x ≡ true) s.1 s.0
+spelled_named t name s = subst (λ (x : Token). token_is_name x ≡ true) s.1 s.0
 
 all_named : (ts : List Token) (ps : List Part) → Spelled ts ps → list_all is_well_named ps ≡ true
 all_named [] [] s = refl

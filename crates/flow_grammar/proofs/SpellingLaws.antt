@@ -8,20 +8,19 @@ use Rattle.std.specs.Prelude.{◌⊎◌, codes, ◌==◌, ◌&&◌, ◌||◌}
 use Rattle.std.specs.{List.find, List.list_all, Option.option_and_then, Char.is_ascii_digit, Char.is_ascii_alphabetic}
 use Rattle.flow_grammar.proofs.Induction.{by_cases}
 use Rattle.flow_grammar.proofs.Trees.{folded-Number, folded-Var, folded-Unary, folded-Binary, folded-Sext, folded-Pick}
-use Rattle.flow_grammar.specs.Parts.{Word, New, Label, Num, Use, AVariable, Part, expr_parts, layer_parts, Name, parts, bare_parts}
-use Rattle.flow_grammar.specs.Parts.{depth_parts, fifo_parts, op_parts, guard_parts, plain, default_depth, default_delay}
+use Rattle.flow_grammar.specs.Parts.{Word, New, Label, Num, Use, AVariable, Part, expr_parts, layer_parts, parts, bare_parts, depth_parts}
+use Rattle.flow_grammar.specs.Parts.{fifo_parts, op_parts, guard_parts, plain, default_depth, default_delay}
 use Rattle.flow_grammar.specs.{declared.operator.Operator.Operator, declared.keyword.Keyword.Keyword, declared.keyword.Verb.Verb}
-use Rattle.flow_grammar.specs.{Operators.operator_word, Operators.operators, Operators.operator_of, Before.has_delays}
+use Rattle.flow_grammar.specs.{Operators.operator_word, Operators.operators, Operators.operator_of, Before.has_delays, Tokens.is_word}
+use Rattle.flow_grammar.specs.{Tokens.is_number, Tokens.token_is_name, Tokens.number_of, Spelling.Spelled, Spelling.Spells, Spelling.Writes}
+use Rattle.flow_grammar.specs.{Spelling.WritesFifo, Trees.Trees, Trees.trees_of, Trees.with_token, Trees.applied, Trees.applied_if}
 use Rattle.flow_grammar.specs.declared.operator.Operator.TheVariants.{One, Two, Extend, Choose}
-use Rattle.flow_grammar.specs.Tokens.{is_word, is_number, is_name, number_of, Token}
 use Rattle.flow_grammar.specs.Keywords.{keyword_word, keywords, keyword_of, verb_word, verbs, verb_of}
-use Rattle.flow_grammar.specs.Spelling.{Spelled, Spells, Writes, WritesFifo}
-use Rattle.flow_grammar.specs.Trees.{Trees, trees_of, with_token, applied, applied_if}
 use Rattle.flow_grammar.specs.Forms.{statement_of, flow_of, fifo_of, mem_of, loop_of, at_of, branch_of, input_of, limits_of, op_of, form_of}
 use Rattle.flow_grammar.specs.Forms.{form_if, op_form_of, op_form_if}
 use Rattle.flow_design.specs.{declared.expr.Expr.Expr, declared.expr.Expr.TheOpen.Expr-F, declared.expr.UnOp.UnOp}
 use Rattle.flow_design.specs.{declared.expr.UnOp.TheVariants.Not, declared.expr.BinOp.BinOp, declared.expr.BinOp.TheVariants.Add}
-use Rattle.flow_design.specs.{declared.expr.Op.Op, declared.session.Statement.Statement}
+use Rattle.flow_design.specs.{declared.expr.Op.Op, declared.session.Statement.Statement, Names.Name, Names.Token}
 use Rattle.flow_design.specs.declared.expr.Expr.TheVariants.{Number, Var, Unary, Binary, Sext, Pick}
 use Rattle.flow_design.specs.declared.session.Statement.TheVariants.{Fifo, At, Input}
 use Rattle.flow_design.specs.declared.expr.Op.TheVariants as op
@@ -121,9 +120,9 @@ module _ (p q : Part → Bool) (words : (w : List ℕ) → p (Word w) ≡ q (Wor
 -- the tokens spell the parts, as a test
 abbrev spells : Token → Part → Bool
 spells t (Word w) = is_word t w
-spells t (New space n) = is_name t && is_word t n
-spells t (Use sort n) = is_name t && is_word t n
-spells t (Label n) = is_name t && is_word t n
+spells t (New space n) = token_is_name t && is_word t n
+spells t (Use sort n) = token_is_name t && is_word t n
+spells t (Label n) = token_is_name t && is_word t n
 spells t (Num least most n) = is_number t && (number_of t == n)
 
 abbrev spelled : List Token → List Part → Bool
@@ -159,10 +158,10 @@ same_word : (t : Token) → is_word t t ≡ true
 same_word t = (bytes_eq-Decides t t).1 refl
 
 abbrev operator_token : Operator → List ℕ → Type 0
-operator_token o t = (operator_of t ≡ Some o) × (is_number t ≡ false) × (is_name t ≡ false)
+operator_token o t = (operator_of t ≡ Some o) × (is_number t ≡ false) × (token_is_name t ≡ false)
 
 token_is : (o : Operator) → operator_token o (operator_word o)
-unfolding operator_of is_number is_name
+unfolding operator_of is_number token_is_name
 token_is (Two Add) = (refl, refl, refl)
 token_is (Two o) = (refl, refl, refl)
 token_is (One Not) = (refl, refl, refl)
@@ -171,8 +170,8 @@ token_is o = (refl, refl, refl)
 letter_is_no_digit : (b : ℕ) → is_ascii_alphabetic b || (b == 95) ≡ true → is_ascii_digit b ≡ false
 letter_is_no_digit b h = grind (arith, nat_tests)
 
-name_is_no_number : (t : List ℕ) → is_name t ≡ true → is_number t ≡ false
-unfolding is_name is_number
+name_is_no_number : (t : List ℕ) → token_is_name t ≡ true → is_number t ≡ false
+unfolding token_is_name is_number
 name_is_no_number [] h = refl
 name_is_no_number (b ∷ bs) h = rw (letter_is_no_digit b (and_parts _ _ h).0) refl
 
@@ -313,7 +312,7 @@ token_told t behind found es e s h = by (operator_of t) refl h
   where
     by : (o : Option Operator) → operator_of t ≡ o
         → cond (is_number t) (Some (Number (number_of t) ∷ found))
-        (cond (is_name t) (Some (Var t ∷ found)) (applied_if o behind found)) ≡ Some es
+        (cond (token_is_name t) (Some (Var t ∷ found)) (applied_if o behind found)) ≡ Some es
         → spelled (t ∷ behind) (all_parts es) ≡ true
     by None is q = grind (arith, nat_tests, parts_Number, parts_Var, same_word)
     by (Some o) is q =

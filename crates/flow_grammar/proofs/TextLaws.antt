@@ -4,14 +4,14 @@ use Rattle.std.proofs.Common.{zero, suc, ◌+◌, ◌≤◌, ◌<◌, ◌++◌, 
 use Rattle.std.proofs.{lemmas.List.append-nil, lemmas.Bool.cases_lt, lemmas.Bool.cond_both}
 use Rattle.std.specs.{Prelude.reverse, List.list_all}
 use Rattle.flow_design.specs.declared.session.Statement.{Statement}
-use Rattle.flow_design.specs.{declared.limits.Scale.Scale, Limits.limits_at, declared.session.Session.Session}
+use Rattle.flow_design.specs.{declared.limits.Scale.Scale, Limits.limits_at, declared.session.Session.Session, Names.Token}
 use Rattle.flow_grammar.specs.{declared.fault.Code.Code, Before.version, Forms.statement_of, Spelling.Writes, Places.may_follow}
-use Rattle.flow_grammar.specs.{Rules.statement_fault, Rules.is_over, declared.fault.TextFault.TextFault, declared.fault.ReadFail.ReadFail}
+use Rattle.flow_grammar.specs.{Rules.statement_fault, Rules.is_complete, declared.fault.TextFault.TextFault}
+use Rattle.flow_grammar.specs.{declared.fault.ReadFail.ReadFail, Tokens.Line, Tokens.tokens_of, Tokens.is_permitted, Tokens.lines_of}
 use Rattle.flow_grammar.specs.declared.fault.Code.TheVariants.{NotAscii, Syntax, Truncated, TooLong}
-use Rattle.flow_grammar.specs.Tokens.{Line, Token, tokens_of, is_permitted, lines_of}
 use Rattle.flow_grammar.specs.Line.{form_fault, tokens_fault, statement_in, line_fault}
-use Rattle.flow_grammar.specs.Text.{IsInOrder, IsNoStatement, BreaksRule, Fails, statements_among, numbers_among, AreInOrder, FailsFirst}
-use Rattle.flow_grammar.specs.Text.{HasNoEnd, StandsFor, HasFault, IsAnswer, Answers, session_of, Said}
+use Rattle.flow_grammar.specs.Text.{IsInOrder, IsNoStatement, BreaksRule, Fails, statements_among, numbers_among, LinesAreInOrder}
+use Rattle.flow_grammar.specs.Text.{FailsFirst, HasNoEnd, StandsFor, HasFault, IsAnswer, ReadsAs, session_of, Said}
 use Rattle.flow_grammar.specs.Gives.{◌>>=◌, Read, reading, at_line, judged, line_reading, with_statement, in_front, ended, TextGives}
 use Rattle.flow_grammar.proofs.SpellingLaws.{written_is_read, read_is_written}
 use Rattle.flow_grammar.specs.declared.fault.ReadFail.TheVariants as fails
@@ -166,10 +166,10 @@ order_from scale front (line ∷ lines) (o ∷ said) e each = (
 )
 order_from scale front lines said e each = absurd (omega arith)
 
-pub ordered : (scale : Scale) (lines : List Line) (said : Words) → AreInOrder scale lines said → InOrderFrom scale [] lines said
+pub ordered : (scale : Scale) (lines : List Line) (said : Words) → LinesAreInOrder scale lines said → InOrderFrom scale [] lines said
 ordered scale lines said p = order_from scale [] lines said p.count p.each
 
-pub in_order_of : (scale : Scale) (lines : List Line) (said : Words) → InOrderFrom scale [] lines said → AreInOrder scale lines said
+pub in_order_of : (scale : Scale) (lines : List Line) (said : Words) → InOrderFrom scale [] lines said → LinesAreInOrder scale lines said
 in_order_of scale lines said p = record { count = same_length scale [] lines said p; each = each_of scale [] lines said p }
 
 -- ---- what is told of the lines behind some statements
@@ -179,7 +179,7 @@ record Stands (scale : Scale) (front : List Statement) (n : ℕ) (lines : List L
   in_order : InOrderFrom scale front lines said
   statements_are : r.0 ≡ statements_among said
   numbers_are : r.1 ≡ numbers_among (n + 1) said
-  over : is_over (front ++ statements_among said) ≡ true
+  over : is_complete (front ++ statements_among said) ≡ true
 
 record FailsFrom (scale : Scale) (front : List Statement) (n : ℕ) (lines : List Line) (fault : TextFault) : Type 0 where
   said : Words
@@ -191,7 +191,7 @@ record FailsFrom (scale : Scale) (front : List Statement) (n : ℕ) (lines : Lis
 record CutFrom (scale : Scale) (front : List Statement) (n : ℕ) (lines : List Line) (fault : TextFault) : Type 0 where
   said : Words
   in_order : InOrderFrom scale front lines said
-  not_over : is_over (front ++ statements_among said) ≡ false
+  not_over : is_complete (front ++ statements_among said) ≡ false
   code : fault.code ≡ Truncated
   line : fault.line ≡ n + length lines
 
@@ -201,7 +201,8 @@ Tells scale front n lines (Err fault) = FailsFrom scale front n lines fault ⊎ 
 
 -- ---- reading tells it
 
-tells_end : (scale : Scale) (front : List Statement) (n : ℕ) (over : Bool) → is_over front ≡ over → Tells scale front n [] (ended over n)
+tells_end : (scale : Scale) (front : List Statement) (n : ℕ) (over : Bool) → is_complete front ≡ over
+    → Tells scale front n [] (ended over n)
 unfolding Tells InOrderFrom
 tells_end scale front n true h =
     record { said = []; in_order = tt; statements_are = refl; numbers_are = refl; over = rw (append-nil front) h }
@@ -213,8 +214,9 @@ module _ (scale : Scale) (front : List Statement) (n : ℕ) (line : Line) (lines
   abbrev next : List Statement
   next = with_statement front s
 
-  over_more : (b : Bool) (said : Words) → is_over (next ++ statements_among said) ≡ b → is_over (front ++ statements_among (s ∷ said)) ≡ b
-  over_more b said h = sym (ap is_over (among_more front s said)) ∙ h
+  over_more : (b : Bool) (said : Words) → is_complete (next ++ statements_among said) ≡ b
+      → is_complete (front ++ statements_among (s ∷ said)) ≡ b
+  over_more b said h = sym (ap is_complete (among_more front s said)) ∙ h
 
   firsts : (o : Option Statement) (r : Read) (said : Words) → r.0 ≡ statements_among said
       → (in_front (n + 1) o r).0 ≡ statements_among (o ∷ said)
@@ -282,7 +284,7 @@ tells_line scale front n line lines (Some code) h rest = inl (record {
 
 tells : (scale : Scale) (front : List Statement) (n : ℕ) (lines : List Line) → Tells scale front n lines (reading scale front n lines)
 unfolding reading line_reading
-tells scale front n [] = tells_end scale front n (is_over front) refl
+tells scale front n [] = tells_end scale front n (is_complete front) refl
 tells scale front n (line ∷ lines) =
     tells_line scale front n line lines (line_fault scale front line) refl
     (tells scale (with_statement front (statement_in front line)) (n + 1) lines)
@@ -304,20 +306,20 @@ bad fault = Err fault
 same_read : (r : Read) (s : List Statement) (l : List ℕ) → r.0 ≡ s → r.1 ≡ l → good r ≡ good (s, l)
 same_read r s l e f = λ i. Ok (e i, f i)
 
-end_reads : (scale : Scale) (front : List Statement) (n : ℕ) (over : Bool) → is_over (front ++ []) ≡ over
+end_reads : (scale : Scale) (front : List Statement) (n : ℕ) (over : Bool) → is_complete (front ++ []) ≡ over
     → reading scale front n [] ≡ ended over n
 unfolding reading
 end_reads scale front n over h = let o = rw (append-nil front) at h in rw o refl
 
 stands_only : (scale : Scale) (front : List Statement) (n : ℕ) (lines : List Line) (said : Words) → InOrderFrom scale front lines said
-    → is_over (front ++ statements_among said) ≡ true
+    → is_complete (front ++ statements_among said) ≡ true
     → reading scale front n lines ≡ Ok (statements_among said, numbers_among (n + 1) said)
 unfolding InOrderFrom
 stands_only scale front n [] [] p over = end_reads scale front n true over
 stands_only scale front n (line ∷ lines) (o ∷ said) p over =
     goes_on scale front n line lines o p.0
     ∙ ap (λ (read : Result Read TextFault). read >>= λ r. Ok (in_front (n + 1) o r))
-    (stands_only scale (with_statement front o) (n + 1) lines said p.1 (ap is_over (among_more front o said) ∙ over))
+    (stands_only scale (with_statement front o) (n + 1) lines said p.1 (ap is_complete (among_more front o said) ∙ over))
     ∙ put o
   where
     put : (x : Option Statement)
@@ -360,14 +362,14 @@ fails_only scale front n (line ∷ lines) fault (o ∷ said) l p f e =
 
 cut_only : (scale : Scale) (front : List Statement) (n : ℕ) (lines : List Line) (fault : TextFault) (said : Words)
     → InOrderFrom scale front lines said
-    → is_over (front ++ statements_among said) ≡ false
+    → is_complete (front ++ statements_among said) ≡ false
     → fault.code ≡ Truncated → fault.line ≡ n + length lines → reading scale front n lines ≡ Err fault
 unfolding InOrderFrom
 cut_only scale front n [] fault [] p over c e = end_reads scale front n false over ∙ err_is fault n Truncated (omega arith) c
 cut_only scale front n (line ∷ lines) fault (o ∷ said) p over c e =
     goes_on scale front n line lines o p.0
     ∙ ap (λ (read : Result Read TextFault). read >>= λ r. Ok (in_front (n + 1) o r))
-    (cut_only scale (with_statement front o) (n + 1) lines fault said p.1 (ap is_over (among_more front o said) ∙ over) c (omega arith))
+    (cut_only scale (with_statement front o) (n + 1) lines fault said p.1 (ap is_complete (among_more front o said) ∙ over) c (omega arith))
 cut_only scale front n lines fault said p over c e = absurd p
 
 -- ---- texts
@@ -463,17 +465,17 @@ answer_given scale text (Err (fails.Text fault)) short h = answer_of_lines scale
 -- an answer is the one answer
 pub only_answer : (scale : Scale) (text : List ℕ) (result : Result Read ReadFail) (wanted : Result Read TextFault)
     → IsAnswer scale text result → Said scale text wanted
-    → Answers result wanted
+    → ReadsAs result wanted
 only_answer scale text (Ok r) wanted a p = same_answer scale text wanted (Ok r) p a
 only_answer scale text (Err fails.OutOfMemory) wanted a p = tt
 only_answer scale text (Err (fails.Text fault)) wanted a p = same_answer scale text wanted (Err fault) p a
 
 pub only_session : (scale : Scale) (text : List ℕ) (result : Result Read ReadFail) (s : List Statement) (l : List ℕ)
     → IsAnswer scale text result
-    → StandsFor scale text s l → Answers result (Ok (s, l))
+    → StandsFor scale text s l → ReadsAs result (Ok (s, l))
 only_session scale text result s l a p = only_answer scale text result (Ok (s, l)) a p
 
 pub only_fault : (scale : Scale) (text : List ℕ) (result : Result Read ReadFail) (fault : TextFault) → IsAnswer scale text result
     → HasFault scale text fault
-    → Answers result (Err fault)
+    → ReadsAs result (Err fault)
 only_fault scale text result fault a p = only_answer scale text result (Err fault) a p

@@ -7,7 +7,7 @@ use Rattle.flow_design.specs.declared.expr.Expr.TheVariants.{Number, Var, Unary,
 use Rattle.flow_design.specs.declared.expr.Expr.TheVariants.{rolls-Binary, rolls-Sext, rolls-Pick}
 use Rattle.flow_grammar.specs.{declared.operator.Operator.Operator, declared.operand.Operand.Operand, Operators.operator_of}
 use Rattle.flow_grammar.specs.Trees.{Trees, applied_if, with_token, trees_of}
-use Rattle.flow_grammar.specs.Operands.{layer_seen, seen, apply_if, take_token}
+use Rattle.flow_grammar.specs.Operands.{layer_seen, operand_seen, apply_if, take_token}
 
 -- a fold at each variant
 module _ (X A : Type 0) (step : Expr-F X A → A) where
@@ -34,11 +34,11 @@ module _ (X A : Type 0) (step : Expr-F X A → A) where
 
 module _ (known : List ℕ → Bool) where
   abbrev pub views : Option Trees → Option (List Operand)
-  views found = option_map (map (seen known)) found
+  views found = option_map (map (operand_seen known)) found
 
   seen_applied : (o : Option Operator) (behind : List (List ℕ)) (trees : Trees)
-      → views (applied_if o behind trees) ≡ apply_if o behind (map (seen known) trees)
-  unfolding seen
+      → views (applied_if o behind trees) ≡ apply_if o behind (map (operand_seen known) trees)
+  unfolding operand_seen
   seen_applied o behind trees = grind (
     arith,
     folded-Unary (List ℕ) Operand (layer_seen known),
@@ -48,8 +48,8 @@ module _ (known : List ℕ → Bool) where
   )
 
   pub seen_token : (token : List ℕ) (behind : List (List ℕ)) (trees : Trees)
-      → views (with_token token behind trees) ≡ take_token known token behind (map (seen known) trees)
-  unfolding seen with_token take_token
+      → views (with_token token behind trees) ≡ take_token known token behind (map (operand_seen known) trees)
+  unfolding operand_seen with_token take_token
   seen_token token behind trees =
       let applied = seen_applied (operator_of token) behind trees in
       grind (arith, folded-Number (List ℕ) Operand (layer_seen known), folded-Var (List ℕ) Operand (layer_seen known))

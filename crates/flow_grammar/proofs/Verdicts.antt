@@ -7,11 +7,11 @@ use Rattle.flow_design.specs.declared.expr.Expr.TheVariants.{Unary, Binary, Sext
 use Rattle.flow_grammar.specs.declared.fault.Code.TheVariants.{BadNumber, UnknownName, TooMany}
 use Rattle.flow_grammar.specs.declared.operand.Operand.{Operand}
 use Rattle.flow_grammar.specs.declared.operand.Operand.TheVariants.{Whole, Faulty}
-use Rattle.flow_grammar.specs.Operands.{one, two, sized, earlier, earlier_of, extend, choose}
+use Rattle.flow_grammar.specs.Operands.{one, two, sized_operand, earlier, earlier_of, extend, choose}
 
 -- by three tests
 abbrev pub verdict : Bool → Bool → Expr (List ℕ) → ℕ → ℕ → Operand
-verdict ranged known e n d = cond ranged (cond known (sized e n d) (Faulty UnknownName)) (Faulty BadNumber)
+verdict ranged known e n d = cond ranged (cond known (sized_operand e n d) (Faulty UnknownName)) (Faulty BadNumber)
 
 pub verdict_one : (o : UnOp) (a : Expr (List ℕ)) (n d : ℕ) (ranged known : Bool)
     → one o (verdict ranged known a n d) ≡ verdict ranged known (Unary o a) (1 + n) (1 + d)
@@ -34,7 +34,7 @@ tested r f s e n d = cond r (cond f (cond s (Whole e n d) (Faulty TooMany)) (Fau
 
 module _ (a b c : Expr (List ℕ)) (n d m e l h : ℕ) where
   abbrev picked : Operand
-  picked = sized (Pick a b c) (1 + (n + (m + l))) (1 + max d (max e h))
+  picked = sized_operand (Pick a b c) (1 + (n + (m + l))) (1 + max d (max e h))
 
   pick_tested : (r f s r' f' s' r'' f'' s'' : Bool) → choose (tested r f s a n d) (tested r' f' s' b m e) (tested r'' f'' s'' c l h)
       ≡ cond (r && (r' && r'')) (cond (f && (f' && f'')) (cond (s && (s' && s'')) picked (Faulty TooMany)) (Faulty UnknownName))

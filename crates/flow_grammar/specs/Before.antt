@@ -2,10 +2,10 @@
 use Rattle.std.specs.Prelude.{ℕ, Bool, true, false, List, [], ◌∷◌, ◌==◌, length, count_by, sum_by, take_while, unwrap_or, Option, None}
 use Rattle.std.specs.Prelude.{Some}
 use Rattle.std.specs.List.{filter_map, list_any}
-use Rattle.flow_design.specs.declared.session.Statement.{Statement}
+use Rattle.flow_design.specs.{declared.session.Statement.Statement, Names.Name}
 use Rattle.flow_design.specs.declared.session.Statement.TheVariants.{Flow, Source, Sink, Fifo, Module, Reg, Mem, Block, Loop, Temp, At}
 use Rattle.flow_design.specs.declared.session.Statement.TheVariants.{Input, Depth}
-use Rattle.flow_grammar.specs.{Tokens.is_word, Parts.Name}
+use Rattle.flow_grammar.specs.Tokens.{is_word}
 
 -- ---- the version of the language
 
@@ -34,8 +34,8 @@ is_no_block (Loop n ii l r) = false
 is_no_block s = true
 
 -- the statements of the module in which a line would stand; and then, those of its body
-abbrev pub in_module : List Statement → List Statement
-in_module earlier = take_while is_no_module earlier
+abbrev pub statements_in_module : List Statement → List Statement
+statements_in_module earlier = take_while is_no_module earlier
 
 abbrev pub in_body : List Statement → List Statement
 in_body earlier = take_while is_no_block earlier
@@ -44,19 +44,19 @@ abbrev pub source_name : Statement → Option Name
 source_name (Source n w) = Some n
 source_name s = None
 
-abbrev pub fifo_name : Statement → Option Name
-fifo_name (Fifo n w depth delay) = Some n
-fifo_name s = None
+abbrev pub declared_fifo : Statement → Option Name
+declared_fifo (Fifo n w depth delay) = Some n
+declared_fifo s = None
 
-abbrev pub channel_name : Statement → Option Name
-channel_name (Source n w) = Some n
-channel_name (Sink n w) = Some n
-channel_name (Fifo n w depth delay) = Some n
-channel_name s = None
+abbrev pub declared_channel : Statement → Option Name
+declared_channel (Source n w) = Some n
+declared_channel (Sink n w) = Some n
+declared_channel (Fifo n w depth delay) = Some n
+declared_channel s = None
 
-abbrev pub module_name : Statement → Option Name
-module_name (Module n) = Some n
-module_name s = None
+abbrev pub declared_module : Statement → Option Name
+declared_module (Module n) = Some n
+declared_module s = None
 
 abbrev pub register_name : Statement → Option Name
 register_name (Reg n w) = Some n
@@ -96,29 +96,29 @@ is_edit (Depth n d) = true
 is_edit s = false
 
 abbrev pub channels : List Statement → List Name
-channels earlier = filter_map channel_name earlier
+channels earlier = filter_map declared_channel earlier
 
 abbrev pub sources : List Statement → List Name
 sources earlier = filter_map source_name earlier
 
-abbrev pub fifos : List Statement → List Name
-fifos earlier = filter_map fifo_name earlier
+abbrev pub declared_fifos : List Statement → List Name
+declared_fifos earlier = filter_map declared_fifo earlier
 
 abbrev pub modules : List Statement → List Name
-modules earlier = filter_map module_name earlier
+modules earlier = filter_map declared_module earlier
 
 abbrev pub registers : List Statement → List Name
-registers earlier = filter_map register_name (in_module earlier)
+registers earlier = filter_map register_name (statements_in_module earlier)
 
 abbrev pub memories : List Statement → List Name
-memories earlier = filter_map memory_name (in_module earlier)
+memories earlier = filter_map memory_name (statements_in_module earlier)
 
 -- how many words all memories of the session have
 abbrev pub memory_words : List Statement → ℕ
 memory_words earlier = sum_by word_count earlier
 
 abbrev pub blocks : List Statement → List Name
-blocks earlier = filter_map block_name (in_module earlier)
+blocks earlier = filter_map block_name (statements_in_module earlier)
 
 abbrev pub temps : List Statement → List Name
 temps earlier = filter_map temp_name (in_body earlier)

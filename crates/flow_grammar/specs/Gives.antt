@@ -3,7 +3,7 @@ use Rattle.std.specs.Prelude.{◌≡◌, ℕ, ◌+◌, List, [], ◌∷◌, ◌+
 use Rattle.flow_design.specs.{declared.limits.Scale.Scale, declared.session.Statement.Statement}
 use Rattle.flow_grammar.specs.{declared.fault.Code.Code, declared.fault.Code.TheVariants.Truncated, declared.fault.Code.TheVariants.Syntax}
 use Rattle.flow_grammar.specs.{declared.operand.Operand.Operand, declared.fault.TextFault.TextFault, declared.fault.ReadFail.ReadFail}
-use Rattle.flow_grammar.specs.{declared.fault.LineFail.LineFail, Line.statement_in, Line.line_fault, Rules.is_over}
+use Rattle.flow_grammar.specs.{declared.fault.LineFail.LineFail, Line.statement_in, Line.line_fault, Rules.is_complete}
 use Rattle.flow_grammar.specs.declared.fault.ReadFail.TheVariants as fails
 use Rattle.flow_grammar.specs.declared.fault.LineFail.TheVariants as line_fails
 
@@ -62,7 +62,7 @@ ended false n = Err (record { line = n; code = Truncated })
 
 -- what these lines give after n lines with the statements `before`: the session's statements, or the first fault
 unfoldable pub reading : Scale → List Statement → ℕ → List (List ℕ) → Result Read TextFault
-reading scale before n [] = ended (is_over before) n
+reading scale before n [] = ended (is_complete before) n
 reading scale before n (line ∷ lines) =
     at_line (n + 1) (line_reading scale before line) >>= λ statement. reading scale (with_statement before statement) (n + 1) lines
     >>= λ r. Ok (in_front (n + 1) statement r)

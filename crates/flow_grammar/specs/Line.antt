@@ -2,10 +2,10 @@
 -- that it fails depends on all statements before it too, and on the scale.
 use Rattle.std.specs.Prelude.{List, [], ◌∷◌, reverse, Option, None, Some, if◌then◌else◌}
 use Rattle.std.specs.List.{list_all}
-use Rattle.flow_design.specs.{declared.limits.Scale.Scale, declared.session.Statement.Statement}
+use Rattle.flow_design.specs.{declared.limits.Scale.Scale, declared.session.Statement.Statement, Names.Token}
 use Rattle.flow_grammar.specs.{declared.fault.Code.Code, Before.version, Forms.statement_of, Places.may_follow, Rules.statement_fault}
 use Rattle.flow_grammar.specs.declared.fault.Code.TheVariants.{NotAscii, Syntax}
-use Rattle.flow_grammar.specs.Tokens.{Line, Token, tokens_of, is_permitted}
+use Rattle.flow_grammar.specs.Tokens.{Line, tokens_of, is_permitted}
 
 -- the first test that a statement fails after the statements `earlier`, the latest first; `Syntax` where there is no statement
 abbrev pub form_fault : Scale → List Statement → Option Statement → Option Code

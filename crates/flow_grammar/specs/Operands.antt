@@ -4,11 +4,11 @@ use Rattle.std.specs.Prelude.{Some}
 use Rattle.std.specs.List.{list_all}
 use Rattle.flow_design.specs.declared.limits.TheConstants.{EXPRESSION_NODES, EXPRESSION_DEPTH}
 use Rattle.flow_design.specs.{declared.expr.Expr.Expr, declared.expr.Expr.fold-Expr, declared.expr.Expr.TheOpen.Expr-F}
-use Rattle.flow_design.specs.{declared.expr.UnOp.UnOp, declared.expr.BinOp.BinOp, Words.nodes, Words.depth}
+use Rattle.flow_design.specs.{declared.expr.UnOp.UnOp, declared.expr.BinOp.BinOp, Words.nodes, Words.depth, Names.Name}
 use Rattle.flow_design.specs.declared.expr.Expr.TheVariants.{Number, Var, Unary, Binary, Sext, Pick}
-use Rattle.flow_grammar.specs.{declared.fault.Code.Code, declared.operand.Operand.Operand, declared.operator.Operator.Operator, Parts.Name}
-use Rattle.flow_grammar.specs.{Parts.Part, Parts.Use, Parts.expr_parts, Rules.is_in_range, Rules.is_small, Numbers.number_within}
-use Rattle.flow_grammar.specs.{Tokens.is_number, Tokens.is_name, Tokens.number_of, Operators.operator_of}
+use Rattle.flow_grammar.specs.{declared.fault.Code.Code, declared.operand.Operand.Operand, declared.operator.Operator.Operator, Parts.Part}
+use Rattle.flow_grammar.specs.{Parts.Use, Parts.expr_parts, Rules.is_in_range, Rules.is_small, Numbers.number_within, Operators.operator_of}
+use Rattle.flow_grammar.specs.Tokens.{is_number, token_is_name, number_of}
 use Rattle.flow_grammar.specs.declared.fault.Code.TheVariants.{BadNumber, UnknownName, TooMany}
 use Rattle.flow_grammar.specs.declared.operand.Operand.TheVariants.{Whole, Faulty}
 use Rattle.flow_grammar.specs.declared.operator.Operator.TheVariants.{One, Two, Extend, Choose}
@@ -21,14 +21,15 @@ earlier UnknownName d = UnknownName
 earlier c d = d
 
 -- a tree with this many nodes and levels, or the code for too many
-abbrev pub sized : Expr (List ℕ) → ℕ → ℕ → Operand
-sized tree nodes depth = if nat_le nodes EXPRESSION_NODES && nat_le depth EXPRESSION_DEPTH then Whole tree nodes depth else Faulty TooMany
+abbrev pub sized_operand : Expr (List ℕ) → ℕ → ℕ → Operand
+sized_operand tree nodes depth =
+    if nat_le nodes EXPRESSION_NODES && nat_le depth EXPRESSION_DEPTH then Whole tree nodes depth else Faulty TooMany
 
-abbrev pub numbered : ℕ → Operand
-numbered n = if nat_lt n (2 ^ 64) then Whole (Number n) 1 1 else Faulty BadNumber
+abbrev pub operand_of_number : ℕ → Operand
+operand_of_number n = if nat_lt n (2 ^ 64) then Whole (Number n) 1 1 else Faulty BadNumber
 
 unfoldable pub one : UnOp → Operand → Operand
-one o (Whole a n d) = sized (Unary o a) (1 + n) (1 + d)
+one o (Whole a n d) = sized_operand (Unary o a) (1 + n) (1 + d)
 one o (Faulty c) = Faulty c
 
 -- the earlier of a test and the test that an operand fails, if it fails one
@@ -37,15 +38,15 @@ earlier_of c (Whole a n d) = c
 earlier_of c (Faulty d) = earlier c d
 
 unfoldable pub two : BinOp → Operand → Operand → Operand
-two o (Whole a n d) (Whole b m e) = sized (Binary o a b) (1 + (n + m)) (1 + max d e)
+two o (Whole a n d) (Whole b m e) = sized_operand (Binary o a b) (1 + (n + m)) (1 + max d e)
 two o (Whole a n d) (Faulty c) = Faulty c
 two o (Faulty c) b = Faulty (earlier_of c b)
 
-abbrev pub named : (List ℕ → Bool) → List ℕ → Operand
-named known name = if known name then Whole (Var name) 1 1 else Faulty UnknownName
+abbrev pub operand_of_name : (List ℕ → Bool) → List ℕ → Operand
+operand_of_name known name = if known name then Whole (Var name) 1 1 else Faulty UnknownName
 
 abbrev pub widened : ℕ → Operand → Operand
-widened k (Whole a n d) = sized (Sext k a) (1 + n) (1 + d)
+widened k (Whole a n d) = sized_operand (Sext k a) (1 + n) (1 + d)
 widened k (Faulty c) = Faulty c
 
 abbrev pub widened_by : Option ℕ → Operand → Operand
@@ -56,22 +57,22 @@ unfoldable pub extend : ℕ → Operand → Operand
 extend k a = widened_by (number_within 1 64 k) a
 
 unfoldable pub choose : Operand → Operand → Operand → Operand
-choose (Whole a n d) (Whole b m e) (Whole c l f) = sized (Pick a b c) (1 + (n + (m + l))) (1 + max d (max e f))
+choose (Whole a n d) (Whole b m e) (Whole c l f) = sized_operand (Pick a b c) (1 + (n + (m + l))) (1 + max d (max e f))
 choose (Whole a n d) (Whole b m e) (Faulty z) = Faulty z
 choose (Whole a n d) (Faulty y) c = Faulty (earlier_of y c)
 choose (Faulty x) b c = Faulty (earlier_of (earlier_of x b) c)
 
 -- the operand that a layer of an expression makes of its operands
 abbrev pub layer_seen : (List ℕ → Bool) → Expr-F (List ℕ) Operand → Operand
-layer_seen known (Expr-F.Number n) = numbered n
-layer_seen known (Expr-F.Var name) = named known name
+layer_seen known (Expr-F.Number n) = operand_of_number n
+layer_seen known (Expr-F.Var name) = operand_of_name known name
 layer_seen known (Expr-F.Unary o a) = one o a
 layer_seen known (Expr-F.Binary o a b) = two o a b
 layer_seen known (Expr-F.Sext k a) = extend k a
 layer_seen known (Expr-F.Pick a b c) = choose a b c
 
-unfoldable pub seen : (List ℕ → Bool) → Expr (List ℕ) → Operand
-seen known = fold-Expr (List ℕ) Operand (layer_seen known)
+unfoldable pub operand_seen : (List ℕ → Bool) → Expr (List ℕ) → Operand
+operand_seen known = fold-Expr (List ℕ) Operand (layer_seen known)
 
 -- operands on a stack, for the steps that trees take too
 abbrev pub Stacked : Type 0
@@ -94,8 +95,8 @@ apply_if (Some o) behind stack = apply o behind stack
 
 unfoldable pub take_token : (List ℕ → Bool) → List ℕ → List (List ℕ) → Stacked → Option Stacked
 take_token known token behind stack =
-    if is_number token then Some (numbered (number_of token) ∷ stack)
-    else if is_name token then Some (named known token ∷ stack)
+    if is_number token then Some (operand_of_number (number_of token) ∷ stack)
+    else if token_is_name token then Some (operand_of_name known token ∷ stack)
     else apply_if (operator_of token) behind stack
 
 -- a step on the stack either took the token, and this is the stack then, or no expression can be made
@@ -111,8 +112,8 @@ is_known_by known (Use sort name) = known name
 is_known_by known part = true
 
 -- the operand of an expression: the first test that it fails, or the expression with its size
-unfoldable pub kept : (Name → Bool) → Expr Name → Operand
-kept known e =
+unfoldable pub operand_kept : (Name → Bool) → Expr Name → Operand
+operand_kept known e =
     if not (list_all is_in_range (expr_parts e)) then Faulty BadNumber
     else if not (list_all (is_known_by known) (expr_parts e)) then Faulty UnknownName
     else if not (is_small e) then Faulty TooMany

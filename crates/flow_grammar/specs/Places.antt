@@ -29,9 +29,9 @@ place_after (Depth n d) = AmongEdits
 place_after End = AtEnd
 
 -- the place after these statements, the latest first
-abbrev pub place : List Statement → Place
-place [] = AtStart
-place (s ∷ earlier) = place_after s
+abbrev pub place_reached : List Statement → Place
+place_reached [] = AtStart
+place_reached (s ∷ earlier) = place_after s
 
 -- `flow` may stand at this place
 abbrev pub takes_flow : Place → Bool
@@ -112,4 +112,4 @@ may_stand End p = takes_edits p
 
 -- the statement may stand after these, the latest first
 unfoldable pub may_follow : List Statement → Statement → Bool
-may_follow earlier s = may_stand s (place earlier)
+may_follow earlier s = may_stand s (place_reached earlier)

@@ -4,25 +4,25 @@ use Rattle.std.specs.Prelude.{◌≡◌, ℕ, ◌+◌, Bool, true, List, ◌++�
 use Rattle.std.specs.Prelude.{None, Some, length, if◌then◌else◌}
 use Rattle.std.specs.List.{list_all}
 use Rattle.flow_design.specs.{declared.expr.Expr.Expr, declared.expr.Op.Op, declared.limits.Limits.Limits, declared.limits.Scale.Scale}
-use Rattle.flow_design.specs.{declared.session.Statement.Statement, Limits.limits_at, Words.nodes, Words.depth}
+use Rattle.flow_design.specs.{declared.session.Statement.Statement, Limits.limits_at, Words.nodes, Words.depth, Names.Name}
 use Rattle.flow_design.specs.declared.limits.TheConstants.{EXPRESSION_NODES, EXPRESSION_DEPTH, ALL_MEMORY_WORDS, EDITS}
 use Rattle.flow_design.specs.declared.session.Statement.TheVariants.{Source, Sink, Fifo, Module, Reg, Mem, Block, Loop, Temp, At, Input}
 use Rattle.flow_design.specs.declared.session.Statement.TheVariants.{Depth}
 use Rattle.flow_design.specs.declared.expr.Op.TheVariants as op
-use Rattle.flow_grammar.specs.{declared.fault.Code.Code, Tokens.is_name, Places.place, Places.is_end, Places.may_follow}
+use Rattle.flow_grammar.specs.{declared.fault.Code.Code, Tokens.token_is_name, Places.place_reached, Places.is_end, Places.may_follow}
 use Rattle.flow_grammar.specs.declared.fault.Code.TheVariants.{BadNumber, DoubleName, UnknownName, TooMany}
-use Rattle.flow_grammar.specs.Parts.{Name, Part, New, Use, Label, Num, Space, ChannelName, ModuleName, RegisterName, MemoryName, TempName}
+use Rattle.flow_grammar.specs.Parts.{Part, New, Use, Label, Num, Space, ChannelName, ModuleName, RegisterName, MemoryName, TempName}
 use Rattle.flow_grammar.specs.Parts.{BlockName, Sort, AnyChannel, ASource, AFifo, ARegister, AMemory, AVariable, default_delay, parts}
-use Rattle.flow_grammar.specs.Before.{version, has_delays, channels, sources, fifos, modules, registers, memories, blocks, temps}
+use Rattle.flow_grammar.specs.Before.{version, has_delays, channels, sources, declared_fifos, modules, registers, memories, blocks, temps}
 use Rattle.flow_grammar.specs.Before.{memory_words, operations, inputs, input_values, edits, is_among}
 
 -- ---- names and numbers
 
 -- a name in this part has the letters of a name
 abbrev pub is_well_named : Part → Bool
-is_well_named (New space name) = is_name name
-is_well_named (Use sort name) = is_name name
-is_well_named (Label name) = is_name name
+is_well_named (New space name) = token_is_name name
+is_well_named (Use sort name) = token_is_name name
+is_well_named (Label name) = token_is_name name
 is_well_named part = true
 
 abbrev pub is_in_range : Part → Bool
@@ -64,7 +64,7 @@ is_first_input earlier s = true
 abbrev pub named : List Statement → Sort → List Name
 named earlier AnyChannel = channels earlier
 named earlier ASource = sources earlier
-named earlier AFifo = fifos earlier
+named earlier AFifo = declared_fifos earlier
 named earlier ARegister = registers earlier
 named earlier AMemory = memories earlier
 named earlier AVariable = registers earlier ++ temps earlier
@@ -131,8 +131,8 @@ statement_fault scale earlier s =
 -- ---- sessions that keep the rules
 
 -- the session is complete: its last statement is `end`
-unfoldable pub is_over : List Statement → Bool
-is_over statements = is_end (place (reverse statements))
+unfoldable pub is_complete : List Statement → Bool
+is_complete statements = is_end (place_reached (reverse statements))
 
 -- a statement keeps the rules after these statements
 pub record KeepsRules (scale : Scale) (before : List Statement) (s : Statement) : Type 0 where
@@ -148,4 +148,4 @@ pub record KeepsRules (scale : Scale) (before : List Statement) (s : Statement) 
 -- each statement of a whole session keeps the rules, as in each session that a text stands for
 pub record KeepsReadingRules (scale : Scale) (statements : List Statement) : Type 0 where
   pub each : (i : ℕ) (s : Statement) → slice_get statements i ≡ Some s → KeepsRules scale (take i statements) s
-  pub over : is_over statements ≡ true
+  pub over : is_complete statements ≡ true

@@ -1,16 +1,16 @@
 -- When tokens write a statement under a version of the language: one token for each of its parts.
 use Rattle.std.specs.Prelude.{◌≡◌, ◌⊎◌, ℕ, true, List, [], ◌∷◌}
-use Rattle.flow_design.specs.{declared.session.Statement.Statement, declared.session.Statement.TheVariants.Fifo}
-use Rattle.flow_grammar.specs.{Tokens.Token, Tokens.is_number, Tokens.is_name, Tokens.number_of, Before.has_delays}
-use Rattle.flow_grammar.specs.Parts.{Name, Part, Word, New, Use, Label, Num, parts, bare_parts, depth_parts, fifo_parts, default_depth}
+use Rattle.flow_design.specs.{declared.session.Statement.Statement, declared.session.Statement.TheVariants.Fifo, Names.Token, Names.Name}
+use Rattle.flow_grammar.specs.{Tokens.is_number, Tokens.token_is_name, Tokens.number_of, Before.has_delays}
+use Rattle.flow_grammar.specs.Parts.{Part, Word, New, Use, Label, Num, parts, bare_parts, depth_parts, fifo_parts, default_depth}
 use Rattle.flow_grammar.specs.Parts.{default_delay}
 
 -- the token spells the part: a number may have leading zeros
 abbrev pub Spells : Token → Part → Type 0
 Spells token (Word w) = token ≡ w
-Spells token (New space n) = (is_name token ≡ true) × (token ≡ n)
-Spells token (Use sort n) = (is_name token ≡ true) × (token ≡ n)
-Spells token (Label n) = (is_name token ≡ true) × (token ≡ n)
+Spells token (New space n) = (token_is_name token ≡ true) × (token ≡ n)
+Spells token (Use sort n) = (token_is_name token ≡ true) × (token ≡ n)
+Spells token (Label n) = (token_is_name token ≡ true) × (token ≡ n)
 Spells token (Num least most n) = (is_number token ≡ true) × (number_of token ≡ n)
 
 -- the tokens spell the parts, one token for each part

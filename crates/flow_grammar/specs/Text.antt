@@ -5,7 +5,7 @@ use Rattle.std.specs.List.{list_all, filter_map}
 use Rattle.flow_design.specs.{declared.limits.Scale.Scale, declared.session.Session.Session, Limits.limits_at}
 use Rattle.flow_design.specs.declared.session.Statement.{Statement}
 use Rattle.flow_grammar.specs.{declared.fault.Code.Code, declared.fault.TextFault.TextFault, declared.fault.ReadFail.ReadFail}
-use Rattle.flow_grammar.specs.{Before.version, Spelling.Writes, Places.may_follow, Rules.statement_fault, Rules.is_over}
+use Rattle.flow_grammar.specs.{Before.version, Spelling.Writes, Places.may_follow, Rules.statement_fault, Rules.is_complete}
 use Rattle.flow_grammar.specs.declared.fault.Code.TheVariants.{TooLong, NotAscii, Syntax, Truncated}
 use Rattle.flow_grammar.specs.Tokens.{Line, lines_of, tokens_of, is_permitted}
 use Rattle.flow_grammar.specs.declared.fault.ReadFail.TheVariants as fails
@@ -56,7 +56,7 @@ abbrev line_at : List Line → ℕ → Line
 line_at lines i = slice_index_or lines i []
 
 -- each line is in order after the statements of the lines before it, and says this
-pub record AreInOrder (scale : Scale) (lines : List Line) (said : List (Option Statement)) : Type 0 where
+pub record LinesAreInOrder (scale : Scale) (lines : List Line) (said : List (Option Statement)) : Type 0 where
   pub count : length said ≡ length lines
   pub each : (i : ℕ) → i < length lines → IsInOrder scale (statements_among (take i said)) (line_at lines i) (slice_index_or said i None)
 
@@ -70,8 +70,8 @@ numbers_among n (Some s ∷ said) = n ∷ numbers_among (n + 1) said
 pub record StandsFor (scale : Scale) (text : List ℕ) (statements : List Statement) (numbers : List ℕ) : Type 0 where
   pub short : length text ≤ (limits_at scale).text_bytes
   pub said : List (Option Statement)
-  pub in_order : AreInOrder scale (lines_of text) said
-  pub over : is_over (statements_among said) ≡ true
+  pub in_order : LinesAreInOrder scale (lines_of text) said
+  pub over : is_complete (statements_among said) ≡ true
   pub statements_are : statements ≡ statements_among said
   pub numbers_are : numbers ≡ numbers_among 1 said
 
@@ -79,15 +79,15 @@ pub record StandsFor (scale : Scale) (text : List ℕ) (statements : List Statem
 pub record FailsFirst (scale : Scale) (lines : List Line) (fault : TextFault) : Type 0 where
   pub said : List (Option Statement)
   pub some : length said < length lines
-  pub in_order : AreInOrder scale (take (length said) lines) said
+  pub in_order : LinesAreInOrder scale (take (length said) lines) said
   pub fails : Fails scale (statements_among said) (line_at lines (length said)) fault.code
   pub line : fault.line ≡ length said + 1
 
 -- all lines are in order, but there is no `end`: the fault's line is one more than the number of line feeds
 pub record HasNoEnd (scale : Scale) (lines : List Line) (fault : TextFault) : Type 0 where
   pub said : List (Option Statement)
-  pub in_order : AreInOrder scale lines said
-  pub not_over : is_over (statements_among said) ≡ false
+  pub in_order : LinesAreInOrder scale lines said
+  pub not_over : is_complete (statements_among said) ≡ false
   pub code : fault.code ≡ Truncated
   pub line : fault.line ≡ length lines
 
@@ -106,10 +106,10 @@ IsAnswer scale text (Err fails.OutOfMemory) = Unit {0}
 IsAnswer scale text (Err (fails.Text fault)) = HasFault scale text fault
 
 -- the reader answered this, or that memory ran out
-abbrev pub Answers : {A : Type 0} → Result A ReadFail → Result A TextFault → Type 0
-Answers (Ok x) wanted = wanted ≡ Ok x
-Answers (Err fails.OutOfMemory) wanted = Unit {0}
-Answers (Err (fails.Text fault)) wanted = wanted ≡ Err fault
+abbrev pub ReadsAs : {A : Type 0} → Result A ReadFail → Result A TextFault → Type 0
+ReadsAs (Ok x) wanted = wanted ≡ Ok x
+ReadsAs (Err fails.OutOfMemory) wanted = Unit {0}
+ReadsAs (Err (fails.Text fault)) wanted = wanted ≡ Err fault
 
 -- the reader's answer, with the session as the list of its statements
 abbrev pub session_of : Result (Session × List ℕ) ReadFail → Result (List Statement × List ℕ) ReadFail

@@ -2,13 +2,11 @@
 use Rattle.std.specs.Prelude.{ℕ, Bool, true, false, List, [], ◌∷◌, ◌==◌, ◌&&◌, ◌||◌, not, nat_le, filter, take_while}
 use Rattle.std.specs.{List.slice_split, List.list_all, Char.is_ascii_digit, Str.bytes_eq, Str.Parse.digits_value}
 use Rattle.flow_design.specs.Names as names
+use Rattle.flow_design.specs.Names.{Token}
 
--- the bytes of a line; and then, of a token
+-- the bytes of a line
 abbrev pub Line : Type 0
 Line = List ℕ
-
-abbrev pub Token : Type 0
-Token = List ℕ
 
 abbrev pub is_line_feed : ℕ → Bool
 is_line_feed b = b == 10
@@ -50,8 +48,8 @@ abbrev pub number_of : Token → ℕ
 number_of token = digits_value 10 token
 
 -- the token is a name: 1 to 64 letters, digits and underscores, not beginning with a digit, and not `sext`
-unfoldable pub is_name : Token → Bool
-is_name token = names.is_name token
+unfoldable pub token_is_name : Token → Bool
+token_is_name token = names.is_name token
 
 -- the token is this word
 abbrev pub is_word : Token → List ℕ → Bool

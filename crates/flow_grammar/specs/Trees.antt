@@ -1,25 +1,25 @@
 -- Expressions in prefix form: the tokens, from the last to the first, make up trees.
 use Rattle.std.specs.Prelude.{List, [], ◌∷◌, if◌then◌else◌, Option, None, Some}
 use Rattle.std.specs.Option.{option_and_then}
-use Rattle.flow_design.specs.declared.expr.Expr.{Expr}
+use Rattle.flow_design.specs.{declared.expr.Expr.Expr, Names.Name, Names.Token}
 use Rattle.flow_design.specs.declared.expr.Expr.TheVariants.{Number, Var, Unary, Binary, Sext, Pick}
-use Rattle.flow_grammar.specs.{declared.operator.Operator.Operator, Parts.Name, Operators.operator_of}
+use Rattle.flow_grammar.specs.{declared.operator.Operator.Operator, Operators.operator_of}
 use Rattle.flow_grammar.specs.declared.operator.Operator.TheVariants.{One, Two, Extend, Choose}
-use Rattle.flow_grammar.specs.Tokens.{Token, is_number, is_name, number_of}
+use Rattle.flow_grammar.specs.Tokens.{is_number, token_is_name, number_of}
 
 abbrev pub Trees : Type 0
 Trees = List (Expr Name)
 
 -- `sext` on the first tree: the token after it is the number of bits, and no operand
-abbrev pub extended : List Token → Trees → Option Trees
-extended (k ∷ behind) (number ∷ a ∷ trees) = if is_number k then Some (Sext (number_of k) a ∷ trees) else None
-extended behind trees = None
+abbrev pub extended_tree : List Token → Trees → Option Trees
+extended_tree (k ∷ behind) (number ∷ a ∷ trees) = if is_number k then Some (Sext (number_of k) a ∷ trees) else None
+extended_tree behind trees = None
 
 -- an operator on the first trees, as many as it has operands
 abbrev pub applied : Operator → List Token → Trees → Option Trees
 applied (One o) behind (a ∷ trees) = Some (Unary o a ∷ trees)
 applied (Two o) behind (a ∷ b ∷ trees) = Some (Binary o a b ∷ trees)
-applied Extend behind trees = extended behind trees
+applied Extend behind trees = extended_tree behind trees
 applied Choose behind (a ∷ b ∷ c ∷ trees) = Some (Pick a b c ∷ trees)
 applied o behind trees = None
 
@@ -31,7 +31,7 @@ applied_if (Some o) behind trees = applied o behind trees
 unfoldable pub with_token : Token → List Token → Trees → Option Trees
 with_token token behind trees =
     if is_number token then Some (Number (number_of token) ∷ trees)
-    else if is_name token then Some (Var token ∷ trees)
+    else if token_is_name token then Some (Var token ∷ trees)
     else applied_if (operator_of token) behind trees
 
 -- the expressions that tokens write one after the other; none where they write no expressions

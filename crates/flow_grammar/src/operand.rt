@@ -1,6 +1,6 @@
 //! Expressions while they are read.
 ghost use Rattle.std.specs.Prelude.{◌≡◌, true, IfOk};
-ghost use Rattle.flow_grammar.specs.Operands.{sized, one, two, earlier, earlier_of, extend, widened, choose};
+ghost use Rattle.flow_grammar.specs.Operands.{sized_operand, one, two, earlier, earlier_of, extend, widened, choose};
 ghost use Rattle.flow_grammar.specs.Tokens.{is_number, number_of};
 
 use crate::fault::Code;
@@ -36,7 +36,7 @@ pub fn earlier_test(a: Code, b: Code) -> Code
 
 /// An expression with this many nodes and levels; where one of these numbers is above its limit, the code for that.
 fn sized(tree: Expr<Name>, nodes: u64, depth: u64) -> Operand
-    ensures { result ≡ sized tree nodes depth }
+    ensures { result ≡ sized_operand tree nodes depth }
 {
     if nodes <= EXPRESSION_NODES && depth <= EXPRESSION_DEPTH {
         return Operand::Whole {

@@ -2,7 +2,7 @@
 ghost use Rattle.std.specs.Prelude.{◌≡◌, ℕ, Bool, true, List, map, option_map, IfOk};
 ghost use Rattle.flow_grammar.specs.{Tokens.is_number, Tokens.number_of, Trees.trees_of};
 ghost use Rattle.flow_grammar.specs.Gives.{LineGives, only_operand, both_operands};
-ghost use Rattle.flow_grammar.specs.Operands.{numbered, named, take_token, apply, Takes, seen, kept};
+ghost use Rattle.flow_grammar.specs.Operands.{operand_of_number, operand_of_name, take_token, apply, Takes, operand_seen, operand_kept};
 
 use crate::fault::{Code, LineFail};
 use crate::operand::{Operand, apply_choose, apply_extend, apply_one, apply_two};
@@ -25,7 +25,7 @@ pub trait Known {
 #[tactic(auto, using(crate::proofs::Numbers::number_read))]
 fn number_operand(token: &[u8]) -> Operand
     requires { is_number token.now ≡ true }
-    ensures { result ≡ numbered (number_of token.now) }
+    ensures { result ≡ operand_of_number (number_of token.now) }
 {
     match read_number(token) {
         Ok(value) => Operand::Whole {
@@ -39,7 +39,7 @@ fn number_operand(token: &[u8]) -> Operand
 
 /// The operand that a name is.
 fn name_operand<K: Known>(alloc: Global, known: &K, token: &[u8]) -> Result<Operand, OutOfMemory>
-    ensures { IfOk result (λ operand. operand ≡ named (K.knows known.now) token.now) }
+    ensures { IfOk result (λ operand. operand ≡ operand_of_name (K.knows known.now) token.now) }
 {
     if known.is_known(token) {
         Ok(Operand::Whole {
@@ -176,7 +176,7 @@ fn read_back<K: Known>(
     known: &K,
     tokens: &[&[u8]],
 ) -> Result<Option<Stack<Operand>>, OutOfMemory>
-    ensures { IfOk result (λ found. found ≡ option_map (map (seen (K.knows known.now))) (trees_of (map (λ t. t.now) tokens.now))) }
+    ensures { IfOk result (λ found. found ≡ option_map (map (operand_seen (K.knows known.now))) (trees_of (map (λ t. t.now) tokens.now))) }
 {
     let mut stack = Stack::new(alloc);
     let mut at = tokens.len();
@@ -199,7 +199,7 @@ pub fn operands<K: Known>(
     known: &K,
     tokens: &[&[u8]],
 ) -> Result<Option<Stack<Operand>>, OutOfMemory>
-    ensures { IfOk result (λ found. found ≡ option_map (map (kept (K.knows known.now))) (trees_of (map (λ t. t.now) tokens.now))) }
+    ensures { IfOk result (λ found. found ≡ option_map (map (operand_kept (K.knows known.now))) (trees_of (map (λ t. t.now) tokens.now))) }
 {
     let found = read_back(alloc, known, tokens)?;
     Ok(found)
@@ -212,7 +212,7 @@ pub fn one_operand<K: Known>(
     tokens: &[&[u8]],
 ) -> Result<Operand, LineFail>
     ensures { LineGives (λ o. o) result
-        (only_operand (option_map (map (kept (K.knows known.now))) (trees_of (map (λ t. t.now) tokens.now)))) }
+        (only_operand (option_map (map (operand_kept (K.knows known.now))) (trees_of (map (λ t. t.now) tokens.now)))) }
 {
     let found = operands(alloc, known, tokens)?;
     let mut stack = found.ok_or(LineFail::Fault(Code::Syntax))?;
@@ -230,7 +230,7 @@ pub fn two_operands<K: Known>(
     tokens: &[&[u8]],
 ) -> Result<(Operand, Operand), LineFail>
     ensures { LineGives (λ o. o) result
-        (both_operands (option_map (map (kept (K.knows known.now))) (trees_of (map (λ t. t.now) tokens.now)))) }
+        (both_operands (option_map (map (operand_kept (K.knows known.now))) (trees_of (map (λ t. t.now) tokens.now)))) }
 {
     let found = operands(alloc, known, tokens)?;
     let mut stack = found.ok_or(LineFail::Fault(Code::Syntax))?;

@@ -1,6 +1,6 @@
 //! Tests of a token: whether it is a word, a number or a name.
 ghost use Rattle.std.specs.{Prelude.◌≡◌, Prelude.true, List.list_all, Char.is_ascii_digit};
-ghost use Rattle.flow_grammar.specs.{Tokens.is_word, Tokens.is_number, Tokens.is_name, Tokens.number_of, Numbers.number_within};
+ghost use Rattle.flow_grammar.specs.{Tokens.is_word, Tokens.is_number, Tokens.token_is_name, Tokens.number_of, Numbers.number_within};
 
 use flow_word::{Width, read_number};
 
@@ -30,9 +30,9 @@ fn all_digits(token: &[u8]) -> bool
 }
 
 /// Whether a token is a name.
-#[tactic(auto, unfolding(crate::specs::Tokens::is_name))]
+#[tactic(auto, unfolding(crate::specs::Tokens::token_is_name))]
 pub fn is_identifier(token: &[u8]) -> bool
-    ensures { result ≡ is_name token.now }
+    ensures { result ≡ token_is_name token.now }
 {
     flow_design::is_name(token)
 }

@@ -6,11 +6,11 @@ use Rattle.std.proofs.lemmas.Fmt.{decimal_is_IsNumeral, decimal_by_steps, decima
 use Rattle.std.specs.{Prelude.◌==◌, Prelude.nat_lt, Char.is_ascii_digit, Fmt.decimal, List.list_all}
 use Rattle.flow_design.specs.{declared.expr.Expr.Expr, declared.expr.Expr.TheVariants.Unary, declared.expr.UnOp.UnOp}
 use Rattle.flow_design.specs.{declared.expr.UnOp.TheVariants.Not, declared.expr.BinOp.BinOp, declared.expr.BinOp.TheVariants.Add}
-use Rattle.flow_design.specs.{declared.expr.Op.Op, declared.session.Statement.Statement, Names.is_name_byte}
+use Rattle.flow_design.specs.{declared.expr.Op.Op, declared.session.Statement.Statement, Names.is_name_byte, Names.Token, Names.Name}
 use Rattle.flow_design.specs.declared.session.Statement.TheVariants.{Fifo, At, Input}
 use Rattle.flow_design.specs.declared.expr.Op.TheVariants as op
-use Rattle.flow_grammar.specs.Tokens.{Token, is_filled, is_number, is_name, number_of}
-use Rattle.flow_grammar.specs.Parts.{Name, Part, Word, New, Use, Label, Num, parts, op_parts, guard_parts, expr_parts, plain}
+use Rattle.flow_grammar.specs.Tokens.{is_filled, is_number, token_is_name, number_of}
+use Rattle.flow_grammar.specs.Parts.{Part, Word, New, Use, Label, Num, parts, op_parts, guard_parts, expr_parts, plain}
 use Rattle.flow_grammar.specs.{Operators.binary_word, Spelling.Spells, Spelling.Spelled, Rules.is_well_named, Rules.is_in_range}
 use Rattle.flow_grammar.proofs.Induction.{by_cases}
 use Rattle.flow_grammar.proofs.SpellingLaws.{parts_Number, parts_Var, parts_Unary, parts_Binary, parts_Sext, parts_Pick}
@@ -63,8 +63,8 @@ letter_visible b h = grind (arith, nat_tests)
 letter_no_hash : (b : ℕ) → is_name_byte b ≡ true → not (b == 35) ≡ true
 letter_no_hash b h = grind (arith, nat_tests)
 
-name_printed : (t : Token) → is_name t ≡ true → is_printed t ≡ true
-unfolding is_name is_printed
+name_printed : (t : Token) → token_is_name t ≡ true → is_printed t ≡ true
+unfolding token_is_name is_printed
 name_printed [] h = absurd cc
 name_printed (b ∷ bs) h =
     let visible = all_of is_name_byte is_visible letter_visible (b ∷ bs) in let first = letter_no_hash b in grind arith

@@ -8,7 +8,7 @@ use Rattle.flow_grammar.specs.Parts.{Part, plain, parts}
 use Rattle.flow_grammar.proofs.SpellingLaws.{parts_Number, parts_Var, parts_Unary, parts_Binary, parts_Sext, parts_Pick}
 use Rattle.report_text.specs.Lines.{line, text_of_lines}
 use Rattle.report_text.proofs.LineLemmas.{lines_more}
-use Rattle.flow_print.specs.Canonical.{token_of, tokens_of, spaced_parts}
+use Rattle.flow_print.specs.Canonical.{token_of, statement_tokens, spaced_parts}
 
 -- ---- parts one after another
 
@@ -43,6 +43,6 @@ input_line text source values = ap (λ ts. text ++ line (codes "input" ∷ sourc
 
 -- the lines of the statements before one, and that one's line
 pub next_line : (version : ℕ) (statements : List Statement) (i : ℕ) (s : Statement) → i < length statements → s ≡ get_or statements i s
-    → text_of_lines (map (tokens_of version) (take i statements)) ++ line (tokens_of version s)
-    ≡ text_of_lines (map (tokens_of version) (take (i + 1) statements))
-next_line version statements i s h e = lines_more (tokens_of version) [] statements i s h e
+    → text_of_lines (map (statement_tokens version) (take i statements)) ++ line (statement_tokens version s)
+    ≡ text_of_lines (map (statement_tokens version) (take (i + 1) statements))
+next_line version statements i s h e = lines_more (statement_tokens version) [] statements i s h e

@@ -4,15 +4,14 @@ use Rattle.std.proofs.Common.{subst, ◌∙◌, append_assoc, append-nil, inl, i
 use Rattle.std.proofs.{lemmas.Bool.eqb-true, lemmas.List.reverse-append}
 use Rattle.std.specs.Prelude.{slice_get, reverse, ◌==◌, ◌||◌, if◌then◌else◌}
 use Rattle.std.specs.List.{list_all, join_with_byte, range_with_len}
-use Rattle.flow_design.specs.{declared.limits.Scale.Scale, Limits.limits_at, declared.session.Statement.Statement}
+use Rattle.flow_design.specs.{declared.limits.Scale.Scale, Limits.limits_at, declared.session.Statement.Statement, Names.Token}
 use Rattle.flow_design.specs.declared.session.Statement.TheVariants.{Flow, Fifo}
-use Rattle.flow_grammar.specs.Tokens.{Line, Token, lines_of, tokens_of}
-use Rattle.flow_grammar.specs.{Before.version, Before.has_delays, Places.may_follow, Spelling.Spelled, Spelling.WritesFifo, Spelling.Writes}
-use Rattle.flow_grammar.specs.Parts.{parts, depth_parts, fifo_parts, default_delay}
-use Rattle.flow_grammar.specs.Rules.{is_well_named, is_in_range, fits_version, statement_fault, is_over, KeepsRules, KeepsReadingRules}
-use Rattle.flow_grammar.specs.Text.{statements_among, numbers_among, IsInOrder, StandsFor}
+use Rattle.flow_grammar.specs.{Tokens.Line, Tokens.lines_of, Tokens.tokens_of, Before.version, Before.has_delays, Places.may_follow}
+use Rattle.flow_grammar.specs.{Spelling.Spelled, Spelling.WritesFifo, Spelling.Writes, Parts.parts, Parts.depth_parts, Parts.fifo_parts}
+use Rattle.flow_grammar.specs.{Parts.default_delay, Text.statements_among, Text.numbers_among, Text.IsInOrder, Text.StandsFor}
+use Rattle.flow_grammar.specs.Rules.{is_well_named, is_in_range, fits_version, statement_fault, is_complete, KeepsRules, KeepsReadingRules}
 use Rattle.flow_grammar.proofs.{TextLaws.Words, TextLaws.InOrderFrom, TextLaws.in_order_of, VersionLaws.same_version}
-use Rattle.flow_print.specs.Canonical.{written_parts, tokens_of as printed_tokens, version_of, canonical_text}
+use Rattle.flow_print.specs.Canonical.{written_parts, statement_tokens, version_of, canonical_text}
 use Rattle.flow_print.proofs.SplitLemmas.{is_printed, line_permitted, tokens_of_line, text_lines}
 use Rattle.flow_print.proofs.PartLemmas.{parts_printed, fit_parts, written_pass}
 
@@ -34,10 +33,10 @@ writes_printed v ts (Fifo n w depth delay) f p = go (has_delays v) refl f p
 writes_printed v ts s f p = p
 
 abbrev printed_line : ℕ → Statement → Line
-printed_line v s = join_with_byte 32 (printed_tokens v s)
+printed_line v s = join_with_byte 32 (statement_tokens v s)
 
 printed : (scale : Scale) (v : ℕ) (before : List Statement) (s : Statement) → KeepsRules scale before s
-    → (list_all is_printed (printed_tokens v s) ≡ true) × Spelled (printed_tokens v s) (written_parts v s)
+    → (list_all is_printed (statement_tokens v s) ≡ true) × Spelled (statement_tokens v s) (written_parts v s)
 printed scale v before s k =
     parts_printed (written_parts v s) (fit_parts v s) (written_pass v is_well_named s k.well_named)
     (written_pass v is_in_range s (range_of scale (reverse before) s k.faultless))
@@ -49,9 +48,9 @@ line_in_order : (scale : Scale) (v : ℕ) (before : List Statement) (s : Stateme
 line_in_order scale v before s k writes =
     let p = printed scale v before s k in
     record {
-      bytes = line_permitted (printed_tokens v s) p.0;
+      bytes = line_permitted (statement_tokens v s) p.0;
       says = writes (tokens_of (printed_line v s))
-          (subst (λ (ts : List Token). Spelled ts (written_parts v s)) (sym (tokens_of_line (printed_tokens v s) p.0)) p.1);
+          (subst (λ (ts : List Token). Spelled ts (written_parts v s)) (sym (tokens_of_line (statement_tokens v s) p.0)) p.1);
       stands = record { permitted = k.permitted; faultless = k.faultless };
     }
 
@@ -103,14 +102,14 @@ all_lines scale (Flow v ∷ ss) k =
 all_lines scale (s ∷ ss) k = absurd (let p = (keep_first scale [] s ss k).permitted in cc)
 
 all_printed : (scale : Scale) (v : ℕ) (front ss : List Statement) → Keep scale front ss
-    → list_all (list_all is_printed) (map (printed_tokens v) ss) ≡ true
+    → list_all (list_all is_printed) (map (statement_tokens v) ss) ≡ true
 all_printed scale v front [] k = refl
 all_printed scale v front (s ∷ ss) k =
     let here = (printed scale v front s (keep_first scale front s ss k)).0 in
     let rest = all_printed scale v (front ++ s ∷ []) ss (keep_rest scale front s ss k) in
     rw (here, rest) refl
 
-lines_printed : (v : ℕ) (ss : List Statement) → map (join_with_byte 32) (map (printed_tokens v) ss) ≡ map (printed_line v) ss
+lines_printed : (v : ℕ) (ss : List Statement) → map (join_with_byte 32) (map (statement_tokens v) ss) ≡ map (printed_line v) ss
 lines_printed v [] = refl
 lines_printed v (s ∷ ss) = ap (λ (r : List Line). printed_line v s ∷ r) (lines_printed v ss)
 
@@ -118,7 +117,7 @@ lines_are : (scale : Scale) (ss : List Statement) → Keep scale [] ss
     → lines_of (canonical_text ss) ≡ map (printed_line (version_of ss)) ss ++ [] ∷ []
 unfolding canonical_text
 lines_are scale ss k =
-    text_lines (map (printed_tokens (version_of ss)) ss) (all_printed scale (version_of ss) [] ss k)
+    text_lines (map (statement_tokens (version_of ss)) ss) (all_printed scale (version_of ss) [] ss k)
     ∙ ap (λ (r : List Line). r ++ [] ∷ []) (lines_printed (version_of ss) ss)
 
 same_statements : (ss : List Statement) → ss ≡ statements_among (said_of ss)
@@ -138,7 +137,7 @@ reads_back scale ss rules short = record {
   in_order = in_order_of scale (lines_of (canonical_text ss)) (said_of ss)
       (subst (λ (lines : List Line). InOrderFrom scale [] lines (said_of ss)) (sym (lines_are scale ss rules.each))
       (all_lines scale ss rules.each));
-  over = subst (λ (xs : List Statement). is_over xs ≡ true) (same_statements ss) rules.over;
+  over = subst (λ (xs : List Statement). is_complete xs ≡ true) (same_statements ss) rules.over;
   statements_are = same_statements ss;
   numbers_are = same_numbers 1 ss;
 }

@@ -1,11 +1,11 @@
 -- The canonical text of a session: one statement on each line, one space between tokens, numbers without leading zeros, each FIFO's
 -- depth written out, and its delay too in a version with delays.
 use Rattle.std.specs.{Prelude.ℕ, Prelude.List, Prelude.◌∷◌, Prelude.map, Prelude.if◌then◌else◌, Fmt.decimal, List.flat_map}
-use Rattle.flow_design.specs.declared.session.Statement.{Statement}
+use Rattle.flow_design.specs.{declared.session.Statement.Statement, Names.Token}
 use Rattle.flow_design.specs.declared.session.Statement.TheVariants.{Flow, Fifo}
 use Rattle.flow_grammar.specs.Before.{has_delays}
 use Rattle.flow_grammar.specs.Parts.{Part, Word, New, Use, Label, Num, parts, depth_parts, fifo_parts}
-use Rattle.report_text.specs.Lines.{Token, text_of_lines}
+use Rattle.report_text.specs.Lines.{text_of_lines}
 
 -- the token that writes a part
 abbrev pub token_of : Part → Token
@@ -21,8 +21,8 @@ written_parts version (Fifo n w depth delay) = if has_delays version then fifo_p
 written_parts version s = parts s
 
 -- the tokens that write a statement under a version of the language
-abbrev pub tokens_of : ℕ → Statement → List Token
-tokens_of version s = map token_of (written_parts version s)
+abbrev pub statement_tokens : ℕ → Statement → List Token
+statement_tokens version s = map token_of (written_parts version s)
 
 -- the version that the first statement of a session declares; 1 where it is no `flow`
 abbrev pub version_of : List Statement → ℕ
@@ -31,7 +31,7 @@ version_of statements = 1
 
 -- the canonical text of these statements
 unfoldable pub canonical_text : List Statement → List ℕ
-canonical_text statements = text_of_lines (map (tokens_of (version_of statements)) statements)
+canonical_text statements = text_of_lines (map (statement_tokens (version_of statements)) statements)
 
 -- parts as they follow others in a line: each with a space before it
 unfoldable pub spaced_parts : List Part → List ℕ

@@ -2,7 +2,7 @@
 ghost use Rattle.std.specs.Prelude.{◌≡◌, [], ◌∷◌, ◌++◌, codes, map, decimal, IfOk, OnOk};
 ghost use Rattle.report_text.specs.Lines.{line};
 ghost use Rattle.flow_grammar.specs.{Keywords.keyword_word, Parts.parts};
-ghost use Rattle.flow_print.specs.Canonical.{token_of, tokens_of, version_of, canonical_text};
+ghost use Rattle.flow_print.specs.Canonical.{token_of, statement_tokens, version_of, canonical_text};
 
 use crate::operation::{print_guard, print_operation};
 use flow_design::{Name, Op, Session, Statement};
@@ -43,7 +43,7 @@ fn print_statement(
     version: u64,
     statement: &Statement,
 ) -> Result<(), OutOfMemory>
-    ensures { OnOk result (text.new ≡ text.old ++ line (tokens_of version statement.now)) }
+    ensures { OnOk result (text.new ≡ text.old ++ line (statement_tokens version statement.now)) }
 {
     match statement {
         Statement::Flow(number) => print_numbers(text, Keyword::Flow.word(), &[*number]),

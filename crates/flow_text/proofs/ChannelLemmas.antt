@@ -2,7 +2,7 @@
 use Rattle.std.proofs.Common.{◌≡◌, ℕ, List, [], ◌∷◌, false, Option, Some, refl, arith}
 use Rattle.std.specs.List.{filter_map}
 use Rattle.flow_design.specs.declared.session.Statement.{Statement}
-use Rattle.flow_grammar.specs.Before.{channel_name, source_name, fifo_name, channels, is_among}
+use Rattle.flow_grammar.specs.Before.{declared_channel, source_name, declared_fifo, channels, is_among}
 use Rattle.flow_text.specs.{declared.tables.Tables.Tables, TablesOf.tables_of, TablesOf.IsOfStatements}
 
 abbrev Name : Type 0
@@ -10,12 +10,12 @@ Name = List ℕ
 
 -- a part of the names
 abbrev IsPart : (Statement → Option Name) → Type 0
-IsPart part = (s : Statement) (n : Name) → part s ≡ Some n → channel_name s ≡ Some n
+IsPart part = (s : Statement) (n : Name) → part s ≡ Some n → declared_channel s ≡ Some n
 
 sources_are : IsPart source_name
 sources_are s n e = grind arith
 
-fifos_are : IsPart fifo_name
+fifos_are : IsPart declared_fifo
 fifos_are s n e = grind arith
 
 module _ (part : Statement → Option Name) (are : IsPart part) where
@@ -31,4 +31,4 @@ new_source t n (scale, earlier, e) h = rw e (absent source_name sources_are earl
 -- and no FIFO
 pub new_fifo : (t : Tables) (n : Name) → IsOfStatements t → is_among t.channels n ≡ false → is_among t.fifos n ≡ false
 unfolding tables_of
-new_fifo t n (scale, earlier, e) h = rw e (absent fifo_name fifos_are earlier n (rw e at h))
+new_fifo t n (scale, earlier, e) h = rw e (absent declared_fifo fifos_are earlier n (rw e at h))

@@ -3,29 +3,29 @@ use Rattle.std.proofs.Common.{◌≡◌, ℕ, List, Bool, true, refl, arith, ◌
 use Rattle.std.proofs.Common.{subst, ◌∙◌, append_assoc}
 use Rattle.std.proofs.{lemmas.List.append-nil, lemmas.Bool.and_parts}
 use Rattle.std.specs.{Prelude.codes, Prelude.◌&&◌, Prelude.if◌then◌else◌, List.list_all}
-use Rattle.flow_design.specs.declared.session.Statement.{Statement}
+use Rattle.flow_design.specs.{declared.session.Statement.Statement, Names.Name}
 use Rattle.flow_design.specs.declared.session.Statement.TheVariants.{Fifo, Input}
-use Rattle.flow_grammar.specs.Parts.{default_depth, default_delay, Name, plain}
-use Rattle.flow_grammar.specs.{Tokens.is_number, Tokens.is_name, Tokens.number_of, Forms.only_if, declared.fault.Code.Code}
+use Rattle.flow_grammar.specs.{Parts.default_depth, Parts.default_delay, Parts.plain, Forms.only_if, declared.fault.Code.Code}
 use Rattle.flow_grammar.specs.{declared.fault.LineFail.LineFail, Rules.is_in_range, Gives.LineGives, Numbers.number_within}
+use Rattle.flow_grammar.specs.Tokens.{is_number, token_is_name, number_of}
 use Rattle.flow_text.specs.{declared.tables.Tables.Tables, Inputs.is_plain, Inputs.words_within, Inputs.input_reading}
-use Rattle.flow_text.specs.TableTests.{is_new, is_known, fault_by, reading_by}
+use Rattle.flow_text.specs.TableTests.{is_new_in, is_known_in, fault_by, reading_by}
 
 module _ (n w : List ℕ) where
   -- the tests of a FIFO whose depth and delay are these tokens, and the FIFO
   abbrev tests : List ℕ → List ℕ → Bool
-  tests depth delay = is_name n && (is_number w && (is_number depth && is_number delay))
+  tests depth delay = token_is_name n && (is_number w && (is_number depth && is_number delay))
 
   abbrev fifo : List ℕ → List ℕ → Statement
   fifo depth delay = Fifo n (number_of w) (number_of depth) (number_of delay)
 
   pub without_delay : (depth : List ℕ) → only_if (tests depth (codes "1")) (fifo depth (codes "1"))
-      ≡ only_if (is_name n && (is_number w && is_number depth)) (Fifo n (number_of w) (number_of depth) default_delay)
+      ≡ only_if (token_is_name n && (is_number w && is_number depth)) (Fifo n (number_of w) (number_of depth) default_delay)
   unfolding is_number
   without_delay depth = grind arith
 
   pub without_depth : only_if (tests (codes "2") (codes "1")) (fifo (codes "2") (codes "1"))
-      ≡ only_if (is_name n && is_number w) (Fifo n (number_of w) default_depth default_delay)
+      ≡ only_if (token_is_name n && is_number w) (Fifo n (number_of w) default_depth default_delay)
   unfolding is_number
   without_depth = grind arith
 
@@ -36,11 +36,11 @@ plain_ranged [] = refl
 plain_ranged (n ∷ ns) = ap (λ (b : Bool). is_plain n && b) (plain_ranged ns)
 
 module _ (t : Tables) where
-  plain_new : (ns : List ℕ) → list_all (is_new t) (map plain ns) ≡ true
+  plain_new : (ns : List ℕ) → list_all (is_new_in t) (map plain ns) ≡ true
   plain_new [] = refl
   plain_new (n ∷ ns) = plain_new ns
 
-  plain_known : (ns : List ℕ) → list_all (is_known t) (map plain ns) ≡ true
+  plain_known : (ns : List ℕ) → list_all (is_known_in t) (map plain ns) ≡ true
   plain_known [] = refl
   plain_known (n ∷ ns) = plain_known ns
 
@@ -53,13 +53,13 @@ module _ (t : Tables) where
   fits b c s h k = grind arith
 
   pub input_read : (n : Name) (tokens : List (List ℕ)) (words : Option (List ℕ)) (result : Result Statement LineFail)
-      → is_name n ≡ true → list_all is_number tokens ≡ true → words ≡ words_within (map number_of tokens)
+      → token_is_name n ≡ true → list_all is_number tokens ≡ true → words ≡ words_within (map number_of tokens)
       → LineGives (λ s. s) result (input_reading t n words)
-      → LineGives (λ s. s) result (reading_by t (only_if (is_name n && list_all is_number tokens) (Input n (map number_of tokens))))
+      → LineGives (λ s. s) result (reading_by t (only_if (token_is_name n && list_all is_number tokens) (Input n (map number_of tokens))))
   input_read n tokens words result h k e g =
       subst (λ (r : Result Statement Code). LineGives (λ s. s) result r)
       (ap (input_reading t n) e ∙ input_is n (map number_of tokens)
-      ∙ fits (is_name n) (list_all is_number tokens) (Input n (map number_of tokens)) h k)
+      ∙ fits (token_is_name n) (list_all is_number tokens) (Input n (map number_of tokens)) h k)
       g
 
 -- ---- reading the values one after the other

@@ -3,18 +3,18 @@ use Rattle.std.proofs.Common.{◌≡◌, List, [], ◌∷◌, map, Bool, true, f
 use Rattle.std.proofs.Common.{Err, ◌<◌, ◌≤◌, length, ℕ, ◌-◌, ◌^◌, subst, drop, get_or, take}
 use Rattle.std.proofs.{Math.Seq.take-length, lemmas.List.Folds.list_all-append}
 use Rattle.std.specs.{Prelude.◌&&◌, Prelude.option_map, List.list_all}
-use Rattle.flow_design.specs.{declared.expr.Expr.Expr, declared.expr.Op.Op, declared.session.Statement.Statement}
+use Rattle.flow_design.specs.{declared.expr.Expr.Expr, declared.expr.Op.Op, declared.session.Statement.Statement, Names.Name, Names.Token}
 use Rattle.flow_design.specs.declared.session.Statement.TheVariants.{At}
 use Rattle.flow_grammar.specs.{declared.fault.Code.Code, declared.fault.Code.TheVariants.Syntax, declared.operand.Operand.Operand}
-use Rattle.flow_grammar.specs.{Parts.Name, Parts.Part, Parts.expr_parts, Parts.op_parts, Before.is_among, Rules.is_in_range, Tokens.is_name}
-use Rattle.flow_grammar.specs.{Tokens.Token, Trees.Trees, Operands.kept, Operands.is_known_by, Operands.earlier, Gives.only_operand}
+use Rattle.flow_grammar.specs.{Parts.Part, Parts.expr_parts, Parts.op_parts, Before.is_among, Rules.is_in_range, Tokens.token_is_name}
+use Rattle.flow_grammar.specs.{Trees.Trees, Operands.operand_kept, Operands.is_known_by, Operands.earlier, Gives.only_operand}
 use Rattle.flow_grammar.specs.{Gives.both_operands, Gives.LineGives, declared.fault.LineFail.LineFail, Numbers.number_within}
 use Rattle.flow_grammar.specs.Forms.{one_tree, two_trees, if_then, guarded_of, op_of}
 use Rattle.flow_grammar.proofs.SpellingLaws.{same_tests}
 use Rattle.flow_text.specs.{declared.tables.Tables.Tables, declared.operations.TwoNames.TwoNames}
-use Rattle.flow_text.specs.TableTests.{is_known, is_new, fault_by, reading_by}
+use Rattle.flow_text.specs.TableTests.{is_known_in, is_new_in, fault_by, reading_by}
 use Rattle.flow_text.specs.Operations.{tree_judged, trees_judged, op_judged, tree_reading, trees_reading, op_reading, tree_kept, trees_kept}
-use Rattle.flow_text.specs.Operations.{made, store_op, op_of_names, named_op, is_variable, timed_reading, guard_known}
+use Rattle.flow_text.specs.Operations.{tree_made, store_op, op_of_names, named_op, is_variable, timed_reading, guard_known}
 use Rattle.flow_design.specs.declared.expr.Op.TheVariants as op
 
 -- tokens by the names in front of them, and the others
@@ -46,34 +46,34 @@ module _ (t : Tables) where
 
   -- what the reader keeps of it
   abbrev kept_of : Expr Name → Operand
-  kept_of e = kept (is_variable t) e
+  kept_of e = operand_kept (is_variable t) e
 
   -- parts whose names are known where they are variables
   abbrev Agrees : List Part → Type 0
-  Agrees ps = list_all (is_known t) ps ≡ list_all (is_known_by (is_variable t)) ps
+  Agrees ps = list_all (is_known_in t) ps ≡ list_all (is_known_by (is_variable t)) ps
 
   -- the names of an expression are all variables
   variables : (e : Expr Name) → Agrees (expr_parts e)
-  variables e = same_tests (is_known t) (is_known_by (is_variable t)) (λ w. refl) (λ least most n. refl) (λ x. refl) e
+  variables e = same_tests (is_known_in t) (is_known_by (is_variable t)) (λ w. refl) (λ least most n. refl) (λ x. refl) e
 
   -- ---- expressions beside names that are known or not
 
   -- one is the first test that it fails
   tree_is : (known : Bool) (e : Expr Name) → tree_kept known (kept_of e) ≡ tree_judged t known e
-  unfolding kept tree_judged
+  unfolding operand_kept tree_judged
   tree_is known e = grind arith
 
   -- two are the first test that one of them fails
   trees_are : (known : Bool) (e f : Expr Name)
       → trees_kept (tree_kept known (kept_of e)) (tree_kept true (kept_of f)) ≡ trees_judged t known e f
-  unfolding kept trees_judged earlier
+  unfolding operand_kept trees_judged earlier
   trees_are known e f = grind arith
 
   -- ---- what tokens give that write these expressions
 
   -- what is kept of them
   abbrev found_in : Option Trees → Option (List Operand)
-  found_in trees = option_map (map (kept (is_variable t))) trees
+  found_in trees = option_map (map (operand_kept (is_variable t))) trees
 
   pub tree_of_operand : (known : Bool) (trees : Option Trees) (o : Operand) → only_operand (found_in trees) ≡ Ok o
       → tree_reading t known trees ≡ Ok (tree_kept known o)
@@ -90,33 +90,35 @@ module _ (t : Tables) where
   -- ---- what tokens give that write such operations
 
   pub set_reads : (r : Name) (trees : Option Trees)
-      → op_reading t (if_then (is_name r) (option_map (op.Set r) (one_tree trees)))
-      ≡ cond (is_name r) (made (op.Set r) (tree_reading t (is_variable t r) trees)) (Err Syntax)
+      → op_reading t (if_then (token_is_name r) (option_map (op.Set r) (one_tree trees)))
+      ≡ cond (token_is_name r) (tree_made (op.Set r) (tree_reading t (is_variable t r) trees)) (Err Syntax)
   unfolding op_judged tree_judged
   set_reads r trees = grind (arith, variables)
 
   pub load_reads : (r m : Name) (trees : Option Trees)
-      → op_reading t (if_then (is_name r && is_name m) (option_map (op.Load r m) (one_tree trees)))
-      ≡ cond (is_name r && is_name m) (made (op.Load r m) (tree_reading t (is_variable t r && is_among t.memories m) trees)) (Err Syntax)
+      → op_reading t (if_then (token_is_name r && token_is_name m) (option_map (op.Load r m) (one_tree trees)))
+      ≡ cond (token_is_name r && token_is_name m)
+      (tree_made (op.Load r m) (tree_reading t (is_variable t r && is_among t.memories m) trees)) (Err Syntax)
   unfolding op_judged tree_judged
   load_reads r m trees = grind (arith, variables)
 
   pub write_reads : (f : Name) (trees : Option Trees)
-      → op_reading t (if_then (is_name f) (option_map (op.Write f) (one_tree trees)))
-      ≡ cond (is_name f) (made (op.Write f) (tree_reading t (is_among t.channels f) trees)) (Err Syntax)
+      → op_reading t (if_then (token_is_name f) (option_map (op.Write f) (one_tree trees)))
+      ≡ cond (token_is_name f) (tree_made (op.Write f) (tree_reading t (is_among t.channels f) trees)) (Err Syntax)
   unfolding op_judged tree_judged
   write_reads f trees = grind (arith, variables)
 
   pub try_write_reads : (f ok : Name) (trees : Option Trees)
-      → op_reading t (if_then (is_name f && is_name ok) (option_map (op.TryWrite f ok) (one_tree trees)))
-      ≡ cond (is_name f && is_name ok) (made (op.TryWrite f ok) (tree_reading t (is_among t.channels f && is_variable t ok) trees))
+      → op_reading t (if_then (token_is_name f && token_is_name ok) (option_map (op.TryWrite f ok) (one_tree trees)))
+      ≡ cond (token_is_name f && token_is_name ok)
+      (tree_made (op.TryWrite f ok) (tree_reading t (is_among t.channels f && is_variable t ok) trees))
       (Err Syntax)
   unfolding op_judged tree_judged
   try_write_reads f ok trees = grind (arith, variables)
 
   pub store_reads : (m : Name) (trees : Option Trees)
-      → op_reading t (if_then (is_name m) (two_trees (op.Store m) trees))
-      ≡ cond (is_name m) (made (store_op m) (trees_reading t (is_among t.memories m) trees)) (Err Syntax)
+      → op_reading t (if_then (token_is_name m) (two_trees (op.Store m) trees))
+      ≡ cond (token_is_name m) (tree_made (store_op m) (trees_reading t (is_among t.memories m) trees)) (Err Syntax)
   unfolding op_judged trees_judged
   store_reads m trees = grind (arith, variables, list_all-append)
 
@@ -145,10 +147,10 @@ guarded_one off f (x ∷ y ∷ ys) h k = absurd (omega arith)
 module _ (t : Tables) where
   -- no part of an operation is a new name
   abbrev NoneNew : List Part → Type 0
-  NoneNew ps = list_all (is_new t) ps ≡ true
+  NoneNew ps = list_all (is_new_in t) ps ≡ true
 
   expr_new : (e : Expr Name) → NoneNew (expr_parts e)
-  expr_new e = same_tests (is_new t) (λ p. true) (λ w. refl) (λ least most n. refl) (λ x. refl) e ∙ all_pass (expr_parts e)
+  expr_new e = same_tests (is_new_in t) (λ p. true) (λ w. refl) (λ least most n. refl) (λ x. refl) e ∙ all_pass (expr_parts e)
     where
       all_pass : (ps : List Part) → list_all (λ p. true) ps ≡ true
       all_pass [] = refl
@@ -186,11 +188,11 @@ module _ (t : Tables) where
   -- what the operation with a guard gives
   pub guarded_read : (n : ℕ) (r name : Name) (known : Bool) (found : Option (Op Name)) (offset : Option ℕ) (o : Result (Op Name) Code)
       (result : Result Statement LineFail)
-      → is_name r ≡ true → offset ≡ number_within 0 (2 ^ 64 - 1) n → known ≡ is_variable t r → name ≡ r → op_reading t found ≡ Ok o
+      → token_is_name r ≡ true → offset ≡ number_within 0 (2 ^ 64 - 1) n → known ≡ is_variable t r → name ≡ r → op_reading t found ≡ Ok o
       → LineGives (λ s. s) result (timed_reading t offset (Some name) known o)
-      → LineGives (λ s. s) result (reading_by t (if_then (is_name r) (option_map (At n (Some r)) found)))
+      → LineGives (λ s. s) result (reading_by t (if_then (token_is_name r) (option_map (At n (Some r)) found)))
   guarded_read n r name known found offset o result w e k m h g =
       subst (λ (x : Result Statement Code). LineGives (λ s. s) result x)
       ((λ i. timed_reading t (e i) (Some (m i)) (k i) o) ∙ at_read n (Some r) found o h
-      ∙ passed (is_name r) (option_map (At n (Some r)) found) w)
+      ∙ passed (token_is_name r) (option_map (At n (Some r)) found) w)
       g

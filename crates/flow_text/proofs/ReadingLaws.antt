@@ -3,16 +3,16 @@ use Rattle.std.proofs.Common.{◌≡◌, ℕ, ◌+◌, ◌≤◌, List, [], ◌�
 use Rattle.std.proofs.Common.{◌∙◌, append_assoc, arith}
 use Rattle.std.proofs.lemmas.List.{append-nil, reverse-append}
 use Rattle.std.specs.Prelude.{reverse}
-use Rattle.flow_design.specs.{declared.limits.Scale.Scale, declared.session.Statement.Statement}
+use Rattle.flow_design.specs.{declared.limits.Scale.Scale, declared.session.Statement.Statement, Names.Token}
 use Rattle.flow_grammar.specs.{declared.fault.Code.Code, declared.fault.TextFault.TextFault, declared.fault.ReadFail.ReadFail, Tokens.Line}
-use Rattle.flow_grammar.specs.{Tokens.Token, Tokens.lines_of, Tokens.tokens_of, Forms.statement_of, Line.form_fault, Line.tokens_fault}
-use Rattle.flow_grammar.specs.{Line.statement_in, Line.line_fault, Before.version, Places.place, Places.is_end, Rules.is_over}
+use Rattle.flow_grammar.specs.{Tokens.lines_of, Tokens.tokens_of, Forms.statement_of, Line.form_fault, Line.tokens_fault, Line.statement_in}
+use Rattle.flow_grammar.specs.{Line.line_fault, Before.version, Places.place_reached, Places.is_end, Rules.is_complete}
 use Rattle.flow_grammar.specs.Gives.{◌>>=◌, Read, judged, reading, at_line, line_reading, with_statement, with_number, in_front, ended}
 use Rattle.flow_grammar.specs.Gives.{TextFails}
 use Rattle.flow_grammar.specs.declared.fault.ReadFail.TheVariants as fails
 use Rattle.flow_text.specs.{declared.tables.Tables.Tables, TablesOf.tables_of, TableTests.reading_by, declared.progress.Progress.Progress}
 use Rattle.flow_text.specs.Lines.{said_by, tokens_reading_by, line_reading_by, accepted_if, lines_left, bytes_left}
-use Rattle.flow_text.specs.Progress.{IsKept, IsOpening, IsAdded, with_front}
+use Rattle.flow_text.specs.Progress.{KeepsTables, IsOpening, IsLineAdded, with_front}
 use Rattle.flow_text.proofs.TableLaws.{form_fault_same, accepted_same}
 
 -- ---- a line by the tables
@@ -41,9 +41,9 @@ more_tables scale before None = refl
 more_tables scale before (Some s) = accepted_same scale s (reverse before) ∙ ap (tables_of scale) (sym (reverse-append before (s ∷ [])))
 
 pub is_added : (old new : Progress) (said : Option Statement) (number : ℕ) (line : Line)
-    → IsKept old → at_line number (line_reading_by old.tables line) ≡ Ok said → new.tables ≡ accepted_if old.tables said
+    → KeepsTables old → at_line number (line_reading_by old.tables line) ≡ Ok said → new.tables ≡ accepted_if old.tables said
     → new.statements ≡ with_statement old.statements said → new.numbers ≡ with_number old.numbers number said → new.scale ≡ old.scale
-    → IsAdded old new number line
+    → IsLineAdded old new number line
 is_added old new said number line k r t s m z = record {
   said = said;
   reads = ap (at_line number) (sym (ap (λ (x : Tables). line_reading_by x line) k ∙ line_same old.scale old.statements line)) ∙ r;
@@ -54,7 +54,7 @@ is_added old new said number line k r t s m z = record {
       ∙ (λ i. tables_of (sym z i) (reverse (sym s i)));
 }
 
-pub line_fails : (old : Progress) (fail : ReadFail) (number : ℕ) (line : Line) → IsKept old
+pub line_fails : (old : Progress) (fail : ReadFail) (number : ℕ) (line : Line) → KeepsTables old
     → TextFails fail (at_line number (line_reading_by old.tables line))
     → TextFails fail (at_line number (line_reading old.scale old.statements line))
 line_fails old fail number line k f =
@@ -66,7 +66,7 @@ line_fails old fail number line k f =
 -- where the loop stands
 pub record Reaches (scale : Scale) (text : List ℕ) (p : Progress) (n : ℕ) (left : Option (List ℕ)) : Type 0 where
   pub same_scale : p.scale ≡ scale
-  pub kept : IsKept p
+  pub kept : KeepsTables p
   pub room : n + bytes_left left ≤ length text + 1
   pub so_far : with_front p.statements p.numbers (reading scale p.statements n (lines_left left)) ≡ reading scale [] 0 (lines_of text)
 
@@ -111,7 +111,7 @@ stops scale (fails.Text fault) statements numbers n line lines total h so_far = 
 -- one line more
 pub next : (scale : Scale) (text : List ℕ) (p q : Progress) (n : ℕ) (left behind : Option (List ℕ)) (rest line : List ℕ)
     → Reaches scale text p n left → left ≡ Some rest → lines_of rest ≡ line ∷ lines_left behind → bytes_left behind ≤ length rest
-    → IsAdded p q (n + 1) line → Reaches scale text q (n + 1) behind
+    → IsLineAdded p q (n + 1) line → Reaches scale text q (n + 1) behind
 next scale text p q n left behind rest line r l e shorter a =
     let s = a.statements in let m = a.numbers in
     record {
@@ -133,14 +133,14 @@ stops_here scale e text p n left behind rest line r l f h =
 
 -- ---- the end
 
-over_at : (before : List Statement) → is_end (place (reverse before)) ≡ is_over before
-unfolding is_over
+over_at : (before : List Statement) → is_end (place_reached (reverse before)) ≡ is_complete before
+unfolding is_complete
 over_at before = refl
 
-pub closes : (statements : List Statement) (numbers : List ℕ) (n : ℕ) → is_end (place (reverse statements)) ≡ true
-    → with_front statements numbers (ended (is_over statements) n) ≡ Ok (statements, numbers)
+pub closes : (statements : List Statement) (numbers : List ℕ) (n : ℕ) → is_end (place_reached (reverse statements)) ≡ true
+    → with_front statements numbers (ended (is_complete statements) n) ≡ Ok (statements, numbers)
 closes statements numbers n h = rw (sym (over_at statements) ∙ h, append-nil, append-nil) refl
 
-pub is_cut : (statements : List Statement) (numbers : List ℕ) (n : ℕ) → is_end (place (reverse statements)) ≡ false
-    → with_front statements numbers (ended (is_over statements) n) ≡ ended false n
+pub is_cut : (statements : List Statement) (numbers : List ℕ) (n : ℕ) → is_end (place_reached (reverse statements)) ≡ false
+    → with_front statements numbers (ended (is_complete statements) n) ≡ ended false n
 is_cut statements numbers n h = rw (sym (over_at statements) ∙ h) refl

@@ -8,19 +8,20 @@ use Rattle.flow_grammar.specs.{Parts.Part, Parts.parts, Places.may_stand, Places
 use Rattle.flow_design.specs.{declared.limits.Scale.Scale, declared.session.Statement.Statement}
 use Rattle.flow_design.specs.declared.session.Statement.TheVariants.{Flow}
 use Rattle.flow_grammar.specs.Rules as rules
-use Rattle.flow_text.specs.TablesOf.{tables_of, accepted}
-use Rattle.flow_text.specs.TableTests.{fault_by, form_fault_by, is_new, is_first_input, is_known, has_room}
+use Rattle.flow_text.specs.TablesOf.{tables_of, tables_with}
+use Rattle.flow_text.specs.TableTests.{fault_by, form_fault_by, is_new_in, is_first_input_in, is_known_in, tables_have_room}
 
 -- what a part is by the tables and by the grammar
 part_same : (scale : Scale) (earlier : List Statement) (p : Part)
-    → (is_new (tables_of scale earlier) p ≡ rules.is_new earlier p) × (is_known (tables_of scale earlier) p ≡ rules.is_known earlier p)
+    → (is_new_in (tables_of scale earlier) p ≡ rules.is_new earlier p)
+    × (is_known_in (tables_of scale earlier) p ≡ rules.is_known earlier p)
 unfolding tables_of
 part_same scale earlier p = (grind arith, grind arith)
 
 -- and what a statement is
 statement_same : (scale : Scale) (s : Statement) (earlier : List Statement)
-    → (is_first_input (tables_of scale earlier) s ≡ rules.is_first_input earlier s)
-    × (has_room (tables_of scale earlier) s ≡ rules.has_room scale earlier s)
+    → (is_first_input_in (tables_of scale earlier) s ≡ rules.is_first_input earlier s)
+    × (tables_have_room (tables_of scale earlier) s ≡ rules.has_room scale earlier s)
 unfolding tables_of
 statement_same scale (Flow n) earlier = (refl, refl)
 statement_same scale s earlier = (refl, refl)
@@ -45,7 +46,7 @@ form_fault_same scale (Some s) earlier = λ i. if place_same scale s earlier i t
 
 -- the tables of one statement more
 pub accepted_same : (scale : Scale) (s : Statement) (earlier : List Statement)
-    → accepted (tables_of scale earlier) s ≡ tables_of scale (s ∷ earlier)
+    → tables_with (tables_of scale earlier) s ≡ tables_of scale (s ∷ earlier)
 unfolding tables_of
 accepted_same scale s earlier =
     let own = take_while-cons is_no_module s earlier in let body = take_while-cons is_no_block s earlier in

@@ -1,10 +1,10 @@
 -- What lines give, by the tables of the statements before them.
 use Rattle.std.specs.Prelude.{ℕ, ◌+◌, List, [], ◌∷◌, length, if◌then◌else◌, Option, None, Some, Result, Ok, Err}
 use Rattle.std.specs.List.{list_all}
-use Rattle.flow_design.specs.declared.session.Statement.{Statement}
+use Rattle.flow_design.specs.{declared.session.Statement.Statement, Names.Token}
 use Rattle.flow_grammar.specs.{declared.fault.Code.Code, declared.fault.Code.TheVariants.NotAscii, Forms.statement_of}
-use Rattle.flow_grammar.specs.Tokens.{Line, Token, lines_of, tokens_of, is_permitted}
-use Rattle.flow_text.specs.{declared.tables.Tables.Tables, TablesOf.accepted, TableTests.reading_by}
+use Rattle.flow_grammar.specs.Tokens.{Line, lines_of, tokens_of, is_permitted}
+use Rattle.flow_text.specs.{declared.tables.Tables.Tables, TablesOf.tables_with, TableTests.reading_by}
 
 -- what a line says whose tokens give this: its statement, or the first test that it fails
 abbrev pub said_by : Result Statement Code → Result (Option Statement) Code
@@ -23,7 +23,7 @@ line_reading_by t line = if list_all is_permitted line then tokens_reading_by t 
 -- the tables after a line that says this
 abbrev pub accepted_if : Tables → Option Statement → Tables
 accepted_if t None = t
-accepted_if t (Some s) = accepted t s
+accepted_if t (Some s) = tables_with t s
 
 -- the lines that are left to read
 abbrev pub lines_left : Option (List ℕ) → List Line

@@ -1,15 +1,16 @@
 -- Operations while they are read: an expression or an operation, or the first test that it fails.
 use Rattle.std.specs.Prelude.{ℕ, Bool, true, false, [], ◌∷◌, ◌&&◌, not, nat_lt, if◌then◌else◌, Option, None, Some, Result, Ok, Err}
 use Rattle.std.specs.List.{list_all}
-use Rattle.flow_design.specs.{declared.expr.Expr.Expr, declared.expr.Op.Op, declared.session.Statement.Statement}
+use Rattle.flow_design.specs.{declared.expr.Expr.Expr, declared.expr.Op.Op, declared.session.Statement.Statement, Names.Name}
 use Rattle.flow_design.specs.declared.session.Statement.TheVariants.{At}
 use Rattle.flow_design.specs.declared.expr.Op.TheVariants as op
-use Rattle.flow_grammar.specs.{declared.fault.Code.Code, declared.operand.Operand.Operand, Parts.Name, Parts.expr_parts, Parts.op_parts}
+use Rattle.flow_grammar.specs.{declared.fault.Code.Code, declared.operand.Operand.Operand, Parts.expr_parts, Parts.op_parts}
 use Rattle.flow_grammar.specs.{Parts.AVariable, Before.is_among, Rules.is_in_range, Rules.is_small, Rules.has_small_trees}
 use Rattle.flow_grammar.specs.{Operands.is_known_by, Operands.earlier, Trees.Trees, Places.takes_operations}
 use Rattle.flow_grammar.specs.declared.fault.Code.TheVariants.{Syntax, BadNumber, UnknownName, TooMany}
 use Rattle.flow_grammar.specs.declared.operand.Operand.TheVariants.{Whole, Faulty}
-use Rattle.flow_text.specs.{declared.operations.TwoNames.TwoNames, declared.tables.Tables.Tables, TableTests.named, TableTests.is_known}
+use Rattle.flow_text.specs.{declared.operations.TwoNames.TwoNames, declared.tables.Tables.Tables}
+use Rattle.flow_text.specs.TableTests.{names_of_sort, is_known_in}
 use Rattle.flow_text.specs.declared.operations.TwoNames.TheVariants as two
 
 -- a value, or the first of three tests that fails
@@ -19,7 +20,7 @@ tested ranged known small x =
 
 -- the name is that of a register or temp
 abbrev pub is_variable : Tables → Name → Bool
-is_variable t n = is_among (named t AVariable) n
+is_variable t n = is_among (names_of_sort t AVariable) n
 
 -- an expression, or the first test that fails; `known` tells whether the names beside it are known
 unfoldable pub tree_judged : Tables → Bool → Expr Name → Result (Expr Name) Code
@@ -35,7 +36,7 @@ trees_judged t known e f =
 
 -- an operation, or the first test that it fails
 unfoldable pub op_judged : Tables → Op Name → Result (Op Name) Code
-op_judged t o = tested (list_all is_in_range (op_parts o)) (list_all (is_known t) (op_parts o)) (has_small_trees o) o
+op_judged t o = tested (list_all is_in_range (op_parts o)) (list_all (is_known_in t) (op_parts o)) (has_small_trees o) o
 
 -- ---- what tokens give that write expressions or an operation
 
@@ -77,9 +78,9 @@ abbrev pub with_tree : {A B : Type 0} → (A → B) → Result A Code → Result
 with_tree f (Err c) = Err c
 with_tree f (Ok x) = Ok (f x)
 
-abbrev pub made : {A B : Type 0} → (A → B) → Result (Result A Code) Code → Result (Result B Code) Code
-made f (Err c) = Err c
-made f (Ok r) = Ok (with_tree f r)
+abbrev pub tree_made : {A B : Type 0} → (A → B) → Result (Result A Code) Code → Result (Result B Code) Code
+tree_made f (Err c) = Err c
+tree_made f (Ok r) = Ok (with_tree f r)
 
 abbrev pub store_op : Name → Expr Name × Expr Name → Op Name
 store_op m p = op.Store m p.0 p.1

@@ -6,8 +6,8 @@ use Rattle.flow_grammar.specs.Gives.{◌>>=◌, Read, reading, at_line, line_rea
 use Rattle.flow_text.specs.{TablesOf.tables_of, declared.progress.Progress.Progress}
 
 -- the tables are those of the statements that are read, at the session's scale
-abbrev pub IsKept : Progress → Type 0
-IsKept p = p.tables ≡ tables_of p.scale (reverse p.statements)
+abbrev pub KeepsTables : Progress → Type 0
+KeepsTables p = p.tables ≡ tables_of p.scale (reverse p.statements)
 
 -- nothing is read yet of a session of this scale
 pub record IsOpening (scale : Scale) (p : Progress) : Type 0 where
@@ -17,13 +17,13 @@ pub record IsOpening (scale : Scale) (p : Progress) : Type 0 where
   pub numbers : p.numbers ≡ []
 
 -- the line with this number was read, after what was read before
-pub record IsAdded (old new : Progress) (number : ℕ) (line : Line) : Type 0 where
+pub record IsLineAdded (old new : Progress) (number : ℕ) (line : Line) : Type 0 where
   pub said : Option Statement
   pub reads : at_line number (line_reading old.scale old.statements line) ≡ Ok said
   pub statements : new.statements ≡ with_statement old.statements said
   pub numbers : new.numbers ≡ with_number old.numbers number said
   pub same_scale : new.scale ≡ old.scale
-  pub kept : IsKept new
+  pub kept : KeepsTables new
 
 -- what was read before, followed by what is still read
 abbrev pub with_front : List Statement → List ℕ → Result Read TextFault → Result Read TextFault
@@ -32,5 +32,5 @@ with_front statements numbers read = read >>= λ r. Ok (statements ++ r.0, numbe
 -- all n lines of the text are read, as a session of this scale
 pub record IsThrough (scale : Scale) (text : List ℕ) (p : Progress) (n : ℕ) : Type 0 where
   pub same_scale : p.scale ≡ scale
-  pub kept : IsKept p
+  pub kept : KeepsTables p
   pub reads : with_front p.statements p.numbers (reading scale p.statements n []) ≡ reading scale [] 0 (lines_of text)

@@ -16,56 +16,56 @@ abbrev Name : Type 0
 Name = List ℕ
 
 -- the names that are declared in a space
-abbrev pub taken : Tables → Space → List Name
-taken t ChannelName = t.channels
-taken t ModuleName = t.modules
-taken t RegisterName = t.registers ++ t.memories
-taken t MemoryName = t.registers ++ t.memories
-taken t TempName = t.registers ++ (t.memories ++ t.temps)
-taken t BlockName = t.blocks
+abbrev pub names_in_space : Tables → Space → List Name
+names_in_space t ChannelName = t.channels
+names_in_space t ModuleName = t.modules
+names_in_space t RegisterName = t.registers ++ t.memories
+names_in_space t MemoryName = t.registers ++ t.memories
+names_in_space t TempName = t.registers ++ (t.memories ++ t.temps)
+names_in_space t BlockName = t.blocks
 
-abbrev pub is_new : Tables → Part → Bool
-is_new t (New space name) = not (is_among (taken t space) name)
-is_new t part = true
+abbrev pub is_new_in : Tables → Part → Bool
+is_new_in t (New space name) = not (is_among (names_in_space t space) name)
+is_new_in t part = true
 
-abbrev pub is_first_input : Tables → Statement → Bool
-is_first_input t (Input n values) = not (is_among t.inputs n)
-is_first_input t s = true
+abbrev pub is_first_input_in : Tables → Statement → Bool
+is_first_input_in t (Input n values) = not (is_among t.inputs n)
+is_first_input_in t s = true
 
 -- the names of a sort that are declared
-abbrev pub named : Tables → Sort → List Name
-named t AnyChannel = t.channels
-named t ASource = t.sources
-named t AFifo = t.fifos
-named t ARegister = t.registers
-named t AMemory = t.memories
-named t AVariable = t.registers ++ t.temps
+abbrev pub names_of_sort : Tables → Sort → List Name
+names_of_sort t AnyChannel = t.channels
+names_of_sort t ASource = t.sources
+names_of_sort t AFifo = t.fifos
+names_of_sort t ARegister = t.registers
+names_of_sort t AMemory = t.memories
+names_of_sort t AVariable = t.registers ++ t.temps
 
-abbrev pub is_known : Tables → Part → Bool
-is_known t (Use sort name) = is_among (named t sort) name
-is_known t part = true
+abbrev pub is_known_in : Tables → Part → Bool
+is_known_in t (Use sort name) = is_among (names_of_sort t sort) name
+is_known_in t part = true
 
 -- the limits allow one more statement like this
-abbrev pub has_room : Tables → Statement → Bool
-has_room t (Source n w) = nat_lt (length t.channels) t.limits.channels
-has_room t (Sink n w) = nat_lt (length t.channels) t.limits.channels
-has_room t (Fifo n w depth delay) = nat_lt (length t.channels) t.limits.channels
-has_room t (Module n) = nat_lt (length t.modules) t.limits.modules
-has_room t (Reg n w) = nat_lt (length t.registers) t.limits.registers
-has_room t (Mem n w l) = nat_lt (length t.memories) t.limits.memories && nat_le (t.memory_words + l) ALL_MEMORY_WORDS
-has_room t (Block n l) = nat_lt (length t.blocks) t.limits.blocks
-has_room t (Loop n ii l r) = nat_lt (length t.blocks) t.limits.blocks
-has_room t (Temp n w) = nat_lt (length t.temps) t.limits.temps
-has_room t (At off guard o) = nat_lt t.operations t.limits.operations && has_small_trees o
-has_room t (Input n values) = nat_le (t.input_values + length values) t.limits.input_values
-has_room t (Depth n d) = nat_lt t.edits EDITS
-has_room t s = true
+abbrev pub tables_have_room : Tables → Statement → Bool
+tables_have_room t (Source n w) = nat_lt (length t.channels) t.limits.channels
+tables_have_room t (Sink n w) = nat_lt (length t.channels) t.limits.channels
+tables_have_room t (Fifo n w depth delay) = nat_lt (length t.channels) t.limits.channels
+tables_have_room t (Module n) = nat_lt (length t.modules) t.limits.modules
+tables_have_room t (Reg n w) = nat_lt (length t.registers) t.limits.registers
+tables_have_room t (Mem n w l) = nat_lt (length t.memories) t.limits.memories && nat_le (t.memory_words + l) ALL_MEMORY_WORDS
+tables_have_room t (Block n l) = nat_lt (length t.blocks) t.limits.blocks
+tables_have_room t (Loop n ii l r) = nat_lt (length t.blocks) t.limits.blocks
+tables_have_room t (Temp n w) = nat_lt (length t.temps) t.limits.temps
+tables_have_room t (At off guard o) = nat_lt t.operations t.limits.operations && has_small_trees o
+tables_have_room t (Input n values) = nat_le (t.input_values + length values) t.limits.input_values
+tables_have_room t (Depth n d) = nat_lt t.edits EDITS
+tables_have_room t s = true
 
 -- the first rule that a statement breaks, if it breaks one
 unfoldable pub fault_by : Tables → Statement → Option Code
 fault_by t s =
-    first_broken (list_all is_in_range (parts s) && is_within t.limits s) (list_all (is_new t) (parts s) && is_first_input t s)
-    (list_all (is_known t) (parts s)) (has_room t s)
+    first_broken (list_all is_in_range (parts s) && is_within t.limits s) (list_all (is_new_in t) (parts s) && is_first_input_in t s)
+    (list_all (is_known_in t) (parts s)) (tables_have_room t s)
 
 -- the first test that tokens fail which write this statement; `Syntax` where they write none
 abbrev pub form_fault_by : Tables → Option Statement → Option Code

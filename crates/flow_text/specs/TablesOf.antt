@@ -4,7 +4,7 @@ use Rattle.flow_design.specs.{declared.limits.Scale.Scale, declared.session.Stat
 use Rattle.flow_design.specs.declared.session.Statement.TheVariants.{Flow, Source, Sink, Fifo, Module, Reg, Mem, Block, Loop, Temp, At}
 use Rattle.flow_design.specs.declared.session.Statement.TheVariants.{Goto, Branch, Stop, Input, Limits, Depth, End}
 use Rattle.flow_grammar.specs.Before as before
-use Rattle.flow_grammar.specs.{declared.place.Place.Place, Places.place}
+use Rattle.flow_grammar.specs.{declared.place.Place.Place, Places.place_reached}
 use Rattle.flow_grammar.specs.declared.place.Place.TheVariants.{AmongChannels, AmongRegisters, AmongTemps, AmongOperations, AfterBody}
 use Rattle.flow_grammar.specs.declared.place.Place.TheVariants.{AmongInputs, AmongEdits, AtEnd}
 use Rattle.flow_text.specs.declared.tables.Tables.{Tables}
@@ -15,12 +15,12 @@ Name = List ℕ
 -- the tables of some statements, the latest first
 unfoldable pub tables_of : Scale → List Statement → Tables
 tables_of scale earlier = record {
-  place = place earlier;
+  place = place_reached earlier;
   version = before.version earlier;
   limits = limits_at scale;
   channels = before.channels earlier;
   sources = before.sources earlier;
-  fifos = before.fifos earlier;
+  fifos = before.declared_fifos earlier;
   modules = before.modules earlier;
   registers = before.registers earlier;
   memories = before.memories earlier;
@@ -71,32 +71,32 @@ with_operation t = record t { place = AmongOperations; operations = t.operations
 abbrev pub with_input : Tables → Name → ℕ → Tables
 with_input t n count = record t { place = AmongInputs; inputs = n ∷ t.inputs; input_values = t.input_values + count }
 
-abbrev pub with_edit : Tables → Tables
-with_edit t = record t { place = AmongEdits; edits = t.edits + 1 }
+abbrev pub with_edit_line : Tables → Tables
+with_edit_line t = record t { place = AmongEdits; edits = t.edits + 1 }
 
-abbrev pub at_place : Tables → Place → Tables
-at_place t p = record t { place = p }
+abbrev pub with_place : Tables → Place → Tables
+with_place t p = record t { place = p }
 
 -- the tables after one more statement
-abbrev pub accepted : Tables → Statement → Tables
-accepted t (Flow v) = with_flow t v
-accepted t (Source n w) = with_source t n
-accepted t (Sink n w) = with_sink t n
-accepted t (Fifo n w depth delay) = with_fifo t n
-accepted t (Module n) = with_module t n
-accepted t (Reg n w) = with_register t n
-accepted t (Mem n w l) = with_memory t n l
-accepted t (Block n l) = with_block t n
-accepted t (Loop n ii l r) = with_block t n
-accepted t (Temp n w) = with_temp t n
-accepted t (At off guard o) = with_operation t
-accepted t (Goto b) = at_place t AfterBody
-accepted t (Branch r b c) = at_place t AfterBody
-accepted t Stop = at_place t AfterBody
-accepted t (Input n values) = with_input t n (length values)
-accepted t (Limits c o) = at_place t AmongEdits
-accepted t (Depth n d) = with_edit t
-accepted t End = at_place t AtEnd
+abbrev pub tables_with : Tables → Statement → Tables
+tables_with t (Flow v) = with_flow t v
+tables_with t (Source n w) = with_source t n
+tables_with t (Sink n w) = with_sink t n
+tables_with t (Fifo n w depth delay) = with_fifo t n
+tables_with t (Module n) = with_module t n
+tables_with t (Reg n w) = with_register t n
+tables_with t (Mem n w l) = with_memory t n l
+tables_with t (Block n l) = with_block t n
+tables_with t (Loop n ii l r) = with_block t n
+tables_with t (Temp n w) = with_temp t n
+tables_with t (At off guard o) = with_operation t
+tables_with t (Goto b) = with_place t AfterBody
+tables_with t (Branch r b c) = with_place t AfterBody
+tables_with t Stop = with_place t AfterBody
+tables_with t (Input n values) = with_input t n (length values)
+tables_with t (Limits c o) = with_place t AmongEdits
+tables_with t (Depth n d) = with_edit_line t
+tables_with t End = with_place t AtEnd
 
 -- the tables are those of some statements at some scale
 abbrev pub IsOfStatements : Tables → Type 0

@@ -1,9 +1,9 @@
 //! Reading the statements of channels.
 ghost use Rattle.std.specs.Prelude.{◌≡◌, map, ◌&&◌, IfOk};
 ghost use Rattle.flow_design.specs.declared.session.Statement.TheVariants.{Source, Sink, Fifo};
-ghost use Rattle.flow_grammar.specs.{Tokens.is_number, Tokens.is_name, Tokens.number_of, Forms.only_if, Forms.name_width, Forms.fifo_of};
-ghost use Rattle.flow_grammar.specs.{Gives.LineGives, Parts.default_depth, Parts.default_delay};
-ghost use Rattle.flow_text.specs.{TablesOf.accepted, TablesOf.IsOfStatements, TableTests.reading_by};
+ghost use Rattle.flow_grammar.specs.{Tokens.is_number, Tokens.token_is_name, Tokens.number_of, Forms.only_if, Forms.name_width};
+ghost use Rattle.flow_grammar.specs.{Forms.fifo_of, Gives.LineGives, Parts.default_depth, Parts.default_delay};
+ghost use Rattle.flow_text.specs.{TablesOf.tables_with, TablesOf.IsOfStatements, TableTests.reading_by};
 
 use crate::ensure::{Parsed, ensure, syntax};
 use crate::tables::Tables;
@@ -17,7 +17,7 @@ use std::alloc::Global;
 pub fn source<'a>(alloc: Global, tables: &mut Tables<'a>, tokens: &[&'a [u8]]) -> Parsed<Statement>
     requires { IsOfStatements tables.old }
     ensures given { LineGives (λ s. s) result (reading_by tables.old (name_width Source (map (λ t. t.now) tokens.now))) }
-    ensures kept { IfOk result (λ s. tables.new ≡ accepted tables.old s) }
+    ensures kept { IfOk result (λ s. tables.new ≡ tables_with tables.old s) }
 {
     let [name, width] = tokens else {
         return Err(LineFail::Fault(Code::Syntax));
@@ -37,7 +37,7 @@ pub fn source<'a>(alloc: Global, tables: &mut Tables<'a>, tokens: &[&'a [u8]]) -
 #[tactic(auto, unfolding(crate::specs::TableTests::fault_by))]
 pub fn sink<'a>(alloc: Global, tables: &mut Tables<'a>, tokens: &[&'a [u8]]) -> Parsed<Statement>
     ensures given { LineGives (λ s. s) result (reading_by tables.old (name_width Sink (map (λ t. t.now) tokens.now))) }
-    ensures kept { IfOk result (λ s. tables.new ≡ accepted tables.old s) }
+    ensures kept { IfOk result (λ s. tables.new ≡ tables_with tables.old s) }
 {
     let [name, width] = tokens else {
         return Err(LineFail::Fault(Code::Syntax));
@@ -66,9 +66,9 @@ fn new_fifo<'a>(
     requires { IsOfStatements tables.old }
     ensures given { LineGives (λ s. s) result
         (reading_by tables.old
-        (only_if (is_name name.now && (is_number width.now && (is_number depth.now && is_number delay.now)))
+        (only_if (token_is_name name.now && (is_number width.now && (is_number depth.now && is_number delay.now)))
         (Fifo name.now (number_of width.now) (number_of depth.now) (number_of delay.now)))) }
-    ensures kept { IfOk result (λ s. tables.new ≡ accepted tables.old s) }
+    ensures kept { IfOk result (λ s. tables.new ≡ tables_with tables.old s) }
 {
     syntax(tables.place.takes_channels() && is_identifier(name))?;
     syntax(is_numeral(width) && is_numeral(depth) && is_numeral(delay))?;
@@ -103,9 +103,9 @@ fn new_depth_fifo<'a>(
     requires { IsOfStatements tables.old }
     ensures given { LineGives (λ s. s) result
         (reading_by tables.old
-        (only_if (is_name name.now && (is_number width.now && is_number depth.now))
+        (only_if (token_is_name name.now && (is_number width.now && is_number depth.now))
         (Fifo name.now (number_of width.now) (number_of depth.now) default_delay))) }
-    ensures kept { IfOk result (λ s. tables.new ≡ accepted tables.old s) }
+    ensures kept { IfOk result (λ s. tables.new ≡ tables_with tables.old s) }
 {
     new_fifo(alloc, tables, name, width, depth, b"1")
 }
@@ -121,8 +121,8 @@ fn new_bare_fifo<'a>(
     requires { IsOfStatements tables.old }
     ensures given { LineGives (λ s. s) result
         (reading_by tables.old
-        (only_if (is_name name.now && is_number width.now) (Fifo name.now (number_of width.now) default_depth default_delay))) }
-    ensures kept { IfOk result (λ s. tables.new ≡ accepted tables.old s) }
+        (only_if (token_is_name name.now && is_number width.now) (Fifo name.now (number_of width.now) default_depth default_delay))) }
+    ensures kept { IfOk result (λ s. tables.new ≡ tables_with tables.old s) }
 {
     new_fifo(alloc, tables, name, width, b"2", b"1")
 }
@@ -133,7 +133,7 @@ fn new_bare_fifo<'a>(
 pub fn fifo<'a>(alloc: Global, tables: &mut Tables<'a>, tokens: &[&'a [u8]]) -> Parsed<Statement>
     requires { IsOfStatements tables.old }
     ensures given { LineGives (λ s. s) result (reading_by tables.old (fifo_of tables.old.version (map (λ t. t.now) tokens.now))) }
-    ensures kept { IfOk result (λ s. tables.new ≡ accepted tables.old s) }
+    ensures kept { IfOk result (λ s. tables.new ≡ tables_with tables.old s) }
 {
     match tokens {
         [name, width] => new_bare_fifo(alloc, tables, *name, *width),

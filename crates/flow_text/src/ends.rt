@@ -3,7 +3,7 @@ ghost use Rattle.std.specs.Prelude.{◌≡◌, map, IfOk};
 ghost use Rattle.flow_design.specs.declared.session.Statement.TheVariants.{Goto, Stop, Depth, End};
 ghost use Rattle.flow_grammar.specs.Forms.{name_width, one_name, flow_of, branch_of, limits_of, bare};
 ghost use Rattle.flow_grammar.specs.Gives.{LineGives};
-ghost use Rattle.flow_text.specs.{TablesOf.accepted, TableTests.reading_by};
+ghost use Rattle.flow_text.specs.{TablesOf.tables_with, TableTests.reading_by};
 
 use crate::ensure::{Parsed, ensure, syntax};
 use crate::tables::Tables;
@@ -16,7 +16,7 @@ use std::alloc::Global;
 #[tactic(auto, unfolding(crate::specs::TableTests::fault_by, flow_grammar::specs::Forms::flow_of))]
 pub fn flow<'a>(tables: &mut Tables<'a>, tokens: &[&'a [u8]]) -> Parsed<Statement>
     ensures given { LineGives (λ s. s) result (reading_by tables.old (flow_of (map (λ t. t.now) tokens.now))) }
-    ensures kept { IfOk result (λ s. tables.new ≡ accepted tables.old s) }
+    ensures kept { IfOk result (λ s. tables.new ≡ tables_with tables.old s) }
 {
     let [version] = tokens else {
         return Err(LineFail::Fault(Code::Syntax));
@@ -31,7 +31,7 @@ pub fn flow<'a>(tables: &mut Tables<'a>, tokens: &[&'a [u8]]) -> Parsed<Statemen
 #[tactic(auto, unfolding(crate::specs::TableTests::fault_by))]
 pub fn goto<'a>(alloc: Global, tables: &mut Tables<'a>, tokens: &[&'a [u8]]) -> Parsed<Statement>
     ensures given { LineGives (λ s. s) result (reading_by tables.old (one_name Goto (map (λ t. t.now) tokens.now))) }
-    ensures kept { IfOk result (λ s. tables.new ≡ accepted tables.old s) }
+    ensures kept { IfOk result (λ s. tables.new ≡ tables_with tables.old s) }
 {
     let [block] = tokens else {
         return Err(LineFail::Fault(Code::Syntax));
@@ -45,7 +45,7 @@ pub fn goto<'a>(alloc: Global, tables: &mut Tables<'a>, tokens: &[&'a [u8]]) -> 
 #[tactic(auto, unfolding(crate::specs::TableTests::fault_by, flow_grammar::specs::Forms::branch_of))]
 pub fn branch<'a>(alloc: Global, tables: &mut Tables<'a>, tokens: &[&'a [u8]]) -> Parsed<Statement>
     ensures given { LineGives (λ s. s) result (reading_by tables.old (branch_of (map (λ t. t.now) tokens.now))) }
-    ensures kept { IfOk result (λ s. tables.new ≡ accepted tables.old s) }
+    ensures kept { IfOk result (λ s. tables.new ≡ tables_with tables.old s) }
 {
     let [register, first, second] = tokens else {
         return Err(LineFail::Fault(Code::Syntax));
@@ -68,7 +68,7 @@ pub fn branch<'a>(alloc: Global, tables: &mut Tables<'a>, tokens: &[&'a [u8]]) -
 #[tactic(auto, unfolding(crate::specs::TableTests::fault_by))]
 pub fn stop<'a>(tables: &mut Tables<'a>, tokens: &[&'a [u8]]) -> Parsed<Statement>
     ensures given { LineGives (λ s. s) result (reading_by tables.old (bare Stop (map (λ t. t.now) tokens.now))) }
-    ensures kept { IfOk result (λ s. tables.new ≡ accepted tables.old s) }
+    ensures kept { IfOk result (λ s. tables.new ≡ tables_with tables.old s) }
 {
     syntax(tokens.is_empty() && tables.place.takes_operations())?;
     tables.go_on(Place::AfterBody);
@@ -79,7 +79,7 @@ pub fn stop<'a>(tables: &mut Tables<'a>, tokens: &[&'a [u8]]) -> Parsed<Statemen
 #[tactic(auto, unfolding(crate::specs::TableTests::fault_by, flow_grammar::specs::Forms::limits_of))]
 pub fn limits<'a>(tables: &mut Tables<'a>, tokens: &[&'a [u8]]) -> Parsed<Statement>
     ensures given { LineGives (λ s. s) result (reading_by tables.old (limits_of (map (λ t. t.now) tokens.now))) }
-    ensures kept { IfOk result (λ s. tables.new ≡ accepted tables.old s) }
+    ensures kept { IfOk result (λ s. tables.new ≡ tables_with tables.old s) }
 {
     let [cycles, ops] = tokens else {
         return Err(LineFail::Fault(Code::Syntax));
@@ -95,7 +95,7 @@ pub fn limits<'a>(tables: &mut Tables<'a>, tokens: &[&'a [u8]]) -> Parsed<Statem
 #[tactic(auto, unfolding(crate::specs::TableTests::fault_by))]
 pub fn edit<'a>(alloc: Global, tables: &mut Tables<'a>, tokens: &[&'a [u8]]) -> Parsed<Statement>
     ensures given { LineGives (λ s. s) result (reading_by tables.old (name_width Depth (map (λ t. t.now) tokens.now))) }
-    ensures kept { IfOk result (λ s. tables.new ≡ accepted tables.old s) }
+    ensures kept { IfOk result (λ s. tables.new ≡ tables_with tables.old s) }
 {
     let [fifo, depth] = tokens else {
         return Err(LineFail::Fault(Code::Syntax));
@@ -113,7 +113,7 @@ pub fn edit<'a>(alloc: Global, tables: &mut Tables<'a>, tokens: &[&'a [u8]]) -> 
 #[tactic(auto, unfolding(crate::specs::TableTests::fault_by))]
 pub fn end<'a>(tables: &mut Tables<'a>, tokens: &[&'a [u8]]) -> Parsed<Statement>
     ensures given { LineGives (λ s. s) result (reading_by tables.old (bare End (map (λ t. t.now) tokens.now))) }
-    ensures kept { IfOk result (λ s. tables.new ≡ accepted tables.old s) }
+    ensures kept { IfOk result (λ s. tables.new ≡ tables_with tables.old s) }
 {
     syntax(tokens.is_empty() && tables.place.takes_edits())?;
     tables.go_on(Place::AtEnd);

@@ -1,8 +1,9 @@
 //! Reading `input`.
 ghost use Rattle.std.specs.{Prelude.◌≡◌, Prelude.true, Prelude.map, Prelude.◌&&◌, Prelude.IfOk, Prelude.Some, List.list_all};
 ghost use Rattle.flow_design.specs.declared.session.Statement.TheVariants.{Input};
-ghost use Rattle.flow_grammar.specs.{Tokens.is_number, Tokens.is_name, Tokens.number_of, Forms.only_if, Forms.input_of, Gives.LineGives};
-ghost use Rattle.flow_text.specs.{Inputs.words_within, Inputs.input_reading, TablesOf.accepted, TableTests.reading_by};
+ghost use Rattle.flow_grammar.specs.Tokens.{is_number, token_is_name, number_of};
+ghost use Rattle.flow_grammar.specs.{Forms.only_if, Forms.input_of, Gives.LineGives};
+ghost use Rattle.flow_text.specs.{Inputs.words_within, Inputs.input_reading, TablesOf.tables_with, TableTests.reading_by};
 
 use crate::ensure::{Parsed, ensure, syntax};
 use crate::tables::Tables;
@@ -50,7 +51,7 @@ fn given_input<'a>(
     words: Words,
 ) -> Parsed<Statement>
     ensures given { LineGives (λ s. s) result (input_reading tables.old name.now (Some words)) }
-    ensures kept { IfOk result (λ s. tables.new ≡ accepted tables.old s) }
+    ensures kept { IfOk result (λ s. tables.new ≡ tables_with tables.old s) }
 {
     syntax(tables.place.takes_inputs())?;
     ensure(!tables.inputs.has(name), Code::DoubleName)?;
@@ -73,7 +74,7 @@ fn kept_input<'a>(
     words: Option<Words>,
 ) -> Parsed<Statement>
     ensures given { LineGives (λ s. s) result (input_reading tables.old name.now words) }
-    ensures kept { IfOk result (λ s. tables.new ≡ accepted tables.old s) }
+    ensures kept { IfOk result (λ s. tables.new ≡ tables_with tables.old s) }
 {
     match words {
         Some(words) => given_input(alloc, tables, name, words),
@@ -94,9 +95,9 @@ fn new_input<'a>(
 ) -> Parsed<Statement>
     ensures given { LineGives (λ s. s) result
         (reading_by tables.old
-        (only_if (is_name name.now && list_all is_number (map (λ t. t.now) values.now))
+        (only_if (token_is_name name.now && list_all is_number (map (λ t. t.now) values.now))
         (Input name.now (map number_of (map (λ t. t.now) values.now))))) }
-    ensures kept { IfOk result (λ s. tables.new ≡ accepted tables.old s) }
+    ensures kept { IfOk result (λ s. tables.new ≡ tables_with tables.old s) }
 {
     syntax(is_identifier(name))?;
     syntax(are_numerals(values))?;
@@ -108,7 +109,7 @@ fn new_input<'a>(
 #[tactic(auto, unfolding(flow_grammar::specs::Forms::input_of))]
 pub fn input<'a>(alloc: Global, tables: &mut Tables<'a>, tokens: &[&'a [u8]]) -> Parsed<Statement>
     ensures given { LineGives (λ s. s) result (reading_by tables.old (input_of (map (λ t. t.now) tokens.now))) }
-    ensures kept { IfOk result (λ s. tables.new ≡ accepted tables.old s) }
+    ensures kept { IfOk result (λ s. tables.new ≡ tables_with tables.old s) }
 {
     match tokens {
         [name, values @ ..] => new_input(alloc, tables, *name, values),

@@ -2,7 +2,7 @@
 ghost use Rattle.std.specs.{Prelude.◌≡◌, Prelude.◌∷◌, Prelude.map, Prelude.IfOk, Prelude.Ok, List.list_all};
 ghost use Rattle.flow_grammar.specs.{Tokens.is_permitted, Forms.form_of, Forms.statement_of, Gives.LineGives};
 ghost use Rattle.flow_text.specs.Lines.{line_reading_by, tokens_reading_by, accepted_if};
-ghost use Rattle.flow_text.specs.{TablesOf.accepted, TablesOf.IsOfStatements, TableTests.reading_by};
+ghost use Rattle.flow_text.specs.{TablesOf.tables_with, TablesOf.IsOfStatements, TableTests.reading_by};
 
 use crate::channels::{fifo, sink, source};
 use crate::ends::{branch, edit, end, flow, goto, limits, stop};
@@ -24,7 +24,7 @@ fn form<'a>(
 ) -> Parsed<Statement>
     requires { IsOfStatements tables.old }
     ensures given { LineGives (λ s. s) result (reading_by tables.old (form_of tables.old.version keyword (map (λ t. t.now) tokens.now))) }
-    ensures kept { IfOk result (λ s. tables.new ≡ accepted tables.old s) }
+    ensures kept { IfOk result (λ s. tables.new ≡ tables_with tables.old s) }
 {
     match keyword {
         Keyword::Flow => flow(tables, tokens),
@@ -59,7 +59,7 @@ fn statement_behind<'a>(
     requires { IsOfStatements tables.old }
     ensures given { LineGives (λ s. s) result
         (reading_by tables.old (statement_of tables.old.version (keyword.now ∷ map (λ t. t.now) rest.now))) }
-    ensures kept { IfOk result (λ s. tables.new ≡ accepted tables.old s) }
+    ensures kept { IfOk result (λ s. tables.new ≡ tables_with tables.old s) }
 {
     let keyword = keyword_in(keyword).ok_or(LineFail::Fault(Code::Syntax))?;
     form(alloc, tables, keyword, rest)

@@ -3,7 +3,7 @@ ghost use Rattle.std.specs.Prelude.{◌≡◌, true, map, IfOk, Some};
 ghost use Rattle.flow_design.specs.declared.session.Statement.TheVariants.{Module, Reg, Block, Loop, Temp};
 ghost use Rattle.flow_grammar.specs.{Tokens.is_number, Tokens.number_of, Gives.LineGives};
 ghost use Rattle.flow_grammar.specs.Forms.{name_width, one_name, mem_of, loop_of};
-ghost use Rattle.flow_text.specs.{TablesOf.accepted, TableTests.reading_by};
+ghost use Rattle.flow_text.specs.{TablesOf.tables_with, TableTests.reading_by};
 
 use crate::ensure::{Parsed, ensure, syntax};
 use crate::tables::Tables;
@@ -16,7 +16,7 @@ use std::alloc::Global;
 #[tactic(auto, unfolding(crate::specs::TableTests::fault_by))]
 pub fn module<'a>(alloc: Global, tables: &mut Tables<'a>, tokens: &[&'a [u8]]) -> Parsed<Statement>
     ensures given { LineGives (λ s. s) result (reading_by tables.old (one_name Module (map (λ t. t.now) tokens.now))) }
-    ensures kept { IfOk result (λ s. tables.new ≡ accepted tables.old s) }
+    ensures kept { IfOk result (λ s. tables.new ≡ tables_with tables.old s) }
 {
     let [name] = tokens else {
         return Err(LineFail::Fault(Code::Syntax));
@@ -39,7 +39,7 @@ pub fn register<'a>(
     tokens: &[&'a [u8]],
 ) -> Parsed<Statement>
     ensures given { LineGives (λ s. s) result (reading_by tables.old (name_width Reg (map (λ t. t.now) tokens.now))) }
-    ensures kept { IfOk result (λ s. tables.new ≡ accepted tables.old s) }
+    ensures kept { IfOk result (λ s. tables.new ≡ tables_with tables.old s) }
 {
     let [name, width] = tokens else {
         return Err(LineFail::Fault(Code::Syntax));
@@ -59,7 +59,7 @@ pub fn register<'a>(
 #[tactic(auto, unfolding(crate::specs::TableTests::fault_by, flow_grammar::specs::Forms::mem_of))]
 pub fn memory<'a>(alloc: Global, tables: &mut Tables<'a>, tokens: &[&'a [u8]]) -> Parsed<Statement>
     ensures given { LineGives (λ s. s) result (reading_by tables.old (mem_of (map (λ t. t.now) tokens.now))) }
-    ensures kept { IfOk result (λ s. tables.new ≡ accepted tables.old s) }
+    ensures kept { IfOk result (λ s. tables.new ≡ tables_with tables.old s) }
 {
     let [name, width, len] = tokens else {
         return Err(LineFail::Fault(Code::Syntax));
@@ -83,7 +83,7 @@ pub fn memory<'a>(alloc: Global, tables: &mut Tables<'a>, tokens: &[&'a [u8]]) -
 #[tactic(auto, unfolding(crate::specs::TableTests::fault_by))]
 pub fn block<'a>(alloc: Global, tables: &mut Tables<'a>, tokens: &[&'a [u8]]) -> Parsed<Statement>
     ensures given { LineGives (λ s. s) result (reading_by tables.old (name_width Block (map (λ t. t.now) tokens.now))) }
-    ensures kept { IfOk result (λ s. tables.new ≡ accepted tables.old s) }
+    ensures kept { IfOk result (λ s. tables.new ≡ tables_with tables.old s) }
 {
     let [name, len] = tokens else {
         return Err(LineFail::Fault(Code::Syntax));
@@ -111,7 +111,7 @@ fn new_loop<'a>(
     requires len { is_number len.now ≡ true }
     ensures given { LineGives (λ s. s) result
         (reading_by tables.old (Some (Loop name.now (number_of interval.now) (number_of len.now) register.now))) }
-    ensures kept { IfOk result (λ s. tables.new ≡ accepted tables.old s) }
+    ensures kept { IfOk result (λ s. tables.new ≡ tables_with tables.old s) }
 {
     syntax(tables.place.takes_blocks())?;
     let interval = number_in(interval, 1, BLOCK_CLOCKS).ok_or(LineFail::Fault(Code::BadNumber))?;
@@ -140,7 +140,7 @@ pub fn pipelined_loop<'a>(
     tokens: &[&'a [u8]],
 ) -> Parsed<Statement>
     ensures given { LineGives (λ s. s) result (reading_by tables.old (loop_of (map (λ t. t.now) tokens.now))) }
-    ensures kept { IfOk result (λ s. tables.new ≡ accepted tables.old s) }
+    ensures kept { IfOk result (λ s. tables.new ≡ tables_with tables.old s) }
 {
     let [name, interval, len, word, register] = tokens else {
         return Err(LineFail::Fault(Code::Syntax));
@@ -154,7 +154,7 @@ pub fn pipelined_loop<'a>(
 #[tactic(auto, unfolding(crate::specs::TableTests::fault_by))]
 pub fn temp<'a>(alloc: Global, tables: &mut Tables<'a>, tokens: &[&'a [u8]]) -> Parsed<Statement>
     ensures given { LineGives (λ s. s) result (reading_by tables.old (name_width Temp (map (λ t. t.now) tokens.now))) }
-    ensures kept { IfOk result (λ s. tables.new ≡ accepted tables.old s) }
+    ensures kept { IfOk result (λ s. tables.new ≡ tables_with tables.old s) }
 {
     let [name, width] = tokens else {
         return Err(LineFail::Fault(Code::Syntax));

@@ -1,7 +1,7 @@
 //! Reading operations.
 ghost use Rattle.std.specs.Prelude.{◌≡◌, map, ◌&&◌};
 ghost use Rattle.flow_design.specs.declared.expr.Op.TheVariants as op;
-ghost use Rattle.flow_grammar.specs.{Tokens.is_name, Before.is_among, Trees.trees_of, Gives.LineGives};
+ghost use Rattle.flow_grammar.specs.{Tokens.token_is_name, Before.is_among, Trees.trees_of, Gives.LineGives};
 ghost use Rattle.flow_grammar.specs.Forms.{only_if, set_of, load_of, store_of, write_of, two_names, try_read_of, try_write_of};
 ghost use Rattle.flow_text.specs.Operations.{tree_reading, trees_reading, op_reading, tree_kept, trees_kept, with_tree, store_op};
 ghost use Rattle.flow_text.specs.Operations.{op_of_names, is_variable};
@@ -208,7 +208,8 @@ fn new_two_names(
     register: &[u8],
 ) -> Parsed<Judged<Op<Name>>>
     ensures { LineGives (λ o. o) result
-        (op_reading tables.now (only_if (is_name channel.now && is_name register.now) (op_of_names which channel.now register.now))) }
+        (op_reading tables.now
+        (only_if (token_is_name channel.now && token_is_name register.now) (op_of_names which channel.now register.now))) }
 {
     syntax(is_identifier(channel) && is_identifier(register))?;
     if !knows_outcome(tables, channel, register) {
@@ -244,7 +245,7 @@ fn new_try_read(
 ) -> Parsed<Judged<Op<Name>>>
     ensures { LineGives (λ o. o) result
         (op_reading tables.now
-        (only_if (is_name channel.now && (is_name register.now && is_name outcome.now))
+        (only_if (token_is_name channel.now && (token_is_name register.now && token_is_name outcome.now))
         (op.TryRead channel.now register.now outcome.now))) }
 {
     syntax(is_identifier(channel) && is_identifier(register) && is_identifier(outcome))?;

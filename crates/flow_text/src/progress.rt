@@ -2,7 +2,7 @@
 ghost use Rattle.std.specs.Prelude.{◌≡◌, OnOk, IfOk, IfErr};
 ghost use Rattle.flow_grammar.specs.Gives.{TextGives, TextFails, at_line, line_reading, with_statement, with_number};
 ghost use Rattle.flow_text.specs.{Lines.line_reading_by, Lines.accepted_if, TablesOf.IsOfStatements};
-ghost use Rattle.flow_text.specs.Progress.{IsKept, IsOpening, IsAdded};
+ghost use Rattle.flow_text.specs.Progress.{KeepsTables, IsOpening, IsLineAdded};
 
 use crate::lines::line_statement;
 use crate::tables::Tables;
@@ -78,8 +78,8 @@ pub fn read_line<'a>(
     number: u64,
     line: &'a [u8],
 ) -> Result<(), ReadFail>
-    requires { IsKept progress.old }
-    ensures ok { OnOk result (IsAdded progress.old progress.new number line.now) }
+    requires { KeepsTables progress.old }
+    ensures ok { OnOk result (IsLineAdded progress.old progress.new number line.now) }
     ensures err { IfErr result (λ fail. TextFails fail
         (at_line number (line_reading progress.old.scale progress.old.statements line.now))) }
 {

@@ -3,10 +3,10 @@ ghost use Rattle.std.specs.Prelude.{◌≡◌, ◌≤◌, ◌+◌, [], ◌∷◌
 ghost use Rattle.std.specs.Option.{option_copied};
 ghost use Rattle.flow_design.specs.declared.session.Statement.{Statement as StatementValue};
 ghost use Rattle.flow_grammar.specs.{declared.fault.TextFault.TextFault as FaultValue, Tokens.lines_of, Tokens.is_line_feed};
-ghost use Rattle.flow_grammar.specs.{Gives.TextGives, Gives.TextFails, Gives.ended, Gives.reading, Places.place as place_behind};
-ghost use Rattle.flow_grammar.specs.{Rules.is_over, Text.StandsFor, Text.HasFault, Text.IsAnswer, Text.Answers, Text.session_of};
+ghost use Rattle.flow_grammar.specs.{Gives.TextGives, Gives.TextFails, Gives.ended, Gives.reading, Places.place_reached, Rules.is_complete};
+ghost use Rattle.flow_grammar.specs.Text.{StandsFor, HasFault, IsAnswer, ReadsAs, session_of};
 ghost use Rattle.flow_text.specs.Lines.{lines_left, bytes_left};
-ghost use Rattle.flow_text.specs.Progress.{IsKept, IsOpening, IsThrough, with_front};
+ghost use Rattle.flow_text.specs.Progress.{KeepsTables, IsOpening, IsThrough, with_front};
 
 use crate::progress::{Progress, read_line};
 use flow_design::limits::Scale;
@@ -64,8 +64,9 @@ fn closed(
     numbers: Words,
     lines: u64,
 ) -> Result<(Session, Words), ReadFail>
-    requires { place ≡ place_behind (reverse statements) }
-    ensures { TextGives (λ read. (read.0.statements, read.1)) result (with_front statements numbers (ended (is_over statements) lines)) }
+    requires { place ≡ place_reached (reverse statements) }
+    ensures { TextGives (λ read. (read.0.statements, read.1)) result
+        (with_front statements numbers (ended (is_complete statements) lines)) }
 {
     if !place.is_end() {
         return Err(ReadFail::Text(TextFault {
@@ -79,7 +80,7 @@ fn closed(
 /// The session that was read from `lines` lines, or the fault that it has no `end`.
 #[tactic(auto, unfolding(crate::specs::TablesOf::tables_of, flow_grammar::specs::Gives::reading))]
 fn finished(progress: Progress<'_>, lines: u64) -> Result<(Session, Words), ReadFail>
-    requires { IsKept progress }
+    requires { KeepsTables progress }
     ensures { TextGives (λ read. (read.0.statements, read.1)) result
         (with_front progress.entry.statements progress.entry.numbers (reading progress.entry.scale progress.entry.statements lines [])) }
 {
@@ -131,9 +132,9 @@ pub fn read_session(alloc: Global, scale: Scale, text: &[u8]) -> Result<(Session
     // The answer is right: the text stands for this session, or has this fault.
     ensures answer { IsAnswer scale text.now (session_of result) }
     // A text that stands for a session is read as that session.
-    ensures session { (s : Items StatementValue) (l : Items ℕ) → StandsFor scale text.now s l → Answers (session_of result) (Ok (s, l)) }
+    ensures session { (s : Items StatementValue) (l : Items ℕ) → StandsFor scale text.now s l → ReadsAs (session_of result) (Ok (s, l)) }
     // A text with a fault is refused with that fault.
-    ensures fault { (f : FaultValue) → HasFault scale text.now f → Answers (session_of result) (Err f) }
+    ensures fault { (f : FaultValue) → HasFault scale text.now f → ReadsAs (session_of result) (Err f) }
 {
     answer(alloc, scale, text)
 }

@@ -48,7 +48,7 @@ pub struct Tables<'a> {
 }
 
 impl Known for Tables<'_> {
-    ghost knows = { λ tables name. is_among (tests.named tables AVariable) name };
+    ghost knows = { λ tables name. is_among (tests.names_of_sort tables AVariable) name };
 
     #[tactic(auto, using(crate::proofs::NameLemmas::among_append))]
     fn is_known(&self, name: &[u8]) -> bool {
@@ -85,7 +85,7 @@ impl<'a> Tables<'a> {
     /// Whether a register or memory of the present module has this name.
     #[tactic(auto, using(crate::proofs::NameLemmas::among_append))]
     pub fn has_register_or_memory(&self, name: &[u8]) -> bool
-        ensures { result ≡ is_among (tests.taken self.now RegisterName) name.now }
+        ensures { result ≡ is_among (tests.names_in_space self.now RegisterName) name.now }
     {
         self.registers.has(name) || self.memories.has(name)
     }
@@ -93,14 +93,14 @@ impl<'a> Tables<'a> {
     /// Whether a register or memory of the present module, or a temp of the present body, has this name.
     #[tactic(auto, using(crate::proofs::NameLemmas::among_append))]
     pub fn has_variable_or_memory(&self, name: &[u8]) -> bool
-        ensures { result ≡ is_among (tests.taken self.now TempName) name.now }
+        ensures { result ≡ is_among (tests.names_in_space self.now TempName) name.now }
     {
         self.registers.has(name) || self.memories.has(name) || self.temps.has(name)
     }
 
     /// Goes on to a place after a statement that declares nothing.
     pub fn go_on(&mut self, place: Place)
-        ensures { self.new ≡ given.at_place self.old place }
+        ensures { self.new ≡ given.with_place self.old place }
     {
         self.place = place;
     }
@@ -176,7 +176,7 @@ impl<'a> Tables<'a> {
     /// Adds a register. After `OutOfMemory` the tables are as they were.
     #[tactic(auto, using(crate::proofs::NameLemmas::absent_append))]
     pub fn add_register(&mut self, name: &'a [u8]) -> Result<(), OutOfMemory>
-        requires { is_among (tests.taken self.old RegisterName) name.now ≡ false }
+        requires { is_among (tests.names_in_space self.old RegisterName) name.now ≡ false }
         ensures ok { OnOk result (self.new ≡ given.with_register self.old name.now) }
         ensures err { OnErr result (self.new ≡ self.old) }
     {
@@ -188,7 +188,7 @@ impl<'a> Tables<'a> {
     /// Adds a memory of `words` words. After `OutOfMemory` the tables are as they were.
     #[tactic(auto, using(crate::proofs::NameLemmas::absent_append))]
     pub fn add_memory(&mut self, name: &'a [u8], words: u64) -> Result<(), OutOfMemory>
-        requires new { is_among (tests.taken self.old RegisterName) name.now ≡ false }
+        requires new { is_among (tests.names_in_space self.old RegisterName) name.now ≡ false }
         requires room { self.old.memory_words + words ≤ ALL_MEMORY_WORDS }
         ensures ok { OnOk result (self.new ≡ given.with_memory self.old name.now words) }
         ensures err { OnErr result (self.new ≡ self.old) }
@@ -215,7 +215,7 @@ impl<'a> Tables<'a> {
     /// Adds a temp. After `OutOfMemory` the tables are as they were.
     #[tactic(auto, using(crate::proofs::NameLemmas::absent_append))]
     pub fn add_temp(&mut self, name: &'a [u8]) -> Result<(), OutOfMemory>
-        requires { is_among (tests.taken self.old TempName) name.now ≡ false }
+        requires { is_among (tests.names_in_space self.old TempName) name.now ≡ false }
         ensures ok { OnOk result (self.new ≡ given.with_temp self.old name.now) }
         ensures err { OnErr result (self.new ≡ self.old) }
     {
@@ -249,7 +249,7 @@ impl<'a> Tables<'a> {
     /// Counts an edit.
     pub fn add_edit(&mut self)
         requires { self.old.edits < EDITS }
-        ensures { self.new ≡ given.with_edit self.old }
+        ensures { self.new ≡ given.with_edit_line self.old }
     {
         self.edits += 1;
         self.place = Place::AmongEdits;

@@ -1,10 +1,10 @@
 //! Reading `at`.
 ghost use Rattle.std.specs.Prelude.{◌≡◌, ◌+◌, ◌<◌, ◌^◌, ◌∷◌, true, nat_lt, map, option_map, IfOk, Option, Some, None, Ok, Err};
-ghost use Rattle.flow_design.specs.declared.session.Statement.TheVariants.{At};
-ghost use Rattle.flow_grammar.specs.{Tokens.is_number, Tokens.is_name, Tokens.number_of, Forms.op_form_of, Forms.op_of, Forms.if_then};
-ghost use Rattle.flow_grammar.specs.{Forms.guarded_of, Forms.at_of, Gives.LineGives, Parts.Name as NameValue, Places.takes_operations};
+ghost use Rattle.flow_design.specs.{declared.session.Statement.TheVariants.At, Names.Name as NameValue};
+ghost use Rattle.flow_grammar.specs.{Tokens.is_number, Tokens.token_is_name, Tokens.number_of, Gives.LineGives, Places.takes_operations};
+ghost use Rattle.flow_grammar.specs.Forms.{op_form_of, op_of, if_then, guarded_of, at_of};
 ghost use Rattle.flow_text.specs.Operations as operations;
-ghost use Rattle.flow_text.specs.{Operations.op_reading, Operations.timed_reading, TablesOf.accepted, TableTests.reading_by};
+ghost use Rattle.flow_text.specs.{Operations.op_reading, Operations.timed_reading, TablesOf.tables_with, TableTests.reading_by};
 
 use crate::ensure::{Judged, Parsed, ensure, syntax};
 use crate::operations::{TwoNames, load, set, store, try_read, try_write, two_names, write};
@@ -77,7 +77,7 @@ fn refused(
     code: Code,
 ) -> Parsed<Statement>
     ensures given { (guard : Option NameValue) → LineGives (λ s. s) result (timed_reading tables.old offset guard known (Err code)) }
-    ensures kept { IfOk result (λ s. tables.new ≡ accepted tables.old s) }
+    ensures kept { IfOk result (λ s. tables.new ≡ tables_with tables.old s) }
 {
     syntax(tables.place.takes_operations())?;
     ensure(offset.is_some(), Code::BadNumber)?;
@@ -117,7 +117,7 @@ fn whole(
     operation: Op<Name>,
 ) -> Parsed<Statement>
     ensures given { LineGives (λ s. s) result (timed_reading tables.old offset guard known (Ok operation)) }
-    ensures kept { IfOk result (λ s. tables.new ≡ accepted tables.old s) }
+    ensures kept { IfOk result (λ s. tables.new ≡ tables_with tables.old s) }
 {
     match tested_offset(tables, offset, known) {
         Ok(offset) => {
@@ -143,7 +143,7 @@ fn timed(
     operation: Judged<Op<Name>>,
 ) -> Parsed<Statement>
     ensures given { LineGives (λ s. s) result (timed_reading tables.old offset guard known operation) }
-    ensures kept { IfOk result (λ s. tables.new ≡ accepted tables.old s) }
+    ensures kept { IfOk result (λ s. tables.new ≡ tables_with tables.old s) }
 {
     match operation {
         Err(code) => refused(tables, offset, known, code),
@@ -161,7 +161,7 @@ fn unguarded(
     requires { is_number offset.now ≡ true }
     ensures given { LineGives (λ s. s) result
         (reading_by tables.old (option_map (At (number_of offset.now) None) (op_of (map (λ t. t.now) tokens.now)))) }
-    ensures kept { IfOk result (λ s. tables.new ≡ accepted tables.old s) }
+    ensures kept { IfOk result (λ s. tables.new ≡ tables_with tables.old s) }
 {
     let offset = number_in(offset, 0, u64::MAX);
     let operation = operation(alloc, tables, tokens)?;
@@ -179,9 +179,9 @@ fn guarded(
     requires { is_number offset.now ≡ true }
     ensures given { LineGives (λ s. s) result
         (reading_by tables.old
-        (if_then (is_name register.now)
+        (if_then (token_is_name register.now)
         (option_map (At (number_of offset.now) (Some register.now)) (op_of (map (λ t. t.now) tokens.now))))) }
-    ensures kept { IfOk result (λ s. tables.new ≡ accepted tables.old s) }
+    ensures kept { IfOk result (λ s. tables.new ≡ tables_with tables.old s) }
 {
     if !is_identifier(register) {
         return Err(LineFail::Fault(Code::Syntax));
@@ -203,7 +203,7 @@ fn with_offset(
 ) -> Parsed<Statement>
     requires { is_number offset.now ≡ true }
     ensures given { LineGives (λ s. s) result (reading_by tables.old (guarded_of (number_of offset.now) (map (λ t. t.now) tokens.now))) }
-    ensures kept { IfOk result (λ s. tables.new ≡ accepted tables.old s) }
+    ensures kept { IfOk result (λ s. tables.new ≡ tables_with tables.old s) }
 {
     match tokens {
         [] => unguarded(alloc, tables, offset, tokens),
@@ -222,7 +222,7 @@ fn with_offset(
 #[tactic(auto, unfolding(flow_grammar::specs::Forms::at_of))]
 pub fn at<'a>(alloc: Global, tables: &mut Tables<'a>, tokens: &[&'a [u8]]) -> Parsed<Statement>
     ensures given { LineGives (λ s. s) result (reading_by tables.old (at_of (map (λ t. t.now) tokens.now))) }
-    ensures kept { IfOk result (λ s. tables.new ≡ accepted tables.old s) }
+    ensures kept { IfOk result (λ s. tables.new ≡ tables_with tables.old s) }
 {
     let [offset, rest @ ..] = tokens else {
         return Err(LineFail::Fault(Code::Syntax));

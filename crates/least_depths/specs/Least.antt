@@ -18,12 +18,12 @@ sized_by slack p (Deadlock clock) = sizes_of (untouched p)
 sized_by slack p (Cycles clock) = sizes_of (untouched p)
 sized_by slack p (Ops clock) = sizes_of (untouched p)
 
-abbrev pub sized : ℕ → Plan → Sizes
-sized slack p = sized_by slack p (verdict p)
+abbrev pub least_sizes : ℕ → Plan → Sizes
+least_sizes slack p = sized_by slack p (verdict p)
 
 -- the sizes of a plan, lowered from its advised depths
 unfoldable pub sizes : ℕ → Plan → Sizes
-sizes slack p = sized slack (with_depths p (advised p))
+sizes slack p = least_sizes slack (with_depths p (advised p))
 
 -- the greatest slack, in clocks
 abbrev pub most_slack : ℕ

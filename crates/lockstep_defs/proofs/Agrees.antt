@@ -10,10 +10,10 @@ use Rattle.flow_design.specs.{declared.plan.Plan.Plan, declared.state.Element.El
 use Rattle.flow_design.specs.{declared.state.ModuleState.ModuleState, declared.state.Request.Request, declared.state.Reply.Reply}
 use Rattle.lockstep_defs.specs.Machine.{requests, move, opened, is_spent, is_over, nobody}
 use Rattle.lockstep_defs.specs.{Channels.HistoryStep, Channels.Exchange, Channels.reply, Report.steps_of}
-use Rattle.lockstep_defs.specs.Lockstep.{no_module, module_at, numbered, requests_of, moves, next_state, answered, step_with, step_of}
+use Rattle.lockstep_defs.specs.Lockstep.{no_module, module_at, numbered, requests_of, moves, next_state, answered, step_with, module_step}
 use Rattle.lockstep_defs.specs.Lockstep.{steps_in, clock_step, opening, moment, state, history, state_at}
-use Rattle.lockstep_defs.specs.OwnRun.{OwnStep, Own, own_after, own_next, own, paired}
-use Rattle.lockstep_defs.specs.Laws.{replies_in, exchanges_in, clocks_made, own_at, IsOwnRun}
+use Rattle.lockstep_defs.specs.OwnRun.{OwnStep, Own, own_after, own_next, own_run, paired}
+use Rattle.lockstep_defs.specs.Laws.{replies_by_step, exchanges_by_step, clocks_made, own_at, IsOwnRun}
 use Rattle.lockstep_defs.proofs.Settled.{state-suc, history-suc}
 
 -- ---- the own run looks at no more replies than it has made steps
@@ -58,13 +58,13 @@ next_same p i qss rss o = same (is_over p.ops o.state)
     same true h = refl
     same false h = after_same p i qss rss o (requests p.design.channels (module_at p i) o.state) h
 
-pub own_same : (p : Plan) (i : ℕ) (qss rss : List (List Reply)) (n : ℕ) → SameBelow qss rss (length (own p i qss n).steps)
-    → own p i qss n ≡ own p i rss n
-unfolding own
+pub own_same : (p : Plan) (i : ℕ) (qss rss : List (List Reply)) (n : ℕ) → SameBelow qss rss (length (own_run p i qss n).steps)
+    → own_run p i qss n ≡ own_run p i rss n
+unfolding own_run
 own_same p i qss rss zero h = refl
 own_same p i qss rss (suc n) h =
-    let o = own p i qss n in
-    let here : own p i qss n ≡ own p i rss n = own_same p i qss rss n (λ k l. h k (omega (arith, next_grows p i qss o))) in
+    let o = own_run p i qss n in
+    let here : own_run p i qss n ≡ own_run p i rss n = own_same p i qss rss n (λ k l. h k (omega (arith, next_grows p i qss o))) in
     next_same p i qss rss o h ∙ ap (own_next p i rss) here
 
 -- ---- of a clock's steps one module's are its own
@@ -89,7 +89,7 @@ of_self p c contents i s false = refl
 of_self p c contents i s true = own_of_self c i (map (answered p c contents) (requests_of p (i, s))) (eq-eqb i i refl)
 
 none_of : (p : Plan) (c : ℕ) (contents : List (List Element)) (i n : ℕ) (ss : List ModuleState) → i < n
-    → steps_of i (flat_map (step_of p c contents) (enumerate_from n ss)) ≡ []
+    → steps_of i (flat_map (module_step p c contents) (enumerate_from n ss)) ≡ []
 none_of p c contents i n [] h = refl
 none_of p c contents i n (s ∷ ss) h =
     let other : n ≢ i = omega arith in
@@ -98,7 +98,7 @@ none_of p c contents i n (s ∷ ss) h =
 
 picked : (p : Plan) (c : ℕ) (contents : List (List Element)) (n k i : ℕ) (d : ModuleState) (ss : List ModuleState) → i ≡ n + k
     → k < length ss
-    → steps_of i (flat_map (step_of p c contents) (enumerate_from n ss)) ≡ step_of p c contents (i, get_or ss k d)
+    → steps_of i (flat_map (module_step p c contents) (enumerate_from n ss)) ≡ module_step p c contents (i, get_or ss k d)
 picked p c contents n k i d [] e h = absurd (omega arith)
 picked p c contents n zero i d (s ∷ ss) e h =
     let here : n ≡ i = omega arith in
@@ -144,7 +144,7 @@ state_at-suc p c i h =
     rw state-suc (modules-step p c (state p c) i nobody inside)
 
 pub steps_of-suc : (p : Plan) (c i : ℕ) → i < length p.design.modules
-    → steps_of i (history p (suc c)) ≡ steps_of i (history p c) ++ step_of p c (state p c).contents (i, state_at p c i)
+    → steps_of i (history p (suc c)) ≡ steps_of i (history p c) ++ module_step p c (state p c).contents (i, state_at p c i)
 unfolding steps_in
 steps_of-suc p c i h =
     let inside : i < length (state p c).modules = omega (arith, all_modules p c) in
@@ -157,7 +157,7 @@ steps_of-suc p c i h =
 -- an own run has come to this state by these steps
 pub record Agrees (o : Own) (s : ModuleState) (steps : List HistoryStep) : Type 0 where
   pub state_is : o.state ≡ s
-  pub steps_are : exchanges_in o.steps ≡ map (λ t. t.exchanges) steps
+  pub steps_are : exchanges_by_step o.steps ≡ map (λ t. t.exchanges) steps
 
 replies_of_answered : (p : Plan) (c : ℕ) (contents : List (List Element)) (rs : List Request)
     → map (λ x. x.reply) (map (answered p c contents) rs) ≡ map (reply p c contents) rs
@@ -169,7 +169,7 @@ pub paired_answered : (p : Plan) (c : ℕ) (contents : List (List Element)) (rs 
 paired_answered p c contents [] = refl
 paired_answered p c contents (r ∷ rs) = ap (λ (l : List Exchange). answered p c contents r ∷ l) (paired_answered p c contents rs)
 
-lengths_agree : (o : Own) (s : ModuleState) (steps : List HistoryStep) → Agrees o s steps → length o.steps ≡ length (replies_in steps)
+lengths_agree : (o : Own) (s : ModuleState) (steps : List HistoryStep) → Agrees o s steps → length o.steps ≡ length (replies_by_step steps)
 lengths_agree o s steps h =
     sym (length-map o.steps (λ t. paired t.requests t.replies))
     ∙ (ap length h.steps_are ∙ (length-map steps (λ t. t.exchanges) ∙ sym (length-map steps (λ t. map (λ x. x.reply) t.exchanges))))
@@ -178,16 +178,16 @@ lengths_agree o s steps h =
 next_replies : (p : Plan) (c i : ℕ) (contents : List (List Element)) (o : Own) (s : ModuleState) (steps : List HistoryStep) (r : Request)
     (rs : List Request)
     → Agrees o s steps
-    → get_or (replies_in (steps ++ step_with c i (map (answered p c contents) (r ∷ rs)))) (length o.steps) []
+    → get_or (replies_by_step (steps ++ step_with c i (map (answered p c contents) (r ∷ rs)))) (length o.steps) []
     ≡ map (reply p c contents) (r ∷ rs)
 next_replies p c i contents o s steps r rs h =
     rw (map-append, lengths_agree o s steps h)
-    (get_or_push (replies_in steps) _ [] (length (replies_in steps)) refl ∙ replies_of_answered p c contents (r ∷ rs))
+    (get_or_push (replies_by_step steps) _ [] (length (replies_by_step steps)) refl ∙ replies_of_answered p c contents (r ∷ rs))
 
 agrees_after : (p : Plan) (c i : ℕ) (contents : List (List Element)) (o : Own) (s : ModuleState) (steps : List HistoryStep)
     (rs : List Request) → Agrees o s steps
     → Agrees (own_after (module_at p i) o rs
-    (get_or (replies_in (steps ++ step_with c i (map (answered p c contents) rs))) (length o.steps) []))
+    (get_or (replies_by_step (steps ++ step_with c i (map (answered p c contents) rs))) (length o.steps) []))
     (move (module_at p i) s (map (reply p c contents) rs)) (steps ++ step_with c i (map (answered p c contents) rs))
 agrees_after p c i contents o s steps [] h = rw (append-nil steps) (record {
   state_is = ap (λ (t : ModuleState). move (module_at p i) t []) h.state_is;
@@ -205,16 +205,16 @@ agrees_after p c i contents o s steps (r ∷ rs) h =
 
 own_first : (p : Plan) (i : ℕ) (qss : List (List Reply)) (s : ModuleState) (steps : List HistoryStep) → opened (module_at p i) ≡ s
     → steps ≡ []
-    → Agrees (own p i qss 0) s steps
-unfolding own
+    → Agrees (own_run p i qss 0) s steps
+unfolding own_run
 own_first p i qss s steps e none = rw (← e, none) (record { state_is = refl; steps_are = refl })
 
 first_steps : (p : Plan) (i : ℕ) → steps_of i (history p 0) ≡ []
 unfolding moment
 first_steps p i = refl
 
-pub own_suc : (p : Plan) (i : ℕ) (qss : List (List Reply)) (n : ℕ) → own p i qss (suc n) ≡ own_next p i qss (own p i qss n)
-unfolding own
+pub own_suc : (p : Plan) (i : ℕ) (qss : List (List Reply)) (n : ℕ) → own_run p i qss (suc n) ≡ own_next p i qss (own_run p i qss n)
+unfolding own_run
 own_suc p i qss n = refl
 
 next_on : (p : Plan) (i : ℕ) (qss : List (List Reply)) (o : Own) → is_over p.ops o.state ≡ false → own_next p i qss o ≡ goes_on p i qss o
@@ -242,24 +242,24 @@ is_on p c contents m h = by_tests (is_over p.ops m.1) _ h
     by_tests true b e = cc
     by_tests false b e = refl
 
-longer : (steps now : List HistoryStep) (k : ℕ) → k < length (replies_in steps)
-    → get_or (replies_in steps) k [] ≡ get_or (replies_in (steps ++ now)) k []
-longer steps now k l = rw map-append (sym (get_or-append (replies_in steps) (replies_in now) [] k l))
+longer : (steps now : List HistoryStep) (k : ℕ) → k < length (replies_by_step steps)
+    → get_or (replies_by_step steps) k [] ≡ get_or (replies_by_step (steps ++ now)) k []
+longer steps now k l = rw map-append (sym (get_or-append (replies_by_step steps) (replies_by_step now) [] k l))
 
 one_more : (p : Plan) (c i : ℕ) (contents : List (List Element)) (n : ℕ) (s : ModuleState) (steps : List HistoryStep) (b : Bool)
     → moves p c contents (i, s) ≡ b
-    → Agrees (own p i (replies_in steps) n) s steps
-    → Agrees (own p i (replies_in (steps ++ cond b (step_with c i (map (answered p c contents) (requests_of p (i, s)))) []))
+    → Agrees (own_run p i (replies_by_step steps) n) s steps
+    → Agrees (own_run p i (replies_by_step (steps ++ cond b (step_with c i (map (answered p c contents) (requests_of p (i, s)))) []))
     (cond b (suc n) n))
     (cond b (move (module_at p i) s (map (reply p c contents) (requests_of p (i, s)))) s)
     (steps ++ cond b (step_with c i (map (answered p c contents) (requests_of p (i, s)))) [])
 one_more p c i contents n s steps false e h = rw (append-nil steps) h
 one_more p c i contents n s steps true e h =
     let now = step_with c i (map (answered p c contents) (requests_of p (i, s))) in
-    let qss = replies_in (steps ++ now) in
-    let same : own p i (replies_in steps) n ≡ own p i qss n =
-    own_same p i (replies_in steps) qss n (λ k l. longer steps now k (omega (arith, lengths_agree _ _ _ h))) in
-    let o = own p i qss n in
+    let qss = replies_by_step (steps ++ now) in
+    let same : own_run p i (replies_by_step steps) n ≡ own_run p i qss n =
+    own_same p i (replies_by_step steps) qss n (λ k l. longer steps now k (omega (arith, lengths_agree _ _ _ h))) in
+    let o = own_run p i qss n in
     let also : Agrees o s steps = subst (λ (x : Own). Agrees x s steps) same h in
     let on : is_over p.ops o.state ≡ false = ap (is_over p.ops) also.state_is ∙ is_on p c contents (i, s) e in
     let same_requests = ap (λ (t : ModuleState). own_after (module_at p i) o (requests p.design.channels (module_at p i) t)
@@ -270,7 +270,7 @@ one_more p c i contents n s steps true e h =
 agrees : (p : Plan) (i : ℕ) → i < length p.design.modules → (c : ℕ) → Agrees (own_at p i c) (state_at p c i) (steps_of i (history p c))
 unfolding clocks_made
 agrees p i h zero =
-    own_first p i (replies_in (steps_of i (history p 0))) (state_at p 0 i) (steps_of i (history p 0)) (sym (state_at-zero p i h))
+    own_first p i (replies_by_step (steps_of i (history p 0))) (state_at p 0 i) (steps_of i (history p 0)) (sym (state_at-zero p i h))
     (first_steps p i)
 agrees p i h (suc c) =
     rw (steps_of-suc p c i h, state_at-suc p c i h)

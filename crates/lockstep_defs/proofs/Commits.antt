@@ -8,7 +8,8 @@ use Rattle.flow_design.specs.{declared.design.Block.Block, declared.design.Modul
 use Rattle.flow_design.specs.{declared.state.ModuleState.ModuleState, declared.state.Reply.Reply, Words.cut_to}
 use Rattle.flow_design.specs.declared.state.Effect.TheVariants.{Variable, Word}
 use Rattle.flow_design.specs.Module.{block_of, live_count, temps_of, due}
-use Rattle.lockstep_defs.specs.{Machine.memory_of, Machine.effects, Machine.stored, Machine.committed, States.HasPlaces, States.IsStateOf}
+use Rattle.lockstep_defs.specs.Machine.{memory_of, effects, stored, committed}
+use Rattle.lockstep_defs.specs.States.{HasAllPlaces, IsStateOf}
 use Rattle.lockstep_defs.specs.Commits.{writes_register, writes_temp, writes_word, written, cut_or_kept, last_value, LastWins}
 use Rattle.lockstep_defs.proofs.States.{stored_places}
 
@@ -30,8 +31,8 @@ first_or_later writes width before e es =
 
 -- a place of which each effect says what it holds after it
 last_of_all : (m : Module) (b : Block) (n : ℕ) (writes : Effect → Bool) (width : ℕ) (held : ModuleState → ℕ)
-    → ((s : ModuleState) (e : Effect) → HasPlaces m b n s → held (stored m b s e) ≡ cond (writes e) (cut_to width (written e)) (held s))
-    → (es : List Effect) (s : ModuleState) → HasPlaces m b n s → held (fold (stored m b) s es) ≡ last_value writes width (held s) es
+    → ((s : ModuleState) (e : Effect) → HasAllPlaces m b n s → held (stored m b s e) ≡ cond (writes e) (cut_to width (written e)) (held s))
+    → (es : List Effect) (s : ModuleState) → HasAllPlaces m b n s → held (fold (stored m b) s es) ≡ last_value writes width (held s) es
 last_of_all m b n writes width held one [] s h = refl
 last_of_all m b n writes width held one (e ∷ es) s h =
     last_of_all m b n writes width held one es (stored m b s e) (stored_places m b n s e h)
@@ -59,7 +60,7 @@ set_within xss k j y x v l inside = by_test (k == j) refl
     by_test false e =
         ap (λ (xs : List ℕ). get_or xs x 0) (get_or-set_other xss k j (set (get_or xss k []) y v) [] (λ same. eqb-false k j e (sym same)))
 
-register_stored : (m : Module) (b : Block) (n x : ℕ) → x < length m.registers → (s : ModuleState) (e : Effect) → HasPlaces m b n s
+register_stored : (m : Module) (b : Block) (n x : ℕ) → x < length m.registers → (s : ModuleState) (e : Effect) → HasAllPlaces m b n s
     → slice_index (stored m b s e).registers x
     ≡ cond (writes_register x e) (cut_to (slice_index m.registers x) (written e)) (slice_index s.registers x)
 register_stored m b n x l s (Word k a v) h = refl
@@ -77,7 +78,7 @@ register_stored m b n x l s (Variable i y v) h = by_test (nat_lt y (length m.reg
     by_test true e = rw e (set_at s.registers y x (cut_to (slice_index m.registers y) v) (omega (arith, h.registers)) ∙ here (y == x) refl)
     by_test false e = let past = ltb-false y (length m.registers) e in rw (e, ne_eqb y x (λ same. absurd (omega arith))) refl
 
-temp_stored : (m : Module) (b : Block) (n i t : ℕ) → i < n → t < length b.temps → (s : ModuleState) (e : Effect) → HasPlaces m b n s
+temp_stored : (m : Module) (b : Block) (n i t : ℕ) → i < n → t < length b.temps → (s : ModuleState) (e : Effect) → HasAllPlaces m b n s
     → slice_index (temps_of (stored m b s e) i) t
     ≡ cond (writes_temp (length m.registers) i t e) (cut_to (slice_index b.temps t) (written e)) (slice_index (temps_of s i) t)
 temp_stored m b n i t l inside s (Word k a v) h = refl
@@ -118,7 +119,7 @@ abbrev memory_width : Module → ℕ → ℕ
 memory_width m n = slice_index (map (λ memory. memory.width) m.memories) n
 
 word_stored : (m : Module) (b : Block) (n k a : ℕ) → k < length m.memories → a < slice_index (map (λ memory. memory.len) m.memories) k
-    → (s : ModuleState) (e : Effect) → HasPlaces m b n s
+    → (s : ModuleState) (e : Effect) → HasAllPlaces m b n s
     → slice_index (memory_of (stored m b s e) k) a
     ≡ cond (writes_word k a e) (cut_to (memory_width m k) (written e)) (slice_index (memory_of s k) a)
 word_stored m b n k a l inside s (Variable i y v) h = by_test (nat_lt y (length m.registers))
@@ -146,7 +147,7 @@ word_stored m b n k a l inside s (Word j y v) h =
 
 -- ---- a commit
 
-last_wins : (m : Module) (b : Block) (n : ℕ) (es : List Effect) (s : ModuleState) → HasPlaces m b n s
+last_wins : (m : Module) (b : Block) (n : ℕ) (es : List Effect) (s : ModuleState) → HasAllPlaces m b n s
     → LastWins m b es s (fold (stored m b) s es)
 last_wins m b n es s h = record {
   registers = λ x l.

@@ -8,7 +8,7 @@ use Rattle.flow_design.specs.declared.report.Verdict.TheVariants.{Done, Deadlock
 use Rattle.lockstep_defs.specs.{Channels.HistoryStep, Laws.NoneBefore}
 use Rattle.lockstep_defs.specs.Lockstep.{clock_step, steps_in, opening, moment, state, history}
 use Rattle.lockstep_defs.specs.Verdict.{is_settled, settled_verdict, verdict, held}
-use Rattle.lockstep_defs.specs.Report.{steps_of, outcomes, events_of, outputs_in, answers_in, report_with, report_at, report}
+use Rattle.lockstep_defs.specs.Report.{steps_of, outcomes, events_of, outputs_in, answers_in, report_in_state, report_at, report}
 use Rattle.lockstep_defs.proofs.{Settled.state-suc, Settled.history-suc, Found.verdict_found, Found.verdict_none}
 
 -- ---- how far a run has come
@@ -103,8 +103,8 @@ ends_at : (p : Plan) (c : ℕ) (v : Verdict) (st : ClockState) (events : List Ev
 unfolding report
 ends_at p c v st events answers h clock e =
     ap (report_at p) e
-    ∙ (ap (λ (n : ℕ). report_with p v (state p n) (history p n)) clock
-    ∙ (ap (λ (now : ClockState). report_with p v now (history p c)) (sym h.is_state)
+    ∙ (ap (λ (n : ℕ). report_in_state p v (state p n) (history p n)) clock
+    ∙ (ap (λ (now : ClockState). report_in_state p v now (history p c)) (sym h.is_state)
     ∙ (ap (λ (es : List EventLine). run_report p v st es (answers_in p (history p c))) (sym h.are_events)
     ∙ ap (run_report p v st events) (all_answers p (history p c) answers h.are_answers))))
 

@@ -10,7 +10,7 @@ use Rattle.flow_design.specs.declared.design.Next.TheVariants.{Goto, Branch, Sto
 use Rattle.flow_design.specs.Module.{no_block, block_at, block_of, is_loop, interval, due}
 use Rattle.lockstep_defs.specs.Machine.{effects, stored, committed, entered, ticked, decided, finished, followed, again_of, is_block_over}
 use Rattle.lockstep_defs.specs.Machine.{move, opened}
-use Rattle.lockstep_defs.specs.Quiet.{span, clocks_left, goes_on}
+use Rattle.lockstep_defs.specs.Quiet.{span, clocks_left, keeps_looping}
 
 -- ---- commits
 
@@ -103,7 +103,7 @@ yes_less : (l : Bool) (i n c s w : ℕ) → i ≤ w → (l && (c + 1 - s == i)) 
 yes_less true i n c s w h d = omega arith
 yes_less false i n c s w h d = cc
 
-decided_between : (m : Module) (t : ModuleState) → goes_on t.control (interval (block_of m t)) ≡ true
+decided_between : (m : Module) (t : ModuleState) → keeps_looping t.control (interval (block_of m t)) ≡ true
     → Between m (block_of m t) t (decided (block_of m t) (ticked (block_of m t) t))
 unfolding decided ticked
 decided_between m t f =
@@ -124,7 +124,7 @@ decided_between m t f =
 abbrev pub rest_of_move : Module → Block → ModuleState → ModuleState
 rest_of_move m b t = finished m b (decided b (ticked b t))
 
-rest_falls : (m : Module) (t : ModuleState) → goes_on t.control (interval (block_of m t)) ≡ true
+rest_falls : (m : Module) (t : ModuleState) → keeps_looping t.control (interval (block_of m t)) ≡ true
     → Falls m t (rest_of_move m (block_of m t) t)
 rest_falls m t f = finished_falls m (block_of m t) t _ (decided_between m t f)
 
@@ -150,13 +150,13 @@ pub same_block : (m : Module) (s : ModuleState) (replies : List Reply) → block
 same_block m s replies = ap (λ (k : Control). block_at m k.block) (same_control m s replies)
 
 -- a move ends the module, raises the count, or lowers the local clocks that are left
-pub move_falls : (m : Module) (s : ModuleState) (replies : List Reply) → goes_on s.control (interval (block_of m s)) ≡ true
+pub move_falls : (m : Module) (s : ModuleState) (replies : List Reply) → keeps_looping s.control (interval (block_of m s)) ≡ true
     → Fallen m s (move m s replies)
 unfolding move
 move_falls m s replies f =
     let t = counted m s replies in
     let same_left : left m t ≡ left m s = ap (λ (k : Control). clocks_left (block_at m k.block) k) (same_control m s replies) in
-    let still = subst (λ (k : Control). goes_on k (interval (block_at m k.block)) ≡ true) (sym (same_control m s replies)) f in
+    let still = subst (λ (k : Control). keeps_looping k (interval (block_at m k.block)) ≡ true) (sym (same_control m s replies)) f in
     weaken m s t (move m s replies) same_left (omega arith)
     (subst (λ (b : Block). Falls m t (rest_of_move m b t)) (same_block m s replies) (rest_falls m t still))
 
@@ -167,7 +167,7 @@ abbrev pub HasIntervals : Module → Type 0
 HasIntervals m = (b : ℕ) → is_loop (block_at m b).kind ≡ true → 0 < interval (block_at m b)
 
 abbrev pub Goes : Module → ModuleState → Type 0
-Goes m s = goes_on s.control (interval (block_of m s)) ≡ true
+Goes m s = keeps_looping s.control (interval (block_of m s)) ≡ true
 
 pub first_goes : (l : Bool) (ii : ℕ) → (l ≡ true → 0 < ii) → (not l || (nat_lt 0 ii && nat_lt 0 (0 + ii))) ≡ true
 first_goes true ii h = let pos = h refl in and_from _ _ (lt-ltb 0 ii pos) (lt-ltb 0 (0 + ii) (omega arith))
@@ -218,7 +218,7 @@ pub move_goes : (m : Module) → HasIntervals m → (s : ModuleState) (replies :
 unfolding move
 move_goes m h s replies f =
     let t = counted m s replies in
-    let still = subst (λ (k : Control). goes_on k (interval (block_at m k.block)) ≡ true) (sym (same_control m s replies)) f in
+    let still = subst (λ (k : Control). keeps_looping k (interval (block_at m k.block)) ≡ true) (sym (same_control m s replies)) f in
     subst (λ (b : Block). Goes m (rest_of_move m b t)) (same_block m s replies)
     (finished_goes m h (block_of m t) (decided (block_of m t) (ticked (block_of m t) t)) (decided_goes m t still))
 

@@ -12,7 +12,7 @@ use Rattle.flow_design.specs.declared.expr.Op.TheVariants.{Set, Load, Store, Rea
 use Rattle.flow_design.specs.Module.{no_block, block_at, block_of, operation_at, interval, due}
 use Rattle.flow_design.specs.StaticRules.{same_port, is_port, uses}
 use Rattle.lockstep_defs.specs.{Machine.request_of, Machine.request_for, Machine.requests, Lockstep.module_at, Lockstep.requests_of}
-use Rattle.lockstep_defs.specs.{Laws.is_query, Laws.AsksOnce, Ports.takes, Ports.owner, Ports.takers}
+use Rattle.lockstep_defs.specs.{Laws.is_query, Laws.AsksOnce, Ports.takes, Ports.owner, Ports.taking_requests}
 use Rattle.lockstep_defs.proofs.Due.{AreApart, how_many, due_once, due_few, none_due}
 
 abbrev pub port_on : Side → ℕ → Port
@@ -34,26 +34,26 @@ length-cond true x xs = omega arith
 length-cond false x xs = omega arith
 
 taker_of : (channels : List Channel) (s : ModuleState) (q : Port) (i : ℕ) (op : Op ℕ) (rs : List Request)
-    → length (takers q (cons_option (request_of channels s i op) rs)) ≡ cond (takes q op) 1 0 + length (takers q rs)
+    → length (taking_requests q (cons_option (request_of channels s i op) rs)) ≡ cond (takes q op) 1 0 + length (taking_requests q rs)
 taker_of channels s q i (Set x a) rs = omega arith
 taker_of channels s q i (Load x n a) rs = omega arith
 taker_of channels s q i (Store n a b) rs = omega arith
-taker_of channels s q i (Read f x) rs = length-cond (same_port q (port_on Pop f)) _ (takers q rs)
-taker_of channels s q i (Write f a) rs = length-cond (same_port q (port_on Push f)) _ (takers q rs)
-taker_of channels s q i (TryRead f x ok) rs = length-cond (same_port q (port_on Pop f)) _ (takers q rs)
-taker_of channels s q i (TryWrite f ok a) rs = length-cond (same_port q (port_on Push f)) _ (takers q rs)
+taker_of channels s q i (Read f x) rs = length-cond (same_port q (port_on Pop f)) _ (taking_requests q rs)
+taker_of channels s q i (Write f a) rs = length-cond (same_port q (port_on Push f)) _ (taking_requests q rs)
+taker_of channels s q i (TryRead f x ok) rs = length-cond (same_port q (port_on Pop f)) _ (taking_requests q rs)
+taker_of channels s q i (TryWrite f ok a) rs = length-cond (same_port q (port_on Push f)) _ (taking_requests q rs)
 taker_of channels s q i (Empty f x) rs = omega arith
 taker_of channels s q i (Full f x) rs = omega arith
 
 takers_counted : (channels : List Channel) (m : Module) (s : ModuleState) (a : Port) (ds : List Due)
-    → length (takers a (filter_map (request_for channels m s) ds)) ≡ how_many (takes a) (block_of m s) ds
+    → length (taking_requests a (filter_map (request_for channels m s) ds)) ≡ how_many (takes a) (block_of m s) ds
 takers_counted channels m s a [] = refl
 takers_counted channels m s a (d ∷ ds) =
     taker_of channels s a d.iteration (operation_at (block_of m s) d.op).op (filter_map (request_for channels m s) ds)
     ∙ ap (λ (n : ℕ). cond (takes a (operation_at (block_of m s) d.op).op) 1 0 + n) (takers_counted channels m s a ds)
 
 takers_due : (channels : List Channel) (m : Module) (s : ModuleState) (a : Port)
-    → length (takers a (requests channels m s)) ≡ how_many (takes a) (block_of m s) (due m s)
+    → length (taking_requests a (requests channels m s)) ≡ how_many (takes a) (block_of m s) (due m s)
 unfolding requests
 takers_due channels m s a = takers_counted channels m s a (due m s)
 
@@ -62,11 +62,11 @@ none_in is [] e = tt
 none_in is (t ∷ ts) e = cc
 
 -- a module pops a channel at most once in a local clock, and pushes it at most once
-pub takers_once : (p : Plan) → KeepsPorts p → (q : Port) (i : ℕ) (s : ModuleState) → length (takers q (requests_of p (i, s))) ≤ 1
+pub takers_once : (p : Plan) → KeepsPorts p → (q : Port) (i : ℕ) (s : ModuleState) → length (taking_requests q (requests_of p (i, s))) ≤ 1
 takers_once p h q i s = by_case (h.intervals i s.control.block)
   where
     by_case : ((block_of (module_at p i) s).ops ≡ []) ⊎ (0 < interval (block_of (module_at p i) s))
-        → length (takers q (requests_of p (i, s))) ≤ 1
+        → length (taking_requests q (requests_of p (i, s))) ≤ 1
     by_case (inl none) =
         omega (arith, takers_due p.design.channels (module_at p i) s q, none_due (takes q) (module_at p i) s (none_in (takes q) _ none))
     by_case (inr pos) =
@@ -134,7 +134,7 @@ uses_none a (b ∷ bs) zero h = any_false (λ t. takes a t.op) b.ops (or_parts _
 uses_none a (b ∷ bs) (suc n) h = uses_none a bs n (or_parts _ _ h).1
 
 pub no_takers : (p : Plan) (a : Port) (i : ℕ) (s : ModuleState) → uses a (module_at p i) ≡ false
-    → length (takers a (requests_of p (i, s))) ≡ 0
+    → length (taking_requests a (requests_of p (i, s))) ≡ 0
 no_takers p a i s h =
     takers_due p.design.channels (module_at p i) s a
     ∙ none_due (takes a) (module_at p i) s (uses_none a (module_at p i).blocks s.control.block h)

@@ -7,7 +7,7 @@ use Rattle.std.specs.List.{filter, flat_map, enumerate_from, AllByRecursion, All
 use Rattle.flow_design.specs.{declared.plan.Plan.Plan, declared.state.Element.Element, declared.state.ClockState.ClockState}
 use Rattle.flow_design.specs.declared.state.ModuleState.{ModuleState}
 use Rattle.lockstep_defs.specs.{Channels.HistoryStep, Channels.Exchange, Report.steps_of, Laws.IsBefore}
-use Rattle.lockstep_defs.specs.Lockstep.{requests_of, moves, answered, step_with, step_of, steps_in, state, history}
+use Rattle.lockstep_defs.specs.Lockstep.{requests_of, moves, answered, step_with, module_step, steps_in, state, history}
 use Rattle.lockstep_defs.proofs.{Settled.history-zero, Settled.history-suc, Agrees.all_modules, Queue.all-append}
 
 abbrev pub IsRising : List HistoryStep → Type 0
@@ -35,7 +35,7 @@ step_with-from c i n [] h = tt
 step_with-from c i n (x ∷ xs) h = ((refl, h), tt)
 
 step_of-from : (p : Plan) (c n : ℕ) (contents : List (List Element)) (m : ℕ × ModuleState) → n ≤ m.0
-    → AllByRecursion (IsFrom c n) (step_of p c contents m)
+    → AllByRecursion (IsFrom c n) (module_step p c contents m)
 step_of-from p c n contents m h = by_test (moves p c contents m)
   where
     by_test : (b : Bool) → AllByRecursion (IsFrom c n) (cond b (step_with c m.0 (map (answered p c contents) (requests_of p m))) [])
@@ -43,10 +43,10 @@ step_of-from p c n contents m h = by_test (moves p c contents m)
     by_test false = tt
 
 all_from : (p : Plan) (c : ℕ) (contents : List (List Element)) (n k : ℕ) (ss : List ModuleState) → n ≤ k
-    → AllByRecursion (IsFrom c n) (flat_map (step_of p c contents) (enumerate_from k ss))
+    → AllByRecursion (IsFrom c n) (flat_map (module_step p c contents) (enumerate_from k ss))
 all_from p c contents n k [] h = tt
 all_from p c contents n k (s ∷ ss) h =
-    all-append (IsFrom c n) (step_of p c contents (k, s)) (flat_map (step_of p c contents) (enumerate_from (k + 1) ss))
+    all-append (IsFrom c n) (module_step p c contents (k, s)) (flat_map (module_step p c contents) (enumerate_from (k + 1) ss))
     (step_of-from p c n contents (k, s) h) (all_from p c contents n (k + 1) ss (omega arith))
 
 -- one module's step, and then those of later modules
@@ -59,15 +59,15 @@ one_then p c i (x ∷ xs) ts h k = (all_map (IsFrom c (i + 1)) _ (λ s from. lat
     later s from = let same = from.0 in let more = from.1 in inr (omega arith, omega arith)
 
 clock_rises : (p : Plan) (c : ℕ) (contents : List (List Element)) (n : ℕ) (ss : List ModuleState)
-    → IsRising (flat_map (step_of p c contents) (enumerate_from n ss))
+    → IsRising (flat_map (module_step p c contents) (enumerate_from n ss))
 clock_rises p c contents n [] = tt
 clock_rises p c contents n (s ∷ ss) =
     by_test (moves p c contents (n, s)) (all_from p c contents (n + 1) (n + 1) ss (omega arith)) (clock_rises p c contents (n + 1) ss)
   where
-    by_test : (b : Bool) → AllByRecursion (IsFrom c (n + 1)) (flat_map (step_of p c contents) (enumerate_from (n + 1) ss))
-        → IsRising (flat_map (step_of p c contents) (enumerate_from (n + 1) ss))
+    by_test : (b : Bool) → AllByRecursion (IsFrom c (n + 1)) (flat_map (module_step p c contents) (enumerate_from (n + 1) ss))
+        → IsRising (flat_map (module_step p c contents) (enumerate_from (n + 1) ss))
         → IsRising (cond b (step_with c n (map (answered p c contents) (requests_of p (n, s)))) []
-        ++ flat_map (step_of p c contents) (enumerate_from (n + 1) ss))
+        ++ flat_map (module_step p c contents) (enumerate_from (n + 1) ss))
     by_test true h k = one_then p c n (map (answered p c contents) (requests_of p (n, s))) _ h k
     by_test false h k = k
 
@@ -179,7 +179,7 @@ only_history p c steps h same = one_order steps (history p c) (rising-from_pairs
 -- ---- only modules of the plan have steps
 
 step_number : (p : Plan) (c : ℕ) (contents : List (List Element)) (n : ℕ) (m : ℕ × ModuleState) → m.0 < n
-    → AllByRecursion (λ s. s.«module» < n) (step_of p c contents m)
+    → AllByRecursion (λ s. s.«module» < n) (module_step p c contents m)
 step_number p c contents n m h = by_test (moves p c contents m)
   where
     with_number : (xs : List Exchange) → AllByRecursion (λ s. s.«module» < n) (step_with c m.0 xs)
@@ -192,11 +192,11 @@ step_number p c contents n m h = by_test (moves p c contents m)
     by_test false = tt
 
 clock_numbers : (p : Plan) (c : ℕ) (contents : List (List Element)) (k n : ℕ) (ss : List ModuleState) → k + length ss ≤ n
-    → AllByRecursion (λ s. s.«module» < n) (flat_map (step_of p c contents) (enumerate_from k ss))
+    → AllByRecursion (λ s. s.«module» < n) (flat_map (module_step p c contents) (enumerate_from k ss))
 clock_numbers p c contents k n [] h = tt
 clock_numbers p c contents k n (s ∷ ss) h =
-    all-append (λ (x : HistoryStep). x.«module» < n) (step_of p c contents (k, s))
-    (flat_map (step_of p c contents) (enumerate_from (k + 1) ss))
+    all-append (λ (x : HistoryStep). x.«module» < n) (module_step p c contents (k, s))
+    (flat_map (module_step p c contents) (enumerate_from (k + 1) ss))
     (step_number p c contents n (k, s) (omega arith)) (clock_numbers p c contents (k + 1) n ss (omega arith))
 
 steps_number : (p : Plan) (c : ℕ) → AllByRecursion (λ s. s.«module» < length p.design.modules) (steps_in p c (state p c))

@@ -12,12 +12,12 @@ use Rattle.flow_word.specs.declared.access.Kind.TheVariants.{Read, Write, TryRea
 use Rattle.flow_design.specs.{declared.plan.Plan.Plan, declared.state.Element.Element, declared.state.ClockState.ClockState}
 use Rattle.flow_design.specs.{declared.state.ModuleState.ModuleState, declared.state.Request.Request, Plans.delay_at, StaticRules.uses}
 use Rattle.flow_design.specs.declared.state.Reply.TheVariants.{Took, Missed}
-use Rattle.lockstep_defs.specs.Machine.{is_over, is_yes, value_in}
-use Rattle.lockstep_defs.specs.Channels.{HistoryStep, Exchange, values, is_empty, front, element_from, is_possible, stalls, reply, reply_by}
+use Rattle.lockstep_defs.specs.{Machine.is_over, Machine.is_yes, Machine.value_in, Laws.all_in, Laws.IsConserved, Laws.PopsInOrder}
+use Rattle.lockstep_defs.specs.Channels.{HistoryStep, Exchange, values, is_empty, front, element_from, can_take, stalls, reply, reply_by}
 use Rattle.lockstep_defs.specs.Channels.{popped_value, moved_value, moved_by, moved, contents_of}
-use Rattle.lockstep_defs.specs.Lockstep.{module_at, numbered, requests_of, moves, answered, step_with, step_of, steps_in, contents_after}
-use Rattle.lockstep_defs.specs.Lockstep.{clock_step, inputs_of, opening, moment, state, history}
-use Rattle.lockstep_defs.specs.{Ports.owner, Ports.is_taker, Ports.takers, Laws.all_in, Laws.IsConserved, Laws.PopsInOrder}
+use Rattle.lockstep_defs.specs.Lockstep.{module_at, numbered, requests_of, moves, answered, step_with, module_step, steps_in}
+use Rattle.lockstep_defs.specs.Lockstep.{contents_after, clock_step, inputs_of, opening, moment, state, history}
+use Rattle.lockstep_defs.specs.Ports.{owner, is_taker, taking_requests}
 use Rattle.lockstep_defs.proofs.{Settled.state-suc, Settled.history-suc, Once.KeepsPorts, Once.port_on, Once.takers_once, Once.no_takers}
 
 -- ---- what steps move
@@ -79,45 +79,45 @@ count_more true r rs = omega arith
 count_more false r rs = omega arith
 
 moved_counted : (p : Plan) (c : ℕ) (contents : List (List Element)) (side : Side) (f : ℕ) (rs : List Request)
-    → length (moved_by side f (map (answered p c contents) rs)) ≤ length (takers (port_on side f) rs)
+    → length (moved_by side f (map (answered p c contents) rs)) ≤ length (taking_requests (port_on side f) rs)
 unfolding moved_by reply
 moved_counted p c contents side f [] = omega arith
 moved_counted p c contents side f (r ∷ rs) =
-    let here = one_moves r.kind (is_possible p c contents (side_of r.kind) r.channel) r.channel r.value
+    let here = one_moves r.kind (can_take p c contents (side_of r.kind) r.channel) r.channel r.value
     (front (contents_of contents r.channel)) side f in
     let rest = moved_counted p c contents side f rs in
-    rw (length-append, count_more (is_taker (port_on side f) r) r (takers (port_on side f) rs)) (omega arith)
+    rw (length-append, count_more (is_taker (port_on side f) r) r (taking_requests (port_on side f) rs)) (omega arith)
 
 step_moves : (p : Plan) (c : ℕ) (contents : List (List Element)) (side : Side) (f : ℕ) (m : ℕ × ModuleState)
-    → length (moved side f (step_of p c contents m)) ≤ length (takers (port_on side f) (requests_of p m))
+    → length (moved side f (module_step p c contents m)) ≤ length (taking_requests (port_on side f) (requests_of p m))
 step_moves p c contents side f m = by_test (moves p c contents m)
   where
     by_test : (b : Bool) → length (moved side f (cond b (step_with c m.0 (map (answered p c contents) (requests_of p m))) []))
-        ≤ length (takers (port_on side f) (requests_of p m))
+        ≤ length (taking_requests (port_on side f) (requests_of p m))
     by_test true = rw moved-step (moved_counted p c contents side f (requests_of p m))
     by_test false = rw moved-nil (omega arith)
 
 -- the steps of the modules from n on move at most one element at a side, and none where its owner stands before them
 later_moves : (p : Plan) → KeepsPorts p → (c : ℕ) (contents : List (List Element)) (side : Side) (f n : ℕ) (ss : List ModuleState)
-    → (length (moved side f (flat_map (step_of p c contents) (enumerate_from n ss))) ≤ 1)
-    × (owner p (port_on side f) < n → length (moved side f (flat_map (step_of p c contents) (enumerate_from n ss))) ≤ 0)
+    → (length (moved side f (flat_map (module_step p c contents) (enumerate_from n ss))) ≤ 1)
+    × (owner p (port_on side f) < n → length (moved side f (flat_map (module_step p c contents) (enumerate_from n ss))) ≤ 0)
 later_moves p h c contents side f n [] = (rw moved-nil (omega arith), λ l. rw moved-nil (omega arith))
 later_moves p h c contents side f n (s ∷ ss) =
-    let here = step_of p c contents (n, s) in
-    let later = flat_map (step_of p c contents) (enumerate_from (n + 1) ss) in
+    let here = module_step p c contents (n, s) in
+    let later = flat_map (module_step p c contents) (enumerate_from (n + 1) ss) in
     let rest = later_moves p h c contents side f (n + 1) ss in
     let total = ap length (moved-append side f here later) ∙ length-append (moved side f here) (moved side f later) in
     by_case total rest (cases_Bool (uses (port_on side f) (module_at p n)))
   where
-    by_case : length (moved side f (step_of p c contents (n, s) ++ flat_map (step_of p c contents) (enumerate_from (n + 1) ss)))
-        ≡ length (moved side f (step_of p c contents (n, s))) + length
-        (moved side f (flat_map (step_of p c contents) (enumerate_from (n + 1) ss)))
-        → (length (moved side f (flat_map (step_of p c contents) (enumerate_from (n + 1) ss))) ≤ 1)
-        × (owner p (port_on side f) < n + 1 → length (moved side f (flat_map (step_of p c contents) (enumerate_from (n + 1) ss))) ≤ 0)
+    by_case : length (moved side f (module_step p c contents (n, s) ++ flat_map (module_step p c contents) (enumerate_from (n + 1) ss)))
+        ≡ length (moved side f (module_step p c contents (n, s))) + length
+        (moved side f (flat_map (module_step p c contents) (enumerate_from (n + 1) ss)))
+        → (length (moved side f (flat_map (module_step p c contents) (enumerate_from (n + 1) ss))) ≤ 1)
+        × (owner p (port_on side f) < n + 1 → length (moved side f (flat_map (module_step p c contents) (enumerate_from (n + 1) ss))) ≤ 0)
         → (uses (port_on side f) (module_at p n) ≡ true) ⊎ (uses (port_on side f) (module_at p n) ≡ false)
-        → (length (moved side f (step_of p c contents (n, s) ++ flat_map (step_of p c contents) (enumerate_from (n + 1) ss))) ≤ 1)
+        → (length (moved side f (module_step p c contents (n, s) ++ flat_map (module_step p c contents) (enumerate_from (n + 1) ss))) ≤ 1)
         × (owner p (port_on side f) < n
-        → length (moved side f (step_of p c contents (n, s) ++ flat_map (step_of p c contents) (enumerate_from (n + 1) ss))) ≤ 0)
+        → length (moved side f (module_step p c contents (n, s) ++ flat_map (module_step p c contents) (enumerate_from (n + 1) ss))) ≤ 0)
     by_case total rest (inl used) =
         let owned = h.owned (port_on side f) n used in
         let one = takers_once p h (port_on side f) n s in
@@ -145,8 +145,8 @@ all-append P (x ∷ xs) ys a b = (a.0, all-append P xs ys a.1 b)
 
 -- the reply to a request that does not stall pops nothing but the front
 pops_front : (p : Plan) (c : ℕ) (contents : List (List Element)) (kind : Kind) (f : ℕ)
-    → (is_blocking kind && not (is_possible p c contents (side_of kind) f)) ≡ false
-    → let r = reply_by kind (is_possible p c contents (side_of kind) f) (front (contents_of contents f)) in
+    → (is_blocking kind && not (can_take p c contents (side_of kind) f)) ≡ false
+    → let r = reply_by kind (can_take p c contents (side_of kind) f) (front (contents_of contents f)) in
     AllByRecursion (IsFront (contents_of contents f)) (popped_value kind (is_yes r) (value_in r))
 pops_front p c contents Read f h = by_contents (contents_of contents f) h
   where
@@ -200,7 +200,7 @@ fronts_by p c contents f m false e = rw moved-nil tt
 fronts_by p c contents f m true e = rw moved-step (fronts_of p c contents f (requests_of p m) (nothing_stalls p c contents m e))
 
 fronts : (p : Plan) (c : ℕ) (contents : List (List Element)) (f : ℕ) (ms : List (ℕ × ModuleState))
-    → AllByRecursion (IsFront (contents_of contents f)) (moved Pop f (flat_map (step_of p c contents) ms))
+    → AllByRecursion (IsFront (contents_of contents f)) (moved Pop f (flat_map (module_step p c contents) ms))
 fronts p c contents f [] = rw moved-nil tt
 fronts p c contents f (m ∷ ms) =
     rw moved-append (all-append _ _ _ (fronts_by p c contents f m (moves p c contents m) refl) (fronts p c contents f ms))

@@ -13,9 +13,9 @@ use Rattle.flow_design.specs.declared.report.Verdict.TheVariants.{Done, Deadlock
 use Rattle.flow_design.specs.Plans.{is_sink, no_channel, kind_at}
 use Rattle.lockstep_defs.specs.Channels.{HistoryStep, Exchange, stalls, all_ready}
 use Rattle.lockstep_defs.specs.{Ports.StandsAtPort, Machine.is_over, Laws.HasNumbersOf}
-use Rattle.lockstep_defs.specs.Lockstep.{requests_of, numbered, moves, answered, step_with, step_of, steps_in, state, history}
+use Rattle.lockstep_defs.specs.Lockstep.{requests_of, numbered, moves, answered, step_with, module_step, steps_in, state, history}
 use Rattle.lockstep_defs.specs.Report.{steps_of, outcomes, sinks, event_of, events_of, report}
-use Rattle.lockstep_defs.specs.Verdict.{held_at, held_by, held_in, held, verdict}
+use Rattle.lockstep_defs.specs.Verdict.{held_at, held_by, held_modules, held, verdict}
 use Rattle.lockstep_defs.proofs.{Agrees.all_modules, Queue.all-append, Settled.history-zero, Settled.history-suc, Standing.requests_stand}
 
 -- ---- one output per sink
@@ -90,7 +90,7 @@ held_from p fits clock contents k (s ∷ ss) l =
     (held_by_in p fits clock contents (k, s) (omega arith), held_from p fits clock contents (k + 1) ss (omega arith))
 
 all_held : (p : Plan) → FitsEngine p → (clock : ℕ) (st : ClockState) → length st.modules ≤ length p.design.modules
-    → AllByRecursion (HeldIn p) (held_in p clock st)
+    → AllByRecursion (HeldIn p) (held_modules p clock st)
 all_held p fits clock st l = kept_hold (HeldIn p) (held_by p clock (all_ready st.contents)) (numbered st)
     (held_from p fits clock (all_ready st.contents) 0 st.modules (omega arith))
 
@@ -110,7 +110,7 @@ answered_in p clock contents i [] h = tt
 answered_in p clock contents i (r ∷ rs) h = ((h.0).in_range, answered_in p clock contents i rs h.1)
 
 step_in : (p : Plan) → FitsEngine p → (clock : ℕ) (contents : List (List Element)) (m : ℕ × ModuleState) → m.0 < length p.design.modules
-    → AllByRecursion (StepIn p) (step_of p clock contents m)
+    → AllByRecursion (StepIn p) (module_step p clock contents m)
 step_in p fits clock contents m l = by_test (moves p clock contents m) (answered_in p clock contents m.0 (requests_of p m)
     (recursion_from_All (StandsAtPort p m.0) (requests_of p m) (requests_stand p fits m.0 l m.1)))
   where
@@ -127,10 +127,10 @@ step_in p fits clock contents m l = by_test (moves p clock contents m) (answered
 
 steps_from : (p : Plan) → FitsEngine p → (clock : ℕ) (contents : List (List Element)) (k : ℕ) (ss : List ModuleState)
     → k + length ss ≤ length p.design.modules
-    → AllByRecursion (StepIn p) (flat_map (step_of p clock contents) (enumerate_from k ss))
+    → AllByRecursion (StepIn p) (flat_map (module_step p clock contents) (enumerate_from k ss))
 steps_from p fits clock contents k [] l = tt
 steps_from p fits clock contents k (s ∷ ss) l =
-    all-append (StepIn p) (step_of p clock contents (k, s)) (flat_map (step_of p clock contents) (enumerate_from (k + 1) ss))
+    all-append (StepIn p) (module_step p clock contents (k, s)) (flat_map (module_step p clock contents) (enumerate_from (k + 1) ss))
     (step_in p fits clock contents (k, s) (omega arith)) (steps_from p fits clock contents (k + 1) ss (omega arith))
 
 history_in : (p : Plan) → FitsEngine p → (clock : ℕ) → AllByRecursion (StepIn p) (history p clock)

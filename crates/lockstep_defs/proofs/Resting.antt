@@ -8,7 +8,7 @@ use Rattle.flow_design.specs.declared.design.BlockKind.TheVariants.{Plain, Loop}
 use Rattle.flow_design.specs.StaticRules.{IsBlockSound, IsKindSound, FitsEngine}
 use Rattle.flow_design.specs.Module.{no_block, block_at, is_loop, interval, interval_of}
 use Rattle.lockstep_defs.specs.Machine.{is_over, move, opened}
-use Rattle.lockstep_defs.specs.{Lockstep.module_at, Lockstep.requests_of, OwnRun.Own, OwnRun.own_next, OwnRun.own}
+use Rattle.lockstep_defs.specs.{Lockstep.module_at, Lockstep.requests_of, OwnRun.Own, OwnRun.own_next, OwnRun.own_run}
 use Rattle.lockstep_defs.specs.Quiet.{own_later, is_some_request, rests, skip, quiet_below, span, measure, quiet, fits}
 use Rattle.lockstep_defs.proofs.{Agrees.own_suc, Agrees.below_limit, Rules.sound_block}
 use Rattle.lockstep_defs.proofs.Moves.{left, Fallen, move_falls, HasIntervals, move_goes, opened_goes}
@@ -149,10 +149,10 @@ one_quiet p i replies o n h =
 
 -- where it does not rest, nothing but the clock and the state goes on
 pub own_goes : (p : Plan) (i : ℕ) (replies : List (List Reply)) (n q : ℕ)
-    → ((j : ℕ) → j < q → rests p i (skip p i j (own p i replies n).state) ≡ false)
-    → own p i replies (q + n) ≡ own_later p i q (own p i replies n)
+    → ((j : ℕ) → j < q → rests p i (skip p i j (own_run p i replies n).state) ≡ false)
+    → own_run p i replies (q + n) ≡ own_later p i q (own_run p i replies n)
 own_goes p i replies n zero h = rw (zero-add, add-zero) refl
 own_goes p i replies n (suc q) h =
     let before = own_goes p i replies n q (λ j l. h j (omega arith)) in
     rw suc-add
-    (own_suc p i replies (q + n) ∙ (ap (own_next p i replies) before ∙ one_quiet p i replies (own p i replies n) q (h q (omega arith))))
+    (own_suc p i replies (q + n) ∙ (ap (own_next p i replies) before ∙ one_quiet p i replies (own_run p i replies n) q (h q (omega arith))))

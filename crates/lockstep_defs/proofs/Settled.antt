@@ -10,9 +10,9 @@ use Rattle.flow_word.specs.declared.access.Side.TheVariants.{Pop, Push}
 use Rattle.flow_design.specs.{declared.plan.Plan.Plan, declared.state.ClockState.ClockState, declared.state.Element.Element}
 use Rattle.flow_design.specs.{declared.state.ModuleState.ModuleState, declared.state.Request.Request}
 use Rattle.lockstep_defs.specs.{Machine.is_over, Verdict.some_moves, Verdict.is_settled}
-use Rattle.lockstep_defs.specs.Channels.{element_from, contents_of, is_empty, is_full, all_ready, is_possible, stalls, moved}
-use Rattle.lockstep_defs.specs.Lockstep.{numbered, requests_of, moves, next_state, step_of, steps_in, contents_after, clock_step, moment}
-use Rattle.lockstep_defs.specs.Lockstep.{state, history}
+use Rattle.lockstep_defs.specs.Channels.{element_from, contents_of, is_empty, is_full, all_ready, can_take, stalls, moved}
+use Rattle.lockstep_defs.specs.Lockstep.{numbered, requests_of, moves, next_state, module_step, steps_in, contents_after, clock_step}
+use Rattle.lockstep_defs.specs.Lockstep.{moment, state, history}
 
 -- ---- the state and the history of the next clock
 
@@ -57,7 +57,7 @@ stalls_as : (p : Plan) (c : ℕ) (contents : List (List Element)) (r : Request)
     (is_full p r.channel (contents_of contents r.channel))
 stalls_as p c contents r = by_kind r.kind
   where
-    by_kind : (k : Kind) → (is_blocking k && not (is_possible p c contents (side_of k) r.channel))
+    by_kind : (k : Kind) → (is_blocking k && not (can_take p c contents (side_of k) r.channel))
         ≡ stalls_by k (is_empty c (contents_of contents r.channel)) (is_full p r.channel (contents_of contents r.channel))
     by_kind Read = refl
     by_kind Write = refl
@@ -194,7 +194,7 @@ none_moves p c contents (m ∷ ms) h =
 
 -- nothing is done
 none_done : (p : Plan) (c : ℕ) (contents : List (List Element)) (ms : List (ℕ × ModuleState)) → list_any (moves p c contents) ms ≡ false
-    → flat_map (step_of p c contents) ms ≡ []
+    → flat_map (module_step p c contents) ms ≡ []
 none_done p c contents [] h = refl
 none_done p c contents (m ∷ ms) h =
     let parts = or_parts (moves p c contents m) (list_any (moves p c contents) ms) h in

@@ -14,7 +14,7 @@ use Rattle.flow_design.specs.Module.{no_block, block_at, block_of, is_loop, inte
 use Rattle.flow_design.specs.StaticRules.{IsNextSound, IsBlockSound, IsModuleSound, FitsEngine}
 use Rattle.lockstep_defs.specs.Machine.{effects, stored, entered, ticked, decided, fresh_temps, started, finished, followed, again_of}
 use Rattle.lockstep_defs.specs.Machine.{is_block_over, move, opened}
-use Rattle.lockstep_defs.specs.{Channels.reply, States.HasPlaces, States.IsWithin, States.IsStateOf}
+use Rattle.lockstep_defs.specs.{Channels.reply, States.HasAllPlaces, States.IsWithin, States.IsStateOf}
 use Rattle.lockstep_defs.specs.Lockstep.{no_module, module_at, requests_of, moves, state, state_at}
 use Rattle.lockstep_defs.proofs.Agrees.{state_at-zero, state_at-suc, is_on, not_ended}
 use Rattle.lockstep_defs.proofs.{Blocks.some_interval, Blocks.short_interval, Live.live_iff}
@@ -79,8 +79,9 @@ length-set_within (xs ∷ xss) zero (suc n) a v = refl
 length-set_within (xs ∷ xss) (suc k) zero a v = refl
 length-set_within (xs ∷ xss) (suc k) (suc n) a v = length-set_within xss k n a v
 
-pub stored_places : (m : Module) (b : Block) (n : ℕ) (s : ModuleState) (e : Effect) → HasPlaces m b n s → HasPlaces m b n (stored m b s e)
-stored_places m b n s (Variable i x v) h = cond_both (nat_lt x (length m.registers)) _ _ (HasPlaces m b n)
+pub stored_places : (m : Module) (b : Block) (n : ℕ) (s : ModuleState) (e : Effect) → HasAllPlaces m b n s
+    → HasAllPlaces m b n (stored m b s e)
+stored_places m b n s (Variable i x v) h = cond_both (nat_lt x (length m.registers)) _ _ (HasAllPlaces m b n)
     (λ e. record {
       registers = length-set s.registers x _ ∙ h.registers;
       memories = h.memories;
@@ -103,8 +104,8 @@ stored_places m b n s (Word k a v) h = record {
   each_temps = h.each_temps;
 }
 
-all_places : (m : Module) (b : Block) (n : ℕ) (s : ModuleState) (es : List Effect) → HasPlaces m b n s
-    → HasPlaces m b n (fold (stored m b) s es)
+all_places : (m : Module) (b : Block) (n : ℕ) (s : ModuleState) (es : List Effect) → HasAllPlaces m b n s
+    → HasAllPlaces m b n (fold (stored m b) s es)
 all_places m b n s [] h = h
 all_places m b n s (e ∷ es) h = all_places m b n (stored m b s e) es (stored_places m b n s e h)
 
@@ -114,7 +115,7 @@ fresh_each : (b : Block) (i : ℕ) → i < 1 → length (get_or (fresh_temps b �
 fresh_each b zero l = length-replicate {A = ℕ} (length b.temps) 0
 fresh_each b (suc i) l = absurd (omega arith)
 
-entered_state : (c : ℕ) (m : Module) → IsModuleSound c m → (b : Block) (iterations n : ℕ) (s : ModuleState) → HasPlaces m b iterations s
+entered_state : (c : ℕ) (m : Module) → IsModuleSound c m → (b : Block) (iterations n : ℕ) (s : ModuleState) → HasAllPlaces m b iterations s
     → n < length m.blocks → IsStateOf m (entered m n s)
 unfolding entered
 entered_state c m sound b iterations n s h l =
@@ -146,14 +147,14 @@ entered_state c m sound b iterations n s h l =
 record Passed (m : Module) (b : Block) (v : ModuleState) : Type 0 where
   at_block : v.control.block < length m.blocks
   same_block : block_of m v ≡ b
-  places : HasPlaces m b (live_count b v.control) v
+  places : HasAllPlaces m b (live_count b v.control) v
   control : IsWithin b v.control
   not_past : v.control.looping ≡ true → v.control.clock < v.control.newest + b.len
   alive : v.ended ≡ false
 
 -- the clock goes up
 ticked_places : (m : Module) (b : Block) (s : ModuleState) → 0 < interval b → s.control.newest ≤ s.control.clock
-    → HasPlaces m b (live_count b s.control) s → HasPlaces m b (live_count b (ticked b s).control) (ticked b s)
+    → HasAllPlaces m b (live_count b s.control) s → HasAllPlaces m b (live_count b (ticked b s).control) (ticked b s)
 unfolding ticked
 ticked_places m b s pos begun h =
     let k = record s.control { clock = s.control.clock + 1 } in
@@ -180,7 +181,7 @@ pushed_each b xs i h l = by_test (nat_lt i (length xs)) refl
         ap length (get_or_push xs (fresh_temps b) [] i (omega arith)) ∙ length-replicate {A = ℕ} (length b.temps) 0
 
 started_places : (m : Module) (b : Block) (u : ModuleState) → 0 < interval b → 0 < b.len → u.control.clock ≡ u.control.newest + interval b
-    → HasPlaces m b (live_count b u.control) u → HasPlaces m b (live_count b (started b u).control) (started b u)
+    → HasAllPlaces m b (live_count b u.control) u → HasAllPlaces m b (live_count b (started b u).control) (started b u)
 started_places m b u pos some old h =
     let k : Control = record u.control { newest = u.control.clock } in
     let more : live_count b k ≡ suc (live_count b u.control) = live_starts b u.control k pos some refl refl old in
@@ -212,7 +213,7 @@ start_goes false i c pos = refl
 
 decided_passed : (c : ℕ) (m : Module) (t : ModuleState) → t.control.block < length m.blocks → IsBlockSound c m (block_of m t)
     → t.ended ≡ false
-    → HasPlaces m (block_of m t) (live_count (block_of m t) t.control) t → IsWithin (block_of m t) t.control
+    → HasAllPlaces m (block_of m t) (live_count (block_of m t) t.control) t → IsWithin (block_of m t) t.control
     → Passed m (block_of m t) (decided (block_of m t) (ticked (block_of m t) t))
 unfolding decided ticked
 decided_passed c m t l sound alive h w =
@@ -263,11 +264,11 @@ decided_passed c m t l sound alive h w =
 -- ---- the end of a move
 
 on_block : (m : Module) (b : Block) (v : ModuleState) → v.control.block < length m.blocks → block_of m v ≡ b
-    → HasPlaces m b (live_count b v.control) v
+    → HasAllPlaces m b (live_count b v.control) v
     → IsWithin b v.control → (v.ended ≡ false → v.control.clock < v.control.newest + b.len) → IsStateOf m v
 on_block m b v l same h w y = record {
   block = l;
-  places = subst (λ (c : Block). HasPlaces m c (live_count c v.control) v) (sym same) h;
+  places = subst (λ (c : Block). HasAllPlaces m c (live_count c v.control) v) (sym same) h;
   control = subst (λ (c : Block). IsWithin c v.control) (sym same) w;
   young = λ e. subst (λ (c : Block). v.control.clock < v.control.newest + c.len) (sym same) (y e);
 }
@@ -309,7 +310,7 @@ finished_state c m sound b here v h = cond_both (is_block_over b v.control) _ v 
 -- ---- a whole move
 
 moved_on : (c : ℕ) (m : Module) → IsModuleSound c m → (t : ModuleState) → t.control.block < length m.blocks → t.ended ≡ false
-    → HasPlaces m (block_of m t) (live_count (block_of m t) t.control) t → IsWithin (block_of m t) t.control
+    → HasAllPlaces m (block_of m t) (live_count (block_of m t) t.control) t → IsWithin (block_of m t) t.control
     → IsStateOf m (rest_of_move m (block_of m t) t)
 moved_on c m sound t l alive h w =
     let here = sound.blocks t.control.block no_block l in
@@ -324,7 +325,7 @@ move_state c m sound s replies h alive =
     let control = same_control m s replies in
     let places = all_places m (block_of m s) (live_count (block_of m s) s.control) s (effects (block_of m s) s (due m s) replies) h.places
     in
-    let placed : HasPlaces m (block_of m s) (live_count (block_of m s) s.control) t = record {
+    let placed : HasAllPlaces m (block_of m s) (live_count (block_of m s) s.control) t = record {
       registers = places.registers;
       memories = places.memories;
       words = places.words;
@@ -334,7 +335,7 @@ move_state c m sound s replies h alive =
     subst (λ (b : Block). IsStateOf m (rest_of_move m b t)) (kept_block m s replies)
     (moved_on c m sound t (subst (λ (k : Control). k.block < length m.blocks) (sym control) h.block)
     ((commits_keep m s replies).2 ∙ alive)
-    (subst (λ (k : Control). HasPlaces m (block_at m k.block) (live_count (block_at m k.block) k) t) (sym control) placed)
+    (subst (λ (k : Control). HasAllPlaces m (block_at m k.block) (live_count (block_at m k.block) k) t) (sym control) placed)
     (subst (λ (k : Control). IsWithin (block_at m k.block) k) (sym control) h.control))
 
 -- the opening is a state

@@ -40,13 +40,13 @@ abbrev pub is_full : Plan → ℕ → List Element → Bool
 is_full p f held = is_fifo (kind_at p f) && nat_le (slice_index p.depths f) (length held)
 
 -- in this clock the channel has an element to pop, or a place for a push
-abbrev pub is_possible : Plan → ℕ → List (List Element) → Side → ℕ → Bool
-is_possible p clock contents Pop f = not (is_empty clock (contents_of contents f))
-is_possible p clock contents Push f = not (is_full p f (contents_of contents f))
+abbrev pub can_take : Plan → ℕ → List (List Element) → Side → ℕ → Bool
+can_take p clock contents Pop f = not (is_empty clock (contents_of contents f))
+can_take p clock contents Push f = not (is_full p f (contents_of contents f))
 
 -- the request is a blocking operation that cannot be done in this clock
 abbrev pub stalls : Plan → ℕ → List (List Element) → Request → Bool
-stalls p clock contents r = is_blocking r.kind && not (is_possible p clock contents (side_of r.kind) r.channel)
+stalls p clock contents r = is_blocking r.kind && not (can_take p clock contents (side_of r.kind) r.channel)
 
 -- ---- replies
 
@@ -61,7 +61,7 @@ reply_by Full possible front = Flag (not possible)
 
 unfoldable pub reply : Plan → ℕ → List (List Element) → Request → Reply
 reply p clock contents r =
-    reply_by r.kind (is_possible p clock contents (side_of r.kind) r.channel)
+    reply_by r.kind (can_take p clock contents (side_of r.kind) r.channel)
     (front (contents_of contents r.channel))
 
 -- ---- what is done

@@ -33,8 +33,8 @@ abbrev pub slow_fifo : ℕ → ℕ → Channel
 slow_fifo width delay = record { name = []; width = width; kind = Fifo 2 delay }
 
 -- a plain block `block LEN`, and a loop `loop II LEN while R`; after either the module ends
-abbrev pub block : ℕ → List Timed → Block
-block len ops = record { kind = Plain; len = len; temps = []; ops = ops; next = Stop }
+abbrev pub plain_block : ℕ → List Timed → Block
+plain_block len ops = record { kind = Plain; len = len; temps = []; ops = ops; next = Stop }
 
 abbrev pub loop : ℕ → ℕ → ℕ → List Timed → Block
 loop ii len again ops = record { kind = Loop ii again; len = len; temps = []; ops = ops; next = Stop }
@@ -44,8 +44,8 @@ abbrev pub one_block : List ℕ → Block → Module
 one_block registers b = record { name = []; registers = registers; memories = []; blocks = b ∷ [] }
 
 -- a plan with the default limits
-abbrev pub plan_of : List Channel → List Module → List (List ℕ) → List ℕ → Plan
-plan_of channels modules inputs depths = record {
+abbrev pub default_plan : List Channel → List Module → List (List ℕ) → List ℕ → Plan
+default_plan channels modules inputs depths = record {
   design = record { channels = channels; modules = modules };
   inputs = inputs;
   cycles = 1000000000;
@@ -56,10 +56,10 @@ plan_of channels modules inputs depths = record {
 -- ---- sources and sinks
 
 abbrev pub adder : Module
-adder = one_block (8 ∷ []) (block 3 (at 0 (Read 0 0) ∷ at 2 (Write 1 (Binary Add (Var 0) (Number 1))) ∷ []))
+adder = one_block (8 ∷ []) (plain_block 3 (at 0 (Read 0 0) ∷ at 2 (Write 1 (Binary Add (Var 0) (Number 1))) ∷ []))
 
 abbrev pub adder_plan : List ℕ → Plan
-adder_plan input = plan_of (source 8 ∷ sink 8 ∷ []) (adder ∷ []) (input ∷ [] ∷ []) (0 ∷ 0 ∷ [])
+adder_plan input = default_plan (source 8 ∷ sink 8 ∷ []) (adder ∷ []) (input ∷ [] ∷ []) (0 ∷ 0 ∷ [])
 
 abbrev pub plain_case : Plan
 plain_case = adder_plan (7 ∷ [])
@@ -81,8 +81,8 @@ abbrev pub cycle_limit_before_the_end : Plan
 cycle_limit_before_the_end = record plain_case { cycles = 2 }
 
 abbrev pub commit_order : Plan
-commit_order = plan_of (sink 8 ∷ [])
-    (one_block (8 ∷ []) (block 2 (at 0 (Set 0 (Number 1)) ∷ at 0 (Set 0 (Number 2)) ∷ at 1 (Write 0 (Var 0)) ∷ [])) ∷ [])
+commit_order = default_plan (sink 8 ∷ [])
+    (one_block (8 ∷ []) (plain_block 2 (at 0 (Set 0 (Number 1)) ∷ at 0 (Set 0 (Number 2)) ∷ at 1 (Write 0 (Var 0)) ∷ [])) ∷ [])
     ([] ∷ []) (0 ∷ [])
 
 -- operations that push one value after the other on channel 0, one in each clock
@@ -91,8 +91,8 @@ telling offset [] = []
 telling offset (e ∷ es) = at offset (Write 0 e) ∷ telling (suc offset) es
 
 abbrev pub word_arithmetic : Plan
-word_arithmetic = plan_of (sink 64 ∷ [])
-    (one_block [] (block 9 (telling 0
+word_arithmetic = default_plan (sink 64 ∷ [])
+    (one_block [] (plain_block 9 (telling 0
     (Binary Div (Number 7) (Number 0)
     ∷ Binary Rem (Number 7) (Number 0)
     ∷ Binary Shl (Number 1) (Number 64)
@@ -106,14 +106,14 @@ word_arithmetic = plan_of (sink 64 ∷ [])
     ([] ∷ []) (0 ∷ [])
 
 abbrev pub empty_design : Plan
-empty_design = plan_of [] [] [] []
+empty_design = default_plan [] [] [] []
 
 -- ---- FIFOs
 
 abbrev pub visibility_one_clock_later : Plan
-visibility_one_clock_later = plan_of (source 8 ∷ fifo 8 ∷ sink 8 ∷ [])
-    (one_block (8 ∷ []) (block 2 (at 0 (Read 0 0) ∷ at 1 (Write 1 (Var 0)) ∷ []))
-    ∷ one_block (8 ∷ []) (block 2 (at 0 (Read 1 0) ∷ at 1 (Write 2 (Var 0)) ∷ []))
+visibility_one_clock_later = default_plan (source 8 ∷ fifo 8 ∷ sink 8 ∷ [])
+    (one_block (8 ∷ []) (plain_block 2 (at 0 (Read 0 0) ∷ at 1 (Write 1 (Var 0)) ∷ []))
+    ∷ one_block (8 ∷ []) (plain_block 2 (at 0 (Read 1 0) ∷ at 1 (Write 2 (Var 0)) ∷ []))
     ∷ [])
     ((5 ∷ []) ∷ [] ∷ [] ∷ []) (0 ∷ 2 ∷ 0 ∷ [])
 
@@ -123,7 +123,7 @@ abbrev pub counting : ℕ → ℕ → Op ℕ → List Timed
 counting i g op = at 0 op ∷ at 0 (Set i (Binary Add (Var i) (Number 1))) ∷ at 0 (Set g (Binary LtU (Var i) (Number 2))) ∷ []
 
 abbrev pub three_values : ℕ → Plan
-three_values depth = plan_of (fifo 8 ∷ [])
+three_values depth = default_plan (fifo 8 ∷ [])
     (one_block (8 ∷ 1 ∷ []) (loop 1 1 1 (counting 0 1 (Write 0 (Var 0))))
     ∷ one_block (8 ∷ 8 ∷ 1 ∷ []) (loop 1 1 2 (counting 1 2 (Read 0 0)))
     ∷ [])
@@ -137,8 +137,8 @@ three_values_through_depth_one = three_values 1
 
 -- a module that pushes and pops one FIFO; its registers are x, o and p
 abbrev pub both_ends_in_one_module : Plan
-both_ends_in_one_module = plan_of (fifo 8 ∷ sink 8 ∷ [])
-    (one_block (8 ∷ 1 ∷ 1 ∷ []) (block 3
+both_ends_in_one_module = default_plan (fifo 8 ∷ sink 8 ∷ [])
+    (one_block (8 ∷ 1 ∷ 1 ∷ []) (plain_block 3
     (at 0 (Write 0 (Number 5))
     ∷ at 0 (TryRead 0 0 1)
     ∷ at 1 (TryRead 0 0 2)
@@ -151,9 +151,9 @@ both_ends_in_one_module = plan_of (fifo 8 ∷ sink 8 ∷ [])
 
 -- a push in clock 5, and a tried pop in the given clock
 abbrev pub tried_pop : ℕ → Plan
-tried_pop clock = plan_of (fifo 8 ∷ sink 8 ∷ [])
-    (one_block [] (block 6 (at 5 (Write 0 (Number 3)) ∷ []))
-    ∷ one_block (8 ∷ 1 ∷ []) (block (suc (suc clock)) (at clock (TryRead 0 0 1) ∷ at (suc clock) (Write 1 (Var 1)) ∷ []))
+tried_pop clock = default_plan (fifo 8 ∷ sink 8 ∷ [])
+    (one_block [] (plain_block 6 (at 5 (Write 0 (Number 3)) ∷ []))
+    ∷ one_block (8 ∷ 1 ∷ []) (plain_block (suc (suc clock)) (at clock (TryRead 0 0 1) ∷ at (suc clock) (Write 1 (Var 1)) ∷ []))
     ∷ [])
     ([] ∷ [] ∷ []) (2 ∷ 0 ∷ [])
 
@@ -166,10 +166,10 @@ one_clock_after_the_push = tried_pop 6
 -- a module that tries to pop one channel, then pushes another, and pushes the outcome on a third
 abbrev pub asking : ℕ → ℕ → ℕ → Module
 asking pops pushes tells = one_block (8 ∷ 1 ∷ [])
-    (block 2 (at 0 (TryRead pops 0 1) ∷ at 1 (Write pushes (Number 1)) ∷ at 1 (Write tells (Var 1)) ∷ []))
+    (plain_block 2 (at 0 (TryRead pops 0 1) ∷ at 1 (Write pushes (Number 1)) ∷ at 1 (Write tells (Var 1)) ∷ []))
 
 abbrev pub two_least_queries : Plan
-two_least_queries = plan_of (fifo 8 ∷ fifo 8 ∷ sink 8 ∷ sink 8 ∷ []) (asking 1 0 2 ∷ asking 0 1 3 ∷ [])
+two_least_queries = default_plan (fifo 8 ∷ fifo 8 ∷ sink 8 ∷ sink 8 ∷ []) (asking 1 0 2 ∷ asking 0 1 3 ∷ [])
     ([] ∷ [] ∷ [] ∷ [] ∷ []) (2 ∷ 2 ∷ 0 ∷ 0 ∷ [])
 
 -- a module that tests and pops; its registers are x, e, g and z, and its channels b, c and y
@@ -183,17 +183,17 @@ tester = one_block (8 ∷ 1 ∷ 1 ∷ 1 ∷ []) (loop 1 4 2
     ∷ []))
 
 abbrev pub later_stall_delays_earlier_query : Plan
-later_stall_delays_earlier_query = plan_of (fifo 8 ∷ fifo 8 ∷ sink 8 ∷ [])
+later_stall_delays_earlier_query = default_plan (fifo 8 ∷ fifo 8 ∷ sink 8 ∷ [])
     (tester
-    ∷ one_block [] (block 11 (at 0 (Write 0 (Number 1)) ∷ at 9 (Write 0 (Number 2)) ∷ at 10 (Write 1 (Number 1)) ∷ []))
+    ∷ one_block [] (plain_block 11 (at 0 (Write 0 (Number 1)) ∷ at 9 (Write 0 (Number 2)) ∷ at 10 (Write 1 (Number 1)) ∷ []))
     ∷ [])
     ([] ∷ [] ∷ [] ∷ []) (2 ∷ 2 ∷ 0 ∷ [])
 
 -- a try to push a second element, which fails at depth 1 and is done at depth 2
 abbrev pub outcome_that_turns : ℕ → Plan
-outcome_that_turns depth = plan_of (fifo 8 ∷ sink 8 ∷ [])
-    (one_block (1 ∷ []) (block 3 (at 0 (Write 0 (Number 1)) ∷ at 1 (TryWrite 0 0 (Number 2)) ∷ at 2 (Write 1 (Var 0)) ∷ []))
-    ∷ one_block (8 ∷ []) (block 10 (at 9 (Read 0 0) ∷ []))
+outcome_that_turns depth = default_plan (fifo 8 ∷ sink 8 ∷ [])
+    (one_block (1 ∷ []) (plain_block 3 (at 0 (Write 0 (Number 1)) ∷ at 1 (TryWrite 0 0 (Number 2)) ∷ at 2 (Write 1 (Var 0)) ∷ []))
+    ∷ one_block (8 ∷ []) (plain_block 10 (at 9 (Read 0 0) ∷ []))
     ∷ [])
     ([] ∷ [] ∷ []) (depth ∷ 0 ∷ [])
 
@@ -203,7 +203,8 @@ poller = one_block (8 ∷ 1 ∷ 1 ∷ []) (loop 1 1 2 (at 0 (TryRead 0 0 1) ∷ 
 
 abbrev pub polling_loop : Plan
 polling_loop = record {
-  design = record { channels = fifo 8 ∷ []; modules = poller ∷ one_block (1 ∷ []) (block 1 (at_if 0 0 (Write 0 (Number 1)) ∷ [])) ∷ [] };
+  design =
+      record { channels = fifo 8 ∷ []; modules = poller ∷ one_block (1 ∷ []) (plain_block 1 (at_if 0 0 (Write 0 (Number 1)) ∷ [])) ∷ [] };
   inputs = [] ∷ [];
   cycles = 1000;
   ops = 10;
@@ -214,25 +215,25 @@ polling_loop = record {
 
 -- a producer that pushes without end, and a consumer that never pops
 abbrev pub run_ahead_past_full : Plan
-run_ahead_past_full = plan_of (fifo 8 ∷ [])
+run_ahead_past_full = default_plan (fifo 8 ∷ [])
     (one_block (1 ∷ []) (loop 1 1 0 (at 0 (Write 0 (Number 7)) ∷ at 0 (Set 0 (Number 1)) ∷ []))
-    ∷ one_block (8 ∷ 1 ∷ []) (block 1 (at_if 0 1 (Read 0 0) ∷ []))
+    ∷ one_block (8 ∷ 1 ∷ []) (plain_block 1 (at_if 0 1 (Read 0 0) ∷ []))
     ∷ [])
     ([] ∷ []) (2 ∷ [])
 
 -- a module that pops one channel, and then pushes another
 abbrev pub waiting : ℕ → ℕ → Module
-waiting pops pushes = one_block (8 ∷ []) (block 2 (at 0 (Read pops 0) ∷ at 1 (Write pushes (Number 1)) ∷ []))
+waiting pops pushes = one_block (8 ∷ []) (plain_block 2 (at 0 (Read pops 0) ∷ at 1 (Write pushes (Number 1)) ∷ []))
 
 abbrev pub deadlock_at_once : Plan
-deadlock_at_once = plan_of (fifo 8 ∷ fifo 8 ∷ []) (waiting 1 0 ∷ waiting 0 1 ∷ []) ([] ∷ [] ∷ []) (2 ∷ 2 ∷ [])
+deadlock_at_once = default_plan (fifo 8 ∷ fifo 8 ∷ []) (waiting 1 0 ∷ waiting 0 1 ∷ []) ([] ∷ [] ∷ []) (2 ∷ 2 ∷ [])
 
 -- a deadlock that depends on the depth of the first FIFO; the channels are b, c and y
 abbrev pub deadlocked_record_goes_on : ℕ → Plan
-deadlocked_record_goes_on depth = plan_of (fifo 8 ∷ fifo 8 ∷ sink 8 ∷ [])
-    (one_block [] (block 4
+deadlocked_record_goes_on depth = default_plan (fifo 8 ∷ fifo 8 ∷ sink 8 ∷ [])
+    (one_block [] (plain_block 4
     (at 0 (Write 0 (Number 1)) ∷ at 1 (Write 0 (Number 2)) ∷ at 2 (Write 0 (Number 3)) ∷ at 3 (Write 1 (Number 9)) ∷ []))
-    ∷ one_block (8 ∷ []) (block 5
+    ∷ one_block (8 ∷ []) (plain_block 5
     (at 0 (Read 1 0) ∷ at 1 (Read 0 0) ∷ at 2 (Read 0 0) ∷ at 3 (Read 0 0) ∷ at 4 (Write 2 (Var 0)) ∷ []))
     ∷ [])
     ([] ∷ [] ∷ [] ∷ []) (depth ∷ 2 ∷ 0 ∷ [])
@@ -240,9 +241,9 @@ deadlocked_record_goes_on depth = plan_of (fifo 8 ∷ fifo 8 ∷ sink 8 ∷ [])
 -- ---- FIFOs with a delay
 
 abbrev pub five_clocks_later : Plan
-five_clocks_later = plan_of (source 8 ∷ slow_fifo 8 5 ∷ sink 8 ∷ [])
-    (one_block (8 ∷ []) (block 2 (at 0 (Read 0 0) ∷ at 1 (Write 1 (Var 0)) ∷ []))
-    ∷ one_block (8 ∷ []) (block 2 (at 0 (Read 1 0) ∷ at 1 (Write 2 (Var 0)) ∷ []))
+five_clocks_later = default_plan (source 8 ∷ slow_fifo 8 5 ∷ sink 8 ∷ [])
+    (one_block (8 ∷ []) (plain_block 2 (at 0 (Read 0 0) ∷ at 1 (Write 1 (Var 0)) ∷ []))
+    ∷ one_block (8 ∷ []) (plain_block 2 (at 0 (Read 1 0) ∷ at 1 (Write 2 (Var 0)) ∷ []))
     ∷ [])
     ((5 ∷ []) ∷ [] ∷ [] ∷ []) (0 ∷ 2 ∷ 0 ∷ [])
 
@@ -253,9 +254,9 @@ three_values_late depth = record (three_values depth) {
 
 -- a push in clock 5 on a FIFO with this delay, and a tried pop in clock 6
 abbrev pub tried_pop_late : ℕ → Plan
-tried_pop_late delay = plan_of (slow_fifo 8 delay ∷ sink 8 ∷ [])
-    (one_block [] (block 6 (at 5 (Write 0 (Number 3)) ∷ []))
-    ∷ one_block (8 ∷ 1 ∷ []) (block 8 (at 6 (TryRead 0 0 1) ∷ at 7 (Write 1 (Var 1)) ∷ []))
+tried_pop_late delay = default_plan (slow_fifo 8 delay ∷ sink 8 ∷ [])
+    (one_block [] (plain_block 6 (at 5 (Write 0 (Number 3)) ∷ []))
+    ∷ one_block (8 ∷ 1 ∷ []) (plain_block 8 (at 6 (TryRead 0 0 1) ∷ at 7 (Write 1 (Var 1)) ∷ []))
     ∷ [])
     ([] ∷ [] ∷ []) (2 ∷ 0 ∷ [])
 
@@ -265,10 +266,10 @@ slow_deadlock = record deadlock_at_once { design = record deadlock_at_once.desig
 
 -- a module that waits for an element in flight, and for an element that never comes
 abbrev pub held_by_the_second : Plan
-held_by_the_second = plan_of (slow_fifo 8 9 ∷ fifo 8 ∷ [])
-    (one_block [] (block 1 (at 0 (Write 0 (Number 3)) ∷ []))
-    ∷ one_block (8 ∷ 8 ∷ []) (block 1 (at 0 (Read 0 0) ∷ at 0 (Read 1 1) ∷ []))
-    ∷ one_block (1 ∷ []) (block 1 (at_if 0 0 (Write 1 (Number 1)) ∷ []))
+held_by_the_second = default_plan (slow_fifo 8 9 ∷ fifo 8 ∷ [])
+    (one_block [] (plain_block 1 (at 0 (Write 0 (Number 3)) ∷ []))
+    ∷ one_block (8 ∷ 8 ∷ []) (plain_block 1 (at 0 (Read 0 0) ∷ at 0 (Read 1 1) ∷ []))
+    ∷ one_block (1 ∷ []) (plain_block 1 (at_if 0 0 (Write 1 (Number 1)) ∷ []))
     ∷ [])
     ([] ∷ [] ∷ []) (2 ∷ 2 ∷ [])
 
@@ -277,7 +278,7 @@ held_by_the_second = plan_of (slow_fifo 8 9 ∷ fifo 8 ∷ [])
 -- II = LEN = 2: the temp of an iteration is 0 at its start, whatever the iteration before it wrote in its own temp. The registers
 -- are i and g, and temp t is pushed at offset 0 and written at offset 1
 abbrev pub back_to_back : Plan
-back_to_back = plan_of (sink 8 ∷ [])
+back_to_back = default_plan (sink 8 ∷ [])
     (one_block (8 ∷ 1 ∷ []) (record {
       kind = Loop 2 1;
       len = 2;
@@ -294,8 +295,8 @@ back_to_back = plan_of (sink 8 ∷ [])
 -- registers i and g, and a memory of 3 words of 4 bits. The first block, a loop with two live iterations, stores 17 + i at address
 -- i + 1 by a temp. A branch leads to the third block, which pushes the words on the sink, and then to the fourth, which ends the
 -- module
-abbrev pub parts : Plan
-parts = plan_of (sink 8 ∷ [])
+abbrev pub module_parts : Plan
+module_parts = default_plan (sink 8 ∷ [])
     (record {
       name = [];
       registers = 8 ∷ 1 ∷ [];
@@ -311,7 +312,7 @@ parts = plan_of (sink 8 ∷ [])
             ∷ [];
         next = Branch 0 2 1;
       }
-          ∷ block 1 []
+          ∷ plain_block 1 []
           ∷ record {
             kind = Plain;
             len = 4;
@@ -325,7 +326,7 @@ parts = plan_of (sink 8 ∷ [])
                 ∷ [];
             next = Goto 3;
           }
-          ∷ block 1 []
+          ∷ plain_block 1 []
           ∷ [];
     } ∷ [])
     ([] ∷ []) (0 ∷ [])

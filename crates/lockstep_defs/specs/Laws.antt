@@ -5,12 +5,12 @@ use Rattle.flow_word.specs.{declared.access.Kind.Kind, declared.access.Side.Side
 use Rattle.flow_word.specs.declared.access.Side.TheVariants.{Pop, Push}
 use Rattle.flow_design.specs.{declared.expr.Op.Op, declared.design.Block.Block, declared.plan.Plan.Plan, declared.report.Report.Report}
 use Rattle.flow_design.specs.{declared.state.Control.Control, declared.state.Reply.Reply, declared.state.ModuleState.ModuleState}
-use Rattle.flow_design.specs.{Plans.is_fifo, Plans.is_sink, Plans.kind_at, Plans.delay_at, Operations.access_of}
+use Rattle.flow_design.specs.{Plans.is_fifo, Plans.is_sink, Plans.kind_at, Plans.delay_at, Operations.kind_and_channel}
 use Rattle.flow_design.specs.Module.{block_of, interval, live_count, ages}
-use Rattle.lockstep_defs.specs.Channels.{HistoryStep, Exchange, is_possible, moved, values, contents_of}
+use Rattle.lockstep_defs.specs.Channels.{HistoryStep, Exchange, can_take, moved, values, contents_of}
 use Rattle.lockstep_defs.specs.Lockstep.{module_at, requests_of, moves, state, history, state_at, steps_in}
 use Rattle.lockstep_defs.specs.{Verdict.is_settled, Verdict.some_moves, Report.steps_of, Quiet.rests, Quiet.skip, Quiet.quiet}
-use Rattle.lockstep_defs.specs.OwnRun.{OwnStep, Own, own, paired}
+use Rattle.lockstep_defs.specs.OwnRun.{OwnStep, Own, own_run, paired}
 
 -- from a settled clock on nothing changes and nothing is done
 abbrev pub SettledStays : Plan → ℕ → Type 0
@@ -46,20 +46,20 @@ PopsInOrder p c f = (n d : ℕ) → n < length (moved Pop f (history p c))
 -- a push on a FIFO, where fewer elements were pushed than its depth and the number of pops together; a push on any other channel
 -- always
 pub record IsCounted (p : Plan) (c f : ℕ) : Type 0 where
-  pub pops : is_possible p c (state p c).contents Pop f
+  pub pops : can_take p c (state p c).contents Pop f
       ≡ nat_lt (length (moved Pop f (history p c))) (length (all_in p (suc c - delay_at p f) f))
   pub pushes : IsTrue (is_fifo (kind_at p f))
-      → is_possible p c (state p c).contents Push f
+      → can_take p c (state p c).contents Push f
       ≡ nat_lt (length (moved Push f (history p c))) (slice_index p.depths f + length (moved Pop f (history p c)))
-  pub unlimited : IsFalse (is_fifo (kind_at p f)) → is_possible p c (state p c).contents Push f ≡ true
+  pub unlimited : IsFalse (is_fifo (kind_at p f)) → can_take p c (state p c).contents Push f ≡ true
 
 -- the replies to the steps of a module
-abbrev pub replies_in : List HistoryStep → List (List Reply)
-replies_in steps = map (λ s. map (λ x. x.reply) s.exchanges) steps
+abbrev pub replies_by_step : List HistoryStep → List (List Reply)
+replies_by_step steps = map (λ s. map (λ x. x.reply) s.exchanges) steps
 
 -- the operations done in each step of an own run
-abbrev pub exchanges_in : List OwnStep → List (List Exchange)
-exchanges_in steps = map (λ s. paired s.requests s.replies) steps
+abbrev pub exchanges_by_step : List OwnStep → List (List Exchange)
+exchanges_by_step steps = map (λ s. paired s.requests s.replies) steps
 
 -- how many local clocks module i has made before clock c
 unfoldable pub clocks_made : Plan → ℕ → ℕ → ℕ
@@ -68,13 +68,13 @@ clocks_made p i (suc c) = if moves p c (state p c).contents (i, state_at p c i) 
 
 -- module i's own run on the replies of the history before clock c, after as many local clocks as the module has made
 abbrev pub own_at : Plan → ℕ → ℕ → Own
-own_at p i c = own p i (replies_in (steps_of i (history p c))) (clocks_made p i c)
+own_at p i c = own_run p i (replies_by_step (steps_of i (history p c))) (clocks_made p i c)
 
 -- module i's own run on the history before clock c has the module's state at clock c, and its steps are the module's steps in the
 -- history
 pub record IsOwnRun (p : Plan) (i c : ℕ) : Type 0 where
   pub state_is : (own_at p i c).state ≡ state_at p c i
-  pub steps_are : exchanges_in (own_at p i c).steps ≡ map (λ s. s.exchanges) (steps_of i (history p c))
+  pub steps_are : exchanges_by_step (own_at p i c).steps ≡ map (λ s. s.exchanges) (steps_of i (history p c))
 
 -- a step comes before another in the history: in an earlier clock, or in the same clock by a module with a lower number
 abbrev pub IsBefore : HistoryStep → HistoryStep → Type 0
@@ -103,7 +103,7 @@ asks None = false
 asks (Some access) = not (is_blocking access.0)
 
 abbrev pub is_query : Op ℕ → Bool
-is_query op = asks (access_of op)
+is_query op = asks (kind_and_channel op)
 
 -- a module makes at most as many queries in a local clock as its block has query operations
 abbrev pub AsksOnce : Plan → ℕ → ModuleState → Type 0

@@ -42,15 +42,15 @@ abbrev pub step_with : ℕ → ℕ → List Exchange → List HistoryStep
 step_with clock i [] = []
 step_with clock i (x ∷ xs) = record { clock = clock; «module» = i; exchanges = x ∷ xs } ∷ []
 
-abbrev pub step_of : Plan → ℕ → List (List Element) → ℕ × ModuleState → List HistoryStep
-step_of p clock contents m =
+abbrev pub module_step : Plan → ℕ → List (List Element) → ℕ × ModuleState → List HistoryStep
+module_step p clock contents m =
     if moves p clock contents m then step_with clock m.0 (map (answered p clock contents) (requests_of p m)) else []
 
 -- ---- the clock step
 
 -- the steps of a clock, in order of modules
 unfoldable pub steps_in : Plan → ℕ → ClockState → List HistoryStep
-steps_in p clock st = flat_map (step_of p clock st.contents) (numbered st)
+steps_in p clock st = flat_map (module_step p clock st.contents) (numbered st)
 
 -- a channel's contents after the steps of a clock: the popped elements are gone from its front, and the pushed values are at its
 -- back, to be popped after the channel's delay

@@ -7,7 +7,7 @@ use Rattle.flow_design.specs.{declared.expr.Expr.Expr, declared.expr.Op.Op, decl
 use Rattle.flow_design.specs.{declared.design.Block.Block, declared.design.Module.Module, declared.design.Channel.Channel}
 use Rattle.flow_design.specs.{declared.state.Control.Control, declared.state.ModuleState.ModuleState, declared.state.Due.Due}
 use Rattle.flow_design.specs.{declared.state.Effect.Effect, declared.state.Request.Request, declared.state.Reply.Reply, Words.value}
-use Rattle.flow_design.specs.{Words.cut_to, Operations.expressions_of, Operations.access_of, Plans.no_channel}
+use Rattle.flow_design.specs.{Words.cut_to, Operations.expressions_of, Operations.kind_and_channel, Plans.no_channel}
 use Rattle.flow_design.specs.declared.expr.Op.TheVariants.{Set, Load, Store, Read, Write, TryRead, TryWrite, Empty, Full}
 use Rattle.flow_design.specs.declared.design.BlockKind.TheVariants.{Plain, Loop}
 use Rattle.flow_design.specs.declared.design.Next.TheVariants.{Goto, Branch, Stop}
@@ -32,7 +32,7 @@ word_pushed channels s i f (e ∷ es) = cut_to (width_of channels f) (value_of s
 -- the request of an operation; none where it is no FIFO operation
 abbrev pub request_of : List Channel → ModuleState → ℕ → Op ℕ → Option Request
 request_of channels s i op =
-    option_map (λ a. record { kind = a.0; channel = a.1; value = word_pushed channels s i a.1 (expressions_of op) }) (access_of op)
+    option_map (λ a. record { kind = a.0; channel = a.1; value = word_pushed channels s i a.1 (expressions_of op) }) (kind_and_channel op)
 
 abbrev pub request_for : List Channel → Module → ModuleState → Due → Option Request
 request_for channels m s d = request_of channels s d.iteration (operation_at (block_of m s) d.op).op
@@ -79,7 +79,7 @@ effects_of s i (Empty f x) r = Variable i x (from_bool (is_yes r)) ∷ []
 effects_of s i (Full f x) r = Variable i x (from_bool (is_yes r)) ∷ []
 
 abbrev pub is_fifo_operation : Op ℕ → Bool
-is_fifo_operation op = is_some (access_of op)
+is_fifo_operation op = is_some (kind_and_channel op)
 
 -- what the due operations write, in commit order; each FIFO operation takes the next reply
 abbrev pub effects : Block → ModuleState → List Due → List Reply → List Effect

@@ -40,9 +40,9 @@ own_next p i replies o =
     else own_after (module_at p i) o (requests p.design.channels (module_at p i) o.state) (slice_index_or replies (length o.steps) [])
 
 -- the own run of module i after n local clocks
-unfoldable pub own : Plan → ℕ → List (List Reply) → ℕ → Own
-own p i replies zero = record { state = opened (module_at p i); steps = []; since = 0 }
-own p i replies (suc n) = own_next p i replies (own p i replies n)
+unfoldable pub own_run : Plan → ℕ → List (List Reply) → ℕ → Own
+own_run p i replies zero = record { state = opened (module_at p i); steps = []; since = 0 }
+own_run p i replies (suc n) = own_next p i replies (own_run p i replies n)
 
 -- ---- marks
 
@@ -74,5 +74,5 @@ end_mark limit o =
 -- the marks of module i's first n local clocks; the last is that of the first step whose replies are not given
 unfoldable pub marks : Plan → ℕ → List (List Reply) → ℕ → List Advance
 marks p i replies n =
-    let o = own p i replies n in
+    let o = own_run p i replies n in
     take (suc (length replies)) (step_marks [] o.steps ++ end_mark p.ops o)

@@ -21,8 +21,8 @@ abbrev pub is_taker : Port → Request → Bool
 is_taker a r = is_port a (taken_port r.kind r.channel)
 
 -- the requests that pop or push at this port when they are done
-abbrev pub takers : Port → List Request → List Request
-takers a requests = filter (is_taker a) requests
+abbrev pub taking_requests : Port → List Request → List Request
+taking_requests a requests = filter (is_taker a) requests
 
 -- a channel of this kind has this side: a source is never pushed, and a sink never popped
 abbrev pub has_port : ChannelKind → Side → Bool

@@ -45,9 +45,9 @@ unfoldable pub quiet : Plan → ℕ → ModuleState → ℕ
 quiet p i s = quiet_below p i (suc (measure p i s)) s
 
 -- while a loop goes on, its newest iteration is younger than II
-abbrev pub goes_on : Control → ℕ → Bool
-goes_on k ii = not k.looping || (nat_lt 0 ii && nat_lt k.clock (k.newest + ii))
+abbrev pub keeps_looping : Control → ℕ → Bool
+keeps_looping k ii = not k.looping || (nat_lt 0 ii && nat_lt k.clock (k.newest + ii))
 
 -- the state is one that quiet clocks end from; each state that a module comes to is so
 abbrev pub fits : Plan → ℕ → ModuleState → Bool
-fits p i s = goes_on s.control (interval (block_of (module_at p i) s))
+fits p i s = keeps_looping s.control (interval (block_of (module_at p i) s))

@@ -41,8 +41,8 @@ abbrev pub answers_in : Plan → List HistoryStep → List (List Bool)
 answers_in p steps = map (λ i. outcomes (steps_of i steps)) (range_with_len 0 (length p.design.modules))
 
 -- the report with a verdict, from the state in its clock and the steps before it
-abbrev pub report_with : Plan → Verdict → ClockState → List HistoryStep → Report
-report_with p v st steps = record {
+abbrev pub report_in_state : Plan → Verdict → ClockState → List HistoryStep → Report
+report_in_state p v st steps = record {
   verdict = v;
   outputs = outputs_in p st;
   held = held p v st;
@@ -51,7 +51,7 @@ report_with p v st steps = record {
 }
 
 abbrev pub report_at : Plan → Verdict → Report
-report_at p v = report_with p v (state p (clock_of v)) (history p (clock_of v))
+report_at p v = report_in_state p v (state p (clock_of v)) (history p (clock_of v))
 
 unfoldable pub report : Plan → Report
 report p = report_at p (verdict p)

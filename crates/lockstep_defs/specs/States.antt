@@ -3,11 +3,11 @@ use Rattle.std.specs.Prelude.{ℕ, ◌≡◌, ◌+◌, ◌<◌, ◌≤◌, IsTru
 use Rattle.flow_design.specs.{declared.design.Block.Block, declared.design.Module.Module, declared.state.Control.Control}
 use Rattle.flow_design.specs.{declared.state.Due.Due, declared.state.ModuleState.ModuleState}
 use Rattle.flow_design.specs.Module.{block_of, is_loop, interval, live_count, temps_of}
-use Rattle.lockstep_defs.specs.{Machine.memory_of, Quiet.goes_on}
+use Rattle.lockstep_defs.specs.{Machine.memory_of, Quiet.keeps_looping}
 
 -- the state has a value for each of the module's registers and memory words, and for each temp of `iterations` iterations of the
 -- block
-pub record HasPlaces (m : Module) (b : Block) (iterations : ℕ) (s : ModuleState) : Type 0 where
+pub record HasAllPlaces (m : Module) (b : Block) (iterations : ℕ) (s : ModuleState) : Type 0 where
   pub registers : length s.registers ≡ length m.registers
   pub memories : length s.memories ≡ length m.memories
   pub words : (n : ℕ) → length (memory_of s n) ≡ slice_index (map (λ memory. memory.len) m.memories) n
@@ -21,13 +21,13 @@ pub record IsWithin (b : Block) (k : Control) : Type 0 where
   -- only in a loop can a further iteration start
   pub is_loop_going : IsTrue k.looping → IsTrue (is_loop b.kind)
   -- while a further iteration can start, the newest one is younger than II
-  pub goes : IsTrue (goes_on k (interval b))
+  pub goes : IsTrue (keeps_looping k (interval b))
 
 -- the state is one that the module can have: it names one of its blocks, and fits it
 pub record IsStateOf (m : Module) (s : ModuleState) : Type 0 where
   pub block : s.control.block < length m.blocks
   -- the temps are those of the live iterations
-  pub places : HasPlaces m (block_of m s) (live_count (block_of m s) s.control) s
+  pub places : HasAllPlaces m (block_of m s) (live_count (block_of m s) s.control) s
   pub control : IsWithin (block_of m s) s.control
   -- the block is not over, unless the module is ended
   pub young : IsFalse s.ended → s.control.clock < s.control.newest + (block_of m s).len

@@ -53,12 +53,12 @@ held_by p clock contents m =
     if is_over p.ops m.1 then None else option_map (held_at m.0) (find (stalls p clock contents) (requests_of p m))
 
 -- the modules that would stall even if every element could be popped, each with its first request that would
-abbrev pub held_in : Plan → ℕ → ClockState → List Held
-held_in p clock st = filter_map (held_by p clock (all_ready st.contents)) (numbered st)
+abbrev pub held_modules : Plan → ℕ → ClockState → List Held
+held_modules p clock st = filter_map (held_by p clock (all_ready st.contents)) (numbered st)
 
 -- the held modules of a report with this verdict; none where all modules are ended or the cycle limit was reached
 abbrev pub held : Plan → Verdict → ClockState → List Held
 held p (Done clock) st = []
-held p (Deadlock clock) st = held_in p clock st
+held p (Deadlock clock) st = held_modules p clock st
 held p (Cycles clock) st = []
-held p (Ops clock) st = held_in p clock st
+held p (Ops clock) st = held_modules p clock st

@@ -86,7 +86,7 @@ pub fn deadlocks()
 /// Iterations that follow one another without a gap, and temps, memories and terminators.
 pub fn blocks_and_loops()
     ensures back_to_back { Shows Examples.back_to_back (Done 6) ((0 ∷ 0 ∷ 0 ∷ []) ∷ []) [] }
-    ensures parts { Shows Examples.parts (Done 9) ((3 ∷ 1 ∷ 2 ∷ []) ∷ []) [] }
+    ensures parts { Shows Examples.module_parts (Done 9) ((3 ∷ 1 ∷ 2 ∷ []) ∷ []) [] }
 {}
 
 /// The marks of modules' own runs.

@@ -7,8 +7,8 @@ ghost use Rattle.flow_design.specs.{Module.live_count, Module.due, StaticRules.I
 ghost use Rattle.flow_word.specs.declared.access.Port.{Port};
 ghost use Rattle.lockstep_defs.specs.Machine.{effects, committed, opened, move};
 ghost use Rattle.lockstep_defs.specs.{Channels.HistoryStep, Report.steps_of, Report.report, Verdict.is_settled, Verdict.settled_verdict};
-ghost use Rattle.lockstep_defs.specs.{Verdict.verdict, OwnRun.own, Quiet.rests, Quiet.skip, Quiet.own_later, Quiet.fits, States.IsStateOf};
-ghost use Rattle.lockstep_defs.specs.{States.IsDueIn, Ports.takers, Ports.StandsAtPort, Commits.LastWins};
+ghost use Rattle.lockstep_defs.specs.{Verdict.verdict, OwnRun.own_run, Quiet.rests, Quiet.skip, Quiet.own_later, Quiet.fits};
+ghost use Rattle.lockstep_defs.specs.{States.IsStateOf, States.IsDueIn, Ports.taking_requests, Ports.StandsAtPort, Commits.LastWins};
 ghost use Rattle.lockstep_defs.specs.Lockstep.{module_at, requests_of, state, state_at, history};
 ghost use Rattle.lockstep_defs.specs.Laws.{SettledStays, SomeoneMoves, NoneBefore, MovesOnce, IsConserved, PopsInOrder, IsCounted};
 ghost use Rattle.lockstep_defs.specs.Laws.{IsBefore, IsOwnRun, IsLive, AreAges, HasNumbersOf, AsksOnce, QuietClocksEnd};
@@ -54,7 +54,8 @@ pub fn states_fit_modules()
     ensures requests { (p : Plan) → FitsEngine p → (i : ℕ) → i < length p.design.modules → (s : ModuleState)
         → All (StandsAtPort p i) (requests_of p (i, s)) }
     ensures queries { (p : Plan) → FitsEngine p → (i : ℕ) (s : ModuleState) → AsksOnce p i s }
-    ensures takers { (p : Plan) → FitsEngine p → (a : Port) (i : ℕ) (s : ModuleState) → length (takers a (requests_of p (i, s))) ≤ 1 }
+    ensures takers { (p : Plan) → FitsEngine p → (a : Port) (i : ℕ) (s : ModuleState)
+        → length (taking_requests a (requests_of p (i, s))) ≤ 1 }
 {}
 
 /// The due operations of a local clock commit together in commit order: the last write to a place wins.
@@ -83,6 +84,6 @@ pub fn quiet_clocks_end()
         → IsTrue (fits p i s) → IsTrue (fits p i (move (module_at p i) s replies)) }
     ensures end { (p : Plan) → FitsEngine p → (i : ℕ) (s : ModuleState) → IsTrue (fits p i s) → QuietClocksEnd p i s }
     ensures own { (p : Plan) (i : ℕ) (replies : Items (Items Reply)) (n later : ℕ)
-        → ((j : ℕ) → j < later → IsFalse (rests p i (skip p i j (own p i replies n).state)))
-        → own p i replies (later + n) ≡ own_later p i later (own p i replies n) }
+        → ((j : ℕ) → j < later → IsFalse (rests p i (skip p i j (own_run p i replies n).state)))
+        → own_run p i replies (later + n) ≡ own_later p i later (own_run p i replies n) }
 {}

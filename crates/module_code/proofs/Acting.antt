@@ -9,7 +9,8 @@ use Rattle.flow_design.specs.declared.expr.Op.TheVariants as op
 use Rattle.flow_word.specs.declared.access.Kind.{Kind}
 use Rattle.lockstep_defs.specs.Machine.{memory_of, address_in, width_of, value_of, value_in, is_yes, stored}
 use Rattle.module_code.specs.{declared.operand.Operand.Operand, declared.target.Target.Target, Masks.IsMaskOf, Operands.IsOperandOf}
-use Rattle.module_code.specs.{Ready.places_in, Targets.put, Targets.put_word, Targets.IsTargetOf, Actions.held, Actions.IsActionOf}
+use Rattle.module_code.specs.{Ready.places_in, Actions.live_value, Actions.IsActionOf}
+use Rattle.module_code.specs.Targets.{put_value, put_word, IsTargetOf}
 use Rattle.module_code.specs.declared.action.Action.TheVariants as action
 use Rattle.module_code.proofs.Masking.{masked_is}
 
@@ -19,9 +20,9 @@ pushing k f word = Some (record { kind = k; channel = f; value = word })
 
 pushed_request : (channels : List Channel) (s : ModuleState) (i f mask : ℕ) (k : Kind) (o : Operand) (e : Expr ℕ)
     → IsMaskOf (width_of channels f) mask → IsOperandOf o e
-    → pushing k f (bit_and (held s i o) mask) ≡ pushing k f (cut_to (width_of channels f) (value_of s i e))
+    → pushing k f (bit_and (live_value s i o) mask) ≡ pushing k f (cut_to (width_of channels f) (value_of s i e))
 pushed_request channels s i f mask k o e ones h =
-    ap (pushing k f) (masked_is (held s i o) (width_of channels f) mask ones
+    ap (pushing k f) (masked_is (live_value s i o) (width_of channels f) mask ones
     ∙ ap (λ (v : ℕ). cut_to (width_of channels f) v) (h.values s.registers (temps_of s i)))
 
 pub set_action : (channels : List Channel) (m : Module) (b : Block) (t : Target) (x : ℕ) (o : Operand) (e : Expr ℕ) → IsTargetOf m b t x
@@ -83,10 +84,10 @@ write_action channels m b f mask o e ones h = record {
 -- both targets of a tried read
 taken : (m : Module) (b : Block) (t k : Target) (x ok : ℕ) (s : ModuleState) (i : ℕ) (r : Reply) (yes : Bool) → IsTargetOf m b t x
     → IsTargetOf m b k ok
-    → put (cond yes (put s i t (value_in r)) s) i k (from_bool yes)
+    → put_value (cond yes (put_value s i t (value_in r)) s) i k (from_bool yes)
     ≡ fold (stored m b) s (cond yes (Variable i x (value_in r) ∷ []) [] ++ Variable i ok (from_bool yes) ∷ [])
 taken m b t k x ok s i r true first second =
-    second (put s i t (value_in r)) i 1 ∙ ap (λ (u : ModuleState). stored m b u (Variable i ok 1)) (first s i (value_in r))
+    second (put_value s i t (value_in r)) i 1 ∙ ap (λ (u : ModuleState). stored m b u (Variable i ok 1)) (first s i (value_in r))
 taken m b t k x ok s i r false first second = second s i 0
 
 pub try_read_action : (channels : List Channel) (m : Module) (b : Block) (f : ℕ) (t k : Target) (x ok : ℕ) → IsTargetOf m b t x

@@ -14,7 +14,7 @@ use Rattle.flow_design.specs.Module.{due_in, due}
 use Rattle.flow_design.specs.StaticRules.{IsModuleSound, IsMemorySound, IsTimedSound, IsOperationSound}
 use Rattle.lockstep_defs.specs.Machine.{memory_of}
 use Rattle.lockstep_defs.proofs.{Blocks.block_sound, Blocks.some_interval, Blocks.span, Live.length-ages_down, Standing.due_in_range}
-use Rattle.module_code.specs.{Ready.IsReady, Sound.IsStateSound, Sound.IsDueSound}
+use Rattle.module_code.specs.{Ready.IsOperationReady, Sound.IsStateSound, Sound.IsDueSound}
 use Rattle.module_code.proofs.Begins.{live_count_is, few_live}
 
 -- each due operation of a sound state
@@ -39,7 +39,7 @@ memory_some m s n size words there =
 
 ready_by : (channels : ℕ) (m : Module) (s : ModuleState) (i temps : ℕ) (op : Op ℕ) → IsOperationSound channels m temps op
     → length s.registers ≡ length m.registers → length (temps_of s i) ≡ temps
-    → ((n : ℕ) → n < length m.memories → 0 < length (memory_of s n)) → IsReady s i op
+    → ((n : ℕ) → n < length m.memories → 0 < length (memory_of s n)) → IsOperationReady s i op
 ready_by channels m s i temps (Set x e) h registers same words = rw (registers, same) (h.expressions 0 e (omega arith)).variables
 ready_by channels m s i temps (Load x n e) h registers same words =
     (rw (registers, same) (h.expressions 0 e (omega arith)).variables, words n h.memory)
@@ -58,7 +58,7 @@ ready_by channels m s i temps (Empty f x) h registers same words = tt
 ready_by channels m s i temps (Full f x) h registers same words = tt
 
 pub op_ready : (channels : ℕ) (m : Module) (s : ModuleState) (d : Due) → IsModuleSound channels m → IsStateSound m s → IsDueSound m s d
-    → IsReady s d.iteration (operation_at (block_of m s) d.op).op
+    → IsOperationReady s d.iteration (operation_at (block_of m s) d.op).op
 op_ready channels m s d h sound there =
     let block = block_sound channels m s.control.block h sound.state.block in
     let timed : IsTimedSound channels m (block_of m s) (operation_at (block_of m s) d.op) = block.operations d.op no_operation there.op in

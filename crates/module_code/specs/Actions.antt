@@ -7,21 +7,21 @@ use Rattle.flow_design.specs.{declared.expr.Op.Op, declared.state.Reply.Reply, d
 use Rattle.flow_design.specs.declared.state.ModuleState.{ModuleState}
 use Rattle.lockstep_defs.specs.Machine.{memory_of, address_in, value_in, is_yes, request_of, is_fifo_operation, stored}
 use Rattle.module_code.specs.{declared.noted.Noted.Noted, declared.operand.Operand.Operand, declared.action.Action.Action}
-use Rattle.module_code.specs.{Notes.noted_value, Notes.noted_address, Notes.effects_from, Ready.places_in, Ready.IsReady, Targets.put}
-use Rattle.module_code.specs.{Targets.put_word, Operands.operand_value, Operands.IsOperandSound, Operands.room_of}
+use Rattle.module_code.specs.{Notes.noted_value, Notes.noted_address, Notes.effects_from, Ready.places_in, Ready.IsOperationReady}
+use Rattle.module_code.specs.{Targets.put_value, Targets.put_word, Operands.operand_value, Operands.IsOperandSound, Operands.operand_room}
 use Rattle.module_code.specs.declared.action.Action.TheVariants.{Set, Load, Store, Read, Write, TryRead, TryWrite, Empty, Full}
 
 -- ---- before the replies
 
 -- the value of an operand in a live iteration
-abbrev pub held : ModuleState → ℕ → Operand → ℕ
-held s i o = operand_value s.registers (temps_of s i) o
+abbrev pub live_value : ModuleState → ℕ → Operand → ℕ
+live_value s i o = operand_value s.registers (temps_of s i) o
 
 -- the value that an action writes, where no reply decides it
 abbrev pub action_value : ModuleState → ℕ → Action → ℕ
-action_value s i (Set t o) = held s i o
-action_value s i (Load t n o) = slice_index (memory_of s n) (address_in s n (held s i o))
-action_value s i (Store n mask o a) = held s i a
+action_value s i (Set t o) = live_value s i o
+action_value s i (Load t n o) = slice_index (memory_of s n) (address_in s n (live_value s i o))
+action_value s i (Store n mask o a) = live_value s i a
 action_value s i (Read f t) = 0
 action_value s i (Write f mask o) = 0
 action_value s i (TryRead f t ok) = 0
@@ -32,7 +32,7 @@ action_value s i (Full f t) = 0
 abbrev pub action_address : ModuleState → ℕ → Action → ℕ
 action_address s i (Set t o) = 0
 action_address s i (Load t n o) = 0
-action_address s i (Store n mask o a) = address_in s n (held s i o)
+action_address s i (Store n mask o a) = address_in s n (live_value s i o)
 action_address s i (Read f t) = 0
 action_address s i (Write f mask o) = 0
 action_address s i (TryRead f t ok) = 0
@@ -46,9 +46,9 @@ action_request s i (Set t o) = None
 action_request s i (Load t n o) = None
 action_request s i (Store n mask o a) = None
 action_request s i (Read f t) = Some (record { kind = kind.Read; channel = f; value = 0 })
-action_request s i (Write f mask o) = Some (record { kind = kind.Write; channel = f; value = bit_and (held s i o) mask })
+action_request s i (Write f mask o) = Some (record { kind = kind.Write; channel = f; value = bit_and (live_value s i o) mask })
 action_request s i (TryRead f t ok) = Some (record { kind = kind.TryRead; channel = f; value = 0 })
-action_request s i (TryWrite f mask ok o) = Some (record { kind = kind.TryWrite; channel = f; value = bit_and (held s i o) mask })
+action_request s i (TryWrite f mask ok o) = Some (record { kind = kind.TryWrite; channel = f; value = bit_and (live_value s i o) mask })
 action_request s i (Empty f t) = Some (record { kind = kind.Empty; channel = f; value = 0 })
 action_request s i (Full f t) = Some (record { kind = kind.Full; channel = f; value = 0 })
 
@@ -67,16 +67,16 @@ takes_reply (Full f t) = true
 
 -- the state after an action has written what its note and its reply give
 abbrev pub carried_out : ModuleState → Noted → Reply → Action → ModuleState
-carried_out s n r (Set t o) = put s n.iteration t n.value
-carried_out s n r (Load t m o) = put s n.iteration t n.value
+carried_out s n r (Set t o) = put_value s n.iteration t n.value
+carried_out s n r (Load t m o) = put_value s n.iteration t n.value
 carried_out s n r (Store m mask o a) = put_word s m n.address (bit_and n.value mask)
-carried_out s n r (Read f t) = put s n.iteration t (value_in r)
+carried_out s n r (Read f t) = put_value s n.iteration t (value_in r)
 carried_out s n r (Write f mask o) = s
 carried_out s n r (TryRead f t ok) =
-    put (if is_yes r then put s n.iteration t (value_in r) else s) n.iteration ok (from_bool (is_yes r))
-carried_out s n r (TryWrite f mask ok o) = put s n.iteration ok (from_bool (is_yes r))
-carried_out s n r (Empty f t) = put s n.iteration t (from_bool (is_yes r))
-carried_out s n r (Full f t) = put s n.iteration t (from_bool (is_yes r))
+    put_value (if is_yes r then put_value s n.iteration t (value_in r) else s) n.iteration ok (from_bool (is_yes r))
+carried_out s n r (TryWrite f mask ok o) = put_value s n.iteration ok (from_bool (is_yes r))
+carried_out s n r (Empty f t) = put_value s n.iteration t (from_bool (is_yes r))
+carried_out s n r (Full f t) = put_value s n.iteration t (from_bool (is_yes r))
 
 -- ---- what an action needs
 
@@ -95,13 +95,13 @@ IsActionReady s i (Full f t) = Unit {0}
 
 -- how many results of instructions an action needs room for
 abbrev pub action_room : Action → ℕ
-action_room (Set t o) = room_of o
-action_room (Load t n o) = room_of o
-action_room (Store n mask o a) = max (room_of o) (room_of a)
+action_room (Set t o) = operand_room o
+action_room (Load t n o) = operand_room o
+action_room (Store n mask o a) = max (operand_room o) (operand_room a)
 action_room (Read f t) = 0
-action_room (Write f mask o) = room_of o
+action_room (Write f mask o) = operand_room o
 action_room (TryRead f t ok) = 0
-action_room (TryWrite f mask ok o) = room_of o
+action_room (TryWrite f mask ok o) = operand_room o
 action_room (Empty f t) = 0
 action_room (Full f t) = 0
 
@@ -114,4 +114,4 @@ pub record IsActionOf (channels : List Channel) (m : Module) (b : Block) (c : Ac
   pub requests : (s : ModuleState) (i : ℕ) → action_request s i c ≡ request_of channels s i op
   pub replies : takes_reply c ≡ is_fifo_operation op
   pub written : (s : ModuleState) (n : Noted) (r : Reply) → carried_out s n r c ≡ fold (stored m b) s (effects_from n op r)
-  pub ready : (s : ModuleState) (i : ℕ) → IsReady s i op → IsActionReady s i c
+  pub ready : (s : ModuleState) (i : ℕ) → IsOperationReady s i op → IsActionReady s i c

@@ -23,13 +23,13 @@ IsOperandSound places (Single i) = IsInstructionSound places 0 i
 IsOperandSound places (Long code arg) = AreSound places 0 code × IsArgumentSound places (length code) arg
 
 -- how many results of instructions an operand needs room for
-abbrev pub room_of : Operand → ℕ
-room_of (Number n) = 0
-room_of (Var at) = 0
-room_of (VarNumber op at n) = 0
-room_of (VarVar op at other) = 0
-room_of (Single i) = 0
-room_of (Long code arg) = length code
+abbrev pub operand_room : Operand → ℕ
+operand_room (Number n) = 0
+operand_room (Var at) = 0
+operand_room (VarNumber op at n) = 0
+operand_room (VarVar op at other) = 0
+operand_room (Single i) = 0
+operand_room (Long code arg) = length code
 
 -- the operand has the expression's value, whatever the registers and the temps are
 pub record IsOperandOf (o : Operand) (e : Expr ℕ) : Type 0 where

@@ -7,9 +7,9 @@ use Rattle.module_code.specs.declared.target.Target.{Target}
 use Rattle.module_code.specs.declared.target.Target.TheVariants.{Register, Temp}
 
 -- the state after a value, cut by the target's mask, went into its register, or into its temp of a live iteration
-abbrev pub put : ModuleState → ℕ → Target → ℕ → ModuleState
-put s i (Register x mask) v = record s { registers = slice_set s.registers x (bit_and v mask) }
-put s i (Temp t mask) v = record s { temps = slice_set s.temps i (slice_set (temps_of s i) t (bit_and v mask)) }
+abbrev pub put_value : ModuleState → ℕ → Target → ℕ → ModuleState
+put_value s i (Register x mask) v = record s { registers = slice_set s.registers x (bit_and v mask) }
+put_value s i (Temp t mask) v = record s { temps = slice_set s.temps i (slice_set (temps_of s i) t (bit_and v mask)) }
 
 -- the state after a word went to an address of a memory
 abbrev pub put_word : ModuleState → ℕ → ℕ → ℕ → ModuleState
@@ -17,4 +17,4 @@ put_word s n address word = record s { memories = slice_set s.memories n (slice_
 
 -- putting a value into the target has the effect of writing the variable
 abbrev pub IsTargetOf : Module → Block → Target → ℕ → Type 0
-IsTargetOf m b target x = (s : ModuleState) (i v : ℕ) → put s i target v ≡ stored m b s (Variable i x v)
+IsTargetOf m b target x = (s : ModuleState) (i v : ℕ) → put_value s i target v ≡ stored m b s (Variable i x v)

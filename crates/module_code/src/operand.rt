@@ -2,7 +2,7 @@
 ghost use Rattle.std.specs.Prelude.{◌≡◌, ℕ, ◌+◌, ◌≤◌, [], List as Items, length, IfOk};
 ghost use Rattle.flow_design.specs.{declared.expr.Expr.Expr as ExprOf, Words.value, Words.reach};
 ghost use Rattle.module_code.specs.Flat.{IsCodeOf, IsInstructionSound, result_of};
-ghost use Rattle.module_code.specs.Operands.{operand_value, IsOperandSound, room_of, IsOperandOf};
+ghost use Rattle.module_code.specs.Operands.{operand_value, IsOperandSound, operand_room, IsOperandOf};
 
 use crate::flat::{Argument, Instruction, argument_value, flatten, result_of, run};
 use flow_design::{BinOp, Expr};
@@ -41,7 +41,7 @@ impl Drop for Operand {
 impl Operand {
     /// How many words of `scratch` the operand needs for the results of its instructions.
     pub(crate) fn room(&self) -> u64
-        ensures { result ≡ room_of self.now }
+        ensures { result ≡ operand_room self.now }
     {
         match self {
             Operand::Number(_) | Operand::Var(_) | Operand::Single(_) => 0,
@@ -60,7 +60,7 @@ pub(crate) fn evaluate(
     scratch: &mut [u64],
 ) -> u64
     requires sound { IsOperandSound (length registers.now + length temps.now) operand.now }
-    requires room { room_of operand.now ≤ length scratch.old }
+    requires room { operand_room operand.now ≤ length scratch.old }
     ensures value { result ≡ operand_value registers.now temps.now operand.now }
     ensures room { length scratch.new ≡ length scratch.old }
 {

@@ -2,9 +2,10 @@
 ghost use Rattle.std.specs.Prelude.{◌≡◌, ◌<◌, ◌≤◌, ℕ, length, slice_index};
 ghost use Rattle.flow_design.specs.Module.{temps_of};
 ghost use Rattle.lockstep_defs.specs.Machine.{memory_of, address_in};
-ghost use Rattle.module_code.specs.{Operands.IsOperandSound, Operands.room_of, Ready.places_in, declared.running.Prepared.TheVariants.Asks};
-ghost use Rattle.module_code.specs.Actions.{held, action_value, action_address, action_request, action_room, IsActionReady, carried_out};
-ghost use Rattle.module_code.specs.Prepared.{written_value, written_address, request_in};
+ghost use Rattle.module_code.specs.{Operands.IsOperandSound, Operands.operand_room, Ready.places_in};
+ghost use Rattle.module_code.specs.{declared.running.Prepared.TheVariants.Asks, Actions.live_value, Actions.action_value};
+ghost use Rattle.module_code.specs.{Actions.action_address, Actions.action_request, Actions.action_room, Actions.IsActionReady};
+ghost use Rattle.module_code.specs.{Actions.carried_out, Prepared.written_value, Prepared.written_address, Prepared.request_in};
 
 use crate::action::Action;
 use crate::noted::Noted;
@@ -90,8 +91,8 @@ fn held(
 ) -> u64
     requires temps { temps.now ≡ temps_of state.now iteration }
     requires sound { IsOperandSound (places_in state.now iteration) operand.now }
-    requires room { room_of operand.now ≤ length scratch.old }
-    ensures value { result ≡ held state.now iteration operand.now }
+    requires room { operand_room operand.now ≤ length scratch.old }
+    ensures value { result ≡ live_value state.now iteration operand.now }
     ensures room { length scratch.new ≡ length scratch.old }
 {
     evaluate(operand, state.registers.as_slice(), temps, scratch)

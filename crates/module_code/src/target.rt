@@ -1,6 +1,6 @@
 //! Where operations write: a register or a temp, with the mask of its width.
 ghost use Rattle.std.specs.Prelude.{◌≡◌, ℕ, ◌+◌, ◌^◌, slice_index};
-ghost use Rattle.module_code.specs.{Masks.IsMaskOf, Targets.IsTargetOf, Targets.put, Targets.put_word};
+ghost use Rattle.module_code.specs.{Masks.IsMaskOf, Targets.IsTargetOf, Targets.put_value, Targets.put_word};
 
 use flow_design::{Block, Module, ModuleState, put_at, set_at};
 use flow_word::Width;
@@ -54,7 +54,7 @@ pub(crate) fn mask_of(width: Width) -> u64
 /// Puts a value into a target, cut by the target's mask.
 #[inline(always)]
 pub(crate) fn put(state: &mut ModuleState, iteration: u32, target: Target, value: u64)
-    ensures { state.new ≡ put state.old iteration target value }
+    ensures { state.new ≡ put_value state.old iteration target value }
 {
     match target {
         Target::Register(register, mask) => {

@@ -11,12 +11,12 @@ use Rattle.flow_design.specs.declared.state.Advance.TheVariants.{Step, Ended, Sp
 use Rattle.flow_design.specs.declared.state.ModuleState.{ModuleState}
 use Rattle.lockstep_defs.specs.Machine.{opened, is_over, is_spent}
 use Rattle.lockstep_defs.specs.{Channels.Exchange, Lockstep.module_at, Lockstep.requests_of, Report.queries}
-use Rattle.lockstep_defs.specs.OwnRun.{OwnStep, Own, own_after, own_next, own, paired, access_of, step_marks, end_mark, marks}
+use Rattle.lockstep_defs.specs.OwnRun.{OwnStep, Own, own_after, own_next, own_run, paired, access_of, step_marks, end_mark, marks}
 use Rattle.lockstep_defs.specs.Quiet.{is_some_request, rests, skip, own_later, quiet, fits}
 use Rattle.lockstep_defs.proofs.Agrees.{own_suc}
 use Rattle.lockstep_defs.proofs.Resting.{fits_opened, fits_move, quiet_goes, quiet_rests, own_goes}
 use Rattle.module_interp.specs.OwnRests.{to_rest, requests_at, done_in, accesses_at, mark_at}
-use Rattle.module_interp.specs.{Runs.is_step, Chains.replies_to, Chains.rest_at, Chains.clock_at, Chains.marks_before, Chains.GoesTo}
+use Rattle.module_interp.specs.{Runs.is_step, Chains.replies_to, Chains.rest_at, Chains.rest_clock, Chains.marks_before, Chains.GoesTo}
 
 -- ---- statements that the proofs go by
 
@@ -34,7 +34,7 @@ behind p i replies k =
 
 -- the k-th rest is the own run after its local clocks
 abbrev IsOwn : Plan → ℕ → List (List Reply) → ℕ → Type 0
-IsOwn p i replies k = own p i replies (clock_at p i replies k) ≡ rest_at p i replies k
+IsOwn p i replies k = own_run p i replies (rest_clock p i replies k) ≡ rest_at p i replies k
 
 -- the marks of the steps before the k-th rest are those of the first k rests
 abbrev AreStepMarks : Plan → ℕ → List (List Reply) → ℕ → Type 0
@@ -184,8 +184,8 @@ module _ (p : Plan) (i : ℕ) (replies : List (List Reply)) where
       ap (λ (ms : List Advance). length ms) (one_mark_more k) in
       omega arith
 
-  own_first : own p i replies 0 ≡ record { state = opened (module_at p i); steps = []; since = 0 }
-  unfolding own
+  own_first : own_run p i replies 0 ≡ record { state = opened (module_at p i); steps = []; since = 0 }
+  unfolding own_run
   own_first = refl
 
   -- the own run goes on
@@ -199,12 +199,12 @@ module _ (p : Plan) (i : ℕ) (replies : List (List Reply)) where
   unfolding own_next
   next_over o h = cond-true (is_over p.ops o.state) o _ h
 
-  own_stays : (n : ℕ) → is_over p.ops (own p i replies n).state ≡ true → (d : ℕ) → own p i replies (d + n) ≡ own p i replies n
-  own_stays n over zero = ap (own p i replies) (omega arith)
+  own_stays : (n : ℕ) → is_over p.ops (own_run p i replies n).state ≡ true → (d : ℕ) → own_run p i replies (d + n) ≡ own_run p i replies n
+  own_stays n over zero = ap (own_run p i replies) (omega arith)
   own_stays n over (suc d) =
-      ap (own p i replies) (suc-add d n)
+      ap (own_run p i replies) (suc-add d n)
       ∙ (own_suc p i replies (d + n)
-      ∙ (ap (own_next p i replies) (own_stays n over d) ∙ next_over (own p i replies n) over))
+      ∙ (ap (own_next p i replies) (own_stays n over d) ∙ next_over (own_run p i replies n) over))
 
   step_grows : (o : Own) → HasGrown o.steps (own_next p i replies o).steps
   step_grows o = elim (cases_Bool (is_over p.ops o.state)) [
@@ -213,25 +213,25 @@ module _ (p : Plan) (i : ℕ) (replies : List (List Reply)) where
         (after_grows (module_at p i) o (requests_at p i o) (replies_to replies (length o.steps)))
   ]
 
-  own_grows : (n d : ℕ) → HasGrown (own p i replies n).steps (own p i replies (d + n)).steps
+  own_grows : (n d : ℕ) → HasGrown (own_run p i replies n).steps (own_run p i replies (d + n)).steps
   own_grows n zero = record {
     more = [];
-    is = ap (λ (k : ℕ). (own p i replies k).steps) (zero-add n) ∙ sym (append-nil (own p i replies n).steps);
+    is = ap (λ (k : ℕ). (own_run p i replies k).steps) (zero-add n) ∙ sym (append-nil (own_run p i replies n).steps);
   }
   own_grows n (suc d) =
       let before = own_grows n d in
-      let last = step_grows (own p i replies (d + n)) in
-      let same : own p i replies (suc d + n) ≡ own_next p i replies (own p i replies (d + n)) =
-      ap (own p i replies) (suc-add d n) ∙ own_suc p i replies (d + n) in
+      let last = step_grows (own_run p i replies (d + n)) in
+      let same : own_run p i replies (suc d + n) ≡ own_next p i replies (own_run p i replies (d + n)) =
+      ap (own_run p i replies) (suc-add d n) ∙ own_suc p i replies (d + n) in
       let grown = ap (λ (ss : List OwnStep). ss ++ last.more) before.is in
       record {
         more = before.more ++ last.more;
         is = ap (λ (z : Own). z.steps) same
-            ∙ (last.is ∙ (grown ∙ append_assoc (own p i replies n).steps before.more last.more));
+            ∙ (last.is ∙ (grown ∙ append_assoc (own_run p i replies n).steps before.more last.more));
       }
 
   -- so many quiet clocks later
-  own_to_rest : (n : ℕ) (o : Own) → own p i replies n ≡ o → own p i replies (quiet p i o.state + n) ≡ to_rest p i o
+  own_to_rest : (n : ℕ) (o : Own) → own_run p i replies n ≡ o → own_run p i replies (quiet p i o.state + n) ≡ to_rest p i o
   own_to_rest n o e =
       own_goes p i replies n (quiet p i o.state)
       (λ j l. ap (λ (z : Own). rests p i (skip p i j z.state)) e ∙ quiet_goes p i o.state j l)
@@ -258,22 +258,22 @@ module _ (p : Plan) (h : FitsEngine p) (i : ℕ) (replies : List (List Reply)) w
 
   -- one local clock behind a rest that is a step
   own_behind : (k : ℕ) → GoesTo p i replies (suc k) → IsOwn p i replies k
-      → own p i replies (suc (clock_at p i replies k)) ≡ behind p i replies k
+      → own_run p i replies (suc (rest_clock p i replies k)) ≡ behind p i replies k
   own_behind k g here =
       let o = rest_at p i replies k in
       let steps = rest_steps_are k (fewer p i replies k g) in
-      own_suc p i replies (clock_at p i replies k)
+      own_suc p i replies (rest_clock p i replies k)
       ∙ (ap (own_next p i replies) here
       ∙ (next_alive p i replies o (alive_before p i replies k g)
       ∙ ap (λ (n : ℕ). own_after (module_at p i) o (requests_at p i o) (replies_to replies n)) steps))
 
   each_is_own : (k : ℕ) → GoesTo p i replies k → IsOwn p i replies k
-  unfolding clock_at rest_at
+  unfolding rest_clock rest_at
   each_is_own zero g =
-      ap (own p i replies) (omega arith)
+      ap (own_run p i replies) (omega arith)
       ∙ own_to_rest p i replies 0 (record { state = opened (module_at p i); steps = []; since = 0 }) (own_first p i replies)
   each_is_own (suc k) g =
-      own_to_rest p i replies (suc (clock_at p i replies k)) (behind p i replies k)
+      own_to_rest p i replies (suc (rest_clock p i replies k)) (behind p i replies k)
       (own_behind k g (each_is_own k (fewer p i replies k g)))
 
   marks_are : (k : ℕ) → GoesTo p i replies k → AreStepMarks p i replies k
@@ -289,16 +289,16 @@ module _ (p : Plan) (h : FitsEngine p) (i : ℕ) (replies : List (List Reply)) w
 
   -- where the last rest is over, the own run stays there
   marks_to_end : GoesTo p i replies (length replies) → is_over p.ops (rest_at p i replies (length replies)).state ≡ true
-      → (n : ℕ) → clock_at p i replies (length replies) < n → AreAllMarks p i replies n
+      → (n : ℕ) → rest_clock p i replies (length replies) < n → AreAllMarks p i replies n
   unfolding marks
   marks_to_end g over n later =
       let k = length replies in
       let o = rest_at p i replies k in
-      let c = clock_at p i replies k in
+      let c = rest_clock p i replies k in
       let here : IsOwn p i replies k = each_is_own k g in
       let there : n ≡ (n - c) + c = omega arith in
       let stays = own_stays p i replies c (ap (λ (z : Own). is_over p.ops z.state) here ∙ over) (n - c) in
-      let same : own p i replies n ≡ o = ap (own p i replies) there ∙ (stays ∙ here) in
+      let same : own_run p i replies n ≡ o = ap (own_run p i replies) there ∙ (stays ∙ here) in
       let last = ap (λ (ms : List Advance). step_marks [] o.steps ++ ms) (over_mark p i o over) in
       let before = ap (λ (ms : List Advance). ms ++ mark_at p i o ∷ []) (marks_are k g) in
       let all : step_marks [] o.steps ++ end_mark p.ops o ≡ marks_before p i replies (suc k) =
@@ -309,19 +309,19 @@ module _ (p : Plan) (h : FitsEngine p) (i : ℕ) (replies : List (List Reply)) w
 
   -- where it is a step, the own run has that step, and more behind it
   marks_to_step : GoesTo p i replies (suc (length replies))
-      → (n : ℕ) → clock_at p i replies (length replies) < n → AreAllMarks p i replies n
+      → (n : ℕ) → rest_clock p i replies (length replies) < n → AreAllMarks p i replies n
   unfolding marks
   marks_to_step g n later =
       let k = length replies in
-      let c = clock_at p i replies k in
-      let o = own p i replies n in
+      let c = rest_clock p i replies k in
+      let o = own_run p i replies n in
       let there : n ≡ (n - suc c) + suc c = omega arith in
       let here = own_behind k g (each_is_own k (fewer p i replies k g)) in
-      let steps : (own p i replies (suc c)).steps ≡ (rest_at p i replies (suc k)).steps =
+      let steps : (own_run p i replies (suc c)).steps ≡ (rest_at p i replies (suc k)).steps =
       ap (λ (z : Own). z.steps) here ∙ same_steps p i replies k in
       let grown = own_grows p i replies (suc c) (n - suc c) in
       let all : o.steps ≡ (rest_at p i replies (suc k)).steps ++ grown.more =
-      ap (λ (m : ℕ). (own p i replies m).steps) there ∙ (grown.is ∙ ap (λ (ss : List OwnStep). ss ++ grown.more) steps) in
+      ap (λ (m : ℕ). (own_run p i replies m).steps) there ∙ (grown.is ∙ ap (λ (ss : List OwnStep). ss ++ grown.more) steps) in
       let first = marks_before p i replies (suc k) in
       let rest = step_marks (done_in (rest_at p i replies (suc k)).steps) grown.more in
       let parts : step_marks [] o.steps ≡ first ++ rest =
@@ -333,7 +333,7 @@ module _ (p : Plan) (h : FitsEngine p) (i : ℕ) (replies : List (List Reply)) w
       ∙ (ap (take (suc k)) (append_assoc first rest (end_mark p.ops o))
       ∙ (take-append-le (suc k) first (rest ++ end_mark p.ops o) (omega arith) ∙ take_all (suc k) first (omega arith)))
 
-  all_marks : GoesTo p i replies (length replies) → (n : ℕ) → clock_at p i replies (length replies) < n → AreAllMarks p i replies n
+  all_marks : GoesTo p i replies (length replies) → (n : ℕ) → rest_clock p i replies (length replies) < n → AreAllMarks p i replies n
   all_marks g n later =
       let k = length replies in
       let o = rest_at p i replies k in
@@ -350,5 +350,5 @@ pub rest_steps : (p : Plan) → FitsEngine p → (i : ℕ) (replies : List (List
 rest_steps p h i replies k g = rest_steps_are p h i replies k g
 
 pub marks_are_own : (p : Plan) → FitsEngine p → (i : ℕ) (replies : List (List Reply)) → GoesTo p i replies (length replies)
-    → (n : ℕ) → clock_at p i replies (length replies) < n → AreAllMarks p i replies n
+    → (n : ℕ) → rest_clock p i replies (length replies) < n → AreAllMarks p i replies n
 marks_are_own p h i replies g n later = all_marks p h i replies g n later

@@ -9,21 +9,21 @@ use Rattle.lockstep_defs.specs.OwnRun.{OwnStep, Own, own_after}
 use Rattle.lockstep_defs.proofs.{Resting.quiet_goes, States.opened_state}
 use Rattle.module_code.proofs.Begins.{opened_clock}
 use Rattle.module_interp.specs.{declared.run.ModuleRun.ModuleRun, Paths.IsInTime, Runs.StandsAt}
-use Rattle.module_interp.specs.OwnRests.{to_rest, first_rest, next_rest, requests_at, clocks_in}
+use Rattle.module_interp.specs.OwnRests.{to_rest, first_rest, next_rest, requests_at, clocks_to_rest}
 use Rattle.module_interp.proofs.Timing.{module_sound, opened_in_time, moved_in_time, skip_goes_on}
 
 -- ---- all gaps together
 
 -- the clocks that an own run has made, and those to go, stay below the bound
 abbrev pub IsOwnInTime : Plan → ℕ → Own → Type 0
-IsOwnInTime p i o = IsInTime p (module_at p i) o.state (clocks_in o)
+IsOwnInTime p i o = IsInTime p (module_at p i) o.state (clocks_to_rest o)
 
 rest_in_time : (p : Plan) → FitsEngine p → (i : ℕ) → i < length p.design.modules → (o : Own) → IsStateOf (module_at p i) o.state
     → IsOwnInTime p i o → IsOwnInTime p i (to_rest p i o)
 rest_in_time p h i l o state time =
     let n = quiet p i o.state in
-    let whole : clocks_in o + n ≡ clocks_in (to_rest p i o) = omega arith in
-    let later = skip_goes_on p h i l o.state (clocks_in o) (record { state = state; time = time }) n (quiet_goes p i o.state) in
+    let whole : clocks_to_rest o + n ≡ clocks_to_rest (to_rest p i o) = omega arith in
+    let later = skip_goes_on p h i l o.state (clocks_to_rest o) (record { state = state; time = time }) n (quiet_goes p i o.state) in
     subst (IsInTime p (module_at p i) (skip p i n o.state)) whole later.time
 
 pub first_in_time : (p : Plan) → FitsEngine p → (i : ℕ) → i < length p.design.modules → IsOwnInTime p i (first_rest p i)
@@ -35,7 +35,7 @@ first_in_time p h i l =
 
 -- the step's own gap is counted, and one local clock more
 after_clocks : (m : Module) (o : Own) (r : Request) (rs : List Request) (qs : List Reply)
-    → clocks_in (own_after m o (r ∷ rs) qs) ≡ clocks_in o + 1
+    → clocks_to_rest (own_after m o (r ∷ rs) qs) ≡ clocks_to_rest o + 1
 after_clocks m o r rs qs =
     let gap = λ (s : OwnStep). s.gap in
     let step : OwnStep = record { gap = o.since; requests = r ∷ rs; replies = qs } in
@@ -51,7 +51,7 @@ after_in_time p h i l o [] qs some state alive few time = absurd (omega arith)
 after_in_time p h i l o (r ∷ rs) qs some state alive few time =
     let m = module_at p i in
     subst (IsInTime p m (own_after m o (r ∷ rs) qs).state) (sym (after_clocks m o r rs qs))
-    (moved_in_time p h i l o.state qs (clocks_in o) state alive few time)
+    (moved_in_time p h i l o.state qs (clocks_to_rest o) state alive few time)
 
 -- a rest behind a step
 pub next_in_time : (p : Plan) → FitsEngine p → (i : ℕ) → i < length p.design.modules → (o : Own) (qs : List Reply)
@@ -63,7 +63,7 @@ next_in_time p h i l o qs some state alive few later time =
     rest_in_time p h i l (own_after (module_at p i) o (requests_at p i o) qs) later
     (after_in_time p h i l o (requests_at p i o) qs some state alive few time)
 
-pub short_run : (p : Plan) (i : ℕ) (o : Own) (r : ModuleRun) → StandsAt p i o r → clocks_in o < 10 ^ 18
+pub short_run : (p : Plan) (i : ℕ) (o : Own) (r : ModuleRun) → StandsAt p i o r → clocks_to_rest o < 10 ^ 18
 short_run p i o r s = let bound = s.in_time.since in omega arith
 
 -- ---- one gap

@@ -12,7 +12,7 @@ use Rattle.lockstep_defs.specs.{Machine.is_yes, Machine.value_in, Report.queries
 use Rattle.lockstep_defs.specs.Channels.{Exchange, popped_value, pushed_value, moved_value, moved_by}
 use Rattle.module_code.proofs.Readiness.{fewer_pass}
 use Rattle.module_interp.specs.{declared.tally.Tally.Tally, declared.counts.Counts.Counts, OwnChannels.place_in, Counts.AreCounts}
-use Rattle.module_interp.specs.{Counts.HasCount, Counts.count_at, Paths.IsTallyOf, Paths.IsCounted, Paths.HasPort, Paths.KnowsPorts}
+use Rattle.module_interp.specs.{Counts.HasCount, Counts.count_at, Paths.IsTallyOf, Paths.CountsOneMore, Paths.HasPort, Paths.KnowsPorts}
 use Rattle.module_interp.proofs.Places.{place_set}
 
 -- ---- one operation more
@@ -25,7 +25,7 @@ moved_push side f before x =
     let g = λ (y : Exchange). cond (y.request.channel == f) (moved_value side y) [] in
     ap length (sym (flat_map_more g [] before x)) ∙ length-append (flat_map g before) (g x)
 
-counts_more : (side : Side) (before : List Exchange) (x : Exchange) (t u : Counts) → IsCounted side x t u
+counts_more : (side : Side) (before : List Exchange) (x : Exchange) (t u : Counts) → CountsOneMore side x t u
     → ((f : ℕ) → count_at t f ≡ length (moved_by side f before))
     → (f : ℕ) → count_at u f ≡ length (moved_by side f (before ++ x ∷ []))
 counts_more side before x t u k are f =
@@ -42,8 +42,8 @@ queries_push before x =
     one true e = rw e refl
     one false e = rw e refl
 
-pub tally_more : (before : List Exchange) (x : Exchange) (t u : Tally) → IsTallyOf before t → IsCounted Pop x t.popped u.popped
-    → IsCounted Push x t.pushed u.pushed → u.queries ≡ t.queries + from_bool (not (is_blocking x.request.kind))
+pub tally_more : (before : List Exchange) (x : Exchange) (t u : Tally) → IsTallyOf before t → CountsOneMore Pop x t.popped u.popped
+    → CountsOneMore Push x t.pushed u.pushed → u.queries ≡ t.queries + from_bool (not (is_blocking x.request.kind))
     → IsTallyOf (before ++ x ∷ []) u
 tally_more before x t u h popped pushed asks = record {
   popped_sound = popped.sound;
@@ -73,7 +73,7 @@ none_pushed Full done v e = cc
 -- it is counted where it stands
 pub counted_here : (side : Side) (x : Exchange) (t u : Counts) → AreCounts t → HasCount t x.request.channel → u.channels ≡ t.channels
     → u.counts ≡ set t.counts (place_in t.channels x.request.channel) (count_at t x.request.channel + length (moved_value side x))
-    → IsCounted side x t u
+    → CountsOneMore side x t u
 counted_here side x t u sound there same counts = record {
   sound = rw (same, counts) (length-set t.counts (place_in t.channels x.request.channel) _ ∙ sound);
   same = same;
@@ -101,7 +101,7 @@ counted_here side x t u sound there same counts = record {
         ]
 
 -- what moves nothing is not counted
-counted_aside : (side : Side) (x : Exchange) (t : Counts) → AreCounts t → length (moved_value side x) ≡ 0 → IsCounted side x t t
+counted_aside : (side : Side) (x : Exchange) (t : Counts) → AreCounts t → length (moved_value side x) ≡ 0 → CountsOneMore side x t t
 counted_aside side x t sound none = record {
   sound = sound;
   same = refl;
@@ -112,10 +112,10 @@ counted_aside side x t sound none = record {
     by true xs e = e
     by false xs e = refl
 
-pub popped_same : (x : Exchange) (t : Counts) → AreCounts t → side_of x.request.kind ≡ Push → IsCounted Pop x t t
+pub popped_same : (x : Exchange) (t : Counts) → AreCounts t → side_of x.request.kind ≡ Push → CountsOneMore Pop x t t
 popped_same x t sound push = counted_aside Pop x t sound (none_popped x.request.kind (is_yes x.reply) (value_in x.reply) push)
 
-pub pushed_same : (x : Exchange) (t : Counts) → AreCounts t → side_of x.request.kind ≡ Pop → IsCounted Push x t t
+pub pushed_same : (x : Exchange) (t : Counts) → AreCounts t → side_of x.request.kind ≡ Pop → CountsOneMore Push x t t
 pushed_same x t sound pop = counted_aside Push x t sound (none_pushed x.request.kind (is_yes x.reply) x.request.value pop)
 
 -- ---- bounds

@@ -10,7 +10,7 @@ use Rattle.module_code.specs.{Moves.ticked_to, Moves.gone_on, Sound.IsStateSound
 use Rattle.module_code.specs.{declared.noted.Notes.Notes, Codes.IsBlockCodeOf, Codes.AreCodesOf}
 use Rattle.block_schedule.specs.Work.{IsNextDue, StandsIn}
 use Rattle.module_interp.specs.{declared.path.Stage.Stage, declared.path.Stage.TheVariants.Begun, declared.path.Stage.TheVariants.Ticked}
-use Rattle.module_interp.specs.{declared.path.Path.Path, Paths.clock_bound, Paths.IsInTime, Paths.after_move, Paths.AsksNothing}
+use Rattle.module_interp.specs.{declared.path.Path.Path, Paths.clock_bound, Paths.IsInTime, Paths.after_move, Paths.RequestsNothing}
 use Rattle.module_interp.specs.{Paths.IsStageSoundBy, Paths.IsPathOf, Paths.KeepsRest, Paths.IsPath, Paths.clocks_to_end}
 use Rattle.module_interp.proofs.Idle.{IsIdle, skip_ticks, skip_on, never_rests}
 use Rattle.module_interp.proofs.Timing.{GoesOn, skip_goes_on, lives}
@@ -94,7 +94,7 @@ passes_nearer x y n path h =
 
 -- a clock in which no FIFO operation is due
 pub one_passes : (x y : Path) → IsFixed x y → x.stage ≡ Begun → y.stage ≡ Ticked → y.since ≡ x.since + 1 → is_over x.limit x.state ≡ false
-    → AsksNothing x → gone_on y.of y.state ≡ move x.of x.state []
+    → RequestsNothing x → gone_on y.of y.state ≡ move x.of x.state []
     → y.state.control.block ≡ x.state.control.block → y.state.control.newest ≤ y.state.control.clock → Passes x y 0
 one_passes x y f begun ticked later alive none moved block started = record {
   fixed_parts = f;

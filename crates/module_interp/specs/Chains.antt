@@ -14,11 +14,11 @@ rest_at p i replies zero = first_rest p i
 rest_at p i replies (suc k) = next_rest p i (rest_at p i replies k) (replies_to replies k)
 
 -- the local clock of the k-th rest
-unfoldable pub clock_at : Plan → ℕ → List (List Reply) → ℕ → ℕ
-clock_at p i replies zero = quiet p i (opened (module_at p i))
-clock_at p i replies (suc k) =
+unfoldable pub rest_clock : Plan → ℕ → List (List Reply) → ℕ → ℕ
+rest_clock p i replies zero = quiet p i (opened (module_at p i))
+rest_clock p i replies (suc k) =
     let o = rest_at p i replies k in
-    quiet p i (own_after (module_at p i) o (requests_at p i o) (replies_to replies k)).state + suc (clock_at p i replies k)
+    quiet p i (own_after (module_at p i) o (requests_at p i o) (replies_to replies k)).state + suc (rest_clock p i replies k)
 
 -- the marks of the first k rests
 unfoldable pub marks_before : Plan → ℕ → List (List Reply) → ℕ → List Advance

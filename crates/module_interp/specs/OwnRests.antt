@@ -29,8 +29,8 @@ abbrev pub next_rest : Plan → ℕ → Own → List Reply → Own
 next_rest p i o replies = to_rest p i (own_after (module_at p i) o (requests_at p i o) replies)
 
 -- the local clocks up to a rest: the sum of all gaps
-abbrev pub clocks_in : Own → ℕ
-clocks_in o = sum_by (λ s. s.gap) o.steps + o.since
+abbrev pub clocks_to_rest : Own → ℕ
+clocks_to_rest o = sum_by (λ s. s.gap) o.steps + o.since
 
 -- ---- marks
 

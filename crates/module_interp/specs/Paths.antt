@@ -49,8 +49,8 @@ abbrev pub HasAsked : Path → Type 0
 HasAsked x = (channels : List Channel) → AreCodesOf channels x.of x.codes → x.asked ≡ requests channels x.of x.state
 
 -- the path's state has no request, for all channels that fit its codes
-abbrev pub AsksNothing : Path → Type 0
-AsksNothing x = (channels : List Channel) → AreCodesOf channels x.of x.codes → requests channels x.of x.state ≡ []
+abbrev pub RequestsNothing : Path → Type 0
+RequestsNothing x = (channels : List Channel) → AreCodesOf channels x.of x.codes → requests channels x.of x.state ≡ []
 
 -- the path has the notes of what is due, by the code of the block in which it stands
 abbrev pub HasNoted : Path → Type 0
@@ -63,7 +63,7 @@ pub record CanAnswer (x : Path) : Type 0 where
   pub clock : x.state.control.clock ≤ clock_bound
   pub count : x.state.count < 2 ^ 32
 
-pub record CanGoOn (x : Path) : Type 0 where
+pub record MayGoOn (x : Path) : Type 0 where
   pub block : x.state.control.block < length x.of.blocks
   pub has_started : x.state.control.newest ≤ x.state.control.clock
 
@@ -76,7 +76,7 @@ pub record CanAsk (x : Path) : Type 0 where
 abbrev pub IsStageSoundBy : Stage → Path → Type 0
 IsStageSoundBy Begun x = Unit {0}
 IsStageSoundBy Asked x = CanAsk x
-IsStageSoundBy Ticked x = CanGoOn x
+IsStageSoundBy Ticked x = MayGoOn x
 
 -- the path is that of module i of a plan
 pub record IsPathOf (p : Plan) (i : ℕ) (x : Path) : Type 0 where
@@ -153,7 +153,7 @@ abbrev pub KnowsPorts : Module → Tally → Type 0
 KnowsPorts m t = (a : Port) → uses a m ≡ true → HasPort a.side a.channel t
 
 -- one operation more was counted at a side of the channels
-pub record IsCounted (side : Side) (x : Exchange) (t u : Counts) : Type 0 where
+pub record CountsOneMore (side : Side) (x : Exchange) (t u : Counts) : Type 0 where
   pub sound : AreCounts u
   pub same : u.channels ≡ t.channels
   pub each : (f : ℕ) → count_at u f ≡ count_at t f + length (if nat_eq x.request.channel f then moved_value side x else [])

@@ -5,7 +5,7 @@ use Rattle.flow_design.specs.declared.limits.TheConstants.{LIVE_ITERATIONS, OPER
 use Rattle.flow_design.specs.{declared.plan.Plan.Plan, declared.state.Advance.Advance}
 use Rattle.flow_design.specs.declared.state.Advance.TheVariants.{Step, Ended, Spent}
 use Rattle.lockstep_defs.specs.{Lockstep.module_at, OwnRun.Own}
-use Rattle.module_interp.specs.{declared.path.Stage.Stage, declared.run.ModuleRun.ModuleRun, Counts.count_at, OwnRests.clocks_in}
+use Rattle.module_interp.specs.{declared.path.Stage.Stage, declared.run.ModuleRun.ModuleRun, Counts.count_at, OwnRests.clocks_to_rest}
 use Rattle.module_interp.specs.{OwnRests.done_in, OwnRests.accesses_at, Paths.IsInTime, Paths.LeadsTo, Paths.IsTallyOf, Paths.KnowsPorts}
 use Rattle.module_interp.specs.declared.path.Stage.TheVariants.{Begun, Asked, Ticked}
 
@@ -25,8 +25,8 @@ is_step (Ended g) = false
 is_step (Spent g) = false
 
 -- the step whose accesses were listed last
-abbrev pub listed : ModuleRun → StepOf
-listed r = record { gap = r.path.value.since; accesses = r.accesses; first_query = r.tally.queries }
+abbrev pub listed_step : ModuleRun → StepOf
+listed_step r = record { gap = r.path.value.since; accesses = r.accesses; first_query = r.tally.queries }
 
 -- the numbers of an access are in range
 pub record IsSmallAccess (a : Access) : Type 0 where
@@ -78,5 +78,5 @@ pub record StandsAt (p : Plan) (i : ℕ) (o : Own) (r : ModuleRun) : Type 0 wher
   pub ports : KnowsPorts (module_at p i) r.tally
   pub few : length (done_in o.steps) ≤ o.state.count
   pub accesses : r.path.value.stage ≡ Asked → r.accesses ≡ accesses_at p i o
-  pub in_time : IsInTime p (module_at p i) o.state (clocks_in o)
+  pub in_time : IsInTime p (module_at p i) o.state (clocks_to_rest o)
   pub behind : 0 < length o.steps → 1 ≤ o.since

@@ -2,26 +2,26 @@
 ghost use Rattle.std.specs.Prelude.{ℕ, suc, ◌≡◌, ◌<◌, ◌≤◌, ◌^◌, List as Items, not, length, count_by};
 ghost use Rattle.flow_word.specs.Kinds.{is_blocking};
 ghost use Rattle.flow_design.specs.{StaticRules.FitsEngine, declared.plan.Plan.Plan, declared.state.Reply.Reply, Module.block_of};
-ghost use Rattle.lockstep_defs.specs.{Laws.is_query, Lockstep.module_at, OwnRun.Own, OwnRun.own, OwnRun.marks};
-ghost use Rattle.module_interp.specs.{declared.run.ModuleRun.ModuleRun, OwnRests.clocks_in, OwnRests.accesses_at, OwnRests.next_rest};
-ghost use Rattle.module_interp.specs.{Chains.rest_at, Chains.clock_at, Chains.marks_before, Chains.GoesTo, Runs.StandsAt};
+ghost use Rattle.lockstep_defs.specs.{Laws.is_query, Lockstep.module_at, OwnRun.Own, OwnRun.own_run, OwnRun.marks};
+ghost use Rattle.module_interp.specs.{declared.run.ModuleRun.ModuleRun, OwnRests.clocks_to_rest, OwnRests.accesses_at, OwnRests.next_rest};
+ghost use Rattle.module_interp.specs.{Chains.rest_at, Chains.rest_clock, Chains.marks_before, Chains.GoesTo, Runs.StandsAt};
 
 /// The k-th rest, from 0, is where the own run is after k steps on these replies. Where there are replies to each rest but the
 /// last, the own run has the marks of the rests, after any number of local clocks that goes beyond the last rest.
 pub fn rests_are_own_runs()
     ensures own { (p : Plan) → FitsEngine p → (i : ℕ) (replies : Items (Items Reply)) (k : ℕ) → GoesTo p i replies k
-        → own p i replies (clock_at p i replies k) ≡ rest_at p i replies k }
+        → own_run p i replies (rest_clock p i replies k) ≡ rest_at p i replies k }
     ensures steps { (p : Plan) → FitsEngine p → (i : ℕ) (replies : Items (Items Reply)) (k : ℕ) → GoesTo p i replies k
         → length (rest_at p i replies k).steps ≡ k }
     ensures marks { (p : Plan) → FitsEngine p → (i : ℕ) (replies : Items (Items Reply)) → GoesTo p i replies (length replies)
-        → (n : ℕ) → clock_at p i replies (length replies) < n → marks p i replies n ≡ marks_before p i replies (suc (length replies)) }
+        → (n : ℕ) → rest_clock p i replies (length replies) < n → marks p i replies n ≡ marks_before p i replies (suc (length replies)) }
 {}
 
 /// A rest is less than 10^18 local clocks after the step before it, or after local clock 0, and at least 1 after a step. All gaps
 /// up to a rest together are less than 10^18 local clocks.
 pub fn gaps_are_short()
     ensures most { (p : Plan) (i : ℕ) (o : Own) (run : ModuleRun) → StandsAt p i o run → o.since < 10 ^ 18 }
-    ensures all { (p : Plan) (i : ℕ) (o : Own) (run : ModuleRun) → StandsAt p i o run → clocks_in o < 10 ^ 18 }
+    ensures all { (p : Plan) (i : ℕ) (o : Own) (run : ModuleRun) → StandsAt p i o run → clocks_to_rest o < 10 ^ 18 }
     ensures behind { (p : Plan) (i : ℕ) (o : Own) (run : ModuleRun) → StandsAt p i o run → 0 < length o.steps → 1 ≤ o.since }
     ensures least { (p : Plan) (i : ℕ) (o : Own) (replies : Items Reply) → 1 ≤ (next_rest p i o replies).since }
 {}

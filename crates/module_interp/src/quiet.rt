@@ -5,7 +5,7 @@ ghost use Rattle.lockstep_defs.specs.Machine.{move, is_over};
 ghost use Rattle.module_code.specs.Moves.{ticked_to, gone_on};
 ghost use Rattle.block_schedule.specs.Work.{IsNextDue};
 ghost use Rattle.module_interp.specs.declared.path.Stage.TheVariants.{Begun, Asked, Ticked};
-ghost use Rattle.module_interp.specs.Paths.{after_move, HasAsked, HasNoted, AsksNothing, CanAnswer, IsPath, KeepsRest, clocks_to_end};
+ghost use Rattle.module_interp.specs.Paths.{after_move, HasAsked, HasNoted, RequestsNothing, CanAnswer, IsPath, KeepsRest, clocks_to_end};
 ghost use Rattle.module_interp.specs.Paths.{IsAtStep, IsAtEnd};
 
 use crate::path::{Path, Stage};
@@ -100,7 +100,7 @@ impl Path {
         requires begun { self.old.stage ≡ Begun }
         requires alive { is_over self.old.limit self.old.state ≡ false }
         requires noted { HasNoted self.old }
-        requires none { AsksNothing self.old }
+        requires none { RequestsNothing self.old }
         ensures kept { KeepsRest self.old self.new }
         ensures unasked { self.new.stage ≢ Asked }
         ensures nearer { clocks_to_end self.new < clocks_to_end self.old }
@@ -163,7 +163,7 @@ impl Path {
         requires begun { self.old.stage ≡ Begun }
         requires alive { is_over self.old.limit self.old.state ≡ false }
         requires noted { HasNoted self.old }
-        requires none { AsksNothing self.old }
+        requires none { RequestsNothing self.old }
         ensures kept { KeepsRest self.old self.new }
         ensures unasked { self.new.stage ≢ Asked }
         ensures nearer { clocks_to_end self.new < clocks_to_end self.old }

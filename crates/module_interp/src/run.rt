@@ -7,7 +7,7 @@ ghost use Rattle.lockstep_defs.specs.Channels.{Exchange, moved_by};
 ghost use Rattle.lockstep_defs.specs.{Report.queries, OwnRun.Own, OwnRun.access_of, Machine.is_over as over_by};
 ghost use Rattle.module_interp.specs.OwnRests.{done_in, first_rest, next_rest, accesses_at, mark_at, all_fit};
 ghost use Rattle.module_interp.specs.Paths.{IsAtStep, IsAtEnd, IsTallyOf};
-ghost use Rattle.module_interp.specs.Runs.{waits, is_step, listed, inlets_of, popped_in, IsFew, IsSoundMark, StandsAt};
+ghost use Rattle.module_interp.specs.Runs.{waits, is_step, listed_step, inlets_of, popped_in, IsFew, IsSoundMark, StandsAt};
 
 use crate::making::{first_path, go_to_start};
 use crate::own_channels::OwnChannels;
@@ -124,7 +124,7 @@ impl ModuleRun {
     /// How many queries the run has made, in the steps that have their replies.
     pub fn queries(&self) -> u64
         ensures made { (p : PlanOf) (i : ℕ) (o : Own) → StandsAt p i o self.now → result ≡ length (queries (done_in o.steps)) }
-        ensures listed { result ≡ (listed self.now).first_query }
+        ensures listed { result ≡ (listed_step self.now).first_query }
     {
         self.tally.queries
     }
@@ -132,7 +132,7 @@ impl ModuleRun {
     /// How many local clocks the step that waits is after the step before it, or after local clock 0.
     #[inline(always)]
     pub fn gap(&self) -> u64
-        ensures { result ≡ (listed self.now).gap }
+        ensures { result ≡ (listed_step self.now).gap }
     {
         self.path.since
     }
@@ -140,7 +140,7 @@ impl ModuleRun {
     /// The accesses of the step that was listed last.
     #[inline(always)]
     pub fn listed(&self) -> &[Access]
-        ensures { result.now ≡ (listed self.now).accesses }
+        ensures { result.now ≡ (listed_step self.now).accesses }
     {
         self.accesses.as_slice()
     }
@@ -180,11 +180,11 @@ impl ModuleRun {
         requires answered { waits self.old ≡ false }
         ensures stands { (p : PlanOf) (i : ℕ) (o : Own) → StandsAt p i o self.old → StandsAt p i o self.new }
         ensures waits { IfOk result (λ few. waits self.new ≡ few) }
-        ensures few { IfOk result (λ few. few ≡ true → IsFew (listed self.new)) }
+        ensures few { IfOk result (λ few. few ≡ true → IsFew (listed_step self.new)) }
         ensures mark { IfOk result (λ few. few ≡ true → (p : PlanOf) (i : ℕ) (o : Own) → StandsAt p i o self.old
-            → Advance.Step (listed self.new) ≡ mark_at p i o) }
+            → Advance.Step (listed_step self.new) ≡ mark_at p i o) }
         ensures sound { IfOk result (λ few. few ≡ true → (p : PlanOf) (i : ℕ) (o : Own) → StandsAt p i o self.old
-            → IsSoundMark (length o.steps) (Advance.Step (listed self.new))) }
+            → IsSoundMark (length o.steps) (Advance.Step (listed_step self.new))) }
         ensures rests { IfOk result (λ few. few ≡ false → IsAtStep self.new.path.value ⊎ IsAtEnd self.new.path.value) }
         ensures as_before { OnErr result (waits self.new ≡ false) }
     {
@@ -263,10 +263,10 @@ impl ModuleRun {
         requires step { IsAtStep self.old.path.value }
         ensures stands { (p : PlanOf) (i : ℕ) (o : Own) → StandsAt p i o self.old → StandsAt p i o self.new }
         ensures mark { OnOk result ((p : PlanOf) (i : ℕ) (o : Own) → StandsAt p i o self.old
-            → Advance.Step (listed self.new) ≡ mark_at p i o) }
+            → Advance.Step (listed_step self.new) ≡ mark_at p i o) }
         ensures waits { OnOk result (waits self.new ≡ true) }
         ensures sound { OnOk result ((p : PlanOf) (i : ℕ) (o : Own) → StandsAt p i o self.old
-            → IsSoundMark (length o.steps) (Advance.Step (listed self.new))) }
+            → IsSoundMark (length o.steps) (Advance.Step (listed_step self.new))) }
         ensures count { OnOk result (length self.new.accesses ≡ length self.old.path.value.asked) }
         ensures gap { OnOk result (self.new.path.value.since ≡ self.old.path.value.since) }
         ensures as_before { OnErr result (waits self.new ≡ false) }

@@ -5,7 +5,7 @@ ghost use Rattle.flow_word.specs.Kinds.{side_of, is_blocking};
 ghost use Rattle.flow_word.specs.declared.access.Side.TheVariants.{Pop, Push};
 ghost use Rattle.lockstep_defs.specs.{Machine.is_yes, OwnRun.access_of, OwnRun.paired};
 ghost use Rattle.lockstep_defs.specs.Channels.{Exchange, moved_by, popped_value, pushed_value};
-ghost use Rattle.module_interp.specs.Paths.{HasPort, IsCounted, IsTallyOf, KnowsPorts};
+ghost use Rattle.module_interp.specs.Paths.{HasPort, CountsOneMore, IsTallyOf, KnowsPorts};
 
 use crate::counts::Counts;
 use flow_design::{Module, Reply, Request};
@@ -107,8 +107,8 @@ impl Tally {
     fn count_moved(&mut self, request: Request, reply: Reply)
         requires tally { (before : Items Exchange) × (IsTallyOf before self.old × (length before < 2 ^ 40)) }
         requires port { HasPort (side_of request.kind) request.channel self.old }
-        ensures popped { IsCounted Pop (record { request = request; reply = reply }) self.old.popped self.new.popped }
-        ensures pushed { IsCounted Push (record { request = request; reply = reply }) self.old.pushed self.new.pushed }
+        ensures popped { CountsOneMore Pop (record { request = request; reply = reply }) self.old.popped self.new.popped }
+        ensures pushed { CountsOneMore Push (record { request = request; reply = reply }) self.old.pushed self.new.pushed }
         ensures queries { self.new.queries ≡ self.old.queries }
     {
         match request.kind.side() {

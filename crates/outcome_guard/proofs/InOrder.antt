@@ -5,22 +5,22 @@ use Rattle.std.proofs.lemmas.Bool.{cond-true, cond-false, ne_eqb, eq-eqb}
 use Rattle.std.proofs.lemmas.List.Elements.{filter-append}
 use Rattle.std.specs.{Prelude.slice_set, Prelude.filter, Prelude.if◌then◌else◌, List.enumerate_from}
 use Rattle.flow_design.specs.{declared.plan.Edit.Edit, declared.plan.Plan.Plan, Plans.with_depth}
-use Rattle.outcome_guard.specs.Edits.{last_or, depth_after, plan_after}
+use Rattle.outcome_guard.specs.Edits.{last_edit, depth_after, plan_after}
 
 -- ---- the last edit of a channel
 
-last_is : (other : Edit) (edits : List Edit) (e : Edit) → last_or other (edits ++ e ∷ []) ≡ e
+last_is : (other : Edit) (edits : List Edit) (e : Edit) → last_edit other (edits ++ e ∷ []) ≡ e
 last_is other [] e = refl
 last_is other (x ∷ edits) e = last_is x edits e
 
-last_stays : (other : Edit) (edits : List Edit) → last_or other (edits ++ []) ≡ last_or other edits
+last_stays : (other : Edit) (edits : List Edit) → last_edit other (edits ++ []) ≡ last_edit other edits
 last_stays other [] = refl
 last_stays other (x ∷ edits) = last_stays x edits
 
 depth_more : (edits : List Edit) (e : Edit) (f stood : ℕ)
     → depth_after (edits ++ e ∷ []) f stood ≡ (if e.channel == f then e.depth else depth_after edits f stood)
 depth_more edits e f stood =
-    ap (λ (l : List Edit). (last_or own l).depth) (filter-append (λ (x : Edit). x.channel == f) edits (e ∷ [])) ∙ by_test (e.channel == f)
+    ap (λ (l : List Edit). (last_edit own l).depth) (filter-append (λ (x : Edit). x.channel == f) edits (e ∷ [])) ∙ by_test (e.channel == f)
   where
     own : Edit
     own = record { channel = f; depth = stood }
@@ -28,7 +28,7 @@ depth_more edits e f stood =
     of_channel : List Edit
     of_channel = filter (λ (x : Edit). x.channel == f) edits
 
-    by_test : (b : Bool) → (last_or own (of_channel ++ cond b (e ∷ []) [])).depth ≡ cond b e.depth (last_or own of_channel).depth
+    by_test : (b : Bool) → (last_edit own (of_channel ++ cond b (e ∷ []) [])).depth ≡ cond b e.depth (last_edit own of_channel).depth
     by_test true = ap (λ (x : Edit). x.depth) (last_is own of_channel e)
     by_test false = ap (λ (x : Edit). x.depth) (last_stays own of_channel)
 

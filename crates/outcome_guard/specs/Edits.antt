@@ -3,13 +3,13 @@ use Rattle.std.specs.{Prelude.ℕ, Prelude.◌==◌, Prelude.List, Prelude.[], P
 use Rattle.flow_design.specs.{declared.plan.Edit.Edit, declared.plan.Plan.Plan}
 
 -- the last of these edits, or the given one where there is none
-abbrev pub last_or : Edit → List Edit → Edit
-last_or other [] = other
-last_or other (e ∷ more) = last_or e more
+abbrev pub last_edit : Edit → List Edit → Edit
+last_edit other [] = other
+last_edit other (e ∷ more) = last_edit e more
 
 -- the depth of channel f after these edits: that of its last edit, or the depth that it had
 abbrev pub depth_after : List Edit → ℕ → ℕ → ℕ
-depth_after edits f stood = (last_or (record { channel = f; depth = stood }) (filter (λ e. e.channel == f) edits)).depth
+depth_after edits f stood = (last_edit (record { channel = f; depth = stood }) (filter (λ e. e.channel == f) edits)).depth
 
 -- the plan after these edits
 unfoldable pub plan_after : Plan → List Edit → Plan

@@ -10,14 +10,14 @@ same_outcome true b = b
 same_outcome false b = not b
 
 -- the second list begins with the first
-abbrev pub begins : List Bool → List Bool → Bool
-begins [] b = true
-begins (x ∷ a) [] = false
-begins (x ∷ a) (y ∷ b) = same_outcome x y && begins a b
+abbrev pub is_prefix_of : List Bool → List Bool → Bool
+is_prefix_of [] b = true
+is_prefix_of (x ∷ a) [] = false
+is_prefix_of (x ∷ a) (y ∷ b) = same_outcome x y && is_prefix_of a b
 
 -- one of the lists is a prefix of the other
-abbrev pub goes_on : List Bool → List Bool → Bool
-goes_on a b = begins a b || begins b a
+abbrev pub agree_so_far : List Bool → List Bool → Bool
+agree_so_far a b = is_prefix_of a b || is_prefix_of b a
 
 -- the longer of two lists, or the first where they have the same length
 abbrev pub longer : List Bool → List Bool → List Bool
@@ -29,7 +29,7 @@ longer a b = if nat_lt (length a) (length b) then b else a
 abbrev pub all_go_on : List (List Bool) → List (List Bool) → Bool
 all_go_on [] found = true
 all_go_on (a ∷ kept) [] = true
-all_go_on (a ∷ kept) (b ∷ found) = goes_on a b && all_go_on kept found
+all_go_on (a ∷ kept) (b ∷ found) = agree_so_far a b && all_go_on kept found
 
 abbrev pub all_longer : List (List Bool) → List (List Bool) → List (List Bool)
 all_longer [] found = []

@@ -1,6 +1,6 @@
 //! The count of runs.
 ghost use Rattle.std.specs.Prelude.{◌≡◌, ◌<◌, ◌^◌};
-ghost use Rattle.outcome_guard.specs.Runs.{goes_on, all_go_on, longer, all_longer, first_counts, next_counts};
+ghost use Rattle.outcome_guard.specs.Runs.{agree_so_far, all_go_on, longer, all_longer, first_counts, next_counts};
 
 use crate::prefix::one_is_prefix;
 use flow_word::{Flags, List};
@@ -54,7 +54,7 @@ fn all_go_on(kept: &[Flags], found: &[Flags]) -> bool
 
 /// Whether one of the lists is a prefix of the other.
 fn goes_on(a: &[bool], b: &[bool]) -> bool
-    ensures { result ≡ goes_on a.now b.now }
+    ensures { result ≡ agree_so_far a.now b.now }
 {
     one_is_prefix(a, b)
 }

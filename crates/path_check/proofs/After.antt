@@ -4,9 +4,9 @@ use Rattle.std.proofs.Common.{inl, inr, ◌⊎◌}
 use Rattle.std.proofs.lemmas.Bool.{cases_Bool, cases_lt, and_parts, and_from, ltb-true, eqb-true}
 use Rattle.flow_word.specs.{declared.access.Side.Side, Kinds.other_side}
 use Rattle.event_timing.specs.Machines.{Access, Design, Each, IsDesign}
-use Rattle.event_timing.specs.Histories.{Trace, IsHistory, is_possible, can_do, can_all, moves}
+use Rattle.event_timing.specs.Histories.{Trace, IsHistory, is_possible, can_do, can_all, can_move}
 use Rattle.event_timing.proofs.{OwnRuns.same_side_is, Standing.moves_lives, Standing.moves_can, Standing.moves_from}
-use Rattle.depth_order.specs.Earliest.{made}
+use Rattle.depth_order.specs.Earliest.{moves_made}
 use Rattle.depth_order.proofs.Ahead.{with_start, NoQueries, IsAlike, more_possible, more_can}
 use Rattle.depth_order.proofs.Same.{made_0, made_more, made_same, made_up, made_mono, always_alike}
 use Rattle.depth_order.proofs.Bound.{must_be, taken_no_more, none_before}
@@ -60,12 +60,12 @@ module _ {S : Type 0} (d : Design S) (start : Side → ℕ → ℕ) (h w : Trace
     (none : NoQueries d) (x : IsHistory d h) (y : IsHistory (with_start d start) w) where
   -- before clock c of the other run module m has not gone on from where it stands in clock e of the one
   abbrev pub IsNotPast : ℕ → ℕ → ℕ → Type 0
-  IsNotPast m e c = made (with_start d start) w m c ≤ made d h m e
+  IsNotPast m e c = moves_made (with_start d start) w m c ≤ moves_made d h m e
 
   waits_on : (n f c a b ch : ℕ) (side : Side) → can_wait_at side ch (d.accesses n (h.state f n)) ≡ true → d.unlimited side ch ≡ false
       → start side ch + h.taken a (other_side side) ch ≤ h.taken f side ch → c ≤ b + d.lag side ch
       → IsNotPast (d.owner (other_side side) ch) a b
-      → (e : ℕ) → e < c → made (with_start d start) w n e ≡ made d h n f → moves (with_start d start) w e n ≡ true → ⊥
+      → (e : ℕ) → e < c → moves_made (with_start d start) w n e ≡ moves_made d h n f → can_move (with_start d start) w e n ≡ true → ⊥
   waits_on n f c a b ch side stands limited few lag held e l count move =
       let g = with_start d start in
       let owned = owned_there d n ch side (d.accesses n (h.state f n)) (i.owned n (h.state f n)) stands in
@@ -90,13 +90,13 @@ module _ {S : Type 0} (d : Design S) (start : Side → ℕ → ℕ) (h w : Trace
       let held = holds_after m e k b u after c l in
       let more = made_more d h k b move in
       let at : c + suc u ≡ suc (c + u) = omega arith in
-      rw at (elim (cases_Bool (moves (with_start d start) w (c + u) k)) [
+      rw at (elim (cases_Bool (can_move (with_start d start) w (c + u) k)) [
         | inl moved ↦ omega (arith, made_more (with_start d start) w k (c + u) moved)
         | inr still ↦ omega (arith, made_same (with_start d start) w k (c + u) still)
       ])
   holds_after m e n f v (Waits k b u a z ch side stands limited few lag after) c l =
       let held = holds_after m e (d.owner (other_side side) ch) a z after c l in
-      none_before (with_start d start) w k (made d h k b) (c + u)
+      none_before (with_start d start) w k (moves_made d h k b) (c + u)
       (waits_on k b (c + u) a (c + z) ch side stands limited few (omega arith) held)
 
   -- from the beginning on
@@ -148,7 +148,7 @@ module _ {S : Type 0} (d : Design S) (start : Side → ℕ → ℕ) (h w : Trace
         (possible_too m c all alike a owned.0) parts.0)
         (all_can_too m c all alike xs owned.1 parts.1)
 
-    moves_too : (m c : ℕ) → NoneIsPast c → IsAlike d h w m c c → moves (with_start d start) w c m ≡ true → moves d h c m ≡ true
+    moves_too : (m c : ℕ) → NoneIsPast c → IsAlike d h w m c c → can_move (with_start d start) w c m ≡ true → can_move d h c m ≡ true
     moves_too m c all alike e =
         let g = with_start d start in
         let lives : d.is_over m (h.state c m) ≡ false = ap (d.is_over m) (sym alike.state) ∙ moves_lives g w c m e in
@@ -160,14 +160,14 @@ module _ {S : Type 0} (d : Design S) (start : Side → ℕ → ℕ) (h w : Trace
     next_past c all m =
         let so_far = all c (omega arith) m in
         let up = made_up d h m c in
-        elim (cases_Bool (moves (with_start d start) w c m)) [
+        elim (cases_Bool (can_move (with_start d start) w c m)) [
           | inr still ↦ omega (arith, made_same (with_start d start) w m c still)
           | inl move ↦
               let more = made_more (with_start d start) w m c move in
-              elim (cases_lt (made (with_start d start) w m c) (made d h m c)) [
+              elim (cases_lt (moves_made (with_start d start) w m c) (moves_made d h m c)) [
                 | inl less ↦ omega arith
                 | inr not_less ↦
-                    let same : made d h m c ≡ made (with_start d start) w m c = omega arith in
+                    let same : moves_made d h m c ≡ moves_made (with_start d start) w m c = omega arith in
                     let alike = always_alike d start h w i j none x y m c c same in
                     let too = made_more d h m c (moves_too m c all alike move) in
                     omega arith

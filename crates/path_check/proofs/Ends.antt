@@ -14,23 +14,23 @@ use Rattle.timelines.proofs.Waits.{cycle_moves}
 use Rattle.depth_order.specs.Depths.{with_depths}
 use Rattle.engine_view.specs.{declared.engine.Engine.Engine, Engines.held_in, Held.Held, Held.core_of, Held.emitted_of}
 use Rattle.engine_view.proofs.Knowing.{timed_within}
-use Rattle.engine_report.specs.{Finished.IsFinished, Finished.IsEndMark, Standings.end_at, Standings.gap_of}
+use Rattle.engine_report.specs.{Finished.IsFinished, Finished.IsEndMark, Standings.end_at, Standings.gap_of_end}
 use Rattle.path_check.specs.Paths.{Same}
-use Rattle.path_check.specs.Waits.{IsTried, cycle_at, IsTimed, ComesAfter, ComesLater, IsAlong, nth_place, moves_behind}
+use Rattle.path_check.specs.Waits.{IsTried, cycle_at, IsTimedAt, ComesAfter, ComesLater, IsAlong, nth_place, moves_behind}
 use Rattle.path_check.proofs.{Late.ends_later, Late.never_ends, Steps.moves_on, Steps.moves_last}
 
 -- ---- behind the last step
 
 mark_is : (p : Plan) (h : Held) (i k : ℕ) (o : Option Advance) → emitted_of h i ≡ suc k
     → ((mark : Advance) → o ≡ Some mark → IsEndMark p (core_of (design p) h) i mark)
-    → gap_of o ≤ suc ((design p).quiet i (own (design p) i (core_reply (design p) (core_of (design p) h) i) (suc k)))
+    → gap_of_end o ≤ suc ((design p).quiet i (own (design p) i (core_reply (design p) (core_of (design p) h) i) (suc k)))
 mark_is p h i k None e each = omega arith
 mark_is p h i k (Some (Step step)) e each = omega arith
 mark_is p h i k (Some (Ended gap)) e each = let gap = rw e at (each (Ended gap) refl).1 in omega arith
 mark_is p h i k (Some (Spent gap)) e each = let gap = rw e at (each (Spent gap) refl).1 in omega arith
 
 -- the clocks behind a step are among those quiet clocks
-behind_quiet : (p : Plan) (h : Held) (ends : List (Option Advance)) → IsFinished p h ends → (last : Place) → IsTimed h.lanes last
+behind_quiet : (p : Plan) (h : Held) (ends : List (Option Advance)) → IsFinished p h ends → (last : Place) → IsTimedAt h.lanes last
     → moves_behind h.lanes ends last
     ≤ (design p).quiet last.module (own (design p) last.module (core_reply (design p) (core_of (design p) h) last.module) (suc last.step))
 behind_quiet p h ends f last timed =
@@ -48,7 +48,7 @@ behind_quiet p h ends f last timed =
 -- ---- the end
 
 module _ (p : Plan) (h : Held) (ends : List (Option Advance)) (depths : List ℕ) (t : IsTried p h ends depths) (from last : Place)
-    (clocks : ℕ) (timed : IsTimed h.lanes last) (c : ComesAfter p h depths from last clocks) where
+    (clocks : ℕ) (timed : IsTimedAt h.lanes last) (c : ComesAfter p h depths from last clocks) where
   -- the module of the last step moves so many clocks after it, and is not ended before
   late_by : (j : ℕ)
       → j ≤ (design p).quiet last.module (own (design p) last.module (core_reply (design p) (core_of (design p) h) last.module)
@@ -111,7 +111,7 @@ pub fewer_clocks : (p : Plan) (h : Held) (depths : List ℕ) (from to : Place) (
     → ComesAfter p h depths from to clocks → ComesAfter p h depths from to less
 fewer_clocks p h depths from to less clocks l c = let long = c.long in record { path = c.path; long = omega arith; after = c.after }
 
-pub along_first : (e : Engine) (depths : List ℕ) (path : List Place) → 0 < length path → IsTimed e.graph.lanes (nth_place path 0)
+pub along_first : (e : Engine) (depths : List ℕ) (path : List Place) → 0 < length path → IsTimedAt e.graph.lanes (nth_place path 0)
     → IsAlong e depths path 1 0
 along_first e depths path l timed = record {
   some = omega arith;
@@ -122,7 +122,7 @@ along_first e depths path l timed = record {
 }
 
 pub along_more : (e : Engine) (depths : List ℕ) (path : List Place) (n clocks more all : ℕ) → n < length path → all ≤ clocks + more
-    → IsTimed e.graph.lanes (nth_place path n)
+    → IsTimedAt e.graph.lanes (nth_place path n)
     → ((p : Plan) (ends : List (Option Advance)) → IsTried p (held_in e (map is_some ends)) ends depths
     → ComesLater p (held_in e (map is_some ends)) depths (nth_place path (n - 1)) (nth_place path n) more)
     → IsAlong e depths path n clocks → IsAlong e depths path (n + 1) all

@@ -11,7 +11,8 @@ use Rattle.event_timing.specs.Histories as counted
 use Rattle.event_timing.proofs.Standing.{moves_lives}
 use Rattle.timing_bridge.specs.Designs.{design, lockstep_run, start_in}
 use Rattle.timing_bridge.proofs.History.{plan_is_design, run_is_history, moves_same}
-use Rattle.depth_order.specs.{Depths.with_depths, Depths.AreDepths, Depths.AreDeeper, Depths.AsksNothing, Earliest.made, Chain.moves_at}
+use Rattle.depth_order.specs.Depths.{with_depths, AreDepths, AreDeeper, AsksNothing}
+use Rattle.depth_order.specs.{Earliest.moves_made, Chain.moves_at}
 use Rattle.depth_order.proofs.{Plans.depths_fit, Ahead.with_start, Same.made_mono, Same.made_reached, Same.always_alike}
 use Rattle.depth_order.proofs.Order.{no_queries, same_design, same_elements, over_stays, over_of, done_ended}
 use Rattle.path_check.specs.Paths.{IsAfter}
@@ -19,9 +20,9 @@ use Rattle.path_check.proofs.After.{holds_after, held_from_start, held_for_good,
 
 module _ (p : Plan) (h : FitsEngine p) (none : AsksNothing p) (ds : List ℕ) (a : AreDepths p ds) where
   -- a module that has not gone on from where it moves in the plan's run is not ended
-  not_over : (n f c : ℕ) → made (with_start (design p) (start_in (with_depths p ds))) (lockstep_run (with_depths p ds)) n c
-      ≤ made (design p) (lockstep_run p) n f
-      → counted.moves (design p) (lockstep_run p) f n ≡ true → (clock : ℕ) → clock ≤ c → verdict (with_depths p ds) ≡ Done clock → ⊥
+  not_over : (n f c : ℕ) → moves_made (with_start (design p) (start_in (with_depths p ds))) (lockstep_run (with_depths p ds)) n c
+      ≤ moves_made (design p) (lockstep_run p) n f
+      → counted.can_move (design p) (lockstep_run p) f n ≡ true → (clock : ℕ) → clock ≤ c → verdict (with_depths p ds) ≡ Done clock → ⊥
   not_over n f c few move clock l e =
       let q = with_depths p ds in
       let d = design p in
@@ -35,7 +36,7 @@ module _ (p : Plan) (h : FitsEngine p) (none : AsksNothing p) (ds : List ℕ) (a
       let x = run_is_history p h in
       let asks = no_queries p h none in
       let up = made_mono (with_start d start) (lockstep_run q) n clock c l in
-      let r = made_reached d w n (made (with_start d start) (lockstep_run q) n clock) f (omega (arith, few, up)) in
+      let r = made_reached d w n (moves_made (with_start d start) (lockstep_run q) n clock) f (omega (arith, few, up)) in
       let before = r.early in
       let alike = always_alike d start w (lockstep_run q) i j asks x y n r.clock clock r.count in
       let ended : (state_at p r.clock n).ended ≡ true =

@@ -24,7 +24,7 @@ use Rattle.engine_view.proofs.Knowing.{shown_inside}
 use Rattle.engine_report.specs.Finished.{IsFinished}
 use Rattle.engine_report.proofs.Ending.{apart_at}
 use Rattle.path_check.specs.Paths.{blocks_at, can_wait_at}
-use Rattle.path_check.specs.Waits.{IsTried, free_with, OneWaits, cycle_at, IsTimed, ComesLater}
+use Rattle.path_check.specs.Waits.{IsTried, free_with, OneWaits, cycle_at, IsTimedAt, ComesLater}
 use Rattle.path_check.proofs.Steps.{comes_next, comes_after, gap_behind}
 
 -- ---- accesses
@@ -91,7 +91,7 @@ gap_is p h ends f n k inside less =
     omega arith
 
 pub next_adds : (p : Plan) (h : Held) (ends : List (Option Advance)) (depths : List ℕ) → IsTried p h ends depths → (before next : Place)
-    → IsTimed h.lanes next → next.module ≡ before.module → next.step ≡ suc before.step
+    → IsTimedAt h.lanes next → next.module ≡ before.module → next.step ≡ suc before.step
     → ComesLater p h depths before next (step_of h next.module next.step).gap
 next_adds p h ends depths t before next timed same step from clocks c =
     let f = t.finished in
@@ -116,7 +116,7 @@ next_adds p h ends depths t before next timed same step from clocks c =
 
 pub waits_adds : (p : Plan) (h : Held) (ends : List (Option Advance)) (depths : List ℕ) → IsTried p h ends depths
     → (before next : Place) (lag : ℕ)
-    → IsTimed h.lanes before → IsTimed h.lanes next
+    → IsTimedAt h.lanes before → IsTimedAt h.lanes next
     → OneWaits h.channels depths (step_of h next.module next.step).accesses before lag → ComesLater p h depths before next lag
 waits_adds p h ends depths t before next lag first timed one from clocks c =
     let f = t.finished in
@@ -159,8 +159,8 @@ waits_adds p h ends depths t before next lag first timed one from clocks c =
 
 -- ---- what is answered
 
-pub lags_add : (e : Engine) (depths : List ℕ) (before next : Place) (found : Option ℕ) → IsTimed e.graph.lanes before
-    → IsTimed e.graph.lanes next
+pub lags_add : (e : Engine) (depths : List ℕ) (before next : Place) (found : Option ℕ) → IsTimedAt e.graph.lanes before
+    → IsTimedAt e.graph.lanes next
     → IfSome found (λ lag. OneWaits e.fifos.channels depths
     (slice_index_or (lane_at e.graph.lanes next.module).steps next.step no_step).accesses before lag)
     → IfSome found (λ clocks. (p : Plan) (ends : List (Option Advance)) → IsTried p (held_in e (map is_some ends)) ends depths
@@ -170,7 +170,7 @@ lags_add e depths before next (Some lag) first timed w =
     λ p ends t. waits_adds p (held_in e (map is_some ends)) ends depths t before next lag first timed w
 
 pub gaps_add : (e : Engine) (depths : List ℕ) (before next : Place) (gap : ℕ)
-    → gap ≡ (slice_index_or (lane_at e.graph.lanes next.module).steps next.step no_step).gap → IsTimed e.graph.lanes next
+    → gap ≡ (slice_index_or (lane_at e.graph.lanes next.module).steps next.step no_step).gap → IsTimedAt e.graph.lanes next
     → next.module ≡ before.module → next.step ≡ suc before.step
     → (p : Plan) (ends : List (Option Advance)) → IsTried p (held_in e (map is_some ends)) ends depths
     → ComesLater p (held_in e (map is_some ends)) depths before next gap

@@ -3,7 +3,7 @@
 use Rattle.std.proofs.Common.{◌≡◌, ℕ, zero, suc, ◌+◌, ◌≤◌, ◌<◌, true, false, sym, ◌∙◌, ap, subst, arith}
 use Rattle.flow_word.specs.{declared.access.Side.Side, Kinds.other_side}
 use Rattle.event_timing.specs.{Machines.Design, Machines.IsDesign, Steps.done, Views.Agrees, Views.own, Agreement.IsAgreed}
-use Rattle.event_timing.specs.Histories.{Trace, IsHistory, moves}
+use Rattle.event_timing.specs.Histories.{Trace, IsHistory, can_move}
 use Rattle.event_timing.specs.Core.{Core, core_accesses, core_reply, core_tally, view}
 use Rattle.event_timing.proofs.Fronts.{agrees, core_tally_is}
 use Rattle.event_timing.proofs.{Standing.early_no_step, Steps.done_more, Steps.done_same, Threshold.taken_view}
@@ -38,7 +38,7 @@ module _ {S : Type 0} (d : Design S) (start : Side → ℕ → ℕ) (h : Trace S
 
   -- it moves in each of these clocks
   pub moves_last : (n k j : ℕ) → k < x.timed n → j + suc (x.cycle n k) < arrives d x n (suc k)
-      → moves d h (j + suc (x.cycle n k)) n ≡ true
+      → can_move d h (j + suc (x.cycle n k)) n ≡ true
   moves_last n k j l q =
       moves_early d h i y limit x g n (suc k) (j + suc (x.cycle n k)) l (quiet_done n k j l (omega arith)) q
 

@@ -1,7 +1,7 @@
 -- Paths of waits: by how many clocks one module comes after another, with any depths.
 use Rattle.std.specs.Prelude.{◌≡◌, ℕ, zero, suc, ◌+◌, ◌≤◌, Bool, true, false, ◌&&◌, ◌||◌, eqb, List, [], ◌∷◌}
 use Rattle.flow_word.specs.{declared.access.Side.Side, Kinds.other_side, Kinds.same_side}
-use Rattle.event_timing.specs.{Machines.Access, Machines.Design, Histories.Trace, Histories.moves}
+use Rattle.event_timing.specs.{Machines.Access, Machines.Design, Histories.Trace, Histories.can_move}
 
 -- the access is one that waits where it is not possible, and it is at this side of the channel
 abbrev pub blocks_at : Side → ℕ → Access → Bool
@@ -22,7 +22,7 @@ can_wait_at side ch (a ∷ xs) = blocks_at side ch a || can_wait_at side ch xs
 pub data IsAfter {S : Type 0} (d : Design S) (start : Side → ℕ → ℕ) (h : Trace S) (m e : ℕ) : ℕ → ℕ → ℕ → Type 0 where
   Same : IsAfter d start h m e m e zero
   Later : (n f g w : ℕ) → f ≤ g → IsAfter d start h m e n f w → IsAfter d start h m e n g w
-  Own : (n f w : ℕ) → moves d h f n ≡ true → IsAfter d start h m e n f w → IsAfter d start h m e n (suc f) (suc w)
+  Own : (n f w : ℕ) → can_move d h f n ≡ true → IsAfter d start h m e n f w → IsAfter d start h m e n (suc f) (suc w)
   Waits : (n f w a b ch : ℕ) (side : Side) → can_wait_at side ch (d.accesses n (h.state f n)) ≡ true → d.unlimited side ch ≡ false
       → start side ch + h.taken a (other_side side) ch ≤ h.taken f side ch → w ≤ b + d.lag side ch
       → IsAfter d start h m e (d.owner (other_side side) ch) a b → IsAfter d start h m e n f w

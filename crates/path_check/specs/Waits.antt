@@ -9,7 +9,7 @@ use Rattle.fifo_table.specs.Channels.{Channel, IsFifo, channel_at, places_of, fr
 use Rattle.timing_bridge.specs.Designs.{design, lockstep_run, start_in}
 use Rattle.depth_order.specs.Depths.{with_depths, AreDepths, AreDeeper, AsksNothing}
 use Rattle.engine_view.specs.{declared.engine.Engine.Engine, Engines.held_in, Held.Held}
-use Rattle.engine_report.specs.{Finished.IsFinished, Standings.end_at, Standings.gap_of}
+use Rattle.engine_report.specs.{Finished.IsFinished, Standings.end_at, Standings.gap_of_end}
 use Rattle.path_check.specs.Paths.{IsAfter}
 
 -- ---- the depths
@@ -59,7 +59,7 @@ abbrev pub cycle_at : List Lane → Place → ℕ
 cycle_at lanes place = slice_index_or (lane_at lanes place.module).cycles place.step 0
 
 -- the place names a step that has a cycle
-pub record IsTimed (lanes : List Lane) (place : Place) : Type 0 where
+pub record IsTimedAt (lanes : List Lane) (place : Place) : Type 0 where
   pub owner : place.module < length lanes
   pub step : place.step < length (lane_at lanes place.module).steps
   pub timed : place.step < length (lane_at lanes place.module).cycles
@@ -85,12 +85,12 @@ nth_place path k = slice_index_or path k (record { «module» = 0; step = 0 })
 pub record IsAlong (engine : Engine) (depths : List ℕ) (path : List Place) (n clocks : ℕ) : Type 0 where
   pub some : 1 ≤ n
   pub within : n ≤ length path
-  pub first : IsTimed engine.graph.lanes (nth_place path 0)
-  pub last : IsTimed engine.graph.lanes (nth_place path (n - 1))
+  pub first : IsTimedAt engine.graph.lanes (nth_place path 0)
+  pub last : IsTimedAt engine.graph.lanes (nth_place path (n - 1))
   pub along : (p : Plan) (ends : List (Option Advance)) → IsTried p (held_in engine (map is_some ends)) ends depths
       → ComesAfter p (held_in engine (map is_some ends)) depths (nth_place path 0) (nth_place path (n - 1)) clocks
 
 -- how many clocks after a step its module still moves, up to its end; 0 where the module has a next step
 abbrev pub moves_behind : List Lane → List (Option Advance) → Place → ℕ
 moves_behind lanes ends last =
-    if nat_lt (last.step + 1) (length (lane_at lanes last.module).steps) then 0 else gap_of (end_at ends last.module) - 1
+    if nat_lt (last.step + 1) (length (lane_at lanes last.module).steps) then 0 else gap_of_end (end_at ends last.module) - 1

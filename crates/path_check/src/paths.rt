@@ -5,8 +5,8 @@ ghost use Rattle.lockstep_defs.specs.Verdict.{verdict};
 ghost use Rattle.depth_order.specs.Depths.{with_depths};
 ghost use Rattle.time_engine.specs.Conditions.{HasAccesses};
 ghost use Rattle.engine_view.specs.Engines.{held_in};
-ghost use Rattle.engine_report.specs.Standings.{gap_of};
-ghost use Rattle.path_check.specs.Waits.{IsTried, depths_with, IsTimed, IsAlong, cycle_at, nth_place, moves_behind};
+ghost use Rattle.engine_report.specs.Standings.{gap_of_end};
+ghost use Rattle.path_check.specs.Waits.{IsTried, depths_with, IsTimedAt, IsAlong, cycle_at, nth_place, moves_behind};
 
 use crate::waits::{clocks_between, is_timed};
 use engine_view::Engine;
@@ -101,7 +101,7 @@ fn is_same(first: Place, last: Place) -> bool
 
 /// The clock of a step with a cycle, in the run that the engine holds.
 fn cycle_of(engine: &Engine, place: Place) -> u64
-    requires { IsTimed engine.now.graph.lanes place }
+    requires { IsTimedAt engine.now.graph.lanes place }
     ensures { result ≡ cycle_at engine.now.graph.lanes place }
 {
     engine.graph.cycle_of(place).unwrap_or(0)
@@ -109,7 +109,7 @@ fn cycle_of(engine: &Engine, place: Place) -> u64
 
 /// How many clocks after a step its module still moves, up to its end; 0 where the module has a next step.
 fn clocks_behind(engine: &Engine, ends: &[Option<Advance>], last: Place) -> u64
-    requires { IsTimed engine.now.graph.lanes last }
+    requires { IsTimedAt engine.now.graph.lanes last }
     ensures { result ≡ moves_behind engine.now.graph.lanes ends.now last }
 {
     if 1 < engine.graph.len(last.module).saturating_sub(last.step) {
@@ -123,7 +123,7 @@ fn clocks_behind(engine: &Engine, ends: &[Option<Advance>], last: Place) -> u64
 
 /// The local clocks from a module's last step to its end; 0 where it does not end.
 fn gap_of(end: &Option<Advance>) -> u64
-    ensures { result ≡ gap_of end.now }
+    ensures { result ≡ gap_of_end end.now }
 {
     match end {
         Some(Advance::Ended(gap)) | Some(Advance::Spent(gap)) => *gap,

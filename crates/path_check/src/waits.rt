@@ -3,7 +3,7 @@ ghost use Rattle.std.specs.Prelude.{◌≡◌, ◌<◌, true, length, slice_inde
 ghost use Rattle.flow_design.specs.{declared.plan.Plan.Plan, declared.state.Advance.Advance};
 ghost use Rattle.time_engine.specs.Conditions.{IsAccess, HasAccesses};
 ghost use Rattle.engine_view.specs.Engines.{held_in};
-ghost use Rattle.path_check.specs.Waits.{IsTried, depths_with, free_with, WaitsFor, OneWaits, IsTimed, ComesLater};
+ghost use Rattle.path_check.specs.Waits.{IsTried, depths_with, free_with, WaitsFor, OneWaits, IsTimedAt, ComesLater};
 
 use engine_view::Engine;
 use flow_design::Edit;
@@ -11,7 +11,7 @@ use flow_word::{Access, Place, Side};
 
 /// Whether a place names a step that has a cycle.
 pub(crate) fn is_timed(engine: &Engine, place: Place) -> bool
-    ensures { result ≡ true → IsTimed engine.now.graph.lanes place }
+    ensures { result ≡ true → IsTimedAt engine.now.graph.lanes place }
 {
     place.module < engine.graph.modules() && place.step < engine.graph.frontier(place.module)
 }
@@ -29,8 +29,8 @@ pub(crate) fn clocks_between(
     next: Place,
 ) -> Option<u64>
     requires accesses { HasAccesses engine.now.graph.lanes engine.now.fifos.channels }
-    requires before { IsTimed engine.now.graph.lanes before }
-    requires next { IsTimed engine.now.graph.lanes next }
+    requires before { IsTimedAt engine.now.graph.lanes before }
+    requires next { IsTimedAt engine.now.graph.lanes next }
     ensures { IfSome result (λ clocks. (p : Plan) (ends : Items (Option Advance))
         → IsTried p (held_in engine.now (map is_some ends)) ends (depths_with depths.now edit)
         → ComesLater p (held_in engine.now (map is_some ends)) (depths_with depths.now edit) before next clocks) }

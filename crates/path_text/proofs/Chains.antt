@@ -6,7 +6,7 @@ use Rattle.flow_design.specs.{declared.plan.Plan.Plan, declared.state.Request.Re
 use Rattle.lockstep_defs.specs.{Channels.stalls, Lockstep.requests_of, Lockstep.state, Lockstep.state_at, Ports.owner, Ports.StandsAtPort}
 use Rattle.timing_bridge.specs.Designs.{lag_in}
 use Rattle.timing_bridge.proofs.{History.plan_is_design, Requests.stand}
-use Rattle.depth_order.specs.Chain.{moves_at, span_start, port_of, stood_at}
+use Rattle.depth_order.specs.Chain.{moves_at, span_start, request_port, stood_at}
 use Rattle.depth_order.proofs.{Chained.IsStill, Chained.starts, Chained.found_in, Chained.kept_still, Adds.crossing_moves}
 use Rattle.path_text.specs.Walks.{link_at, before_link, MovesBefore}
 
@@ -24,7 +24,7 @@ crossed_at p h m zero move still = inl refl
 crossed_at p h m (suc b) move still = by_found (find (stalls p b (state p b).contents) (requests_of p (m, state_at p b m))) refl
   where
     by_found : (o : Option Request) → find (stalls p b (state p b).contents) (requests_of p (m, state_at p b m)) ≡ o
-        → (option_map port_of o ≡ None) ⊎ ((a : Port) × IsCrossed p m (suc b) a)
+        → (option_map request_port o ≡ None) ⊎ ((a : Port) × IsCrossed p m (suc b) a)
     by_found None e = absurd (kept_still p h b m still move e)
     by_found (Some r) e =
         let crossing = crossing_moves p h b m still move r e in
@@ -33,9 +33,9 @@ crossed_at p h m (suc b) move still = by_found (find (stalls p b (state p b).con
         let at_port = found_in p m (StandsAtPort p m) (stalls p b (state p b).contents) (requests_of p (m, state_at p b m)) r
         (stand p h m (state_at p b m)) e in
         inr (
-          port_of r,
+          request_port r,
           record {
-            is = ap (option_map port_of) e;
+            is = ap (option_map request_port) e;
             inside = at_port.in_range;
             within = within;
             earlier = omega arith;

@@ -11,7 +11,7 @@ use Rattle.lockstep_defs.proofs.Agrees.{all_modules}
 use Rattle.timelines.specs.{declared.span.Doing.Doing, Doings.doing, Doings.doing_by}
 use Rattle.timelines.specs.declared.span.Doing.TheVariants.{Moves, Still}
 use Rattle.timelines.proofs.Existing.{nobody_over, none_stays}
-use Rattle.depth_order.specs.Chain.{moves_at, port_of, stands_at}
+use Rattle.depth_order.specs.Chain.{moves_at, request_port, stands_at}
 use Rattle.depth_order.proofs.Chained.{find_any}
 
 any_found : {X : Type 0} (P : X → Bool) (xs : List X) (x : X) → find P xs ≡ Some x → list_any P xs ≡ true
@@ -50,10 +50,10 @@ moves_doing p c m e =
     (any_found (stalls p c (state p c).contents) (requests_of p (m, state_at p c m))) e
 
 still_by : (over : Bool) (o : Option Request) (a : Port) → cond over None (Some (doing_by o)) ≡ Some (Still a)
-    → option_map port_of o ≡ Some a
+    → option_map request_port o ≡ Some a
 still_by true o a e = absurd (cc)
 still_by false None a e = absurd (cc)
-still_by false (Some r) a e = let same : Still (port_of r) ≡ Still a = cc in let port : port_of r ≡ a = cc in ap Some port
+still_by false (Some r) a e = let same : Still (request_port r) ≡ Still a = cc in let port : request_port r ≡ a = cc in ap Some port
 
 pub doing_stands : (p : Plan) (c m : ℕ) (a : Port) → doing p c m ≡ Some (Still a) → stands_at p c m ≡ Some a
 unfolding doing

@@ -5,7 +5,7 @@ use Rattle.std.proofs.lemmas.Bool.{cases_Bool, cases_lt, cases_eq, le-leb, lt-le
 use Rattle.std.proofs.lemmas.List.{get_or_default}
 use Rattle.std.specs.{Prelude.find, Prelude.fold, List.range_with_len}
 use Rattle.flow_design.specs.declared.plan.Plan.{Plan}
-use Rattle.timelines.specs.{declared.span.Doing.Doing, declared.span.Span.Span, Spans.IsBefore, Spans.AreSpansBelow}
+use Rattle.timelines.specs.{declared.span.Doing.Doing, declared.span.Span.Span, Spans.EndsBefore, Spans.AreSpansBelow}
 use Rattle.timelines.specs.declared.span.Doing.TheVariants.{Moves, Still}
 use Rattle.timelines.proofs.{Lists.Member, Lists.Rising, Lists.all_of, Lists.contains_member, Extending.Listed, Extending.spans_listed}
 use Rattle.depth_order.specs.Chain.{moves_at, first_mover}
@@ -57,7 +57,7 @@ ends_with (s ∷ ss) rising some before = later (ends_with ss rising.1 (λ t m. 
       λ t n moving. elim n [
         | inl same ↦
             let until = ap (λ (u : Span). u.until) same in
-            let before = all_of (IsBefore s) ss rising.0 x m in
+            let before = all_of (EndsBefore s) ss rising.0 x m in
             let len = some x (inr m) in
             omega arith
         | inr rest ↦ most t rest moving

@@ -8,8 +8,8 @@ use Rattle.flow_word.specs.declared.access.Kind.TheVariants.{Read, Write, TryRea
 use Rattle.flow_design.specs.{declared.plan.Plan.Plan, declared.state.Request.Request, declared.state.Reply.Reply, StaticRules.FitsEngine}
 use Rattle.flow_design.specs.declared.state.ModuleState.{ModuleState}
 use Rattle.lockstep_defs.specs.Machine.{is_yes, nobody}
-use Rattle.lockstep_defs.specs.Channels.{HistoryStep, Exchange, contents_of, is_empty, is_possible, front, reply, reply_by}
-use Rattle.lockstep_defs.specs.Lockstep.{requests_of, answered, step_with, step_of, steps_in, state, state_at}
+use Rattle.lockstep_defs.specs.Channels.{HistoryStep, Exchange, contents_of, is_empty, can_take, front, reply, reply_by}
+use Rattle.lockstep_defs.specs.Lockstep.{requests_of, answered, step_with, module_step, steps_in, state, state_at}
 use Rattle.lockstep_defs.proofs.Queue.{all-append}
 use Rattle.timelines.specs.{Passed.Act, Passed.acts_in, Passed.acts_before, Passed.acts, Fills.last_clock}
 use Rattle.timelines.proofs.Acts.{acts-zero, acts-suc, early}
@@ -42,9 +42,10 @@ module _ (p : Plan) (P : ℕ → ℕ → Request → Type 0) (each : (c m : ℕ)
       let s : HistoryStep = record { clock = c; «module» = m; exchanges = map (answered p c (state p c).contents) (r ∷ rs) } in
       all-append IsDone (map (λ x. (s, x)) s.exchanges) [] (done_requests s h (r ∷ rs) k) tt
 
-  done_step : (c m : ℕ) (s : ModuleState) → s ≡ state_at p c m → AllByRecursion IsDone (acts_in (step_of p c (state p c).contents (m, s)))
+  done_step : (c m : ℕ) (s : ModuleState) → s ≡ state_at p c m
+      → AllByRecursion IsDone (acts_in (module_step p c (state p c).contents (m, s)))
   done_step c m s e =
-      subst (λ (x : ModuleState). AllByRecursion IsDone (acts_in (step_of p c (state p c).contents (m, x)))) (sym e)
+      subst (λ (x : ModuleState). AllByRecursion IsDone (acts_in (module_step p c (state p c).contents (m, x)))) (sym e)
       (by_test (moves_at p c m) refl)
     where
       by_test : (b : Bool) → moves_at p c m ≡ b
@@ -54,11 +55,11 @@ module _ (p : Plan) (P : ℕ → ℕ → Request → Type 0) (each : (c m : ℕ)
       by_test false h = tt
 
   done_steps : (c n : ℕ) (ms : List ModuleState) → ((k : ℕ) → k < length ms → get_or ms k nobody ≡ state_at p c (n + k))
-      → AllByRecursion IsDone (acts_in (flat_map (step_of p c (state p c).contents) (enumerate_from n ms)))
+      → AllByRecursion IsDone (acts_in (flat_map (module_step p c (state p c).contents) (enumerate_from n ms)))
   done_steps c n [] h = tt
   done_steps c n (s ∷ ms) h =
-      let first = step_of p c (state p c).contents (n, s) in
-      let rest = flat_map (step_of p c (state p c).contents) (enumerate_from (n + 1) ms) in
+      let first = module_step p c (state p c).contents (n, s) in
+      let rest = flat_map (module_step p c (state p c).contents) (enumerate_from (n + 1) ms) in
       let here : n + 0 ≡ n = omega arith in
       subst (AllByRecursion IsDone) (sym (flat_map-append _ first rest))
       (all-append IsDone (acts_in first) (acts_in rest) (done_step c n s (h 0 (omega arith) ∙ ap (state_at p c) here))
@@ -105,7 +106,7 @@ seeking TryWrite empty v possible s e = absurd cc
 seeking Full empty v possible s e = absurd cc
 
 pops_there : (p : Plan) (c : ℕ) (kind : Kind) (f : ℕ) → seeks kind ≡ true
-    → is_possible p c (state p c).contents (side_of kind) f ≡ not (is_empty c (contents_of (state p c).contents f))
+    → can_take p c (state p c).contents (side_of kind) f ≡ not (is_empty c (contents_of (state p c).contents f))
 pops_there p c TryRead f s = refl
 pops_there p c Empty f s = refl
 pops_there p c Read f s = absurd cc
@@ -121,7 +122,7 @@ missed_is p c x e s =
     let here = (state p c).contents in
     ap (λ (y : Reply). misses r.kind (is_yes y)) e
     ∙ seeking r.kind (is_empty c (contents_of here r.channel)) (front (contents_of here r.channel))
-    (is_possible p c here (side_of r.kind) r.channel) s (pops_there p c r.kind r.channel s)
+    (can_take p c here (side_of r.kind) r.channel) s (pops_there p c r.kind r.channel s)
 
 abbrev Any : ℕ → ℕ → Request → Type 0
 Any c m r = Unit {0}

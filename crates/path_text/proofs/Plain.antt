@@ -6,11 +6,11 @@ use Rattle.flow_word.specs.declared.access.Kind.TheVariants.{Read, Write, TryRea
 use Rattle.flow_design.specs.{declared.plan.Plan.Plan, declared.state.Request.Request, StaticRules.FitsEngine}
 use Rattle.lockstep_defs.specs.Lockstep.{requests_of, state_at}
 use Rattle.event_timing.specs.Machines.{Each}
-use Rattle.timing_bridge.specs.Designs.{seen}
+use Rattle.timing_bridge.specs.Designs.{seen_request}
 use Rattle.sim_core.specs.{AccessLog.log_of, declared.access_log.LoggedAccess.LoggedAccess}
 use Rattle.stall_text.specs.Polls.{is_of}
 use Rattle.depth_order.specs.{Depths.AsksNothing, declared.link.Link.Link}
-use Rattle.depth_order.specs.Chain.{span_start, stood_at, goes_on, chain, first_mover, chain_from, path}
+use Rattle.depth_order.specs.Chain.{span_start, stood_at, chain_across, chain, first_mover, chain_from, path}
 use Rattle.depth_order.proofs.Order.{no_queries}
 use Rattle.path_text.specs.{declared.walk.At.At, declared.link.PolledLink.PolledLink, Walks.before_link, Walks.link_at}
 use Rattle.path_text.specs.Polls.{before_polled, access_clock, ends_poll, going_on, last_move, last_poll, latest_one, link_by, links_in}
@@ -46,7 +46,7 @@ plain_chain p log h (suc n) at =
     on : ((next : At) → IsPlain (polled_chain p log n next) (chain p n next.module next.clock)) → (o : Option Port)
         → IsPlain (going_on (λ before. polled_chain p log n before)
         (before_link p (record (link_at p at.module at.clock) { crossed = o })))
-        (goes_on p (λ k c. chain p n k c) (span_start p at.module at.clock) o)
+        (chain_across p (λ k c. chain p n k c) (span_start p at.module at.clock) o)
     on all None = record { links = refl; polls = refl }
     on all (Some a) = all _
 
@@ -72,7 +72,7 @@ nothing_sought p log h l =
     (all_filter (λ a. seeks a.event.kind ≡ false) (λ a. ends_poll p mine l.first l.last a ≡ false) (is_of l.«module»)
     (λ a sought own. rw sought refl) log h))
 
-blocking : (rs : List Request) → Each (λ a. a.blocks ≡ true) (map seen rs) → AllByRecursion (λ r. is_blocking r.kind ≡ true) rs
+blocking : (rs : List Request) → Each (λ a. a.blocks ≡ true) (map seen_request rs) → AllByRecursion (λ r. is_blocking r.kind ≡ true) rs
 blocking [] h = tt
 blocking (r ∷ rs) h = (h.0, blocking rs h.1)
 

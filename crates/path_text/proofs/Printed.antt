@@ -2,8 +2,8 @@
 use Rattle.std.proofs.Common.{◌≡◌, ℕ, zero, suc, ◌+◌, ◌<◌, List, ◌∷◌, ◌++◌, refl, sym, ap, ap₂, ◌∙◌, arith, length, append_assoc}
 use Rattle.std.specs.List.{flat_map, range_with_len}
 use Rattle.flow_word.specs.{declared.access.Side.Side, declared.access.Side.TheVariants.Pop, declared.access.Side.TheVariants.Push}
-use Rattle.flow_design.specs.declared.design.Design.{Design}
-use Rattle.report_text.specs.{Lines.Token, Lines.line, Lines.text_of_lines, ReportText.module_name, ReportText.channel_name}
+use Rattle.flow_design.specs.{declared.design.Design.Design, Names.Token}
+use Rattle.report_text.specs.{Lines.line, Lines.text_of_lines, ReportText.module_name, ReportText.channel_name}
 use Rattle.path_text.specs.PathText.{spend_lines, cross_lines, polled_lines, lines_at, all_spend_lines, channel_lines}
 use Rattle.report_text.proofs.LineLemmas.{text-append}
 

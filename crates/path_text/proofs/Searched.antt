@@ -11,14 +11,14 @@ use Rattle.flow_word.specs.declared.access.Kind.TheVariants.{Read}
 use Rattle.sim_core.specs.declared.access_log.LoggedAccess.{LoggedAccess}
 use Rattle.stall_text.specs.Polls.{is_of}
 use Rattle.depth_order.specs.declared.link.Link.{Link}
-use Rattle.path_text.specs.{declared.finds.Find.Find, Polls.latest_one, Walks.AreSorted}
+use Rattle.path_text.specs.{declared.finds.Find.Find, Polls.latest_one, Walks.AreSpansSorted}
 use Rattle.path_text.specs.Finds.{AreChronological, find_clock, precedes_link, precedes, lies_in}
 use Rattle.path_text.proofs.Latest.{IsSooner, ahead, none}
 
 -- ---- the span that has a clock
 
 -- where one begins after the clock, all later ones do
-pub above_middle : (spans : List Span) → AreSorted spans → (middle clock : ℕ) (e : Span) → middle < length spans
+pub above_middle : (spans : List Span) → AreSpansSorted spans → (middle clock : ℕ) (e : Span) → middle < length spans
     → clock < (get_or spans middle e).first → (k : ℕ) (d : Span) → middle ≤ k → k < length spans
     → clock < (get_or spans k d).first
 above_middle spans a middle clock e l here k d m n = elim (cases_eq k middle) [
@@ -31,7 +31,7 @@ above_middle spans a middle clock e l here k d m n = elim (cases_eq k middle) [
 ]
 
 -- where one ends by the clock, all earlier ones do
-pub below_middle : (spans : List Span) → AreSorted spans → (middle clock : ℕ) (e : Span) → middle < length spans
+pub below_middle : (spans : List Span) → AreSpansSorted spans → (middle clock : ℕ) (e : Span) → middle < length spans
     → (get_or spans middle e).until ≤ clock → (k : ℕ) (d : Span) → k < middle + 1
     → (get_or spans k d).until ≤ clock
 below_middle spans a middle clock e l here k d m = elim (cases_eq k middle) [

@@ -9,10 +9,10 @@ use Rattle.timelines.specs.declared.span.Doing.TheVariants.{Moves, Still}
 use Rattle.timelines.proofs.Extending.{some_same}
 use Rattle.depth_order.specs.Chain.{moves_at, span_start, stood_at}
 use Rattle.depth_order.proofs.Chained.{IsStill, starts, start_more, start_new, start_0}
-use Rattle.path_text.specs.Walks.{AreSorted, IsWith, StoodBefore, link_at, stalled_port}
+use Rattle.path_text.specs.Walks.{AreSpansSorted, IsWith, StoodBefore, link_at, stalled_port}
 use Rattle.path_text.proofs.{Doings.doing_moves, Doings.moves_doing, Doings.doing_stands, Doings.still_before, Covered.covered}
 
-pub spans_sorted : (p : Plan) (m end : ℕ) (spans : List Span) → AreSpansBelow p m end spans → AreSorted spans
+pub spans_sorted : (p : Plan) (m end : ℕ) (spans : List Span) → AreSpansBelow p m end spans → AreSpansSorted spans
 spans_sorted p m end spans a = record {
   in_order = a.in_order;
   some = λ k d l. ((a.all (get_or spans k d)).0 (Contains-get_or spans k d l)).some;

@@ -9,7 +9,7 @@ use Rattle.lockstep_defs.specs.Ports.{owner}
 use Rattle.timing_bridge.specs.Designs.{lag_in}
 use Rattle.sim_core.specs.declared.access_log.LoggedAccess.{LoggedAccess}
 use Rattle.depth_order.specs.{declared.link.Link.Link, Sums.spent, Sums.clocks_across, Sums.under_way, Sums.chain_clocks}
-use Rattle.depth_order.specs.Chain.{moves_at, span_start, stood_at, goes_on, chain, first_mover, chain_from, path}
+use Rattle.depth_order.specs.Chain.{moves_at, span_start, stood_at, chain_across, chain, first_mover, chain_from, path}
 use Rattle.depth_order.proofs.{Chained.starts, Chained.chain_more, Chained.found_true, Adds.adds_up}
 use Rattle.path_text.specs.{declared.walk.At.At, declared.link.Polled.Polled, declared.link.PolledLink.PolledLink, Counts.clocks_waiting}
 use Rattle.path_text.specs.Walks.{before_link, link_at, MovesBefore}
@@ -22,7 +22,7 @@ use Rattle.path_text.proofs.Followed.{last_moves, left, next_polled, poll_is, po
 
 -- what the chain has before a link is as long as the clocks up to where it goes on
 rest_sum : (p : Plan) → FitsEngine p → (m t : ℕ) → moves_at p t m ≡ true
-    → let rest = goes_on p (λ k c. chain p t k c) (span_start p m t) (stood_at p (span_start p m t) m) in
+    → let rest = chain_across p (λ k c. chain p t k c) (span_start p m t) (stood_at p (span_start p m t) m) in
     spent rest + under_way p rest ≡ left (before_link p (link_at p m t))
 rest_sum p h m t move =
     let start = starts p m t move in

@@ -5,7 +5,7 @@ use Rattle.flow_word.specs.{declared.access.Port.Port, Kinds.other_side}
 use Rattle.flow_design.specs.declared.plan.Plan.{Plan}
 use Rattle.lockstep_defs.specs.Ports.{owner}
 use Rattle.timing_bridge.specs.Designs.{lag_in}
-use Rattle.timelines.specs.{declared.span.Doing.Doing, declared.span.Span.Span, Spans.IsBefore, Spans.AreSpansBelow}
+use Rattle.timelines.specs.{declared.span.Doing.Doing, declared.span.Span.Span, Spans.EndsBefore, Spans.AreSpansBelow}
 use Rattle.timelines.specs.declared.span.Doing.TheVariants.{Moves, Still}
 use Rattle.depth_order.specs.{declared.link.Link.Link, Chain.moves_at, Chain.span_start, Chain.stood_at}
 use Rattle.path_text.specs.declared.walk.At.{At}
@@ -31,8 +31,8 @@ MovesBefore p end (Some at) = (at.clock < end) × (moves_at p at.clock at.module
 -- ---- spans
 
 -- each span ends after it begins, and before the next one begins
-pub record AreSorted (spans : List Span) : Type 0 where
-  pub in_order : AllPairs IsBefore spans
+pub record AreSpansSorted (spans : List Span) : Type 0 where
+  pub in_order : AllPairs EndsBefore spans
   pub some : All (λ s. s.first < s.until) spans
 
 -- `Some` is a span of the list that holds the clock; with `None`, no span does

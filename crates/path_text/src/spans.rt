@@ -3,7 +3,7 @@ ghost use Rattle.std.specs.Prelude.{◌≡◌, ℕ, ◌<◌, IsTrue};
 ghost use Rattle.flow_design.specs.declared.plan.Plan.{Plan};
 ghost use Rattle.timelines.specs.Spans.{AreSpansBelow};
 ghost use Rattle.depth_order.specs.Chain.{moves_at, span_start};
-ghost use Rattle.path_text.specs.Walks.{AreSorted, IsWith, StoodBefore, link_at, moving_end, stalled_port};
+ghost use Rattle.path_text.specs.Walks.{AreSpansSorted, IsWith, StoodBefore, link_at, moving_end, stalled_port};
 
 use depth_order::Link;
 use flow_word::Port;
@@ -11,7 +11,7 @@ use timelines::{Doing, Span};
 
 /// The link that ends with this clock, in which the module moves, read from the module's spans.
 pub(crate) fn link_to(spans: &[Span], owner: u32, clock: u64) -> Link
-    requires { AreSorted spans.now }
+    requires { AreSpansSorted spans.now }
     ensures { (p : Plan) (end : ℕ) → AreSpansBelow p owner end spans.now → clock < end → IsTrue (moves_at p clock owner)
         → result ≡ link_at p owner clock }
 {
@@ -26,7 +26,7 @@ pub(crate) fn link_to(spans: &[Span], owner: u32, clock: u64) -> Link
 
 /// The first clock of the span with this clock, in which the module moves.
 fn start_of(spans: &[Span], clock: u64) -> u64
-    requires { AreSorted spans.now }
+    requires { AreSpansSorted spans.now }
     ensures { (p : Plan) (owner end : ℕ) → AreSpansBelow p owner end spans.now → clock < end → IsTrue (moves_at p clock owner)
         → result ≡ span_start p owner clock }
 {
@@ -38,7 +38,7 @@ fn start_of(spans: &[Span], clock: u64) -> u64
 
 /// The port at which a module stalls in the clock before this one, in which it moves; `None` where it does not stall then.
 fn stood_before(spans: &[Span], clock: u64) -> Option<Port>
-    requires { AreSorted spans.now }
+    requires { AreSpansSorted spans.now }
     ensures { (p : Plan) (owner end : ℕ) → AreSpansBelow p owner end spans.now → clock < end → IsTrue (moves_at p clock owner)
         → StoodBefore p owner clock result }
 {
@@ -63,7 +63,7 @@ fn port_of(doing: Doing) -> Option<Port>
 
 /// The span that holds a clock; `None` where no span does.
 fn span_with(spans: &[Span], clock: u64) -> Option<Span>
-    requires { AreSorted spans.now }
+    requires { AreSpansSorted spans.now }
     ensures { IsWith spans.now clock result }
 {
     let mut low = 0;

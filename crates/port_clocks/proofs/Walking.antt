@@ -10,7 +10,7 @@ use Rattle.lockstep_defs.proofs.{Rules.keeps_ports, Settled.history-zero, Settle
 use Rattle.timelines.specs.Fills.{fill, last_clock, moved_before}
 use Rattle.timelines.proofs.FillCounts.{counted}
 use Rattle.port_clocks.specs.{declared.walk.PortWalk.PortWalk, declared.walk.FifoWalk.FifoWalk}
-use Rattle.port_clocks.specs.Walks.{PassesAt, StandsAt, IsFifoWalk, next_of}
+use Rattle.port_clocks.specs.Walks.{PassesAt, WalkStandsAt, IsFifoWalk, next_of}
 
 -- ---- how many elements pass a port before a clock
 
@@ -60,7 +60,8 @@ module _ (p : Plan) (fits : FitsEngine p) (port : Port) where
   by_now n next c at l late = ltb-true n (passed c) (at c l ∙ lt-ltb next c late)
 
   -- it stands at each clock up to the next one in which an element passes
-  pub stands_still : (walk : PortWalk) (a b : ℕ) → StandsAt p port a walk → a ≤ b → b ≤ walk.next → b ≤ last_clock p → StandsAt p port b walk
+  pub stands_still : (walk : PortWalk) (a b : ℕ) → WalkStandsAt p port a walk → a ≤ b → b ≤ walk.next → b ≤ last_clock p
+      → WalkStandsAt p port b walk
   stands_still walk a b s from until within = record {
     count =
         let most = not_yet walk.count walk.next b s.next within until in
@@ -68,25 +69,26 @@ module _ (p : Plan) (fits : FitsEngine p) (port : Port) where
     next = s.next;
   }
 
-  pub few_passed : (walk : PortWalk) (clock : ℕ) → StandsAt p port clock walk → walk.count ≤ clock
+  pub few_passed : (walk : PortWalk) (clock : ℕ) → WalkStandsAt p port clock walk → walk.count ≤ clock
   few_passed walk clock s = omega (arith, s.count, moved_few p fits port.side port.channel clock)
 
   -- its own clock is at most the next one
-  pub stands_before : (walk : PortWalk) (clock : ℕ) → StandsAt p port clock walk → clock ≤ last_clock p → clock ≤ walk.next
+  pub stands_before : (walk : PortWalk) (clock : ℕ) → WalkStandsAt p port clock walk → clock ≤ last_clock p → clock ≤ walk.next
   stands_before walk clock s within = elim (cases_lt walk.next clock) [
     | inl late ↦ absurd (omega (arith, by_now walk.count walk.next clock s.next within late, s.count))
     | inr early ↦ early
   ]
 
   -- no element passes in this clock
-  pub stands_on : (walk : PortWalk) (clock : ℕ) → StandsAt p port clock walk → clock ≤ walk.next → walk.next ≢ clock → clock < last_clock p
-      → StandsAt p port (clock + 1) walk
+  pub stands_on : (walk : PortWalk) (clock : ℕ) → WalkStandsAt p port clock walk → clock ≤ walk.next → walk.next ≢ clock
+      → clock < last_clock p
+      → WalkStandsAt p port (clock + 1) walk
   stands_on walk clock s early other within =
       stands_still walk clock (clock + 1) s (omega arith) (omega arith) (omega arith)
 
   -- one does
-  pub stands_after : (walk new : PortWalk) (clock : ℕ) → StandsAt p port clock walk → walk.next ≡ clock → clock < last_clock p
-      → new.count ≡ walk.count + 1 → PassesAt p port new.count new.next → StandsAt p port (clock + 1) new
+  pub stands_after : (walk new : PortWalk) (clock : ℕ) → WalkStandsAt p port clock walk → walk.next ≡ clock → clock < last_clock p
+      → new.count ≡ walk.count + 1 → PassesAt p port new.count new.next → WalkStandsAt p port (clock + 1) new
   stands_after walk new clock s now within count next = record {
     count =
         let more = by_now walk.count walk.next (suc clock) s.next (omega arith) (omega arith) in
@@ -109,7 +111,7 @@ walk_fill p fits walk w clock from until within =
 
 -- at the clock of the next pop or push, before that
 pub pops_stand : (p : Plan) → FitsEngine p → (walk : FifoWalk) → IsFifoWalk p walk → (clock : ℕ) → clock ≡ next_of walk → clock < last_clock p
-    → StandsAt p (record { side = Pop; channel = walk.channel }) clock walk.pops
+    → WalkStandsAt p (record { side = Pop; channel = walk.channel }) clock walk.pops
 pops_stand p fits walk w clock is within =
     let pop : Port = record { side = Pop; channel = walk.channel } in
     let push : Port = record { side = Push; channel = walk.channel } in
@@ -118,7 +120,7 @@ pops_stand p fits walk w clock is within =
     stands_still p fits pop walk.pops walk.clock clock w.pops (omega arith) (omega arith) (omega arith)
 
 pub pushes_stand : (p : Plan) → FitsEngine p → (walk : FifoWalk) → IsFifoWalk p walk → (clock : ℕ) → clock ≡ next_of walk → clock < last_clock p
-    → StandsAt p (record { side = Push; channel = walk.channel }) clock walk.pushes
+    → WalkStandsAt p (record { side = Push; channel = walk.channel }) clock walk.pushes
 pushes_stand p fits walk w clock is within =
     let pop : Port = record { side = Pop; channel = walk.channel } in
     let push : Port = record { side = Push; channel = walk.channel } in

@@ -16,7 +16,7 @@ PassesAt p port number clock =
     (c : ℕ) → c ≤ last_clock p → nat_lt number (moved_before p port.side port.channel c) ≡ nat_lt clock c
 
 -- a walk is at a clock: it knows how many elements passed the port before, and in which clock the next one does
-pub record StandsAt (p : Plan) (port : Port) (clock : ℕ) (walk : PortWalk) : Type 0 where
+pub record WalkStandsAt (p : Plan) (port : Port) (clock : ℕ) (walk : PortWalk) : Type 0 where
   pub count : walk.count ≡ moved_before p port.side port.channel clock
   pub next : PassesAt p port walk.count walk.next
 
@@ -25,8 +25,8 @@ pub record IsFifoWalk (p : Plan) (walk : FifoWalk) : Type 0 where
   pub inside : walk.channel < length p.design.channels
   pub fifo : IsTrue (is_fifo (kind_at p walk.channel))
   pub within : walk.clock ≤ last_clock p
-  pub pops : StandsAt p (record { side = Pop; channel = walk.channel }) walk.clock walk.pops
-  pub pushes : StandsAt p (record { side = Push; channel = walk.channel }) walk.clock walk.pushes
+  pub pops : WalkStandsAt p (record { side = Pop; channel = walk.channel }) walk.clock walk.pops
+  pub pushes : WalkStandsAt p (record { side = Push; channel = walk.channel }) walk.clock walk.pushes
 
 -- the clock of the next pop or push of a walk
 abbrev pub next_of : FifoWalk → ℕ

@@ -6,7 +6,7 @@ ghost use Rattle.event_timing.specs.Actions.{IsFinal};
 ghost use Rattle.timing_bridge.specs.Designs.{design};
 ghost use Rattle.sim_core.specs.Views.{theory_of};
 ghost use Rattle.timelines.specs.Fills.{fill, last_clock};
-ghost use Rattle.port_clocks.specs.Walks.{next_of, PassesAt, StandsAt, IsFifoWalk};
+ghost use Rattle.port_clocks.specs.Walks.{next_of, PassesAt, WalkStandsAt, IsFifoWalk};
 
 use crate::reading::cycle_at;
 use flow_word::{Port, Side};
@@ -104,7 +104,7 @@ fn port_of(channel: u32, side: Side) -> Port
 fn first(core: &Core, channel: u32, side: Side) -> PortWalk
     requires is_final { IsFinal (design core.now.plan) core.now.plan.cycles (theory_of core.now) }
     requires channel { channel < length core.now.plan.design.channels }
-    ensures { StandsAt core.now.plan (record { side = side; channel = channel }) 0 result }
+    ensures { WalkStandsAt core.now.plan (record { side = side; channel = channel }) 0 result }
 {
     PortWalk {
         count: 0,
@@ -116,10 +116,10 @@ fn first(core: &Core, channel: u32, side: Side) -> PortWalk
 fn pass_port(core: &Core, port: Port, walk: PortWalk, clock: u64) -> PortWalk
     requires is_final { IsFinal (design core.now.plan) core.now.plan.cycles (theory_of core.now) }
     requires channel { port.channel < length core.now.plan.design.channels }
-    requires stands { StandsAt core.now.plan port clock walk }
+    requires stands { WalkStandsAt core.now.plan port clock walk }
     requires early { clock ≤ walk.next }
     requires within { clock < last_clock core.now.plan }
-    ensures { StandsAt core.now.plan port (clock + 1) result }
+    ensures { WalkStandsAt core.now.plan port (clock + 1) result }
 {
     core.agrees();
     if walk.next != clock {

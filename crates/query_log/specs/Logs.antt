@@ -29,12 +29,12 @@ abbrev pub IsSoundLog : Log → Type 0
 IsSoundLog log = log.verified ≤ length log.outcomes
 
 -- a log with one more outcome, verified
-abbrev pub answered : Log → Bool → Log
-answered log outcome = record { outcomes = log.outcomes ++ outcome ∷ []; verified = log.verified + 1 }
+abbrev pub verified_more : Log → Bool → Log
+verified_more log outcome = record { outcomes = log.outcomes ++ outcome ∷ []; verified = log.verified + 1 }
 
 -- the logs with one more outcome of a module, verified
 abbrev pub with_outcome : List Log → ℕ → Bool → List Log
-with_outcome logs owner outcome = slice_set logs owner (answered (log_at logs owner) outcome)
+with_outcome logs owner outcome = slice_set logs owner (verified_more (log_at logs owner) outcome)
 
 -- a log with these further outcomes, all verified
 abbrev pub all_answered : Log → List Bool → Log
@@ -49,13 +49,13 @@ abbrev pub with_verified : List Log → ℕ → ℕ → List Log
 with_verified logs owner verified = slice_set logs owner (record (log_at logs owner) { verified = verified })
 
 -- a log without its room
-abbrev pub log_of : RoomyLog → Log
-log_of roomy = record { outcomes = roomy.outcomes.items; verified = roomy.verified }
+abbrev pub bare_log : RoomyLog → Log
+bare_log roomy = record { outcomes = roomy.outcomes.items; verified = roomy.verified }
 
 -- the logs without their rooms
 abbrev pub logs_of : List RoomyLog → List Log
-logs_of logs = map log_of logs
+logs_of logs = map bare_log logs
 
 -- the rooms without their logs
-abbrev pub rooms_of : List RoomyLog → List ℕ
-rooms_of logs = map (λ l. l.outcomes.room) logs
+abbrev pub rooms_in_logs : List RoomyLog → List ℕ
+rooms_in_logs logs = map (λ l. l.outcomes.room) logs

@@ -22,11 +22,11 @@ impl Drop for QueryLog {
 
 impl Model for QueryLog {
     ghost use Rattle.std.specs.Prelude.{All};
-    ghost use Rattle.query_log.specs.Logs.{RoomedLogs, IsSoundLog, logs_of, rooms_of};
+    ghost use Rattle.query_log.specs.Logs.{RoomedLogs, IsSoundLog, logs_of, rooms_in_logs};
 
     ghost Value = { RoomedLogs };
 
-    ghost view = { λ q. record { logs = logs_of q.logs.items; rooms = rooms_of q.logs.items } };
+    ghost view = { λ q. record { logs = logs_of q.logs.items; rooms = rooms_in_logs q.logs.items } };
 
     ghost invariant = { λ q. All IsSoundLog (logs_of q.logs.items) };
 }

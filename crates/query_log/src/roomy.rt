@@ -1,6 +1,6 @@
 //! One module's log, with its room.
 ghost use Rattle.std.specs.Prelude.{◌≡◌, ◌+◌, ◌<◌, ◌≤◌, length};
-ghost use Rattle.query_log.specs.Logs.{no_log, answered, log_of};
+ghost use Rattle.query_log.specs.Logs.{no_log, verified_more, bare_log};
 
 use flow_word::RoomyList;
 use std::alloc::Global;
@@ -15,7 +15,7 @@ pub struct RoomyLog {
 impl RoomyLog {
     /// A log without an outcome. It takes no memory.
     pub fn new(alloc: Global) -> RoomyLog
-        ensures { log_of result ≡ no_log }
+        ensures { bare_log result ≡ no_log }
     {
         RoomyLog {
             outcomes: RoomyList::new(alloc),
@@ -27,7 +27,7 @@ impl RoomyLog {
     pub fn add(&mut self, yes: bool)
         requires room { 0 < self.old.outcomes.room }
         requires verified { self.old.verified ≡ length self.old.outcomes.items }
-        ensures log { log_of self.new ≡ answered (log_of self.old) yes }
+        ensures log { bare_log self.new ≡ verified_more (bare_log self.old) yes }
         ensures room { self.old.outcomes.room ≤ self.new.outcomes.room + 1 }
     {
         // There is room for it.

@@ -6,10 +6,10 @@ use Rattle.std.proofs.lemmas.List.{get_or_past, get_or_default, get_or-set_same,
 use Rattle.std.specs.Prelude.{slice_get}
 use Rattle.event_graph.specs.declared.candidate.Candidate.{Candidate}
 use Rattle.event_graph.specs.declared.candidate.Candidate.TheVariants.{At, Waits, Beyond, Nothing}
-use Rattle.query_resolve.specs.{Earliest.cycle_of, Earliest.IsEarliest, declared.rounds.First.First}
-use Rattle.query_resolve.specs.Firsts.{told, IsNoLater, IsBeaten, IsWinner, at_place, IsWonAt, AreWonBut, HasWinners}
+use Rattle.query_resolve.specs.{Earliest.determined_cycle, Earliest.IsEarliest, declared.rounds.First.First}
+use Rattle.query_resolve.specs.Firsts.{first_by, ComesFirst, IsBeaten, IsWinner, at_place, IsWonAt, AreWonBut, HasWinners}
 
-trans : (a b c : First) → IsNoLater a b → IsNoLater b c → IsNoLater a c
+trans : (a b c : First) → ComesFirst a b → ComesFirst b c → ComesFirst a c
 trans a b c (inl u) (inl v) = inl (omega arith)
 trans a b c (inl u) (inr (e, v)) = inl (omega arith)
 trans a b c (inr (d, u)) (inl v) = inl (omega arith)
@@ -46,22 +46,22 @@ module _ (candidates : List Candidate) (places : List (Option First)) (h : HasWi
   count = length candidates
 
   abbrev begun : List (Option First)
-  begun = set places (count + owner) (told owner a)
+  begun = set places (count + owner) (first_by owner a)
 
   -- only the winner of its first round may be another
   pub won_else : AreWonBut begun count ((count + owner) / 2)
   won_else j low high but =
       rw (
-        get_or-set_other places (count + owner) j (told owner a) None (λ e. omega arith),
-        get_or-set_other places (count + owner) (2 * j) (told owner a) None (λ e. but (omega arith)),
-        get_or-set_other places (count + owner) (2 * j + 1) (told owner a) None (λ e. but (omega arith)),
+        get_or-set_other places (count + owner) j (first_by owner a) None (λ e. omega arith),
+        get_or-set_other places (count + owner) (2 * j) (first_by owner a) None (λ e. but (omega arith)),
+        get_or-set_other places (count + owner) (2 * j + 1) (first_by owner a) None (λ e. but (omega arith)),
       ) (h.won j low high (omega arith))
 
   pub winners_set : (now : List (Option First)) → length now ≡ length begun
       → ((j : ℕ) → count ≤ j → at_place now j ≡ at_place begun j) → AreWonBut now count 0 → HasWinners (set candidates owner a) now
   winners_set now roomed begins won =
       let same = length-set candidates owner a in
-      let room = length-set places (count + owner) (told owner a) in
+      let room = length-set places (count + owner) (first_by owner a) in
       let all = h.count in
       record {
         few = let few = h.few in omega arith;
@@ -71,16 +71,16 @@ module _ (candidates : List Candidate) (places : List (Option First)) (h : HasWi
         won = subst (λ (k : ℕ). AreWonBut now k 0) (sym same) won;
       }
     where
-      began : (n : ℕ) → n < count → at_place begun (count + n) ≡ told n (get_or (set candidates owner a) n Nothing)
+      began : (n : ℕ) → n < count → at_place begun (count + n) ≡ first_by n (get_or (set candidates owner a) n Nothing)
       began n l =
           elim (cases_eq n owner) [
             | inl e ↦
                 let all = h.count in
                 rw (e, get_or-set_same candidates owner a Nothing inside)
-                (get_or-set_same places (count + owner) (told owner a) None (omega arith))
+                (get_or-set_same places (count + owner) (first_by owner a) None (omega arith))
             | inr other ↦
-                get_or-set_other places (count + owner) (count + n) (told owner a) None (λ e. other (omega arith)) ∙ h.begins n l
-                ∙ ap (told n) (sym (get_or-set_other candidates owner n a Nothing other))
+                get_or-set_other places (count + owner) (count + n) (first_by owner a) None (λ e. other (omega arith)) ∙ h.begins n l
+                ∙ ap (first_by n) (sym (get_or-set_other candidates owner n a Nothing other))
           ]
 
 -- ---- the winner of all
@@ -92,7 +92,7 @@ pub winners_new : (candidates : List Candidate) (places : List (Option First)) �
 winners_new candidates places few count nothing none = record {
   few = few;
   count = count;
-  begins = λ n l. none (length candidates + n) ∙ sym (ap (told n) (nothing n));
+  begins = λ n l. none (length candidates + n) ∙ sym (ap (first_by n) (nothing n));
   won = λ j low high but. record {
     is = inl (none j ∙ sym (none (2 * j)));
     beats_one = subst (λ (o : Option First). IsBeaten o (at_place places j)) (sym (none (2 * j))) tt;
@@ -103,7 +103,7 @@ winners_new candidates places few count nothing none = record {
 module _ (candidates : List Candidate) (places : List (Option First)) (h : HasWinners candidates places) where
   -- who stands at a place is beaten at place 1
   beaten : (most j : ℕ) → j ≤ most → 1 ≤ j → j < 2 * length candidates → (b : First) → at_place places j ≡ Some b
-      → (a : First) × ((at_place places 1 ≡ Some a) × IsNoLater a b)
+      → (a : First) × ((at_place places 1 ≡ Some a) × ComesFirst a b)
   beaten zero j l low high b e = absurd (omega (arith, l, low))
   beaten (suc most) j l low high b e =
       elim (cases_eq j 1) [
@@ -120,7 +120,7 @@ module _ (candidates : List Candidate) (places : List (Option First)) (h : HasWi
         | inr d ↦ inr (omega arith)
       ]
 
-      above : 2 ≤ j → (c : First) × ((at_place places (j / 2) ≡ Some c) × IsNoLater c b)
+      above : 2 ≤ j → (c : First) × ((at_place places (j / 2) ≡ Some c) × ComesFirst c b)
       above two =
           let won = h.won (j / 2) (omega (arith, two)) (omega (arith, high)) (omega (arith, two)) in
           elim one_of [
@@ -130,7 +130,7 @@ module _ (candidates : List Candidate) (places : List (Option First)) (h : HasWi
                 subst (λ (o : Option First). IsBeaten o (at_place places (j / 2))) (ap (at_place places) (sym d) ∙ e) won.beats_other
           ]
 
-  has_told : (n : ℕ) (b : First) (c : Candidate) → told n c ≡ Some b → (c ≡ At b.cycle) × (b.owner ≡ n)
+  has_told : (n : ℕ) (b : First) (c : Candidate) → first_by n c ≡ Some b → (c ≡ At b.cycle) × (b.owner ≡ n)
   has_told n b (At cycle) e =
       let same : record { cycle = cycle; owner = n } ≡ b = cc in
       (ap At (ap (λ (f : First). f.cycle) same), sym (ap (λ (f : First). f.owner) same))
@@ -171,21 +171,22 @@ module _ (candidates : List Candidate) (places : List (Option First)) (h : HasWi
 
   -- a module with a cycle is beaten by the winner
   beats : (n cycle : ℕ) → get_or candidates n Nothing ≡ At cycle
-      → (a : First) × ((at_place places 1 ≡ Some a) × IsNoLater a (record { cycle = cycle; owner = n }))
+      → (a : First) × ((at_place places 1 ≡ Some a) × ComesFirst a (record { cycle = cycle; owner = n }))
   beats n cycle at =
       let l = at_inside n cycle at in
       beaten (length candidates + n) (length candidates + n) (omega arith) (omega (arith, l)) (omega (arith, l))
-      (record { cycle = cycle; owner = n }) (h.begins n l ∙ ap (told n) at)
+      (record { cycle = cycle; owner = n }) (h.begins n l ∙ ap (first_by n) at)
 
-  pub none_at_all : at_place places 1 ≡ None → (k : ℕ) (d : Candidate) → k < length candidates → cycle_of (get_or candidates k d) ≡ None
+  pub none_at_all : at_place places 1 ≡ None → (k : ℕ) (d : Candidate) → k < length candidates
+      → determined_cycle (get_or candidates k d) ≡ None
   none_at_all none k d l =
-      ap cycle_of (get_or_default candidates k d Nothing l)
+      ap determined_cycle (get_or_default candidates k d Nothing l)
       ∙ by (get_or candidates k Nothing) (λ other at. let (a, (top, less)) = beats k other at in no_one a (sym none ∙ top))
     where
       no_one : (a : First) → None ≡ Some a → ⊥
       no_one a e = cc
 
-      by : (c : Candidate) → ((other : ℕ) → c ≡ At other → ⊥) → cycle_of c ≡ None
+      by : (c : Candidate) → ((other : ℕ) → c ≡ At other → ⊥) → determined_cycle c ≡ None
       by (At other) f = absurd (f other refl)
       by (Waits i) f = refl
       by Beyond f = refl
@@ -193,11 +194,11 @@ module _ (candidates : List Candidate) (places : List (Option First)) (h : HasWi
 
   -- where there is a winner, some module has a cycle
   pub some_one : (b : First) → 1 < length places → at_place places 1 ≡ Some b
-      → ((k : ℕ) (d : Candidate) → k < length candidates → cycle_of (get_or candidates k d) ≡ None) → ⊥
+      → ((k : ℕ) (d : Candidate) → k < length candidates → determined_cycle (get_or candidates k d) ≡ None) → ⊥
   some_one b some top none =
       let all = h.count in
       let (inside, here) = real (2 * length candidates) 1 (omega arith) (omega arith) (omega (arith, some, all)) b top in
-      no_cycle (sym (none b.owner Nothing inside) ∙ ap cycle_of here)
+      no_cycle (sym (none b.owner Nothing inside) ∙ ap determined_cycle here)
     where
       no_cycle : None ≡ Some b.cycle → ⊥
       no_cycle e = cc
@@ -219,10 +220,10 @@ module _ (candidates : List Candidate) (places : List (Option First)) (h : HasWi
       is_one : (a : First) → Some b ≡ Some a → b ≡ a
       is_one a e = cc
 
-      later_cycle : (n other : ℕ) (a : First) → b ≡ a → IsNoLater a (record { cycle = other; owner = n }) → b.cycle ≤ other
+      later_cycle : (n other : ℕ) (a : First) → b ≡ a → ComesFirst a (record { cycle = other; owner = n }) → b.cycle ≤ other
       later_cycle n other a e (inl less) = let c = ap (λ (f : First). f.cycle) e in omega arith
       later_cycle n other a e (inr (same, lower)) = let c = ap (λ (f : First). f.cycle) e in omega arith
 
-      lower_owner : (n : ℕ) (a : First) → b ≡ a → IsNoLater a (record { cycle = b.cycle; owner = n }) → b.owner ≤ n
+      lower_owner : (n : ℕ) (a : First) → b ≡ a → ComesFirst a (record { cycle = b.cycle; owner = n }) → b.owner ≤ n
       lower_owner n a e (inl less) = let c = ap (λ (f : First). f.cycle) e in absurd (omega arith)
       lower_owner n a e (inr (same, lower)) = let c = ap (λ (f : First). f.owner) e in omega arith

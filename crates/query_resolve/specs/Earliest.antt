@@ -4,11 +4,11 @@ use Rattle.event_graph.specs.declared.candidate.Candidate.{Candidate}
 use Rattle.event_graph.specs.declared.candidate.Candidate.TheVariants.{At, Waits, Beyond, Nothing}
 
 -- the cycle of a candidate, if it is determined and below the limit
-abbrev pub cycle_of : Candidate → Option ℕ
-cycle_of (At cycle) = Some cycle
-cycle_of (Waits i) = None
-cycle_of Beyond = None
-cycle_of Nothing = None
+abbrev pub determined_cycle : Candidate → Option ℕ
+determined_cycle (At cycle) = Some cycle
+determined_cycle (Waits i) = None
+determined_cycle Beyond = None
+determined_cycle Nothing = None
 
 -- module m's candidate has this cycle; no other candidate has a lesser one, and none of a lower module the same
 pub record IsEarliest (candidates : List Candidate) (m cycle : ℕ) : Type 0 where

@@ -5,20 +5,20 @@ use Rattle.event_graph.specs.declared.candidate.Candidate.TheVariants.{At, Waits
 use Rattle.query_resolve.specs.declared.rounds.First.{First}
 
 -- what module n has, by its candidate
-abbrev pub told : ℕ → Candidate → Option First
-told n (At cycle) = Some (record { cycle = cycle; owner = n })
-told n (Waits i) = None
-told n Beyond = None
-told n Nothing = None
+abbrev pub first_by : ℕ → Candidate → Option First
+first_by n (At cycle) = Some (record { cycle = cycle; owner = n })
+first_by n (Waits i) = None
+first_by n Beyond = None
+first_by n Nothing = None
 
 -- the first one is no later: its cycle is less, or the same and its module no higher
-abbrev pub IsNoLater : First → First → Type 0
-IsNoLater a b = (a.cycle < b.cycle) ⊎ ((a.cycle ≡ b.cycle) × (a.owner ≤ b.owner))
+abbrev pub ComesFirst : First → First → Type 0
+ComesFirst a b = (a.cycle < b.cycle) ⊎ ((a.cycle ≡ b.cycle) × (a.owner ≤ b.owner))
 
 -- where there is one, it is beaten by this
 abbrev pub IsBeaten : Option First → Option First → Type 0
 IsBeaten None winner = Unit {0}
-IsBeaten (Some b) winner = (a : First) × ((winner ≡ Some a) × IsNoLater a b)
+IsBeaten (Some b) winner = (a : First) × ((winner ≡ Some a) × ComesFirst a b)
 
 -- the winner of two
 pub record IsWinner (one other winner : Option First) : Type 0 where
@@ -43,5 +43,5 @@ pub record HasWinners (candidates : List Candidate) (places : List (Option First
   pub few : length candidates < 2 ^ 32
   pub count : length places ≡ 2 * length candidates
   pub begins : (n : ℕ) → n < length candidates
-      → at_place places (length candidates + n) ≡ told n (slice_index_or candidates n Nothing)
+      → at_place places (length candidates + n) ≡ first_by n (slice_index_or candidates n Nothing)
   pub won : AreWonBut places (length candidates) 0

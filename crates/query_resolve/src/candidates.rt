@@ -1,6 +1,6 @@
 //! A list of candidates that tells the first of the least.
 ghost use Rattle.std.specs.Prelude.{◌≡◌, ◌<◌, ◌↔◌, ℕ, length, slice_set, All, None, IfOk, IfSome, IsNone};
-ghost use Rattle.query_resolve.specs.Earliest.{cycle_of, IsEarliest};
+ghost use Rattle.query_resolve.specs.Earliest.{determined_cycle, IsEarliest};
 
 use crate::rounds::{First, find_winners, told};
 use event_graph::Candidate;
@@ -59,7 +59,7 @@ impl CandidateList {
     /// The first module with the least cycle, and that cycle. None where no candidate has a cycle. It takes no memory.
     pub fn earliest(&self) -> Option<(u32, u64)>
         ensures some { IfSome result (λ found. IsEarliest self.now found.0 found.1) }
-        ensures none { IsNone result ↔ All (λ candidate. cycle_of candidate ≡ None) self.now }
+        ensures none { IsNone result ↔ All (λ candidate. determined_cycle candidate ≡ None) self.now }
     {
         if self.places.len() < 2 {
             return None;

@@ -1,6 +1,6 @@
 //! The first module with the least cycle.
 ghost use Rattle.std.specs.Prelude.{◌≡◌, ◌<◌, ◌^◌, ◌↔◌, length, All, None, IsNone, IfSome};
-ghost use Rattle.query_resolve.specs.Earliest.{cycle_of, IsEarliest};
+ghost use Rattle.query_resolve.specs.Earliest.{determined_cycle, IsEarliest};
 
 use event_graph::Candidate;
 
@@ -9,7 +9,7 @@ use event_graph::Candidate;
 pub fn earliest(candidates: &[Candidate]) -> Option<(u32, u64)>
     requires { length candidates.now < 2 ^ 32 }
     ensures some { IfSome result (λ found. IsEarliest candidates.now found.0 found.1) }
-    ensures none { IsNone result ↔ All (λ candidate. cycle_of candidate ≡ None) candidates.now }
+    ensures none { IsNone result ↔ All (λ candidate. determined_cycle candidate ≡ None) candidates.now }
 {
     let mut first: Option<(u32, u64)> = None;
     for (owner, candidate) in candidates.iter().enumerate() {

@@ -1,6 +1,6 @@
 //! The first of the least among some candidates.
 ghost use Rattle.std.specs.Prelude.{◌≡◌, ◌*◌, ◌<◌, ◌≤◌, ℕ, length};
-ghost use Rattle.query_resolve.specs.Firsts.{AreWonBut, IsWinner, at_place, told};
+ghost use Rattle.query_resolve.specs.Firsts.{AreWonBut, IsWinner, at_place, first_by};
 
 use event_graph::Candidate;
 
@@ -13,7 +13,7 @@ pub(crate) struct First {
 
 /// A module with the cycle of its candidate. `None` where the candidate has none.
 pub(crate) fn told(owner: u32, candidate: Candidate) -> Option<First>
-    ensures { result ≡ told owner candidate }
+    ensures { result ≡ first_by owner candidate }
 {
     match candidate {
         Candidate::At(cycle) => Some(First { cycle, owner }),

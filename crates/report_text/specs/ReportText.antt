@@ -6,9 +6,10 @@ use Rattle.flow_word.specs.{declared.access.Side.Side, declared.access.Kind.Kind
 use Rattle.flow_word.specs.declared.access.Side.TheVariants.{Pop, Push}
 use Rattle.flow_word.specs.declared.access.Kind.TheVariants.{Read, Write, TryRead, TryWrite, Empty, Full}
 use Rattle.flow_design.specs.{declared.design.Channel.Channel, declared.design.Design.Design, declared.report.Verdict.Verdict}
-use Rattle.flow_design.specs.{declared.report.Held.Held, declared.report.EventLine.EventLine, declared.report.Report.Report, Plans.is_sink}
+use Rattle.flow_design.specs.{declared.report.Held.Held, declared.report.Report.Report, Plans.is_sink, Names.Token}
+use Rattle.flow_design.specs.declared.report.EventLine.{EventLine}
 use Rattle.flow_design.specs.declared.report.Verdict.TheVariants.{Done, Deadlock, Cycles, Ops}
-use Rattle.report_text.specs.Lines.{Token, text_of_lines, verdict_tokens}
+use Rattle.report_text.specs.Lines.{text_of_lines, verdict_tokens}
 
 -- the names of the sinks, in order of declaration
 abbrev pub sink_names : List Channel → List Token

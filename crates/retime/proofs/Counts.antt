@@ -4,9 +4,9 @@ use Rattle.std.proofs.{Math.Seq.map-set_same, Math.ListN.get_or-map, lemmas.List
 use Rattle.std.proofs.lemmas.List.Sums.{sum_by-set, sum_by-cons}
 use Rattle.std.specs.{Prelude.All, List.sum_by}
 use Rattle.flow_word.specs.declared.access.Step.{Step}
-use Rattle.event_graph.specs.Lanes.{Lane, IsSoundLane, no_lane, lane_at, timed, timed_below}
+use Rattle.event_graph.specs.Lanes.{Lane, IsSoundLane, no_lane, lane_at, lane_with_cycle, timed_below}
 use Rattle.engine_view.specs.{declared.turn.Timing.Timing, declared.turn.Timing.TheVariants.Assigned, Turns.lanes_behind, Turns.ticks_of}
-use Rattle.retime.specs.Rounds.{only_steps, cycles_in, steps_in}
+use Rattle.retime.specs.Rounds.{only_steps, cycles_in, steps_in_lanes}
 
 -- ---- lanes with the same steps
 
@@ -22,13 +22,13 @@ same_steps old new e m =
 -- ---- behind a turn
 
 pub steps_behind : (t : Timing) (m : ℕ) (old new : List Lane) → new ≡ lanes_behind t m old → only_steps new ≡ only_steps old
-steps_behind (Assigned c) m old new e = rw e (map-set_same (λ (l : Lane). l.steps) old m (timed (lane_at old m) c) no_lane refl)
+steps_behind (Assigned c) m old new e = rw e (map-set_same (λ (l : Lane). l.steps) old m (lane_with_cycle (lane_at old m) c) no_lane refl)
 steps_behind t m old new e = rw e refl
 
 cycles_behind : (t : Timing) (m : ℕ) (lanes : List Lane) → m < length lanes
     → cycles_in (lanes_behind t m lanes) ≡ cycles_in lanes + ticks_of t
 cycles_behind (Assigned c) m lanes l =
-    let all = sum_by-set (λ (q : Lane). length q.cycles) lanes m (timed (lane_at lanes m) c) no_lane l in
+    let all = sum_by-set (λ (q : Lane). length q.cycles) lanes m (lane_with_cycle (lane_at lanes m) c) no_lane l in
     let one = length-append (lane_at lanes m).cycles (c ∷ []) in
     omega arith
 cycles_behind t m lanes l = omega arith
@@ -55,7 +55,7 @@ sum_map f g [] = refl
 sum_map f g (x ∷ xs) =
     sum_by-cons f (g x) (map g xs) ∙ (ap (λ (n : ℕ). f (g x) + n) (sum_map f g xs) ∙ sym (sum_by-cons (λ y. f (g y)) x xs))
 
-pub cycles_within : (lanes : List Lane) → All IsSoundLane lanes → cycles_in lanes ≤ steps_in lanes
+pub cycles_within : (lanes : List Lane) → All IsSoundLane lanes → cycles_in lanes ≤ steps_in_lanes lanes
 cycles_within [] s = omega arith
 cycles_within (l ∷ lanes) s =
     let here : IsSoundLane l = s 0 l (omega arith) in
@@ -67,7 +67,7 @@ cycles_within (l ∷ lanes) s =
 
 -- where each tick is a cycle more, there are no more ticks than there are steps beside those whose cycles were kept
 pub few_cycles : (old new : List Lane) → All IsSoundLane new → only_steps new ≡ only_steps old → (after before kept : ℕ)
-    → after + kept ≡ before + cycles_in new → after + kept ≤ before + steps_in old
+    → after + kept ≡ before + cycles_in new → after + kept ≤ before + steps_in_lanes old
 few_cycles old new s e after before kept t =
     let within = cycles_within new s in
     let count = λ (q : List Step). length q in

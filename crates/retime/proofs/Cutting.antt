@@ -15,7 +15,7 @@ use Rattle.engine_view.specs.Held.{Held, no_step, emitted_of, core_of}
 use Rattle.engine_view.specs.{Shown.queries_before, Edited.IsCut, Rooms.IsRoomy, Rooms.room_of, declared.engine.Engine.Engine}
 use Rattle.engine_view.specs.{Engines.held_in, Kept.IsKept, Kept.IsNow, Turns.IsSomeCore, Turns.KeepsRoom}
 use Rattle.engine_view.proofs.{Answered.steps_only, Emitted.queries_mono, Edited.timed_kept, Keeping.cut_now, Keeping.room_cut}
-use Rattle.retime.specs.{Rounds.LeadsAll, Rounds.HasGone, Rounds.IsAtEnd, Touched.IsEditIn}
+use Rattle.retime.specs.{Rounds.LeadsAll, Rounds.HasGone, Rounds.HasEndedForEach, Touched.IsEditIn}
 use Rattle.retime.specs.Cuts.{AreAssumed, AreNumbered, IsCutBack, assumed, only_lanes, timed_queries, HasRetimed, KeepsRoomEdited}
 use Rattle.retime.proofs.Filling.{rising_of}
 
@@ -116,7 +116,7 @@ module _ (s t : Engine) (edit : Edit) (clock : ℕ) (cut : IsCutBack s t edit cl
       (edited d edit.channel edit.depth, over, edited_design d over i k, (cut_core d over i k).kept, cut_room d over i k r)
 
   -- the rounds from there are a retiming
-  pub retimed : (last : Engine) (guard : Guard) (limit : ℕ) → HasGone limit t last → IsAtEnd guard limit last
+  pub retimed : (last : Engine) (guard : Guard) (limit : ℕ) → HasGone limit t last → HasEndedForEach guard limit last
       → HasRetimed guard edit clock limit s last
   retimed last guard limit acts ended d over i k =
       let now = cut_core d over i k in

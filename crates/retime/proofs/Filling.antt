@@ -10,7 +10,7 @@ use Rattle.flow_word.specs.{declared.access.Place.Place, declared.access.Side.Si
 use Rattle.flow_word.specs.declared.access.Side.TheVariants.{Pop, Push}
 use Rattle.event_graph.specs.Lanes.{Lane, IsSoundLane, no_lane, lane_at, cycle_of, cycle_bound}
 use Rattle.fifo_table.specs.Channels.{Channel, depth_of, places_of}
-use Rattle.retime.specs.Touched.{is_before, timed_before, held_at, clock_at, AreInOrder, IsFirstTouched, IsNeverTouched}
+use Rattle.retime.specs.Touched.{is_cycle_before, timed_before, held_elements, clock_at, ArePlacesInOrder, IsFirstTouched, IsNeverTouched}
 
 -- each clock is later than the one before
 abbrev pub IsRising : List Lane → List Place → Type 0
@@ -43,7 +43,7 @@ earlier xs r i j v l e =
     let w = get_or_from_slice_get xs j v 0 e in
     (get_or xs i 0, slice_get-get_or xs i 0 (omega arith), subst (λ (q : ℕ). get_or xs i 0 < q) w a)
 
-pub order_rises : (lanes : List Lane) (places : List Place) → All IsSoundLane lanes → AreInOrder places → IsRising lanes places
+pub order_rises : (lanes : List Lane) (places : List Place) → All IsSoundLane lanes → ArePlacesInOrder places → IsRising lanes places
 order_rises lanes places sound order i j v l e =
     let n = clock_within lanes places j v e in
     let q = get_or places j first in
@@ -65,18 +65,18 @@ rising_tail lanes p places r i j v l e = r (suc i) (suc j) v (omega arith) e
 
 -- ---- how many are before a clock
 
-some_before : (c : ℕ) (o : Option ℕ) (v : ℕ) → o ≡ Some v → v < c → is_before c o ≡ true
+some_before : (c : ℕ) (o : Option ℕ) (v : ℕ) → o ≡ Some v → v < c → is_cycle_before c o ≡ true
 some_before c o v e l = grind (arith, nat_tests)
 
-before_some : (c : ℕ) (o : Option ℕ) → is_before c o ≡ true → (v : ℕ) × (o ≡ Some v) × (v < c)
+before_some : (c : ℕ) (o : Option ℕ) → is_cycle_before c o ≡ true → (v : ℕ) × (o ≡ Some v) × (v < c)
 before_some c None b = cc
 before_some c (Some u) b = (u, refl, ltb-true u c b)
 
-counted : (lanes : List Lane) (p : Place) (places : List Place) (c : ℕ) → is_before c (cycle_of lanes p) ≡ true
+counted : (lanes : List Lane) (p : Place) (places : List Place) (c : ℕ) → is_cycle_before c (cycle_of lanes p) ≡ true
     → timed_before lanes (p ∷ places) c ≡ suc (timed_before lanes places c)
 counted lanes p places c b = rw b refl
 
-skipped : (lanes : List Lane) (p : Place) (places : List Place) (c : ℕ) → is_before c (cycle_of lanes p) ≡ false
+skipped : (lanes : List Lane) (p : Place) (places : List Place) (c : ℕ) → is_cycle_before c (cycle_of lanes p) ≡ false
     → timed_before lanes (p ∷ places) c ≡ timed_before lanes places c
 skipped lanes p places c b = rw b refl
 
@@ -96,7 +96,7 @@ pub before_less : (lanes : List Lane) (places : List Place) (c : ℕ) → IsRisi
     → (v : ℕ) × (clock_at lanes places i ≡ Some v) × (v < c)
 before_less lanes [] c r i l = absurd (omega arith)
 before_less lanes (p ∷ places) c r zero l =
-    elim (cases_Bool (is_before c (cycle_of lanes p))) [
+    elim (cases_Bool (is_cycle_before c (cycle_of lanes p))) [
       | inl b ↦ before_some c (cycle_of lanes p) b
       | inr b ↦
           let n = skipped lanes p places c b in
@@ -112,7 +112,7 @@ before_less lanes (p ∷ places) c r (suc i) l =
 
 -- ---- no more pushes have a cycle than there are cycles
 
-step_at_least : (places : List Place) → AreInOrder places → (i : ℕ) (e : Place) → i < length places → i ≤ (get_or places i e).step
+step_at_least : (places : List Place) → ArePlacesInOrder places → (i : ℕ) (e : Place) → i < length places → i ≤ (get_or places i e).step
 step_at_least places order zero e l = omega arith
 step_at_least places order (suc i) e l =
     let a = step_at_least places order i e (omega arith) in
@@ -135,7 +135,7 @@ below_bound lanes sound m i v e =
     let is = get_or_from_slice_get (lane_at lanes m).cycles i v 0 e in
     omega arith
 
-pub few_clocks : (lanes : List Lane) (places : List Place) → All IsSoundLane lanes → AreInOrder places → (i v : ℕ)
+pub few_clocks : (lanes : List Lane) (places : List Place) → All IsSoundLane lanes → ArePlacesInOrder places → (i v : ℕ)
     → clock_at lanes places i ≡ Some v → i < cycle_bound
 few_clocks lanes places sound order i v e =
     let n = clock_within lanes places i v e in
@@ -164,7 +164,7 @@ pub record IsFullBefore (lanes : List Lane) (channel : Channel) (full n : ℕ) :
       × (clock_at lanes (places_of Pop channel) (o - full) ≡ Some w) × (w ≤ v)
 
 pub none_yet : (lanes : List Lane) (channel : Channel) (full n : ℕ) → All IsSoundLane lanes
-    → ((side : Side) → AreInOrder (places_of side channel)) → 1 ≤ full → n ≡ full → IsFullBefore lanes channel full n
+    → ((side : Side) → ArePlacesInOrder (places_of side channel)) → 1 ≤ full → n ≡ full → IsFullBefore lanes channel full n
 none_yet lanes channel full n sound order some e = record {
   pushes = order_rises lanes (places_of Push channel) sound (order Push);
   pops = order_rises lanes (places_of Pop channel) sound (order Pop);
@@ -180,7 +180,7 @@ same_clock o u v e f = let s : Some u ≡ Some v = sym e ∙ f in cc
 module _ (lanes : List Lane) (channel : Channel) (full n : ℕ) (inv : IsFullBefore lanes channel full n) where
   -- with fewer pushes than n it holds fewer
   holds_fewer : (c : ℕ) → timed_before lanes (places_of Push channel) c < n
-      → held_at lanes channel c < full
+      → held_elements lanes channel c < full
   holds_fewer c l =
       elim (cases_lt (timed_before lanes (places_of Push channel) c) full) [
         | inl u ↦ omega arith
@@ -212,7 +212,7 @@ module _ (lanes : List Lane) (channel : Channel) (full n : ℕ) (inv : IsFullBef
 
   -- where that pop was not before the push nor in its clock, the FIFO holds so many in the clock behind it
   holds : (v : ℕ) → full ≤ n → clock_at lanes (places_of Push channel) (n - 1) ≡ Some v
-      → ((w : ℕ) → clock_at lanes (places_of Pop channel) (n - full) ≡ Some w → v < w) → held_at lanes channel (v + 1) ≡ full
+      → ((w : ℕ) → clock_at lanes (places_of Pop channel) (n - full) ≡ Some w → v < w) → held_elements lanes channel (v + 1) ≡ full
   holds v l e later =
       let b = as_many v (omega (arith, inv.some)) e in
       let past = before_less lanes (places_of Pop channel) (v + 1) inv.pops (n - full) in
@@ -280,8 +280,8 @@ pub all_before : (lanes : List Lane) (places : List Place) (c n : ℕ) → lengt
 all_before lanes places c n l = omega (
   arith,
   l,
-  length-filter (λ p. is_before c (cycle_of lanes p)) places,
-  count_by-le-length (λ p. is_before c (cycle_of lanes p)) places,
+  length-filter (λ p. is_cycle_before c (cycle_of lanes p)) places,
+  count_by-le-length (λ p. is_cycle_before c (cycle_of lanes p)) places,
 )
 
 pub bound_is : cycle_bound ≡ 1000000000000000

@@ -3,14 +3,15 @@ use Rattle.std.proofs.Common.{◌≡◌, refl, sym, subst, ◌∙◌, ℕ, ◌+�
 use Rattle.std.proofs.{lemmas.Bool.cases_lt, lemmas.List.get_or_past}
 use Rattle.event_graph.specs.Lanes.{no_lane}
 use Rattle.outcome_guard.specs.declared.guard.Guard.TheVariants.{Same}
-use Rattle.event_timing.specs.{Machines.Design, Enablers.candidate, Core.Core, Core.view, Actions.Action, Actions.Acts, Actions.ActsAll}
+use Rattle.event_timing.specs.{Machines.Design, Enablers.candidate, Core.Core, Core.view}
+use Rattle.event_timing.specs.Actions.{Action, Acts, ActsAll, AreTimings}
 use Rattle.event_timing.specs.Actions.Action.{Run, Assign, Answer, Earliest}
 use Rattle.engine_view.specs.{declared.engine.Engine.Engine, declared.turn.Timing.Timing, Held.Held, Held.core_of, Engines.held_in}
 use Rattle.engine_view.specs.{Cursors.CursorView, Cursors.IsNext, Cursors.IsPassed, Cursors.AreIdle, Taking.kinds_in, Kept.IsKept}
 use Rattle.engine_view.specs.declared.turn.Timing.TheVariants.{Assigned, Answered, Differs, Nothing}
 use Rattle.engine_view.specs.Turns.{IsIdle, IsSomeCore, HasTimed, KeepsRoom, Leads, OfEach, lanes_behind, ticks_of}
 use Rattle.engine_view.proofs.Cursors.{idle_more}
-use Rattle.retime.specs.Rounds.{AreTimings, HasGone, IsAtEnd, only_steps, cycles_in}
+use Rattle.retime.specs.Rounds.{HasGone, HasEndedForEach, only_steps, cycles_in}
 use Rattle.retime.proofs.Counts.{same_length, steps_behind, ticks_behind}
 
 -- ---- one action more
@@ -129,7 +130,7 @@ idle_outside {S} d limit h m l = record {
 -- where all were passed nothing is left
 pub all_idle : {limit : ℕ} {first now : Engine} {before ticks : ℕ} (cursor : CursorView) → HasTurned limit first now before ticks
     → cursor.count ≡ length first.graph.lanes → ((m : ℕ) → m < cursor.count → IsPassed cursor m) → AreIdle (IsIdleIn limit now) cursor
-    → IsAtEnd Same limit now
+    → HasEndedForEach Same limit now
 all_idle {limit} {first} {now} cursor so_far counted all idle d over y k m =
     let count = same_length first.graph.lanes now.graph.lanes so_far.steps in
     elim (cases_lt m (length now.graph.lanes)) [

@@ -2,10 +2,10 @@
 use Rattle.std.proofs.Common.{◌≡◌, refl, sym, ◌∙◌, ℕ, ◌⊎◌, inl, inr, true, false, List, [], ◌∷◌, arith}
 use Rattle.std.proofs.{lemmas.Bool.cases_Bool, lemmas.Bool.Decides.eqb_tells}
 use Rattle.event_timing.specs.{Machines.Design, Machines.IsDesign, Histories.Trace, Histories.IsHistory, Core.Core, Agreement.IsAgreed}
-use Rattle.event_timing.specs.Actions.{Action, ActsAll, IsSame, after_assign, after_answer, new_flags}
+use Rattle.event_timing.specs.Actions.{Action, ActsAll, IsSame, after_assign, after_answer, new_flags, AreTimings}
 use Rattle.event_timing.specs.Actions.Action.{Run, Assign, Answer, Earliest}
 use Rattle.event_timing.proofs.{Agreement.acts_agree, Assigning.put_at_same, Assigning.put_at_other}
-use Rattle.retime.specs.{Edits.AreVerified, Edits.RecordGrows, Rounds.AreTimings}
+use Rattle.retime.specs.Edits.{AreVerified, RecordGrows}
 
 grows_not : {S : Type 0} → (x : Core S) (m : ℕ) → RecordGrows x x m
 grows_not {S} x m = record { emitted = refl; answered = λ k e. e; flags = λ k e. refl; verified = λ k e. e; ends = inl (λ k. refl) }

@@ -15,7 +15,7 @@ use Rattle.event_timing.proofs.{Editing.kept_le, Editing.kept_below, Touched.kep
 use Rattle.event_timing.proofs.OwnRuns.{tally_mono, tally_more}
 use Rattle.engine_view.specs.{Held.Held, Held.core_of, Shown.IsSound, Shown.IsKind, Shown.AreTaken}
 use Rattle.engine_view.proofs.Knowing.{timed_within}
-use Rattle.retime.specs.Touched.{is_before, timed_before, held_at, AreInOrder, IsFirstTouched, IsNeverTouched}
+use Rattle.retime.specs.Touched.{is_cycle_before, timed_before, held_elements, ArePlacesInOrder, IsFirstTouched, IsNeverTouched}
 use Rattle.retime.proofs.Filling.{rising_of}
 
 -- ---- counts
@@ -40,13 +40,13 @@ module _ {S : Type 0} (d : Design S) (h : Held) (shown : IsSound d h) where
   rises m j k l u = AllPairs-from_increasing (lane_at h.lanes m).cycles (rising_of h.lanes shown.sound_lanes m) j k 0 l u
 
   -- a step is before a clock where it is among the cycles that stay
-  stays : (m s c : ℕ) → s < kept (x.cycle m) c (x.timed m) → is_before c (slice_get (lane_at h.lanes m).cycles s) ≡ true
+  stays : (m s c : ℕ) → s < kept (x.cycle m) c (x.timed m) → is_cycle_before c (slice_get (lane_at h.lanes m).cycles s) ≡ true
   stays m s c l =
       let n = kept_le (x.cycle m) c (x.timed m) in
       let below = kept_below (x.cycle m) c (x.timed m) (rises m) s l in
       rw (slice_get-get_or (lane_at h.lanes m).cycles s 0 (omega arith)) (lt-ltb (x.cycle m s) c below)
 
-  goes : (m s c : ℕ) → kept (x.cycle m) c (x.timed m) ≤ s → is_before c (slice_get (lane_at h.lanes m).cycles s) ≡ false
+  goes : (m s c : ℕ) → kept (x.cycle m) c (x.timed m) ≤ s → is_cycle_before c (slice_get (lane_at h.lanes m).cycles s) ≡ false
   goes m s c l =
       elim (cases_lt s (x.timed m)) [
         | inl u ↦
@@ -77,7 +77,7 @@ module _ {S : Type 0} (d : Design S) (h : Held) (shown : IsSound d h) where
       let m = d.owner side c in
       let k = kept (x.cycle m) t (x.timed m) in
       let up = tally_mono (core_accesses d x m) (λ j. bare_replies (x.flags m j)) side c in
-      front_counts (λ (p : Place). is_before t (cycle_of h.lanes p)) places (core_tally d x m side c k) (most side c places taken t)
+      front_counts (λ (p : Place). is_cycle_before t (cycle_of h.lanes p)) places (core_tally d x m side c k) (most side c places taken t)
       (λ i e l.
       let at = taken.each i e (let w = most side c places taken t in omega arith) in
       let from = at.from in
@@ -92,7 +92,7 @@ module _ {S : Type 0} (d : Design S) (h : Held) (shown : IsSound d h) where
       rw at.owner (goes m (get_or places i e).step t past))
 
   -- their steps rise, since a step takes at most one
-  pub in_order : IsDesign d → (side : Side) (c : ℕ) (places : List Place) → AreTaken d x side c places → AreInOrder places
+  pub in_order : IsDesign d → (side : Side) (c : ℕ) (places : List Place) → AreTaken d x side c places → ArePlacesInOrder places
   in_order y side c places taken i j e l u =
       let m = d.owner side c in
       let a = taken.each i e (omega arith) in
@@ -108,14 +108,14 @@ module _ {S : Type 0} (d : Design S) (h : Held) (shown : IsSound d h) where
       (a.owner ∙ sym b.owner, grind arith)
 
 module _ {S : Type 0} (d : Design S) (h : Held) (s : IsSound d h) (c : ℕ) (inside : c < length h.channels) where
-  pub places_in_order : IsDesign d → (side : Side) → AreInOrder (places_of side (channel_at h.channels c))
+  pub places_in_order : IsDesign d → (side : Side) → ArePlacesInOrder (places_of side (channel_at h.channels c))
   places_in_order y side = in_order d h s y side c (places_of side (channel_at h.channels c)) (s.taken side c inside)
 
   count_is : (side : Side) (t : ℕ) → by_cycles d (core_of d h) side c t ≡ timed_before h.lanes (places_of side (channel_at h.channels c)) t
   count_is side t = sym (counts_are d h s side c (places_of side (channel_at h.channels c)) (s.taken side c inside) t)
 
   -- by the cycles that were given, the channel holds as much as the theory says
-  pub held_is : (t : ℕ) → held_by_cycles d (core_of d h) c t ≡ held_at h.lanes (channel_at h.channels c) t
+  pub held_is : (t : ℕ) → held_by_cycles d (core_of d h) c t ≡ held_elements h.lanes (channel_at h.channels c) t
   held_is t = ap₂ (λ (a b : ℕ). a - b) (count_is Push t) (count_is Pop t)
 
   start_of : (kind : TableChannel) → IsFifo kind → IsKind d c kind → d.start Push c ≡ depth_of kind
@@ -126,7 +126,7 @@ module _ {S : Type 0} (d : Design S) (h : Held) (s : IsSound d h) (c : ℕ) (ins
   start_is f = start_of (channel_at h.channels c).kind f (s.kinds c inside)
 
   full_then : (depth t : ℕ) → IsFifo (channel_at h.channels c).kind → held_by_cycles d (core_of d h) c t ≡ min (d.start Push c) depth
-      → held_at h.lanes (channel_at h.channels c) t ≡ min (depth_of (channel_at h.channels c).kind) depth
+      → held_elements h.lanes (channel_at h.channels c) t ≡ min (depth_of (channel_at h.channels c).kind) depth
   full_then depth t f e = sym (held_is t) ∙ (e ∙ ap (λ (n : ℕ). min n depth) (start_is f))
 
   -- before the first touched clock the theory's FIFO never holds so many

@@ -2,7 +2,7 @@
 use Rattle.std.specs.Prelude.{◌≡◌, ℕ, ◌<◌, ◌≤◌, min, List, [], length, map, slice_index, All}
 use Rattle.flow_design.specs.declared.plan.Edit.{Edit}
 use Rattle.event_graph.specs.Lanes.{Lane, IsSoundLane, lane_at, timed_below}
-use Rattle.fifo_table.specs.Channels.{with_depth}
+use Rattle.fifo_table.specs.Channels.{deepened_channels}
 use Rattle.query_log.specs.Logs.{Log, log_at}
 use Rattle.outcome_guard.specs.declared.guard.Guard.{Guard}
 use Rattle.event_timing.specs.Edits.{edited, after_edit}
@@ -38,7 +38,7 @@ pub record AreNumbered (lanes : List Lane) (logs : List Log) : Type 0 where
 pub record IsCutBack (old new : Engine) (edit : Edit) (clock : ℕ) : Type 0 where
   pub lanes : new.graph.lanes ≡ map (timed_below clock) old.graph.lanes
   pub sound : All IsSoundLane new.graph.lanes
-  pub channels : new.fifos.channels ≡ with_depth old.fifos.channels edit.channel edit.depth
+  pub channels : new.fifos.channels ≡ deepened_channels old.fifos.channels edit.channel edit.depth
   pub logs : AreAssumed new.graph.lanes old.log.logs new.log.logs (length old.log.logs)
   pub lane_rooms : (m : ℕ) → slice_index old.graph.rooms m ≤ slice_index new.graph.rooms m
   pub push_rooms : new.fifos.push_rooms ≡ old.fifos.push_rooms

@@ -3,18 +3,10 @@ use Rattle.std.specs.{Prelude.ℕ, Prelude.List, Prelude.[], Prelude.◌∷◌, 
 use Rattle.flow_word.specs.declared.access.Step.{Step}
 use Rattle.event_graph.specs.Lanes.{Lane}
 use Rattle.outcome_guard.specs.{declared.guard.Guard.Guard, declared.guard.Guard.TheVariants.Same, declared.guard.Guard.TheVariants.Differs}
-use Rattle.event_timing.specs.{Machines.Design, Core.Core, Actions.Action, Actions.ActsAll}
+use Rattle.event_timing.specs.{Machines.Design, Core.Core, Actions.Action, Actions.ActsAll, Actions.AreTimings}
 use Rattle.event_timing.specs.Actions.Action.{Run, Assign, Answer, Earliest}
 use Rattle.engine_view.specs.{Held.Held, Held.core_of, declared.engine.Engine.Engine, Engines.held_in, Kept.IsKept}
 use Rattle.engine_view.specs.Turns.{IsDifferent, IsIdle, OfEach}
-
--- each of these actions is an Assign or an Answer
-abbrev pub AreTimings : List Action → Type 0
-AreTimings [] = Unit {0}
-AreTimings (Run m ∷ rest) = ⊥
-AreTimings (Assign m ∷ rest) = AreTimings rest
-AreTimings (Answer m ∷ rest) = AreTimings rest
-AreTimings (Earliest m ∷ rest) = ⊥
 
 -- Assigns and Answers, each permitted, lead from a core x of the theory to one that is held
 pub record LeadsAll {S : Type 0} (d : Design S) (limit : ℕ) (x : Core S) (g : Held) : Type 0 where
@@ -32,8 +24,8 @@ HasEnded {S} (Differs q) d limit g = IsDifferent d limit g q.module q
 abbrev pub HasGone : ℕ → Engine → Engine → Type 0
 HasGone limit s t = OfEach s (λ d over. LeadsAll d limit (core_of d (held_in s over)) (held_in t over))
 
-abbrev pub IsAtEnd : Guard → ℕ → Engine → Type 0
-IsAtEnd guard limit t = OfEach t (λ d over. HasEnded guard d limit (held_in t over))
+abbrev pub HasEndedForEach : Guard → ℕ → Engine → Type 0
+HasEndedForEach guard limit t = OfEach t (λ d over. HasEnded guard d limit (held_in t over))
 
 -- the steps of all modules, without cycles
 abbrev pub only_steps : List Lane → List (List Step)
@@ -43,5 +35,5 @@ only_steps lanes = map (λ l. l.steps) lanes
 abbrev pub cycles_in : List Lane → ℕ
 cycles_in lanes = sum_by (λ l. length l.cycles) lanes
 
-abbrev pub steps_in : List Lane → ℕ
-steps_in lanes = sum_by (λ l. length l.steps) lanes
+abbrev pub steps_in_lanes : List Lane → ℕ
+steps_in_lanes lanes = sum_by (λ l. length l.steps) lanes

@@ -17,21 +17,21 @@ pub record IsEditIn (channels : List Channel) (e : Edit) : Type 0 where
   pub most : e.depth ≤ FIFO_DEPTH
 
 -- the cycle, if there is one, is before clock c
-abbrev pub is_before : ℕ → Option ℕ → Bool
-is_before c None = false
-is_before c (Some u) = nat_lt u c
+abbrev pub is_cycle_before : ℕ → Option ℕ → Bool
+is_cycle_before c None = false
+is_cycle_before c (Some u) = nat_lt u c
 
 -- how many of these places have a cycle before clock c
 abbrev pub timed_before : List Lane → List Place → ℕ → ℕ
-timed_before lanes places c = length (filter (λ p. is_before c (cycle_of lanes p)) places)
+timed_before lanes places c = length (filter (λ p. is_cycle_before c (cycle_of lanes p)) places)
 
 -- how many elements a channel holds in clock c, those in flight included, by the cycles that were given
-abbrev pub held_at : List Lane → Channel → ℕ → ℕ
-held_at lanes channel c = timed_before lanes (places_of Push channel) c - timed_before lanes (places_of Pop channel) c
+abbrev pub held_elements : List Lane → Channel → ℕ → ℕ
+held_elements lanes channel c = timed_before lanes (places_of Push channel) c - timed_before lanes (places_of Pop channel) c
 
 -- the places are of one module, and each is of a later step than the place before it
-abbrev pub AreInOrder : List Place → Type 0
-AreInOrder places = AllPairs (λ p q. (p.module ≡ q.module) × (p.step < q.step)) places
+abbrev pub ArePlacesInOrder : List Place → Type 0
+ArePlacesInOrder places = AllPairs (λ p q. (p.module ≡ q.module) × (p.step < q.step)) places
 
 -- the cycle of the i-th of these places, counted from 0; none where there is no such place or cycle
 abbrev pub clock_at : List Lane → List Place → ℕ → Option ℕ
@@ -49,10 +49,10 @@ clock_by lanes (enabler.Event place) = cycle_of lanes place
 pub record IsFirstTouched (lanes : List Lane) (channel : Channel) (depth t : ℕ) : Type 0 where
   pub changes : depth_of channel.kind ≡ depth → ⊥
   pub behind : (i u : ℕ) × (clock_at lanes (places_of Push channel) i ≡ Some u) × (t ≡ suc u)
-  pub reached : held_at lanes channel t ≡ min (depth_of channel.kind) depth
-  pub first : (c : ℕ) → c < t → held_at lanes channel c ≡ min (depth_of channel.kind) depth → ⊥
+  pub reached : held_elements lanes channel t ≡ min (depth_of channel.kind) depth
+  pub first : (c : ℕ) → c < t → held_elements lanes channel c ≡ min (depth_of channel.kind) depth → ⊥
 
 -- the depth stays the same, or in no clock does the FIFO hold as many elements as the lesser of both depths
 abbrev pub IsNeverTouched : List Lane → Channel → ℕ → Type 0
 IsNeverTouched lanes channel depth = (depth_of channel.kind ≡ depth)
-    ⊎ ((c : ℕ) → held_at lanes channel c ≡ min (depth_of channel.kind) depth → ⊥)
+    ⊎ ((c : ℕ) → held_elements lanes channel c ≡ min (depth_of channel.kind) depth → ⊥)

@@ -1,7 +1,7 @@
 //! New cycles after a change of a depth.
 ghost use Rattle.std.specs.Prelude.{◌≡◌, ◌+◌, ◌≤◌, length, map, unwrap_or};
 ghost use Rattle.event_graph.specs.Lanes.{cycle_bound, timed_below};
-ghost use Rattle.fifo_table.specs.Channels.{with_depth};
+ghost use Rattle.fifo_table.specs.Channels.{deepened_channels};
 ghost use Rattle.engine_view.specs.{Taking.kinds_in, Turns.IsSomeCore};
 ghost use Rattle.retime.specs.{Rounds.only_steps, Rounds.cycles_in, Touched.IsEditIn};
 ghost use Rattle.retime.specs.Cuts.{AreNumbered, AreAssumed, IsCutBack, HasRetimed, KeepsRoomEdited};
@@ -36,7 +36,8 @@ pub fn retime<L: Ledger>(
     ensures core { IsSomeCore engine.new }
     ensures room { KeepsRoomEdited edit.now engine.old engine.new }
     ensures steps_stay { only_steps engine.new.graph.lanes ≡ only_steps engine.old.graph.lanes }
-    ensures kinds { kinds_in engine.new.fifos.channels ≡ kinds_in (with_depth engine.old.fifos.channels edit.now.channel edit.now.depth) }
+    ensures kinds { kinds_in engine.new.fifos.channels
+        ≡ kinds_in (deepened_channels engine.old.fifos.channels edit.now.channel edit.now.depth) }
     ensures ticks { steps.new + cycles_in (map (timed_below (unwrap_or from limit)) engine.old.graph.lanes)
         ≡ steps.old + cycles_in engine.new.graph.lanes }
 {

@@ -2,7 +2,7 @@
 ghost use Rattle.std.specs.Prelude.{◌≡◌, ◌+◌, ◌≤◌};
 ghost use Rattle.event_graph.specs.Lanes.{cycle_bound};
 ghost use Rattle.engine_view.specs.{Taking.kinds_in, Turns.IsSomeCore, Turns.KeepsRoom};
-ghost use Rattle.retime.specs.Rounds.{HasGone, IsAtEnd, only_steps, cycles_in};
+ghost use Rattle.retime.specs.Rounds.{HasGone, HasEndedForEach, only_steps, cycles_in};
 
 use engine_view::{Cursor, Engine, Hints, Timing};
 use flow_word::Steps;
@@ -23,7 +23,7 @@ pub fn time_all<L: Ledger>(
     requires core { IsSomeCore engine.old }
     ensures hints { hints.new ≡ hints.old }
     ensures acts { HasGone limit engine.old engine.new }
-    ensures ended { IsAtEnd result limit engine.new }
+    ensures ended { HasEndedForEach result limit engine.new }
     ensures core { IsSomeCore engine.new }
     ensures room { KeepsRoom engine.old engine.new }
     ensures steps_stay { only_steps engine.new.graph.lanes ≡ only_steps engine.old.graph.lanes }

@@ -3,7 +3,7 @@ ghost use Rattle.std.specs.Prelude.{◌≡◌, ◌<◌, ◌≤◌, length, IfSom
 ghost use Rattle.event_graph.specs.Lanes.{cycle_bound};
 ghost use Rattle.fifo_table.specs.{Channels.IsFifo, Channels.channel_at, Channels.places_of, Enablers.enabler_of};
 ghost use Rattle.time_engine.specs.Conditions.{HasPlaces};
-ghost use Rattle.retime.specs.Touched.{IsEditIn, AreInOrder, IsFirstTouched, IsNeverTouched, clock_by};
+ghost use Rattle.retime.specs.Touched.{IsEditIn, ArePlacesInOrder, IsFirstTouched, IsNeverTouched, clock_by};
 
 use event_graph::Graph;
 use fifo_table::{Enabler, FifoTable};
@@ -17,7 +17,7 @@ use flow_word::Side;
 pub fn first_touched(graph: &Graph, fifos: &FifoTable, edit: &Edit) -> Option<u64>
     requires edit { IsEditIn fifos.now.channels edit.now }
     requires places { HasPlaces graph.now.lanes fifos.now.channels }
-    requires in_order { (side : Side) → AreInOrder (places_of side (channel_at fifos.now.channels edit.now.channel)) }
+    requires in_order { (side : Side) → ArePlacesInOrder (places_of side (channel_at fifos.now.channels edit.now.channel)) }
     ensures some { IfSome result
         (λ t. IsFirstTouched graph.now.lanes (channel_at fifos.now.channels edit.now.channel) edit.now.depth t) }
     ensures none { IsNone result

@@ -9,7 +9,7 @@ use Rattle.flow_design.specs.declared.state.Reply.{Reply}
 use Rattle.module_interp.specs.OwnRests.{fits_kind, all_fit}
 use Rattle.engine_view.specs.Held.{queries_in}
 use Rattle.run_ahead.specs.declared.mail.Mail.{Mail}
-use Rattle.run_ahead.specs.Replies.{reply_now, put_first, put_before, has_value, told_by, replies_from, first_missing}
+use Rattle.run_ahead.specs.Replies.{reply_now, put_first, put_before, takes_value, told_by, replies_from, first_missing}
 use Rattle.run_ahead.specs.Mails.{values_on, next_value, replies_in, one_more, taken_after, none_taken, IsLeft}
 use Rattle.run_ahead.proofs.Parts.{first_parts}
 
@@ -104,7 +104,7 @@ pub record IsTaking (first : Mail) (xs : List Access) (qs : List Reply) (left : 
 
 pub taking_more : (first : Mail) (xs : List Access) (qs : List Reply) (left more : Mail) (i : ℕ) (a : Access) (q : Reply)
     → IsTaking first xs qs left i → drop i xs ≡ a ∷ drop (suc i) xs → drop i qs ≡ q ∷ drop (suc i) qs
-    → has_value q ≡ true → more.outcomes ≡ left.outcomes
+    → takes_value q ≡ true → more.outcomes ≡ left.outcomes
     → values_on more a.channel ≡ drop 1 (values_on left a.channel)
     → ((f : ℕ) → (f ≡ a.channel → ⊥) → values_on more f ≡ values_on left f) → IsTaking first xs qs more (suc i)
 taking_more first xs qs left more i a q k d e h os here others = record {
@@ -115,7 +115,7 @@ taking_more first xs qs left more i a q k d e h os here others = record {
 
 pub taking_on : (first : Mail) (xs : List Access) (qs : List Reply) (left more : Mail) (i : ℕ) (a : Access) (q : Reply)
     → IsTaking first xs qs left i → drop i xs ≡ a ∷ drop (suc i) xs → drop i qs ≡ q ∷ drop (suc i) qs
-    → has_value q ≡ false → more ≡ left → IsTaking first xs qs more (suc i)
+    → takes_value q ≡ false → more ≡ left → IsTaking first xs qs more (suc i)
 taking_on first xs qs left more i a q k d e h same_mail = record {
   before = λ whole taken l.
       let (now, (is, same)) = k.before whole taken l in

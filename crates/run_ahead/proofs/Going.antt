@@ -5,7 +5,7 @@ use Rattle.lockstep_defs.specs.OwnRun.{Own}
 use Rattle.module_interp.specs.{declared.run.ModuleRun.ModuleRun, Runs.StandsAt, Runs.waits, Runs.is_step}
 use Rattle.module_interp.specs.OwnRests.{next_rest, accesses_at}
 use Rattle.run_ahead.specs.{declared.mail.Mail.Mail, declared.mail.Task.Task}
-use Rattle.run_ahead.specs.Mails.{replies_in, taken_after, none_taken, IsLeft, IsPast, GoesOn, IsBurstFrom}
+use Rattle.run_ahead.specs.Mails.{replies_in, taken_after, none_taken, IsLeft, IsPast, RunsOn, IsBurstFrom}
 use Rattle.run_ahead.specs.Working.{IsFed, IsEmitted, IsSoFar, burst_of, task_of}
 use Rattle.run_ahead.proofs.Finding.{left_none}
 
@@ -23,7 +23,7 @@ module _ (p : Plan) (i : ℕ) (mail : Mail) (o : Own) (told₀ : ℕ) (taken₀ 
     (run : ModuleRun) (s : IsSoFar p i mail o told₀ taken₀ marks run told left) where
   -- no memory for the next mark
   pub stop_short : (marks' : List Advance) (run' : ModuleRun) → StandsAt p i s.at run' → waits run' ≡ false → marks' ≡ marks
-      → GoesOn p i mail true (task_of run' left) o told₀ taken₀ marks'
+      → RunsOn p i mail true (task_of run' left) o told₀ taken₀ marks'
   stop_short marks' run' t w e =
       rw (e, ← (append-nil marks)) (s.follows true (task_of run' left) [] (record { stands = t; goes = w; left = s.is_left }, refl))
 
@@ -32,20 +32,20 @@ module _ (p : Plan) (i : ℕ) (mail : Mail) (o : Own) (told₀ : ℕ) (taken₀ 
       -- where a mark is added, what follows from behind it
       past : (short : Bool) (last : Task) (more : List Advance)
           → IsPast (is_step e.mark) p i mail short last s.at told s.taken_now more
-          (λ o' told' taken'. GoesOn p i mail short last o' told' taken' more)
-          → GoesOn p i mail short last o told₀ taken₀ (marks' ++ more)
+          (λ o' told' taken'. RunsOn p i mail short last o' told' taken' more)
+          → RunsOn p i mail short last o told₀ taken₀ (marks' ++ more)
       past short last more g =
           rw (e.added, append_assoc marks (e.mark ∷ []) more)
           (s.follows short last (e.mark ∷ more) (e.is p i s.at s.stands, e.sound p i s.at s.stands, g))
 
-      pub stop_over : step ≡ false → GoesOn p i mail false (task_of run' left) o told₀ taken₀ marks'
+      pub stop_over : step ≡ false → RunsOn p i mail false (task_of run' left) o told₀ taken₀ marks'
       stop_over k =
           rw (← (append-nil marks'))
           (past false (task_of run' left) [] (rw (e.kind, k) (refl, record { stands = t; goes = e.waits ∙ k; left = s.is_left })))
 
       pub stop_waiting : step ≡ true → (short : Bool) (last : Task) → last.run ≡ run' → last.mail ≡ left
           → (short ≡ false → replies_in mail told s.taken_now (accesses_at p i s.at) ≡ None)
-          → GoesOn p i mail short last o told₀ taken₀ marks'
+          → RunsOn p i mail short last o told₀ taken₀ marks'
       stop_waiting k short last l m missing =
           rw (← (append-nil marks'))
           (past short last [] (rw (e.kind, k) (inl (
@@ -77,11 +77,11 @@ begin_waiting p i o mail short run last s w l m missing =
 pub begin_fed : (p : Plan) (i : ℕ) (o : Own) (mail : Mail) (short : Bool) (run fed : ModuleRun) (last : Task) (now : ℕ) (left : Mail)
     (marks : List Advance) → waits run ≡ true
     → (f : IsFed p i o mail 0 none_taken fed now left)
-    → GoesOn p i mail short last (next_rest p i o f.replies) now (taken_after none_taken (accesses_at p i o) f.replies) marks
+    → RunsOn p i mail short last (next_rest p i o f.replies) now (taken_after none_taken (accesses_at p i o) f.replies) marks
     → IsBurstFrom (waits run) p i o mail (burst_of last marks short)
 begin_fed p i o mail short run fed last now left marks w f g = rw w (inr (f.replies, (f.found, rw f.number at g)))
 
 pub begin_going : (p : Plan) (i : ℕ) (o : Own) (mail : Mail) (short : Bool) (run : ModuleRun) (last : Task) (marks : List Advance)
-    → waits run ≡ false → GoesOn p i mail short last o 0 none_taken marks
+    → waits run ≡ false → RunsOn p i mail short last o 0 none_taken marks
     → IsBurstFrom (waits run) p i o mail (burst_of last marks short)
 begin_going p i o mail short run last marks w g = rw w g

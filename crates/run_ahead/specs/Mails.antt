@@ -8,7 +8,7 @@ use Rattle.module_interp.specs.{OwnChannels.place_in, Runs.StandsAt, Runs.waits,
 use Rattle.module_interp.specs.OwnRests.{next_rest, accesses_at, mark_at}
 use Rattle.engine_view.specs.Held.{queries_in}
 use Rattle.run_ahead.specs.{declared.mail.Mail.Mail, declared.mail.Task.Task, declared.mail.Burst.Burst}
-use Rattle.run_ahead.specs.Replies.{replies_from, has_value}
+use Rattle.run_ahead.specs.Replies.{replies_from, takes_value}
 
 -- ---- replies
 
@@ -35,7 +35,7 @@ one_more taken c f = if nat_eq c f then suc (taken f) else taken f
 abbrev pub taken_after : (ℕ → ℕ) → List Access → List Reply → ℕ → ℕ
 taken_after taken [] rs = taken
 taken_after taken (a ∷ as') [] = taken
-taken_after taken (a ∷ as') (r ∷ rs) = taken_after (cond (has_value r) (one_more taken a.channel) taken) as' rs
+taken_after taken (a ∷ as') (r ∷ rs) = taken_after (cond (takes_value r) (one_more taken a.channel) taken) as' rs
 
 -- nothing is taken
 abbrev pub none_taken : ℕ → ℕ
@@ -56,29 +56,29 @@ pub record IsWaiting (p : Plan) (m : ℕ) (mail : Mail) (short : Bool) (last : T
   pub left : IsLeft mail taken last.mail
 
 -- it goes on from a rest whose mark it has not given
-pub record IsGoing (p : Plan) (m : ℕ) (mail : Mail) (last : Task) (o : Own) (taken : ℕ → ℕ) : Type 0 where
+pub record IsStillGoing (p : Plan) (m : ℕ) (mail : Mail) (last : Task) (o : Own) (taken : ℕ → ℕ) : Type 0 where
   pub stands : StandsAt p m o last.run
   pub goes : waits last.run ≡ false
   pub left : IsLeft mail taken last.mail
 
 -- behind the step of a rest it gives these marks: none, and it waits there; or it has its replies, and goes on
-abbrev pub IsAtStep : Plan → ℕ → Mail → Bool → Task → Own → ℕ → (ℕ → ℕ) → List Advance → (Own → ℕ → (ℕ → ℕ) → Type 0) → Type 0
-IsAtStep p m mail short last o told taken marks next =
+abbrev pub IsBehindStep : Plan → ℕ → Mail → Bool → Task → Own → ℕ → (ℕ → ℕ) → List Advance → (Own → ℕ → (ℕ → ℕ) → Type 0) → Type 0
+IsBehindStep p m mail short last o told taken marks next =
     ((marks ≡ []) × IsWaiting p m mail short last o told taken)
     ⊎ ((rs : List Reply) × ((replies_in mail told taken (accesses_at p m o) ≡ Some rs)
     × next (next_rest p m o rs) (told + queries_in (accesses_at p m o)) (taken_after taken (accesses_at p m o) rs)))
 
 -- behind the mark of a rest, which is a step or not
 abbrev pub IsPast : Bool → Plan → ℕ → Mail → Bool → Task → Own → ℕ → (ℕ → ℕ) → List Advance → (Own → ℕ → (ℕ → ℕ) → Type 0) → Type 0
-IsPast true p m mail short last o told taken marks next = IsAtStep p m mail short last o told taken marks next
-IsPast false p m mail short last o told taken marks next = (marks ≡ []) × IsGoing p m mail last o taken
+IsPast true p m mail short last o told taken marks next = IsBehindStep p m mail short last o told taken marks next
+IsPast false p m mail short last o told taken marks next = (marks ≡ []) × IsStillGoing p m mail last o taken
 
 -- from a rest on it gives these marks, and leaves this run with this mail; it stops before the first only for want of memory
-abbrev pub GoesOn : Plan → ℕ → Mail → Bool → Task → Own → ℕ → (ℕ → ℕ) → List Advance → Type 0
-GoesOn p m mail short last o told taken [] = IsGoing p m mail last o taken × (short ≡ true)
-GoesOn p m mail short last o told taken (mark ∷ more) =
+abbrev pub RunsOn : Plan → ℕ → Mail → Bool → Task → Own → ℕ → (ℕ → ℕ) → List Advance → Type 0
+RunsOn p m mail short last o told taken [] = IsStillGoing p m mail last o taken × (short ≡ true)
+RunsOn p m mail short last o told taken (mark ∷ more) =
     (mark ≡ mark_at p m o) × IsSoundMark (length o.steps) mark
-    × IsPast (is_step mark) p m mail short last o told taken more (λ o' told' taken'. GoesOn p m mail short last o' told' taken' more)
+    × IsPast (is_step mark) p m mail short last o told taken more (λ o' told' taken'. RunsOn p m mail short last o' told' taken' more)
 
 -- the run that a burst leaves, with what is left of the mail
 abbrev pub task_left : Burst → Task
@@ -87,9 +87,9 @@ task_left burst = record { run = burst.run; mail = burst.mail }
 -- a burst of a run that stands at this rest, and that waits there or not
 abbrev pub IsBurstFrom : Bool → Plan → ℕ → Own → Mail → Burst → Type 0
 IsBurstFrom true p m o mail burst =
-    IsAtStep p m mail burst.short (task_left burst) o 0 none_taken burst.emitted
-    (λ o' told taken. GoesOn p m mail burst.short (task_left burst) o' told taken burst.emitted)
-IsBurstFrom false p m o mail burst = GoesOn p m mail burst.short (task_left burst) o 0 none_taken burst.emitted
+    IsBehindStep p m mail burst.short (task_left burst) o 0 none_taken burst.emitted
+    (λ o' told taken. RunsOn p m mail burst.short (task_left burst) o' told taken burst.emitted)
+IsBurstFrom false p m o mail burst = RunsOn p m mail burst.short (task_left burst) o 0 none_taken burst.emitted
 
 -- the burst is one of a task whose run stands at this rest
 abbrev pub IsBurst : Plan → ℕ → Own → Task → Burst → Type 0

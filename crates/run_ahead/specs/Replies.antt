@@ -53,9 +53,9 @@ abbrev pub value_now : List Channel → Access → Option ℕ
 value_now channels a = slice_get (values_at channels a.channel) (a.ordinal - 1)
 
 -- the reply takes a value
-abbrev pub has_value : Reply → Bool
-has_value Done = false
-has_value (Value v) = true
-has_value (Flag b) = false
-has_value (Took v) = true
-has_value Missed = false
+abbrev pub takes_value : Reply → Bool
+takes_value Done = false
+takes_value (Value v) = true
+takes_value (Flag b) = false
+takes_value (Took v) = true
+takes_value Missed = false

@@ -6,7 +6,7 @@ use Rattle.module_interp.specs.{declared.run.ModuleRun.ModuleRun, Runs.StandsAt,
 use Rattle.module_interp.specs.OwnRests.{next_rest, accesses_at, mark_at}
 use Rattle.engine_view.specs.Held.{queries_in}
 use Rattle.run_ahead.specs.{declared.mail.Mail.Mail, declared.mail.Burst.Burst, declared.mail.Task.Task}
-use Rattle.run_ahead.specs.Mails.{replies_in, taken_after, IsLeft, GoesOn}
+use Rattle.run_ahead.specs.Mails.{replies_in, taken_after, IsLeft, RunsOn}
 
 -- the run stands at some rest of some module
 abbrev pub StandsSomewhere : ModuleRun → Type 0
@@ -37,8 +37,8 @@ pub record IsSoFar (p : Plan) (i : ℕ) (mail : Mail) (o : Own) (told : ℕ) (ta
   pub taken_now : ℕ → ℕ
   pub stands : StandsAt p i at run
   pub is_left : IsLeft mail taken_now left
-  pub follows : (short : Bool) (last : Task) (more : List Advance) → GoesOn p i mail short last at now taken_now more
-      → GoesOn p i mail short last o told taken (marks ++ more)
+  pub follows : (short : Bool) (last : Task) (more : List Advance) → RunsOn p i mail short last at now taken_now more
+      → RunsOn p i mail short last o told taken (marks ++ more)
 
 -- a run with its mail
 abbrev pub task_of : ModuleRun → Mail → Task

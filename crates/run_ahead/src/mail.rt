@@ -4,8 +4,8 @@ ghost use Rattle.std.specs.Prelude.{IsNone, IfOk, IfSome, OnErr};
 ghost use Rattle.flow_design.specs.declared.plan.Plan.{Plan as PlanOf};
 ghost use Rattle.lockstep_defs.specs.OwnRun.{Own};
 ghost use Rattle.module_interp.specs.{OwnChannels.place_in, OwnRests.accesses_at, Runs.StandsAt, Runs.waits, Runs.is_step as is_step_of};
-ghost use Rattle.run_ahead.specs.{Replies.has_value, declared.mail.Mail.Mail as MailOf};
-ghost use Rattle.run_ahead.specs.Mails.{values_on, next_value, replies_in, none_taken, taken_after, IsLeft, GoesOn, IsBurst, IsBurstFrom};
+ghost use Rattle.run_ahead.specs.{Replies.takes_value, declared.mail.Mail.Mail as MailOf};
+ghost use Rattle.run_ahead.specs.Mails.{values_on, next_value, replies_in, none_taken, taken_after, IsLeft, RunsOn, IsBurst, IsBurstFrom};
 ghost use Rattle.run_ahead.specs.Working.{StandsSomewhere, IsFed, IsEmitted, burst_of, task_of};
 
 use crate::replies::{Values, find_replies};
@@ -95,7 +95,7 @@ impl Values for Mail {
 
 /// Whether a reply takes a value.
 fn takes(reply: Reply) -> bool
-    ensures { result ≡ has_value reply }
+    ensures { result ≡ takes_value reply }
 {
     match reply {
         Reply::Value(_) | Reply::Took(_) => true,
@@ -213,7 +213,7 @@ fn go_on(
     requires goes { waits run.old ≡ false }
     requires none { marks.old ≡ [] }
     ensures { (p : PlanOf) (i : ℕ) (o : Own) → StandsAt p i o run.old → (whole : MailOf) (taken : ℕ → ℕ) → IsLeft whole taken mail.old
-        → GoesOn p i whole result (task_of run.new mail.new) o told.old taken marks.new }
+        → RunsOn p i whole result (task_of run.new mail.new) o told.old taken marks.new }
 {
     let mut left = u64::MAX;
     while left > 0 {

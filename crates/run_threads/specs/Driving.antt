@@ -3,7 +3,7 @@ use Rattle.std.specs.Prelude.{◌≡◌, ℕ}
 use Rattle.turn_lock.specs.declared.view.View.{View}
 use Rattle.timing_bridge.specs.declared.entry.HubEntry.{HubEntry}
 use Rattle.sim_hub.specs.{declared.hub.Hub.Hub, declared.pass.ModulePass.ModulePass, Places.Behind, Places.HasNoDeskOut}
-use Rattle.sim_hub.specs.Hubs.{IsOfHub, IsFinished, WasShort, module_of, module_view}
+use Rattle.sim_hub.specs.Hubs.{IsOfHub, IsHubDone, WasShort, module_of, module_view}
 use Rattle.run_threads.specs.{declared.drive.Answered.Answered, declared.drive.Went.Went, declared.drive.End.End}
 use Rattle.run_threads.specs.declared.drive.Went.TheVariants as went
 use Rattle.run_threads.specs.declared.drive.End.TheVariants as end
@@ -12,11 +12,11 @@ use Rattle.run_threads.specs.declared.drive.End.TheVariants as end
 abbrev pub WentIs : View HubEntry → Went → Type 0
 WentIs v (went.Ran concern done) = Unit {0}
 WentIs v went.Held = Unit {0}
-WentIs v went.Over = Behind v.seen IsFinished
+WentIs v went.Over = Behind v.seen IsHubDone
 WentIs v went.Short = Behind v.seen WasShort
 
 abbrev pub EndIs : View HubEntry → End → Type 0
-EndIs v end.Over = Behind v.seen IsFinished
+EndIs v end.Over = Behind v.seen IsHubDone
 EndIs v end.Short = Behind v.seen WasShort
 EndIs v end.Undriven = Unit {0}
 

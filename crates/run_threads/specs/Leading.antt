@@ -5,6 +5,6 @@ use Rattle.turn_lock.specs.declared.view.View.{View}
 use Rattle.timing_bridge.specs.declared.entry.HubEntry.{HubEntry}
 
 -- w is the performance pass v after further turns
-pub record HasGoneOn (v w : View HubEntry) : Type 0 where
+pub record HasMoreTurns (v w : View HubEntry) : Type 0 where
   pub begins : IsPrefix v.seen w.seen
   pub made : w.made ≡ v.made

@@ -19,10 +19,10 @@ SlotIs hub m (slot.Here pass) = IsHere hub m pass
 SlotIs hub m slot.Gone = ⊥
 
 -- the caller has the pass, and no thread drives its module
-abbrev pub IsKept : Slot → Type 0
-IsKept (slot.There child) = ⊥
-IsKept (slot.Here pass) = Unit {0}
-IsKept slot.Gone = ⊥
+abbrev pub KeepsPass : Slot → Type 0
+KeepsPass (slot.There child) = ⊥
+KeepsPass (slot.Here pass) = Unit {0}
+KeepsPass slot.Gone = ⊥
 
 -- these are the slots of the modules, in order
 abbrev pub AreSlots : Hub → List Slot → Type 0

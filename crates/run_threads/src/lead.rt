@@ -1,7 +1,7 @@
 //! The caller: it gives the cycles, drives the modules that have no thread, and takes all passes back.
 ghost use Rattle.std.specs.Prelude.{◌≡◌, ◌≤◌, [], length, vec_capacity};
 ghost use Rattle.sim_hub.specs.Hubs.{IsOverAt, IsPerfOf, perf_view};
-ghost use Rattle.run_threads.specs.{Driving.IsHere, Leading.HasGoneOn, Slots.SlotIs, Slots.AreSlots, Slots.AreHere};
+ghost use Rattle.run_threads.specs.{Driving.IsHere, Leading.HasMoreTurns, Slots.SlotIs, Slots.AreSlots, Slots.AreHere};
 
 use crate::bells::Bells;
 use crate::concern::News;
@@ -133,7 +133,7 @@ pub fn lead<G: Gate, R: Threads + Wait>(
     requires slots { AreSlots crew.now.hub.now slots.items }
     ensures own { IsPerfOf crew.now.hub.now result.0 }
     ensures over { IsOverAt (perf_view result.0).seen }
-    ensures later { HasGoneOn (perf_view perf) (perf_view result.0) }
+    ensures later { HasMoreTurns (perf_view perf) (perf_view result.0) }
     ensures slots { (length result.1.items ≡ length slots.items) × AreSlots crew.now.hub.now result.1.items }
 {
     let mut perf = perf;

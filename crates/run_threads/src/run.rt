@@ -4,8 +4,8 @@ ghost use Rattle.flow_design.specs.StaticRules.{FitsEngine};
 ghost use Rattle.event_timing.specs.Core.{opening_core};
 ghost use Rattle.timing_bridge.specs.Designs.{design};
 ghost use Rattle.sim_core.specs.{Views.theory_of, Drives.AreOwn};
-ghost use Rattle.sim_hub.specs.{Hubs.IsOverAt, Hubs.IsPerfOf, Hubs.perf_view, Closings.IsRun};
-ghost use Rattle.run_threads.specs.{Leading.HasGoneOn, Slots.passes_in, Slots.AreHere};
+ghost use Rattle.sim_hub.specs.{Hubs.IsOverAt, Hubs.IsPerfOf, Hubs.perf_view, Closings.IsWholeRun};
+ghost use Rattle.run_threads.specs.{Leading.HasMoreTurns, Slots.passes_in, Slots.AreHere};
 
 use crate::bells::Bells;
 use crate::drive::Seat;
@@ -45,7 +45,7 @@ fn run_all<G: Gate + Sync, R: Threads + Wait + Sync>(
     requires empty { (slots.items ≡ []) × (passes.items ≡ []) }
     requires room { (length seats.items ≤ vec_capacity slots) × (length seats.items ≤ vec_capacity passes) }
     ensures perf { IsPerfOf hub.now result.0 }
-    ensures later { HasGoneOn (perf_view perf) (perf_view result.0) }
+    ensures later { HasMoreTurns (perf_view perf) (perf_view result.0) }
     ensures over { IsOverAt (perf_view result.0).seen }
     ensures count { length result.1.items ≡ length seats.items }
     ensures here { AreHere hub.now result.1.items }
@@ -56,7 +56,7 @@ fn run_all<G: Gate + Sync, R: Threads + Wait + Sync>(
         move |scope| -> (PerfPass, Vec<ModulePass>)
             requires { IsPerfOf hub.now perf × AreHere hub.now (passes_in seats.items) × (slots.items ≡ []) × (passes.items ≡ [])
                 × (length seats.items ≤ vec_capacity slots) × (length seats.items ≤ vec_capacity passes) }
-            ensures { IsPerfOf hub.entry.now result.0 × HasGoneOn (perf_view perf) (perf_view result.0)
+            ensures { IsPerfOf hub.entry.now result.0 × HasMoreTurns (perf_view perf) (perf_view result.0)
                 × IsOverAt (perf_view result.0).seen × (length result.1.items ≡ length seats.items) × AreHere hub.entry.now result.1.items }
         {
             let slots = start_all(scope, rt, alloc, hub, gate, bells, seats, &light, slots);
@@ -87,7 +87,7 @@ pub fn run_core<G: Gate + Sync, R: Threads + Wait + Sync>(
 ) -> Result<Threaded, OutOfMemory>
     requires opening { theory_of core ≡ opening_core (design core.plan) }
     requires own { AreOwn core }
-    ensures run { IfOk result (λ threaded. IsRun core.plan threaded) }
+    ensures run { IfOk result (λ threaded. IsWholeRun core.plan threaded) }
 {
     core.agrees();
     let mut driven = *light;
@@ -126,7 +126,7 @@ pub fn run_threads<G: Gate + Sync, R: Threads + Wait + Sync>(
     gate: &G,
 ) -> Result<Threaded, OutOfMemory>
     requires fits { FitsEngine plan }
-    ensures run { IfOk result (λ threaded. IsRun plan threaded) }
+    ensures run { IfOk result (λ threaded. IsWholeRun plan threaded) }
 {
     let core = Core::new(alloc, plan)?;
     run_core(rt, alloc, core, gate, &mut Light::none())

@@ -2,7 +2,7 @@
 ghost use Rattle.std.specs.Prelude.{◌≡◌, ◌≤◌, [], length, map, IfOk, vec_capacity};
 ghost use Rattle.sim_hub.specs.{Places.HasNoDeskOut, Hubs.IsOfHub, Hubs.module_of, Hubs.module_view};
 ghost use Rattle.run_threads.specs.{Driving.IsBack, Lights.IsNamed};
-ghost use Rattle.run_threads.specs.Slots.{SlotIs, IsKept, AreSlots, AreHere, passes_in};
+ghost use Rattle.run_threads.specs.Slots.{SlotIs, KeepsPass, AreSlots, AreHere, passes_in};
 
 use crate::bells::Bells;
 use crate::drive::{Answered, Seat, drive};
@@ -102,7 +102,7 @@ fn place_one<'s, 'e, G: Gate + Sync, R: Threads + Wait + Sync>(
     requires own { IsOfHub hub.now seat.pass }
     requires home { HasNoDeskOut (module_of seat.pass) (module_view seat.pass) }
     ensures slot { SlotIs hub.now (module_of seat.pass) result }
-    ensures kept { IsNamed light.now (module_of seat.pass) → IsKept result }
+    ensures kept { IsNamed light.now (module_of seat.pass) → KeepsPass result }
 {
     let which = seat.pass.which();
     if light.has(which) {

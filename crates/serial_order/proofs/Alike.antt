@@ -5,10 +5,10 @@ use Rattle.std.proofs.lemmas.Bool.{ltb-true, ltb-false, eq-eqb, or_right, or_lef
 use Rattle.std.proofs.{Math.ListN.get_or-append, Math.Seq.get_or-append_right}
 use Rattle.flow_word.specs.declared.access.Side.TheVariants.{Pop, Push}
 use Rattle.flow_design.specs.declared.expr.Expr.{Expr, more_of-Expr, Number, Var, Unary', Binary', Sext', Pick'}
-use Rattle.flow_design.specs.{declared.expr.Op.Op, declared.design.Module.Module, declared.design.Timed.Timed, Operations.places_of}
-use Rattle.flow_design.specs.{Operations.expressions_of, Module.temps_of, Module.passes, StaticRules.IsOperationSound}
+use Rattle.flow_design.specs.{declared.expr.Op.Op, declared.design.Module.Module, declared.design.Timed.Timed, Module.temps_of}
+use Rattle.flow_design.specs.{Module.passes, StaticRules.IsOperationSound, Words.variable, Words.value, Words.unary, Words.extended}
+use Rattle.flow_design.specs.Operations.{places_written, expressions_of}
 use Rattle.flow_design.specs.declared.expr.Op.TheVariants.{Set, Load, Store, Read, Write, TryRead, TryWrite, Empty, Full}
-use Rattle.flow_design.specs.Words.{variable, value, unary, extended}
 use Rattle.lockstep_defs.specs.{Machine.memory_of, Channels.moved_by}
 use Rattle.serial_order.specs.{declared.order.Used.Used, SerialRun.Progress}
 use Rattle.serial_order.specs.declared.order.Used.TheVariants.{Register, Memory, Reading, Writing}
@@ -106,8 +106,8 @@ same_named : (c : Setting) (x y : Progress) (i j : ℕ) (t : Timed) (e : Expr �
 same_named c x y i j t e h named =
     same_value x.state.registers (temps_of x.state i) y.state.registers (temps_of y.state j) e
     (λ v is. same_variable c x y i j t h v
-    (or_right (is_this v t.guard) (is_named v (expressions_of t.op) || is_listed v (places_of t.op))
-    (or_left (is_named v (expressions_of t.op)) (is_listed v (places_of t.op)) (named v is))))
+    (or_right (is_this v t.guard) (is_named v (expressions_of t.op) || is_listed v (places_written t.op))
+    (or_left (is_named v (expressions_of t.op)) (is_listed v (places_written t.op)) (named v is))))
 
 pub same_outcome : (c : Setting) (x y : Progress) (i j age : ℕ) (g : Option ℕ) (op : Op ℕ)
     → IsOperationSound (length c.channels) c.owner (length c.block.temps) op

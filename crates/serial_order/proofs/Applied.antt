@@ -8,7 +8,7 @@ use Rattle.flow_word.specs.{declared.access.Side.Side, declared.access.Side.TheV
 use Rattle.flow_design.specs.{declared.expr.Op.Op, declared.state.ModuleState.ModuleState, Words.cut_to, Module.temps_of}
 use Rattle.flow_design.specs.declared.expr.Op.TheVariants.{Set, Load, Store, Read, Write, TryRead, TryWrite, Empty, Full}
 use Rattle.flow_design.specs.declared.state.Effect.TheVariants.{Variable, Word}
-use Rattle.lockstep_defs.specs.{Machine.memory_of, Channels.Exchange, Channels.moved_by, States.HasPlaces}
+use Rattle.lockstep_defs.specs.{Machine.memory_of, Channels.Exchange, Channels.moved_by, States.HasAllPlaces}
 use Rattle.lockstep_defs.proofs.{Queue.moved_by-append, States.stored_places}
 use Rattle.serial_order.specs.{declared.order.Used.Used, Uses.writes, SerialRun.Progress}
 use Rattle.serial_order.specs.declared.order.Used.TheVariants.{Register, Memory, Reading, Writing}
@@ -27,7 +27,7 @@ chosen c i v w s is_register =
 -- ---- places
 
 abbrev pub Placed : Setting → ℕ → Progress → Type 0
-Placed c n r = HasPlaces c.owner c.block n r.state
+Placed c n r = HasAllPlaces c.owner c.block n r.state
 
 pub applied_places : (c : Setting) (n i : ℕ) (o : Outcome) (x : Option Exchange) (r : Progress) → Placed c n r
     → Placed c n (applied c i o x r)

@@ -6,7 +6,7 @@ use Rattle.std.specs.{Prelude.if◌then◌else◌, Prelude.slice_index_or, List.
 use Rattle.flow_design.specs.{declared.design.Module.Module, declared.plan.Plan.Plan, declared.state.ModuleState.ModuleState}
 use Rattle.flow_design.specs.{declared.state.Reply.Reply, declared.state.Request.Request, Module.block_at, StaticRules.IsModuleSound}
 use Rattle.lockstep_defs.specs.{Machine.requests, Machine.move, Machine.is_over, Channels.Exchange, Channels.moved_by, Lockstep.module_at}
-use Rattle.lockstep_defs.specs.OwnRun.{OwnStep, Own, own_after, own_next, own, paired}
+use Rattle.lockstep_defs.specs.OwnRun.{OwnStep, Own, own_after, own_next, own_run, paired}
 use Rattle.flow_word.specs.declared.access.Side.TheVariants.{Pop, Push}
 use Rattle.serial_order.specs.declared.order.Used.TheVariants.{Register, Memory, Reading, Writing}
 use Rattle.serial_order.specs.SerialRun.{all_given, Progress, serial, AreGiven, exchanges_of, EndsAlike, GetsAsFar}
@@ -99,19 +99,19 @@ module _ (p : Plan) (i : ℕ) (lists : List (List ℕ)) (replies : List (List Re
       by_test true e given = before given
       by_test false e given = on e given
 
-  runs_beside : (n : ℕ) → AreGiven lists [] (own p i replies n).steps → Beside (flat (own p i replies n))
-  unfolding own
+  runs_beside : (n : ℕ) → AreGiven lists [] (own_run p i replies n).steps → Beside (flat (own_run p i replies n))
+  unfolding own_run
   runs_beside zero given = opens lists p.design.channels (module_at p i) sound rules
-  runs_beside (suc n) given = next_beside (own p i replies n) (runs_beside n) given
+  runs_beside (suc n) given = next_beside (own_run p i replies n) (runs_beside n) given
 
   -- ---- the end
 
-  pub ends_alike : (n : ℕ) → AreGiven lists [] (own p i replies n).steps → (own p i replies n).state.ended ≡ true
-      → (k : ℕ) × EndsAlike (length p.design.channels) (serial lists p.design.channels (module_at p i) k) (own p i replies n)
+  pub ends_alike : (n : ℕ) → AreGiven lists [] (own_run p i replies n).steps → (own_run p i replies n).state.ended ≡ true
+      → (k : ℕ) × EndsAlike (length p.design.channels) (serial lists p.design.channels (module_at p i) k) (own_run p i replies n)
   ends_alike n given e = by (runs_beside n given)
     where
-      by : Beside (flat (own p i replies n))
-          → (k : ℕ) × EndsAlike (length p.design.channels) (serial lists p.design.channels (module_at p i) k) (own p i replies n)
+      by : Beside (flat (own_run p i replies n))
+          → (k : ℕ) × EndsAlike (length p.design.channels) (serial lists p.design.channels (module_at p i) k) (own_run p i replies n)
       by (goes b first k t h) = absurd (true≢false (sym e ∙ h.alive))
       by (ends k h) = (
         k,
@@ -128,23 +128,24 @@ module _ (p : Plan) (i : ℕ) (lists : List (List ℕ)) (replies : List (List Re
 
   -- ---- on the way
 
-  pub gets_as_far : (n : ℕ) → AreGiven lists [] (own p i replies n).steps
-      → (k : ℕ) × GetsAsFar (length p.design.channels) (serial lists p.design.channels (module_at p i) k) (own p i replies n)
+  pub gets_as_far : (n : ℕ) → AreGiven lists [] (own_run p i replies n).steps
+      → (k : ℕ) × GetsAsFar (length p.design.channels) (serial lists p.design.channels (module_at p i) k) (own_run p i replies n)
   gets_as_far n given = by (runs_beside n given)
     where
-      by : Beside (flat (own p i replies n))
-          → (k : ℕ) × GetsAsFar (length p.design.channels) (serial lists p.design.channels (module_at p i) k) (own p i replies n)
+      by : Beside (flat (own_run p i replies n))
+          → (k : ℕ) × GetsAsFar (length p.design.channels) (serial lists p.design.channels (module_at p i) k) (own_run p i replies n)
       by (goes b first k t h) = (
         first + suc k,
         record {
-          pushes = λ f l. end_front lists p.design.channels (module_at p i) sound rules b first k t (flat (own p i replies n)) h Push f l;
-          pops = λ f l. end_front lists p.design.channels (module_at p i) sound rules b first k t (flat (own p i replies n)) h Pop f l;
+          pushes =
+              λ f l. end_front lists p.design.channels (module_at p i) sound rules b first k t (flat (own_run p i replies n)) h Push f l;
+          pops = λ f l. end_front lists p.design.channels (module_at p i) sound rules b first k t (flat (own_run p i replies n)) h Pop f l;
         },
       )
       by (ends k h) = (
         k,
         record {
-          pushes = λ f l. ([], sym (h.things (Writing f) l) ∙ sym (append-nil (moved_by Push f (exchanges_of (own p i replies n)))));
-          pops = λ f l. ([], sym (h.things (Reading f) l) ∙ sym (append-nil (moved_by Pop f (exchanges_of (own p i replies n)))));
+          pushes = λ f l. ([], sym (h.things (Writing f) l) ∙ sym (append-nil (moved_by Push f (exchanges_of (own_run p i replies n)))));
+          pops = λ f l. ([], sym (h.things (Reading f) l) ∙ sym (append-nil (moved_by Pop f (exchanges_of (own_run p i replies n)))));
         },
       )

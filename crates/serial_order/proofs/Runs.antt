@@ -10,7 +10,7 @@ use Rattle.flow_design.specs.Module.{no_block, block_at, block_of, is_loop, inte
 use Rattle.flow_design.specs.StaticRules.{IsModuleSound, IsNextSound}
 use Rattle.lockstep_defs.specs.Machine.{requests, ticked, decided, started, stopped, finished, followed, entered, again_of, is_block_over}
 use Rattle.lockstep_defs.specs.Machine.{move, opened, fresh_temps}
-use Rattle.lockstep_defs.specs.States.{HasPlaces, IsStateOf}
+use Rattle.lockstep_defs.specs.States.{HasAllPlaces, IsStateOf}
 use Rattle.lockstep_defs.proofs.States.{move_state, opened_state}
 use Rattle.serial_order.specs.declared.order.Used.{Used}
 use Rattle.serial_order.specs.declared.order.Used.TheVariants.{Register, Memory, Reading, Writing}
@@ -127,7 +127,7 @@ module _ (lists : List (List ℕ)) (channels : List Channel) (m : Module) (sound
       places : Placed (setting (block_at m b)) (live_count (block_at m b) (entered m b x.state).control)
           (record x { state = entered m b x.state })
       places =
-          subst (λ (q : Block). HasPlaces m q (live_count q (entered m b x.state).control) (entered m b x.state)) (here x) state.places
+          subst (λ (q : Block). HasAllPlaces m q (live_count q (entered m b x.state).control) (entered m b x.state)) (here x) state.places
 
       one : live_count (block_at m b) (entered m b x.state).control ≡ 1
       one = sym places.temps ∙ ap length (entered_temps b x.state)
@@ -270,7 +270,7 @@ module _ (lists : List (List ℕ)) (channels : List Channel) (m : Module) (sound
       where
         places : IsStateOf m (with_looping l behind).state → Placed (setting b) (live_in (setting b) behind) (with_looping l behind)
         places is =
-            subst (λ (c : Block). HasPlaces m c (live_count c behind.state.control) (with_looping l behind).state) behind_block is.places
+            subst (λ (c : Block). HasAllPlaces m c (live_count c behind.state.control) (with_looping l behind).state) behind_block is.places
 
         on : IsStateOf m (with_looping l behind).state → GoesBeside b first n (suc t) (with_looping l behind)
         on is = record {
@@ -362,7 +362,8 @@ module _ (lists : List (List ℕ)) (channels : List Channel) (m : Module) (sound
             chain = longer_chain (setting b) (from_on first) n h.keeps.fit h.chain next;
             runs = ap (λ (x : Progress). x.state.ended) next ∙ (upto_ended (setting b) b.len (from_on first n) ∙ h.runs);
             loop = started_loop (setting b) (from_on first) n t p behind h.keeps h.chain h.loop ticked_is due_now next
-                (subst (λ (c : Block). HasPlaces m c (live_count c (started b behind.state).control) (started b behind.state)) behind_block
+                (subst (λ (c : Block). HasAllPlaces m c (live_count c (started b behind.state).control)
+                (started b behind.state)) behind_block
                 is.places);
             over = λ e. absurd (true≢false (sym looping ∙ e));
           }

@@ -2,7 +2,7 @@
 use Rattle.std.proofs.Common.{◌≡◌, ◌≢◌, ℕ, suc, ◌+◌, ◌-◌, ◌*◌, ◌≤◌, ◌<◌, List, [], ◌∷◌, length, min, Bool, true, false, ◌&&◌, refl, sym}
 use Rattle.std.proofs.Common.{◌∙◌, ap, ◌==◌, ◌||◌, true≢false, ◌⊎◌, inl, inr}
 use Rattle.std.proofs.lemmas.Bool.{eqb-true, eq-eqb, or_right, or_parts}
-use Rattle.flow_design.specs.{declared.design.Timed.Timed, declared.expr.Op.Op, Operations.places_of, Operations.expressions_of}
+use Rattle.flow_design.specs.{declared.design.Timed.Timed, declared.expr.Op.Op, Operations.places_written, Operations.expressions_of}
 use Rattle.flow_design.specs.declared.expr.Op.TheVariants.{Set, Load, Store, Read, Write, TryRead, TryWrite, Empty, Full}
 use Rattle.flow_design.specs.Module.{block_of, interval, live_count, temps_of}
 use Rattle.serial_order.specs.{declared.order.Used.Used, Orders.is_written_at, SerialRun.Progress}
@@ -15,7 +15,7 @@ use Rattle.serial_order.proofs.{Lists.Among, Outcomes.Setting, Alike.IsThing, Al
 op_writes_used : (u : Used) (t : Timed) (op : Op ℕ) → t.op ≡ op → writes u op ≡ true
     → is_use u (record { offset = t.offset; guard = t.guard; op = op }) ≡ true
 op_writes_used (Register x) t op e h =
-    or_right (is_this x t.guard) _ (or_right (is_named x (expressions_of op)) (is_listed x (places_of op)) h)
+    or_right (is_this x t.guard) _ (or_right (is_named x (expressions_of op)) (is_listed x (places_written op)) h)
 op_writes_used (Memory n) t (Set v a) e h = absurd cc
 op_writes_used (Memory n) t (Load v k a) e h = absurd cc
 op_writes_used (Memory n) t (Store k a b) e h = h

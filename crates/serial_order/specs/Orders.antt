@@ -17,7 +17,7 @@ abbrev pub module_in : Design → ℕ → Module
 module_in design i = slice_index_or design.modules i no_module
 
 -- the design has a module of this number, which keeps the static rules and the limits; so does the number of channels
-pub record HasModule (design : Design) (i : ℕ) : Type 0 where
+pub record DesignHasModule (design : Design) (i : ℕ) : Type 0 where
   pub in_range : i < length design.modules
   pub sound : IsModuleSound (length design.channels) (module_in design i)
   pub channels : length design.channels ≤ CHANNELS

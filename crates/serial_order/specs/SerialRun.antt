@@ -7,7 +7,7 @@ use Rattle.flow_design.specs.{declared.design.Module.Module, declared.plan.Plan.
 use Rattle.flow_design.specs.{declared.state.Reply.Reply, declared.state.Request.Request, Module.block_of, Module.is_loop}
 use Rattle.lockstep_defs.specs.Machine.{requests, committed, again_of, fresh_temps, followed, opened}
 use Rattle.lockstep_defs.specs.Channels.{Exchange, reply_by, moved_by}
-use Rattle.lockstep_defs.specs.OwnRun.{OwnStep, Own, own, paired}
+use Rattle.lockstep_defs.specs.OwnRun.{OwnStep, Own, own_run, paired}
 use Rattle.serial_order.specs.Orders.{module_in}
 
 -- ---- replies from lists
@@ -95,8 +95,8 @@ pub record EndsAlike (channels : ℕ) (x : Progress) (o : Own) : Type 0 where
 abbrev pub EqualsPlainLoops : Design → ℕ → Type 0
 EqualsPlainLoops design i =
     (p : Plan) → p.design ≡ design → (lists : List (List ℕ)) (replies : List (List Reply)) (n : ℕ)
-    → AreGiven lists [] (own p i replies n).steps → IsTrue (own p i replies n).state.ended
-    → (k : ℕ) × EndsAlike (length design.channels) (serial lists design.channels (module_in design i) k) (own p i replies n)
+    → AreGiven lists [] (own_run p i replies n).steps → IsTrue (own_run p i replies n).state.ended
+    → (k : ℕ) × EndsAlike (length design.channels) (serial lists design.channels (module_in design i) k) (own_run p i replies n)
 
 -- ---- runs that have not ended
 
@@ -113,5 +113,5 @@ pub record GetsAsFar (channels : ℕ) (x : Progress) (o : Own) : Type 0 where
 abbrev pub KeepsToPlainLoops : Design → ℕ → Type 0
 KeepsToPlainLoops design i =
     (p : Plan) → p.design ≡ design → (lists : List (List ℕ)) (replies : List (List Reply)) (n : ℕ)
-    → AreGiven lists [] (own p i replies n).steps
-    → (k : ℕ) × GetsAsFar (length design.channels) (serial lists design.channels (module_in design i) k) (own p i replies n)
+    → AreGiven lists [] (own_run p i replies n).steps
+    → (k : ℕ) × GetsAsFar (length design.channels) (serial lists design.channels (module_in design i) k) (own_run p i replies n)

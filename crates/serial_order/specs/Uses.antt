@@ -5,7 +5,7 @@ use Rattle.flow_word.specs.{declared.access.Port.Port, declared.access.Side.TheV
 use Rattle.flow_design.specs.declared.expr.Expr.{Expr, more_of-Expr, Number, Var, Unary', Binary', Sext', Pick'}
 use Rattle.flow_design.specs.{declared.expr.Op.Op, declared.design.Timed.Timed, StaticRules.is_port}
 use Rattle.flow_design.specs.declared.expr.Op.TheVariants.{Set, Load, Store, Read, Write, TryRead, TryWrite, Empty, Full}
-use Rattle.flow_design.specs.Operations.{places_of, expressions_of, memory_of, port_of, used_port}
+use Rattle.flow_design.specs.Operations.{places_written, expressions_of, memory_used, port_of, used_port}
 use Rattle.serial_order.specs.declared.order.Used.{Used}
 use Rattle.serial_order.specs.declared.order.Used.TheVariants.{Register, Memory, Reading, Writing}
 
@@ -56,14 +56,14 @@ writing_end f = record { side = Push; channel = f }
 
 -- the operation writes the thing: a pop writes the reading end of its channel, and a push the writing end
 abbrev pub writes : Used → Op ℕ → Bool
-writes (Register x) op = is_listed x (places_of op)
+writes (Register x) op = is_listed x (places_written op)
 writes (Memory n) op = is_this n (stored_in op)
 writes (Reading f) op = is_port (reading_end f) (used_port op)
 writes (Writing f) op = is_port (writing_end f) (used_port op)
 
 -- the scheduled operation reads the thing, writes it or has it as its guard
 abbrev pub is_use : Used → Timed → Bool
-is_use (Register x) t = is_this x t.guard || (is_named x (expressions_of t.op) || is_listed x (places_of t.op))
-is_use (Memory n) t = is_this n (memory_of t.op)
+is_use (Register x) t = is_this x t.guard || (is_named x (expressions_of t.op) || is_listed x (places_written t.op))
+is_use (Memory n) t = is_this n (memory_used t.op)
 is_use (Reading f) t = is_port (reading_end f) (port_of t.op)
 is_use (Writing f) t = is_port (writing_end f) (port_of t.op)

@@ -2,7 +2,7 @@
 ghost use Rattle.std.specs.Prelude.{◌≡◌, ◌<◌, ◌≤◌, ◌^◌, length, All};
 ghost use Rattle.std.specs.List.{enumerate_from, flat_map};
 ghost use Rattle.flow_design.specs.{declared.limits.TheConstants.CHANNELS, StaticRules.IsModuleSound};
-ghost use Rattle.serial_order.specs.Orders.{head, query_orders, faults_by, faults_of, all_faults, order_of, HasModule};
+ghost use Rattle.serial_order.specs.Orders.{head, query_orders, faults_by, faults_of, all_faults, order_of, DesignHasModule};
 ghost use Rattle.serial_order.specs.SerialRun.{EqualsPlainLoops};
 
 use crate::order::Order;
@@ -102,7 +102,7 @@ fn first_fault(channels: u32, module: &Module) -> Option<Order>
 ///
 /// A serial module does what it would do with the iterations of its loops one after another.
 pub fn check_order(design: &Design, module: u32) -> Order
-    requires { HasModule design.now «module» }
+    requires { DesignHasModule design.now «module» }
     ensures order { result ≡ order_of design.now «module» }
     ensures serial { result ≡ Order.Serial → EqualsPlainLoops design.now «module» }
 {

@@ -1,7 +1,7 @@
 //! The law of serial modules.
 ghost use Rattle.std.specs.Prelude.{◌≡◌, ℕ};
 ghost use Rattle.flow_design.specs.declared.design.Design.{Design as Designed};
-ghost use Rattle.serial_order.specs.{declared.order.Order.TheVariants.Serial, Orders.order_of, Orders.HasModule};
+ghost use Rattle.serial_order.specs.{declared.order.Order.TheVariants.Serial, Orders.order_of, Orders.DesignHasModule};
 ghost use Rattle.serial_order.specs.SerialRun.{EqualsPlainLoops, KeepsToPlainLoops};
 
 /// A serial module does what it would do with the iterations of its loops one after another, whatever values the channels give.
@@ -10,6 +10,6 @@ ghost use Rattle.serial_order.specs.SerialRun.{EqualsPlainLoops, KeepsToPlainLoo
 /// the same number of pops of each channel, and the same registers and memories. An own run that has not ended, or never ends, has
 /// pushed on each channel, and popped from it, a prefix of what the serial run pushes and pops there.
 pub fn serial_modules_equal_plain_loops()
-    ensures ends { (design : Designed) (i : ℕ) → HasModule design i → order_of design i ≡ Serial → EqualsPlainLoops design i }
-    ensures goes { (design : Designed) (i : ℕ) → HasModule design i → order_of design i ≡ Serial → KeepsToPlainLoops design i }
+    ensures ends { (design : Designed) (i : ℕ) → DesignHasModule design i → order_of design i ≡ Serial → EqualsPlainLoops design i }
+    ensures goes { (design : Designed) (i : ℕ) → DesignHasModule design i → order_of design i ≡ Serial → KeepsToPlainLoops design i }
 {}

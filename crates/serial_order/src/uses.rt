@@ -1,6 +1,6 @@
 //! What an operation uses, and what it writes.
 ghost use Rattle.std.specs.Prelude.{◌≡◌};
-ghost use Rattle.flow_design.specs.Operations.{places_of, expressions_of, memory_of, port_of, used_port};
+ghost use Rattle.flow_design.specs.Operations.{places_written, expressions_of, memory_used, port_of, used_port};
 ghost use Rattle.flow_design.specs.StaticRules.{is_port};
 ghost use Rattle.serial_order.specs.Uses.{names, is_named, is_listed, is_this, stored_in, writes, is_use};
 
@@ -40,7 +40,7 @@ fn is_named(op: &Op<u32>, variable: u32) -> bool
 
 /// Whether an operation writes this register or temp.
 fn is_place(op: &Op<u32>, variable: u32) -> bool
-    ensures { result ≡ is_listed variable (places_of op.now) }
+    ensures { result ≡ is_listed variable (places_written op.now) }
 {
     match op {
         Op::Set(x, _)
@@ -60,7 +60,7 @@ fn is_place(op: &Op<u32>, variable: u32) -> bool
 
 /// The memory that an operation reads or writes. `None` where it uses no memory.
 fn memory_of(op: &Op<u32>) -> Option<u32>
-    ensures { result ≡ memory_of op.now }
+    ensures { result ≡ memory_used op.now }
 {
     match op {
         Op::Load { memory, .. } | Op::Store { memory, .. } => Some(*memory),

@@ -4,15 +4,15 @@ use Rattle.std.proofs.lemmas.List.{map-append, get_or-map, ext_get_or, length-ma
 use Rattle.std.proofs.{lemmas.List.FromFn.get_or-enumerate_from, lemmas.List.FromFn.length-enumerate_from, lemmas.Grind.flat_map-append}
 use Rattle.std.specs.List.{flat_map, enumerate_from}
 use Rattle.flow_design.specs.{declared.session.Statement.Statement, declared.design.Channel.Channel, Plans.no_channel, Words.cut_to}
-use Rattle.flow_design.specs.declared.design.ChannelKind.{ChannelKind}
-use Rattle.session_plan.specs.{Names.Name, Plans.values_for, Plans.inputs_of, Plans.inputs_for}
+use Rattle.flow_design.specs.{declared.design.ChannelKind.ChannelKind, Names.Name}
+use Rattle.session_plan.specs.Plans.{values_for, cut_inputs, inputs_for}
 
 -- what channel number f takes of values
 abbrev pub taken : List Channel → ℕ → List ℕ → List ℕ
-taken channels f values = inputs_of (get_or channels f no_channel).kind (get_or channels f no_channel).width values
+taken channels f values = cut_inputs (get_or channels f no_channel).kind (get_or channels f no_channel).width values
 
 pub inputs_append : (kind : ChannelKind) (width : ℕ) (a b : List ℕ)
-    → inputs_of kind width (a ++ b) ≡ inputs_of kind width a ++ inputs_of kind width b
+    → cut_inputs kind width (a ++ b) ≡ cut_inputs kind width a ++ cut_inputs kind width b
 inputs_append kind width a b = let cut = map-append (cut_to width) a b in grind arith
 
 -- each channel has what these statements give it

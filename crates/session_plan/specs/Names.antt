@@ -1,18 +1,16 @@
 -- The number of a name among names.
 use Rattle.std.specs.Prelude.{ℕ, List, [], ◌∷◌, ◌+◌, length, Option, None, Some, option_map, unwrap_or, if◌then◌else◌}
 use Rattle.std.specs.Str.{bytes_eq}
-
-abbrev pub Name : Type 0
-Name = List ℕ
+use Rattle.flow_design.specs.Names.{Name}
 
 -- the place in a list where a name stands first, if it is there
-abbrev pub place_of : List Name → Name → Option ℕ
-place_of [] n = None
-place_of (m ∷ names) n = if bytes_eq n m then Some 0 else option_map (λ k. k + 1) (place_of names n)
+abbrev pub place_among : List Name → Name → Option ℕ
+place_among [] n = None
+place_among (m ∷ names) n = if bytes_eq n m then Some 0 else option_map (λ k. k + 1) (place_among names n)
 
 -- the number of a name: its place in the list, or the number of names where it is not there
-abbrev pub number_of : List Name → Name → ℕ
-number_of names n = unwrap_or (place_of names n) (length names)
+abbrev pub name_number : List Name → Name → ℕ
+name_number names n = unwrap_or (place_among names n) (length names)
 
 -- the names that a body may use: the channels of the session, what its module declares, and its temps
 pub record Scope : Type 0 where

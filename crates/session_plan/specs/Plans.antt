@@ -3,14 +3,15 @@ use Rattle.std.specs.Prelude.{ℕ, ◌==◌, List, [], ◌∷◌, map, Option, N
 use Rattle.std.specs.List.{filter_map, flat_map, enumerate_from}
 use Rattle.flow_design.specs.{declared.session.Statement.Statement, declared.design.ChannelKind.ChannelKind}
 use Rattle.flow_design.specs.{declared.design.Channel.Channel, declared.design.Memory.Memory, declared.design.BlockKind.BlockKind}
-use Rattle.flow_design.specs.{declared.design.Block.Block as BlockOfPlan, declared.design.Module.Module as ModuleOfPlan}
-use Rattle.flow_design.specs.{declared.plan.Plan.Plan, declared.plan.Edit.Edit, declared.limits.Scale.Scale, Limits.limits_at, Words.cut_to}
+use Rattle.flow_design.specs.{declared.design.Block.Block as BlockOfPlan, declared.plan.Plan.Plan, declared.plan.Edit.Edit}
+use Rattle.flow_design.specs.{declared.limits.Scale.Scale, Limits.limits_at, Words.cut_to, Names.Name}
+use Rattle.flow_design.specs.declared.design.Module.{Module as ModuleOfPlan}
 use Rattle.flow_design.specs.declared.session.Statement.TheVariants.{Source, Sink, Fifo, Module, Mem, Block, Loop, Input, Limits, Depth}
 use Rattle.flow_design.specs.declared.design.ChannelKind.TheVariants as kind
 use Rattle.flow_design.specs.declared.design.BlockKind.TheVariants as block_kind
 use Rattle.flow_design.specs.declared.design.Next.TheVariants as next
-use Rattle.session_plan.specs.{Names.Name, Names.number_of, Names.Scope, Sections.sections, Sections.declared, Sections.declared_width}
-use Rattle.session_plan.specs.{Numbered.timed, Numbered.terminator, declared.defaults.TheConstants.CYCLES}
+use Rattle.session_plan.specs.{Names.name_number, Names.Scope, Numbered.timed, Numbered.terminator, declared.defaults.TheConstants.CYCLES}
+use Rattle.session_plan.specs.Sections.{sections, declared, declared_width}
 use Rattle.session_plan.specs.declared.section.Level.TheVariants as level
 use Rattle.session_plan.specs.declared.section.Sort.TheVariants as sort
 
@@ -37,7 +38,7 @@ first_or a (b ∷ bs) = b
 
 -- the kind of the block that `block N LEN`, or `loop N II LEN while R`, begins
 abbrev pub kind_of : Scope → Statement → BlockKind
-kind_of scope (Loop n ii len again) = block_kind.Loop ii (number_of scope.registers again)
+kind_of scope (Loop n ii len again) = block_kind.Loop ii (name_number scope.registers again)
 kind_of scope s = block_kind.Plain
 
 abbrev pub len_of : Statement → ℕ
@@ -63,9 +64,9 @@ abbrev pub memory : Statement → Option Memory
 memory (Mem n w len) = Some (record { width = w; len = len })
 memory s = None
 
-abbrev pub module_name : Statement → Name
-module_name (Module n) = n
-module_name s = []
+abbrev pub name_declared : Statement → Name
+name_declared (Module n) = n
+name_declared s = []
 
 -- the names that the bodies of a module may use, without their temps
 abbrev pub scope_of : List Name → List Statement → Scope
@@ -77,9 +78,9 @@ scope_of channels body = record {
   temps = [];
 }
 
-unfoldable pub module_of : List Name → Statement × List Statement → ModuleOfPlan
-module_of channels (head, body) = record {
-  name = module_name head;
+unfoldable pub plan_module : List Name → Statement × List Statement → ModuleOfPlan
+plan_module channels (head, body) = record {
+  name = name_declared head;
   registers = filter_map (declared_width sort.Registers) body;
   memories = filter_map memory body;
   blocks = map (block (scope_of channels body)) (sections level.Blocks body);
@@ -89,17 +90,17 @@ module_of channels (head, body) = record {
 
 -- the values of an `input` for channel f; none for any other statement
 abbrev pub values_for : List Name → ℕ → Statement → List ℕ
-values_for names f (Input n values) = if number_of names n == f then values else []
+values_for names f (Input n values) = if name_number names n == f then values else []
 values_for names f s = []
 
 -- the inputs of a channel: a source takes the values that are given for it, each cut to its width
-abbrev pub inputs_of : ChannelKind → ℕ → List ℕ → List ℕ
-inputs_of kind.Source width values = map (cut_to width) values
-inputs_of kind.Sink width values = []
-inputs_of (kind.Fifo depth delay) width values = []
+abbrev pub cut_inputs : ChannelKind → ℕ → List ℕ → List ℕ
+cut_inputs kind.Source width values = map (cut_to width) values
+cut_inputs kind.Sink width values = []
+cut_inputs (kind.Fifo depth delay) width values = []
 
 abbrev pub inputs_for : List Name → List Statement → ℕ × Channel → List ℕ
-inputs_for names statements (f, c) = inputs_of c.kind c.width (flat_map (values_for names f) statements)
+inputs_for names statements (f, c) = cut_inputs c.kind c.width (flat_map (values_for names f) statements)
 
 -- the cycle limit and the operation limit of each module that a statement gives, if it gives them
 abbrev pub limits : Statement → Option (ℕ × ℕ)
@@ -107,11 +108,11 @@ limits (Limits cycles ops) = Some (cycles, ops)
 limits s = None
 
 -- the limits of a session: those that a statement gives, or else the defaults
-abbrev pub limits_of : Scale → List Statement → ℕ × ℕ
-limits_of scale statements = first_or (CYCLES, (limits_at scale).default_operations) (filter_map limits statements)
+abbrev pub session_limits : Scale → List Statement → ℕ × ℕ
+session_limits scale statements = first_or (CYCLES, (limits_at scale).default_operations) (filter_map limits statements)
 
 abbrev pub edit : List Name → Statement → Option Edit
-edit names (Depth n depth) = Some (record { channel = number_of names n; depth = depth })
+edit names (Depth n depth) = Some (record { channel = name_number names n; depth = depth })
 edit names s = None
 
 -- ---- the whole
@@ -122,15 +123,15 @@ channels_of statements = filter_map channel statements
 abbrev pub channel_names : List Statement → List Name
 channel_names statements = filter_map (declared sort.Channels) statements
 
-abbrev pub modules_of : List Statement → List ModuleOfPlan
-modules_of statements = map (module_of (channel_names statements)) (sections level.Modules statements)
+abbrev pub plan_modules : List Statement → List ModuleOfPlan
+plan_modules statements = map (plan_module (channel_names statements)) (sections level.Modules statements)
 
 unfoldable pub plan_of : Scale → List Statement → Plan
 plan_of scale statements = record {
-  design = record { channels = channels_of statements; modules = modules_of statements };
+  design = record { channels = channels_of statements; modules = plan_modules statements };
   inputs = map (inputs_for (channel_names statements) statements) (enumerate_from 0 (channels_of statements));
-  cycles = (limits_of scale statements).0;
-  ops = (limits_of scale statements).1;
+  cycles = (session_limits scale statements).0;
+  ops = (session_limits scale statements).1;
   depths = map (λ c. depth_in c.kind) (channels_of statements);
 }
 

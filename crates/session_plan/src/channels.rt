@@ -1,7 +1,7 @@
 //! Channels with their inputs and depths, limits and edits.
 ghost use Rattle.std.specs.Prelude.{◌≡◌, ◌≤◌, ◌^◌, map, replicate, [], length, IfOk, OnOk};
 ghost use Rattle.std.specs.List.{filter_map, enumerate_from};
-ghost use Rattle.session_plan.specs.Plans.{channel, channel_names, channels_of, depth_in, limits_of, edit, inputs_for};
+ghost use Rattle.session_plan.specs.Plans.{channel, channel_names, channels_of, depth_in, session_limits, edit, inputs_for};
 
 use crate::defaults;
 use crate::names::Names;
@@ -83,7 +83,7 @@ pub(crate) fn depths_of(alloc: Global, channels: &[Channel]) -> Result<Words, Ou
 
 /// The cycle limit of a session, in clocks, and the operation limit of each module.
 pub(crate) fn limits_of(scale: Scale, statements: &[Statement]) -> (u64, u64)
-    ensures { result ≡ limits_of scale statements.now }
+    ensures { result ≡ session_limits scale statements.now }
 {
     for statement in statements {
         if let Statement::Limits { cycles, ops } = statement {

@@ -2,7 +2,7 @@
 ghost use Rattle.std.specs.Prelude.{◌≡◌, ℕ, ◌<◌, ◌++◌, [], length, map, replicate, slice_index_or, IfOk, OnOk};
 ghost use Rattle.std.specs.List.{enumerate_from};
 ghost use Rattle.flow_design.specs.{Plans.no_channel, Words.cut_to};
-ghost use Rattle.session_plan.specs.Plans.{values_for, inputs_of, inputs_for};
+ghost use Rattle.session_plan.specs.Plans.{values_for, cut_inputs, inputs_for};
 
 use crate::names::Names;
 use flow_design::{Channel, ChannelKind, Statement};
@@ -21,7 +21,7 @@ fn push_cut(width: Width, values: &[u64], out: &mut Words) -> Result<(), OutOfMe
 
 /// Adds values to a channel's inputs, each cut to its width. Only a source takes any.
 fn give(channel: &Channel, values: &[u64], out: &mut Words) -> Result<(), OutOfMemory>
-    ensures { OnOk result (out.new ≡ out.old ++ inputs_of channel.now.kind channel.now.width values.now) }
+    ensures { OnOk result (out.new ≡ out.old ++ cut_inputs channel.now.kind channel.now.width values.now) }
 {
     match channel.kind {
         ChannelKind::Source => push_cut(channel.width, values, out),
@@ -39,7 +39,7 @@ fn add_values(
     requires { length inputs.old ≡ length channels.now }
     ensures long { OnOk result (length inputs.new ≡ length inputs.old) }
     ensures given { OnOk result ((f : ℕ) → f < length channels.now → slice_index_or inputs.new f []
-        ≡ slice_index_or inputs.old f [] ++ inputs_of (slice_index_or channels.now f no_channel).kind
+        ≡ slice_index_or inputs.old f [] ++ cut_inputs (slice_index_or channels.now f no_channel).kind
         (slice_index_or channels.now f no_channel).width (values_for names.now f statement.now)) }
 {
     if let Statement::Input(name, values) = statement {

@@ -1,10 +1,10 @@
 //! Modules and their blocks.
 ghost use Rattle.std.specs.{Prelude.◌≡◌, Prelude.List as Items, Prelude.[], Prelude.map, Prelude.IfOk, List.filter_map};
-ghost use Rattle.session_plan.specs.{Names.Name as SpecName, Tables.scope_at, Numbered.timed, Numbered.terminator};
-ghost use Rattle.session_plan.specs.Sections.{sections, declared_width};
-ghost use Rattle.session_plan.specs.Plans.{first_or, kind_of, len_of, block, memory, module_name, scope_of, module_of};
+ghost use Rattle.session_plan.specs.{Tables.scope_at, Numbered.timed, Numbered.terminator, Sections.sections, Sections.declared_width};
+ghost use Rattle.session_plan.specs.Plans.{first_or, kind_of, len_of, block, memory, name_declared, scope_of, plan_module};
 ghost use Rattle.flow_design.specs.declared.design.Next.TheVariants as next;
 ghost use Rattle.session_plan.specs.declared.section.Level.TheVariants as level;
+ghost use Rattle.flow_design.specs.Names.{Name as SpecName};
 
 use crate::names::Names;
 use crate::numbering::{terminator, timed};
@@ -168,7 +168,7 @@ fn blocks_in(
 
 /// The name of the module that a statement begins.
 fn name_of(alloc: Global, head: &Statement) -> Result<Name, OutOfMemory>
-    ensures { IfOk result (λ name. name ≡ module_name head.now) }
+    ensures { IfOk result (λ name. name ≡ name_declared head.now) }
 {
     match head {
         Statement::Module(name) => name.try_copy(alloc),
@@ -177,14 +177,14 @@ fn name_of(alloc: Global, head: &Statement) -> Result<Name, OutOfMemory>
 }
 
 /// A module, from the statement that begins it and the statements up to the next module.
-#[tactic(auto, unfolding(crate::specs::Plans::module_of))]
+#[tactic(auto, unfolding(crate::specs::Plans::plan_module))]
 fn module_of(
     alloc: Global,
     channels: &Names,
     head: &Statement,
     body: &[Statement],
 ) -> Result<Module, OutOfMemory>
-    ensures { IfOk result (λ m. m ≡ module_of channels.now (head.now, body.now)) }
+    ensures { IfOk result (λ m. m ≡ plan_module channels.now (head.now, body.now)) }
 {
     Ok(Module {
         name: name_of(alloc, head)?,
@@ -200,7 +200,7 @@ pub(crate) fn modules_of(
     channels: &Names,
     statements: &[Statement],
 ) -> Result<List<Module>, OutOfMemory>
-    ensures { IfOk result (λ ms. ms ≡ map (module_of channels.now) (sections level.Modules statements.now)) }
+    ensures { IfOk result (λ ms. ms ≡ map (plan_module channels.now) (sections level.Modules statements.now)) }
 {
     let mut modules = List::new(alloc);
     for (i, head) in statements.iter().enumerate() {

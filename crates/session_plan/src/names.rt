@@ -1,7 +1,7 @@
 //! Names and their numbers.
 ghost use Rattle.std.specs.Prelude.{◌≡◌, ◌≤◌, ◌^◌, ℕ, List as Items, [], ◌∷◌, ◌++◌, length, if◌then◌else◌, OnOk, OnErr};
 ghost use Rattle.std.specs.{Option.option_or, Str.bytes_eq};
-ghost use Rattle.session_plan.specs.{Names.number_of, NameTables.number_at};
+ghost use Rattle.session_plan.specs.{Names.name_number, NameTables.number_at};
 
 use flow_word::{List, OutOfMemory};
 use indexmap::IndexMap;
@@ -17,7 +17,7 @@ pub(crate) struct Names<'a> {
 
 impl<'a> Model for Names<'a> {
     ghost use Rattle.std.specs.Prelude.{◌≡◌, ◌≤◌, ◌^◌, List as Items, ℕ, map, length};
-    ghost use Rattle.session_plan.specs.Names.{place_of};
+    ghost use Rattle.session_plan.specs.Names.{place_among};
     ghost use Rattle.session_plan.specs.NameTables.{number_at};
 
     ghost Value = { Items (Items ℕ) };
@@ -26,7 +26,7 @@ impl<'a> Model for Names<'a> {
 
     ghost invariant = { λ names.
         (length names.all ≤ 2 ^ 30)
-        × ((n : Items ℕ) → number_at names.numbers n ≡ place_of (map (λ name. name.now) names.all) n) };
+        × ((n : Items ℕ) → number_at names.numbers n ≡ place_among (map (λ name. name.now) names.all) n) };
 }
 
 /// Notes the number of a name, unless it has one already. After `OutOfMemory` the table is as it was.
@@ -82,7 +82,7 @@ impl<'a> Names<'a> {
 
     /// The number of a name: its place in the list, or the number of names where it is not there.
     pub(crate) fn number(&self, name: &[u8]) -> u32
-        ensures number { result ≡ number_of self.now name.now }
+        ensures number { result ≡ name_number self.now name.now }
         ensures most { result ≤ 2 ^ 30 }
     {
         match self.numbers.get(name) {

@@ -1,7 +1,7 @@
 //! Replacing names by numbers.
 ghost use Rattle.std.specs.Prelude.{◌≡◌, [], ◌++◌, option_map, IfOk};
-ghost use Rattle.session_plan.specs.{Names.number_of, Tables.scope_at};
-ghost use Rattle.session_plan.specs.Numbered.{numbered, operation, timed, terminator};
+ghost use Rattle.session_plan.specs.{Names.name_number, Tables.scope_at};
+ghost use Rattle.session_plan.specs.Numbered.{numbered_expr, operation, timed, terminator};
 
 use crate::names::Names;
 use crate::scope::ModuleNames;
@@ -12,7 +12,7 @@ use std::alloc::Global;
 /// The number of a register or temp: temps are numbered after the registers.
 #[tactic(auto, using(crate::proofs::NameLemmas::number_behind, crate::proofs::NameLemmas::number_among))]
 fn place(own: &ModuleNames, temps: &Names, name: &Name) -> u32
-    ensures { result ≡ number_of (own.now.registers ++ temps.now) name.now }
+    ensures { result ≡ name_number (own.now.registers ++ temps.now) name.now }
 {
     let number = own.registers.number(name.bytes());
     if number < own.registers.len() {
@@ -30,7 +30,7 @@ fn numbered(
     temps: &Names,
     expr: &Expr<Name>,
 ) -> Result<Expr<u32>, OutOfMemory>
-    ensures { IfOk result (λ e. e ≡ numbered (own.now.registers ++ temps.now) expr.now) }
+    ensures { IfOk result (λ e. e ≡ numbered_expr (own.now.registers ++ temps.now) expr.now) }
 {
     match expr {
         Expr::Number(value) => Ok(Expr::Number(*value)),
@@ -137,7 +137,7 @@ fn operation(
 
 /// The number of a guard, if there is one.
 fn guard(own: &ModuleNames, temps: &Names, name: &Option<Name>) -> Option<u32>
-    ensures { result ≡ option_map (number_of (own.now.registers ++ temps.now)) name.now }
+    ensures { result ≡ option_map (name_number (own.now.registers ++ temps.now)) name.now }
 {
     match name {
         Some(name) => Some(place(own, temps, name)),

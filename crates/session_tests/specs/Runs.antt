@@ -5,7 +5,7 @@ use Rattle.lockstep_defs.specs.OwnRun.{Own}
 use Rattle.module_interp.specs.{declared.run.ModuleRun.ModuleRun, Runs.StandsAt}
 
 -- the run is a module's of some plan, at some point of the module's own run
-pub record IsRun (run : ModuleRun) : Type 0 where
+pub record IsSomeRun (run : ModuleRun) : Type 0 where
   pub plan : Plan
   pub number : ℕ
   pub rest : Own

@@ -2,7 +2,7 @@
 ghost use Rattle.std.specs.Prelude.{ℕ, ◌≡◌, ◌<◌, true, false, length, IfOk, OnOk};
 ghost use Rattle.flow_word.specs.declared.access.Kind.{Kind as KindOf};
 ghost use Rattle.module_interp.specs.{OwnRests.fits_kind, OwnRests.all_fit, Runs.waits};
-ghost use Rattle.session_tests.specs.Runs.{IsRun};
+ghost use Rattle.session_tests.specs.Runs.{IsSomeRun};
 
 use flow_design::Reply;
 use flow_word::{Access, Kind};
@@ -234,7 +234,7 @@ end
 
 /// The run of the first module of a session.
 fn first_run<R: AllocGlobal + Abort>(rt: &R, text: &[u8]) -> Result<ModuleRun, Fail>
-    ensures run { IfOk result (λ run. IsRun run) }
+    ensures run { IfOk result (λ run. IsSomeRun run) }
     ensures fed { IfOk result (λ run. waits run ≡ false) }
 {
     let plan = read_plan(rt.alloc(), text)?;
@@ -253,9 +253,9 @@ fn step<R: Abort>(
     accesses: &[Access],
     replies: &[Reply],
 ) -> Result<(), Fail>
-    requires run { IsRun run.old }
+    requires run { IsSomeRun run.old }
     requires fed { waits run.old ≡ false }
-    ensures run { OnOk result (IsRun run.new) }
+    ensures run { OnOk result (IsSomeRun run.new) }
     ensures fed { OnOk result (waits run.new ≡ false) }
 {
     let mark = run.advance()?;
@@ -275,9 +275,9 @@ fn step<R: Abort>(
 
 /// Asserts that the next mark of a run is its end, this many local clocks after its last step, and that no step waits.
 fn is_ended<R: Abort>(rt: &R, run: &mut ModuleRun, gap: u64) -> Result<(), Fail>
-    requires run { IsRun run.old }
+    requires run { IsSomeRun run.old }
     requires fed { waits run.old ≡ false }
-    ensures run { OnOk result (IsRun run.new) }
+    ensures run { OnOk result (IsSomeRun run.new) }
     ensures fed { OnOk result (waits run.new ≡ false) }
 {
     match run.advance()? {
@@ -292,7 +292,7 @@ fn is_ended<R: Abort>(rt: &R, run: &mut ModuleRun, gap: u64) -> Result<(), Fail>
 
 /// Asserts that the run is ended this many local clocks after its last step, and stays ended.
 fn ends<R: Abort>(rt: &R, run: &mut ModuleRun, gap: u64) -> Result<(), Fail>
-    requires run { IsRun run.old }
+    requires run { IsSomeRun run.old }
     requires fed { waits run.old ≡ false }
 {
     is_ended(rt, run, gap)?;
@@ -301,7 +301,7 @@ fn ends<R: Abort>(rt: &R, run: &mut ModuleRun, gap: u64) -> Result<(), Fail>
 
 /// Asserts that the run is spent this many local clocks after its last step.
 fn is_spent<R: Abort>(rt: &R, run: &mut ModuleRun, gap: u64) -> Result<(), Fail>
-    requires run { IsRun run.old }
+    requires run { IsSomeRun run.old }
     requires fed { waits run.old ≡ false }
 {
     match run.advance()? {
@@ -365,9 +365,9 @@ fn read<R: Abort>(
     ordinal: u64,
     value: u64,
 ) -> Result<(), Fail>
-    requires run { IsRun run.old }
+    requires run { IsSomeRun run.old }
     requires fed { waits run.old ≡ false }
-    ensures run { OnOk result (IsRun run.new) }
+    ensures run { OnOk result (IsSomeRun run.new) }
     ensures fed { OnOk result (waits run.new ≡ false) }
 {
     step(
@@ -388,9 +388,9 @@ fn writes<R: Abort>(
     first_query: u64,
     access: Access,
 ) -> Result<(), Fail>
-    requires run { IsRun run.old }
+    requires run { IsSomeRun run.old }
     requires fed { waits run.old ≡ false }
-    ensures run { OnOk result (IsRun run.new) }
+    ensures run { OnOk result (IsSomeRun run.new) }
     ensures fed { OnOk result (waits run.new ≡ false) }
 {
     step(rt, run, gap, first_query, &[access], &[Reply::Done])
@@ -398,7 +398,7 @@ fn writes<R: Abort>(
 
 /// The run jumps to the only operation.
 fn jumps_over_a_long_block<R: Abort>(rt: &R, run: &mut ModuleRun) -> Result<(), Fail>
-    requires run { IsRun run.old }
+    requires run { IsSomeRun run.old }
     requires fed { waits run.old ≡ false }
 {
     writes(rt, run, 999999999999, 0, write(0, 1, 1))?;
@@ -413,7 +413,7 @@ fn a_long_block_is_jumped_over(rt: HostRuntime) -> Result<(), Fail> {
 
 /// In the fourth step the write of the older iteration comes first.
 fn commits_the_older_first<R: Abort>(rt: &R, run: &mut ModuleRun) -> Result<(), Fail>
-    requires run { IsRun run.old }
+    requires run { IsSomeRun run.old }
     requires fed { waits run.old ≡ false }
 {
     let empty = access(Kind::Empty, 1, 1);
@@ -434,7 +434,7 @@ fn the_older_iteration_commits_first(rt: HostRuntime) -> Result<(), Fail> {
 
 /// Each try counts three operations and iterations, so three tries use up the limit of 10.
 fn polls<R: Abort>(rt: &R, run: &mut ModuleRun) -> Result<(), Fail>
-    requires run { IsRun run.old }
+    requires run { IsSomeRun run.old }
     requires fed { waits run.old ≡ false }
 {
     let tries = access(Kind::TryRead, 0, 1);
@@ -452,7 +452,7 @@ fn a_polling_loop_is_spent(rt: HostRuntime) -> Result<(), Fail> {
 
 /// Each iteration begins where the one before it ends.
 fn iterates_in_turn<R: Abort>(rt: &R, run: &mut ModuleRun) -> Result<(), Fail>
-    requires run { IsRun run.old }
+    requires run { IsSomeRun run.old }
     requires fed { waits run.old ≡ false }
 {
     writes(rt, run, 2, 0, write(0, 1, 1))?;
@@ -468,9 +468,9 @@ fn iterations_in_turn(rt: HostRuntime) -> Result<(), Fail> {
 
 /// The local clocks before the first iteration is 63 local clocks old. In each, the newest iteration writes its number.
 fn young_iterations<R: Abort>(rt: &R, run: &mut ModuleRun) -> Result<(), Fail>
-    requires run { IsRun run.old }
+    requires run { IsSomeRun run.old }
     requires fed { waits run.old ≡ false }
-    ensures run { OnOk result (IsRun run.new) }
+    ensures run { OnOk result (IsSomeRun run.new) }
     ensures fed { OnOk result (waits run.new ≡ false) }
 {
     for number in 0..63 {
@@ -483,9 +483,9 @@ fn young_iterations<R: Abort>(rt: &R, run: &mut ModuleRun) -> Result<(), Fail>
 
 /// The local clocks in which the oldest iteration is 63 local clocks old, and the newest one begins.
 fn all_iterations<R: Abort>(rt: &R, run: &mut ModuleRun) -> Result<(), Fail>
-    requires run { IsRun run.old }
+    requires run { IsSomeRun run.old }
     requires fed { waits run.old ≡ false }
-    ensures run { OnOk result (IsRun run.new) }
+    ensures run { OnOk result (IsSomeRun run.new) }
     ensures fed { OnOk result (waits run.new ≡ false) }
 {
     for number in 0..2 {
@@ -505,9 +505,9 @@ fn all_iterations<R: Abort>(rt: &R, run: &mut ModuleRun) -> Result<(), Fail>
 
 /// The local clocks in which the oldest iteration is 63 local clocks old, and no further one begins.
 fn old_iterations<R: Abort>(rt: &R, run: &mut ModuleRun) -> Result<(), Fail>
-    requires run { IsRun run.old }
+    requires run { IsSomeRun run.old }
     requires fed { waits run.old ≡ false }
-    ensures run { OnOk result (IsRun run.new) }
+    ensures run { OnOk result (IsSomeRun run.new) }
     ensures fed { OnOk result (waits run.new ≡ false) }
 {
     for number in 2..65 {
@@ -519,7 +519,7 @@ fn old_iterations<R: Abort>(rt: &R, run: &mut ModuleRun) -> Result<(), Fail>
 
 /// One iteration begins in each of 65 local clocks, and each ends 64 local clocks later.
 fn iterates_most<R: Abort>(rt: &R, run: &mut ModuleRun) -> Result<(), Fail>
-    requires run { IsRun run.old }
+    requires run { IsSomeRun run.old }
     requires fed { waits run.old ≡ false }
 {
     young_iterations(rt, run)?;
@@ -536,7 +536,7 @@ fn most_live_iterations(rt: HostRuntime) -> Result<(), Fail> {
 
 /// The second and the fourth iteration write what they have read.
 fn guards_by_temps<R: Abort>(rt: &R, run: &mut ModuleRun) -> Result<(), Fail>
-    requires run { IsRun run.old }
+    requires run { IsSomeRun run.old }
     requires fed { waits run.old ≡ false }
 {
     read(rt, run, 0, 1, 10)?;
@@ -562,7 +562,7 @@ fn guards_of_their_own(rt: HostRuntime) -> Result<(), Fail> {
 
 /// An address counts modulo the memory's length, and the value 300 is cut to 44.
 fn wraps_addresses<R: Abort>(rt: &R, run: &mut ModuleRun) -> Result<(), Fail>
-    requires run { IsRun run.old }
+    requires run { IsSomeRun run.old }
     requires fed { waits run.old ≡ false }
 {
     writes(rt, run, 2, 0, write(0, 1, 44))?;
@@ -578,7 +578,7 @@ fn addresses_past_the_end(rt: HostRuntime) -> Result<(), Fail> {
 
 /// The block after the loop begins in the local clock of the decision.
 fn decides_at_the_end<R: Abort>(rt: &R, run: &mut ModuleRun) -> Result<(), Fail>
-    requires run { IsRun run.old }
+    requires run { IsSomeRun run.old }
     requires fed { waits run.old ≡ false }
 {
     read(rt, run, 1, 1, 3)?;
@@ -595,7 +595,7 @@ fn decided_at_the_end(rt: HostRuntime) -> Result<(), Fail> {
 
 /// The run writes this word, and ends.
 fn writes_one<R: Abort>(rt: &R, run: &mut ModuleRun, gap: u64, word: u64) -> Result<(), Fail>
-    requires run { IsRun run.old }
+    requires run { IsSomeRun run.old }
     requires fed { waits run.old ≡ false }
 {
     writes(rt, run, gap, 0, write(0, 1, word))?;
@@ -613,7 +613,7 @@ fn words_by_expressions_and_memories(rt: HostRuntime) -> Result<(), Fail> {
 
 /// The run comes, by advances in place, to a write of this word, and then to its end, whose local clocks it gives.
 fn comes_to_a_write<R: Abort>(rt: &R, run: &mut ModuleRun, gap: u64, word: u64) -> Result<(), Fail>
-    requires run { IsRun run.old }
+    requires run { IsSomeRun run.old }
     requires fed { waits run.old ≡ false }
 {
     let replies = [Reply::Done];

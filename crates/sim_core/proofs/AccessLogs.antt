@@ -19,25 +19,26 @@ use Rattle.timing_bridge.specs.Designs as bridge
 use Rattle.timing_bridge.specs.{Designs.design, Designs.lockstep_run, CoreReports.core_step, CoreReports.steps_at, CoreReports.AreSorted}
 use Rattle.timing_bridge.proofs.{InOrder.only_in_order, InOrder.reported_history, Places.sorted_steps}
 use Rattle.engine_view.specs.{Held.Held, Held.no_step, Held.step_of, Held.seen, Held.core_of, Shown.IsSound}
-use Rattle.engine_report.specs.{declared.events.TimedStep.TimedStep, Read.timed_places, Keys.place_of, Keys.IsTimedKey, Keys.AreSortedKeys}
+use Rattle.engine_report.specs.{declared.events.TimedStep.TimedStep, Read.timed_places}
+use Rattle.engine_report.specs.Keys.{step_place, IsTimedKey, AreSortedKeys}
 use Rattle.event_graph.specs.Lanes.{lane_at}
 use Rattle.engine_report.proofs.{Asking.same_kind, Asking.same_channel, Happening.IsTimed, Happening.all_timed}
 use Rattle.run_ahead.specs.Replies.{value_now}
 use Rattle.run_ahead.proofs.Finding.{replies_length}
 use Rattle.sim_core.specs.{Found.replies_now, declared.access_log.LoggedAccess.LoggedAccess}
-use Rattle.sim_core.specs.AccessLog.{logged, logged_in, log_of, request_of, exchange_of, replies_at, step_with, logged_at}
+use Rattle.sim_core.specs.AccessLog.{logged, logged_in, log_of, access_request, exchange_of, logged_replies, step_doing, logged_at}
 use Rattle.flow_word.proofs.Ranges.{some_is}
 use Rattle.sim_core.proofs.Fed.{accesses_inside, are_told, found_told, seen_same}
 
 -- what a module asks is what its step holds
-request_is : (r : Request) (a : Access) → bridge.seen r ≡ seen a → r ≡ request_of a
+request_is : (r : Request) (a : Access) → bridge.seen_request r ≡ seen a → r ≡ access_request a
 request_is r a e =
     let kind = same_kind r a e in
     let channel = same_channel r a e in
     let value = ap (λ (t : theory.Access). t.value) e in
     λ i. record { kind = kind i; channel = channel i; value = value i }
 
-requests_are : (rs : List Request) (xs : List Access) → map bridge.seen rs ≡ map seen xs → rs ≡ map request_of xs
+requests_are : (rs : List Request) (xs : List Access) → map bridge.seen_request rs ≡ map seen xs → rs ≡ map access_request xs
 requests_are [] [] e = refl
 requests_are [] (a ∷ xs) e = cc
 requests_are (r ∷ rs) [] e = cc
@@ -48,9 +49,9 @@ requests_are (r ∷ rs) (a ∷ xs) e =
 -- the keys of all steps with a cycle are such keys
 pub keys_timed : (h : Held) (keys : List TimedStep) → AreSortedKeys h.lanes keys → All (IsTimedKey h.lanes) keys
 keys_timed h keys sorted = λ k d l.
-    let places = All-permutation (IsTimed h) (timed_places h.lanes) (map place_of keys) sorted.all (all_timed h 0 (length h.lanes)) in
-    let there = places k (place_of d) (let n = length-map keys place_of in omega arith) in
-    let timed = subst (IsTimed h) (get_or-map place_of keys k d (place_of d) l) there in
+    let places = All-permutation (IsTimed h) (timed_places h.lanes) (map step_place keys) sorted.all (all_timed h 0 (length h.lanes)) in
+    let there = places k (step_place d) (let n = length-map keys step_place in omega arith) in
+    let timed = subst (IsTimed h) (get_or-map step_place keys k d (step_place d) l) there in
     record { is_key = sorted.each k d l; timed = timed.less }
 
 module _ (p : Plan) (h : Held) (s : IsSound (design p) h) (g : IsAgreed (design p) (lockstep_run p) p.cycles (core_of (design p) h)) where
@@ -65,7 +66,7 @@ module _ (p : Plan) (h : Held) (s : IsSound (design p) h) (g : IsAgreed (design 
     inside = let a = t.is_key.there.owner in let b = s.lanes in omega arith
 
     -- all its replies are there
-    pub all_found : found ≡ Some (replies_at h key.module key.step)
+    pub all_found : found ≡ Some (logged_replies h key.module key.step)
     all_found = go found refl
       where
         go : (o : Option (List Reply)) → found ≡ o → o ≡ Some (unwrap_or o [])
@@ -94,7 +95,7 @@ module _ (p : Plan) (h : Held) (s : IsSound (design p) h) (g : IsAgreed (design 
         all_in (Some n) some none = some
 
         module _ (told : Option ℕ) (some : IfSome told (λ n. found_in step ≡ Some rs)) (none : IsNone told → found_in step ≡ None) where
-          replies_are : rs ≡ replies_at h key.module key.step
+          replies_are : rs ≡ logged_replies h key.module key.step
           replies_are = some_is _ _ (sym (all_in told some none) ∙ (sym (ap found_in step_is) ∙ all_found))
 
           pub replies_many : length rs ≡ length step.accesses
@@ -103,8 +104,9 @@ module _ (p : Plan) (h : Held) (s : IsSound (design p) h) (g : IsAgreed (design 
               (all_in told some none)
 
           -- so what is logged by them is what the step gave
-          pub logged_is : map (logged (step_with key [])) (paired (map request_of step.accesses) rs) ≡ logged_at h key
-          logged_is = sym (ap₂ (λ (u : Step) (qs : List Reply). map (logged (step_with key [])) (paired (map request_of u.accesses) qs))
+          pub logged_is : map (logged (step_doing key [])) (paired (map access_request step.accesses) rs) ≡ logged_at h key
+          logged_is =
+              sym (ap₂ (λ (u : Step) (qs : List Reply). map (logged (step_doing key [])) (paired (map access_request u.accesses) qs))
               step_is (sym replies_are))
 
     step_logged : logged_at h key ≡ map (logged (core_step p x key.module key.step)) (core_step p x key.module key.step).exchanges
@@ -113,10 +115,10 @@ module _ (p : Plan) (h : Held) (s : IsSound (design p) h) (g : IsAgreed (design 
         let asked = sym (requests_are (requests_of p (key.module, x.state key.module key.step)) (step_of h key.module key.step).accesses
         (seen_same p s g.marks key.module key.step t.is_key.there.step)) in
         let told = found_told p s g.marks key.module key.step t.is_key.there.step all_found in
-        λ i. map (logged (step_with (record { cycle = cycle i; «module» = key.module; step = key.step }) [])) (paired (asked i) (told i))
+        λ i. map (logged (step_doing (record { cycle = cycle i; «module» = key.module; step = key.step }) [])) (paired (asked i) (told i))
 
   pub all_logged : (keys : List TimedStep) → All (IsTimedKey h.lanes) keys
-      → flat_map (logged_at h) keys ≡ logged_in (steps_at p x (map place_of keys))
+      → flat_map (logged_at h) keys ≡ logged_in (steps_at p x (map step_place keys))
   all_logged [] t = refl
   all_logged (key ∷ keys) t =
       ap₂ (λ (as' bs : List LoggedAccess). as' ++ bs) (step_logged key (All-head (IsTimedKey h.lanes) key keys t))
@@ -126,29 +128,29 @@ module _ (p : Plan) (h : Held) (s : IsSound (design p) h) (g : IsAgreed (design 
       → flat_map (logged_at h) keys ≡ log_of p
   unfolding log_of
   log_is fits final keys sorted =
-      let in_order = sorted_steps p p.cycles x g (map place_of keys) all_sorted in
+      let in_order = sorted_steps p p.cycles x g (map step_place keys) all_sorted in
       all_logged keys (keys_timed h keys sorted)
-      ∙ ap logged_in (only_in_order p fits p.cycles x g final (steps_at p x (map place_of keys)) in_order ∙ reported_history p)
+      ∙ ap logged_in (only_in_order p fits p.cycles x g final (steps_at p x (map step_place keys)) in_order ∙ reported_history p)
     where
-      all_sorted : AreSorted p x (map place_of keys)
+      all_sorted : AreSorted p x (map step_place keys)
       all_sorted = record {
         all = subst (λ (n : ℕ). IsPermutation (flat_map (λ i. map (λ k. (i, k)) (range_with_len 0 (length (lane_at h.lanes i).cycles)))
-            (range_with_len 0 n)) (map place_of keys)) s.lanes sorted.all;
+            (range_with_len 0 n)) (map step_place keys)) s.lanes sorted.all;
         sorted = sorted.sorted;
       }
 
 -- one access more
 pub logged_more : (s : HistoryStep) (xs : List Access) (qs : List Reply) (i : ℕ) (d : Access) (e : Reply) (old log new : List LoggedAccess)
-    → i < length xs → length xs ≤ length qs → log ≡ old ++ map (logged s) (paired (take i (map request_of xs)) qs)
+    → i < length xs → length xs ≤ length qs → log ≡ old ++ map (logged s) (paired (take i (map access_request xs)) qs)
     → new ≡ log ++ logged s (exchange_of (get_or xs i d) (get_or qs i e)) ∷ []
-    → new ≡ old ++ map (logged s) (paired (take (i + 1) (map request_of xs)) qs)
+    → new ≡ old ++ map (logged s) (paired (take (i + 1) (map access_request xs)) qs)
 logged_more s xs qs i d e old log new inside enough so_far added =
-    let rs = map request_of xs in
+    let rs = map access_request xs in
     let before = paired (take i rs) qs in
     let one = exchange_of (get_or xs i d) (get_or qs i e) in
-    let asked = sym (get_or-map request_of xs i d (request_of d) inside) in
-    let next = paired_more rs qs i (request_of (get_or xs i d)) (request_of d) (get_or qs i e) e
-    (let n = length-map xs request_of in omega arith) (omega arith) asked refl in
+    let asked = sym (get_or-map access_request xs i d (access_request d) inside) in
+    let next = paired_more rs qs i (access_request (get_or xs i d)) (access_request d) (get_or qs i e) e
+    (let n = length-map xs access_request in omega arith) (omega arith) asked refl in
     added
     ∙ (ap (λ (l : List LoggedAccess). l ++ logged s one ∷ []) so_far
     ∙ (append_assoc old (map (logged s) before) (logged s one ∷ [])
@@ -156,8 +158,8 @@ logged_more s xs qs i d e old log new inside enough so_far added =
 
 -- all of them
 pub logged_all : (s : HistoryStep) (xs : List Access) (qs : List Reply) (i : ℕ) (old log : List LoggedAccess) → length xs ≤ i
-    → log ≡ old ++ map (logged s) (paired (take i (map request_of xs)) qs)
-    → log ≡ old ++ map (logged s) (paired (map request_of xs) qs)
+    → log ≡ old ++ map (logged s) (paired (take i (map access_request xs)) qs)
+    → log ≡ old ++ map (logged s) (paired (map access_request xs) qs)
 logged_all s xs qs i old log over so_far =
     so_far ∙ ap (λ (rs : List Request). old ++ map (logged s) (paired rs qs))
-    (take_all i (map request_of xs) (let n = length-map xs request_of in omega arith))
+    (take_all i (map access_request xs) (let n = length-map xs access_request in omega arith))

@@ -18,8 +18,10 @@ use Rattle.event_timing.proofs.Running.{emit, emit_grows, newest_own, run_marks}
 use Rattle.timing_bridge.specs.Designs.{design}
 use Rattle.engine_view.specs.Held.{queries_in}
 use Rattle.run_ahead.specs.{declared.mail.Mail.Mail, declared.mail.Task.Task}
-use Rattle.run_ahead.specs.Mails.{values_on, next_value, replies_in, taken_after, IsLeft, IsWaiting, IsGoing, IsAtStep, IsPast, GoesOn}
-use Rattle.sim_core.specs.{Runs.IsRunOf, Runs.rest_behind, Tasks.outcomes_in, Tasks.values_behind, Tasks.committed, Tasks.IsTaskLeft}
+use Rattle.run_ahead.specs.Mails.{values_on, next_value, replies_in, taken_after, IsLeft, IsWaiting, IsStillGoing, IsBehindStep, IsPast}
+use Rattle.run_ahead.specs.Mails.{RunsOn}
+use Rattle.sim_core.specs.Runs.{IsRunOf, rest_behind}
+use Rattle.sim_core.specs.Tasks.{requested_outcomes, values_behind, steps_committed, IsTaskLeft}
 use Rattle.sim_core.proofs.{Beginnings.get_drop, Beginnings.begins_places, Resting.rest_is, Staying.fed_is, Staying.behind_same}
 use Rattle.sim_core.proofs.Committed.{committed_waits, committed_goes}
 use Rattle.sim_core.proofs.Mailed.{AreFound, read_is, no_query, no_outcomes_of}
@@ -45,7 +47,7 @@ pub record Waits (p : Plan) (z : Core ModuleState) (m : ℕ) (mail : Mail) (o : 
   pub inside : m < length p.design.modules
   pub lives : z.over m ≡ false
   pub stands : o ≡ rest_behind p z m at
-  pub outcomes : drop told mail.outcomes ≡ cond (z.answered m at) (outcomes_in (requests_of p (m, z.state m at)) (z.flags m at)) []
+  pub outcomes : drop told mail.outcomes ≡ cond (z.answered m at) (requested_outcomes (requests_of p (m, z.state m at)) (z.flags m at)) []
   pub plain : has_query (core_accesses (design p) z m at) ≡ false → z.answered m at ≡ true
   pub window : IsWindow p z m at mail taken
 
@@ -77,7 +79,7 @@ module _ (p : Plan) (f : FitsEngine p) (z : Core ModuleState) (b : AreOwnMarks (
         elim (cases_Bool (z.answered m k)) [
           | inl a ↦ a
           | inr a ↦ w.plain (no_query mail told taken (done_in o.steps) rs qs
-              (w.outcomes ∙ cond-false (z.answered m k) (outcomes_in rs (z.flags m k)) [] a) read)
+              (w.outcomes ∙ cond-false (z.answered m k) (requested_outcomes rs (z.flags m k)) [] a) read)
         ]
 
     found : AreFound mail told taken (done_in o.steps) (core_values (design p) z) (λ c. core_tally (design p) z m Pop c k) rs
@@ -85,7 +87,7 @@ module _ (p : Plan) (f : FitsEngine p) (z : Core ModuleState) (b : AreOwnMarks (
     found =
         read_is mail taken (done_in o.steps) (core_values (design p) z) (λ c. core_tally (design p) z m Pop c k) window told rs
         (z.flags m k) (b.fit m k below)
-        (w.outcomes ∙ cond-true (z.answered m k) (outcomes_in rs (z.flags m k)) [] answered) qs read
+        (w.outcomes ∙ cond-true (z.answered m k) (requested_outcomes rs (z.flags m k)) [] answered) qs read
       where
         window : (c v : ℕ) → next_value mail taken c ≡ Some v → slice_get (core_values (design p) z c)
             (core_tally (design p) z m Pop c k) ≡ Some v
@@ -190,11 +192,11 @@ module _ (p : Plan) (f : FitsEngine p) (z : Core ModuleState) (b : AreOwnMarks (
       }
     where
       none : (y : Core ModuleState) (n : ℕ) → y.answered m n ≡ not (has_query (core_accesses (design p) y m n))
-          → cond (y.answered m n) (outcomes_in (requests_of p (m, y.state m n)) (y.flags m n)) [] ≡ []
+          → cond (y.answered m n) (requested_outcomes (requests_of p (m, y.state m n)) (y.flags m n)) [] ≡ []
       none y n e =
           elim (cases_Bool (has_query (core_accesses (design p) y m n))) [
-            | inl k ↦ cond-false (y.answered m n) (outcomes_in (requests_of p (m, y.state m n)) (y.flags m n)) [] (e ∙ ap not k)
-            | inr k ↦ cond-true (y.answered m n) (outcomes_in (requests_of p (m, y.state m n)) (y.flags m n)) [] (e ∙ ap not k)
+            | inl k ↦ cond-false (y.answered m n) (requested_outcomes (requests_of p (m, y.state m n)) (y.flags m n)) [] (e ∙ ap not k)
+            | inr k ↦ cond-true (y.answered m n) (requested_outcomes (requests_of p (m, y.state m n)) (y.flags m n)) [] (e ∙ ap not k)
                 ∙ no_outcomes_of (requests_of p (m, y.state m n)) (y.flags m n) k
           ]
 
@@ -221,7 +223,7 @@ left_values p z m n mail left taken w l k c e =
     (sym (l.values c)) ∙ g))))
 
 going_run : (p : Plan) (z : Core ModuleState) (m : ℕ) (mail : Mail) (o : Own) (told : ℕ) (taken : ℕ → ℕ) (last : Task)
-    → Goes p z m mail o told taken → IsGoing p m mail last o taken → IsRunOf p z m last.run
+    → Goes p z m mail o told taken → IsStillGoing p m mail last o taken → IsRunOf p z m last.run
 going_run p z m mail o told taken last g s = record {
   waiting = λ w. let e = sym w ∙ s.goes in cc;
   going = λ w. (λ k e. (g.may.answered k e, g.may.there k e), subst (λ (q : Own). StandsAt p m q last.run) g.stands s.stands);
@@ -229,10 +231,10 @@ going_run p z m mail o told taken last g s = record {
 }
 
 pub going_stands : (p : Plan) (z : Core ModuleState) (m : ℕ) (mail : Mail) (o : Own) (told : ℕ) (taken : ℕ → ℕ) (last : Task)
-    → Goes p z m mail o told taken → IsGoing p m mail last o taken → IsTaskLeft p z m last
+    → Goes p z m mail o told taken → IsStillGoing p m mail last o taken → IsTaskLeft p z m last
 going_stands p z m mail o told taken last g s = record {
   run = going_run p z m mail o told taken last g s;
-  values = λ c. left_values p z m (z.emitted m) mail last.mail taken g.window s.left (committed z m last.run) c
+  values = λ c. left_values p z m (z.emitted m) mail last.mail taken g.window s.left (steps_committed z m last.run) c
       (committed_goes z m last.run s.goes);
 }
 
@@ -244,12 +246,12 @@ waiting_stands p z m mail o told taken short last w s = record {
     going = λ y. let e = sym y ∙ s.waits in cc;
     over = λ e. let y = sym e ∙ w.lives in cc;
   };
-  values = λ c. left_values p z m w.at mail last.mail taken w.window s.left (committed z m last.run) c
+  values = λ c. left_values p z m w.at mail last.mail taken w.window s.left (steps_committed z m last.run) c
       (committed_waits z m last.run s.waits ∙ (let n = w.newest in omega arith));
 }
 
 pub over_stands : (p : Plan) (z : Core ModuleState) (m : ℕ) (mail : Mail) (o : Own) (told : ℕ) (taken : ℕ → ℕ) (last : Task)
-    → Goes p z m mail o told taken → IsGoing p m mail last o taken → IsTaskLeft p (emit_over z m) m last
+    → Goes p z m mail o told taken → IsStillGoing p m mail last o taken → IsTaskLeft p (emit_over z m) m last
 over_stands p z m mail o told taken last g s =
     let r = going_run p z m mail o told taken last g s in
     record {
@@ -285,7 +287,7 @@ ran_none p z m last s = record { core = z; acts = refl; grows = grows_self (desi
 
 pub run_on : (p : Plan) → FitsEngine p → (z : Core ModuleState) → AreOwnMarks (design p) z
     → (m : ℕ) (mail : Mail) (short : Bool) (last : Task) (o : Own) (told : ℕ) (taken : ℕ → ℕ) (marks : List Advance)
-    → Goes p z m mail o told taken → GoesOn p m mail short last o told taken marks → Ran p z m (length marks) last
+    → Goes p z m mail o told taken → RunsOn p m mail short last o told taken marks → Ran p z m (length marks) last
 run_on p f z b m mail short last o told taken [] g (s, e) = ran_none p z m last (going_stands p z m mail o told taken last g s)
 run_on p f z b m mail short last o told taken (mark ∷ more) g (e, sound, past) =
     let y = after_run (design p) z m in
@@ -294,20 +296,20 @@ run_on p f z b m mail short last o told taken (mark ∷ more) g (e, sound, past)
       | inl s ↦ behind (λ o' told' taken' g' next. run_on p f y (run_marks (design p) z b m g.may) m mail short last o' told' taken' more g'
           next) (waits_behind p f z b m mail o told taken g (ap is_step (sym e) ∙ s))
           (subst (λ (c : Bool). IsPast c p m mail short last o told taken more
-          (λ o' told' taken'. GoesOn p m mail short last o' told' taken' more)) s past)
+          (λ o' told' taken'. RunsOn p m mail short last o' told' taken' more)) s past)
       | inr s ↦ ended (over_behind p f z b m mail o told taken g (ap is_step (sym e) ∙ s))
           (subst (λ (c : Bool). IsPast c p m mail short last o told taken more
-          (λ o' told' taken'. GoesOn p m mail short last o' told' taken' more)) s past)
+          (λ o' told' taken'. RunsOn p m mail short last o' told' taken' more)) s past)
     ])
   where
-    ended : after_run (design p) z m ≡ emit_over z m → (more ≡ []) × IsGoing p m mail last o taken
+    ended : after_run (design p) z m ≡ emit_over z m → (more ≡ []) × IsStillGoing p m mail last o taken
         → Ran p (after_run (design p) z m) m (length more) last
     ended e (n, s) = rw (e, n) (ran_none p (emit_over z m) m last (over_stands p z m mail o told taken last g s))
 
     behind : ((o' : Own) (told' : ℕ) (taken' : ℕ → ℕ) → Goes p (after_run (design p) z m) m mail o' told' taken'
-        → GoesOn p m mail short last o' told' taken' more → Ran p (after_run (design p) z m) m (length more) last)
-        → Waits p (after_run (design p) z m) m mail o told taken → IsAtStep p m mail short last o told taken more
-        (λ o' told' taken'. GoesOn p m mail short last o' told' taken' more)
+        → RunsOn p m mail short last o' told' taken' more → Ran p (after_run (design p) z m) m (length more) last)
+        → Waits p (after_run (design p) z m) m mail o told taken → IsBehindStep p m mail short last o told taken more
+        (λ o' told' taken'. RunsOn p m mail short last o' told' taken' more)
         → Ran p (after_run (design p) z m) m (length more) last
     behind again w (inl (n, s)) =
         rw n (ran_none p (after_run (design p) z m) m last (waiting_stands p (after_run (design p) z m) m mail o told taken short last w s))

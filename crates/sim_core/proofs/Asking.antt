@@ -13,21 +13,22 @@ use Rattle.module_sets.specs.{declared.mask.Mask.Mask, Sets.Has, Sets.HasMask, S
 use Rattle.lockstep_defs.specs.{Lockstep.requests_of, Ports.StandsAtPort, Ports.owner}
 use Rattle.event_timing.specs.{Machines.Design, Machines.Each, Core.Core, Actions.Action.Assign, Actions.Action.Answer, Agreement.IsAgreed}
 use Rattle.event_timing.specs.Actions.{ActsAll, Acts, MayEarliest, after_answer, runs}
-use Rattle.timing_bridge.specs.{Designs.design, Designs.lockstep_run, Designs.seen, Apart.AreApart, Rounds.may_time, Rounds.after_timing}
+use Rattle.timing_bridge.specs.Designs.{design, lockstep_run, seen_request}
+use Rattle.timing_bridge.specs.{Apart.AreApart, Rounds.may_time, Rounds.after_timing}
 use Rattle.timing_bridge.proofs.{History.plan_is_design, History.run_is_history, Requests.stand, Apart.timing_apart, Apart.runs_apart}
 use Rattle.timing_bridge.proofs.Onward.{assigned_is, answered_is, idle_is, opened_is}
 use Rattle.outcome_guard.specs.declared.guard.Guard.{Guard}
 use Rattle.outcome_guard.specs.declared.guard.Guard.TheVariants as guard
 use Rattle.engine_view.specs.{Held.Held, Held.core_of, Turns.is_progress, Turns.IsIdle, declared.turn.Timing.Timing}
 use Rattle.engine_view.specs.declared.turn.Timing.TheVariants as turn
-use Rattle.sim_core.specs.Asking.{Lacks, HasRoom, AreAcross, AreAcrossTo, AreBeside, AreBesideTo, AreAsking}
+use Rattle.sim_core.specs.Asking.{Lacks, SetHasRoom, AreAcross, AreAcrossTo, AreBeside, AreBesideTo, AreAsking}
 use Rattle.sim_core.specs.{Opening.ports_to, Turns.HasTurned, Turns.HasAnsweredLeast, Views.CoreView, Views.theory_of}
 use Rattle.sim_core.proofs.Ports.{all_there}
 
 -- ---- the modules at the other ends
 
 -- one port more
-pub across_more : (p : Plan) (ports : List Port) (at : ℕ) (set now : List ℕ) → HasRoom p set → AreAcrossTo p ports at set → (port : Port)
+pub across_more : (p : Plan) (ports : List Port) (at : ℕ) (set now : List ℕ) → SetHasRoom p set → AreAcrossTo p ports at set → (port : Port)
     → slice_get ports at ≡ Some port → (other : ℕ) → other ≡ (design p).owner (other_side port.side) port.channel → IsAdded set other now
     → AreAcrossTo p ports (at + 1) now
 across_more p ports at set now room are port here other is added i q l there n inside e =
@@ -40,7 +41,7 @@ across_more p ports at set now room are port here other is added i q l there n i
           (added.has n).1 (inr (sym n_is, (omega arith)))
     ]
 
-pub still_room : (p : Plan) (set now : List ℕ) → length now ≡ length set → HasRoom p set → HasRoom p now
+pub still_room : (p : Plan) (set now : List ℕ) → length now ≡ length set → SetHasRoom p set → SetHasRoom p now
 still_room p set now e room = omega arith
 
 module _ (p : Plan) (fits : FitsEngine p) (m : ℕ) (inside : m < length p.design.modules) where
@@ -61,7 +62,7 @@ module _ (p : Plan) (fits : FitsEngine p) (m : ℕ) (inside : m < length p.desig
           (ap (λ (side : Side). (design p).owner side r.channel) (other_twice (side_of r.kind)) ∙ e.owned))
 
       each_away : (rs : List Request) → AllByRecursion (StandsAtPort p n) rs
-          → Each (λ a. (design p).owner (other_side a.side) a.channel ≡ m → ⊥) (map seen rs)
+          → Each (λ a. (design p).owner (other_side a.side) a.channel ≡ m → ⊥) (map seen_request rs)
       each_away [] stands = tt
       each_away (r ∷ rs) (here, more) = (away r here, each_away rs more)
 
@@ -177,7 +178,7 @@ pub beside_edited : (p : Plan) (channel depth : ℕ) (beside : List (List Mask))
 unfolding owner
 beside_edited p channel depth beside b = record { count = b.count; apart = b.apart }
 
-pub asking_all : (p : Plan) (x : Core ModuleState) (asking : List ℕ) → HasRoom p asking
+pub asking_all : (p : Plan) (x : Core ModuleState) (asking : List ℕ) → SetHasRoom p asking
     → ((n : ℕ) → n < capacity asking → Has asking n) → AreAsking p x asking
 asking_all p x asking room all = record { room = room; idle = λ n l none. absurd (none (all n (omega arith))) }
 
@@ -202,7 +203,7 @@ module _ (v w : CoreView) (fits : FitsEngine v.plan) (asking : List ℕ) (are : 
 
 -- where nothing was due, an Earliest at a module leaves nothing due but of itself and of those that share a channel with it
 module _ (v w : CoreView) (fits : FitsEngine v.plan) (beside : List (List Mask)) (besides : AreBeside v.plan beside) (m : ℕ)
-    (inside : m < length v.plan.design.modules) (now : List ℕ) (room : HasRoom v.plan now) (own : Has now m)
+    (inside : m < length v.plan.design.modules) (now : List ℕ) (room : SetHasRoom v.plan now) (own : Has now m)
     (spread : (n : ℕ) → n < length v.plan.design.modules → Lacks now n → HasMask (slice_index_or beside m []) n → ⊥) (c : ℕ)
     (may : MayEarliest (design v.plan) v.plan.cycles (theory_of v) m c) where
   abbrev d : Design ModuleState

@@ -10,7 +10,7 @@ use Rattle.lockstep_defs.specs.{Lockstep.moment, Lockstep.opening, OwnRun.Own, P
 use Rattle.module_interp.specs.{declared.path.Path.Path, declared.run.ModuleRun.ModuleRun, Chains.rest_at, Chains.replies_to}
 use Rattle.module_interp.specs.{OwnRests.next_rest, OwnRests.mark_at, Paths.IsPathOf, Runs.StandsAt}
 use Rattle.fifo_table.specs.{declared.channel.TableChannel.TableChannel, declared.channel.TableChannel.TheVariants.Sink}
-use Rattle.fifo_table.specs.Channels.{Channel, IsFifo, channel_at, deepened, depth_of, unused, with_depth as with_depths}
+use Rattle.fifo_table.specs.Channels.{Channel, IsFifo, channel_at, deepened, depth_of, unused, deepened_channels}
 use Rattle.event_timing.specs.Core.{Core}
 use Rattle.timing_bridge.proofs.Edits.{edited_fits}
 use Rattle.engine_view.specs.Taking.{kinds_in}
@@ -117,7 +117,7 @@ module _ (p : Plan) (fits : FitsEngine p) (e : Edit) (fit : EditFits p e) (chann
     depth_there = ap depth_of kind_there ∙ its_depth (kind_at p e.channel) _ _ fit.fifo
 
     abbrev changed : List Channel
-    changed = with_depths channels e.channel e.depth
+    changed = deepened_channels channels e.channel e.depth
 
     kind_of : (cs : List Channel) (c : ℕ) (d : TableChannel) → c < length cs → get_or (kinds_in cs) c d ≡ (channel_at cs c).kind
     kind_of cs c d l = get_or-map (λ (k : Channel). k.kind) cs c (unused Sink) d l

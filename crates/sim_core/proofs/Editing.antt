@@ -9,7 +9,7 @@ use Rattle.flow_design.specs.{declared.plan.Edit.Edit, declared.plan.Plan.Plan, 
 use Rattle.flow_design.specs.{declared.state.ModuleState.ModuleState, Plans.with_depth, Plans.EditFits, StaticRules.FitsEngine}
 use Rattle.module_interp.specs.declared.run.ModuleRun.{ModuleRun}
 use Rattle.event_graph.specs.{Lanes.Lane, Lanes.lane_at, Lanes.timed_below, declared.candidate.Candidate.Candidate}
-use Rattle.fifo_table.specs.Channels.{channel_at, depth_of, places_of, with_depth as with_depths}
+use Rattle.fifo_table.specs.Channels.{channel_at, depth_of, places_of, deepened_channels}
 use Rattle.outcome_guard.specs.{declared.guard.Guard.Guard, declared.guard.Guard.TheVariants.Same, declared.guard.Guard.TheVariants.Differs}
 use Rattle.event_timing.specs.{Machines.Design, Machines.IsDesign, Core.Core, Actions.IsFinal, Agreement.AreOwnMarks, Agreement.IsAgreed}
 use Rattle.event_timing.specs.{Edits.edited, Edits.after_edit, Growth.GrowsBeside}
@@ -22,8 +22,8 @@ use Rattle.engine_view.specs.declared.engine.Engine.{Engine}
 use Rattle.cycle_changes.specs.{Records.IsRightRecord, Changed.HasChanged, Moved.moved_in}
 use Rattle.cycle_changes.proofs.{Final.right_final, Marks.marks_on, Onward.final_record, Recording.right_agrees}
 use Rattle.retime.specs.{Cuts.HasRetimed, Cuts.KeepsRoomEdited, Edits.IsEditFrom, Edits.IsEditOf}
-use Rattle.retime.specs.Rounds.{LeadsAll, HasEnded, only_steps, cycles_in, steps_in}
-use Rattle.retime.specs.Touched.{AreInOrder, IsFirstTouched, IsNeverTouched}
+use Rattle.retime.specs.Rounds.{LeadsAll, HasEnded, only_steps, cycles_in, steps_in_lanes}
+use Rattle.retime.specs.Touched.{ArePlacesInOrder, IsFirstTouched, IsNeverTouched}
 use Rattle.retime.proofs.{Counts.few_cycles, Counts.same_steps, Counts.same_length, Cutting.sound_lanes_of, Behind.agreed_behind}
 use Rattle.retime.proofs.{Behind.outcomes_behind, Otherwise.other_in_history, Tallied.places_in_order}
 use Rattle.sim_core.specs.{Edits.IsEdited, Edits.IsTrueGuard, Edits.StayBelow, Runs.IsCore, Runs.IsStoredCore, Runs.IsWired, Runs.over_of}
@@ -39,7 +39,7 @@ pub record IsRetiming (guard : Guard) (e : Edit) (clock limit : ℕ) (s t : Engi
   pub steps : only_steps t.graph.lanes ≡ only_steps s.graph.lanes
   pub core : IsSomeCore t
   pub room : KeepsRoomEdited e s t
-  pub kinds : kinds_in t.fifos.channels ≡ kinds_in (with_depths s.fifos.channels e.channel e.depth)
+  pub kinds : kinds_in t.fifos.channels ≡ kinds_in (deepened_channels s.fifos.channels e.channel e.depth)
   pub ticked : after + cycles_in (map (timed_below clock) s.graph.lanes) ≡ before + cycles_in t.graph.lanes
 
 -- so it does where nothing came before it but a try that left all as it was
@@ -64,7 +64,7 @@ module _ {p : Plan} {s : Engine} {ends : List (Option Advance)} {runs : List (Op
   is_design : IsDesign d
   is_design = plan_is_design p k.fits
 
-  pub in_order : (side : Side) → AreInOrder (places_of side (channel_at s.fifos.channels e.channel))
+  pub in_order : (side : Side) → ArePlacesInOrder (places_of side (channel_at s.fifos.channels e.channel))
   in_order side =
       places_in_order d (held_in s over) k.sound e.channel (channel_inside p k.fits e fit s.fifos.channels k.table) is_design side
 
@@ -228,7 +228,7 @@ module _ {p : Plan} {s : Engine} {ends : List (Option Advance)} {runs : List (Op
 
     pub is_changed : {clock : ℕ} → IsEditFrom s.graph.lanes s.fifos.channels e p.cycles clock → (lent : List Bool) (before after : ℕ)
         → after ≡ before + moved_in s.graph.lanes t.graph.lanes
-        → after + cycles_in (map (timed_below clock) s.graph.lanes) ≤ before + steps_in s.graph.lanes
+        → after + cycles_in (map (timed_below clock) s.graph.lanes) ≤ before + steps_in_lanes s.graph.lanes
         → IsEdited (record { plan = p; held = held_in s over; lent = lent })
         (record { plan = q; held = held_in t over; lent = lent }) e Same
         before after

@@ -7,7 +7,7 @@ use Rattle.flow_design.specs.declared.state.Advance.TheVariants.{Step, Ended, Sp
 use Rattle.event_graph.specs.Packed.{IsFewStep}
 use Rattle.lockstep_defs.specs.OwnRun.{Own}
 use Rattle.module_interp.specs.{declared.run.ModuleRun.ModuleRun, OwnRests.mark_at}
-use Rattle.module_interp.specs.Runs.{StandsAt, waits, is_step, listed, IsFew, IsSoundMark}
+use Rattle.module_interp.specs.Runs.{StandsAt, waits, is_step, listed_step, IsFew, IsSoundMark}
 use Rattle.event_timing.specs.{Machines.Design, Core.Core, Actions.Acts, Actions.MayRun, Actions.Action.Run}
 use Rattle.timing_bridge.specs.Designs.{design}
 use Rattle.engine_view.specs.{Held.Held, Held.emitted_of, Held.core_of, declared.engine.Engine.Engine, Engines.held_in}
@@ -23,13 +23,13 @@ not_a_step (Spent n) f = refl
 
 -- ---- the step that was listed
 
-pub as_listed : (run : ModuleRun) {gap : ℕ} {accesses : List Access} {first : ℕ} → gap ≡ (listed run).gap
-    → accesses ≡ (listed run).accesses → first ≡ (listed run).first_query
-    → Step (record { gap = gap; accesses = accesses; first_query = first }) ≡ Step (listed run)
+pub as_listed : (run : ModuleRun) {gap : ℕ} {accesses : List Access} {first : ℕ} → gap ≡ (listed_step run).gap
+    → accesses ≡ (listed_step run).accesses → first ≡ (listed_step run).first_query
+    → Step (record { gap = gap; accesses = accesses; first_query = first }) ≡ Step (listed_step run)
 as_listed run e f g = rw (e, f, g) refl
 
-pub as_few : (run : ModuleRun) {gap : ℕ} {accesses : List Access} {first : ℕ} → gap ≡ (listed run).gap
-    → accesses ≡ (listed run).accesses → first ≡ (listed run).first_query → IsFew (listed run)
+pub as_few : (run : ModuleRun) {gap : ℕ} {accesses : List Access} {first : ℕ} → gap ≡ (listed_step run).gap
+    → accesses ≡ (listed_step run).accesses → first ≡ (listed_step run).first_query → IsFew (listed_step run)
     → IsFewStep (record { gap = gap; accesses = accesses; first_query = first })
 as_few run e f g few = rw (e, f, g) (record {
   some = few.some;

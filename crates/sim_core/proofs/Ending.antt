@@ -12,7 +12,7 @@ use Rattle.module_interp.specs.Runs as run
 use Rattle.event_timing.specs.{Core.Core, Actions.IsFinal}
 use Rattle.timing_bridge.specs.Designs.{design}
 use Rattle.engine_view.specs.{Held.core_of, declared.engine.Engine.Engine, Engines.held_in}
-use Rattle.engine_report.specs.{Standings.end_at, Standings.gap_of, Finished.IsEndMark, Finished.IsFinished}
+use Rattle.engine_report.specs.{Standings.end_at, Standings.gap_of_end, Finished.IsEndMark, Finished.IsFinished}
 use Rattle.sim_core.specs.{Marks.IsRestBehind, Runs.IsCore, Runs.rest_behind, Runs.over_of}
 use Rattle.sim_core.proofs.{Marking.table_count, Resting.rest_is}
 
@@ -24,12 +24,12 @@ marked p x m o r mark false true t e f is none = rw is (ap (is_spent p.ops) (sym
 marked p x m o r mark false false t e f is none = cc
 
 -- both crates' words for the gap of a mark
-same_gap : (mark : Advance) → run.gap_of mark < gap_bound → gap_of (Some mark) < gap_bound
+same_gap : (mark : Advance) → run.gap_of mark < gap_bound → gap_of_end (Some mark) < gap_bound
 same_gap (Step t) l = omega arith
 same_gap (Ended n) l = l
 same_gap (Spent n) l = l
 
-short_mark : (o : Option Advance) → ((mark : Advance) → o ≡ Some mark → gap_of (Some mark) < gap_bound) → gap_of o < gap_bound
+short_mark : (o : Option Advance) → ((mark : Advance) → o ≡ Some mark → gap_of_end (Some mark) < gap_bound) → gap_of_end o < gap_bound
 short_mark None f = omega arith
 short_mark (Some (Step t)) f = omega arith
 short_mark (Some (Ended n)) f = f (Ended n) refl

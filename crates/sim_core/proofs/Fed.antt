@@ -40,7 +40,7 @@ told_one : (k : Kind) (b : Bool) (v : ℕ) → (is_blocking k ≡ true → b ≡
     → reply_by k b (cond (is_taking k && (same_side (side_of k) Pop && b)) v 0) ≡ reply_by k b v
 told_one k b v f = grind arith
 
-told_found : (channels : List Channel) (rs : List Request) (xs : List Access) (bs : List Bool) → map bridge.seen rs ≡ map seen xs
+told_found : (channels : List Channel) (rs : List Request) (xs : List Access) (bs : List Bool) → map bridge.seen_request rs ≡ map seen xs
     → FlagsFit (map seen xs) bs
     → told_all rs (replies_by channels xs bs) ≡ replies_found channels xs bs
 told_found channels [] [] bs e f = refl
@@ -52,7 +52,7 @@ told_found channels (r ∷ rs) (a ∷ xs) (b ∷ bs) e (f, fs) =
     let one = told_one a.kind b (get_or (values_at channels a.channel) (a.ordinal - 1) 0) f in
     let later = told_found channels rs xs bs (cc) fs in cc
 
-fit_same : (before : List Exchange) (rs : List Request) (xs : List Access) (qs : List Reply) → map bridge.seen rs ≡ map seen xs
+fit_same : (before : List Exchange) (rs : List Request) (xs : List Access) (qs : List Reply) → map bridge.seen_request rs ≡ map seen xs
     → all_fit (map (access_of before) rs) qs ≡ all_fit xs qs
 fit_same before [] [] qs e = refl
 fit_same before [] (a ∷ xs) qs e = cc
@@ -68,15 +68,16 @@ same_access x y kind channel ordinal value =
     ap₂ access (ap₂ (λ (a : Kind) (b : ℕ). (a, b)) kind channel) (ap₂ (λ (a b : ℕ). (a, b)) ordinal value)
 
 -- accesses as the theory sees them, with the ordinals that it counts, are those of the requests
-pub same_accesses : (before : List Exchange) (t : Side → ℕ → ℕ) (rs : List Request) (xs : List Access) → map bridge.seen rs ≡ map seen xs
+pub same_accesses : (before : List Exchange) (t : Side → ℕ → ℕ) (rs : List Request) (xs : List Access)
+    → map bridge.seen_request rs ≡ map seen xs
     → ((r : Request) → (access_of before r).ordinal ≡ suc (t (side_of r.kind) r.channel))
     → All (λ (a : Access). a.ordinal ≡ suc (t (side_of a.kind) a.channel)) xs → map (access_of before) rs ≡ xs
 same_accesses before t [] [] e f o = refl
 same_accesses before t [] (a ∷ xs) e f o = cc
 same_accesses before t (r ∷ rs) [] e f o = cc
 same_accesses before t (r ∷ rs) (a ∷ xs) e f o =
-    let here : bridge.seen r ≡ seen a = cc in
-    let rest : map bridge.seen rs ≡ map seen xs = cc in
+    let here : bridge.seen_request r ≡ seen a = cc in
+    let rest : map bridge.seen_request rs ≡ map seen xs = cc in
     let kind = same_kind r a here in
     let channel = same_channel r a here in
     let value : r.value ≡ a.value = ap (λ (t : theory.Access). t.value) here in
@@ -123,7 +124,7 @@ module _ (p : Plan) {h : Held} (s : IsSound (design p) h) (b : AreOwnMarks (desi
   abbrev outs : List Bool
   outs = (log_at h.logs i).outcomes
 
-  pub seen_same : map bridge.seen (requests_of p (i, x.state i k)) ≡ map seen step_accesses
+  pub seen_same : map bridge.seen_request (requests_of p (i, x.state i k)) ≡ map seen step_accesses
   seen_same = s.accesses i k less
 
   pub flags_fit : FlagsFit (map seen step_accesses) (flags_of h i k)
@@ -188,7 +189,8 @@ module _ {p : Plan} {engine : Engine} {ends : List (Option Advance)} {runs : Lis
   pub fed_fits : {rs : List Reply} → replies_now h i (step_of h i k) ≡ Some rs → all_fit (accesses_at p i rest) rs ≡ true
   fed_fits {rs} e =
       fit_same (done_in rest.steps) (requests_of p (i, rest.state)) waiting rs
-      (ap (λ (z : ModuleState). map bridge.seen (requests_of p (i, z))) state_is ∙ seen_same p core.sound core.agreed.marks i k emitted)
+      (ap (λ (z : ModuleState). map bridge.seen_request (requests_of p (i, z))) state_is
+      ∙ seen_same p core.sound core.agreed.marks i k emitted)
       ∙ replies_fit (log_at h.logs i).outcomes (value_now h.channels) (step_of h i k).first_query waiting rs e
 
   pub fed_rest : {rs : List Reply} → replies_now h i (step_of h i k) ≡ Some rs

@@ -13,7 +13,8 @@ use Rattle.event_timing.specs.{Machines.Design, Core.Core, Core.core_accesses, C
 use Rattle.event_timing.specs.{Agreement.IsAgreed, Edits.edited, Edits.after_edit}
 use Rattle.event_timing.specs.Actions.{Action, ActsAll, IsFinal, MayRun, new_flags}
 use Rattle.event_timing.proofs.{Answering.first_emitted, Beside.actions_grow, Deciding.determined_inside}
-use Rattle.timing_bridge.specs.{Designs.design, Designs.lockstep_run, Outcomes.outcomes_by, Outcomes.first_requests, Outcomes.IsNextStep}
+use Rattle.timing_bridge.specs.Designs.{design, lockstep_run}
+use Rattle.timing_bridge.specs.Outcomes.{outcomes_by, first_requests, IsNextInHistory}
 use Rattle.timing_bridge.proofs.{Edits.same_design, History.plan_is_design, History.run_is_history}
 use Rattle.timing_bridge.proofs.Outcomes.{answered_outcomes, earliest_outcomes}
 use Rattle.engine_view.specs.Held.{Held, step_of, emitted_of, are_among, core_of}
@@ -221,7 +222,7 @@ module _ (v : CoreView) (e : Edit) (w : CoreView) (t : IsEditedOn v e w) where
   module _ (m c : ℕ) (q : Query) (found : IsFoundOther (design w.plan) w.held m c q)
       (at : candidate (design w.plan) (view (design w.plan) x) m ≡ Some c)
       (unsure : x.verified m (x.timed m) ≡ false)
-      (next : (s : HistoryStep) × (s.clock ≡ c) × IsNextStep w.plan x m w.plan.cycles s
+      (next : (s : HistoryStep) × (s.clock ≡ c) × IsNextInHistory w.plan x m w.plan.cycles s
       × (outcomes (s ∷ []) ≡ outcomes_by (first_requests w.plan x m) (new_flags (design w.plan) x m c))) where
     emitted : first_of w.held m < emitted_of w.held m
     emitted = first_emitted (design w.plan) x m c at

@@ -12,7 +12,7 @@ use Rattle.event_timing.specs.{Actions.MayRun, Core.Core, Core.core_tally, Core.
 use Rattle.timing_bridge.specs.Designs.{design}
 use Rattle.engine_view.specs.{Held.Held, Held.emitted_of, Held.core_of, declared.engine.Engine.Engine, Engines.held_in}
 use Rattle.run_ahead.specs.{declared.mail.Mail.Mail, declared.mail.Task.Task, Mails.values_on}
-use Rattle.sim_core.specs.{Lent.IsMade, Readers.AreReaders, Tasks.committed, Tasks.IsTaskOf, Tasks.IsTaskLeft}
+use Rattle.sim_core.specs.{Lent.IsMade, Readers.AreReaders, Tasks.steps_committed, Tasks.IsTaskOf, Tasks.IsTaskLeft}
 use Rattle.sim_core.specs.Runs.{IsCore, IsRunOf, rest_behind, lent_of, over_of}
 use Rattle.sim_core.proofs.{Posted.going_posted, Posted.waiting_posted, Sending.popped_is}
 use Rattle.sim_core.proofs.Committed.{committed_waits, committed_goes}
@@ -75,8 +75,8 @@ module _ {p : Plan} {s : Engine} {ends : List (Option Advance)} {runs : List (Op
   abbrev x : Core ModuleState
   x = core_of (design p) (held_in s (over_of ends))
 
-  count_at : (n : ℕ) → n ≤ x.emitted m → StandsAt p m (rest_behind p x m n) last.run → committed x m last.run ≡ n
-      → popped_in last.run c ≡ core_tally (design p) x m Pop c (committed x m last.run)
+  count_at : (n : ℕ) → n ≤ x.emitted m → StandsAt p m (rest_behind p x m n) last.run → steps_committed x m last.run ≡ n
+      → popped_in last.run c ≡ core_tally (design p) x m Pop c (steps_committed x m last.run)
   count_at n most st e =
       st.tally.popped_are c
       ∙ (popped_is p k.fits (held_in s (over_of ends)) k.table k.sound k.agreed.marks m inside n most c

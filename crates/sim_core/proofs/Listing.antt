@@ -4,7 +4,7 @@ use Rattle.std.specs.Prelude.{slice_index_or}
 use Rattle.flow_design.specs.{declared.plan.Plan.Plan, declared.state.ModuleState.ModuleState, StaticRules.FitsEngine}
 use Rattle.module_sets.specs.{declared.mask.Mask.Mask, Sets.Has, Sets.HasMask, Sets.IsAdded}
 use Rattle.event_graph.specs.{declared.candidate.Candidate.Candidate, declared.candidate.Candidate.TheVariants.Nothing}
-use Rattle.query_resolve.specs.Earliest.{cycle_of}
+use Rattle.query_resolve.specs.Earliest.{determined_cycle}
 use Rattle.event_timing.specs.Actions.{IsDetermined, ActsAll, IsQuiet, runs}
 use Rattle.event_timing.specs.{Core.Core, Core.view, Enablers.candidate, Agreement.IsAgreed}
 use Rattle.timing_bridge.specs.{Designs.design, Designs.lockstep_run, Rounds.after_timing}
@@ -14,12 +14,12 @@ use Rattle.outcome_guard.specs.declared.guard.Guard.{Guard}
 use Rattle.outcome_guard.specs.declared.guard.Guard.TheVariants as guard
 use Rattle.engine_view.specs.{Turns.is_progress, declared.turn.Timing.Timing}
 use Rattle.engine_view.specs.declared.turn.Timing.TheVariants as turn
-use Rattle.sim_core.specs.{declared.due.Due.Due, Asking.Lacks, Asking.HasRoom, Asking.AreAsking, Asking.AreBeside, Candidates.AreListed}
+use Rattle.sim_core.specs.{declared.due.Due.Due, Asking.Lacks, Asking.SetHasRoom, Asking.AreAsking, Asking.AreBeside, Candidates.AreListed}
 use Rattle.sim_core.specs.{Candidates.IsListed, Turns.HasTurned, Turns.HasAnsweredLeast, Views.CoreView, Views.theory_of, Waking.IsFull}
 use Rattle.sim_core.proofs.Asking.{still_room}
 
 pub listed_all : (p : Plan) (x : Core ModuleState) (due : Due) (candidates : List Candidate) → length candidates ≡ length p.design.modules
-    → HasRoom p due.unlisted → HasRoom p due.asking → IsFull due.asking → AreListed p x due candidates
+    → SetHasRoom p due.unlisted → SetHasRoom p due.asking → IsFull due.asking → AreListed p x due candidates
 listed_all p x due candidates count room all full = record {
   count = count;
   room = room;
@@ -28,17 +28,17 @@ listed_all p x due candidates count room all full = record {
 
 -- where no candidate has a cycle, none of those listed is determined
 pub none_listed : (p : Plan) (x : Core ModuleState) (due : Due) (candidates : List Candidate) → AreListed p x due candidates
-    → ((k : ℕ) (d : Candidate) → k < length candidates → cycle_of (slice_index_or candidates k d) ≡ None) → (n : ℕ)
+    → ((k : ℕ) (d : Candidate) → k < length candidates → determined_cycle (slice_index_or candidates k d) ≡ None) → (n : ℕ)
     → n < length p.design.modules → IsListed due n → (c : ℕ) → IsDetermined (design p) p.cycles x n c → ⊥
 none_listed p x due candidates are none n l listed c determined =
     let count = are.count in
-    no_cycle (sym (none n Nothing (omega arith)) ∙ ap cycle_of ((are.right n l listed c).1 determined))
+    no_cycle (sym (none n Nothing (omega arith)) ∙ ap determined_cycle ((are.right n l listed c).1 determined))
   where
     no_cycle : None ≡ Some c → ⊥
     no_cycle e = cc
 
 -- where nothing is permitted, none is asking
-pub asking_none : (p : Plan) (x : Core ModuleState) → IsQuiet (design p) p.cycles x → (asking : List ℕ) → HasRoom p asking
+pub asking_none : (p : Plan) (x : Core ModuleState) → IsQuiet (design p) p.cycles x → (asking : List ℕ) → SetHasRoom p asking
     → AreAsking p x asking
 asking_none p x quiet asking room = record {
   room = room;
@@ -72,7 +72,7 @@ module _ (p : Plan) (x : Core ModuleState) (due : Due) (candidates : List Candid
 
   -- ---- Runs
 
-  module _ (m : ℕ) (now : Due) (room : HasRoom p due.asking) (added : IsAdded due.asking m now.asking)
+  module _ (m : ℕ) (now : Due) (room : SetHasRoom p due.asking) (added : IsAdded due.asking m now.asking)
       (same : now.unlisted ≡ due.unlisted) where
     was_listed : (n : ℕ) → IsListed now n → IsListed due n
     was_listed n (asks, listed) = (λ h. asks ((added.has n).1 (inl h)), rw same at listed)

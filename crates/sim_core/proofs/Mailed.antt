@@ -10,13 +10,13 @@ use Rattle.flow_design.specs.{declared.state.Reply.Reply, declared.state.Request
 use Rattle.flow_design.specs.declared.state.Reply.TheVariants.{Done, Value, Flag, Took, Missed}
 use Rattle.lockstep_defs.specs.{Channels.Exchange, Channels.reply_by, OwnRun.access_of}
 use Rattle.event_timing.specs.{Machines.takes_in, Core.replies_of, Core.all_below, Core.bare_replies, Core.has_query, Agreement.FlagsFit}
-use Rattle.timing_bridge.specs.Designs.{told_all, seen}
+use Rattle.timing_bridge.specs.Designs.{told_all, seen_request}
 use Rattle.engine_view.specs.{Held.queries_in, Answered.outcome_by}
 use Rattle.run_ahead.specs.{declared.mail.Mail.Mail, Mails.next_value, Mails.replies_in, Mails.one_more, Mails.taken_after}
-use Rattle.run_ahead.specs.Replies.{reply_now, put_first, has_value, told_by}
+use Rattle.run_ahead.specs.Replies.{reply_now, put_first, takes_value, told_by}
 use Rattle.flow_word.proofs.Ranges.{some_is}
 use Rattle.run_ahead.proofs.Parts.{first_parts}
-use Rattle.sim_core.specs.Tasks.{outcomes_in}
+use Rattle.sim_core.specs.Tasks.{requested_outcomes}
 
 -- the access takes a value
 abbrev pub pops_one : Kind → Bool → Bool
@@ -26,7 +26,7 @@ pops_one k b = is_taking k && (same_side (side_of k) Pop && b)
 
 record IsFound (k : Kind) (b : Bool) (value : Option ℕ) (front : ℕ) (q : Reply) : Type 0 where
   pub is : q ≡ reply_by k b (cond (pops_one k b) front 0)
-  pub took : has_value q ≡ pops_one k b
+  pub took : takes_value q ≡ pops_one k b
   pub there : pops_one k b ≡ true → (v : ℕ) × (value ≡ Some v)
 
 found_one : (k : Kind) (b : Bool) (outcome : Option Bool) (value : Option ℕ) (front : ℕ) (q : Reply) → (is_blocking k ≡ true → b ≡ true)
@@ -60,23 +60,23 @@ more_at u c f true = elim (eqb_tells c f) [ inl e ↦ rw e.0 (omega arith) | inr
 
 pub record AreFound (mail : Mail) (told : ℕ) (taken : ℕ → ℕ) (before : List Exchange) (V : ℕ → List ℕ) (t : ℕ → ℕ) (rs : List Request)
     (bs : List Bool) (qs : List Reply) : Type 0 where
-  pub are : qs ≡ told_all rs (replies_of V t (map seen rs) bs)
-  pub there : all_below (λ (c : ℕ). length (V c)) t (map seen rs) bs ≡ true
+  pub are : qs ≡ told_all rs (replies_of V t (map seen_request rs) bs)
+  pub there : all_below (λ (c : ℕ). length (V c)) t (map seen_request rs) bs ≡ true
   pub all_told : drop (told + queries_in (map (access_of before) rs)) mail.outcomes ≡ []
   pub counts : (u : ℕ → ℕ) (f : ℕ)
-      → taken_after u (map (access_of before) rs) qs f ≡ u f + takes_in Pop f (map seen rs) (bare_replies bs)
+      → taken_after u (map (access_of before) rs) qs f ≡ u f + takes_in Pop f (map seen_request rs) (bare_replies bs)
 
 -- behind one access, of a query or not
 go_on : (mail : Mail) (before : List Exchange) (told : ℕ) (r : Request) (rs : List Request) (b : Bool) (bs : List Bool)
-    → drop told mail.outcomes ≡ outcomes_in (r ∷ rs) (b ∷ bs)
+    → drop told mail.outcomes ≡ requested_outcomes (r ∷ rs) (b ∷ bs)
     → (is_blocking r.kind ≡ false → slice_get mail.outcomes told ≡ Some (outcome_by r.kind b))
-    × ((drop (told_by r.kind told) mail.outcomes ≡ outcomes_in rs bs)
+    × ((drop (told_by r.kind told) mail.outcomes ≡ requested_outcomes rs bs)
     × (told + queries_in (map (access_of before) (r ∷ rs)) ≡ told_by r.kind told + queries_in (map (access_of before) rs)))
 go_on mail before told r rs b bs e =
     elim (cases_Bool (is_blocking r.kind)) [
       | inl k ↦ (λ z. grind arith, (grind arith, grind arith))
       | inr k ↦
-          let (h1, h2) = drop_head mail.outcomes told (outcome_by r.kind b) (outcomes_in rs bs) (grind arith) in
+          let (h1, h2) = drop_head mail.outcomes told (outcome_by r.kind b) (requested_outcomes rs bs) (grind arith) in
           (λ z. h1, (grind arith, grind arith))
     ]
 
@@ -86,7 +86,8 @@ module _ (mail : Mail) (taken : ℕ → ℕ) (before : List Exchange) (V : ℕ �
     front_is : (c v : ℕ) → next_value mail taken c ≡ Some v → get_or (V c) (t c) 0 ≡ v
     front_is c v e = get_or_from_slice_get (V c) (t c) v 0 (window c v e)
 
-    pub read_is : (told : ℕ) (rs : List Request) (bs : List Bool) → FlagsFit (map seen rs) bs → drop told mail.outcomes ≡ outcomes_in rs bs
+    pub read_is : (told : ℕ) (rs : List Request) (bs : List Bool) → FlagsFit (map seen_request rs) bs
+        → drop told mail.outcomes ≡ requested_outcomes rs bs
         → (qs : List Reply)
         → replies_in mail told taken (map (access_of before) rs) ≡ Some qs → AreFound mail told taken before V t rs bs qs
     read_is told [] [] f o qs e = record {
@@ -108,10 +109,10 @@ module _ (mail : Mail) (taken : ℕ → ℕ) (before : List Exchange) (V : ℕ �
         record {
           are = e3 ∙ ap₂ (λ (x : Reply) (xs : List Reply). x ∷ xs) one.is more.are;
           there = and_from (not (pops_one r.kind b) || ltb (t r.channel) (length (V r.channel)))
-              (all_below (λ (c : ℕ). length (V c)) t (map seen rs) bs) (below one.there) more.there;
+              (all_below (λ (c : ℕ). length (V c)) t (map seen_request rs) bs) (below one.there) more.there;
           all_told = ap (λ (n : ℕ). drop n mail.outcomes) h3 ∙ more.all_told;
           counts = λ u c. subst (λ (z : List Reply). taken_after u (map (access_of before) (r ∷ rs)) z c
-              ≡ u c + takes_in Pop c (map seen (r ∷ rs)) (bare_replies (b ∷ bs))) (sym e3) (counted q qs' one.took more.counts u c);
+              ≡ u c + takes_in Pop c (map seen_request (r ∷ rs)) (bare_replies (b ∷ bs))) (sym e3) (counted q qs' one.took more.counts u c);
         }
       where
         below : (pops_one r.kind b ≡ true → (v : ℕ) × (next_value mail taken r.channel ≡ Some v))
@@ -123,18 +124,18 @@ module _ (mail : Mail) (taken : ℕ → ℕ) (before : List Exchange) (V : ℕ �
                   let within = slice_get_within (V r.channel) (t r.channel) v (window r.channel v y) in grind (arith, nat_tests)
             ]
 
-        counted : (q : Reply) (qs' : List Reply) → has_value q ≡ pops_one r.kind b
+        counted : (q : Reply) (qs' : List Reply) → takes_value q ≡ pops_one r.kind b
             → ((u : ℕ → ℕ) (c : ℕ) → taken_after u (map (access_of before) rs) qs' c
-            ≡ u c + takes_in Pop c (map seen rs) (bare_replies bs))
+            ≡ u c + takes_in Pop c (map seen_request rs) (bare_replies bs))
             → (u : ℕ → ℕ) (c : ℕ)
-            → taken_after (cond (has_value q) (one_more u r.channel) u) (map (access_of before) rs) qs' c
+            → taken_after (cond (takes_value q) (one_more u r.channel) u) (map (access_of before) rs) qs' c
             ≡ u c + (cond {A = ℕ} (is_taking r.kind && (b && (same_side (side_of r.kind) Pop && eqb r.channel c))) 1
-            0 + takes_in Pop c (map seen rs) (bare_replies bs))
+            0 + takes_in Pop c (map seen_request rs) (bare_replies bs))
         counted q qs' took more u c =
-            let u' = cond (has_value q) (one_more u r.channel) u in
+            let u' = cond (takes_value q) (one_more u r.channel) u in
             let m1 = more u' c in
-            let m2 = more_at u r.channel c (has_value q) in
-            let m3 : cond {A = ℕ} (has_value q && eqb r.channel c) 1 0 ≡ cond {A = ℕ}
+            let m2 = more_at u r.channel c (takes_value q) in
+            let m3 : cond {A = ℕ} (takes_value q && eqb r.channel c) 1 0 ≡ cond {A = ℕ}
             (is_taking r.kind && (b && (same_side (side_of r.kind) Pop && eqb r.channel c))) 1 0 =
             ap (λ (z : Bool). cond {A = ℕ} z 1 0)
             (ap (λ (z : Bool). z && eqb r.channel c) took ∙ sym (took_is r.kind b (eqb r.channel c))) in
@@ -148,7 +149,7 @@ none_found k value e = grind arith
 -- where no outcome is left and all replies are found, there is no query
 pub no_query : (mail : Mail) (told : ℕ) (taken : ℕ → ℕ) (before : List Exchange) (rs : List Request) (qs : List Reply)
     → drop told mail.outcomes ≡ []
-    → replies_in mail told taken (map (access_of before) rs) ≡ Some qs → has_query (map seen rs) ≡ false
+    → replies_in mail told taken (map (access_of before) rs) ≡ Some qs → has_query (map seen_request rs) ≡ false
 no_query mail told taken before [] qs o e = refl
 no_query mail told taken before (r ∷ rs) qs o e =
     let (q, (qs', (e1, (e2, e3)))) = first_parts (reply_now r.kind (slice_get mail.outcomes told) (next_value mail taken r.channel))
@@ -160,7 +161,7 @@ no_query mail told taken before (r ∷ rs) qs o e =
           let gone = drop_none mail.outcomes told o in absurd cc
     ]
 
-pub no_outcomes_of : (rs : List Request) (bs : List Bool) → has_query (map seen rs) ≡ false → outcomes_in rs bs ≡ []
+pub no_outcomes_of : (rs : List Request) (bs : List Bool) → has_query (map seen_request rs) ≡ false → requested_outcomes rs bs ≡ []
 no_outcomes_of [] bs e = refl
 no_outcomes_of (r ∷ rs) [] e = refl
 no_outcomes_of (r ∷ rs) (b ∷ bs) e = let later = no_outcomes_of rs bs in grind arith
@@ -187,7 +188,7 @@ HasValues mail taken (r ∷ rs) (b ∷ bs) = (pops_one r.kind b ≡ true → (v 
     × HasValues mail taken rs bs
 
 pub all_found : (mail : Mail) (taken : ℕ → ℕ) (before : List Exchange) (told : ℕ) (rs : List Request) (bs : List Bool)
-    → FlagsFit (map seen rs) bs → drop told mail.outcomes ≡ outcomes_in rs bs
+    → FlagsFit (map seen_request rs) bs → drop told mail.outcomes ≡ requested_outcomes rs bs
     → HasValues mail taken rs bs → (qs : List Reply) × (replies_in mail told taken (map (access_of before) rs) ≡ Some qs)
 all_found mail taken before told [] bs f o h = ([], refl)
 all_found mail taken before told (r ∷ rs) [] f o h = absurd f

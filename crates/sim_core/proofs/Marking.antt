@@ -32,7 +32,7 @@ use Rattle.flow_word.proofs.Ranges.{range_more}
 
 -- ---- accesses
 
-all_seen : (before : List Exchange) (rs : List Request) → map seen (map (access_of before) rs) ≡ map bridge.seen rs
+all_seen : (before : List Exchange) (rs : List Request) → map seen (map (access_of before) rs) ≡ map bridge.seen_request rs
 all_seen before [] = refl
 all_seen before (r ∷ rs) = ap₂ (λ (a : theory.Access) (xs : List theory.Access). a ∷ xs) refl (all_seen before rs)
 
@@ -64,7 +64,7 @@ open_seen : (xs : List Access) → queries_in xs ≡ open_in (map seen xs)
 open_seen [] = refl
 open_seen (a ∷ xs) = let later = open_seen xs in grind arith
 
-open_asked : (rs : List Request) (qs : List Reply) → length (queries (paired rs qs)) ≡ open_in (map bridge.seen rs)
+open_asked : (rs : List Request) (qs : List Reply) → length (queries (paired rs qs)) ≡ open_in (map bridge.seen_request rs)
 open_asked [] qs = refl
 open_asked (r ∷ rs) qs = let later = open_asked rs (drop 1 qs) in grind arith
 
@@ -77,7 +77,7 @@ queries_done p h s i (suc n) l =
     let rs = requests_of p (i, x.state i n) in
     let before = exchanges_before p x i n in
     let now = paired rs (told_all rs (core_reply (design p) x i n)) in
-    let same : open_in (map bridge.seen rs) ≡ queries_in (step_of h i n).accesses = ap open_in (s.accesses i n (omega arith))
+    let same : open_in (map bridge.seen_request rs) ≡ queries_in (step_of h i n).accesses = ap open_in (s.accesses i n (omega arith))
     ∙ sym (open_seen (step_of h i n).accesses) in
     ap length (filter-append (λ (e : Exchange). not (is_blocking e.request.kind)) before now)
     ∙ (length-append (queries before) (queries now) ∙ ap₂ (λ (a b : ℕ). a + b) (queries_done p h s i n (omega arith))

@@ -13,7 +13,7 @@ use Rattle.event_timing.specs.{Core.Core, Core.view, Views.first_accesses, Actio
 use Rattle.event_timing.specs.Enablers.{Known, candidate, flags_at}
 use Rattle.event_timing.proofs.Answering.{first_emitted}
 use Rattle.timing_bridge.specs.Designs.{design, lockstep_run}
-use Rattle.timing_bridge.specs.Outcomes.{outcome_of, outcomes_by, first_requests, IsNextStep}
+use Rattle.timing_bridge.specs.Outcomes.{outcome_when, outcomes_by, first_requests, IsNextInHistory}
 use Rattle.timing_bridge.specs.Designs as bridge
 use Rattle.engine_view.specs.Held.{Held, step_of, emitted_of, seen, queries_in, possible_by, flags_by, core_of}
 use Rattle.engine_view.specs.{Shown.IsSound, Shown.queries_before, Turns.IsFoundOther, Turns.first_of}
@@ -23,7 +23,7 @@ use Rattle.sim_core.proofs.Reported.{answers_next, next_recorded}
 -- ---- the outcomes of a step
 
 -- what is possible tells the outcome, and the other way round
-possible_back : (k : Kind) (b : Bool) → is_blocking k ≡ false → possible_by k (Some (outcome_of k b)) ≡ b
+possible_back : (k : Kind) (b : Bool) → is_blocking k ≡ false → possible_by k (Some (outcome_when k b)) ≡ b
 possible_back k b e = grind arith
 
 -- two lists have other outcomes at this number
@@ -58,24 +58,24 @@ one_asks : (a : Access) (as' : List Access) (r : Request) (rs : List Request) �
 one_asks a as' r rs k b rest os [] place c l at q n d = absurd (omega arith)
 one_asks a as' r rs k b rest [] (f ∷ found) place c l at q n d = absurd (grind arith)
 one_asks a as' r rs k b rest (o ∷ os) (f ∷ found) zero c l at q n d =
-    let asked : outcomes_by (r ∷ rs) (f ∷ found) ≡ outcome_of r.kind f ∷ outcomes_by rs found = rw (ap is_blocking k ∙ b) refl in
+    let asked : outcomes_by (r ∷ rs) (f ∷ found) ≡ outcome_when r.kind f ∷ outcomes_by rs found = rw (ap is_blocking k ∙ b) refl in
     rw asked (record {
       one = o;
-      other = outcome_of r.kind f;
+      other = outcome_when r.kind f;
       here = refl;
       there = refl;
       differ = λ e. d (let back = possible_back a.kind f b in grind arith);
     })
 one_asks a as' r rs k b rest (o ∷ os) (f ∷ found) (suc place) c l at q n d =
     let front : queries_in (take (suc place) (a ∷ as')) ≡ suc (queries_in (take place as')) = rw b refl in
-    let asked : outcomes_by (r ∷ rs) (f ∷ found) ≡ outcome_of r.kind f ∷ outcomes_by rs found = rw (ap is_blocking k ∙ b) refl in
-    rw (front, asked) (later o (outcome_of r.kind f) (queries_in (take place as')) os (outcomes_by rs found)
+    let asked : outcomes_by (r ∷ rs) (f ∷ found) ≡ outcome_when r.kind f ∷ outcomes_by rs found = rw (ap is_blocking k ∙ b) refl in
+    rw (front, asked) (later o (outcome_when r.kind f) (queries_in (take place as')) os (outcomes_by rs found)
     (rest os found place c (grind arith) at q (omega arith) (λ e. d (grind arith))))
 
 none : (rs : List Request) → IsOtherOf [] rs
 none rs os found place a l at q n d = cc
 
-other_of : (as' : List Access) (rs : List Request) → map bridge.seen rs ≡ map seen as' → IsOtherOf as' rs
+other_of : (as' : List Access) (rs : List Request) → map bridge.seen_request rs ≡ map seen as' → IsOtherOf as' rs
 other_of [] rs e = none rs
 other_of (a ∷ as') [] e = cc
 other_of (a ∷ as') (r ∷ rs) e =
@@ -106,7 +106,7 @@ flag_count know c (a ∷ xs) = ap suc (flag_count know c xs)
 module _ (p : Plan) (h : Held) (s : IsSound (design p) h) (g : IsAgreed (design p) (lockstep_run p) p.cycles (core_of (design p) h))
     (m c : ℕ) (inside : m < length h.logs) (q : Query) (found : IsFoundOther (design p) h m c q)
     (at : candidate (design p) (view (design p) (core_of (design p) h)) m ≡ Some c)
-    (step : HistoryStep) (next : IsNextStep p (core_of (design p) h) m p.cycles step)
+    (step : HistoryStep) (next : IsNextInHistory p (core_of (design p) h) m p.cycles step)
     (told : outcomes (step ∷ [])
     ≡ outcomes_by (first_requests p (core_of (design p) h) m) (new_flags (design p) (core_of (design p) h) m c)) where
   abbrev x : Core ModuleState

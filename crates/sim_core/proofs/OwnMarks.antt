@@ -9,7 +9,7 @@ use Rattle.flow_design.specs.declared.state.Advance.TheVariants.{Step, Ended, Sp
 use Rattle.flow_design.specs.declared.state.ModuleState.{ModuleState}
 use Rattle.lockstep_defs.specs.{Channels.Exchange, Lockstep.requests_of, OwnRun.access_of, OwnRun.marks, Quiet.quiet, Report.queries}
 use Rattle.lockstep_defs.specs.Machine.{is_over, is_spent}
-use Rattle.module_interp.specs.Chains.{rest_at, clock_at, marks_before, GoesTo}
+use Rattle.module_interp.specs.Chains.{rest_at, rest_clock, marks_before, GoesTo}
 use Rattle.module_interp.specs.{OwnRests.done_in, OwnRests.accesses_at, OwnRests.mark_at, Runs.is_step}
 use Rattle.module_interp.proofs.Chains.{marks_are_own}
 use Rattle.event_timing.specs.{Views.own, Core.Core, Core.core_reply, Core.core_tally, Agreement.IsAgreed}
@@ -109,12 +109,12 @@ module _ (v : CoreView) (fits : FitsEngine v.plan) (sound : IsSound (design v.pl
       ∙ sym (take-suc (held_marks v i) k (Step no_step) (omega arith)))
 
   -- past the last rest these are all its marks
-  own_marks : (n : ℕ) → n ≤ emitted_of v.held i → (clocks : ℕ) → clock_at p i (replies n) n < clocks
+  own_marks : (n : ℕ) → n ≤ emitted_of v.held i → (clocks : ℕ) → rest_clock p i (replies n) n < clocks
       → marks p i (replies n) clocks ≡ marks_before p i (replies n) (suc n)
   own_marks n within clocks later =
       let same = so_many n in
       let there = subst (λ (k : ℕ). GoesTo p i (replies n) k) (sym same) (goes n n within (omega arith)) in
-      let past = subst (λ (k : ℕ). clock_at p i (replies n) k < clocks) (sym same) later in
+      let past = subst (λ (k : ℕ). rest_clock p i (replies n) k < clocks) (sym same) later in
       marks_are_own p fits i (replies n) there clocks past ∙ ap (λ (k : ℕ). marks_before p i (replies n) (suc k)) same
 
   -- the rest behind all steps, where the module is over
@@ -130,7 +130,7 @@ module _ (v : CoreView) (fits : FitsEngine v.plan) (sound : IsSound (design v.pl
   pub own_run_told : TellsOwnRun v i
   own_run_told = record {
     steps = λ k less. (
-      clock_at p i (replies k) k,
+      rest_clock p i (replies k) k,
       λ n later. own_marks k (omega arith) n later ∙ held_first k (suc k) (omega arith) (omega arith) (omega arith),
     );
     ended = λ over.
@@ -140,7 +140,7 @@ module _ (v : CoreView) (fits : FitsEngine v.plan) (sound : IsSound (design v.pl
           last,
           last_mark over,
           (
-            clock_at p i (replies e) e,
+            rest_clock p i (replies e) e,
             λ n later. own_marks e (omega arith) n later
                 ∙ (more_marks p i (replies e) e
                 ∙ ap (λ (ms : List Advance). ms ++ last ∷ []) (held_first e e (omega arith) (omega arith) (omega arith)

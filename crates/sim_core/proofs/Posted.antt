@@ -13,7 +13,7 @@ use Rattle.timing_bridge.specs.Designs.{design}
 use Rattle.engine_view.specs.{Held.Held, Held.emitted_of, Held.step_of, Held.queries_in, Held.core_of, Shown.IsSound, Taking.kinds_in}
 use Rattle.run_ahead.specs.declared.mail.Mail.{Mail}
 use Rattle.sim_core.specs.{Lent.IsMade, Readers.AreReaders, Runs.IsRunOf, Runs.rest_behind, Opening.kinds_of}
-use Rattle.sim_core.specs.Tasks.{outcomes_at, outcomes_in, values_behind, committed, IsTaskOf}
+use Rattle.sim_core.specs.Tasks.{outcomes_at, requested_outcomes, values_behind, steps_committed, IsTaskOf}
 use Rattle.sim_core.proofs.{Committed.committed_waits, Committed.committed_goes, Resting.rest_is}
 use Rattle.sim_core.proofs.Sending.{outcomes_read, asked_same, queries_are, mine, others, outside}
 
@@ -43,7 +43,7 @@ module _ (p : Plan) (f : FitsEngine p) (h : Held) (table : kinds_in h.channels �
   IsPosted = IsTaskOf p x m (record { run = run; mail = mail })
 
   -- what is left to say where it is known how many steps are committed
-  posted_at : (n : ℕ) → n ≤ emitted_of h m → committed x m run ≡ n → StandsAt p m (rest_behind p x m n) run → MayRun (design p) x m
+  posted_at : (n : ℕ) → n ≤ emitted_of h m → steps_committed x m run ≡ n → StandsAt p m (rest_behind p x m n) run → MayRun (design p) x m
       → mail.outcomes ≡ outcomes_at p x m n → IsPosted
   posted_at n l e st may outs = record {
     may = may;
@@ -60,14 +60,14 @@ module _ (p : Plan) (f : FitsEngine p) (h : Held) (table : kinds_in h.channels �
   going_posted w none st may =
       posted_at (x.emitted m) (omega arith) (committed_goes x m run w) st may
       (made.told ∙ (ap (λ (as' : List Access). take (queries_in as') (drop first (log_at h.logs m).outcomes)) none
-      ∙ sym (cond-false (ltb (x.emitted m) (x.emitted m)) (outcomes_in (requests_of p (m, x.state m (x.emitted m)))
+      ∙ sym (cond-false (ltb (x.emitted m) (x.emitted m)) (requested_outcomes (requests_of p (m, x.state m (x.emitted m)))
       (x.flags m (x.emitted m))) [] (le-ltb (x.emitted m) (x.emitted m) (omega arith)))))
 
   -- a run that waits at the newest step
   module _ (w : waits run ≡ true) (j : ℕ) (ej : suc j ≡ emitted_of h m) (asked : xs ≡ accesses_at p m (rest_behind p x m j))
       (fe : first ≡ length (queries (done_in (rest_behind p x m j).steps)))
       (st : StandsAt p m (rest_behind p x m j) run) where
-    here : committed x m run ≡ j
+    here : steps_committed x m run ≡ j
     here = committed_waits x m run w ∙ (omega arith)
 
     count_is : queries_in xs ≡ queries_in (step_of h m j).accesses
@@ -91,7 +91,7 @@ module _ (p : Plan) (f : FitsEngine p) (h : Held) (table : kinds_in h.channels �
         ∙ (ap₂ (λ (q n : ℕ). take q (drop n os)) count_is first_is
         ∙ (outcomes_read rs step.accesses (drop step.first_query os) (s.accesses m j (omega arith))
         (room_left (emitted_of h m) j (queries_in step.accesses) step.first_query os t)
-        ∙ sym (cond-true (ltb j (x.emitted m)) (outcomes_in rs (x.flags m j)) [] (lt-ltb j (x.emitted m) (omega arith)))))
+        ∙ sym (cond-true (ltb j (x.emitted m)) (requested_outcomes rs (x.flags m j)) [] (lt-ltb j (x.emitted m) (omega arith)))))
 
     pub waiting_posted : MayRun (design p) x m → IsPosted
     waiting_posted may = posted_at j (omega arith) here st may (outcomes_are (may.answered j ej))

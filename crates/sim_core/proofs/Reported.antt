@@ -12,7 +12,7 @@ use Rattle.lockstep_defs.specs.{Channels.HistoryStep, Channels.Exchange, Lockste
 use Rattle.lockstep_defs.specs.Report.{report, outcomes, queries, steps_of}
 use Rattle.query_log.specs.Logs.{Log, no_log, log_at}
 use Rattle.event_timing.specs.{Core.Core, Actions.IsFinal, Agreement.IsAgreed, Agreement.AllVerified}
-use Rattle.timing_bridge.specs.{Designs.design, Designs.lockstep_run, CoreReports.core_steps, Outcomes.IsNextStep}
+use Rattle.timing_bridge.specs.{Designs.design, Designs.lockstep_run, CoreReports.core_steps, Outcomes.IsNextInHistory}
 use Rattle.timing_bridge.proofs.{History.plan_is_design, History.run_is_history, Reports.every_report}
 use Rattle.timing_bridge.proofs.InOrder.{history_in_order, reported_history}
 use Rattle.engine_view.specs.Held.{Held, step_of, emitted_of, queries_in, are_among, core_of}
@@ -60,7 +60,7 @@ module _ (p : Plan) (h : Held) (s : IsSound (design p) h) (g : IsAgreed (design 
       ∙ (outcomes_both (core_steps p (core_of (design p) h) m) later
       ∙ ap (λ (os : List Bool). os ++ outcomes later) (steps_told p h s g m inside)))
 
-  pub answers_next : (step : HistoryStep) (next : IsNextStep p (core_of (design p) h) m p.cycles step)
+  pub answers_next : (step : HistoryStep) (next : IsNextInHistory p (core_of (design p) h) m p.cycles step)
       → get_or (report p).answers m [] ≡ take before outs ++ (outcomes (step ∷ []) ++ outcomes next.later)
   answers_next step next =
       answers_behind (step ∷ next.later) next.there

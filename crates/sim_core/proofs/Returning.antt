@@ -16,7 +16,7 @@ use Rattle.timing_bridge.specs.Designs.{design}
 use Rattle.engine_view.specs.Held.{Held, queries_in, core_of}
 use Rattle.engine_view.specs.{declared.engine.Engine.Engine, Engines.held_in, Rooms.CanEmit, Rooms.HasEmitted}
 use Rattle.run_ahead.specs.{declared.mail.Mail.Mail, declared.mail.Task.Task, declared.mail.Burst.Burst, Working.burst_of}
-use Rattle.run_ahead.specs.Mails.{taken_after, none_taken, task_left, IsAtStep, IsPast, GoesOn, IsBurst, IsBurstFrom}
+use Rattle.run_ahead.specs.Mails.{taken_after, none_taken, task_left, IsBehindStep, IsPast, RunsOn, IsBurst, IsBurstFrom}
 use Rattle.sim_core.specs.{Returned.core_in, Returned.HasRoomForMarks, Returned.IsNextMark, Returned.AreReturned, Runs.HasBodiesWithin}
 use Rattle.sim_core.specs.{Runs.IsCore, Runs.rest_behind, Runs.over_of, Runs.lent_of, Tasks.IsTaskFor, Tasks.IsTaskLeft, Tasks.rest_of}
 use Rattle.sim_core.proofs.{QueryRoom.room_for_step, Tasks.waits_first, Tasks.goes_first, Emission.IsReady}
@@ -69,7 +69,7 @@ module _ {p : Plan} {s : Engine} {ends : List (Option Advance)} {runs : List (Op
 -- these marks of a burst are still to come: from a rest on, or none of them
 abbrev pub IsOnWay : Plan → Core ModuleState → ℕ → Mail → Bool → Task → List Advance → Type 0
 IsOnWay p x m mail short last marks =
-    ((o : Own) × ((told : ℕ) × ((taken : ℕ → ℕ) × (Goes p x m mail o told taken × GoesOn p m mail short last o told taken marks))))
+    ((o : Own) × ((told : ℕ) × ((taken : ℕ → ℕ) × (Goes p x m mail o told taken × RunsOn p m mail short last o told taken marks))))
     ⊎ ((marks ≡ []) × IsTaskLeft p x m last)
 
 -- the first of them is the module's next, and the others are to come behind it
@@ -83,7 +83,7 @@ pub record IsFarther (p : Plan) (x : Core ModuleState) (m : ℕ) (mail : Mail) (
 -- behind a step it waits, or goes on
 from_step : (p : Plan) → FitsEngine p → (x : Core ModuleState) → AreOwnMarks (design p) x → (m : ℕ) (mail : Mail) (short : Bool)
     (last : Task) (o : Own) (told : ℕ) (taken : ℕ → ℕ) (marks : List Advance) → Waits p x m mail o told taken
-    → IsAtStep p m mail short last o told taken marks (λ o' told' taken'. GoesOn p m mail short last o' told' taken' marks)
+    → IsBehindStep p m mail short last o told taken marks (λ o' told' taken'. RunsOn p m mail short last o' told' taken' marks)
     → IsOnWay p x m mail short last marks
 from_step p f x b m mail short last o told taken marks w (inl (n, s)) =
     inr (n, waiting_stands p x m mail o told taken short last w s)
@@ -124,7 +124,7 @@ on_way_more p f x b m mail short last mark more (inl (o, (told, (taken, (g, (e, 
 }
   where
     next : Own → ℕ → (ℕ → ℕ) → Type 0
-    next o' told' taken' = GoesOn p m mail short last o' told' taken' more
+    next o' told' taken' = RunsOn p m mail short last o' told' taken' more
 
 pub on_way_all : (p : Plan) (x : Core ModuleState) (m : ℕ) (mail : Mail) (short : Bool) (last : Task)
     → IsOnWay p x m mail short last [] → IsTaskLeft p x m last

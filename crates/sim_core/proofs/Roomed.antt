@@ -10,7 +10,7 @@ use Rattle.event_timing.specs.{Machines.Design, Core.core_values, Actions.ActsAl
 use Rattle.event_timing.specs.Actions as actions
 use Rattle.timing_bridge.specs.Designs.{design}
 use Rattle.engine_view.specs.{declared.engine.Engine.Engine, Engines.held_in, Held.Held, Held.core_of}
-use Rattle.engine_view.specs.Rooms.{HasModule, IsSameButRoom, IsRoomy, AreAllPorts}
+use Rattle.engine_view.specs.Rooms.{EngineHasModule, IsSameButRoom, IsRoomy, AreAllPorts}
 use Rattle.sim_core.specs.{declared.due.Due.Due, declared.unread.Unread.Unread, declared.wiring.Wiring.Wiring, Candidates.AreListed}
 use Rattle.sim_core.specs.{Waking.AreWaking, Waking.IsSpread, Opening.ports_to, Returned.core_in, Unread.AreUnread}
 use Rattle.sim_core.specs.Runs.{IsRunOf, IsOut, IsCore, IsStoredCore, lent_of, over_of}
@@ -55,7 +55,7 @@ module _ {p : Plan} {s : Engine} {ends : List (Option Advance)} {runs : List (Op
 
   -- ---- what it asks to make room
 
-  pub has_module : HasModule s m
+  pub has_module : EngineHasModule s m
   has_module =
       let lanes = k.core.sound.lanes in
       let logs = k.core.sound.logs in

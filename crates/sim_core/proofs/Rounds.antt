@@ -19,7 +19,7 @@ use Rattle.outcome_guard.specs.declared.guard.Guard.TheVariants as guard
 use Rattle.sim_core.specs.{Runs.IsOut, Runs.IsRunOf, Views.CoreView, Views.theory_of, declared.visit.Visit.Visit}
 use Rattle.sim_core.specs.Turns.{IsStill, IsEarliestOther, HasTurned, HasAnsweredLeast}
 use Rattle.sim_core.specs.declared.visit.Visit.TheVariants.{Acted, Differs, Idle}
-use Rattle.sim_core.specs.Drives.{given, Goes, GoesOn, HasTimed, HasVisited, AreOwn, IsGoingRound}
+use Rattle.sim_core.specs.Drives.{given, Goes, GoesOn, VisitLeads, HasVisited, AreOwn, IsGoingRound}
 use Rattle.sim_core.proofs.Staying.{run_stays}
 
 -- ---- each action makes another core
@@ -117,14 +117,14 @@ on_join first now next before ticks later g o = record {
 }
 
 -- behind what was done, whatever the timing was
-pub timed_behind : (u v w : CoreView) (x b a m : ℕ) (visit : Visit) → GoesOn u x v b → HasTimed visit v b m w a → GoesOn u x w a
+pub timed_behind : (u v w : CoreView) (x b a m : ℕ) (visit : Visit) → GoesOn u x v b → VisitLeads visit v b m w a → GoesOn u x w a
 timed_behind u v w x b a m (Acted bits) g t = on_join u v w x b a g t
 timed_behind u v w x b a m (Differs q) g (e, t, o) = rw (e, t) g
 timed_behind u v w x b a m Idle g (e, t, o) = rw (e, t) g
 
 -- where no Run is permitted, a timing is a visit
 pub timed_is_visit : (v w : CoreView) (b a m : ℕ) (visit : Visit) → (MayRun (design v.plan) (theory_of v) m → ⊥)
-    → HasTimed visit v b m w a → HasVisited visit v b m w a
+    → VisitLeads visit v b m w a → HasVisited visit v b m w a
 timed_is_visit v w b a m (Acted bits) f t = t
 timed_is_visit v w b a m (Differs q) f t = t
 timed_is_visit v w b a m Idle f (e, t, o) = (e, t, record { no_run = f; idle = o })

@@ -16,7 +16,7 @@ use Rattle.engine_view.specs.Held.{Held, emitted_of, seen, queries_in, flags_by,
 use Rattle.engine_view.specs.{Shown.IsSound, Shown.queries_before, Taking.kinds_in}
 use Rattle.run_ahead.specs.{declared.mail.Mail.Mail, Mails.values_on}
 use Rattle.sim_core.specs.{Lent.IsMade, Readers.AreReaders, Marks.IsRestBehind, Runs.rest_behind, Opening.kinds_of}
-use Rattle.sim_core.specs.Tasks.{outcomes_in, values_behind}
+use Rattle.sim_core.specs.Tasks.{requested_outcomes, values_behind}
 use Rattle.sim_core.proofs.{Marking.moved_before, Marking.queries_done, Marking.table_count, Resting.rest_is}
 use Rattle.sim_core.proofs.Reading.{past, own_values, others_values, read_on, read_none}
 use Rattle.engine_report.proofs.Asking.{same_kind}
@@ -28,16 +28,17 @@ turned late o = grind arith
 
 asked : (r : Request) (rs : List Request) (a : Access) (xs : List Access) (os : List Bool) → r.kind ≡ a.kind → is_blocking a.kind ≡ false
     → suc (queries_in xs) ≤ length os
-    → ((os' : List Bool) → queries_in xs ≤ length os' → take (queries_in xs) os' ≡ outcomes_in rs (flags_by xs os'))
-    → take (suc (queries_in xs)) os ≡ outcomes_in (r ∷ rs) (flags_by (a ∷ xs) os)
+    → ((os' : List Bool) → queries_in xs ≤ length os' → take (queries_in xs) os' ≡ requested_outcomes rs (flags_by xs os'))
+    → take (suc (queries_in xs)) os ≡ requested_outcomes (r ∷ rs) (flags_by (a ∷ xs) os)
 asked r rs a xs [] e k l more = absurd (omega arith)
 asked r rs a xs (o ∷ os) e k l more =
     let later = more os (omega arith) in
     let same = turned (late_outcome a.kind) o in grind arith
 
 -- the outcomes from a step's first query on are those by its flags, where all are recorded
-pub outcomes_read : (rs : List Request) (xs : List Access) (os : List Bool) → map bridge.seen rs ≡ map seen xs → queries_in xs ≤ length os
-    → take (queries_in xs) os ≡ outcomes_in rs (flags_by xs os)
+pub outcomes_read : (rs : List Request) (xs : List Access) (os : List Bool) → map bridge.seen_request rs ≡ map seen xs
+    → queries_in xs ≤ length os
+    → take (queries_in xs) os ≡ requested_outcomes rs (flags_by xs os)
 outcomes_read [] [] os e l = refl
 outcomes_read [] (a ∷ xs) os e l = cc
 outcomes_read (r ∷ rs) [] os e l = cc
@@ -51,7 +52,7 @@ outcomes_read (r ∷ rs) (a ∷ xs) os e l =
 
 -- ---- counts
 
-pub asked_same : (before : List Exchange) (rs : List Request) (xs : List Access) → map bridge.seen rs ≡ map seen xs
+pub asked_same : (before : List Exchange) (rs : List Request) (xs : List Access) → map bridge.seen_request rs ≡ map seen xs
     → queries_in (map (access_of before) rs) ≡ queries_in xs
 asked_same before [] [] e = refl
 asked_same before [] (a ∷ xs) e = cc

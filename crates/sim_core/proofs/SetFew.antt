@@ -8,7 +8,7 @@ use Rattle.event_graph.specs.Lanes.{Lane, lane_at, timed_below}
 use Rattle.event_timing.specs.{Machines.Design, Core.Core, Actions.Action, Actions.ActsAll, Actions.IsFinal}
 use Rattle.event_timing.specs.Actions.Action.{Run, Assign, Answer, Earliest}
 use Rattle.timing_bridge.specs.Designs.{design}
-use Rattle.retime.specs.Rounds.{cycles_in, steps_in}
+use Rattle.retime.specs.Rounds.{cycles_in, steps_in_lanes}
 use Rattle.retime.proofs.Counts.{cycles_within, same_steps}
 use Rattle.sim_core.specs.{Views.CoreView, Views.theory_of, Drives.Goes, Drives.given, Records.IsEditedOn, Costs.HasSetFew}
 use Rattle.sim_core.specs.Edits.{IsAsBefore, IsRetimed, IsChanged}
@@ -24,7 +24,7 @@ fewer_below t (l ∷ lanes) =
     omega arith
 
 sums_same : (old new : List Lane) → length old ≡ length new
-    → ((m : ℕ) → length (lane_at old m).steps ≡ length (lane_at new m).steps) → steps_in old ≡ steps_in new
+    → ((m : ℕ) → length (lane_at old m).steps ≡ length (lane_at new m).steps) → steps_in_lanes old ≡ steps_in_lanes new
 sums_same [] [] e f = refl
 sums_same [] (l ∷ new) e f = absurd (omega arith)
 sums_same (k ∷ old) [] e f = absurd (omega arith)
@@ -48,7 +48,7 @@ module _ (v : CoreView) (e : Edit) (w : CoreView) (t : IsEditedOn v e w) (set : 
   same_count : w.plan.design ≡ v.plan.design
   same_count = ap (λ (p : Plan). p.design) (t.goes.plan ∙ t.plan)
 
-  within : cycles_in w.held.lanes ≤ steps_in w.held.lanes
+  within : cycles_in w.held.lanes ≤ steps_in_lanes w.held.lanes
   within = cycles_within w.held.lanes t.to.sound.sound_lanes
 
   as_before : IsAsBefore v t.middle e t.guard t.before t.now → HasSetFew v e w set
@@ -86,7 +86,7 @@ module _ (v : CoreView) (e : Edit) (w : CoreView) (t : IsEditedOn v e w) (set : 
       let b = t.to.sound.lanes in
       let modules : length w.plan.design.modules ≡ length v.plan.design.modules =
       ap (λ (p : Plan). length p.design.modules) (t.goes.plan ∙ t.plan) in
-      let steps : steps_in w.held.lanes ≡ steps_in v.held.lanes = sums_same w.held.lanes v.held.lanes (omega arith)
+      let steps : steps_in_lanes w.held.lanes ≡ steps_in_lanes v.held.lanes = sums_same w.held.lanes v.held.lanes (omega arith)
       (λ m. ap (λ (x : Core ModuleState). x.emitted m) stays
       ∙ ap (λ (ss : List Step). length ss) (same_steps v.held.lanes t.middle.held.lanes c.steps m)) in
       let few = c.few in

@@ -14,13 +14,13 @@ use Rattle.event_timing.specs.{Machines.Each, Views.Begins, Agreement.AreOwnMark
 use Rattle.event_timing.specs.Core.{Core, core_tally, core_values, all_below}
 use Rattle.event_timing.proofs.Growing.{settled_all, settled_less, tally_grow}
 use Rattle.event_timing.proofs.{RunningAhead.stays, Values.begins_self, Values.begins_trans}
-use Rattle.timing_bridge.specs.Designs.{design, seen}
+use Rattle.timing_bridge.specs.Designs.{design, seen_request}
 use Rattle.timing_bridge.proofs.{History.plan_is_design, Requests.stand}
 use Rattle.engine_view.specs.Held.{queries_in}
 use Rattle.run_ahead.specs.{declared.mail.Mail.Mail, declared.mail.Task.Task, declared.mail.Burst.Burst}
-use Rattle.run_ahead.specs.Mails.{values_on, next_value, replies_in, taken_after, none_taken, task_left, GoesOn, IsBurst, IsBurstFrom}
+use Rattle.run_ahead.specs.Mails.{values_on, next_value, replies_in, taken_after, none_taken, task_left, RunsOn, IsBurst, IsBurstFrom}
 use Rattle.sim_core.specs.Runs.{rest_behind}
-use Rattle.sim_core.specs.Tasks.{outcomes_in, outcomes_at, values_behind, committed, rest_of, IsMailFor, IsTaskFor, IsTaskOf}
+use Rattle.sim_core.specs.Tasks.{requested_outcomes, outcomes_at, values_behind, steps_committed, rest_of, IsMailFor, IsTaskFor, IsTaskOf}
 use Rattle.sim_core.proofs.Mailed.{pops_one, HasValues, all_found}
 use Rattle.sim_core.proofs.Ahead.{IsWindow, Goes, Waits, Ran, run_on, goes_on, get_begins, ran_none, waiting_stands}
 use Rattle.sim_core.proofs.{Resting.rest_is, Beginnings.get_drop, Beginnings.begins_drop, Staying.run_stays}
@@ -40,14 +40,14 @@ task_for p x m task t = record {
     values = λ c.
         elim (cases_eq ((design p).owner Pop c) m) [
           | inl e ↦ mine c e
-          | inr e ↦ rw (t.others c e) (values_behind p x m (committed x m task.run) c, refl)
+          | inr e ↦ rw (t.others c e) (values_behind p x m (steps_committed x m task.run) c, refl)
         ];
   };
 }
   where
-    mine : (c : ℕ) → (design p).owner Pop c ≡ m → Begins (values_behind p x m (committed x m task.run) c) (values_on task.mail c)
+    mine : (c : ℕ) → (design p).owner Pop c ≡ m → Begins (values_behind p x m (steps_committed x m task.run) c) (values_on task.mail c)
     mine c e =
-        let all = values_behind p x m (committed x m task.run) c in
+        let all = values_behind p x m (steps_committed x m task.run) c in
         elim (cases_lt c (length p.design.channels)) [
           | inl l ↦ rw (t.popped c l e) (begins_self all)
           | inr l ↦ rw (t.outside c l) (all, refl)
@@ -61,8 +61,8 @@ task_stays p x z b m beside task t =
     let g = beside.grows in
     let same = beside.emitted in
     let over = beside.over in
-    let n = committed x m task.run in
-    let n_is : committed z m task.run ≡ n = ap (λ (e : ℕ). cond (waits task.run) (e - 1) e) same in
+    let n = steps_committed x m task.run in
+    let n_is : steps_committed z m task.run ≡ n = ap (λ (e : ℕ). cond (waits task.run) (e - 1) e) same in
     let settled = settled_less d x m (x.emitted m) n (committed_below x m task.run) (settled_all d x b m t.may.answered t.may.there) in
     record {
       may = stays d x z b g m same over t.may;
@@ -111,18 +111,18 @@ pub waits_first : (p : Plan) (x : Core ModuleState) (m : ℕ) (task : Task) → 
     → Waits p x m task.mail (rest_of p x m task) 0 none_taken
 waits_first p x m task t w =
     let (k, e, stands) = t.run.waiting w in
-    let n : committed x m task.run ≡ k = committed_waits x m task.run w ∙ (omega arith) in
+    let n : steps_committed x m task.run ≡ k = committed_waits x m task.run w ∙ (omega arith) in
     let answered = t.may.answered k e in
-    let outs : task.mail.outcomes ≡ outcomes_in (requests_of p (m, x.state m k)) (x.flags m k) =
+    let outs : task.mail.outcomes ≡ requested_outcomes (requests_of p (m, x.state m k)) (x.flags m k) =
     t.mail.outcomes ∙ (ap (outcomes_at p x m) n ∙ cond-true (ltb k (x.emitted m))
-    (outcomes_in (requests_of p (m, x.state m k)) (x.flags m k)) [] (lt-ltb k (x.emitted m) (omega arith))) in
+    (requested_outcomes (requests_of p (m, x.state m k)) (x.flags m k)) [] (lt-ltb k (x.emitted m) (omega arith))) in
     record {
       at = k;
       newest = e;
       inside = t.may.inside;
       lives = t.may.lives;
       stands = ap (rest_behind p x m) n;
-      outcomes = outs ∙ sym (cond-true (x.answered m k) (outcomes_in (requests_of p (m, x.state m k)) (x.flags m k)) [] answered);
+      outcomes = outs ∙ sym (cond-true (x.answered m k) (requested_outcomes (requests_of p (m, x.state m k)) (x.flags m k)) [] answered);
       plain = λ y. answered;
       window = window_first p x m k task.mail (subst (λ (j : ℕ). IsMailFor p x m j task.mail) n t.mail);
     }
@@ -130,12 +130,12 @@ waits_first p x m task t w =
 pub goes_first : (p : Plan) (x : Core ModuleState) (m : ℕ) (task : Task) → IsTaskFor p x m task → waits task.run ≡ false
     → Goes p x m task.mail (rest_of p x m task) 0 none_taken
 goes_first p x m task t w =
-    let n : committed x m task.run ≡ x.emitted m = committed_goes x m task.run w in
+    let n : steps_committed x m task.run ≡ x.emitted m = committed_goes x m task.run w in
     record {
       may = t.may;
       stands = ap (rest_behind p x m) n;
       outcomes = t.mail.outcomes ∙ (ap (outcomes_at p x m) n ∙ cond-false (ltb (x.emitted m) (x.emitted m))
-          (outcomes_in (requests_of p (m, x.state m (x.emitted m))) (x.flags m (x.emitted m))) []
+          (requested_outcomes (requests_of p (m, x.state m (x.emitted m))) (x.flags m (x.emitted m))) []
           (le-ltb (x.emitted m) (x.emitted m) (omega arith)));
       window = window_first p x m (x.emitted m) task.mail (subst (λ (j : ℕ). IsMailFor p x m j task.mail) n t.mail);
     }
@@ -167,8 +167,8 @@ burst_runs p f x b m task burst t i =
 
 -- each value that the step takes is in the mail
 values_there_in : (p : Plan) (x : Core ModuleState) (m k : ℕ) (mail : Mail) (taken : ℕ → ℕ) (t : ℕ → ℕ) (rs : List Request)
-    (bs : List Bool) → Each (λ a. (design p).owner a.side a.channel ≡ m) (map seen rs)
-    → all_below (λ (c : ℕ). length (core_values (design p) x c)) t (map seen rs) bs ≡ true
+    (bs : List Bool) → Each (λ a. (design p).owner a.side a.channel ≡ m) (map seen_request rs)
+    → all_below (λ (c : ℕ). length (core_values (design p) x c)) t (map seen_request rs) bs ≡ true
     → AllByRecursion (StandsAtPort p m) rs
     → ((c : ℕ) → c < length p.design.channels → (design p).owner Pop c ≡ m → t c < length (core_values (design p) x c)
     → (v : ℕ) × (next_value mail taken c ≡ Some v))
@@ -177,7 +177,7 @@ values_there_in p x m k mail taken t [] bs o e s h = tt
 values_there_in p x m k mail taken t (r ∷ rs) [] o e s h = tt
 values_there_in p x m k mail taken t (r ∷ rs) (b ∷ bs) (o, os) e (s, ss) h =
     let (e1, e2) = and_parts (not (pops_one r.kind b) || ltb (t r.channel) (length (core_values (design p) x r.channel)))
-    (all_below (λ (c : ℕ). length (core_values (design p) x c)) t (map seen rs) bs) e in (
+    (all_below (λ (c : ℕ). length (core_values (design p) x c)) t (map seen_request rs) bs) e in (
       λ one.
           let l = ltb-true (t r.channel) (length (core_values (design p) x r.channel))
           (sym (ap (λ (z : Bool). not z || ltb (t r.channel) (length (core_values (design p) x r.channel))) one) ∙ e1) in
@@ -196,13 +196,13 @@ pub task_answers : (p : Plan) → FitsEngine p → (x : Core ModuleState) → Ar
     → (qs : List Reply) × (replies_in task.mail 0 none_taken (accesses_at p m (rest_of p x m task)) ≡ Some qs)
 task_answers p f x b m task t w =
     let (k, e, stands) = t.run.waiting w in
-    let n : committed x m task.run ≡ k = committed_waits x m task.run w ∙ (omega arith) in
+    let n : steps_committed x m task.run ≡ k = committed_waits x m task.run w ∙ (omega arith) in
     let o = rest_of p x m task in
     let g = rest_is p f x b m t.may.inside k k (omega arith) (omega arith) in
     let state : o.state ≡ x.state m k = ap (λ (j : ℕ). (rest_behind p x m j).state) n ∙ (g.state ∙ sym (b.own_step m k (omega arith))) in
     let rs = requests_of p (m, x.state m k) in
-    let outs : task.mail.outcomes ≡ outcomes_in rs (x.flags m k) =
-    t.outcomes ∙ (ap (outcomes_at p x m) n ∙ cond-true (ltb k (x.emitted m)) (outcomes_in rs (x.flags m k)) []
+    let outs : task.mail.outcomes ≡ requested_outcomes rs (x.flags m k) =
+    t.outcomes ∙ (ap (outcomes_at p x m) n ∙ cond-true (ltb k (x.emitted m)) (requested_outcomes rs (x.flags m k)) []
     (lt-ltb k (x.emitted m) (omega arith))) in
     let has = values_there_in p x m k task.mail none_taken (λ c. core_tally (design p) x m Pop c k) rs (x.flags m k)
     ((plan_is_design p f).owned m (x.state m k)) (t.may.there k e) (stand p f m (x.state m k))
@@ -236,7 +236,7 @@ burst_has_marks p f x b m task burst t i s =
     ]
   where
     some_marks : (o : Own) (told : ℕ) (taken : ℕ → ℕ) (marks : List Advance)
-        → GoesOn p m task.mail burst.short (task_left burst) o told taken marks → 0 < length marks
+        → RunsOn p m task.mail burst.short (task_left burst) o told taken marks → 0 < length marks
     some_marks o told taken [] (g, e) = let z = sym e ∙ s in cc
     some_marks o told taken (mark ∷ more) g = omega arith
 

@@ -19,7 +19,7 @@ use Rattle.timing_bridge.proofs.Onward.{earliest_found}
 use Rattle.engine_view.specs.{declared.turn.Timing.Timing, Turns.is_progress, Turns.ticks_of}
 use Rattle.engine_view.specs.declared.turn.Timing.TheVariants as turn
 use Rattle.sim_core.specs.{Views.CoreView, Views.theory_of, Turns.HasTurned, Turns.HasAnsweredLeast, Turns.IsFirstEarliest}
-use Rattle.sim_core.specs.Timings.{AreUntimable, IsNextFrom, IsUntimable, IsTimed, IsTimingRound, HasMore}
+use Rattle.sim_core.specs.Timings.{AreUntimable, IsNextFrom, IsUntimable, TimesOne, IsTimingRound, HasMore}
 use Rattle.sim_core.proofs.Rounds as rounds
 use Rattle.sim_core.proofs.Rounds.{to_do}
 
@@ -28,7 +28,7 @@ use Rattle.sim_core.proofs.Rounds.{to_do}
 module _ (v w : CoreView) (m before : ℕ) (plan : w.plan ≡ v.plan) (lent : w.lent ≡ v.lent)
     (agreed : IsAgreed (design v.plan) (lockstep_run v.plan) v.plan.cycles (theory_of v)) where
   pub was_timed : (r : Timing) (after : ℕ) → HasTurned r v m w → after ≡ before + ticks_of r → is_progress r ≡ true
-      → IsTimed v before m w after
+      → TimesOne v before m w after
   was_timed (turn.Assigned c) after (e, may, is) ticked p =
       let (there, then) = assigned_is (design v.plan) v.plan.cycles (theory_of v) m e may in
       record {
@@ -145,7 +145,7 @@ module _ {first now : CoreView} {before ticks at done : ℕ} (r : IsTimingRound 
           omega arith
 
   -- one action more, of the module that comes next
-  pub went : {next : CoreView} {later m : ℕ} → IsNextFrom now at m → IsTimed now ticks m next later
+  pub went : {next : CoreView} {later m : ℕ} → IsNextFrom now at m → TimesOne now ticks m next later
       → IsTimingRound first next before later m (done + 1)
   went {next} {later} {m} (inside, comes) o = record {
     goes = rounds.goes_join first now next before ticks later r.goes o.goes.goes;
@@ -214,7 +214,7 @@ module _ {first now : CoreView} {before ticks at done : ℕ} (r : IsTimingRound 
         (subst (λ (q : Plan). next_timing (design q) q.cycles (theory_of now) at ≡ None) (sym r.goes.plan) none_next)
 
   -- something that was done is a turn less
-  pub went_on : {next : CoreView} {later m : ℕ} → IsTimed now ticks m next later → to_do next < to_do now
+  pub went_on : {next : CoreView} {later m : ℕ} → TimesOne now ticks m next later → to_do next < to_do now
   went_on {next} {later} {m} o =
       let agreed = rounds.goes_agreed now next ticks later agreed_now fits_now o.goes.goes in
       let less = rounds.to_do_less now next ticks later o.goes agreed (subst FitsEngine (sym o.goes.goes.plan) fits_now) in

@@ -10,7 +10,7 @@ use Rattle.module_interp.specs.declared.run.ModuleRun.{ModuleRun}
 use Rattle.event_graph.specs.{Lanes.lane_at, declared.candidate.Candidate.Candidate}
 use Rattle.event_graph.specs.declared.candidate.Candidate.TheVariants.{At, Nothing}
 use Rattle.query_log.specs.Logs.{log_at}
-use Rattle.query_resolve.specs.Earliest.{cycle_of, IsEarliest}
+use Rattle.query_resolve.specs.Earliest.{determined_cycle, IsEarliest}
 use Rattle.outcome_guard.specs.declared.guard.Guard.{Guard}
 use Rattle.outcome_guard.specs.declared.guard.Guard.TheVariants as guard
 use Rattle.time_engine.specs.Cycles.{determined}
@@ -28,7 +28,7 @@ use Rattle.engine_view.specs.Turns.{HasTimed, HasAnswered, KeepsRoom, HasUnsure,
 use Rattle.engine_view.specs.declared.turn.Timing.TheVariants as turn
 use Rattle.engine_view.proofs.Bounds.{candidate_is}
 use Rattle.sim_core.specs.{Views.CoreView, Runs.AreUnreadIn, Runs.IsCore, Runs.over_of, Turns.HasTurned, Turns.HasAnsweredLeast}
-use Rattle.sim_core.specs.{declared.due.Due.Due, Asking.HasRoom, declared.unread.Unread.Unread}
+use Rattle.sim_core.specs.{declared.due.Due.Due, Asking.SetHasRoom, declared.unread.Unread.Unread}
 use Rattle.sim_core.specs.Candidates.{AreCandidates, AreListed, IsCandidate, IsListed}
 use Rattle.sim_core.proofs.{Keeping.core_acted, Keeping.kept_of, Leaving.unread_acted}
 
@@ -179,20 +179,21 @@ module _ {p : Plan} {s : Engine} {ends : List (Option Advance)} {runs : List (Op
           let (is, below) = (all m c l).0 (get_or_from_slice_get candidates m (At c) Nothing e) in
           (determined_is m c is, below)
 
-      none_open : ((m : ℕ) (c : Candidate) → m < length candidates → cycle_of (get_or candidates m c) ≡ None) → (n e : ℕ)
+      none_open : ((m : ℕ) (c : Candidate) → m < length candidates → determined_cycle (get_or candidates m c) ≡ None) → (n e : ℕ)
           → IsOpen d p.cycles x n e → ⊥
       none_open none n e o =
           let inside = emitted_there n e o.determined.at in
           let at : get_or candidates n Nothing ≡ At e = (all n e inside).1
           (candidate_is d is_design h k.sound n ∙ o.determined.at, o.determined.below) in
-          let no : cycle_of (At e) ≡ None = ap cycle_of (sym at) ∙ none n Nothing (omega arith) in
+          let no : determined_cycle (At e) ≡ None = ap determined_cycle (sym at) ∙ none n Nothing (omega arith) in
           cc
 
-      pub final_if : ((m : ℕ) (c : Candidate) → m < length candidates → cycle_of (get_or candidates m c) ≡ None) → IsFinal d p.cycles x
+      pub final_if : ((m : ℕ) (c : Candidate) → m < length candidates → determined_cycle (get_or candidates m c) ≡ None)
+          → IsFinal d p.cycles x
       final_if none = record { quiet = quiet; no_earliest = λ n e may. none_open none n e may.open_step }
 
       -- so each candidate that stands for its module is right
-      pub listed_anew : (due : Due) → HasRoom p due.unlisted → AreListed p x due candidates
+      pub listed_anew : (due : Due) → SetHasRoom p due.unlisted → AreListed p x due candidates
       listed_anew due room = record {
         count = count ∙ k.sound.lanes;
         room = room;

@@ -8,14 +8,14 @@ use Rattle.flow_word.specs.{Kinds.is_blocking, declared.access.Access.Access, de
 use Rattle.flow_design.specs.{declared.plan.Plan.Plan, declared.state.Request.Request, StaticRules.FitsEngine}
 use Rattle.flow_design.specs.declared.state.ModuleState.{ModuleState}
 use Rattle.lockstep_defs.specs.{Channels.HistoryStep, Report.report, Report.outcomes, Report.steps_of}
-use Rattle.lockstep_defs.specs.Lockstep.{step_of, state, state_at, history}
+use Rattle.lockstep_defs.specs.Lockstep.{module_step, state, state_at, history}
 use Rattle.lockstep_defs.proofs.Agrees.{steps_of-suc}
 use Rattle.query_log.specs.Logs.{log_at}
 use Rattle.outcome_guard.specs.Prefixes.{IsPrefix}
 use Rattle.event_timing.specs.{Steps.steps, Steps.done, Core.Core, Core.core_accesses, Core.has_query, Agreement.IsAgreed}
 use Rattle.event_timing.proofs.{Steps.done_more, Steps.done_same, Steps.done_past, OwnRuns.done_0}
 use Rattle.timing_bridge.specs.{Designs.design, Designs.lockstep_run, CoreReports.core_step, CoreReports.core_steps}
-use Rattle.timing_bridge.specs.Outcomes.{outcome_of, outcomes_by, first_requests}
+use Rattle.timing_bridge.specs.Outcomes.{outcome_when, outcomes_by, first_requests}
 use Rattle.timing_bridge.specs.Designs as bridge
 use Rattle.timing_bridge.proofs.{Outcomes.verified_outcomes, Steps.steps_are}
 use Rattle.engine_view.specs.Held.{Held, emitted_of, seen, queries_in, possible_by, flags_by, are_among, core_of}
@@ -28,13 +28,13 @@ use Rattle.sim_core.proofs.Reported.{answers_behind, answers_next, next_recorded
 
 -- ---- the outcomes of a step by the flags of recorded ones
 
-outcome_back : (k : Kind) (o : Bool) → is_blocking k ≡ false → outcome_of k (possible_by k (Some o)) ≡ o
+outcome_back : (k : Kind) (o : Bool) → is_blocking k ≡ false → outcome_when k (possible_by k (Some o)) ≡ o
 outcome_back k o e = grind arith
 
 abbrev IsToldBy : List Access → List Request → Type 0
 IsToldBy as' rs = (os : List Bool) → queries_in as' ≤ length os → outcomes_by rs (flags_by as' os) ≡ take (queries_in as') os
 
-told_by : (as' : List Access) (rs : List Request) → map bridge.seen rs ≡ map seen as' → IsToldBy as' rs
+told_by : (as' : List Access) (rs : List Request) → map bridge.seen_request rs ≡ map seen as' → IsToldBy as' rs
 told_by [] [] e os l = refl
 told_by [] (r ∷ rs) e os l = cc
 told_by (a ∷ as') [] e os l = cc
@@ -88,7 +88,7 @@ module _ (p : Plan) (fits : FitsEngine p) (x : Core ModuleState) (g : IsAgreed (
             )
         | inr more ↦
             let (later, e) = first_steps c more in
-            let now = step_of p c (state p c).contents (m, state_at p c m) in (
+            let now = module_step p c (state p c).contents (m, state_at p c m) in (
               later ++ now,
               steps_of-suc p c m inside
                   ∙ (ap (λ (l : List HistoryStep). l ++ now) e ∙ append_assoc (core_steps p x m) later now),

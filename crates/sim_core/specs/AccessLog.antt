@@ -24,22 +24,23 @@ log_of p = logged_in (history p (clock_of (verdict p)))
 -- ---- by what is held
 
 -- an access as a request
-abbrev pub request_of : Access → Request
-request_of a = record { kind = a.kind; channel = a.channel; value = a.value }
+abbrev pub access_request : Access → Request
+access_request a = record { kind = a.kind; channel = a.channel; value = a.value }
 
 -- an access with its reply
 abbrev pub exchange_of : Access → Reply → Exchange
-exchange_of a r = record { request = request_of a; reply = r }
+exchange_of a r = record { request = access_request a; reply = r }
 
 -- the replies to module m's step k; none where some of them are not there
-abbrev pub replies_at : Held → ℕ → ℕ → List Reply
-replies_at h m k = unwrap_or (replies_now h m (step_of h m k)) []
+abbrev pub logged_replies : Held → ℕ → ℕ → List Reply
+logged_replies h m k = unwrap_or (replies_now h m (step_of h m k)) []
 
 -- a step with a cycle, and what was done in it
-abbrev pub step_with : TimedStep → List Exchange → HistoryStep
-step_with key xs = record { clock = key.cycle; «module» = key.module; exchanges = xs }
+abbrev pub step_doing : TimedStep → List Exchange → HistoryStep
+step_doing key xs = record { clock = key.cycle; «module» = key.module; exchanges = xs }
 
 -- what the accesses of a step with a cycle gave, by what is held
 abbrev pub logged_at : Held → TimedStep → List LoggedAccess
 logged_at h key =
-    map (logged (step_with key [])) (paired (map request_of (step_of h key.module key.step).accesses) (replies_at h key.module key.step))
+    map (logged (step_doing key []))
+    (paired (map access_request (step_of h key.module key.step).accesses) (logged_replies h key.module key.step))

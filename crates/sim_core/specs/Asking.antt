@@ -11,8 +11,8 @@ abbrev pub Lacks : List ℕ → ℕ → Type 0
 Lacks set n = Has set n → ⊥
 
 -- the set has room for each module of the plan
-abbrev pub HasRoom : Plan → List ℕ → Type 0
-HasRoom p set = length p.design.modules ≤ capacity set
+abbrev pub SetHasRoom : Plan → List ℕ → Type 0
+SetHasRoom p set = length p.design.modules ≤ capacity set
 
 -- the set has the modules at the other sides of the channels of the first n ports
 abbrev pub AreAcrossTo : Plan → List Port → ℕ → List ℕ → Type 0
@@ -33,5 +33,5 @@ AreBeside p beside = AreBesideTo p (length p.design.modules) beside
 
 -- no Assign and no Answer is permitted for a module that is not in the set
 pub record AreAsking (p : Plan) (x : Core ModuleState) (asking : List ℕ) : Type 0 where
-  pub room : HasRoom p asking
+  pub room : SetHasRoom p asking
   pub idle : (n : ℕ) → n < length p.design.modules → Lacks asking n → may_time (design p) p.cycles x n ≡ false

@@ -7,7 +7,7 @@ use Rattle.event_timing.specs.{Core.Core, Actions.IsDetermined}
 use Rattle.fifo_table.specs.Channels.{Channel}
 use Rattle.time_engine.specs.Cycles.{determined}
 use Rattle.timing_bridge.specs.Designs.{design}
-use Rattle.sim_core.specs.{Asking.Lacks, Asking.HasRoom, declared.due.Due.Due}
+use Rattle.sim_core.specs.{Asking.Lacks, Asking.SetHasRoom, declared.due.Due.Due}
 
 -- the candidate of a module is at a cycle exactly where that is determined, below the limit
 abbrev pub IsCandidate : List Lane → List Channel → ℕ → ℕ → Candidate → Type 0
@@ -26,6 +26,6 @@ IsListed due n = Lacks due.asking n × Lacks due.unlisted n
 -- there is a candidate for each module, and it is right of those that are neither asking nor unlisted
 pub record AreListed (p : Plan) (x : Core ModuleState) (due : Due) (candidates : List Candidate) : Type 0 where
   pub count : length candidates ≡ length p.design.modules
-  pub room : HasRoom p due.unlisted
+  pub room : SetHasRoom p due.unlisted
   pub right : (n : ℕ) → n < length p.design.modules → IsListed due n → (cycle : ℕ)
       → (slice_index_or candidates n Nothing ≡ At cycle) ↔ IsDetermined (design p) p.cycles x n cycle

@@ -3,7 +3,7 @@ use Rattle.std.specs.Prelude.{◌≡◌, ℕ, ◌+◌, ◌≤◌, ◌⊎◌, map
 use Rattle.flow_design.specs.declared.plan.Edit.{Edit}
 use Rattle.event_graph.specs.Lanes.{timed_below}
 use Rattle.fifo_table.specs.Channels.{channel_at}
-use Rattle.retime.specs.{Rounds.cycles_in, Rounds.steps_in, Touched.IsFirstTouched, Touched.IsNeverTouched}
+use Rattle.retime.specs.{Rounds.cycles_in, Rounds.steps_in_lanes, Touched.IsFirstTouched, Touched.IsNeverTouched}
 use Rattle.sim_core.specs.Views.{CoreView}
 
 -- the clock is the first touched clock of the edit, or the limit where there is none
@@ -20,4 +20,4 @@ kept_below v clock = cycles_in (map (timed_below clock) v.held.lanes)
 pub record HasSetFew (v : CoreView) (e : Edit) (w : CoreView) (set : ℕ) : Type 0 where
   pub clock : ℕ
   pub felt : IsFeltFrom v e clock
-  pub few : set + kept_below v clock ≤ steps_in w.held.lanes
+  pub few : set + kept_below v clock ≤ steps_in_lanes w.held.lanes

@@ -33,10 +33,10 @@ pub record GoesOn (v : CoreView) (before : ℕ) (w : CoreView) (after : ℕ) : T
   pub risen : work (design v.plan) (theory_of v) < work (design v.plan) (theory_of w)
 
 -- Assigns and Answers of module m lead from v to w, or none is permitted, or one finds a query with another outcome
-abbrev pub HasTimed : Visit → CoreView → ℕ → ℕ → CoreView → ℕ → Type 0
-HasTimed (Acted again) v before m w after = GoesOn v before w after
-HasTimed (Differs q) v before m w after = (w ≡ v) × (after ≡ before) × IsDifferent (design v.plan) v.plan.cycles v.held m q
-HasTimed Idle v before m w after = (w ≡ v) × (after ≡ before) × IsIdle (design v.plan) v.plan.cycles (theory_of v) m
+abbrev pub VisitLeads : Visit → CoreView → ℕ → ℕ → CoreView → ℕ → Type 0
+VisitLeads (Acted again) v before m w after = GoesOn v before w after
+VisitLeads (Differs q) v before m w after = (w ≡ v) × (after ≡ before) × IsDifferent (design v.plan) v.plan.cycles v.held m q
+VisitLeads Idle v before m w after = (w ≡ v) × (after ≡ before) × IsIdle (design v.plan) v.plan.cycles (theory_of v) m
 
 -- a visit at module m leads from v to w, or nothing but an Earliest is permitted there, or an Answer finds a query with another
 -- outcome

@@ -10,7 +10,7 @@ use Rattle.event_timing.specs.{Actions.IsFinal, Agreement.IsAgreed, Edits.after_
 use Rattle.timing_bridge.specs.Designs.{design, lockstep_run}
 use Rattle.engine_view.specs.Shown.{IsSound}
 use Rattle.retime.specs.Edits.{IsEditFrom, IsOtherInHistory, OutcomesGrow}
-use Rattle.retime.specs.Rounds.{LeadsAll, HasEnded, only_steps, cycles_in, steps_in}
+use Rattle.retime.specs.Rounds.{LeadsAll, HasEnded, only_steps, cycles_in, steps_in_lanes}
 use Rattle.cycle_changes.specs.Moved.{moved_in}
 use Rattle.sim_core.specs.Views.{CoreView, theory_of}
 
@@ -30,7 +30,7 @@ pub record IsRetimed (old new : CoreView) (e : Edit) (guard : Guard) (before aft
   pub ended : HasEnded guard (design new.plan) new.plan.cycles new.held
   -- there was one tick for each cycle that was given; they are at most the steps whose cycles did not stay
   pub ticked : after + cycles_in (map (timed_below clock) old.held.lanes) ≡ before + cycles_in new.held.lanes
-  pub few : after + cycles_in (map (timed_below clock) old.held.lanes) ≤ before + steps_in old.held.lanes
+  pub few : after + cycles_in (map (timed_below clock) old.held.lanes) ≤ before + steps_in_lanes old.held.lanes
   pub outcomes : (m : ℕ) → m < length old.held.logs → OutcomesGrow (log_at old.held.logs m) (log_at new.held.logs m)
 
 -- each step with a cycle below the clock keeps it
@@ -52,7 +52,7 @@ pub record IsChanged (old new : CoreView) (e : Edit) (guard : Guard) (before aft
   -- there was one tick for each step that has another cycle
   pub ticked : after ≡ before + moved_in old.held.lanes new.held.lanes
   -- there were at most as many ticks as steps without a cycle below the first touched clock
-  pub few : after + cycles_in (map (timed_below clock) old.held.lanes) ≤ before + steps_in old.held.lanes
+  pub few : after + cycles_in (map (timed_below clock) old.held.lanes) ≤ before + steps_in_lanes old.held.lanes
 
 abbrev pub IsEdited : CoreView → CoreView → Edit → Guard → ℕ → ℕ → Type 0
 IsEdited old new e guard before after =

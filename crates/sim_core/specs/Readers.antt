@@ -2,7 +2,7 @@
 use Rattle.std.specs.Prelude.{◌≡◌, ℕ, ◌+◌, ◌<◌, Bool, cond, ◌&&◌, nat_eq, List, length, drop, slice_index}
 use Rattle.std.specs.List.{position_or_len}
 use Rattle.flow_word.specs.{declared.access.Port.Port, declared.access.Side.Side, declared.access.Side.TheVariants.Pop}
-use Rattle.flow_design.specs.{declared.design.Module.Module, declared.plan.Plan.Plan, StaticRules.uses}
+use Rattle.flow_design.specs.{declared.design.Module.Module, declared.plan.Plan.Plan, StaticRules.uses, Operations.port_at}
 use Rattle.timing_bridge.specs.Designs.{design}
 
 -- the list has the module at this side of each channel, or the number of modules where there is none
@@ -12,9 +12,6 @@ pub record AreUsers (p : Plan) (side : Side) (users : List ℕ) : Type 0 where
 
 abbrev pub AreReaders : Plan → List ℕ → Type 0
 AreReaders p readers = AreUsers p Pop readers
-
-abbrev pub port_at : Side → ℕ → Port
-port_at side c = record { side = side; channel = c }
 
 -- the module is noted at these channels, wherever the list had `none` before
 pub record AreNoted (none owner : ℕ) (at : ℕ → Bool) (before after : List ℕ) : Type 0 where

@@ -13,7 +13,7 @@ abbrev pub IsUntimable : CoreView → ℕ → Type 0
 IsUntimable v m = may_time (design v.plan) v.plan.cycles (theory_of v) m ≡ false
 
 -- the Assign or Answer of module m was permitted, and leads from v to w
-pub record IsTimed (v : CoreView) (before m : ℕ) (w : CoreView) (after : ℕ) : Type 0 where
+pub record TimesOne (v : CoreView) (before m : ℕ) (w : CoreView) (after : ℕ) : Type 0 where
   pub may : IsTimable v m
   pub is : theory_of w ≡ after_timing (design v.plan) v.plan.cycles (theory_of v) m
   pub goes : GoesOn v before w after

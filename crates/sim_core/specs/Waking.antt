@@ -6,11 +6,11 @@ use Rattle.event_timing.specs.{Core.Core, Actions.MayRun}
 use Rattle.timing_bridge.specs.Designs.{design}
 use Rattle.engine_view.specs.declared.turn.Timing.{Timing}
 use Rattle.engine_view.specs.declared.turn.Timing.TheVariants.{Assigned, Answered, Differs, Nothing}
-use Rattle.sim_core.specs.{Asking.Lacks, Asking.HasRoom, Asking.AreAsking, declared.due.Due.Due}
+use Rattle.sim_core.specs.{Asking.Lacks, Asking.SetHasRoom, Asking.AreAsking, declared.due.Due.Due}
 
 -- of a module that is not in the set no Run is permitted
 pub record AreWaking (p : Plan) (x : Core ModuleState) (running : List ℕ) : Type 0 where
-  pub room : HasRoom p running
+  pub room : SetHasRoom p running
   pub none : (n : ℕ) → n < length p.design.modules → Lacks running n → MayRun (design p) x n → ⊥
 
 -- of a module that is in neither set nothing is permitted, but perhaps an Earliest

@@ -5,7 +5,7 @@ ghost use Rattle.lockstep_defs.specs.{Channels.moved_value, Machine.is_yes, Mach
 ghost use Rattle.event_timing.specs.Actions.{IsFinal};
 ghost use Rattle.timing_bridge.specs.Designs.{design};
 ghost use Rattle.engine_report.specs.Keys.{IsTimedKey};
-ghost use Rattle.sim_core.specs.AccessLog.{exchange_of, log_of, logged, logged_at, request_of, step_with};
+ghost use Rattle.sim_core.specs.AccessLog.{exchange_of, log_of, logged, logged_at, access_request, step_doing};
 ghost use Rattle.sim_core.specs.Views.{theory_of};
 
 use crate::machine::Core;
@@ -85,7 +85,8 @@ fn log_accesses(
     log: &mut List<LoggedAccess>,
 ) -> Result<(), OutOfMemory>
     requires { length accesses.now ≤ length replies.now }
-    ensures { OnOk result (log.new ≡ log.old ++ map (logged (step_with key.now [])) (paired (map request_of accesses.now) replies.now)) }
+    ensures { OnOk result
+        (log.new ≡ log.old ++ map (logged (step_doing key.now [])) (paired (map access_request accesses.now) replies.now)) }
 {
     for at in 0..accesses.len() {
         log.push(logged(key, &accesses[at], replies[at]))?;
@@ -95,7 +96,7 @@ fn log_accesses(
 
 /// What an access of a step gave, by its reply.
 fn logged(key: &TimedStep, access: &Access, reply: Reply) -> LoggedAccess
-    ensures { result ≡ logged (step_with key.now []) (exchange_of access.now reply) }
+    ensures { result ≡ logged (step_doing key.now []) (exchange_of access.now reply) }
 {
     LoggedAccess {
         event: EventLine {

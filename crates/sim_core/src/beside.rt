@@ -5,7 +5,7 @@ ghost use Rattle.flow_word.specs.{Kinds.other_side, declared.access.Side.TheVari
 ghost use Rattle.module_sets.specs.Sets.{Has, HasMask, capacity};
 ghost use Rattle.timing_bridge.specs.Designs.{design};
 ghost use Rattle.engine_view.specs.{Turns.is_progress, declared.turn.Timing.TheVariants.Nothing};
-ghost use Rattle.sim_core.specs.Asking.{Lacks, HasRoom, AreAcross, AreBeside};
+ghost use Rattle.sim_core.specs.Asking.{Lacks, SetHasRoom, AreAcross, AreBeside};
 ghost use Rattle.sim_core.specs.{Waking.IsSpread, Waking.IsWoken, Opening.AreOwnPorts, Readers.AreReaders, Readers.AreUsers};
 
 use crate::wiring::ports_of;
@@ -34,9 +34,9 @@ fn add_across(plan: &Plan, ports: &[Port], readers: &[u32], writers: &[u32], set
     requires within { All (λ port. port.channel < length plan.now.design.channels) ports.now }
     requires readers { AreReaders plan.now readers.now }
     requires writers { AreUsers plan.now Push writers.now }
-    requires room { HasRoom plan.now set.old }
+    requires room { SetHasRoom plan.now set.old }
     ensures across { AreAcross plan.now ports.now set.new }
-    ensures room { HasRoom plan.now set.new }
+    ensures room { SetHasRoom plan.now set.new }
 {
     for port in ports {
         set.add(across(plan, *port, readers, writers));

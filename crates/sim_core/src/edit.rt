@@ -5,7 +5,7 @@ ghost use Rattle.event_graph.specs.Lanes.{cycle_bound, timed_below};
 ghost use Rattle.event_timing.specs.Actions.{IsFinal};
 ghost use Rattle.timing_bridge.specs.Designs.{design};
 ghost use Rattle.engine_view.specs.Turns.{IsSomeCore};
-ghost use Rattle.retime.specs.{Rounds.cycles_in, Rounds.steps_in, Touched.IsEditIn};
+ghost use Rattle.retime.specs.{Rounds.cycles_in, Rounds.steps_in_lanes, Touched.IsEditIn};
 ghost use Rattle.cycle_changes.specs.{Changed.HasChanged, Moved.moved_in};
 ghost use Rattle.sim_core.specs.{Views.theory_of, Edits.IsEdited, Edits.IsTrueGuard};
 
@@ -83,7 +83,7 @@ fn change_few<L: Ledger>(
     ensures changed { result ≡ true → HasChanged edit.now limit engine.old engine.new }
     ensures ticked { result ≡ true → steps.new ≡ steps.old + moved_in engine.old.graph.lanes engine.new.graph.lanes }
     ensures few { result ≡ true → steps.new + cycles_in (map (timed_below (unwrap_or from limit)) engine.old.graph.lanes)
-        ≤ steps.old + steps_in engine.old.graph.lanes }
+        ≤ steps.old + steps_in_lanes engine.old.graph.lanes }
 {
     match from {
         Some(clock) => retime_changes(engine, changes, edit, clock, limit, steps),

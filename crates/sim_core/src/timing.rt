@@ -4,7 +4,7 @@ ghost use Rattle.event_timing.specs.{Actions.IsDetermined, Actions.IsFinal, Acti
 ghost use Rattle.timing_bridge.specs.{Designs.design, Rounds.earliest_of, Rounds.timings, Turns.NoTiming};
 ghost use Rattle.module_sets.specs.Sets.{Has, capacity};
 ghost use Rattle.sim_core.specs.{Views.theory_of, Drives.Goes};
-ghost use Rattle.sim_core.specs.Timings.{IsTimed, IsUntimable, AreUntimable, AreUnrunnable, IsNextFrom, IsReady};
+ghost use Rattle.sim_core.specs.Timings.{TimesOne, IsUntimable, AreUntimable, AreUnrunnable, IsNextFrom, IsReady};
 
 use crate::due::first_below;
 use crate::machine::Core;
@@ -42,7 +42,7 @@ impl Core {
     fn time_next<L: Ledger>(&mut self, at: u32, steps: &mut Steps<L>) -> Option<u32>
         requires at { at ≤ length self.old.plan.design.modules }
         requires verified { AllVerified (theory_of self.old) }
-        ensures done { IfSome result (λ m. IsTimed self.old steps.old m self.new steps.new) }
+        ensures done { IfSome result (λ m. TimesOne self.old steps.old m self.new steps.new) }
         ensures first { IfSome result (λ m. IsNextFrom self.old at m) }
         ensures none { IsNone result → AreUntimable self.old 0 (length self.old.plan.design.modules) }
         ensures unchanged { IsNone result → (self.new ≡ self.old) × (steps.new ≡ steps.old) }
@@ -59,7 +59,7 @@ impl Core {
     fn time_from<L: Ledger>(&mut self, from: u32, to: u32, steps: &mut Steps<L>) -> Option<u32>
         requires to { to ≤ length self.old.plan.design.modules }
         requires verified { AllVerified (theory_of self.old) }
-        ensures done { IfSome result (λ m. IsTimed self.old steps.old m self.new steps.new) }
+        ensures done { IfSome result (λ m. TimesOne self.old steps.old m self.new steps.new) }
         ensures behind { IfSome result (λ m. from ≤ m) }
         ensures below { IfSome result (λ m. m < to) }
         ensures first { IfSome result (λ m. AreUntimable self.old from m) }
@@ -91,7 +91,7 @@ impl Core {
     fn time_one<L: Ledger>(&mut self, owner: u32, steps: &mut Steps<L>) -> bool
         requires owner { owner < length self.old.plan.design.modules }
         requires verified { AllVerified (theory_of self.old) }
-        ensures done { result ≡ true → IsTimed self.old steps.old owner self.new steps.new }
+        ensures done { result ≡ true → TimesOne self.old steps.old owner self.new steps.new }
         ensures none { result ≡ false → IsUntimable self.old owner }
         ensures unchanged { result ≡ false → (self.new ≡ self.old) × (steps.new ≡ steps.old) }
     {

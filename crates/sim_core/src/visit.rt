@@ -3,7 +3,7 @@ ghost use Rattle.std.specs.Prelude.{◌≡◌, ℕ, ◌<◌, true, false, length
 ghost use Rattle.event_timing.specs.Actions.{MayRun};
 ghost use Rattle.timing_bridge.specs.Designs.{design};
 ghost use Rattle.module_interp.specs.declared.run.ModuleRun.{ModuleRun as RunOf};
-ghost use Rattle.sim_core.specs.{Runs.IsOut, Views.theory_of, Drives.Goes, Drives.GoesOn, Drives.HasTimed, Drives.HasVisited};
+ghost use Rattle.sim_core.specs.{Runs.IsOut, Views.theory_of, Drives.Goes, Drives.GoesOn, Drives.VisitLeads, Drives.HasVisited};
 
 use crate::machine::Core;
 use engine_view::Timing;
@@ -171,7 +171,7 @@ impl Core {
     /// core, it still stands where the core's marks say.
     fn time_on<L: Ledger>(&mut self, owner: u32, steps: &mut Steps<L>) -> Visit
         requires { owner < length self.old.plan.design.modules }
-        ensures timed { HasTimed result self.old steps.old owner self.new steps.new }
+        ensures timed { VisitLeads result self.old steps.old owner self.new steps.new }
         ensures out { (run : RunOf) → IsOut self.old owner run → IsOut self.new owner run }
     {
         let mut again = match self.time_once(owner, steps) {
@@ -202,7 +202,7 @@ impl Core {
     #[inline(always)]
     fn time_once<L: Ledger>(&mut self, owner: u32, steps: &mut Steps<L>) -> Visit
         requires { owner < length self.old.plan.design.modules }
-        ensures timed { HasTimed result self.old steps.old owner self.new steps.new }
+        ensures timed { VisitLeads result self.old steps.old owner self.new steps.new }
         ensures out { (run : RunOf) → IsOut self.old owner run → IsOut self.new owner run }
     {
         // This brings in what a core always keeps: it agrees with its plan.

@@ -12,8 +12,8 @@ use Rattle.timing_bridge.specs.declared.turn.HubTurn.TheVariants.{Lent, Ran, Tim
 use Rattle.turn_lock.specs.{declared.view.View.View, Entries.entries_of, Entries.Owns, Turns.BeginsTurn, Turns.EndsTurn, Turns.Continues}
 use Rattle.sim_hub.specs.{declared.answer.Desk.Desk, declared.answer.PerfAnswer.PerfAnswer}
 use Rattle.sim_hub.specs.Places.{Behind, IsLegal, IsPlace, HasModule, HasModules, HasAdded, HasLooked, HasMadeAll, HasNoDesk, IsLater}
-use Rattle.sim_hub.specs.Hubs.{IsHeld, IsIdle, IsFinished, WasShort, HadMemory, FoundShort, DeskIs, PerfIs, ReturnIs}
-use Rattle.sim_hub.specs.Steps.{Adds, ShortIs, LendingIs, BackIs, TimingIs, MayAdd, IsEnd}
+use Rattle.sim_hub.specs.Hubs.{IsHeld, IsHubIdle, IsHubDone, WasShort, HadMemory, FoundShort, DeskIs, PerfIs, ReturnIs}
+use Rattle.sim_hub.specs.Steps.{Adds, ShortIs, LendingIs, BackIs, TimingIs, MayAdd, IsTurnEnd}
 use Rattle.sim_hub.specs.declared.answer.Desk.TheVariants as desk
 use Rattle.sim_hub.specs.declared.answer.PerfAnswer.TheVariants as perf
 use Rattle.sim_hub.proofs.Histories.{plan_since, turns_since, others_later, lent_first, stands_next, mapped_some}
@@ -105,7 +105,7 @@ module _ (p : Plan) (fits : FitsEngine p) (log : List HubEntry) (now : Turned Mo
 -- ---- from a turn to its answer
 
 -- what was added
-ended : (q : ℕ) (added : Bool) (log more : List HubEntry) (t w : View HubEntry) → MayAdd q added log more → IsEnd added log more t w
+ended : (q : ℕ) (added : Bool) (log more : List HubEntry) (t w : View HubEntry) → MayAdd q added log more → IsTurnEnd added log more t w
     → (es : List HubEntry) × (more ≡ log ++ es) × EndsTurn es more t w
 ended q true log more t w (turn, adds, of) e = (Turn turn ∷ [], adds, e turn adds)
 ended q false log more t w same e = ([], same ∙ sym (append-nil log), e)
@@ -119,12 +119,13 @@ ended_place q es more t w end number owns legal = record {
 }
 
 -- the pass has seen all of it
-pub end_seen : (q : ℕ) (added : Bool) (log more : List HubEntry) (t w : View HubEntry) → MayAdd q added log more → IsEnd added log more t w
+pub end_seen : (q : ℕ) (added : Bool) (log more : List HubEntry) (t w : View HubEntry) → MayAdd q added log more
+    → IsTurnEnd added log more t w
     → w.seen ≡ more
 end_seen q added log more t w may e = let (es, longer, end) = ended q added log more t w may e in end.seen
 
 pub is_later : (q tries : ℕ) (added : Bool) (log more : List HubEntry) (v t w : View HubEntry) → BeginsTurn bearer tries log v t
-    → MayAdd q added log more → IsEnd added log more t w → IsLater v w
+    → MayAdd q added log more → IsTurnEnd added log more t w → IsLater v w
 is_later q tries added log more v t w b may e =
     let (es, longer, end) = ended q added log more t w may e in
     let (before, is) = b.continues.begins in record {
@@ -136,7 +137,7 @@ is_later q tries added log more v t w b may e =
     }
 
 module _ (tries : ℕ) (log more : List HubEntry) (v t w : View HubEntry) (b : BeginsTurn bearer tries log v t) where
-  has_added : (turn : HubTurn) → Adds turn log more → IsEnd true log more t w → HasAdded turn log v w
+  has_added : (turn : HubTurn) → Adds turn log more → IsTurnEnd true log more t w → HasAdded turn log v w
   has_added turn adds e =
       record {
         tries = tries;
@@ -145,7 +146,7 @@ module _ (tries : ℕ) (log more : List HubEntry) (v t w : View HubEntry) (b : B
         ended = subst (λ (es : List HubEntry). EndsTurn (Turn turn ∷ []) es t w) adds (e turn adds);
       }
 
-  has_looked : more ≡ log → IsEnd false log more t w → HasLooked v w
+  has_looked : more ≡ log → IsTurnEnd false log more t w → HasLooked v w
   has_looked same e = record {
     tries = tries;
     turn = t;
@@ -153,7 +154,7 @@ module _ (tries : ℕ) (log more : List HubEntry) (v t w : View HubEntry) (b : B
     ended = subst (λ (es : List HubEntry). EndsTurn [] es t w) (sym e.seen ∙ sym (append-nil w.seen)) e;
   }
 
-  found_short : (q : ℕ) (added : Bool) → ShortIs q log more added → IsEnd added log more t w → FoundShort q v w
+  found_short : (q : ℕ) (added : Bool) → ShortIs q log more added → IsTurnEnd added log more t w → FoundShort q v w
   found_short q true (adds, before) e =
       let end = e (Short q) adds in (
         subst (λ (es : List HubEntry). Behind es WasShort) (sym end.seen) (short_behind_log q log more HadMemory before adds),
@@ -162,7 +163,7 @@ module _ (tries : ℕ) (log more : List HubEntry) (v t w : View HubEntry) (b : B
   found_short q false (same, before) e =
       (subst (λ (es : List HubEntry). Behind es WasShort) (sym (e.seen ∙ same)) before, inl (has_looked same e))
 
-  pub desk_answer : (m : ℕ) (answer : Desk) (added : Bool) → LendingIs m log more answer added → IsEnd added log more t w
+  pub desk_answer : (m : ℕ) (answer : Desk) (added : Bool) → LendingIs m log more answer added → IsTurnEnd added log more t w
       → DeskIs m v w answer
   desk_answer m (desk.Run task) true (is, adds, lent) e = (log, has_added (Lent (m + 1) m) adds e, lent)
   desk_answer m (desk.Run task) false (is, adds, lent) e = absurd (cc)
@@ -172,22 +173,22 @@ module _ (tries : ℕ) (log more : List HubEntry) (v t w : View HubEntry) (b : B
       (has_looked same e, count ∙ ap length seen, subst (λ (es : List HubEntry). Behind es (IsHeld m)) seen held)
   desk_answer m desk.Over true (is, same, over) e = absurd (cc)
   desk_answer m desk.Over false (is, same, over) e =
-      (has_looked same e, subst (λ (es : List HubEntry). Behind es IsFinished) (sym (e.seen ∙ same)) over)
+      (has_looked same e, subst (λ (es : List HubEntry). Behind es IsHubDone) (sym (e.seen ∙ same)) over)
   desk_answer m desk.Short added short e = found_short (m + 1) added short e
 
-  pub perf_answer : (answer : PerfAnswer) (added : Bool) → TimingIs log more answer added → IsEnd added log more t w → PerfIs v w answer
+  pub perf_answer : (answer : PerfAnswer) (added : Bool) → TimingIs log more answer added → IsTurnEnd added log more t w → PerfIs v w answer
   perf_answer (perf.Did n) true (is, adds) e = (log, has_added (Timed 0 n) adds e)
   perf_answer (perf.Did n) false (is, adds) e = absurd (cc)
   perf_answer (perf.Idle n) true (is, same, count, idle) e = absurd (cc)
   perf_answer (perf.Idle n) false (is, same, count, idle) e =
       let seen = sym (e.seen ∙ same) in
-      (has_looked same e, count ∙ ap length seen, subst (λ (es : List HubEntry). Behind es IsIdle) seen idle)
+      (has_looked same e, count ∙ ap length seen, subst (λ (es : List HubEntry). Behind es IsHubIdle) seen idle)
   perf_answer perf.Over true (is, same, over) e = absurd (cc)
   perf_answer perf.Over false (is, same, over) e =
-      (has_looked same e, subst (λ (es : List HubEntry). Behind es IsFinished) (sym (e.seen ∙ same)) over)
+      (has_looked same e, subst (λ (es : List HubEntry). Behind es IsHubDone) (sym (e.seen ∙ same)) over)
   perf_answer perf.Short added short e = found_short 0 added short e
 
-  pub back_answer : (m n : ℕ) (made : Bool) → BackIs m n log more made → IsEnd true log more t w → ReturnIs m n v w made
+  pub back_answer : (m n : ℕ) (made : Bool) → BackIs m n log more made → IsTurnEnd true log more t w → ReturnIs m n v w made
   back_answer m n true adds e = (log, has_added (Ran (m + 1) m n) adds e)
   back_answer m n false adds e = (log, has_added (Short (m + 1)) adds e)
 
@@ -223,12 +224,12 @@ back_adds m n log more false adds = (Short (m + 1), adds, refl)
 
 -- the turn found the first history, left the second one, and led from the pass v to the pass w
 module _ (tries : ℕ) (log more begun : List HubEntry) (v t w : View HubEntry) (b : BeginsTurn bearer tries log v t) (same : begun ≡ log)
-    (answer : PerfAnswer) (added : Bool) (timing : TimingIs log more answer added) (e : IsEnd added begun more t w) where
+    (answer : PerfAnswer) (added : Bool) (timing : TimingIs log more answer added) (e : IsTurnEnd added begun more t w) where
   pub perf_adds : MayAdd 0 added log more
   perf_adds = timing_adds log more answer added timing
 
-  end_here : IsEnd added log more t w
-  end_here = subst (λ (x : List HubEntry). IsEnd added x more t w) same e
+  end_here : IsTurnEnd added log more t w
+  end_here = subst (λ (x : List HubEntry). IsTurnEnd added x more t w) same e
 
   pub perf_later : IsLater v w
   perf_later = is_later 0 tries added log more v t w b perf_adds end_here

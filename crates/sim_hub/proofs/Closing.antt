@@ -14,8 +14,8 @@ use Rattle.turn_lock.specs.Turns.{AreAllMade, ShowsAll, ShowsEach, ShowsPass}
 use Rattle.turn_lock.proofs.{Histories.none_later, Histories.prefix_self, Joins.after_joins, Joins.shows_each}
 use Rattle.timing_bridge.proofs.Lending.{final_stays}
 use Rattle.sim_hub.specs.{declared.pass.ModulePass.ModulePass, declared.pass.PerfPass.PerfPass, Places.HasModule, Places.HasModules}
-use Rattle.sim_hub.specs.{Places.HasNoDesk, Places.IsLegal, Steps.ComesHome, Closings.AreFrom, Closings.HasEachModule, Closings.IsWhole}
-use Rattle.sim_hub.specs.Hubs.{IsOverAt, module_of, module_hub, module_view, perf_view}
+use Rattle.sim_hub.specs.{Places.HasNoDesk, Places.IsLegal, Steps.ComesHome, Closings.AreFrom, Closings.HasEachModule}
+use Rattle.sim_hub.specs.{Closings.IsWholeHistory, Hubs.IsOverAt, Hubs.module_of, Hubs.module_hub, Hubs.module_view, Hubs.perf_view}
 use Rattle.sim_hub.proofs.{Lists.get_mapped, Lists.get_snoc, Answering.modules_later}
 use Rattle.sim_hub.proofs.Histories.{plan_since, turns_since, short_stays}
 
@@ -120,7 +120,7 @@ shown_each log v u passes zeroth is all =
 -- the history is whole
 pub whole : (perf : PerfPass) (passes : List ModulePass) (log : List HubEntry) → IsLegal log
     → ShowsEach bearer (perf_view perf) (map module_view passes) log
-    → ((n : ℕ) → (perf_view perf).made < n → length (entries_of bearer n log) ≡ 0) → IsWhole perf passes log
+    → ((n : ℕ) → (perf_view perf).made < n → length (entries_of bearer n log) ≡ 0) → IsWholeHistory perf passes log
 whole perf passes log legal shown none_else = record {
   legal = legal;
   first = shown.first.seen;

@@ -15,7 +15,7 @@ use Rattle.turn_lock.proofs.Histories.{Some-same, entries_other}
 use Rattle.sim_core.specs.{Views.CoreView, Views.theory_of, Drives.AreOwn}
 use Rattle.timing_bridge.proofs.Plans.{history_is, history_verified}
 use Rattle.sim_hub.specs.Places.{IsLegal, Behind, HasDesk}
-use Rattle.sim_hub.specs.Kept.{IsKept, Matches, behind, lent_count, spare}
+use Rattle.sim_hub.specs.Kept.{KeepsTurns, Matches, behind, lent_count, spare}
 use Rattle.sim_hub.proofs.Lists.{set_true, set_keeps, within_false, within_some, none_replicated, count_set, count_cleared, count_none}
 use Rattle.sim_hub.proofs.Lists.{none_counted}
 use Rattle.sim_hub.proofs.Histories.{behind_at, set_some, mapped_some, stands_next}
@@ -160,7 +160,7 @@ own_within zero bs own = omega arith
 own_within (suc count) bs own = let h = within_false bs count (own count (omega arith)) in omega arith
 
 pub kept_new : (core : CoreView) (capacity : ℕ) → theory_of core ≡ opening_core (design core.plan) → AreOwn core
-    → 1 ≤ capacity → IsKept core [] 0 false capacity
+    → 1 ≤ capacity → KeepsTurns core [] 0 false capacity
 kept_new core capacity opening own room =
     let count = length core.plan.design.modules in record {
       legal = refl;
@@ -182,7 +182,8 @@ some_of : {A : Type 0} → (o : Option A) (d : A) → is_some o ≡ true → o �
 some_of {A} None d e = absurd (cc)
 some_of {A} (Some a) d e = refl
 
-module _ (core : CoreView) (turns : List HubTurn) (out : ℕ) (short : Bool) (capacity : ℕ) (k : IsKept core turns out short capacity) where
+module _ (core : CoreView) (turns : List HubTurn) (out : ℕ) (short : Bool) (capacity : ℕ)
+    (k : KeepsTurns core turns out short capacity) where
   kept_standing : standing_of core.plan turns ≡ Some (behind core.plan turns)
   kept_standing = some_of (standing_of core.plan turns) (opening_turned (design core.plan)) k.legal
 
@@ -211,7 +212,7 @@ module _ (core : CoreView) (turns : List HubTurn) (out : ℕ) (short : Bool) (ca
       → now.plan ≡ core.plan → more ≡ turns ++ turn ∷ [] → taker turn ≤ length core.plan.design.modules
       → turned_by core.plan (behind core.plan turns) turn ≡ Some w → Matches now others wanted w
       → length more + (others + spare wanted) ≤ room
-      → IsKept now more others wanted room
+      → KeepsTurns now more others wanted room
   kept_next now more others wanted room turn w plan added low next matches enough =
       let count = ap (λ (p : Plan). length p.design.modules) plan in
       let standing : standing_of now.plan more ≡ Some w =
@@ -231,7 +232,7 @@ module _ (core : CoreView) (turns : List HubTurn) (out : ℕ) (short : Bool) (ca
       }
 
   pub kept_same : (now : CoreView) (more : List HubTurn) (room : ℕ) → now.plan ≡ core.plan → now.lent ≡ core.lent
-      → theory_of now ≡ theory_of core → more ≡ turns → capacity ≤ room → IsKept now more out short room
+      → theory_of now ≡ theory_of core → more ≡ turns → capacity ≤ room → KeepsTurns now more out short room
   kept_same now more room plan runs theory same enough =
       let count = ap (λ (p : Plan). length p.design.modules) plan in
       let at : behind core.plan turns ≡ behind now.plan more =

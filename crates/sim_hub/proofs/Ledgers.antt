@@ -1,6 +1,6 @@
 -- What each kind of turn leaves of a ledger.
-use Rattle.std.proofs.Common.{◌≡◌, ℕ, ◌+◌, ◌-◌, ◌<◌, ◌≤◌, inl, inr, refl, sym, ap, ◌∙◌, subst, arith, List, [], ◌∷◌, ◌++◌, Option, Some, ◌⊎◌}
-use Rattle.std.proofs.Common.{None, Bool, true, false, length, length-append}
+use Rattle.std.proofs.Common.{◌≡◌, ℕ, ◌+◌, ◌-◌, ◌<◌, ◌≤◌, inl, inr, refl, sym, ap, ◌∙◌, subst, arith, List, [], ◌∷◌, ◌++◌, Option, Some}
+use Rattle.std.proofs.Common.{◌⊎◌, None, Bool, true, false, length, length-append}
 use Rattle.std.proofs.{lemmas.Bool.cases_Bool, lemmas.List.get_or-set_same}
 use Rattle.std.specs.Prelude.{slice_index_or, slice_set}
 use mathlib.Core.Logic.{∥∥₁_elim}
@@ -12,17 +12,19 @@ use Rattle.timing_bridge.specs.Turned.{lent_at, after_lent, after_ran, after_tim
 use Rattle.timing_bridge.specs.declared.turn.HubTurn.TheVariants.{Lent, Ran, Timed}
 use Rattle.run_ahead.specs.{declared.mail.Task.Task, declared.mail.Burst.Burst, Mails.IsBurst}
 use Rattle.module_sets.specs.Sets.{Has, capacity as room_for}
-use Rattle.sim_core.specs.{Views.CoreView, Views.theory_of, Timings.IsReady, Tasks.IsTaskOf, Tasks.IsTaskFor, Tasks.IsBurstOf, Tasks.rest_of}
+use Rattle.sim_core.specs.{Views.CoreView, Views.theory_of, Timings.IsReady}
+use Rattle.sim_core.specs.Tasks.{IsTaskOf, IsTaskFor, IsBurstOf, rest_of}
 use Rattle.timing_bridge.proofs.{Plans.history_is, Plans.history_agrees, Lending.turns_beside, Turning.lent_fits, Turning.ran_fits}
 use Rattle.sim_hub.specs.declared.answer.Desk.TheVariants as desk
-use Rattle.sim_hub.specs.{Kept.IsKept, Kept.behind, Kept.spare, Places.Behind, Places.HasNoDesk}
-use Rattle.sim_hub.specs.Hubs.{HadMemory, IsDesk, IsFinished, IsHeld, IsIdle, IsLendable, OutAt, TellsReady, WasShort}
+use Rattle.sim_hub.specs.{Kept.KeepsTurns, Kept.behind, Kept.spare, Places.Behind, Places.HasNoDesk}
+use Rattle.sim_hub.specs.Hubs.{HadMemory, IsDesk, IsHubDone, IsHeld, IsHubIdle, IsLendable, OutAt, TellsReady, WasShort}
 use Rattle.sim_hub.specs.Steps.{Adds, ComesHome, ComesBack}
 use Rattle.sim_hub.proofs.{Lists.set_none, Lists.within_some, Histories.behind_at, Desks.task_runs, Desks.burst_back, Desks.burst_marks}
 use Rattle.sim_hub.proofs.Keeping.{lent_out, kept_stands, kept_behind, kept_next, lent_matches, ran_matches, timed_matches}
 use Rattle.sim_hub.proofs.Answering.{stands_more, module_inside, come_back, home_since}
 
-module _ (core : CoreView) (turns : List HubTurn) (out : ℕ) (short : Bool) (capacity : ℕ) (k : IsKept core turns out short capacity) where
+module _ (core : CoreView) (turns : List HubTurn) (out : ℕ) (short : Bool) (capacity : ℕ)
+    (k : KeepsTurns core turns out short capacity) where
   -- ---- a pass that has come home
 
   pub owner_inside : (m : ℕ) → ComesHome m (history_of core.plan turns) → m < length core.plan.design.modules
@@ -68,17 +70,17 @@ module _ (core : CoreView) (turns : List HubTurn) (out : ℕ) (short : Bool) (ca
         (subst (IsFinal (design core.plan) core.plan.cycles) (sym (theory ∙ k.matches.core_is)) f)
 
     pub is_finished : IsFinal (design now.plan) now.plan.cycles (theory_of now) → short ≡ false
-        → Behind (history_of core.plan turns) IsFinished
+        → Behind (history_of core.plan turns) IsHubDone
     is_finished f memory =
-        kept_behind core turns out short capacity k IsFinished (record { final = final_here f; memory = sym k.matches.short_is ∙ memory })
+        kept_behind core turns out short capacity k IsHubDone (record { final = final_here f; memory = sym k.matches.short_is ∙ memory })
 
     pub is_idle : NoTiming (design now.plan) now.plan.cycles (theory_of now)
         → ((m c : ℕ) → MayEarliest (design now.plan) now.plan.cycles (theory_of now) m c → ⊥)
         → (IsFinal (design now.plan) now.plan.cycles (theory_of now) → ⊥) → short ≡ false
-        → Behind (history_of core.plan turns) IsIdle
+        → Behind (history_of core.plan turns) IsHubIdle
     is_idle none least more memory =
         let is = theory ∙ k.matches.core_is in
-        kept_behind core turns out short capacity k IsIdle (record {
+        kept_behind core turns out short capacity k IsHubIdle (record {
           no_timing = subst (NoTiming (design core.plan) core.plan.cycles) is
               (subst (λ (p : Plan). NoTiming (design p) p.cycles (theory_of now)) plan none);
           no_earliest = subst (λ (x : Core ModuleState). (m c : ℕ) → MayEarliest (design core.plan) core.plan.cycles x m c → ⊥) is
@@ -165,11 +167,11 @@ module _ (core : CoreView) (turns : List HubTurn) (out : ℕ) (short : Bool) (ca
   pub kept_lending : (now : CoreView) (more : List HubTurn) (room q m : ℕ) → q ≡ m + 1 → now ≡ lent_out core m
       → m < length core.plan.design.modules → short ≡ false → MayRun (design core.plan) (theory_of core) m
       → slice_index_or core.lent m true ≡ false → more ≡ turns ++ Lent q m ∷ [] → length turns + (out + 3) ≤ room
-      → IsKept now more (out + 1) short room
+      → KeepsTurns now more (out + 1) short room
   kept_lending now more room q m pass gone inside memory may here added enough =
       let spared = ap spare memory in
       let longer = ap length added ∙ length-append turns (Lent q m ∷ []) in
-      subst (λ (v : CoreView). IsKept v more (out + 1) short room) (sym gone)
+      subst (λ (v : CoreView). KeepsTurns v more (out + 1) short room) (sym gone)
       (kept_next core turns out short capacity k (lent_out core m) more (out + 1) short room (Lent (m + 1) m)
       (after_lent (behind core.plan turns) (m + 1) m) refl (added ∙ ap (λ n. turns ++ Lent n m ∷ []) pass) (omega arith)
       (lent_turn m memory may here) (lent_matches core out short (behind core.plan turns) k.matches m inside) (omega arith))
@@ -224,7 +226,7 @@ module _ (core : CoreView) (turns : List HubTurn) (out : ℕ) (short : Bool) (ca
   pub kept_ran : (now : CoreView) (more : List HubTurn) (room q m n : ℕ) → q ≡ m + 1 → now.plan ≡ core.plan
       → now.lent ≡ slice_set core.lent m false → lent_at (behind core.plan turns) m ≡ Some (m + 1) → 0 < n
       → ActsAll (design core.plan) core.plan.cycles (theory_of core) (runs n m) (theory_of now) → more ≡ turns ++ Ran q m n ∷ []
-      → 1 ≤ out → capacity ≤ room → IsKept now more (out - 1) short room
+      → 1 ≤ out → capacity ≤ room → KeepsTurns now more (out - 1) short room
   kept_ran now more room q m n pass plan runs_now lent some acts added one enough =
       let longer = ap length added ∙ length-append turns (Ran q m n ∷ []) in
       let before = k.room in
@@ -272,7 +274,7 @@ module _ (core : CoreView) (turns : List HubTurn) (out : ℕ) (short : Bool) (ca
 
   pub kept_timed : (now : CoreView) (more : List HubTurn) (room n : ℕ) → now.plan ≡ core.plan → now.lent ≡ core.lent
       → turned_by core.plan (behind core.plan turns) (Timed 0 n) ≡ Some (after_timed (behind core.plan turns) (theory_of now))
-      → more ≡ turns ++ Timed 0 n ∷ [] → length turns + (out + 2) ≤ room → short ≡ false → IsKept now more out short room
+      → more ≡ turns ++ Timed 0 n ∷ [] → length turns + (out + 2) ≤ room → short ≡ false → KeepsTurns now more out short room
   kept_timed now more room n plan runs_now next added enough memory =
       let spared = ap spare memory in
       let longer = ap length added ∙ length-append turns (Timed 0 n ∷ []) in

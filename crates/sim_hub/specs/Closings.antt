@@ -36,7 +36,7 @@ AreNew id plan passes = AreFrom id (history_of plan []) passes
 
 -- the turns are a legal history of the plan in which memory never ran out; they lead to the core, which is final, and of which no
 -- run is lent
-pub record IsRun (plan : Plan) (t : Threaded) : Type 0 where
+pub record IsWholeRun (plan : Plan) (t : Threaded) : Type 0 where
   pub at : Turned ModuleState
   pub stands : Stands plan (history_of plan t.turns.items) at
   pub memory : at.short ≡ false
@@ -46,7 +46,7 @@ pub record IsRun (plan : Plan) (t : Threaded) : Type 0 where
   pub own : AreOwn t.core
 
 -- the history of a hub whose passes all came back: it begins with what each has seen, and has each pass's own entries and no others
-pub record IsWhole (perf : PerfPass) (modules : List ModulePass) (log : List HubEntry) : Type 0 where
+pub record IsWholeHistory (perf : PerfPass) (modules : List ModulePass) (log : List HubEntry) : Type 0 where
   pub legal : IsLegal log
   pub first : IsPrefix (perf_view perf).seen log
   pub first_own : entries_of bearer 0 log ≡ (perf_view perf).own
@@ -56,8 +56,8 @@ pub record IsWhole (perf : PerfPass) (modules : List ModulePass) (log : List Hub
 
 -- the hub leaves a final core with all turns of this history, or memory ran out in it
 abbrev pub EndsAt : List HubEntry → Closed → Type 0
-EndsAt log (closed.Final t) = (log ≡ history_of t.core.plan t.turns.items) × IsRun t.core.plan t
+EndsAt log (closed.Final t) = (log ≡ history_of t.core.plan t.turns.items) × IsWholeRun t.core.plan t
 EndsAt log closed.Short = Behind log WasShort
 
 abbrev pub ClosedIs : PerfPass → List ModulePass → Closed → Type 0
-ClosedIs perf modules c = (log : List HubEntry) × IsWhole perf modules log × EndsAt log c
+ClosedIs perf modules c = (log : List HubEntry) × IsWholeHistory perf modules log × EndsAt log c

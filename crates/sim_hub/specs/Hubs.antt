@@ -52,14 +52,14 @@ pub record IsHeld (m : ℕ) (p : Plan) (at : Turned ModuleState) : Type 0 where
   pub memory : at.short ≡ false
 
 -- no Assign, Answer or Earliest is permitted, the core is not final, and memory did not run out
-pub record IsIdle (p : Plan) (at : Turned ModuleState) : Type 0 where
+pub record IsHubIdle (p : Plan) (at : Turned ModuleState) : Type 0 where
   pub no_timing : NoTiming (design p) p.cycles at.core
   pub no_earliest : (m c : ℕ) → MayEarliest (design p) p.cycles at.core m c → ⊥
   pub more : IsFinal (design p) p.cycles at.core → ⊥
   pub memory : at.short ≡ false
 
 -- the core is final, and memory did not run out
-pub record IsFinished (p : Plan) (at : Turned ModuleState) : Type 0 where
+pub record IsHubDone (p : Plan) (at : Turned ModuleState) : Type 0 where
   pub final : IsFinal (design p) p.cycles at.core
   pub memory : at.short ≡ false
 
@@ -73,7 +73,7 @@ HadMemory p at = at.short ≡ false
 
 -- after this history the core is final, or memory ran out
 abbrev pub IsOverAt : List HubEntry → Type 0
-IsOverAt seen = Behind seen IsFinished ⊎ Behind seen WasShort
+IsOverAt seen = Behind seen IsHubDone ⊎ Behind seen WasShort
 
 -- ---- desks
 
@@ -99,7 +99,7 @@ FoundShort n v w =
 abbrev pub DeskIs : ℕ → View HubEntry → View HubEntry → Desk → Type 0
 DeskIs m v w (desk.Run task) = (before : List HubEntry) × HasAdded (Lent (m + 1) m) before v w × IsDesk m before task
 DeskIs m v w (desk.Held n) = HasLooked v w × (n ≡ length w.seen) × Behind w.seen (IsHeld m)
-DeskIs m v w desk.Over = HasLooked v w × Behind w.seen IsFinished
+DeskIs m v w desk.Over = HasLooked v w × Behind w.seen IsHubDone
 DeskIs m v w desk.Short = FoundShort (m + 1) v w
 
 -- after this history module m's desk is out exactly where it was lent; its task is what the core lends, and its run stands at some
@@ -116,8 +116,8 @@ OutIs m w answer = OutAt m w.seen answer
 
 abbrev pub PerfIs : View HubEntry → View HubEntry → PerfAnswer → Type 0
 PerfIs v w (perf.Did n) = (before : List HubEntry) × HasAdded (Timed 0 n) before v w
-PerfIs v w (perf.Idle n) = HasLooked v w × (n ≡ length w.seen) × Behind w.seen IsIdle
-PerfIs v w perf.Over = HasLooked v w × Behind w.seen IsFinished
+PerfIs v w (perf.Idle n) = HasLooked v w × (n ≡ length w.seen) × Behind w.seen IsHubIdle
+PerfIs v w perf.Over = HasLooked v w × Behind w.seen IsHubDone
 PerfIs v w perf.Short = FoundShort 0 v w
 
 -- a Run of module m is permitted, and its desk is not out

@@ -35,7 +35,7 @@ pub record Matches (core : CoreView) (out : ℕ) (short : Bool) (at : Turned Mod
   pub counted : lent_count at.lent_to ≤ out
 
 -- the turns are a legal history of the core's plan that leads to the core, and there is room for a turn for each desk that is out
-pub record IsKept (core : CoreView) (turns : List HubTurn) (out : ℕ) (short : Bool) (capacity : ℕ) : Type 0 where
+pub record KeepsTurns (core : CoreView) (turns : List HubTurn) (out : ℕ) (short : Bool) (capacity : ℕ) : Type 0 where
   pub legal : is_some (standing_of core.plan turns) ≡ true
   pub matches : Matches core out short (behind core.plan turns)
   -- each turn is that of a pass of the hub

@@ -31,7 +31,7 @@ pub record HasMadeAll (v : View HubEntry) : Type 0 where
   pub joined : v.joined ≡ []
 
 -- the first pass of a hub that was just opened with this history, after it has made `made` passes
-pub record IsFirst (made : ℕ) (seen : List HubEntry) (v : View HubEntry) : Type 0 where
+pub record IsFirstPass (made : ℕ) (seen : List HubEntry) (v : View HubEntry) : Type 0 where
   pub number : v.number ≡ 0
   pub made_is : v.made ≡ made
   pub joined : v.joined ≡ []

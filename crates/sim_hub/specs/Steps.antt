@@ -7,7 +7,7 @@ use Rattle.timing_bridge.specs.declared.turn.HubTurn.TheVariants.{Lent, Ran, Tim
 use Rattle.turn_lock.specs.{declared.view.View.View, Turns.Continues, Turns.EndsTurn}
 use Rattle.sim_hub.specs.{declared.answer.Desk.Desk, declared.answer.PerfAnswer.PerfAnswer}
 use Rattle.sim_hub.specs.Places.{Behind, HasModule, HasDesk, HasNoDesk}
-use Rattle.sim_hub.specs.Hubs.{IsDesk, IsDeskBurst, IsHeld, IsIdle, IsFinished, WasShort, HadMemory}
+use Rattle.sim_hub.specs.Hubs.{IsDesk, IsDeskBurst, IsHeld, IsHubIdle, IsHubDone, WasShort, HadMemory}
 use Rattle.sim_hub.specs.declared.answer.Desk.TheVariants as desk
 use Rattle.sim_hub.specs.declared.answer.PerfAnswer.TheVariants as perf
 
@@ -44,7 +44,7 @@ ShortIs q log more false = (more ≡ log) × Behind log WasShort
 abbrev pub LendingIs : ℕ → List HubEntry → List HubEntry → Desk → Bool → Type 0
 LendingIs m log more (desk.Run task) added = (added ≡ true) × Adds (Lent (m + 1) m) log more × IsDesk m log task
 LendingIs m log more (desk.Held n) added = (added ≡ false) × (more ≡ log) × (n ≡ length log) × Behind log (IsHeld m)
-LendingIs m log more desk.Over added = (added ≡ false) × (more ≡ log) × Behind log IsFinished
+LendingIs m log more desk.Over added = (added ≡ false) × (more ≡ log) × Behind log IsHubDone
 LendingIs m log more desk.Short added = ShortIs (m + 1) log more added
 
 -- a turn with n Runs of module m was added, or one that notes that memory ran out
@@ -55,8 +55,8 @@ BackIs m n log more false = Adds (Short (m + 1)) log more
 -- what a turn of the performance pass does to the history; the second answer tells whether it added a turn
 abbrev pub TimingIs : List HubEntry → List HubEntry → PerfAnswer → Bool → Type 0
 TimingIs log more (perf.Did n) added = (added ≡ true) × Adds (Timed 0 n) log more
-TimingIs log more (perf.Idle n) added = (added ≡ false) × (more ≡ log) × (n ≡ length log) × Behind log IsIdle
-TimingIs log more perf.Over added = (added ≡ false) × (more ≡ log) × Behind log IsFinished
+TimingIs log more (perf.Idle n) added = (added ≡ false) × (more ≡ log) × (n ≡ length log) × Behind log IsHubIdle
+TimingIs log more perf.Over added = (added ≡ false) × (more ≡ log) × Behind log IsHubDone
 TimingIs log more perf.Short added = ShortIs 0 log more added
 
 -- one turn of pass q was added, or nothing
@@ -65,6 +65,6 @@ MayAdd q true log more = (turn : HubTurn) × Adds turn log more × (taker turn �
 MayAdd q false log more = more ≡ log
 
 -- the turn v ends, and the pass then knows w: with the entry that was added, or with none
-abbrev pub IsEnd : Bool → List HubEntry → List HubEntry → View HubEntry → View HubEntry → Type 0
-IsEnd true log more v w = (turn : HubTurn) → Adds turn log more → EndsTurn (Turn turn ∷ []) more v w
-IsEnd false log more v w = EndsTurn [] more v w
+abbrev pub IsTurnEnd : Bool → List HubEntry → List HubEntry → View HubEntry → View HubEntry → Type 0
+IsTurnEnd true log more v w = (turn : HubTurn) → Adds turn log more → EndsTurn (Turn turn ∷ []) more v w
+IsTurnEnd false log more v w = EndsTurn [] more v w

@@ -1,7 +1,7 @@
 //! What the turn lock of a hub protects.
 ghost use Rattle.std.specs.{Prelude.vec_capacity, Coded.codes};
 ghost use Rattle.std.proofs.Props.{props};
-ghost use Rattle.sim_hub.specs.Kept.{IsKept};
+ghost use Rattle.sim_hub.specs.Kept.{KeepsTurns};
 
 use sim_core::Core;
 use timing_bridge::HubTurn;
@@ -19,5 +19,5 @@ pub struct Ledger {
     pub(crate) out: usize,
     /// Whether memory ran out.
     pub(crate) short: bool,
-    ghost kept: { IsKept core turns.items out short (vec_capacity turns) } by { Prim.hlevel (codes, props) },
+    ghost kept: { KeepsTurns core turns.items out short (vec_capacity turns) } by { Prim.hlevel (codes, props) },
 }

@@ -21,8 +21,8 @@ pub record Taken : Type 0 where
   pub finished : Bool
 
 -- a count raised by one, or still the greatest u64
-abbrev pub one_more : ℕ → ℕ
-one_more n = min (n + 1) (2 ^ 64 - 1)
+abbrev pub raised_count : ℕ → ℕ
+raised_count n = min (n + 1) (2 ^ 64 - 1)
 
 -- a new source: all bytes left, no call and no fault yet
 abbrev pub opened_source : List ℕ → ℕ → List ℕ → Given
@@ -34,19 +34,19 @@ handed s into = min into (min s.piece (length s.left))
 
 -- a source after a call that hands out n bytes
 abbrev pub after_take : Given → ℕ → Given
-after_take s n = record s { left = drop n s.left; calls = one_more s.calls }
+after_take s n = record s { left = drop n s.left; calls = raised_count s.calls }
 
 -- a source after a call that fails: what is left stays
 abbrev pub after_failed_take : Given → Given
-after_failed_take s = record s { calls = one_more s.calls; faults = one_more s.faults }
+after_failed_take s = record s { calls = raised_count s.calls; faults = raised_count s.faults }
 
 -- a new sink: nothing held, all room free, no call and no fault yet, unfinished
 abbrev pub opened_sink : ℕ → ℕ → List ℕ → Taken
 opened_sink room piece fails = record { held = []; room = room; piece = piece; fails = fails; calls = 0; faults = 0; finished = false }
 
 -- how many bytes of a piece a call takes: as many as its own piece, that piece and the free room allow
-abbrev pub taken : Taken → ℕ → ℕ
-taken k piece = min piece (min k.piece k.room)
+abbrev pub bytes_taken : Taken → ℕ → ℕ
+bytes_taken k piece = min piece (min k.piece k.room)
 
 -- a put fails in a listed call, or where there is something to take and no room is free
 abbrev pub FailsPut : Taken → List ℕ → Type 0
@@ -54,16 +54,16 @@ FailsPut k piece = Contains k.fails k.calls ⊎ ((0 < length piece) × (k.room �
 
 -- a sink after a put that takes these bytes
 abbrev pub after_put : Taken → List ℕ → Taken
-after_put k bytes = record k { held = k.held ++ bytes; room = k.room - length bytes; calls = one_more k.calls; finished = false }
+after_put k bytes = record k { held = k.held ++ bytes; room = k.room - length bytes; calls = raised_count k.calls; finished = false }
 
 -- a sink after a put that fails: what it holds stays, and it is unfinished
 abbrev pub after_failed_put : Taken → Taken
-after_failed_put k = record k { calls = one_more k.calls; faults = one_more k.faults; finished = false }
+after_failed_put k = record k { calls = raised_count k.calls; faults = raised_count k.faults; finished = false }
 
 -- a sink after a finish that succeeds
 abbrev pub after_finish : Taken → Taken
-after_finish k = record k { calls = one_more k.calls; finished = true }
+after_finish k = record k { calls = raised_count k.calls; finished = true }
 
 -- a sink after a finish that fails
 abbrev pub after_failed_finish : Taken → Taken
-after_failed_finish k = record k { calls = one_more k.calls; faults = one_more k.faults }
+after_failed_finish k = record k { calls = raised_count k.calls; faults = raised_count k.faults }

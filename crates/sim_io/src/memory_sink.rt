@@ -2,7 +2,7 @@
 ghost use Rattle.std.specs.Prelude.{◌≡◌, ◌≤◌, ◌<◌, ◌+◌, ◌↔◌, ◌++◌, true, false, IfOk, IsErr, OnOk, OnErr, Contains, Some, length, take};
 ghost use Rattle.std.specs.{Io.WritesAtMost, Io.KnownBytes.WriteAppends, Io.KnownBytes.Keeps};
 ghost use Rattle.sim_io.specs.Causes.{HasCause};
-ghost use Rattle.sim_io.specs.Ends.{opened_sink, taken, after_put, after_failed_put, after_finish, after_failed_finish, FailsPut};
+ghost use Rattle.sim_io.specs.Ends.{opened_sink, bytes_taken, after_put, after_failed_put, after_finish, after_failed_finish, FailsPut};
 
 use crate::traits::{Failed, Sink};
 use flow_word::{List, OutOfMemory, Words};
@@ -82,7 +82,7 @@ impl Sink for MemSink {
         ensures cause { HasCause self.old.faults self.new.faults result }
 
         ensures fails { IsErr result ↔ FailsPut self.old piece.now }
-        ensures count { IfOk result (λ n. n ≡ taken self.old (length piece.now)) }
+        ensures count { IfOk result (λ n. n ≡ bytes_taken self.old (length piece.now)) }
         ensures ok { IfOk result (λ n. self.new ≡ after_put self.old (take n piece.now)) }
         ensures err { OnErr result (self.new ≡ after_failed_put self.old) }
     {

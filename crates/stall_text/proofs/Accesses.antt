@@ -12,10 +12,10 @@ use Rattle.flow_design.specs.{declared.plan.Plan.Plan, declared.state.ModuleStat
 use Rattle.flow_design.specs.{declared.state.Request.Request, StaticRules.FitsEngine}
 use Rattle.lockstep_defs.specs.{Machine.is_yes, Machine.value_in, Ports.StandsAtPort}
 use Rattle.lockstep_defs.specs.Channels.{HistoryStep, Exchange, moved_value, moved, popped_value, pushed_value}
-use Rattle.lockstep_defs.specs.Lockstep.{requests_of, moves, answered, step_with, step_of, steps_in, numbered, state, history}
+use Rattle.lockstep_defs.specs.Lockstep.{requests_of, moves, answered, step_with, module_step, steps_in, numbered, state, history}
 use Rattle.lockstep_defs.proofs.{Queue.all-append, Order.history_numbers}
 use Rattle.timing_bridge.proofs.Requests.{stand}
-use Rattle.timelines.specs.{Passed.Act, Passed.acts_in, Passed.acts_before, Passed.acts, Passed.moved_in, Fills.last_clock}
+use Rattle.timelines.specs.{Passed.Act, Passed.acts_in, Passed.acts_before, Passed.acts, Passed.values_moved, Fills.last_clock}
 use Rattle.timelines.proofs.Acts.{acts-zero, acts-suc, begins, early, late, moved_are}
 use Rattle.port_clocks.specs.Leads.{before}
 use Rattle.sim_core.specs.{AccessLog.logged, AccessLog.logged_in, AccessLog.log_of, declared.access_log.LoggedAccess.LoggedAccess}
@@ -107,13 +107,14 @@ one_more : (b : Bool) (a : LoggedAccess) (xs : List LoggedAccess) → length (ac
 one_more true a xs = omega arith
 one_more false a xs = omega arith
 
-pub counted_acts : (side : Side) (f : ℕ) (done : List Act) → length (clock_list (moved_at (on side f)) done) ≡ length (moved_in side f done)
+pub counted_acts : (side : Side) (f : ℕ) (done : List Act)
+    → length (clock_list (moved_at (on side f)) done) ≡ length (values_moved side f done)
 counted_acts side f [] = refl
 counted_acts side f (a ∷ done) =
     let one = moved_one side f a.0 a.1 in
     let rest = counted_acts side f done in
     let first = one_more (moved_at (on side f) (logged_act a)) (logged_act a) (filter (moved_at (on side f)) (map logged_act done)) in
-    let parts = length-append (cond (a.1.request.channel == f) (moved_value side a.1) []) (moved_in side f done) in
+    let parts = length-append (cond (a.1.request.channel == f) (moved_value side a.1) []) (values_moved side f done) in
     omega arith
 
 -- ---- when
@@ -245,11 +246,11 @@ stand_step p fits c contents m true = by_requests (requests_of p m) (stand p fit
         (stand_answered p c contents s (r ∷ rs) h) tt
 
 stand_steps : (p : Plan) → FitsEngine p → (c : ℕ) (contents : List (List Element)) (ms : List (ℕ × ModuleState))
-    → AllByRecursion (ActStands p) (acts_in (flat_map (step_of p c contents) ms))
+    → AllByRecursion (ActStands p) (acts_in (flat_map (module_step p c contents) ms))
 stand_steps p fits c contents [] = tt
 stand_steps p fits c contents (m ∷ ms) =
-    subst (AllByRecursion (ActStands p)) (sym (flat_map-append _ (step_of p c contents m) (flat_map (step_of p c contents) ms)))
-    (all-append (ActStands p) (acts_in (step_of p c contents m)) (acts_in (flat_map (step_of p c contents) ms))
+    subst (AllByRecursion (ActStands p)) (sym (flat_map-append _ (module_step p c contents m) (flat_map (module_step p c contents) ms)))
+    (all-append (ActStands p) (acts_in (module_step p c contents m)) (acts_in (flat_map (module_step p c contents) ms))
     (stand_step p fits c contents m (moves p c contents m)) (stand_steps p fits c contents ms))
 
 pub all_stand : (p : Plan) → FitsEngine p → (c : ℕ) → AllByRecursion (ActStands p) (acts_before p c)

@@ -9,9 +9,9 @@ use Rattle.std.proofs.lemmas.List.Sums.{count_by-le-length, length-filter, sum_b
 use Rattle.std.specs.{Prelude.count_by, List.filter, List.AllByRecursion}
 use Rattle.flow_word.specs.{declared.access.Kind.Kind, declared.access.Side.Side, Kinds.side_of}
 use Rattle.flow_word.specs.declared.access.Kind.TheVariants.{TryRead, TryWrite, Empty, Full}
-use Rattle.flow_design.specs.{declared.plan.Plan.Plan, StaticRules.FitsEngine}
+use Rattle.flow_design.specs.{declared.plan.Plan.Plan, StaticRules.FitsEngine, Names.Token}
 use Rattle.lockstep_defs.specs.Ports.{owner}
-use Rattle.report_text.specs.{Lines.Token, ReportText.module_name, ReportText.channel_name}
+use Rattle.report_text.specs.ReportText.{module_name, channel_name}
 use Rattle.sim_core.specs.{AccessLog.log_of, declared.access_log.LoggedAccess.LoggedAccess}
 use Rattle.stall_text.specs.declared.queries.Queries.{Queries}
 use Rattle.stall_text.specs.Polls.{is_query_on, is_missed, query_lines, same_query, tries_of}

@@ -6,11 +6,12 @@ use Rattle.std.specs.{Prelude.codes, Prelude.decimal, List.flat_map, List.filter
 use Rattle.flow_word.specs.{declared.access.Side.Side, declared.access.Kind.Kind, Kinds.is_blocking}
 use Rattle.flow_word.specs.declared.access.Side.TheVariants.{Pop, Push}
 use Rattle.flow_word.specs.declared.access.Kind.TheVariants.{TryRead, TryWrite, Empty, Full}
-use Rattle.report_text.specs.{Lines.Token, Lines.line, Lines.text_of_lines, ReportText.kind_token, ReportText.stall_word}
+use Rattle.report_text.specs.{Lines.line, Lines.text_of_lines, ReportText.kind_token, ReportText.stall_word}
 use Rattle.report_text.proofs.LineLemmas.{line_of_five, text-append, numbers_more}
 use Rattle.stall_text.specs.Polls.{query_lines, at_each_query}
 use Rattle.stall_text.specs.StallText.{port_word, cause_lines, port_lines, last_after, at_each_side}
 use Rattle.flow_word.proofs.Ranges.{range_last}
+use Rattle.flow_design.specs.Names.{Token}
 
 pub text-one : (l : List Token) → text_of_lines (l ∷ []) ≡ line l
 text-one l = append-nil (line l)

@@ -5,7 +5,7 @@ use Rattle.std.specs.{Prelude.All, List.range_with_len}
 use Rattle.flow_design.specs.{declared.plan.Plan.Plan, StaticRules.FitsEngine}
 use Rattle.timelines.specs.{Fills.last_clock, declared.span.Doing.Doing, declared.span.Span.Span, Doings.doing, Spans.AreSpans}
 use Rattle.timelines.specs.declared.span.Doing.TheVariants.{Moves, Still}
-use Rattle.timelines.specs.Totals.{spans_clocks, is_still_at, passes, clocks_in, still_clocks_at}
+use Rattle.timelines.specs.Totals.{spans_clocks, is_still_at, doing_passes, clocks_in, still_clocks_at}
 use Rattle.flow_word.specs.declared.access.Side.{Side}
 use Rattle.timelines.proofs.{Existing.counted_spans, Adding.cause_inside, Lists.contains_member, Extending.spans_listed, Ending.last_within}
 use Rattle.stall_text.specs.Causes.{HasChannelBelow}
@@ -31,7 +31,7 @@ spans_inside p f i ss a k d l =
 clocks_few : (test : Doing → Bool) (p : Plan) (i end : ℕ) → clocks_in test p i end ≤ end
 unfolding clocks_in
 clocks_few test p i end =
-    omega (arith, count_by-le-length (λ c. passes test (doing p c i)) (range_with_len 0 end), length-range_with_len 0 end)
+    omega (arith, count_by-le-length (λ c. doing_passes test (doing p c i)) (range_with_len 0 end), length-range_with_len 0 end)
 
 pub spans_few : (p : Plan) → FitsEngine p → (i : ℕ) (ss : List Span) → AreSpans p i ss → (test : Doing → Bool)
     → spans_clocks test ss < 2 ^ 64

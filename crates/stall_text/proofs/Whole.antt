@@ -8,11 +8,10 @@ use Rattle.flow_word.specs.declared.access.Side.TheVariants.{Pop, Push}
 use Rattle.flow_word.specs.declared.access.Kind.TheVariants.{Read, Write, TryRead, TryWrite, Empty, Full}
 use Rattle.flow_design.specs.{declared.design.ChannelKind.ChannelKind, declared.design.ChannelKind.TheVariants.Fifo}
 use Rattle.flow_design.specs.{declared.limits.TheConstants.CYCLES, declared.plan.Plan.Plan, declared.report.Verdict.Verdict, Plans.delay_at}
-use Rattle.flow_design.specs.{Plans.delay_of, Plans.is_fifo, Plans.kind_at, StaticRules.FitsEngine}
+use Rattle.flow_design.specs.{Plans.delay_of, Plans.is_fifo, Plans.kind_at, StaticRules.FitsEngine, Names.Token}
 use Rattle.lockstep_defs.specs.Verdict.{verdict}
 use Rattle.sim_core.specs.{AccessLog.log_of, declared.access_log.LoggedAccess.LoggedAccess}
-use Rattle.report_text.specs.Lines.{Token, line, text_of_lines, verdict_tokens}
-use Rattle.report_text.specs.ReportText.{module_name, channel_name}
+use Rattle.report_text.specs.{Lines.line, Lines.text_of_lines, Lines.verdict_tokens, ReportText.module_name, ReportText.channel_name}
 use Rattle.report_text.proofs.LineLemmas.{text-append, numbers_more}
 use Rattle.timelines.specs.{Fills.fifos, Fills.last_clock, Totals.moved_clocks, Totals.still_clocks, Totals.still_clocks_at}
 use Rattle.timelines.proofs.Ending.{last_within}

@@ -1,8 +1,8 @@
 -- The causes of a module's stalls, given its clocks at each empty channel and at each full one.
 use Rattle.std.specs.Prelude.{ℕ, ◌<◌, List, slice_index}
 use Rattle.flow_word.specs.{declared.access.Side.Side, declared.access.Side.TheVariants.Pop, declared.access.Side.TheVariants.Push}
-use Rattle.flow_design.specs.declared.design.Design.{Design}
-use Rattle.report_text.specs.{Lines.Token, ReportText.module_name, ReportText.channel_name}
+use Rattle.flow_design.specs.{declared.design.Design.Design, Names.Token}
+use Rattle.report_text.specs.ReportText.{module_name, channel_name}
 use Rattle.timelines.specs.{declared.span.Doing.Doing, declared.span.Doing.TheVariants.Moves, declared.span.Doing.TheVariants.Still}
 use Rattle.stall_text.specs.StallText.{cause_lines}
 

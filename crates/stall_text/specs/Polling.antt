@@ -3,8 +3,8 @@ use Rattle.std.specs.Prelude.{ℕ, ◌≡◌, ◌<◌, ◌+◌, ◌^◌, ◌==�
 use Rattle.std.specs.Prelude.{count_by, filter, fold, length, slice_index_or}
 use Rattle.flow_word.specs.declared.access.Kind.{Kind}
 use Rattle.flow_word.specs.declared.access.Kind.TheVariants.{TryRead, TryWrite, Empty, Full}
-use Rattle.flow_design.specs.{declared.design.Design.Design, declared.plan.Plan.Plan}
-use Rattle.report_text.specs.{Lines.Token, ReportText.module_name, ReportText.channel_name}
+use Rattle.flow_design.specs.{declared.design.Design.Design, declared.plan.Plan.Plan, Names.Token}
+use Rattle.report_text.specs.ReportText.{module_name, channel_name}
 use Rattle.sim_core.specs.{AccessLog.log_of, declared.access_log.LoggedAccess.LoggedAccess}
 use Rattle.stall_text.specs.{declared.queries.Queries.Queries, declared.polls.Polling.Polling, declared.polls.Polls.Polls}
 use Rattle.stall_text.specs.declared.queries.AllQueries.{AllQueries}

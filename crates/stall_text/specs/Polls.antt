@@ -4,9 +4,9 @@ use Rattle.std.specs.Prelude.{filter}
 use Rattle.std.specs.List.{flat_map, list_any, range_with_len}
 use Rattle.flow_word.specs.declared.access.Kind.{Kind}
 use Rattle.flow_word.specs.declared.access.Kind.TheVariants.{Read, Write, TryRead, TryWrite, Empty, Full}
-use Rattle.flow_design.specs.declared.plan.Plan.{Plan}
+use Rattle.flow_design.specs.{declared.plan.Plan.Plan, Names.Token}
 use Rattle.timelines.specs.Fills.{last_clock}
-use Rattle.report_text.specs.{Lines.Token, ReportText.module_name, ReportText.channel_name, ReportText.kind_token}
+use Rattle.report_text.specs.ReportText.{module_name, channel_name, kind_token}
 use Rattle.sim_core.specs.{AccessLog.log_of, declared.access_log.LoggedAccess.LoggedAccess}
 
 -- ---- missed queries

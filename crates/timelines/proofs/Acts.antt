@@ -7,21 +7,21 @@ use Rattle.flow_word.specs.declared.access.Side.{Side}
 use Rattle.flow_design.specs.{declared.plan.Plan.Plan, declared.state.Element.Element, declared.state.ClockState.ClockState}
 use Rattle.flow_design.specs.declared.state.ModuleState.{ModuleState}
 use Rattle.lockstep_defs.specs.Channels.{HistoryStep, Exchange, moved_value, moved_by, moved}
-use Rattle.lockstep_defs.specs.Lockstep.{requests_of, moves, answered, step_with, step_of, steps_in, numbered, state, history}
+use Rattle.lockstep_defs.specs.Lockstep.{requests_of, moves, answered, step_with, module_step, steps_in, numbered, state, history}
 use Rattle.lockstep_defs.proofs.{Settled.history-zero, Settled.history-suc, Order.before_clock, Queue.all-append}
-use Rattle.timelines.specs.Passed.{Act, acts_in, acts_before, moved_in}
+use Rattle.timelines.specs.Passed.{Act, acts_in, acts_before, values_moved}
 
 -- ---- the operations of steps
 
 acts-append : (steps more : List HistoryStep) → acts_in (steps ++ more) ≡ acts_in steps ++ acts_in more
 acts-append steps more = flat_map-append _ steps more
 
-step_moved : (side : Side) (f : ℕ) (s : HistoryStep) (xs : List Exchange) → moved_by side f xs ≡ moved_in side f (map (λ x. (s, x)) xs)
+step_moved : (side : Side) (f : ℕ) (s : HistoryStep) (xs : List Exchange) → moved_by side f xs ≡ values_moved side f (map (λ x. (s, x)) xs)
 unfolding moved_by
 step_moved side f s [] = refl
 step_moved side f s (x ∷ xs) = ap (λ (l : List ℕ). cond (x.request.channel == f) (moved_value side x) [] ++ l) (step_moved side f s xs)
 
-pub moved_are : (side : Side) (f : ℕ) (steps : List HistoryStep) → moved side f steps ≡ moved_in side f (acts_in steps)
+pub moved_are : (side : Side) (f : ℕ) (steps : List HistoryStep) → moved side f steps ≡ values_moved side f (acts_in steps)
 unfolding moved
 moved_are side f [] = refl
 moved_are side f (s ∷ steps) =
@@ -63,7 +63,7 @@ early p c = all_acts (λ s. s.clock < c) (history p c) (before_clock p c)
 
 -- the steps of a clock have it as their clock
 step_clock : (p : Plan) (c : ℕ) (contents : List (List Element)) (m : ℕ × ModuleState)
-    → AllByRecursion (λ (s : HistoryStep). s.clock ≡ c) (step_of p c contents m)
+    → AllByRecursion (λ (s : HistoryStep). s.clock ≡ c) (module_step p c contents m)
 step_clock p c contents m = by_test (moves p c contents m)
   where
     with_exchanges : (xs : List Exchange) → AllByRecursion (λ (s : HistoryStep). s.clock ≡ c) (step_with c m.0 xs)
@@ -76,10 +76,10 @@ step_clock p c contents m = by_test (moves p c contents m)
     by_test false = tt
 
 clock_steps : (p : Plan) (c : ℕ) (contents : List (List Element)) (ms : List (ℕ × ModuleState))
-    → AllByRecursion (λ (s : HistoryStep). s.clock ≡ c) (flat_map (step_of p c contents) ms)
+    → AllByRecursion (λ (s : HistoryStep). s.clock ≡ c) (flat_map (module_step p c contents) ms)
 clock_steps p c contents [] = tt
-clock_steps p c contents (m ∷ ms) = all-append (λ (s : HistoryStep). s.clock ≡ c) (step_of p c contents m)
-    (flat_map (step_of p c contents) ms) (step_clock p c contents m) (clock_steps p c contents ms)
+clock_steps p c contents (m ∷ ms) = all-append (λ (s : HistoryStep). s.clock ≡ c) (module_step p c contents m)
+    (flat_map (module_step p c contents) ms) (step_clock p c contents m) (clock_steps p c contents ms)
 
 steps_now : (p : Plan) (c : ℕ) (st : ClockState) → AllByRecursion (λ (s : HistoryStep). s.clock ≡ c) (steps_in p c st)
 unfolding steps_in

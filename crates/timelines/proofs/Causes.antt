@@ -11,7 +11,7 @@ use Rattle.event_timing.specs.{Machines.Each, Steps.done, Views.from, Enablers.a
 use Rattle.event_timing.specs.Agreement.{IsAgreed}
 use Rattle.event_timing.specs.Histories as counted
 use Rattle.event_timing.proofs.{Agreement.stuck_ended, Fronts.agrees}
-use Rattle.timing_bridge.specs.Designs.{design, lockstep_run, seen}
+use Rattle.timing_bridge.specs.Designs.{design, lockstep_run, seen_request}
 use Rattle.timing_bridge.proofs.{Alike.Alike, Alike.alike, Settling.find_alike}
 use Rattle.timing_bridge.proofs.History.{plan_is_design, run_is_history, moves_same}
 use Rattle.timelines.specs.{declared.span.Doing.TheVariants.Moves, Doings.doing_by, Doings.blocker, Doings.doing}
@@ -70,7 +70,7 @@ step_moves p h limit x g i k l =
 
 stalls_known : (p : Plan) (x : Core ModuleState) (c i k : ℕ) (rs : List Request) → AllByRecursion (Alike p c) rs
     → Each (λ a. counted.is_possible (design p) (lockstep_run p) c a.side a.channel
-    ≡ answer (known_in (design p) (view (design p) x) i k a) c) (map seen rs)
+    ≡ answer (known_in (design p) (view (design p) x) i k a) c) (map seen_request rs)
     → AllByRecursion (λ r. stalls p c (state p c).contents r ≡ waits_in p x i k c r) rs
 stalls_known p x c i k [] h e = tt
 stalls_known p x c i k (r ∷ rs) h e = (
@@ -95,14 +95,14 @@ wait_causes p h limit x g f i k c l n b e q =
 
 doing_seen : (p : Plan) (x : Core ModuleState) (i k c : ℕ) (rs : List Request)
     → doing_by (find (waits_in p x i k c) rs)
-    ≡ doing_at (find (waits_at (known_in (design p) (view (design p) x) i k) c) (map seen rs))
+    ≡ doing_at (find (waits_at (known_in (design p) (view (design p) x) i k) c) (map seen_request rs))
 doing_seen p x i k c [] = refl
 doing_seen p x i k c (r ∷ rs) = by_test (waits_in p x i k c r) (doing_seen p x i k c rs)
   where
     by_test : (b : Bool) → doing_by (find (waits_in p x i k c) rs)
-        ≡ doing_at (find (waits_at (known_in (design p) (view (design p) x) i k) c) (map seen rs))
+        ≡ doing_at (find (waits_at (known_in (design p) (view (design p) x) i k) c) (map seen_request rs))
         → doing_by (cond b (Some r) (find (waits_in p x i k c) rs))
-        ≡ doing_at (cond b (Some (seen r)) (find (waits_at (known_in (design p) (view (design p) x) i k) c) (map seen rs)))
+        ≡ doing_at (cond b (Some (seen_request r)) (find (waits_at (known_in (design p) (view (design p) x) i k) c) (map seen_request rs)))
     by_test true h = refl
     by_test false h = h
 

@@ -10,9 +10,10 @@ use Rattle.flow_design.specs.{declared.plan.Plan.Plan, declared.state.Element.El
 use Rattle.flow_design.specs.{declared.state.ModuleState.ModuleState, declared.state.Request.Request, StaticRules.FitsEngine}
 use Rattle.flow_design.specs.Plans.{is_fifo, kind_at, delay_at}
 use Rattle.lockstep_defs.specs.{Machine.is_yes, Laws.all_in}
-use Rattle.lockstep_defs.specs.Channels.{values, front, element_from, is_possible, is_full, stalls, reply, reply_by, pushed_value}
-use Rattle.lockstep_defs.specs.Channels.{moved_value, moved_by, moved, contents_of}
-use Rattle.lockstep_defs.specs.Lockstep.{requests_of, moves, answered, step_with, step_of, steps_in, clock_step, numbered, state, history}
+use Rattle.lockstep_defs.specs.Channels.{values, front, element_from, can_take, is_full, stalls, reply, reply_by, pushed_value, moved_value}
+use Rattle.lockstep_defs.specs.Channels.{moved_by, moved, contents_of}
+use Rattle.lockstep_defs.specs.Lockstep.{requests_of, moves, answered, step_with, module_step, steps_in, clock_step, numbered, state}
+use Rattle.lockstep_defs.specs.Lockstep.{history}
 use Rattle.lockstep_defs.proofs.{Settled.state-suc, Counts.fifo_opens_empty, Rules.keeps_ports}
 use Rattle.lockstep_defs.proofs.Queue.{moved-nil, moved-append, moved-step, nothing_stalls, moves_once, conserved, contents-step}
 use Rattle.lockstep_defs.proofs.Queue.{same_channels, channel_count}
@@ -51,15 +52,15 @@ pushes_nothing Empty possible held v e h = refl
 pushes_nothing Full possible held v e h = refl
 
 pushed_at : (p : Plan) (c : ℕ) (contents : List (List Element)) (f : ℕ) (r : Request) (b : Bool) → (r.channel == f) ≡ b
-    → is_possible p c contents Push f ≡ false → stalls p c contents r ≡ false
+    → can_take p c contents Push f ≡ false → stalls p c contents r ≡ false
     → cond b (moved_value Push (answered p c contents r)) [] ≡ []
 unfolding reply
 pushed_at p c contents f r false e full h = refl
 pushed_at p c contents f r true e full h =
-    let here = subst (λ (g : ℕ). is_possible p c contents Push g ≡ false) (sym (eqb-true r.channel f e)) full in
-    pushes_nothing r.kind (λ side. is_possible p c contents side r.channel) (front (contents_of contents r.channel)) r.value here h
+    let here = subst (λ (g : ℕ). can_take p c contents Push g ≡ false) (sym (eqb-true r.channel f e)) full in
+    pushes_nothing r.kind (λ side. can_take p c contents side r.channel) (front (contents_of contents r.channel)) r.value here h
 
-pushed_by : (p : Plan) (c : ℕ) (contents : List (List Element)) (f : ℕ) → is_possible p c contents Push f ≡ false → (rs : List Request)
+pushed_by : (p : Plan) (c : ℕ) (contents : List (List Element)) (f : ℕ) → can_take p c contents Push f ≡ false → (rs : List Request)
     → list_any (stalls p c contents) rs ≡ false → moved_by Push f (map (answered p c contents) rs) ≡ []
 unfolding moved_by
 pushed_by p c contents f full [] h = refl
@@ -68,7 +69,7 @@ pushed_by p c contents f full (r ∷ rs) h =
     ap₂ (λ (xs ys : List ℕ). xs ++ ys) (pushed_at p c contents f r (r.channel == f) refl full parts.0)
     (pushed_by p c contents f full rs parts.1)
 
-pushed_step : (p : Plan) (c : ℕ) (contents : List (List Element)) (f : ℕ) → is_possible p c contents Push f ≡ false → (m : ℕ × ModuleState)
+pushed_step : (p : Plan) (c : ℕ) (contents : List (List Element)) (f : ℕ) → can_take p c contents Push f ≡ false → (m : ℕ × ModuleState)
     → (b : Bool) → moves p c contents m ≡ b
     → moved Push f (cond b (step_with c m.0 (map (answered p c contents) (requests_of p m))) []) ≡ []
 pushed_step p c contents f full m false e = moved-nil Push f
@@ -76,15 +77,15 @@ pushed_step p c contents f full m true e =
     moved-step c m.0 Push f (map (answered p c contents) (requests_of p m))
     ∙ pushed_by p c contents f full (requests_of p m) (nothing_stalls p c contents m e)
 
-pushed_steps : (p : Plan) (c : ℕ) (contents : List (List Element)) (f : ℕ) → is_possible p c contents Push f ≡ false
-    → (ms : List (ℕ × ModuleState)) → moved Push f (flat_map (step_of p c contents) ms) ≡ []
+pushed_steps : (p : Plan) (c : ℕ) (contents : List (List Element)) (f : ℕ) → can_take p c contents Push f ≡ false
+    → (ms : List (ℕ × ModuleState)) → moved Push f (flat_map (module_step p c contents) ms) ≡ []
 pushed_steps p c contents f full [] = moved-nil Push f
 pushed_steps p c contents f full (m ∷ ms) =
-    moved-append Push f (step_of p c contents m) (flat_map (step_of p c contents) ms)
+    moved-append Push f (module_step p c contents m) (flat_map (module_step p c contents) ms)
     ∙ ap₂ (λ (xs ys : List ℕ). xs ++ ys) (pushed_step p c contents f full m (moves p c contents m) refl)
     (pushed_steps p c contents f full ms)
 
-pushed_in : (p : Plan) (c : ℕ) (st : ClockState) (f : ℕ) → is_possible p c st.contents Push f ≡ false → moved Push f (steps_in p c st) ≡ []
+pushed_in : (p : Plan) (c : ℕ) (st : ClockState) (f : ℕ) → can_take p c st.contents Push f ≡ false → moved Push f (steps_in p c st) ≡ []
 unfolding steps_in
 pushed_in p c st f full = pushed_steps p c st.contents f full (numbered st)
 

@@ -2,7 +2,7 @@
 use Rattle.std.proofs.Common.{◌≡◌, ℕ, zero, suc, ◌<◌, ◌≤◌, List, [], ◌∷◌, ◌++◌, refl, sym, ap, ap₂, ◌∙◌, subst, arith, ◌⊎◌, inl, inr}
 use Rattle.std.proofs.lemmas.List.Elements.{All-from_recursion, recursion_from_All}
 use Rattle.std.specs.List.{AllByRecursion, AllPairs, Contains}
-use Rattle.timelines.specs.{declared.span.Span.Span, declared.span.Doing.Doing, Spans.IsBefore}
+use Rattle.timelines.specs.{declared.span.Span.Span, declared.span.Doing.Doing, Spans.EndsBefore}
 
 abbrev pub span : ℕ → ℕ → Doing → Span
 span first until doing = record { first = first; until = until; doing = doing }
@@ -49,19 +49,19 @@ member_cases (x ∷ xs) y s (inr m) = later (member_cases xs y s m)
 
 abbrev pub Rising : List Span → Type 0
 Rising [] = Unit {0}
-Rising (s ∷ ss) = AllByRecursion (IsBefore s) ss × Rising ss
+Rising (s ∷ ss) = AllByRecursion (EndsBefore s) ss × Rising ss
 
-pub rising_pairs : (ss : List Span) → Rising ss → AllPairs IsBefore ss
+pub rising_pairs : (ss : List Span) → Rising ss → AllPairs EndsBefore ss
 rising_pairs [] h i j d l m = absurd (omega arith)
 rising_pairs (s ∷ ss) h zero zero d l m = absurd (omega arith)
-rising_pairs (s ∷ ss) h zero (suc j) d l m = All-from_recursion (IsBefore s) ss h.0 j d (omega arith)
+rising_pairs (s ∷ ss) h zero (suc j) d l m = All-from_recursion (EndsBefore s) ss h.0 j d (omega arith)
 rising_pairs (s ∷ ss) h (suc i) zero d l m = absurd (omega arith)
 rising_pairs (s ∷ ss) h (suc i) (suc j) d l m = rising_pairs ss h.1 i j d (omega arith) (omega arith)
 
-pub pairs_rising : (ss : List Span) → AllPairs IsBefore ss → Rising ss
+pub pairs_rising : (ss : List Span) → AllPairs EndsBefore ss → Rising ss
 pairs_rising [] h = tt
 pairs_rising (s ∷ ss) h = (
-  recursion_from_All (IsBefore s) ss (λ k d l. h 0 (suc k) d (omega arith) (omega arith)),
+  recursion_from_All (EndsBefore s) ss (λ k d l. h 0 (suc k) d (omega arith) (omega arith)),
   pairs_rising ss (λ i j d l m. h (suc i) (suc j) d (omega arith) (omega arith)),
 )
 
@@ -77,23 +77,23 @@ all_by P (s ∷ ss) f = (f s (inl refl), all_by P ss (λ t m. f t (inr m)))
 pub rising_more : (ss : List Span) (t : Span) → Rising ss → ((s : Span) → Member ss s → s.until ≤ t.first) → Rising (ss ++ t ∷ [])
 rising_more [] t h f = (tt, tt)
 rising_more (s ∷ ss) t h f = (
-  all_by (IsBefore s) (ss ++ t ∷ []) (λ u m. later u (member_cases ss t u m)),
+  all_by (EndsBefore s) (ss ++ t ∷ []) (λ u m. later u (member_cases ss t u m)),
   rising_more ss t h.1 (λ u m. f u (inr m)),
 )
   where
     later : (u : Span) → Member ss u ⊎ (t ≡ u) → s.until ≤ u.first
-    later u (inl m) = all_of (IsBefore s) ss h.0 u m
+    later u (inl m) = all_of (EndsBefore s) ss h.0 u m
     later u (inr e) = subst (λ (v : Span). s.until ≤ v.first) e (f s (inl refl))
 
 pub rising_front : (ss : List Span) (t : Span) → Rising (ss ++ t ∷ []) → Rising ss
 rising_front [] t h = tt
 rising_front (s ∷ ss) t h =
-    (all_by (IsBefore s) ss (λ u m. all_of (IsBefore s) (ss ++ t ∷ []) h.0 u (member_left ss (t ∷ []) u m)), rising_front ss t h.1)
+    (all_by (EndsBefore s) ss (λ u m. all_of (EndsBefore s) (ss ++ t ∷ []) h.0 u (member_left ss (t ∷ []) u m)), rising_front ss t h.1)
 
 pub rising_last : (ss : List Span) (t : Span) → Rising (ss ++ t ∷ []) → (s : Span) → Member ss s → s.until ≤ t.first
 rising_last [] t h s m = absurd m
 rising_last (x ∷ ss) t h s (inl e) =
-    subst (λ (v : Span). v.until ≤ t.first) e (all_of (IsBefore x) (ss ++ t ∷ []) h.0 t (member_last ss t t refl))
+    subst (λ (v : Span). v.until ≤ t.first) e (all_of (EndsBefore x) (ss ++ t ∷ []) h.0 t (member_last ss t t refl))
 rising_last (x ∷ ss) t h s (inr m) = rising_last ss t h.1 s m
 
 -- ---- there is one list in order with these members
@@ -113,8 +113,8 @@ same_spans (x ∷ xs) (y ∷ ys) n f g h k =
     heads (inr a) (inr b) =
         absurd (omega (
           arith,
-          all_of (IsBefore x) xs h.0 y a,
-          all_of (IsBefore y) ys k.0 x b,
+          all_of (EndsBefore x) xs h.0 y a,
+          all_of (EndsBefore y) ys k.0 x b,
           n x (inl refl),
           n y (inr a),
         ))
@@ -125,13 +125,13 @@ same_spans (x ∷ xs) (y ∷ ys) n f g h k =
     out : (s : Span) → Member xs s → (y ≡ s) ⊎ Member ys s → Member ys s
     out s m (inr b) = b
     out s m (inl e) =
-        let q = all_of (IsBefore x) xs h.0 s m in
+        let q = all_of (EndsBefore x) xs h.0 s m in
         let q' = subst (λ (v : Span). x.until ≤ v.first) (sym (same ∙ e)) q in
         absurd (omega (arith, q', n x (inl refl)))
 
     back : (s : Span) → Member ys s → (x ≡ s) ⊎ Member xs s → Member xs s
     back s m (inr b) = b
     back s m (inl e) =
-        let q = all_of (IsBefore y) ys k.0 s m in
+        let q = all_of (EndsBefore y) ys k.0 s m in
         let q' = subst (λ (v : Span). v.until ≤ s.first) (sym same ∙ e) q in
         absurd (omega (arith, q', n s (inl e)))

@@ -1,7 +1,7 @@
 -- Which step a module is at in a clock, and where it stands.
 use Rattle.std.proofs.Common.{◌≡◌, ℕ, zero, suc, ◌+◌, ◌-◌, ◌<◌, ◌≤◌, true, false, inl, inr, sym, ap, ap₂, ◌∙◌, subst, arith, ◌⊎◌}
 use Rattle.std.proofs.lemmas.Bool.{cases_Bool}
-use Rattle.event_timing.specs.{Machines.Design, Machines.IsDesign, Machines.ready, Histories.Trace, Histories.IsHistory, Histories.moves}
+use Rattle.event_timing.specs.{Machines.Design, Machines.IsDesign, Machines.ready, Histories.Trace, Histories.IsHistory, Histories.can_move}
 use Rattle.event_timing.specs.{Steps.steps, Steps.done, Steps.since, Steps.rest, Views.View, Views.Agrees, Views.from, Views.own}
 use Rattle.event_timing.proofs.Steps.{done_more, done_same, done_mono, same_clock, since_more, since_same}
 use Rattle.event_timing.proofs.Standing.{since_0, late_ready, steps_moves, step_reached}
@@ -38,7 +38,7 @@ arrives_is {S} d h i y v g m c k e l =
 
 -- before that clock it moves
 pub moves_before : {S : Type 0} → (d : Design S) (h : Trace S) → IsDesign d → IsHistory d h → (v : View) → Agrees d h v → (m c k : ℕ)
-    → done d h m c ≡ k → k ≤ v.timed m → c < from (v.cycle m) k + d.quiet m (own d m (v.reply m) k) → moves d h c m ≡ true
+    → done d h m c ≡ k → k ≤ v.timed m → c < from (v.cycle m) k + d.quiet m (own d m (v.reply m) k) → can_move d h c m ≡ true
 moves_before {S} d h i y v g m c k e l q =
     early_moves d h i y m c (subst (λ (z : ℕ). c < z) (sym (arrives_is d h i y v g m c k e l)) q)
 
@@ -78,7 +78,7 @@ at_last {S} d h v g m c a b =
 
 -- in its cycle a step moves
 pub moves_then : {S : Type 0} → (d : Design S) (h : Trace S) (v : View) → Agrees d h v → (m k : ℕ) → k < v.timed m
-    → moves d h (v.cycle m k) m ≡ true
+    → can_move d h (v.cycle m k) m ≡ true
 moves_then {S} d h v g m k l = steps_moves d h (v.cycle m k) m (g.steps_then m k l)
 
 -- it comes to a step with a cycle in that cycle or before

@@ -1,7 +1,7 @@
 -- What a core tells of a module in each clock: whether it moves, and where it waits, which accesses are possible.
 use Rattle.std.proofs.Common.{◌≡◌, ℕ, ◌<◌, ◌≤◌, true, List, [], ◌∷◌, sym, ◌∙◌, arith}
 use Rattle.event_timing.specs.Machines.{Design, IsDesign, Access, Each, ready}
-use Rattle.event_timing.specs.Histories.{Trace, IsHistory, moves, is_possible}
+use Rattle.event_timing.specs.Histories.{Trace, IsHistory, can_move, is_possible}
 use Rattle.event_timing.specs.{Steps.done, Views.View, Views.Agrees, Views.from, Views.own, Views.tally, Enablers.Known, Enablers.answer}
 use Rattle.event_timing.specs.{Core.Core, Core.view, Core.core_accesses, Core.core_reply, Agreement.IsAgreed, Actions.IsFinal}
 use Rattle.event_timing.proofs.Threshold.{taken_view, Means, known_means}
@@ -38,7 +38,7 @@ each_answers {S} d h v c n know (a ∷ xs) (g, gs) =
 
 -- before it comes to step k a module moves
 pub moves_early : {S : Type 0} → (d : Design S) (h : Trace S) → IsDesign d → IsHistory d h → (limit : ℕ) (x : Core S)
-    → IsAgreed d h limit x → (m k c : ℕ) → k ≤ x.timed m → done d h m c ≡ k → c < arrives d x m k → moves d h c m ≡ true
+    → IsAgreed d h limit x → (m k c : ℕ) → k ≤ x.timed m → done d h m c ≡ k → c < arrives d x m k → can_move d h c m ≡ true
 moves_early {S} d h i y limit x g m k c l e q = moves_before d h i y (view d x) (agrees d h limit x g.marks g.time) m c k e l q
 
 -- then it stands at it, and what is known of each access there, by cycles of enablers and lags, says whether it is possible
@@ -76,5 +76,5 @@ last_clocks {S} d h i y limit x g f m c b a =
     at_last d h (view d x) (agrees d h limit x g.marks g.time) m c a (final_complete d h i y limit x g f m c b)
 
 pub cycle_moves : {S : Type 0} → (d : Design S) (h : Trace S) (limit : ℕ) (x : Core S) → IsAgreed d h limit x → (m k : ℕ)
-    → k < x.timed m → moves d h (x.cycle m k) m ≡ true
+    → k < x.timed m → can_move d h (x.cycle m k) m ≡ true
 cycle_moves {S} d h limit x g m k l = moves_then d h (view d x) (agrees d h limit x g.marks g.time) m k l

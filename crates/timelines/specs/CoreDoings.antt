@@ -6,7 +6,7 @@ use Rattle.lockstep_defs.specs.Lockstep.{requests_of}
 use Rattle.event_timing.specs.{Machines.Design, Machines.Access, Views.View, Views.tally, Views.from, Views.own, Enablers.Known}
 use Rattle.event_timing.specs.{Enablers.known, Enablers.answer, Core.Core, Core.core_reply, Core.core_accesses, Core.view}
 use Rattle.timelines.specs.{declared.span.Doing.Doing, declared.span.Doing.TheVariants.Moves, declared.span.Doing.TheVariants.Still}
-use Rattle.timing_bridge.specs.Designs.{design, seen}
+use Rattle.timing_bridge.specs.Designs.{design, seen_request}
 
 -- what is known of an access of module m's step k
 abbrev pub known_in : {S : Type 0} → Design S → View → ℕ → ℕ → Access → Known
@@ -19,7 +19,7 @@ arrives {S} d x m k = from (x.cycle m) k + d.quiet m (own d m (core_reply d x m)
 
 -- the request of step k blocks, and the core does not know it to be possible in clock c
 abbrev pub waits_in : Plan → Core ModuleState → ℕ → ℕ → ℕ → Request → Bool
-waits_in p x i k c r = is_blocking r.kind && not (answer (known_in (design p) (view (design p) x) i k (seen r)) c)
+waits_in p x i k c r = is_blocking r.kind && not (answer (known_in (design p) (view (design p) x) i k (seen_request r)) c)
 
 -- the first request of step k that the core does not know to be possible in clock c, among those that block
 abbrev pub core_blocker : Plan → Core ModuleState → ℕ → ℕ → ℕ → Option Request

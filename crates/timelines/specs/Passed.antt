@@ -22,5 +22,5 @@ unfoldable pub acts : Plan → List Act
 acts p = acts_before p (last_clock p)
 
 -- the values that these operations popped off a channel, or pushed on it, in order
-abbrev pub moved_in : Side → ℕ → List Act → List ℕ
-moved_in side f done = flat_map (λ a. if a.1.request.channel == f then moved_value side a.1 else []) done
+abbrev pub values_moved : Side → ℕ → List Act → List ℕ
+values_moved side f done = flat_map (λ a. if a.1.request.channel == f then moved_value side a.1 else []) done

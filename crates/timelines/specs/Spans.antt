@@ -14,13 +14,13 @@ pub record IsSpan (p : Plan) (i end : ℕ) (s : Span) : Type 0 where
   pub ends : s.until < end → doing p s.until i ≢ Some s.doing
 
 -- the first span ends where the second one begins, or earlier
-abbrev pub IsBefore : Span → Span → Type 0
-IsBefore s t = s.until ≤ t.first
+abbrev pub EndsBefore : Span → Span → Type 0
+EndsBefore s t = s.until ≤ t.first
 
 -- the spans of module i below clock `end`, in order
 pub record AreSpansBelow (p : Plan) (i end : ℕ) (spans : List Span) : Type 0 where
   pub all : (s : Span) → Contains spans s ↔ IsSpan p i end s
-  pub in_order : AllPairs IsBefore spans
+  pub in_order : AllPairs EndsBefore spans
 
 -- the spans of module i: those below the clock of the verdict
 abbrev pub AreSpans : Plan → ℕ → List Span → Type 0

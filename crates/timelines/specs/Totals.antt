@@ -23,15 +23,15 @@ is_still_at port Moves = false
 is_still_at port (Still at) = same_port port at
 
 -- what a module does passes a test; a module that is over does nothing
-abbrev pub passes : (Doing → Bool) → Option Doing → Bool
-passes test None = false
-passes test (Some d) = test d
+abbrev pub doing_passes : (Doing → Bool) → Option Doing → Bool
+doing_passes test None = false
+doing_passes test (Some d) = test d
 
 -- ---- clocks
 
 -- in how many clocks before `end` what module i does passes the test
 unfoldable pub clocks_in : (Doing → Bool) → Plan → ℕ → ℕ → ℕ
-clocks_in test p i end = count_by (λ c. passes test (doing p c i)) (range_with_len 0 end)
+clocks_in test p i end = count_by (λ c. doing_passes test (doing p c i)) (range_with_len 0 end)
 
 -- in how many clocks before the verdict's module i moves
 abbrev pub moved_clocks : Plan → ℕ → ℕ

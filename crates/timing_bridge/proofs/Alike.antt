@@ -9,12 +9,12 @@ use Rattle.flow_word.specs.{Kinds.same_side, Kinds.side_of, Kinds.is_blocking, K
 use Rattle.flow_design.specs.{declared.plan.Plan.Plan, declared.state.Element.Element, declared.state.ModuleState.ModuleState}
 use Rattle.flow_design.specs.{declared.state.Request.Request, declared.state.Reply.Reply, Plans.delay_at, StaticRules.FitsEngine}
 use Rattle.lockstep_defs.specs.{Machine.is_yes, Machine.value_in, Ports.StandsAtPort, Laws.all_in}
-use Rattle.lockstep_defs.specs.Channels.{front, values, is_possible, stalls, reply, reply_by, popped_value, pushed_value, moved_by, moved}
+use Rattle.lockstep_defs.specs.Channels.{front, values, can_take, stalls, reply, reply_by, popped_value, pushed_value, moved_by, moved}
 use Rattle.lockstep_defs.specs.Channels.{contents_of}
 use Rattle.lockstep_defs.specs.Lockstep.{requests_of, answered, state, history}
 use Rattle.lockstep_defs.proofs.{Queue.contents_are, Queue.channel_count, Rules.keeps_ports, Counts.is_counted}
 use Rattle.event_timing.specs.{Machines.takes_in, Machines.values_in, Machines.took, Histories.can_all, Histories.reply_to}
-use Rattle.timing_bridge.specs.Designs.{design, lockstep_run, seen, told, told_all}
+use Rattle.timing_bridge.specs.Designs.{design, lockstep_run, seen_request, told, told_all}
 use Rattle.timing_bridge.proofs.Requests.{stand}
 use Rattle.event_timing.specs.Machines as theory
 use Rattle.event_timing.specs.Histories as counted
@@ -22,7 +22,7 @@ use Rattle.event_timing.specs.Histories as counted
 -- ---- one channel
 
 possible_same : (p : Plan) → FitsEngine p → (c : ℕ) (side : Side) (f : ℕ) → f < length p.design.channels
-    → counted.is_possible (design p) (lockstep_run p) c side f ≡ is_possible p c (state p c).contents side f
+    → counted.is_possible (design p) (lockstep_run p) c side f ≡ can_take p c (state p c).contents side f
 possible_same p h c Pop f l =
     ap (λ (n : ℕ). ltb (length (moved Pop f (history p c))) n)
     (sym (length-append (values (contents_of (state p 0).contents f)) (moved Push f (history p (suc c - delay_at p f)))))
@@ -50,7 +50,7 @@ front_same p h c f l =
 -- the theory finds this request as possible as the contents do, and the same front
 pub record Alike (p : Plan) (c : ℕ) (r : Request) : Type 0 where
   pub possible : counted.is_possible (design p) (lockstep_run p) c (side_of r.kind) r.channel
-      ≡ is_possible p c (state p c).contents (side_of r.kind) r.channel
+      ≡ can_take p c (state p c).contents (side_of r.kind) r.channel
   pub front : get_or (all_in p c r.channel) (length (moved Pop r.channel (history p c))) 0
       ≡ front (contents_of (state p c).contents r.channel)
 
@@ -68,11 +68,11 @@ can_both : (b q x : Bool) → ((not b || q) && not x) ≡ not ((b && not q) || x
 can_both b q x = grind arith
 
 pub can_same : (p : Plan) (c : ℕ) (rs : List Request) → AllByRecursion (Alike p c) rs
-    → can_all (design p) (lockstep_run p) c (map seen rs) ≡ not (list_any (stalls p c (state p c).contents) rs)
+    → can_all (design p) (lockstep_run p) c (map seen_request rs) ≡ not (list_any (stalls p c (state p c).contents) rs)
 can_same p c [] h = refl
 can_same p c (r ∷ rs) h =
     ap₂ (λ (q x : Bool). (not (is_blocking r.kind) || q) && x) (h.0).possible (can_same p c rs h.1)
-    ∙ can_both (is_blocking r.kind) (is_possible p c (state p c).contents (side_of r.kind) r.channel)
+    ∙ can_both (is_blocking r.kind) (can_take p c (state p c).contents (side_of r.kind) r.channel)
     (list_any (stalls p c (state p c).contents) rs)
 
 -- ---- replies
@@ -82,16 +82,16 @@ told_kind : (k : Kind) (q : Bool) (v : ℕ) → (is_blocking k && not q) ≡ fal
 told_kind k q v h = grind arith
 
 told_one : (p : Plan) (c : ℕ) (r : Request) → Alike p c r → stalls p c (state p c).contents r ≡ false
-    → told r (reply_to (design p) (lockstep_run p) c (seen r)) ≡ reply p c (state p c).contents r
+    → told r (reply_to (design p) (lockstep_run p) c (seen_request r)) ≡ reply p c (state p c).contents r
 unfolding reply
 told_one p c r h e =
     ap₂ (λ (q : Bool) (v : ℕ). reply_by r.kind q (cond (is_taking r.kind && (same_side (side_of r.kind) Pop && q)) v 0)) h.possible h.front
-    ∙ told_kind r.kind (is_possible p c (state p c).contents (side_of r.kind) r.channel)
+    ∙ told_kind r.kind (can_take p c (state p c).contents (side_of r.kind) r.channel)
     (front (contents_of (state p c).contents r.channel)) e
 
 -- the theory's replies to these requests
 abbrev pub counted_replies : Plan → ℕ → List Request → List theory.Reply
-counted_replies p c rs = map (reply_to (design p) (lockstep_run p) c) (map seen rs)
+counted_replies p c rs = map (reply_to (design p) (lockstep_run p) c) (map seen_request rs)
 
 pub told_same : (p : Plan) (c : ℕ) (rs : List Request) → AllByRecursion (Alike p c) rs
     → list_any (stalls p c (state p c).contents) rs ≡ false → told_all rs (counted_replies p c rs) ≡ map (reply p c (state p c).contents) rs
@@ -112,7 +112,7 @@ pub push_kind : (k : Kind) (q t : Bool) (v w : ℕ) → (is_blocking k && not q)
 push_kind k q t v w h = grind arith
 
 pops_same : (p : Plan) (c f : ℕ) (rs : List Request) → AllByRecursion (Alike p c) rs → list_any (stalls p c (state p c).contents) rs ≡ false
-    → takes_in Pop f (map seen rs) (counted_replies p c rs) ≡ length (moved_by Pop f (map (answered p c (state p c).contents) rs))
+    → takes_in Pop f (map seen_request rs) (counted_replies p c rs) ≡ length (moved_by Pop f (map (answered p c (state p c).contents) rs))
 unfolding moved_by reply
 pops_same p c f [] h e = refl
 pops_same p c f (r ∷ rs) h e =
@@ -121,12 +121,12 @@ pops_same p c f (r ∷ rs) h e =
     ap₂ (λ (q : Bool) (n : ℕ). cond (is_taking r.kind && (q && (same_side (side_of r.kind) Pop && (r.channel == f)))) 1 0 + n)
     (h.0).possible (pops_same p c f rs h.1 parts.1)
     ∙ (ap (λ (n : ℕ). n + length (moved_by Pop f (map (answered p c cs) rs)))
-    (pop_kind r.kind (is_possible p c cs (side_of r.kind) r.channel) (r.channel == f) (front (contents_of cs r.channel)) parts.0)
+    (pop_kind r.kind (can_take p c cs (side_of r.kind) r.channel) (r.channel == f) (front (contents_of cs r.channel)) parts.0)
     ∙ sym (length-append _ _))
 
 pub pushes_same : (p : Plan) (c f : ℕ) (rs : List Request) → AllByRecursion (Alike p c) rs
     → list_any (stalls p c (state p c).contents) rs ≡ false
-    → values_in f (map seen rs) (counted_replies p c rs) ≡ moved_by Push f (map (answered p c (state p c).contents) rs)
+    → values_in f (map seen_request rs) (counted_replies p c rs) ≡ moved_by Push f (map (answered p c (state p c).contents) rs)
 unfolding moved_by reply
 pushes_same p c f [] h e = refl
 pushes_same p c f (r ∷ rs) h e =
@@ -135,12 +135,12 @@ pushes_same p c f (r ∷ rs) h e =
     ap₂ (λ (q : Bool) (vs : List ℕ). cond (is_taking r.kind && (q && (same_side (side_of r.kind) Push && (r.channel == f))))
     (r.value ∷ []) [] ++ vs) (h.0).possible (pushes_same p c f rs h.1 parts.1)
     ∙ ap (λ (vs : List ℕ). vs ++ moved_by Push f (map (answered p c cs) rs))
-    (push_kind r.kind (is_possible p c cs (side_of r.kind) r.channel) (r.channel == f)
+    (push_kind r.kind (can_take p c cs (side_of r.kind) r.channel) (r.channel == f)
     (front (contents_of cs r.channel)) r.value parts.0)
 
 -- what these requests take at a side, by counts, is what they move there
 pub taken_same : (p : Plan) (c : ℕ) (side : Side) (f : ℕ) (rs : List Request) → AllByRecursion (Alike p c) rs
     → list_any (stalls p c (state p c).contents) rs ≡ false
-    → takes_in side f (map seen rs) (counted_replies p c rs) ≡ length (moved_by side f (map (answered p c (state p c).contents) rs))
+    → takes_in side f (map seen_request rs) (counted_replies p c rs) ≡ length (moved_by side f (map (answered p c (state p c).contents) rs))
 taken_same p c Pop f rs h e = pops_same p c f rs h e
-taken_same p c Push f rs h e = sym (length_values f (map seen rs) (counted_replies p c rs)) ∙ ap length (pushes_same p c f rs h e)
+taken_same p c Push f rs h e = sym (length_values f (map seen_request rs) (counted_replies p c rs)) ∙ ap length (pushes_same p c f rs h e)

@@ -8,7 +8,8 @@ use Rattle.event_timing.specs.Machines.{Access, Reply, Design, IsDesign, Each, t
 use Rattle.event_timing.specs.{Histories.Trace, Histories.IsHistory, Views.tally, Views.place, Views.from, Views.first_accesses}
 use Rattle.event_timing.specs.{Enablers.Known.From, Enablers.Known.Never, Actions.Action.Run, Agreement.IsAgreed}
 use Rattle.event_timing.specs.Core.{Core, bare_replies, core_accesses, core_reply, view}
-use Rattle.event_timing.specs.Enablers.{Known, known, known_of, candidate, bound, to_clock, reach, from_step, timed_place, all_decided}
+use Rattle.event_timing.specs.Enablers.{Known, known, known_of, candidate, bound, to_clock, unblocked_clock, from_step, timed_place}
+use Rattle.event_timing.specs.Enablers.{all_decided}
 use Rattle.event_timing.specs.Actions.{ActsAll, IsDetermined, MayAssign, after_run, after_assign, after_answer, emit_over, runs}
 use Rattle.event_timing.specs.Permitted.{may_assign, may_answer, is_determined, is_before, decides}
 use Rattle.event_timing.proofs.{Agreement.acts_agree, Assigning.put_other, Assigning.put_at_other, Assigning.put_at_same, Fronts.tally_same}
@@ -106,7 +107,7 @@ module _ {S : Type 0} (d : Design S) (x y : Core S) where
     all_known : Each (λ a. known_of d (view d y) n a ≡ known_of d (view d x) n a) (first_accesses (view d x) n)
     all_known = each_of _ _ (first_accesses (view d x) n) known_here others
 
-    reach_same : reach (view d y) n ≡ reach (view d x) n
+    reach_same : unblocked_clock (view d y) n ≡ unblocked_clock (view d x) n
     reach_same =
         ap₂ (λ (p q : ℕ). p + q)
         (ap (from (y.cycle n)) f.steps.timed ∙ from_same (y.cycle n) (x.cycle n) (x.timed n) f.steps.cycle)

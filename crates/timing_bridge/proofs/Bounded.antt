@@ -6,9 +6,9 @@ use Rattle.flow_design.specs.{declared.plan.Plan.Plan, declared.state.Due.Due, d
 use Rattle.flow_design.specs.{declared.state.Reply.Reply, Module.block_of, Module.due, StaticRules.FitsEngine}
 use Rattle.lockstep_defs.specs.Machine.{requests, request_for, entered, ticked, decided, followed, finished, committed, move, is_over}
 use Rattle.lockstep_defs.specs.Lockstep.{module_at, requests_of}
-use Rattle.event_timing.specs.{Machines.skip, Machines.ready, Machines.is_some_access, Views.own, Agreement.IsBounded}
+use Rattle.event_timing.specs.{Machines.after_skip, Machines.ready, Machines.is_some_access, Views.own, Agreement.IsBounded}
 use Rattle.event_timing.proofs.OwnRuns.{own_fits}
-use Rattle.timing_bridge.specs.Designs.{design, seen, told_all, accesses_in}
+use Rattle.timing_bridge.specs.Designs.{design, seen_request, told_all, due_accesses}
 use Rattle.timing_bridge.proofs.History.{plan_is_design}
 use Rattle.lockstep_defs.proofs.Agrees.{below_limit}
 use Rattle.event_timing.specs.Machines as theory
@@ -39,18 +39,18 @@ move_counts m s rs =
     let t = record (committed m s rs) { count = n } in
     finished_counts m b n (decided b (ticked b t)) (decided_counts b n (ticked b t) (ticked_counts b n t (omega arith)))
 
-skip_counts : (p : Plan) (i n : ℕ) (s : ModuleState) → s.count ≤ (skip (design p) i n s).count
+skip_counts : (p : Plan) (i n : ℕ) (s : ModuleState) → s.count ≤ (after_skip (design p) i n s).count
 skip_counts p i zero s = omega arith
 skip_counts p i (suc n) s =
-    let t = skip (design p) i n s in
+    let t = after_skip (design p) i n s in
     let rest = skip_counts p i n s in
     omega (arith, move_counts (module_at p i) t (told_all (requests_of p (i, t)) []))
 
-some_due : (p : Plan) (i : ℕ) (s : ModuleState) → is_some_access (accesses_in p i s) ≡ true → 0 < length (due (module_at p i) s)
+some_due : (p : Plan) (i : ℕ) (s : ModuleState) → is_some_access (due_accesses p i s) ≡ true → 0 < length (due (module_at p i) s)
 unfolding requests
 some_due p i s h = by_list (due (module_at p i) s) h
   where
-    by_list : (ds : List Due) → is_some_access (map seen (filter_map (request_for p.design.channels (module_at p i) s) ds)) ≡ true
+    by_list : (ds : List Due) → is_some_access (map seen_request (filter_map (request_for p.design.channels (module_at p i) s) ds)) ≡ true
         → 0 < length ds
     by_list [] h = cc
     by_list (d ∷ ds) h = omega arith

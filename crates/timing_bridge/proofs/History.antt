@@ -10,7 +10,7 @@ use Rattle.lockstep_defs.specs.Lockstep.{requests_of, moves, next_state, opening
 use Rattle.lockstep_defs.proofs.{Settled.history-zero, Counts.delay_positive, Queue.moved-nil, Queue.nothing_stalls}
 use Rattle.lockstep_defs.proofs.Agrees.{all_modules, state_at-suc}
 use Rattle.event_timing.specs.{Machines.IsDesign, Machines.takes_in, Machines.values_in, Histories.IsHistory, Histories.replies}
-use Rattle.timing_bridge.specs.Designs.{design, lag_in, lockstep_run, accesses_in, move_in, told_all}
+use Rattle.timing_bridge.specs.Designs.{design, lag_in, lockstep_run, due_accesses, move_in, told_all}
 use Rattle.timing_bridge.proofs.Requests.{owned_in, open_in, one_taker}
 use Rattle.timing_bridge.proofs.Quiet.{quiet_lives, quiet_idle, quiet_ends, first_fits, next_fits, outside_over}
 use Rattle.timing_bridge.proofs.Alike.{alike, can_same, told_same, taken_same, pushes_same}
@@ -44,8 +44,8 @@ plan_is_design p h =
 -- ---- who moves, and to what state
 
 pub moves_same : (p : Plan) → FitsEngine p → (c i : ℕ)
-    → counted.moves (design p) (lockstep_run p) c i ≡ moves p c (state p c).contents (i, state_at p c i)
-unfolding counted.moves moves
+    → counted.can_move (design p) (lockstep_run p) c i ≡ moves p c (state p c).contents (i, state_at p c i)
+unfolding counted.can_move moves
 moves_same p h c i = ap (λ (z : Bool). not (is_over p.ops (state_at p c i)) && z)
     (can_same p c (requests_of p (i, state_at p c i)) (alike p h c i (state_at p c i)))
 
@@ -68,11 +68,11 @@ replies_same p h c i e =
     told_same p c (requests_of p (i, state_at p c i)) (alike p h c i (state_at p c i))
     (nothing_stalls p c (state p c).contents (i, state_at p c i) e)
 
-moves_on : (p : Plan) → FitsEngine p → (c i : ℕ) → counted.moves (design p) (lockstep_run p) c i ≡ true
+moves_on : (p : Plan) → FitsEngine p → (c i : ℕ) → counted.can_move (design p) (lockstep_run p) c i ≡ true
     → state_at p (suc c) i ≡ move_in p i (state_at p c i) (replies (design p) (lockstep_run p) c i)
 moves_on p h c i m = grind (arith, moves_same p h c i, next_at p c i, replies_same p h c i)
 
-stays : (p : Plan) → FitsEngine p → (c i : ℕ) → counted.moves (design p) (lockstep_run p) c i ≡ false
+stays : (p : Plan) → FitsEngine p → (c i : ℕ) → counted.can_move (design p) (lockstep_run p) c i ≡ false
     → state_at p (suc c) i ≡ state_at p c i
 stays p h c i m = grind (arith, moves_same p h c i, next_at p c i)
 
@@ -80,7 +80,7 @@ stays p h c i m = grind (arith, moves_same p h c i, next_at p c i)
 
 shared : (p : Plan) → FitsEngine p → (c : ℕ) (side : Side) (f i : ℕ) → moves p c (state p c).contents (i, state_at p c i) ≡ true
     → length (share p c (state p c).contents side f (i, state_at p c i))
-    ≡ takes_in side f (accesses_in p i (state_at p c i)) (replies (design p) (lockstep_run p) c i)
+    ≡ takes_in side f (due_accesses p i (state_at p c i)) (replies (design p) (lockstep_run p) c i)
 unfolding replies
 shared p h c side f i e =
     ap length (share_moves p c (state p c).contents side f (i, state_at p c i) e)
@@ -89,7 +89,7 @@ shared p h c side f i e =
 
 shared_values : (p : Plan) → FitsEngine p → (c f i : ℕ) → moves p c (state p c).contents (i, state_at p c i) ≡ true
     → share p c (state p c).contents Push f (i, state_at p c i)
-    ≡ values_in f (accesses_in p i (state_at p c i)) (replies (design p) (lockstep_run p) c i)
+    ≡ values_in f (due_accesses p i (state_at p c i)) (replies (design p) (lockstep_run p) c i)
 unfolding replies
 shared_values p h c f i e =
     share_moves p c (state p c).contents Push f (i, state_at p c i) e
@@ -104,7 +104,7 @@ grows_by : (p : Plan) → FitsEngine p → (c : ℕ) (side : Side) (f : ℕ) (vs
 grows_by p h c side f vs e = moved_more p h c side f ∙ ap (λ (l : List ℕ). moved side f (history p c) ++ l) e
 
 same_moved : (p : Plan) → FitsEngine p → (c : ℕ) (side : Side) (f : ℕ)
-    → counted.moves (design p) (lockstep_run p) c (owner p (record { side = side; channel = f })) ≡ false
+    → counted.can_move (design p) (lockstep_run p) c (owner p (record { side = side; channel = f })) ≡ false
     → moved side f (history p (suc c)) ≡ moved side f (history p c)
 same_moved p h c side f m =
     let o = owner p (record { side = side; channel = f }) in
@@ -134,6 +134,6 @@ run_is_history p h =
           ap (λ (l : List ℕ). values (contents_of (state p 0).contents f) ++ l)
           (grows_by p h c Push f _ (shared_values p h c f o (sym (moves_same p h c o) ∙ m)))
           ∙ sym (append_assoc (values (contents_of (state p 0).contents f)) (moved Push f (history p c))
-          (values_in f (accesses_in p o (state_at p c o)) (replies (design p) (lockstep_run p) c o)));
+          (values_in f (due_accesses p o (state_at p c o)) (replies (design p) (lockstep_run p) c o)));
       pushed_stays = λ c f m. ap (λ (l : List ℕ). values (contents_of (state p 0).contents f) ++ l) (same_moved p h c Push f m);
     }

@@ -4,11 +4,11 @@ use Rattle.std.proofs.Common.{length}
 use Rattle.std.proofs.{lemmas.Bool.cond-false, lemmas.Bool.ne_eqb, lemmas.List.get_or-set_other, Math.ListN.get_or-map}
 use Rattle.std.specs.Prelude.{get_or, slice_set, map}
 use Rattle.event_timing.specs.{Machines.Design, Core.Core}
-use Rattle.event_timing.specs.Actions.{Action, Acts, ActsAll, IsNoRunOf, IsFinal, runs}
+use Rattle.event_timing.specs.Actions.{Action, Acts, ActsAll, IsNoRunOf, IsFinal, runs, AreTimings}
 use Rattle.event_timing.specs.Actions.Action.{Run, Assign, Answer, Earliest}
-use Rattle.timing_bridge.specs.{declared.turn.HubTurn.HubTurn, Turned.Turned, Turned.lent_at, Turned.is_lent_to, Turned.not_to}
+use Rattle.timing_bridge.specs.{declared.turn.HubTurn.HubTurn, Turns.IsTurnOf, Turns.TurnsOf, Turns.taker, Turns.AreOfOthers}
+use Rattle.timing_bridge.specs.Turned.{Turned, lent_at, is_lent_to, not_to}
 use Rattle.timing_bridge.specs.declared.turn.HubTurn.TheVariants.{Lent, Ran, Timed, Short}
-use Rattle.timing_bridge.specs.Turns.{AreTimings, IsTurnOf, TurnsOf, taker, AreOfOthers}
 
 -- ---- lists of actions
 

@@ -8,8 +8,8 @@ use Rattle.flow_word.specs.{declared.access.Side.Side, declared.access.Kind.Kind
 use Rattle.flow_design.specs.{declared.plan.Plan.Plan, declared.state.Element.Element, declared.state.ModuleState.ModuleState}
 use Rattle.flow_design.specs.{declared.state.Request.Request, StaticRules.FitsEngine}
 use Rattle.lockstep_defs.specs.{Machine.is_over, Machine.nobody, Ports.owner, Ports.StandsAtPort}
-use Rattle.lockstep_defs.specs.Channels.{is_possible, front, reply, reply_by, moved_value, moved_by, moved, contents_of}
-use Rattle.lockstep_defs.specs.Lockstep.{numbered, requests_of, moves, answered, step_with, step_of, steps_in, state, state_at, history}
+use Rattle.lockstep_defs.specs.Channels.{can_take, front, reply, reply_by, moved_value, moved_by, moved, contents_of}
+use Rattle.lockstep_defs.specs.Lockstep.{numbered, requests_of, moves, answered, step_with, module_step, steps_in, state, state_at, history}
 use Rattle.lockstep_defs.proofs.{Settled.history-suc, Queue.moved-nil, Queue.moved-append, Queue.moved-step}
 use Rattle.timing_bridge.proofs.Requests.{stand}
 
@@ -21,7 +21,7 @@ nobody_moves p c cs i = refl
 
 -- what module m moves at a side of channel f in clock c
 abbrev pub share : Plan → ℕ → List (List Element) → Side → ℕ → ℕ × ModuleState → List ℕ
-share p c cs side f m = moved side f (step_of p c cs m)
+share p c cs side f m = moved side f (module_step p c cs m)
 
 pub share_moves : (p : Plan) (c : ℕ) (cs : List (List Element)) (side : Side) (f : ℕ) (m : ℕ × ModuleState) → moves p c cs m ≡ true
     → share p c cs side f m ≡ moved_by side f (map (answered p c cs) (requests_of p m))
@@ -48,7 +48,7 @@ none_by : (p : Plan) (c : ℕ) (cs : List (List Element)) (side : Side) (f i : �
 unfolding reply
 none_by p c cs side f i never r h false e = refl
 none_by p c cs side f i never r h true e =
-    moves_nothing r.kind r.channel r.value (is_possible p c cs (side_of r.kind) r.channel) (front (contents_of cs r.channel)) side
+    moves_nothing r.kind r.channel r.value (can_take p c cs (side_of r.kind) r.channel) (front (contents_of cs r.channel)) side
     (never r h (eqb-true r.channel f e))
 
 none_moved : (p : Plan) (c : ℕ) (cs : List (List Element)) (side : Side) (f i : ℕ) → StandsElsewhere p side f i → (rs : List Request)
@@ -97,10 +97,10 @@ only_one {X} {Y} g r d none past n (x ∷ xs) =
     ]
 
 moved_shares : (p : Plan) (c : ℕ) (cs : List (List Element)) (side : Side) (f : ℕ) (ms : List (ℕ × ModuleState))
-    → moved side f (flat_map (step_of p c cs) ms) ≡ flat_map (share p c cs side f) ms
+    → moved side f (flat_map (module_step p c cs) ms) ≡ flat_map (share p c cs side f) ms
 moved_shares p c cs side f [] = moved-nil side f
 moved_shares p c cs side f (m ∷ ms) =
-    moved-append side f (step_of p c cs m) (flat_map (step_of p c cs) ms)
+    moved-append side f (module_step p c cs m) (flat_map (module_step p c cs) ms)
     ∙ ap (λ (l : List ℕ). share p c cs side f m ++ l) (moved_shares p c cs side f ms)
 
 -- in a clock a side of a channel is moved by its owner alone

@@ -12,7 +12,7 @@ use Rattle.lockstep_defs.proofs.Queue.{moved-nil, moved-append}
 use Rattle.event_timing.specs.{Machines.takes_in, Views.tally, Agreement.FlagsFit, Agreement.AreOwnMarks}
 use Rattle.event_timing.specs.Core.{Core, core_accesses, core_tally, core_values, replies_of, core_reply}
 use Rattle.event_timing.proofs.{OwnRuns.tally_0, OwnRuns.tally_more, Fronts.core_tally_is}
-use Rattle.timing_bridge.specs.{Designs.design, Designs.seen, Designs.told_all, CoreReports.core_step}
+use Rattle.timing_bridge.specs.{Designs.design, Designs.seen_request, Designs.told_all, CoreReports.core_step}
 use Rattle.flow_word.proofs.Ranges.{range_more}
 
 -- ---- one step
@@ -26,9 +26,10 @@ moves_one : (side : Side) (k : Kind) (q t : Bool) (channel v w : ℕ) → (is_bl
     ≡ length (cond t (moved_value side (record { request = record { kind = k; channel = channel; value = w }; reply = reply_by k q v })) [])
 moves_one side k q t channel v w h = grind arith
 
-moves_all : (values : ℕ → List ℕ) (before : ℕ → ℕ) (side : Side) (f : ℕ) (rs : List Request) (bs : List Bool) → FlagsFit (map seen rs) bs
-    → takes_in side f (map seen rs) (replies_of values before (map seen rs) bs)
-    ≡ length (moved_by side f (paired rs (told_all rs (replies_of values before (map seen rs) bs))))
+moves_all : (values : ℕ → List ℕ) (before : ℕ → ℕ) (side : Side) (f : ℕ) (rs : List Request) (bs : List Bool)
+    → FlagsFit (map seen_request rs) bs
+    → takes_in side f (map seen_request rs) (replies_of values before (map seen_request rs) bs)
+    ≡ length (moved_by side f (paired rs (told_all rs (replies_of values before (map seen_request rs) bs))))
 unfolding moved_by
 moves_all values before side f [] [] h = refl
 moves_all values before side f [] (b ∷ bs) h = absurd h

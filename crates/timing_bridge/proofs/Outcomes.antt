@@ -7,7 +7,7 @@ use Rattle.flow_word.specs.{declared.access.Kind.Kind, Kinds.side_of, Kinds.is_b
 use Rattle.flow_design.specs.{declared.plan.Plan.Plan, declared.state.Element.Element, declared.state.ModuleState.ModuleState}
 use Rattle.flow_design.specs.{declared.state.Request.Request, StaticRules.FitsEngine}
 use Rattle.lockstep_defs.specs.{Machine.is_yes, Report.steps_of, Report.queries, Report.outcomes}
-use Rattle.lockstep_defs.specs.Channels.{HistoryStep, Exchange, is_possible, reply, reply_by, front, contents_of}
+use Rattle.lockstep_defs.specs.Channels.{HistoryStep, Exchange, can_take, reply, reply_by, front, contents_of}
 use Rattle.lockstep_defs.specs.Lockstep.{requests_of, answered, steps_in, state, state_at, history}
 use Rattle.lockstep_defs.proofs.{Settled.history-suc, Agrees.steps_of-suc}
 use Rattle.event_timing.specs.{Machines.ready, Views.own, Enablers.candidate, Actions.MayAnswer, Actions.MayEarliest, Actions.new_flags}
@@ -15,27 +15,27 @@ use Rattle.event_timing.specs.Core.{Core, core_reply, core_accesses, has_query, 
 use Rattle.event_timing.specs.Agreement.{IsAgreed, IsStepAt, possible_all}
 use Rattle.event_timing.proofs.{Agreement.answer_found, Agreement.earliest_found, Answering.first_emitted, Candidate.candidate_done}
 use Rattle.event_timing.proofs.{Candidate.candidate_steps, Fronts.agrees, OwnRuns.rest_own, OwnRuns.follows, Standing.step_ready}
-use Rattle.timing_bridge.specs.{Designs.design, Designs.lockstep_run, Designs.seen, CoreReports.core_step, CoreReports.core_steps}
-use Rattle.timing_bridge.specs.Outcomes.{outcome_of, outcomes_by, first_requests, IsNextStep}
+use Rattle.timing_bridge.specs.{Designs.design, Designs.lockstep_run, Designs.seen_request, CoreReports.core_step, CoreReports.core_steps}
+use Rattle.timing_bridge.specs.Outcomes.{outcome_when, outcomes_by, first_requests, IsNextInHistory}
 use Rattle.timing_bridge.proofs.{Alike.Alike, Alike.alike, Steps.done_at, Steps.a_step, Steps.steps_are}
 use Rattle.timing_bridge.proofs.History.{plan_is_design, run_is_history}
 
 -- ---- outcomes by what is possible
 
-outcome_same : (k : Kind) (q : Bool) (v : ℕ) → is_yes (reply_by k q v) ≡ outcome_of k q
+outcome_same : (k : Kind) (q : Bool) (v : ℕ) → is_yes (reply_by k q v) ≡ outcome_when k q
 outcome_same k q v = grind arith
 
 -- the outcomes in a step of the history are those by what is possible in its clock
 outcomes_same : (p : Plan) (c : ℕ) (rs : List Request) → AllByRecursion (Alike p c) rs
     → map (λ x. is_yes x.reply) (queries (map (answered p c (state p c).contents) rs))
-    ≡ outcomes_by rs (possible_all (design p) (lockstep_run p) c (map seen rs))
+    ≡ outcomes_by rs (possible_all (design p) (lockstep_run p) c (map seen_request rs))
 unfolding reply
 outcomes_same p c [] h = refl
 outcomes_same p c (r ∷ rs) h =
     let cs = (state p c).contents in
     let rest = outcomes_same p c rs h.1 in
-    let q = is_possible p c cs (side_of r.kind) r.channel in
-    let same = outcome_same r.kind q (front (contents_of cs r.channel)) ∙ ap (outcome_of r.kind) (sym (h.0).possible) in
+    let q = can_take p c cs (side_of r.kind) r.channel in
+    let same = outcome_same r.kind q (front (contents_of cs r.channel)) ∙ ap (outcome_when r.kind) (sym (h.0).possible) in
     by_kind (is_blocking r.kind) (answered p c cs r) (queries (map (answered p c cs) rs)) _ _ same rest
   where
     by_kind : (blocks : Bool) (x : Exchange) (xs : List Exchange) (b : Bool) (bs : List Bool) → is_yes x.reply ≡ b
@@ -88,7 +88,8 @@ module _ (p : Plan) (fits : FitsEngine p) (limit : ℕ) (x : Core ModuleState) (
       (a_step p fits c i s.0)
 
   -- the next step is the one that the history does in this clock
-  pub next_step : (c later : ℕ) → IsStepAt (design p) (lockstep_run p) i (x.timed i) c → c < later → IsNextStep p x i later (done_at p c i)
+  pub next_step : (c later : ℕ) → IsStepAt (design p) (lockstep_run p) i (x.timed i) c → c < later
+      → IsNextInHistory p x i later (done_at p c i)
   next_step c later s l =
       let (more, e) = history_more p (suc c) (later - suc c) in
       let z : (later - suc c) + suc c ≡ later = omega arith in
@@ -111,11 +112,11 @@ module _ (p : Plan) (fits : FitsEngine p) (limit : ℕ) (x : Core ModuleState) (
       append-nil _
       ∙ (outcomes_same p c (requests_of p (i, state_at p c i)) (alike p fits c i (state_at p c i))
       ∙ ap (λ (t : ModuleState). outcomes_by (requests_of p (i, t))
-      (possible_all (design p) (lockstep_run p) c (map seen (requests_of p (i, t))))) (stands c s))
+      (possible_all (design p) (lockstep_run p) c (map seen_request (requests_of p (i, t))))) (stands c s))
 
   -- the verified outcomes of the first step without a cycle
   pub verified_outcomes : x.verified i (x.timed i) ≡ true → has_query (core_accesses (design p) x i (x.timed i)) ≡ true
-      → (s : HistoryStep) × IsNextStep p x i limit s × (outcomes (s ∷ []) ≡ outcomes_by (first_requests p x i) (x.flags i (x.timed i)))
+      → (s : HistoryStep) × IsNextInHistory p x i limit s × (outcomes (s ∷ []) ≡ outcomes_by (first_requests p x i) (x.flags i (x.timed i)))
   verified_outcomes v q =
       let (c, l, s) = g.time.first_happens i first v q in (
         done_at p c i,
@@ -137,7 +138,8 @@ module _ (p : Plan) (fits : FitsEngine p) (limit : ℕ) (x : Core ModuleState) (
       )
 
   -- the step of a determined candidate
-  pub determined_step : candidate (design p) (view (design p) x) i ≡ Some c → (s : HistoryStep) × (s.clock ≡ c) × IsNextStep p x i (suc c) s
+  pub determined_step : candidate (design p) (view (design p) x) i ≡ Some c
+      → (s : HistoryStep) × (s.clock ≡ c) × IsNextInHistory p x i (suc c) s
   determined_step e = (
     done_at p c i,
     refl,
@@ -148,7 +150,7 @@ module _ (p : Plan) (fits : FitsEngine p) (limit : ℕ) (x : Core ModuleState) (
   -- what is found for its queries, by an Answer or by an Earliest
   found_outcomes : candidate (design p) (view (design p) x) i ≡ Some c → c < limit
       → new_flags (design p) x i c ≡ possible_all (design p) (lockstep_run p) c (core_accesses (design p) x i (x.timed i))
-      → (s : HistoryStep) × (s.clock ≡ c) × IsNextStep p x i limit s
+      → (s : HistoryStep) × (s.clock ≡ c) × IsNextInHistory p x i limit s
       × (outcomes (s ∷ []) ≡ outcomes_by (first_requests p x i) (new_flags (design p) x i c))
   found_outcomes e l f =
       let first = first_emitted (design p) x i c e in
@@ -161,14 +163,14 @@ module _ (p : Plan) (fits : FitsEngine p) (limit : ℕ) (x : Core ModuleState) (
       )
 
   pub answered_outcomes : MayAnswer (design p) limit x i c
-      → (s : HistoryStep) × (s.clock ≡ c) × IsNextStep p x i limit s
+      → (s : HistoryStep) × (s.clock ≡ c) × IsNextInHistory p x i limit s
       × (outcomes (s ∷ []) ≡ outcomes_by (first_requests p x i) (new_flags (design p) x i c))
   answered_outcomes r =
       found_outcomes r.determined.at r.determined.below
       (answer_found (design p) (lockstep_run p) (plan_is_design p fits) (run_is_history p fits) limit x g i c r)
 
   pub earliest_outcomes : MayEarliest (design p) limit x i c
-      → (s : HistoryStep) × (s.clock ≡ c) × IsNextStep p x i limit s
+      → (s : HistoryStep) × (s.clock ≡ c) × IsNextInHistory p x i limit s
       × (outcomes (s ∷ []) ≡ outcomes_by (first_requests p x i) (new_flags (design p) x i c))
   earliest_outcomes r =
       found_outcomes r.open_step.determined.at r.open_step.determined.below

@@ -9,7 +9,7 @@ use Rattle.lockstep_defs.specs.{Machine.move, Machine.opened, Machine.nobody, Ma
 use Rattle.lockstep_defs.specs.{OwnRun.own_next, Quiet.is_some_request, Quiet.rests, Quiet.quiet, Quiet.fits}
 use Rattle.lockstep_defs.specs.Lockstep.{no_module, module_at, requests_of}
 use Rattle.lockstep_defs.proofs.Agrees.{own_suc, next_grows}
-use Rattle.event_timing.specs.{Machines.skip, Machines.ready, Views.own, Core.Core, Core.core_reply, Agreement.AreOwnMarks}
+use Rattle.event_timing.specs.{Machines.after_skip, Machines.ready, Views.own, Core.Core, Core.core_reply, Agreement.AreOwnMarks}
 use Rattle.event_timing.proofs.OwnRuns.{own_0, own_more}
 use Rattle.timing_bridge.specs.Designs.{design, told_all, move_in}
 use Rattle.timing_bridge.specs.OwnRuns.{AreTold, core_replies, clocks_of_steps, IsOwnStep, AreOwnSteps, HasComeTo}
@@ -22,9 +22,9 @@ steps_more : (p : Plan) (i : ℕ) (r : ℕ → List theory.Reply) (k n : ℕ) (s
 steps_more p i r k n [] s e h one = let z : k ≡ n = omega arith in (subst (λ (j : ℕ). IsOwnStep p i r j s) (sym z) one, tt)
 steps_more p i r k n (x ∷ ss) s e h one = (h.0, steps_more p i r (suc k) n ss s (omega arith) h.1 one)
 
-skip_fits : (p : Plan) → FitsEngine p → (i n : ℕ) (s : ModuleState) → fits p i s ≡ true → fits p i (skip (design p) i n s) ≡ true
+skip_fits : (p : Plan) → FitsEngine p → (i n : ℕ) (s : ModuleState) → fits p i s ≡ true → fits p i (after_skip (design p) i n s) ≡ true
 skip_fits p h i zero s f = f
-skip_fits p h i (suc n) s f = next_fits p h i (skip (design p) i n s) [] (skip_fits p h i n s f)
+skip_fits p h i (suc n) s f = next_fits p h i (after_skip (design p) i n s) [] (skip_fits p h i n s f)
 
 -- every state of an own run is one that the module comes to
 own_fits : (p : Plan) → FitsEngine p → (i : ℕ) (r : ℕ → List theory.Reply) (k : ℕ) → fits p i (own (design p) i r k) ≡ true
@@ -36,11 +36,11 @@ own_fits p h i r (suc k) =
 
 -- ---- where it rests, the quiet clocks are over
 
-at_rest : (p : Plan) (i n : ℕ) (s : ModuleState) → n ≤ quiet p i s → rests p i (skip (design p) i n s) ≡ true → n ≡ quiet p i s
+at_rest : (p : Plan) (i n : ℕ) (s : ModuleState) → n ≤ quiet p i s → rests p i (after_skip (design p) i n s) ≡ true → n ≡ quiet p i s
 at_rest p i n s l e = grind (arith, goes p i s n)
 
 not_at_rest : (p : Plan) → FitsEngine p → (i n : ℕ) (s : ModuleState) → fits p i s ≡ true → n ≤ quiet p i s
-    → rests p i (skip (design p) i n s) ≡ false → n < quiet p i s
+    → rests p i (after_skip (design p) i n s) ≡ false → n < quiet p i s
 not_at_rest p h i n s f l e = grind (arith, ready_rests p h i s f)
 
 -- ---- one local clock
@@ -69,7 +69,7 @@ one_more p h i r replies tells o t g lives (x ∷ rs) e l =
     let s = own (design p) i r k in
     let some : rests p i o.state ≡ true = or_right (is_over p.ops o.state) _ (ap is_some_request e) in
     let at = at_rest p i t s g.within (subst (λ (z : ModuleState). rests p i z ≡ true) g.state_is some) in
-    let here : o.state ≡ ready (design p) i s = g.state_is ∙ ap (λ (n : ℕ). skip (design p) i n s) at in
+    let here : o.state ≡ ready (design p) i s = g.state_is ∙ ap (λ (n : ℕ). after_skip (design p) i n s) at in
     let step : OwnStep = record { gap = o.since; requests = x ∷ rs; replies = get_or replies k [] } in
     let since = g.since_is in
     let one : IsOwnStep p i r k step = record {
@@ -99,8 +99,8 @@ next_is p h i r replies tells o t g l =
 -- ---- the whole run
 
 first_is : (p : Plan) → (i : ℕ) → i < length p.design.modules → (r : ℕ → List theory.Reply) (replies : List (List Reply))
-    → HasComeTo p i r (real.own p i replies 0) 0
-unfolding real.own
+    → HasComeTo p i r (real.own_run p i replies 0) 0
+unfolding real.own_run
 first_is p i inside r replies = record {
   steps_are = tt;
   state_is = sym (own_0 (design p) i r ∙ get_or-map opened p.design.modules i no_module nobody inside);
@@ -110,10 +110,10 @@ first_is p i inside r replies = record {
 
 pub own_is : (p : Plan) → FitsEngine p → (i : ℕ) → i < length p.design.modules → (r : ℕ → List theory.Reply) (replies : List (List Reply))
     → AreTold p i r replies → (n : ℕ)
-    → length (real.own p i replies n).steps ≤ length replies → (clocks : ℕ) × HasComeTo p i r (real.own p i replies n) clocks
+    → length (real.own_run p i replies n).steps ≤ length replies → (clocks : ℕ) × HasComeTo p i r (real.own_run p i replies n) clocks
 own_is p h i inside r replies tells zero l = (0, first_is p i inside r replies)
 own_is p h i inside r replies tells (suc n) l =
-    let o = real.own p i replies n in
+    let o = real.own_run p i replies n in
     let more : length (own_next p i replies o).steps ≤ length replies =
     subst (λ (z : Own). length z.steps ≤ length replies) (own_suc p i replies n) l in
     let (t, g) = own_is p h i inside r replies tells n (omega (arith, next_grows p i replies o)) in

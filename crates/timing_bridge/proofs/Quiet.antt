@@ -6,8 +6,8 @@ use Rattle.flow_design.specs.declared.state.ModuleState.{ModuleState}
 use Rattle.lockstep_defs.specs.{Machine.opened, Machine.move, Machine.nobody, Machine.is_over, Lockstep.no_module, Lockstep.module_at}
 use Rattle.lockstep_defs.specs.{Lockstep.requests_of, Quiet.is_some_request, Quiet.rests, Quiet.quiet, Quiet.fits}
 use Rattle.lockstep_defs.proofs.Resting.{fits_opened, fits_move, quiet_goes, quiet_rests}
-use Rattle.event_timing.specs.Machines.{skip, ready, is_some_access}
-use Rattle.timing_bridge.specs.Designs.{design, seen, told_all, accesses_in, move_in}
+use Rattle.event_timing.specs.Machines.{after_skip, ready, is_some_access}
+use Rattle.timing_bridge.specs.Designs.{design, seen_request, told_all, due_accesses, move_in}
 use Rattle.lockstep_defs.specs.Quiet as real
 use Rattle.event_timing.specs.Machines as theory
 
@@ -17,29 +17,30 @@ pub told_none : (rs : List Request) → told_all rs [] ≡ []
 told_none [] = refl
 told_none (r ∷ rs) = refl
 
-pub skip_same : (p : Plan) (i n : ℕ) (s : ModuleState) → skip (design p) i n s ≡ real.skip p i n s
+pub skip_same : (p : Plan) (i n : ℕ) (s : ModuleState) → after_skip (design p) i n s ≡ real.skip p i n s
 skip_same p i zero s = refl
 skip_same p i (suc n) s =
-    ap (λ (replies : List Reply). move (module_at p i) (skip (design p) i n s) replies)
-    (told_none (requests_of p (i, skip (design p) i n s)))
+    ap (λ (replies : List Reply). move (module_at p i) (after_skip (design p) i n s) replies)
+    (told_none (requests_of p (i, after_skip (design p) i n s)))
     ∙ ap (λ (t : ModuleState). move (module_at p i) t []) (skip_same p i n s)
 
 -- where a request is, an access is
-pub asks_same : (rs : List Request) → is_some_access (map seen rs) ≡ is_some_request rs
+pub asks_same : (rs : List Request) → is_some_access (map seen_request rs) ≡ is_some_request rs
 asks_same rs = grind arith
 
-none_asked : (rs : List Request) → is_some_request rs ≡ false → map seen rs ≡ []
+none_asked : (rs : List Request) → is_some_request rs ≡ false → map seen_request rs ≡ []
 none_asked rs h = grind arith
 
-pub goes : (p : Plan) (i : ℕ) (s : ModuleState) (n : ℕ) → n < quiet p i s → rests p i (skip (design p) i n s) ≡ false
+pub goes : (p : Plan) (i : ℕ) (s : ModuleState) (n : ℕ) → n < quiet p i s → rests p i (after_skip (design p) i n s) ≡ false
 goes p i s n l = ap (rests p i) (skip_same p i n s) ∙ quiet_goes p i s n l
 
-pub quiet_lives : (p : Plan) (i : ℕ) (s : ModuleState) (n : ℕ) → n < quiet p i s → is_over p.ops (skip (design p) i n s) ≡ false
-quiet_lives p i s n l = (or_parts (is_over p.ops (skip (design p) i n s)) _ (goes p i s n l)).0
+pub quiet_lives : (p : Plan) (i : ℕ) (s : ModuleState) (n : ℕ) → n < quiet p i s → is_over p.ops (after_skip (design p) i n s) ≡ false
+quiet_lives p i s n l = (or_parts (is_over p.ops (after_skip (design p) i n s)) _ (goes p i s n l)).0
 
-pub quiet_idle : (p : Plan) (i : ℕ) (s : ModuleState) (n : ℕ) → n < quiet p i s → accesses_in p i (skip (design p) i n s) ≡ []
+pub quiet_idle : (p : Plan) (i : ℕ) (s : ModuleState) (n : ℕ) → n < quiet p i s → due_accesses p i (after_skip (design p) i n s) ≡ []
 quiet_idle p i s n l =
-    none_asked (requests_of p (i, skip (design p) i n s)) (or_parts (is_over p.ops (skip (design p) i n s)) _ (goes p i s n l)).1
+    none_asked (requests_of p (i, after_skip (design p) i n s))
+    (or_parts (is_over p.ops (after_skip (design p) i n s)) _ (goes p i s n l)).1
 
 pub ready_rests : (p : Plan) → FitsEngine p → (i : ℕ) (s : ModuleState) → fits p i s ≡ true → rests p i (ready (design p) i s) ≡ true
 ready_rests p h i s f = ap (rests p i) (skip_same p i (quiet p i s) s) ∙ quiet_rests p h i s f
@@ -48,7 +49,7 @@ pub second_of : (a b : Bool) → (a || b) ≡ true → a ≡ false → b ≡ tru
 second_of a b h e = grind arith
 
 pub quiet_ends : (p : Plan) → FitsEngine p → (i : ℕ) (s : ModuleState) → fits p i s ≡ true → is_over p.ops (ready (design p) i s) ≡ false
-    → is_some_access (accesses_in p i (ready (design p) i s)) ≡ true
+    → is_some_access (due_accesses p i (ready (design p) i s)) ≡ true
 quiet_ends p h i s f e =
     asks_same (requests_of p (i, ready (design p) i s)) ∙ second_of (is_over p.ops (ready (design p) i s)) _ (ready_rests p h i s f) e
 

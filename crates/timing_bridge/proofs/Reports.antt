@@ -7,13 +7,13 @@ use Rattle.std.specs.{Prelude.nat_lt, Prelude.is_some, List.filter_map, List.ran
 use Rattle.flow_design.specs.{declared.plan.Plan.Plan, declared.report.Verdict.Verdict, declared.report.Verdict.TheVariants.Cycles}
 use Rattle.flow_design.specs.{declared.state.ModuleState.ModuleState, StaticRules.FitsEngine, Reports.clock_of}
 use Rattle.lockstep_defs.specs.{Machine.nobody, Channels.HistoryStep, Lockstep.state, Lockstep.history}
-use Rattle.lockstep_defs.specs.Verdict.{settled_verdict, verdict, held_in, held}
+use Rattle.lockstep_defs.specs.Verdict.{settled_verdict, verdict, held_modules, held}
 use Rattle.lockstep_defs.specs.Report.{steps_of, outcomes, events_of, answers_in, report_at, report}
 use Rattle.event_timing.specs.{Steps.done, Views.own, Views.from, Enablers.candidate, Core.Core, Core.core_reply, Core.view}
 use Rattle.event_timing.specs.{Actions.IsFinal, Agreement.IsAgreed, Agreement.IsUndetermined, Agreement.stop}
 use Rattle.event_timing.proofs.{OwnRuns.own_0, Verdict.done_last, FinalReport.done_limit}
 use Rattle.timing_bridge.specs.Designs.{design, lockstep_run}
-use Rattle.timing_bridge.specs.CoreReports.{core_steps, AreInOrder, modules_of, core_states, last_stop, is_determined, core_verdict}
+use Rattle.timing_bridge.specs.CoreReports.{core_steps, AreInOrder, modules_of, core_states, last_stop, determines_some, core_verdict}
 use Rattle.timing_bridge.specs.CoreReports.{core_held_by, core_held, core_report}
 use Rattle.timing_bridge.proofs.{Quiet.nobody_quiet, Quiet.opening_past, Quiet.second_of, History.plan_is_design, History.run_is_history}
 use Rattle.timing_bridge.proofs.{Steps.all_steps, Steps.events_are, Settling.last_states, Settling.held_all, Settling.outputs_are}
@@ -66,7 +66,7 @@ report_rested p h x g f u last top m e l ss o =
     by_verdict v is (clock_settled p last (core_states p x)) all (held_all p h p.cycles x g f u last top)
   where
     by_verdict : (v : Verdict) → verdict p ≡ v → clock_of v ≡ last → ((i : ℕ) → done (design p) (lockstep_run p) i last ≡ x.timed i)
-        → held_in p last (state p last) ≡ filter_map (core_held_by p x) (modules_of p) → report p ≡ core_report p x ss v
+        → held_modules p last (state p last) ≡ filter_map (core_held_by p x) (modules_of p) → report p ≡ core_report p x ss v
     by_verdict v is k all q =
         report_from p h p.cycles x g ss o v is (λ i. ap (done (design p) (lockstep_run p) i) k ∙ all i) (grind arith)
 
@@ -112,7 +112,7 @@ determined_by : (p : Plan) (x : Core ModuleState) (a n : ℕ)
 determined_by p x a zero h = cc
 determined_by p x a (suc n) h = grind (arith, determined_by p x (a + 1) n)
 
-undetermined : (p : Plan) (x : Core ModuleState) → IsAgreed (design p) (lockstep_run p) p.cycles x → is_determined p x ≡ false
+undetermined : (p : Plan) (x : Core ModuleState) → IsAgreed (design p) (lockstep_run p) p.cycles x → determines_some p x ≡ false
     → IsUndetermined (design p) x
 undetermined p x g t m c k =
     let n : ℕ = length p.design.modules in
@@ -141,14 +141,14 @@ every_report p h x g f ss o =
       | inr l ↦ let z = stop_beyond p p.cycles x g i l in omega arith
     ] in
     let there = stop_there p x count count outer in
-    cond_both (is_determined p x || nat_lt p.cycles last) (Cycles p.cycles) (settled_verdict p last (core_states p x))
+    cond_both (determines_some p x || nat_lt p.cycles last) (Cycles p.cycles) (settled_verdict p last (core_states p x))
     (λ (v : Verdict). report p ≡ core_report p x ss v)
-    (λ e. elim (cases_Bool (is_determined p x)) [
+    (λ e. elim (cases_Bool (determines_some p x)) [
       | inl t ↦ let (m, c, k) = determined_by p x 0 count t in report_cut p h x g f (final_cut p h x g f m c k) ss o
       | inr t ↦
-          let above = ltb-true p.cycles last (second_of (is_determined p x) (nat_lt p.cycles last) e t) in
+          let above = ltb-true p.cycles last (second_of (determines_some p x) (nat_lt p.cycles last) e t) in
           report_cut p h x g f (final_late p h x g f (undetermined p x g t) there.0 (let q = there.1 in omega arith)) ss o
     ])
     (λ e.
-    let parts = or_parts (is_determined p x) (nat_lt p.cycles last) e in
+    let parts = or_parts (determines_some p x) (nat_lt p.cycles last) e in
     report_rested p h x g f (undetermined p x g parts.0) last top there.0 there.1 (ltb-false p.cycles last parts.1) ss o)

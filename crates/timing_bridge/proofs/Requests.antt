@@ -16,7 +16,7 @@ use Rattle.lockstep_defs.specs.{Machine.requests, Machine.request_for, Lockstep.
 use Rattle.lockstep_defs.specs.{Ports.owner, Ports.is_taker, Ports.has_port, Ports.StandsAtPort, States.IsDueIn}
 use Rattle.lockstep_defs.proofs.{Once.takers_once, Rules.keeps_ports, Standing.due_in_range, Standing.requests_stand}
 use Rattle.event_timing.specs.Machines.{Each, takes_at, takers}
-use Rattle.timing_bridge.specs.Designs.{seen, accesses_in, is_source}
+use Rattle.timing_bridge.specs.Designs.{seen_request, due_accesses, is_source}
 use Rattle.lockstep_defs.specs.Ports as ports
 use Rattle.event_timing.specs.Machines as theory
 
@@ -45,13 +45,13 @@ stand p h i s = elim (cases_lt i (length p.design.modules)) [
       (sym (nothing_asked p s (module_at p i) (get_or_past p.design.modules i no_module l))) tt
 ]
 
-each_seen : (P : Request → Type 0) (Q : theory.Access → Type 0) → ((r : Request) → P r → Q (seen r)) → (rs : List Request)
-    → AllByRecursion P rs → Each Q (map seen rs)
+each_seen : (P : Request → Type 0) (Q : theory.Access → Type 0) → ((r : Request) → P r → Q (seen_request r)) → (rs : List Request)
+    → AllByRecursion P rs → Each Q (map seen_request rs)
 each_seen P Q f [] h = tt
 each_seen P Q f (r ∷ rs) h = (f r h.0, each_seen P Q f rs h.1)
 
 pub owned_in : (p : Plan) → FitsEngine p → (i : ℕ) (s : ModuleState)
-    → Each (λ a. owner p (record { side = a.side; channel = a.channel }) ≡ i) (accesses_in p i s)
+    → Each (λ a. owner p (record { side = a.side; channel = a.channel }) ≡ i) (due_accesses p i s)
 owned_in p h i s = each_seen (StandsAtPort p i) _ (λ r e. e.owned) (requests_of p (i, s)) (stand p h i s)
 
 not_source : (k : ChannelKind) (side : Side) → has_port k side ≡ true → (same_side (other_side side) Pop && is_source k) ≡ false
@@ -63,7 +63,7 @@ not_source (Fifo declared delay) Pop h = refl
 not_source (Fifo declared delay) Push h = refl
 
 pub open_in : (p : Plan) → FitsEngine p → (i : ℕ) (s : ModuleState)
-    → Each (λ a. (same_side (other_side a.side) Pop && is_source (kind_at p a.channel)) ≡ false) (accesses_in p i s)
+    → Each (λ a. (same_side (other_side a.side) Pop && is_source (kind_at p a.channel)) ≡ false) (due_accesses p i s)
 open_in p h i s = each_seen (StandsAtPort p i) _ (λ r e. not_source (kind_at p r.channel) (side_of r.kind) e.is_there)
     (requests_of p (i, s)) (stand p h i s)
 
@@ -96,12 +96,12 @@ count_more true r rs = omega arith
 count_more false r rs = omega arith
 
 takers_same : (side : Side) (f : ℕ) (rs : List Request)
-    → takers side f (map seen rs) ≡ length (ports.takers (record { side = side; channel = f }) rs)
+    → takers side f (map seen_request rs) ≡ length (ports.taking_requests (record { side = side; channel = f }) rs)
 takers_same side f [] = refl
 takers_same side f (r ∷ rs) =
     ap₂ (λ (b : Bool) (n : ℕ). cond b 1 0 + n) (taker_same side f r.kind r.channel) (takers_same side f rs)
-    ∙ count_more (is_taker (record { side = side; channel = f }) r) r (ports.takers (record { side = side; channel = f }) rs)
+    ∙ count_more (is_taker (record { side = side; channel = f }) r) r (ports.taking_requests (record { side = side; channel = f }) rs)
 
-pub one_taker : (p : Plan) → FitsEngine p → (side : Side) (i : ℕ) (s : ModuleState) (f : ℕ) → takers side f (accesses_in p i s) ≤ 1
+pub one_taker : (p : Plan) → FitsEngine p → (side : Side) (i : ℕ) (s : ModuleState) (f : ℕ) → takers side f (due_accesses p i s) ≤ 1
 one_taker p h side i s f =
     omega (arith, takers_same side f (requests_of p (i, s)), takers_once p (keeps_ports p h) (record { side = side; channel = f }) i s)

@@ -14,7 +14,7 @@ use Rattle.flow_design.specs.{Plans.is_sink, Plans.kind_at, StaticRules.FitsEngi
 use Rattle.lockstep_defs.specs.{Machine.nobody, Machine.is_over, Report.sinks, Report.outputs_in, Ports.owner, Ports.has_port, Laws.all_in}
 use Rattle.lockstep_defs.specs.Channels.{stalls, all_ready, moved, values, contents_of}
 use Rattle.lockstep_defs.specs.Lockstep.{requests_of, steps_in, state, state_at, history}
-use Rattle.lockstep_defs.specs.Verdict.{held_at, held_by, held_in}
+use Rattle.lockstep_defs.specs.Verdict.{held_at, held_by, held_modules}
 use Rattle.lockstep_defs.proofs.Settled.{history-zero, history-suc, settled_stays, same_stalls, late_stalls, latest_all}
 use Rattle.lockstep_defs.proofs.Queue.{moved-nil, moved-append, contents_are, channel_count}
 use Rattle.lockstep_defs.proofs.{Rules.keeps_ports, Agrees.all_modules}
@@ -23,7 +23,7 @@ use Rattle.event_timing.specs.Enablers.{Known, From, Never, Unknown, answer, kno
 use Rattle.event_timing.specs.Agreement.{IsAgreed, IsUndetermined, stop}
 use Rattle.event_timing.proofs.{Standing.late_ready, Candidate.since_first, Candidate.rest_first, Agreement.stuck_ended, Verdict.done_last}
 use Rattle.event_timing.proofs.{Verdict.rests, Fronts.agrees, FinalReport.held_right, FinalReport.outputs_right}
-use Rattle.timing_bridge.specs.Designs.{design, lockstep_run, seen}
+use Rattle.timing_bridge.specs.Designs.{design, lockstep_run, seen_request}
 use Rattle.timing_bridge.specs.CoreReports.{modules_of, core_state, is_from, is_stuck, core_held_by, sink_values}
 use Rattle.timing_bridge.proofs.{Alike.Alike, Alike.alike, Verdicts.settled_from, History.plan_is_design, History.run_is_history}
 use Rattle.timing_bridge.proofs.Moved.{StandsElsewhere, none_shared, moved_in}
@@ -74,7 +74,7 @@ latest_known Unknown = 0
 
 abbrev latest_asked : Plan → Core ModuleState → ℕ → List Request → ℕ
 latest_asked p x i [] = 0
-latest_asked p x i (r ∷ rs) = max (latest_known (known_of (design p) (view (design p) x) i (seen r))) (latest_asked p x i rs)
+latest_asked p x i (r ∷ rs) = max (latest_known (known_of (design p) (view (design p) x) i (seen_request r))) (latest_asked p x i rs)
 
 late_answer : (k : Known) (c : ℕ) → latest_known k ≤ c → answer k c ≡ is_from k
 late_answer k c l = grind (arith, nat_tests)
@@ -82,12 +82,12 @@ late_answer k c l = grind (arith, nat_tests)
 -- late enough a request stalls where the core does not know from when on it is possible
 stalls_alike : (p : Plan) (x : Core ModuleState) (c i : ℕ) (rs : List Request) → latest_asked p x i rs ≤ c → AllByRecursion (Alike p c) rs
     → Each (λ a. counted.is_possible (design p) (lockstep_run p) c a.side a.channel
-    ≡ answer (known_of (design p) (view (design p) x) i a) c) (map seen rs)
+    ≡ answer (known_of (design p) (view (design p) x) i a) c) (map seen_request rs)
     → AllByRecursion (λ r. stalls p c (state p c).contents r ≡ is_stuck p x i r) rs
 stalls_alike p x c i [] late h e = tt
 stalls_alike p x c i (r ∷ rs) late h e = (
   ap (λ (b : Bool). is_blocking r.kind && not b)
-      (sym (h.0).possible ∙ (e.0 ∙ late_answer (known_of (design p) (view (design p) x) i (seen r)) c (omega arith))),
+      (sym (h.0).possible ∙ (e.0 ∙ late_answer (known_of (design p) (view (design p) x) i (seen_request r)) c (omega arith))),
   stalls_alike p x c i rs (omega arith) h.1 e.1,
 )
 
@@ -152,7 +152,7 @@ by_number F G n (s ∷ ss) h =
 
 pub held_all : (p : Plan) → FitsEngine p → (limit : ℕ) (x : Core ModuleState) → IsAgreed (design p) (lockstep_run p) limit x
     → IsFinal (design p) limit x → IsUndetermined (design p) x → (c : ℕ) → ((i : ℕ) → stop (design p) x i ≤ c)
-    → held_in p c (state p c) ≡ filter_map (core_held_by p x) (modules_of p)
+    → held_modules p c (state p c) ≡ filter_map (core_held_by p x) (modules_of p)
 held_all p h limit x g f u c top =
     by_number (held_by p c (all_ready (state p c).contents)) (core_held_by p x) 0 (state p c).modules
     (λ j l.

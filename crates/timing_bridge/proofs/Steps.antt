@@ -7,14 +7,14 @@ use Rattle.std.specs.List.{range_with_len, AllByRecursion}
 use Rattle.flow_design.specs.{declared.plan.Plan.Plan, declared.state.Element.Element, declared.state.ModuleState.ModuleState}
 use Rattle.flow_design.specs.{declared.state.Request.Request, StaticRules.FitsEngine}
 use Rattle.lockstep_defs.specs.{Channels.HistoryStep, Channels.Exchange, Report.steps_of, OwnRun.paired}
-use Rattle.lockstep_defs.specs.Lockstep.{requests_of, moves, answered, step_with, step_of, state, state_at, history}
+use Rattle.lockstep_defs.specs.Lockstep.{requests_of, moves, answered, step_with, module_step, state, state_at, history}
 use Rattle.lockstep_defs.proofs.{Settled.history-zero, Order.only_history, Order.history_numbers}
 use Rattle.lockstep_defs.proofs.Agrees.{steps_of-suc, paired_answered}
 use Rattle.event_timing.specs.{Machines.is_some_access, Machines.ready, Histories.replies, Steps.steps, Steps.done, Views.own, Core.Core}
 use Rattle.event_timing.specs.{Core.core_reply, Core.view, Agreement.IsAgreed}
 use Rattle.event_timing.proofs.{Steps.done_more, Steps.done_same, Steps.same_clock, Steps.done_mono, OwnRuns.rest_own, OwnRuns.follows}
 use Rattle.event_timing.proofs.{OwnRuns.done_0, Standing.step_ready, Standing.steps_moves, Standing.steps_some, Fronts.agrees}
-use Rattle.timing_bridge.specs.Designs.{design, lockstep_run, seen, told_all}
+use Rattle.timing_bridge.specs.Designs.{design, lockstep_run, seen_request, told_all}
 use Rattle.timing_bridge.specs.CoreReports.{core_step, core_steps, AreInOrder}
 use Rattle.timing_bridge.proofs.History.{plan_is_design, run_is_history, moves_same, replies_same}
 use Rattle.flow_word.proofs.Ranges.{range_more}
@@ -26,29 +26,30 @@ use Rattle.event_timing.specs.Histories as counted
 abbrev pub done_at : Plan → ℕ → ℕ → HistoryStep
 done_at p c i = record { clock = c; «module» = i; exchanges = map (answered p c (state p c).contents) (requests_of p (i, state_at p c i)) }
 
-step_some : (c i : ℕ) (p : Plan) (cs : List (List Element)) (rs : List Request) → is_some_access (map seen rs) ≡ true
+step_some : (c i : ℕ) (p : Plan) (cs : List (List Element)) (rs : List Request) → is_some_access (map seen_request rs) ≡ true
     → step_with c i (map (answered p c cs) rs) ≡ record { clock = c; «module» = i; exchanges = map (answered p c cs) rs } ∷ []
 step_some c i p cs [] h = cc
 step_some c i p cs (r ∷ rs) h = refl
 
-step_none : (c i : ℕ) (p : Plan) (cs : List (List Element)) (rs : List Request) → is_some_access (map seen rs) ≡ false
+step_none : (c i : ℕ) (p : Plan) (cs : List (List Element)) (rs : List Request) → is_some_access (map seen_request rs) ≡ false
     → step_with c i (map (answered p c cs) rs) ≡ []
 step_none c i p cs [] h = refl
 step_none c i p cs (r ∷ rs) h = cc
 
 steps_parts : (p : Plan) (c i : ℕ) → steps (design p) (lockstep_run p) c i ≡ false
-    → (counted.moves (design p) (lockstep_run p) c i ≡ false) ⊎ (is_some_access (map seen (requests_of p (i, state_at p c i))) ≡ false)
+    → (counted.can_move (design p) (lockstep_run p) c i ≡ false)
+    ⊎ (is_some_access (map seen_request (requests_of p (i, state_at p c i))) ≡ false)
 unfolding steps
 steps_parts p c i h = grind arith
 
 no_step : (p : Plan) → FitsEngine p → (c i : ℕ) → steps (design p) (lockstep_run p) c i ≡ false
-    → step_of p c (state p c).contents (i, state_at p c i) ≡ []
+    → module_step p c (state p c).contents (i, state_at p c i) ≡ []
 no_step p h c i s =
     let asked = requests_of p (i, state_at p c i) in
     grind (arith, steps_parts p c i s, moves_same p h c i, step_none c i p (state p c).contents asked)
 
 pub a_step : (p : Plan) → FitsEngine p → (c i : ℕ) → steps (design p) (lockstep_run p) c i ≡ true
-    → step_of p c (state p c).contents (i, state_at p c i) ≡ done_at p c i ∷ []
+    → module_step p c (state p c).contents (i, state_at p c i) ≡ done_at p c i ∷ []
 a_step p h c i s =
     let cs = (state p c).contents in
     let xs = map (answered p c cs) (requests_of p (i, state_at p c i)) in
@@ -97,7 +98,8 @@ steps_are p h limit x g i inside (suc c) l =
     let less : n ≤ x.timed i = omega (arith, done_mono d w i c (suc c) (omega arith)) in
     let before = map (core_step p x i) (range_with_len 0 n) in
     steps_of-suc p c i inside
-    ∙ (ap (λ (l : List HistoryStep). l ++ step_of p c (state p c).contents (i, state_at p c i)) (steps_are p h limit x g i inside c less)
+    ∙ (ap (λ (l : List HistoryStep). l ++ module_step p c (state p c).contents (i, state_at p c i))
+    (steps_are p h limit x g i inside c less)
     ∙ elim (cases_Bool (steps d w c i)) [
       | inl s ↦
           let up = done_more d w i c s in

@@ -36,7 +36,7 @@ each_false test n (x ∷ xs) h (suc k) l =
 
 -- ---- settled clocks
 
-none_moves : (p : Plan) → FitsEngine p → (c : ℕ) → ((i : ℕ) → counted.moves (design p) (lockstep_run p) c i ≡ false)
+none_moves : (p : Plan) → FitsEngine p → (c : ℕ) → ((i : ℕ) → counted.can_move (design p) (lockstep_run p) c i ≡ false)
     → some_moves p c (state p c).contents (state p c) ≡ false
 none_moves p h c f =
     let st = state p c in
@@ -48,7 +48,7 @@ pub settled_from : (p : Plan) → FitsEngine p → (c : ℕ) → IsAtRest (desig
 settled_from p h c rest = rests_settled p c (λ k. none_moves p h (k + c) (λ i. rest (k + c) (omega arith) i))
 
 settled_gives : (p : Plan) → FitsEngine p → (c : ℕ) → is_settled p c (state p c) ≡ true → (i : ℕ)
-    → counted.moves (design p) (lockstep_run p) c i ≡ false
+    → counted.can_move (design p) (lockstep_run p) c i ≡ false
 settled_gives p h c s i =
     let st = state p c in
     moves_same p h c i
@@ -59,7 +59,7 @@ settled_gives p h c s i =
     ]
 
 -- a clock in which a module moves, and all before it, are not settled
-unsettled : (p : Plan) → FitsEngine p → (c i : ℕ) → counted.moves (design p) (lockstep_run p) c i ≡ true → (e : ℕ) → e ≤ c
+unsettled : (p : Plan) → FitsEngine p → (c i : ℕ) → counted.can_move (design p) (lockstep_run p) c i ≡ true → (e : ℕ) → e ≤ c
     → is_settled p e (state p e) ≡ false
 unsettled p h c i m e l =
     let k : (c - e) + e ≡ c = omega arith in

@@ -13,7 +13,7 @@ use Rattle.lockstep_defs.specs.Report.{steps_of, outcomes, events_of, sinks}
 use Rattle.event_timing.specs.{Machines.ready, Views.own, Views.pushed_in, Agreement.stop}
 use Rattle.event_timing.specs.Enablers.{Known, From, Never, Unknown, known_of, candidate}
 use Rattle.event_timing.specs.Core.{Core, core_reply, core_accesses, bare_replies, view}
-use Rattle.timing_bridge.specs.Designs.{design, seen, told_all}
+use Rattle.timing_bridge.specs.Designs.{design, seen_request, told_all}
 
 -- ---- steps
 
@@ -68,14 +68,14 @@ last_stop p x zero = 0
 last_stop p x (suc n) = max (stop (design p) x n) (last_stop p x n)
 
 -- the core determines some module's first step without a cycle
-abbrev pub is_determined : Plan → Core ModuleState → Bool
-is_determined p x = list_any (λ i. is_some (candidate (design p) (view (design p) x) i)) (modules_of p)
+abbrev pub determines_some : Plan → Core ModuleState → Bool
+determines_some p x = list_any (λ i. is_some (candidate (design p) (view (design p) x) i)) (modules_of p)
 
 -- the verdict that a final core tells: the cycle limit where a step is determined or a stop is above the limit, and else what the
 -- states at the last stop say
 unfoldable pub core_verdict : Plan → Core ModuleState → Verdict
 core_verdict p x =
-    if is_determined p x || nat_lt p.cycles (last_stop p x (length p.design.modules)) then Cycles p.cycles
+    if determines_some p x || nat_lt p.cycles (last_stop p x (length p.design.modules)) then Cycles p.cycles
     else settled_verdict p (last_stop p x (length p.design.modules)) (core_states p x)
 
 -- ---- held modules
@@ -88,7 +88,7 @@ is_from Unknown = false
 
 -- the request holds module i: it blocks, and the core does not know from when on it is possible
 abbrev pub is_stuck : Plan → Core ModuleState → ℕ → Request → Bool
-is_stuck p x i r = is_blocking r.kind && not (is_from (known_of (design p) (view (design p) x) i (seen r)))
+is_stuck p x i r = is_blocking r.kind && not (is_from (known_of (design p) (view (design p) x) i (seen_request r)))
 
 abbrev pub core_held_by : Plan → Core ModuleState → ℕ → Option Held
 core_held_by p x i =

@@ -15,8 +15,8 @@ use Rattle.event_timing.specs.Machines as theory
 -- ---- requests and replies
 
 -- a request as an access of the theory
-abbrev pub seen : Request → theory.Access
-seen r = record {
+abbrev pub seen_request : Request → theory.Access
+seen_request r = record {
   side = side_of r.kind;
   blocks = is_blocking r.kind;
   takes = is_taking r.kind;
@@ -35,8 +35,8 @@ told_all (r ∷ rs) (a ∷ replies) = told r a ∷ told_all rs replies
 
 -- ---- the design
 
-abbrev pub accesses_in : Plan → ℕ → ModuleState → List theory.Access
-accesses_in p i s = map seen (requests_of p (i, s))
+abbrev pub due_accesses : Plan → ℕ → ModuleState → List theory.Access
+due_accesses p i s = map seen_request (requests_of p (i, s))
 
 abbrev pub move_in : Plan → ℕ → ModuleState → List theory.Reply → ModuleState
 move_in p i s replies = move (module_at p i) s (told_all (requests_of p (i, s)) replies)
@@ -60,7 +60,7 @@ abbrev pub design : Plan → Design ModuleState
 design p = record {
   modules = length p.design.modules;
   opening = λ i. slice_index_or (map opened p.design.modules) i nobody;
-  accesses = accesses_in p;
+  accesses = due_accesses p;
   move = move_in p;
   is_over = λ i s. is_over p.ops s;
   quiet = quiet p;

@@ -3,7 +3,7 @@ use Rattle.std.specs.Prelude.{◌≡◌, ℕ, zero, suc, ◌+◌, ◌<◌, ◌�
 use Rattle.std.specs.List.{range_with_len}
 use Rattle.flow_design.specs.{declared.plan.Plan.Plan, declared.state.ModuleState.ModuleState, declared.state.Reply.Reply}
 use Rattle.lockstep_defs.specs.{Lockstep.requests_of, OwnRun.OwnStep, OwnRun.Own, Quiet.quiet}
-use Rattle.event_timing.specs.{Machines.skip, Machines.ready, Views.own, Core.Core, Core.core_reply}
+use Rattle.event_timing.specs.{Machines.after_skip, Machines.ready, Views.own, Core.Core, Core.core_reply}
 use Rattle.event_timing.specs.Machines as theory
 use Rattle.timing_bridge.specs.Designs.{design, told_all}
 
@@ -39,6 +39,6 @@ AreOwnSteps p i r k (s ∷ ss) = IsOwnStep p i r k s × AreOwnSteps p i r (suc k
 -- an own run is `clocks` quiet clocks after its latest step
 pub record HasComeTo (p : Plan) (i : ℕ) (r : ℕ → List theory.Reply) (o : Own) (clocks : ℕ) : Type 0 where
   pub steps_are : AreOwnSteps p i r 0 o.steps
-  pub state_is : o.state ≡ skip (design p) i clocks (own (design p) i r (length o.steps))
+  pub state_is : o.state ≡ after_skip (design p) i clocks (own (design p) i r (length o.steps))
   pub since_is : o.since ≡ clocks_of_steps (length o.steps) + clocks
   pub within : clocks ≤ quiet p i (own (design p) i r (length o.steps))

@@ -1,19 +1,11 @@
 -- Legal histories of turns as a relation: what each turn is, as actions of the core.
 use Rattle.std.specs.Prelude.{◌≡◌, ℕ, ◌<◌, ◌≤◌, ◌⊎◌, ⊤, false, List, [], ◌∷◌, length, None, Some}
 use Rattle.event_timing.specs.{Machines.Design, Core.Core}
-use Rattle.event_timing.specs.Actions.{Action, ActsAll, MayRun, MayAssign, MayAnswer, MayEarliest, IsOpen, runs}
+use Rattle.event_timing.specs.Actions.{Action, ActsAll, MayRun, MayAssign, MayAnswer, MayEarliest, IsOpen, runs, AreTimings}
 use Rattle.event_timing.specs.Actions.Action.{Run, Assign, Answer, Earliest}
 use Rattle.timing_bridge.specs.declared.turn.HubTurn.{HubTurn}
 use Rattle.timing_bridge.specs.declared.turn.HubTurn.TheVariants.{Lent, Ran, Timed, Short}
 use Rattle.timing_bridge.specs.Turned.{Turned, lent_at, after_lent, after_ran, after_timed, after_short}
-
--- each of these actions is an Assign or an Answer
-abbrev pub AreTimings : List Action → Type 0
-AreTimings [] = ⊤
-AreTimings (Run m ∷ rest) = ⊥
-AreTimings (Assign m ∷ rest) = AreTimings rest
-AreTimings (Answer m ∷ rest) = AreTimings rest
-AreTimings (Earliest m ∷ rest) = ⊥
 
 -- no Assign and no Answer of any module is permitted
 pub record NoTiming {S : Type 0} (d : Design S) (limit : ℕ) (x : Core S) : Type 0 where

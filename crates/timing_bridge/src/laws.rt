@@ -4,7 +4,7 @@ ghost use Rattle.std.specs.List.{range_with_len};
 ghost use Rattle.flow_word.specs.declared.access.Side.{Side};
 ghost use Rattle.flow_design.specs.{declared.plan.Edit.Edit, declared.plan.Plan.Plan, declared.state.ModuleState.ModuleState};
 ghost use Rattle.flow_design.specs.{declared.state.Reply.Reply, Plans.with_depth, Plans.EditFits, StaticRules.FitsEngine, Reports.clock_of};
-ghost use Rattle.lockstep_defs.specs.{Channels.HistoryStep, Channels.moved, Lockstep.history, Verdict.verdict, OwnRun.own};
+ghost use Rattle.lockstep_defs.specs.{Channels.HistoryStep, Channels.moved, Lockstep.history, Verdict.verdict, OwnRun.own_run};
 ghost use Rattle.lockstep_defs.specs.Report.{report, steps_of, outcomes};
 ghost use Rattle.event_timing.specs.{Machines.IsDesign, Histories.IsHistory, Steps.done, Enablers.candidate, Agreement.AreOwnMarks};
 ghost use Rattle.event_timing.specs.{Agreement.IsAgreed, Agreement.IsBounded, Edits.edited, Edits.after_edit, Edits.IsUntouchedByCycles};
@@ -12,7 +12,7 @@ ghost use Rattle.event_timing.specs.Core.{Core, opening_core, core_accesses, cor
 ghost use Rattle.event_timing.specs.Actions.{Action, ActsAll, MayAnswer, MayEarliest, IsFinal, new_flags};
 ghost use Rattle.event_timing.specs.Machines as theory;
 ghost use Rattle.timing_bridge.specs.{Designs.design, Designs.lockstep_run, OwnRuns.AreTold, OwnRuns.HasComeTo, OwnRuns.core_replies};
-ghost use Rattle.timing_bridge.specs.Outcomes.{outcomes_by, first_requests, IsNextStep};
+ghost use Rattle.timing_bridge.specs.Outcomes.{outcomes_by, first_requests, IsNextInHistory};
 ghost use Rattle.timing_bridge.specs.CoreReports.{core_step, core_report, core_verdict, AreInOrder, AreSorted, steps_at};
 
 /// The plan's modules are machines of the theory, its lockstep run obeys the laws of counting, and no module's own run has more
@@ -29,7 +29,7 @@ pub fn plans_are_designs()
 pub fn own_runs_are_the_same()
     ensures same { (p : Plan) → FitsEngine p → (i : ℕ) → i < length p.design.modules
         → (r : ℕ → List theory.Reply) (replies : List (List Reply)) → AreTold p i r replies
-        → (n : ℕ) → length (own p i replies n).steps ≤ length replies → (clocks : ℕ) × HasComeTo p i r (own p i replies n) clocks }
+        → (n : ℕ) → length (own_run p i replies n).steps ≤ length replies → (clocks : ℕ) × HasComeTo p i r (own_run p i replies n) clocks }
     ensures told { (p : Plan) (x : Core ModuleState) → AreOwnMarks (design p) x → (i n : ℕ) → n ≤ x.emitted i
         → AreTold p i (core_reply (design p) x i) (core_replies p x i n) }
 {}
@@ -52,16 +52,18 @@ pub fn cores_show_history()
 /// or an Earliest finds, and those that are recorded and verified.
 pub fn outcomes_are_history()
     ensures determined { (p : Plan) → FitsEngine p → (limit : ℕ) (x : Core ModuleState) → IsAgreed (design p) (lockstep_run p) limit x
-        → (i c : ℕ) → candidate (design p) (view (design p) x) i ≡ Some c → (s : HistoryStep) × (s.clock ≡ c) × IsNextStep p x i (suc c) s }
+        → (i c : ℕ) → candidate (design p) (view (design p) x) i ≡ Some c
+        → (s : HistoryStep) × (s.clock ≡ c) × IsNextInHistory p x i (suc c) s }
     ensures answered { (p : Plan) → FitsEngine p → (limit : ℕ) (x : Core ModuleState) → IsAgreed (design p) (lockstep_run p) limit x
-        → (i c : ℕ) → MayAnswer (design p) limit x i c → (s : HistoryStep) × (s.clock ≡ c) × IsNextStep p x i limit s
+        → (i c : ℕ) → MayAnswer (design p) limit x i c → (s : HistoryStep) × (s.clock ≡ c) × IsNextInHistory p x i limit s
         × (outcomes (s ∷ []) ≡ outcomes_by (first_requests p x i) (new_flags (design p) x i c)) }
     ensures earliest { (p : Plan) → FitsEngine p → (limit : ℕ) (x : Core ModuleState) → IsAgreed (design p) (lockstep_run p) limit x
-        → (i c : ℕ) → MayEarliest (design p) limit x i c → (s : HistoryStep) × (s.clock ≡ c) × IsNextStep p x i limit s
+        → (i c : ℕ) → MayEarliest (design p) limit x i c → (s : HistoryStep) × (s.clock ≡ c) × IsNextInHistory p x i limit s
         × (outcomes (s ∷ []) ≡ outcomes_by (first_requests p x i) (new_flags (design p) x i c)) }
     ensures verified { (p : Plan) → FitsEngine p → (limit : ℕ) (x : Core ModuleState) → IsAgreed (design p) (lockstep_run p) limit x
         → (i : ℕ) → x.timed i < x.emitted i → x.verified i (x.timed i) ≡ true → has_query (core_accesses (design p) x i (x.timed i)) ≡ true
-        → (s : HistoryStep) × IsNextStep p x i limit s × (outcomes (s ∷ []) ≡ outcomes_by (first_requests p x i) (x.flags i (x.timed i))) }
+        → (s : HistoryStep) × IsNextInHistory p x i limit s
+        × (outcomes (s ∷ []) ≡ outcomes_by (first_requests p x i) (x.flags i (x.timed i))) }
 {}
 
 /// The theory's count of a module's pops, or pushes, of a channel before its step `k` is how many elements its earlier steps moved

@@ -3,9 +3,10 @@ use Rattle.std.proofs.Common.{◌≡◌, refl, sym, ◌∙◌, ap, ℕ, ◌+◌,
 use Rattle.std.proofs.Common.{append_assoc}
 use Rattle.std.proofs.{lemmas.List.get_or_default, lemmas.List.map-append, lemmas.List.Concat.flat_map-append}
 use Rattle.std.specs.{Prelude.codes, List.flat_map, List.join_with_byte}
-use Rattle.flow_design.specs.{declared.design.Design.Design, declared.plan.Plan.Plan, declared.report.Verdict.Verdict, Reports.clock_of}
+use Rattle.flow_design.specs.{declared.design.Design.Design, declared.plan.Plan.Plan, Reports.clock_of, Names.Token}
+use Rattle.flow_design.specs.declared.report.Verdict.{Verdict}
 use Rattle.lockstep_defs.specs.{Channels.HistoryStep, Lockstep.history, Report.report, Verdict.verdict}
-use Rattle.report_text.specs.Lines.{Token, line, text_of_lines, verdict_tokens}
+use Rattle.report_text.specs.Lines.{line, text_of_lines, verdict_tokens}
 use Rattle.report_text.proofs.LineLemmas.{line_of_four, lines_more, text-append}
 use Rattle.sim_core.specs.{declared.access_log.LoggedAccess.LoggedAccess, AccessLog.log_of, AccessLog.logged, AccessLog.logged_in}
 use Rattle.trace_text.specs.LogText.{access_tokens, log_text}

@@ -7,7 +7,7 @@ use Rattle.flow_design.specs.{declared.plan.Plan.Plan, declared.state.Advance.Ad
 use Rattle.lockstep_defs.specs.{Channels.HistoryStep, Laws.HasNumbersOf, Report.report}
 use Rattle.timing_bridge.specs.{Designs.design, CoreReports.steps_at}
 use Rattle.engine_view.specs.Held.{Held, core_of}
-use Rattle.engine_report.specs.{declared.events.TimedStep.TimedStep, Finished.IsFinished, Keys.place_of, Keys.IsTimedKey}
+use Rattle.engine_report.specs.{declared.events.TimedStep.TimedStep, Finished.IsFinished, Keys.step_place, Keys.IsTimedKey}
 use Rattle.engine_report.specs.{declared.walk.StepWalk.StepWalk, Walking.IsWalk, Walking.HasGiven}
 use Rattle.report_text.specs.Lines.{text_of_lines}
 use Rattle.sim_core.specs.{declared.access_log.LoggedAccess.LoggedAccess, AccessLog.log_of, AccessLog.logged_at, AccessLog.logged_in}
@@ -19,7 +19,7 @@ use Rattle.trace_text.proofs.{LogLines.step_lines, LogLines.steps_more, LogLines
 
 -- what these keys stand for
 abbrev pub steps_by : Plan → Held → List TimedStep → List HistoryStep
-steps_by p h keys = steps_at p (core_of (design p) h) (map place_of keys)
+steps_by p h keys = steps_at p (core_of (design p) h) (map step_place keys)
 
 -- the lines of the steps that the walk has given are told
 pub record IsTelling (p : Plan) (h : Held) (walk : StepWalk) (old new : Option (List ℕ)) (pending first : List ℕ) : Type 0 where
@@ -30,8 +30,8 @@ pub record IsTelling (p : Plan) (h : Held) (walk : StepWalk) (old new : Option (
 steps_both : (p : Plan) (h : Held) (keys : List TimedStep) (key : TimedStep)
     → steps_by p h (keys ++ key ∷ []) ≡ steps_by p h keys ++ steps_by p h (key ∷ [])
 steps_both p h keys key =
-    ap (steps_at p (core_of (design p) h)) (map-append place_of keys (key ∷ []))
-    ∙ map-append _ (map place_of keys) (place_of key ∷ [])
+    ap (steps_at p (core_of (design p) h)) (map-append step_place keys (key ∷ []))
+    ∙ map-append _ (map step_place keys) (step_place key ∷ [])
 
 module _ (p : Plan) (h : Held) (ends : List (Option Advance)) (f : IsFinished p h ends) where
   -- what was read of a step is its part of the log

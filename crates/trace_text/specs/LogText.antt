@@ -1,9 +1,9 @@
 -- The log of a plan.
 use Rattle.std.specs.Prelude.{ℕ, ◌<◌, length, List, [], ◌∷◌, Option, None, Some, codes, decimal, map}
 use Rattle.std.specs.Int.{from_bool}
-use Rattle.flow_design.specs.{declared.design.Design.Design, declared.plan.Plan.Plan}
+use Rattle.flow_design.specs.{declared.design.Design.Design, declared.plan.Plan.Plan, Names.Token}
 use Rattle.lockstep_defs.specs.Report.{report}
-use Rattle.report_text.specs.Lines.{text_of_lines, Token, verdict_tokens}
+use Rattle.report_text.specs.Lines.{text_of_lines, verdict_tokens}
 use Rattle.report_text.specs.ReportText.{channel_name, kind_token, module_name}
 use Rattle.sim_core.specs.{declared.access_log.LoggedAccess.LoggedAccess, AccessLog.log_of}
 

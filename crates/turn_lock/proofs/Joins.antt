@@ -6,7 +6,7 @@ use mathlib.Core.List.{IsPrefix}
 use lib.ListN.{get_elem?}
 use Rattle.atomic_table.proofs.Lists.{at_longer, at_last}
 use Rattle.turn_lock.specs.{declared.view.View.View, declared.view.Joined.Joined, Entries.entries_of, Views.as_joined, Views.after_join}
-use Rattle.turn_lock.specs.Turns.{AllJoined, Shows, ShowsAll, ShowsEach, AreAllMade}
+use Rattle.turn_lock.specs.Turns.{AllJoined, ShowsJoined, ShowsAll, ShowsEach, AreAllMade}
 
 -- the first pass v, into which each of the passes was joined in turn
 abbrev pub after_joins : {E : Type 0} → View E → List (View E) → View E
@@ -57,7 +57,7 @@ module _ {E : Type 0} where
 
   -- the history begins with what the first pass had seen before the joins
   seen_before : (bearer : E → Option ℕ) (log : List E) (v : View E) (ws : List (View E))
-      → ((k : ℕ) (m : Joined E) → get_elem? (after_joins v ws).joined k ≡ some m → Shows bearer log m)
+      → ((k : ℕ) (m : Joined E) → get_elem? (after_joins v ws).joined k ≡ some m → ShowsJoined bearer log m)
       → IsPrefix (after_joins v ws).seen log → IsPrefix v.seen log
   seen_before bearer log v [] shows last = last
   seen_before bearer log v (x ∷ ws) shows last =

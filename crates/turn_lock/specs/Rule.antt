@@ -29,8 +29,8 @@ abbrev pub IsHome : {K E : Type 0} → (K → List E) → List (maybe.Option (Op
 IsHome {K} history homes log = (x : K) × (get_elem? homes 0 ≡ some (some (Some x))) × (history x ≡ log)
 
 -- the slot is lent to a seat, which alone knows what it has
-abbrev pub IsOut : {K : Type 0} → List (maybe.Option (Option K)) → Type 0
-IsOut homes = get_elem? homes 0 ≡ some none
+abbrev pub IsSlotOut : {K : Type 0} → List (maybe.Option (Option K)) → Type 0
+IsSlotOut homes = get_elem? homes 0 ≡ some none
 
 -- seat j holds the turn
 abbrev pub HasMark : {E : Type 0} → List (View E) → ℕ → Type 0
@@ -85,7 +85,7 @@ pub record Ruled {K E : Type 0} (history : K → List E) (bearer : E → Option 
   -- where the turn is free, the slot has the value
   pub free : turn_of s ≡ 0 → IsHome history s.homes story.history
   -- where the turn is taken, the slot is lent, and the holder's seat holds the turn
-  pub taken : turn_of s ≡ 1 → IsOut s.homes × HasMark s.views story.holder
+  pub taken : turn_of s ≡ 1 → IsSlotOut s.homes × HasMark s.views story.holder
   -- the rule for each pass that was not joined
   pub each : (j : ℕ) (v : View E) → get_elem? s.views j ≡ some v → v.spent ≡ false → Knows bearer passes story (turn_of s) j v
   -- the rule for each pass that was joined

@@ -42,7 +42,7 @@ abbrev pub AllJoined : {E : Type 0} → View E → Type 0
 AllJoined {E} v = (n : ℕ) → 0 < n → n ≤ v.made → (k : ℕ) × (m : Joined E) × (get_elem? v.joined k ≡ some m) × (m.number ≡ n)
 
 -- the history has the joined pass's own entries, and begins with what it and the first pass had seen
-pub record Shows {E : Type 0} (bearer : E → Option ℕ) (log : List E) (m : Joined E) : Type 0 where
+pub record ShowsJoined {E : Type 0} (bearer : E → Option ℕ) (log : List E) (m : Joined E) : Type 0 where
   pub own : entries_of bearer m.number log ≡ m.own
   pub seen : IsPrefix m.seen log
   pub before : IsPrefix m.before log
@@ -51,7 +51,7 @@ pub record Shows {E : Type 0} (bearer : E → Option ℕ) (log : List E) (m : Jo
 pub record ShowsAll {E : Type 0} (bearer : E → Option ℕ) (v : View E) (log : List E) : Type 0 where
   pub seen : IsPrefix v.seen log
   pub own : entries_of bearer 0 log ≡ v.own
-  pub joined : (k : ℕ) (m : Joined E) → get_elem? v.joined k ≡ some m → Shows bearer log m
+  pub joined : (k : ℕ) (m : Joined E) → get_elem? v.joined k ≡ some m → ShowsJoined bearer log m
   pub unborn : (n : ℕ) → v.made < n → n < v.passes → entries_of bearer n log ≡ []
 
 -- the history begins with what the pass has seen, and has the pass's own entries, each once and in their order

@@ -4,8 +4,8 @@ use Rattle.std.proofs.Common.{refl, sym, ◌∙◌, ap, ap₂, arith, get_or, ap
 use Rattle.std.proofs.lemmas.Bool.{eq-eqb, ne_eqb}
 use Rattle.std.proofs.lemmas.List.{append-nil, map-append, take_more, length-take, length-map}
 use Rattle.std.specs.{Prelude.codes, List.filter, List.flat_map, List.range_with_len, List.enumerate_from}
-use Rattle.flow_design.specs.{declared.design.Channel.Channel, Plans.is_fifo}
-use Rattle.report_text.specs.Lines.{Token, line, text_of_lines}
+use Rattle.flow_design.specs.{declared.design.Channel.Channel, Plans.is_fifo, Names.Token}
+use Rattle.report_text.specs.Lines.{line, text_of_lines}
 use Rattle.vcd_wave.specs.{declared.walk.FillChange.FillChange, Walks.change_of}
 use Rattle.vcd_wave.specs.Wave.{Change, Instant, fifo_names, differs, changes_between, instant_of, has_some}
 use Rattle.vcd_wave.specs.WaveText.{fifo_code, var_tokens, time_tokens, change_tokens, instant_lines, opening_instant, header_lines}

@@ -2,8 +2,8 @@
 use Rattle.std.proofs.Common.{◌≡◌, ℕ, ◌^◌, ◌<◌, List, [], ◌∷◌, ◌++◌, None, Some, length, refl, sym, ◌∙◌, ap, ap₂, arith, subst}
 use Rattle.std.proofs.Common.{length-append}
 use Rattle.vcd_wave.specs.{Wave.Change as WaveChange, Wave.Instant, Digits.numeral, declared.reading.Line.Line, declared.scan.Asked.Asked}
-use Rattle.vcd_wave.specs.{declared.scan.Scan.Scan, Scans.begun, Scans.Fits, Scans.step, Scans.ChangesLead, Scans.InstantsLead, Scans.Leads}
-use Rattle.vcd_wave.specs.declared.reading.Line.TheVariants.{Time, Change}
+use Rattle.vcd_wave.specs.{declared.scan.Scan.Scan, declared.reading.Line.TheVariants.Time, declared.reading.Line.TheVariants.Change}
+use Rattle.vcd_wave.specs.Scans.{begun, FitsReader, step, ChangesLead, InstantsLead, ScanLeads}
 use Rattle.vcd_wave.proofs.Numerals.{numeral_binary, numeral_decimal}
 use Rattle.vcd_wave.proofs.OneWave.{changes_text, instants_text, change_parts, instant_parts}
 
@@ -19,8 +19,8 @@ begun_change fifo fill cs r h =
     ap₂ (λ (b d : List ℕ). 98 ∷ (b ++ 32 ∷ 102 ∷ (d ++ 10 ∷ (changes_text cs ++ r)))) (numeral_binary fill) (numeral_decimal fifo h)
     ∙ sym (change_parts (record { fifo = fifo; fill = fill }) cs r)
 
-pub leads_more : (a : Asked) (s next : Scan) (l : Line) (text behind : List ℕ) (r : Scan) → text ≡ begun l behind → Fits l
-    → Some next ≡ step a s l → Leads a next behind r → Leads a s text r
+pub leads_more : (a : Asked) (s next : Scan) (l : Line) (text behind : List ℕ) (r : Scan) → text ≡ begun l behind → FitsReader l
+    → Some next ≡ step a s l → ScanLeads a next behind r → ScanLeads a s text r
 leads_more a s next (Time clock) text behind r e f st h = record {
   changes = [];
   later = record { clock = clock; changes = h.changes } ∷ h.later;
@@ -43,10 +43,10 @@ record First (a : Asked) (s : Scan) (text : List ℕ) (r : Scan) : Type 0 where
   line : Line
   rest : List ℕ
   next : Scan
-  fits : Fits line
+  fits : FitsReader line
   is_text : text ≡ begun line rest
   steps : step a s line ≡ Some next
-  leads : Leads a next rest r
+  leads : ScanLeads a next rest r
 
 first_from : (a : Asked) (s : Scan) (text : List ℕ) (r : Scan) (cs : List WaveChange) (is : List Instant) (middle : Scan)
     → (text ≡ [] → ⊥) → text ≡ changes_text cs ++ instants_text is → ChangesLead a s cs middle → InstantsLead a middle is r
@@ -71,34 +71,34 @@ first_from a s text r (c ∷ cs) is middle some e h i = record {
   leads = record { changes = cs; later = is; middle = middle; is_text = refl; now = h.4; onward = i };
 }
 
-first_is : (a : Asked) (s : Scan) (text : List ℕ) (r : Scan) → (text ≡ [] → ⊥) → Leads a s text r → First a s text r
+first_is : (a : Asked) (s : Scan) (text : List ℕ) (r : Scan) → (text ≡ [] → ⊥) → ScanLeads a s text r → First a s text r
 first_is a s text r some h = first_from a s text r h.changes h.later h.middle some h.is_text h.now h.onward
 
 pub no_line : (a : Asked) (s : Scan) (text : List ℕ) (r : Scan) → (text ≡ [] → ⊥)
-    → ((l : Line) (rest : List ℕ) → Fits l → text ≡ begun l rest → ⊥) → Leads a s text r → ⊥
+    → ((l : Line) (rest : List ℕ) → FitsReader l → text ≡ begun l rest → ⊥) → ScanLeads a s text r → ⊥
 no_line a s text r some none h = let f = first_is a s text r some h in none f.line f.rest f.fits f.is_text
 
 some_scan : (s t : Scan) → Some s ≡ Some t → s ≡ t
 some_scan s t e = cc
 
 pub no_step : (a : Asked) (s : Scan) (text behind : List ℕ) (line : Line) (r : Scan) → (text ≡ [] → ⊥)
-    → ((l : Line) (rest : List ℕ) → Fits l → text ≡ begun l rest → (line ≡ l) × (behind ≡ rest)) → None ≡ step a s line
-    → Leads a s text r → ⊥
+    → ((l : Line) (rest : List ℕ) → FitsReader l → text ≡ begun l rest → (line ≡ l) × (behind ≡ rest)) → None ≡ step a s line
+    → ScanLeads a s text r → ⊥
 no_step a s text behind line r some same none h =
     let f = first_is a s text r some h in
     let wrong : None ≡ Some f.next =
     none ∙ (ap (step a s) (same f.line f.rest f.fits f.is_text).0 ∙ f.steps) in cc
 
 pub leads_on : (a : Asked) (s next : Scan) (text behind : List ℕ) (line : Line) (r : Scan) → (text ≡ [] → ⊥)
-    → ((l : Line) (rest : List ℕ) → Fits l → text ≡ begun l rest → (line ≡ l) × (behind ≡ rest)) → Some next ≡ step a s line
-    → Leads a s text r → Leads a next behind r
+    → ((l : Line) (rest : List ℕ) → FitsReader l → text ≡ begun l rest → (line ≡ l) × (behind ≡ rest)) → Some next ≡ step a s line
+    → ScanLeads a s text r → ScanLeads a next behind r
 leads_on a s next text behind line r some same steps h =
     let f = first_is a s text r some h in
     let both = same f.line f.rest f.fits f.is_text in
     let here : next ≡ f.next = some_scan next f.next (steps ∙ (ap (step a s) both.0 ∙ f.steps)) in
-    subst (λ (t : Scan). Leads a t behind r) (sym here) (subst (λ (t : List ℕ). Leads a f.next t r) (sym both.1) f.leads)
+    subst (λ (t : Scan). ScanLeads a t behind r) (sym here) (subst (λ (t : List ℕ). ScanLeads a f.next t r) (sym both.1) f.leads)
 
-pub no_more : (a : Asked) (s : Scan) (text : List ℕ) → text ≡ [] → Leads a s text s
+pub no_more : (a : Asked) (s : Scan) (text : List ℕ) → text ≡ [] → ScanLeads a s text s
 no_more a s text e = record { changes = []; later = []; middle = s; is_text = e; now = refl; onward = refl }
 
 pub shorter : (l : Line) (text behind : List ℕ) → text ≡ begun l behind → length behind < length text

@@ -4,9 +4,9 @@ use Rattle.std.proofs.Common.{subst}
 use Rattle.std.proofs.{lemmas.List.Elements.recursion_from_All, lemmas.List.Elements.All-from_recursion, lemmas.Fmt.decimal_digit}
 use Rattle.std.specs.{Prelude.IsTrue, Prelude.codes, List.All, List.AllByRecursion, List.AllPairs, List.range_with_len}
 use Rattle.flow_design.specs.Names.{is_name}
-use Rattle.vcd_wave.specs.{Wave.Change, Wave.Instant, Wave.Wave, Told.IsChange, Told.TellsFill, Told.Varies, Told.told_in, Told.told_fill}
-use Rattle.vcd_wave.specs.{Told.last_or, Headers.Headed, Headers.empty_from, Headers.empty_text, declared.scan.Asked.Asked}
-use Rattle.vcd_wave.specs.{declared.scan.Scan.Scan, Scans.ChangesLead, Scans.InstantsLead, Scans.Leads, Scans.LeadsFor, Scans.opening_scan}
+use Rattle.vcd_wave.specs.{Wave.Change, Wave.Instant, Wave.Wave, declared.scan.Asked.Asked, declared.scan.Scan.Scan, Told.IsChange}
+use Rattle.vcd_wave.specs.{Told.TellsFill, Told.Varies, Told.told_in, Told.told_fill, Told.last_or, Headers.Headed, Headers.empty_from}
+use Rattle.vcd_wave.specs.{Headers.empty_text, Scans.ChangesLead, Scans.InstantsLead, Scans.ScanLeads, Scans.LeadsFor, Scans.opening_scan}
 use Rattle.vcd_wave.proofs.OneWave.{changes_text, instants_text, opening_text, vars_from, scope, end_of_scope, wave_parts, names_long}
 use Rattle.vcd_wave.proofs.OneWave.{instants_same, IsTimed, IsWritten, both, timed}
 use Rattle.vcd_wave.proofs.Orders.{changes_told, InstantsTold, instants_told, instants_go}
@@ -31,7 +31,7 @@ opened_from a text r middle [] is e c i = record {
 opened_from a text r middle (x ∷ cs) is e c i =
     let t = changes_told a (opening_scan a.count) (x ∷ cs) middle c in absurd (omega (arith, t.low.0, t.is.0.declared))
 
-opened : (a : Asked) (text : List ℕ) (r : Scan) → Leads a (opening_scan a.count) text r → Opened a text r
+opened : (a : Asked) (text : List ℕ) (r : Scan) → ScanLeads a (opening_scan a.count) text r → Opened a text r
 opened a text r h = opened_from a text r h.middle h.changes h.later h.is_text h.now h.onward
 
 timed_by : (a : Asked) (text : List ℕ) (r : Scan) (o : Opened a text r) → a.count < 2 ^ 64 → AllByRecursion IsTimed o.later
@@ -50,7 +50,7 @@ opening_is n =
     ap₂ (λ (d : List ℕ) (cs : List Change). ((35 ∷ d) ++ 10 ∷ []) ++ changes_text cs) (decimal_digit 0 (omega arith)) (sym (empties 0 n))
 
 pub tells : (text : List ℕ) (a : Asked) (rest : List ℕ) (r : Scan) → a.count < 2 ^ 64 → a.fifo < a.count → Headed text a.count rest
-    → ((f : ℕ) → f < a.count → LeadsFor a f rest) → Leads a (opening_scan a.count) rest r → a.clock ≤ r.clock
+    → ((f : ℕ) → f < a.count → LeadsFor a f rest) → ScanLeads a (opening_scan a.count) rest r → a.clock ≤ r.clock
     → TellsFill text a.fifo a.clock r.told
 unfolding told_fill
 tells text a rest r few declared hd all h le =
@@ -95,7 +95,7 @@ pub record Back (text : List ℕ) (i c : ℕ) : Type 0 where
   pub headed : Headed text count rest
   pub declared : i < count
   pub leads : (f : ℕ) → f < count → LeadsFor (record { count = count; fifo = i; clock = c }) f rest
-  pub last : (r : Scan) → Leads (record { count = count; fifo = i; clock = c }) (opening_scan count) rest r → c ≤ r.clock
+  pub last : (r : Scan) → ScanLeads (record { count = count; fifo = i; clock = c }) (opening_scan count) rest r → c ≤ r.clock
 
 pub back : (text : List ℕ) (i c v : ℕ) → length text < 2 ^ 64 → TellsFill text i c v → Back text i c
 back text i c v small h =
@@ -136,7 +136,7 @@ back text i c v small h =
 pub record Found (i c count : ℕ) (rest : List ℕ) : Type 0 where
   pub declared : i < count
   pub leads : (f : ℕ) → f < count → LeadsFor (record { count = count; fifo = i; clock = c }) f rest
-  pub last : (r : Scan) → Leads (record { count = count; fifo = i; clock = c }) (opening_scan count) rest r → c ≤ r.clock
+  pub last : (r : Scan) → ScanLeads (record { count = count; fifo = i; clock = c }) (opening_scan count) rest r → c ≤ r.clock
 
 -- what was read is what stands there
 pub found : (text : List ℕ) (i c count : ℕ) (later : List ℕ) (b : Back text i c) → (count ≡ b.count) × (later ≡ b.rest)

@@ -13,9 +13,9 @@ begun (Time clock) rest = 35 ∷ (numeral 10 clock ++ 10 ∷ rest)
 begun (Change fifo fill) rest = 98 ∷ (numeral 2 fill ++ 32 ∷ 102 ∷ (numeral 10 fifo ++ 10 ∷ rest))
 
 -- the numbers of a line are such as a reader takes
-abbrev pub Fits : Line → Type 0
-Fits (Time clock) = clock < 2 ^ 64
-Fits (Change fifo fill) = (fifo < 2 ^ 64) × (fill < 2 ^ 32)
+abbrev pub FitsReader : Line → Type 0
+FitsReader (Time clock) = clock < 2 ^ 64
+FitsReader (Change fifo fill) = (fifo < 2 ^ 64) × (fill < 2 ^ 32)
 
 -- the state after a change in the present clock; none where it is not in order
 abbrev pub change_step : Asked → Scan → ℕ → ℕ → Option Scan
@@ -52,7 +52,7 @@ InstantsLead a s (i ∷ is) r =
     × InstantsLead a middle is r
 
 -- the text is that of changes and later clocks which lead from the first state to the second
-pub record Leads (a : Asked) (s : Scan) (text : List ℕ) (r : Scan) : Type 0 where
+pub record ScanLeads (a : Asked) (s : Scan) (text : List ℕ) (r : Scan) : Type 0 where
   pub changes : List WaveChange
   pub later : List Instant
   pub middle : Scan
@@ -67,4 +67,4 @@ opening_scan count = record { clock = 0; next = count; some = true; fill = 0; to
 -- the text is that of lines in order, for this FIFO
 abbrev pub LeadsFor : Asked → ℕ → List ℕ → Type 0
 LeadsFor a fifo text =
-    (r : Scan) × Leads (record { count = a.count; fifo = fifo; clock = a.clock }) (opening_scan a.count) text r
+    (r : Scan) × ScanLeads (record { count = a.count; fifo = fifo; clock = a.clock }) (opening_scan a.count) text r

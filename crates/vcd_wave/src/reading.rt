@@ -1,6 +1,6 @@
 //! Reading the lines of a wave after its header.
 ghost use Rattle.std.specs.Prelude.{◌≡◌, ℕ, ◌<◌, ◌^◌, List, ◌∷◌, ◌++◌, IfSome, MatchOption};
-ghost use Rattle.vcd_wave.specs.{Digits.numeral, Scans.begun, Scans.Fits, declared.reading.Line.Line as Shown};
+ghost use Rattle.vcd_wave.specs.{Digits.numeral, Scans.begun, Scans.FitsReader, declared.reading.Line.Line as Shown};
 
 use crate::numbers::number_before;
 
@@ -33,8 +33,8 @@ fn code_in(code: &[u8]) -> Option<(u64, &[u8])>
 }
 
 fn time_in(digits: &[u8]) -> Option<(Line, &[u8])>
-    ensures some { IfSome result (λ first. (35 ∷ digits.now ≡ begun first.0 first.1.now) × Fits first.0) }
-    ensures all { (l : Shown) (rest : List ℕ) → Fits l → 35 ∷ digits.now ≡ begun l rest
+    ensures some { IfSome result (λ first. (35 ∷ digits.now ≡ begun first.0 first.1.now) × FitsReader first.0) }
+    ensures all { (l : Shown) (rest : List ℕ) → FitsReader l → 35 ∷ digits.now ≡ begun l rest
         → MatchOption result ⊥ (λ first. (first.0 ≡ l) × (first.1.now ≡ rest)) }
 {
     let (clock, behind) = decimal_line(digits)?;
@@ -42,8 +42,8 @@ fn time_in(digits: &[u8]) -> Option<(Line, &[u8])>
 }
 
 fn change_in(bits: &[u8]) -> Option<(Line, &[u8])>
-    ensures some { IfSome result (λ first. (98 ∷ bits.now ≡ begun first.0 first.1.now) × Fits first.0) }
-    ensures all { (l : Shown) (rest : List ℕ) → Fits l → 98 ∷ bits.now ≡ begun l rest
+    ensures some { IfSome result (λ first. (98 ∷ bits.now ≡ begun first.0 first.1.now) × FitsReader first.0) }
+    ensures all { (l : Shown) (rest : List ℕ) → FitsReader l → 98 ∷ bits.now ≡ begun l rest
         → MatchOption result ⊥ (λ first. (first.0 ≡ l) × (first.1.now ≡ rest)) }
 {
     let (fill, code) = number_before(2, 0xffff_ffff, b' ', bits)?;
@@ -53,8 +53,8 @@ fn change_in(bits: &[u8]) -> Option<(Line, &[u8])>
 
 /// The first line of a text, and the text after it. `None` where it is no line of a wave.
 pub fn first_line(text: &[u8]) -> Option<(Line, &[u8])>
-    ensures some { IfSome result (λ first. (text.now ≡ begun first.0 first.1.now) × Fits first.0) }
-    ensures all { (l : Shown) (rest : List ℕ) → Fits l → text.now ≡ begun l rest
+    ensures some { IfSome result (λ first. (text.now ≡ begun first.0 first.1.now) × FitsReader first.0) }
+    ensures all { (l : Shown) (rest : List ℕ) → FitsReader l → text.now ≡ begun l rest
         → MatchOption result ⊥ (λ first. (first.0 ≡ l) × (first.1.now ≡ rest)) }
 {
     match text {

@@ -1,7 +1,7 @@
 //! The clocks and changes of a wave, read in order, for one FIFO.
 ghost use Rattle.std.specs.Prelude.{◌≡◌, IfSome, IsSome};
 ghost use Rattle.vcd_wave.specs.declared.scan.Scan.{Scan as State};
-ghost use Rattle.vcd_wave.specs.Scans.{step, change_step, time_step, opening_scan, Leads};
+ghost use Rattle.vcd_wave.specs.Scans.{step, change_step, time_step, opening_scan, ScanLeads};
 
 use crate::reading::{Line, first_line};
 
@@ -79,8 +79,8 @@ fn step(asked: Asked, scan: Scan, line: Line) -> Option<Scan>
 
 /// What all lines of a text say. `None` where they are not in order.
 pub fn scan_lines(asked: Asked, text: &[u8]) -> Option<Scan>
-    ensures some { IfSome result (Leads asked (opening_scan asked.count) text.now) }
-    ensures all { (r : State) → Leads asked (opening_scan asked.count) text.now r → IsSome result }
+    ensures some { IfSome result (ScanLeads asked (opening_scan asked.count) text.now) }
+    ensures all { (r : State) → ScanLeads asked (opening_scan asked.count) text.now r → IsSome result }
 {
     let mut scan = Scan {
         clock: 0,

@@ -13,7 +13,7 @@ use Rattle.cli_words.specs.{declared.Command.Command, declared.Asked.Asked}
 use Rattle.cli_words.specs.declared.Command.TheVariants.{Of, Gen}
 use Rattle.whole_answer.specs.{declared.answer.Answer.Answer, Made.refused_words, Made.refused, Made.made, Made.generated}
 use Rattle.whole_answer.specs.{Answer.AnswersSession.misfit, Answer.AnswersSession.fit, Answer.AnswersText.misread, Answer.AnswersText.read}
-use Rattle.whole_answer.specs.Answer.{AnswersSession, AnswersText, AnswersCommand, IsRest, Begins}
+use Rattle.whole_answer.specs.Answer.{AnswersSession, AnswersText, AnswersCommand, IsRest, BeginsAnswer}
 
 -- ---- the answer to a session
 
@@ -64,33 +64,33 @@ rest_whole whole rest held e = record {
 
 -- a whole answer that is handed out begins it
 pub begins_whole : {E : Type 0} (IsIt : Answer → Type 0) (whole : Answer) (held : Option (List ℕ)) (r : Result Answer E) → IsIt whole
-    → IfOk r (λ a. a ≡ whole) → Begins IsIt held held r
+    → IfOk r (λ a. a ≡ whole) → BeginsAnswer IsIt held held r
 begins_whole IsIt whole held (Ok rest) is h = record { whole = whole; is_it = is; rest = rest_whole whole rest held h; prefix = tt }
 begins_whole IsIt whole held (Err e) is h = record { whole = whole; is_it = is; rest = tt; prefix = prefix_none held whole.text }
 
 -- where nothing was written before a fault
 pub begins_not : {E : Type 0} (IsIt : Answer → Type 0) (held : Option (List ℕ)) (e : E) → (a : Answer) × IsIt a
-    → Begins IsIt held held (Err e)
+    → BeginsAnswer IsIt held held (Err e)
 begins_not IsIt held e a = record { whole = a.0; is_it = a.1; rest = tt; prefix = prefix_none held a.0.text }
 
 -- the same of a result that is known to be a fault
 pub begins_fails : {E : Type 0} (IsIt : Answer → Type 0) (held : Option (List ℕ)) (r : Result Answer E) → IsErr r
-    → (a : Answer) × IsIt a → Begins IsIt held held r
+    → (a : Answer) × IsIt a → BeginsAnswer IsIt held held r
 begins_fails IsIt held r f a =
     record { whole = a.0; is_it = a.1; rest = IfOk-from_err r _ f; prefix = on_err r (prefix_none held a.0.text) }
 
 -- an answer of one kind that is one of another
 pub begins_so : {E : Type 0} (IsIt IsOther : Answer → Type 0) (old new : Option (List ℕ)) (r : Result Answer E)
-    → ((a : Answer) → IsIt a → IsOther a) → Begins IsIt old new r → Begins IsOther old new r
+    → ((a : Answer) → IsIt a → IsOther a) → BeginsAnswer IsIt old new r → BeginsAnswer IsOther old new r
 begins_so IsIt IsOther old new r so b = record { whole = b.whole; is_it = so b.whole b.is_it; rest = b.rest; prefix = b.prefix }
 
 -- the fault has another name
 pub begins_as_ok : {E F : Type 0} (IsIt : Answer → Type 0) (old new : Option (List ℕ)) (a : Answer)
-    → Begins {E = E} IsIt old new (Ok a) → Begins {E = F} IsIt old new (Ok a)
+    → BeginsAnswer {E = E} IsIt old new (Ok a) → BeginsAnswer {E = F} IsIt old new (Ok a)
 begins_as_ok IsIt old new a b = record { whole = b.whole; is_it = b.is_it; rest = b.rest; prefix = tt }
 
 pub begins_as_err : {E F : Type 0} (IsIt : Answer → Type 0) (old new : Option (List ℕ)) (e : E) (r : Result Answer F) → IsErr r
-    → Begins {E = E} IsIt old new (Err e) → Begins {E = F} IsIt old new r
+    → BeginsAnswer {E = E} IsIt old new (Err e) → BeginsAnswer {E = F} IsIt old new r
 begins_as_err IsIt old new e r f b =
     record { whole = b.whole; is_it = b.is_it; rest = IfOk-from_err r _ f; prefix = on_err r b.prefix }
 
@@ -119,12 +119,13 @@ in_each P Q (Some x) so h = so x h
 
 -- an answer to all that was read
 pub begins_read : {E : Type 0} (P : List ℕ → Answer → Type 0) (old new : Option (List ℕ)) (text : List ℕ) (a b : Option (List ℕ))
-    (r : Result Answer E) → Consumes old new text → IsAtEnd new → Begins (P text) a b r → IfSome old (λ bytes. Begins (P bytes) a b r)
+    (r : Result Answer E) → Consumes old new text → IsAtEnd new → BeginsAnswer (P text) a b r
+    → IfSome old (λ bytes. BeginsAnswer (P bytes) a b r)
 begins_read P None new text a b r c e h = tt
 begins_read P (Some x) None text a b r c e h = absurd c
 begins_read P (Some x) (Some y) text a b r c e h =
     let all : text ≡ x = sym (c ∙ ap (λ (l : List ℕ). text ++ l) e ∙ append-nil text) in
-    subst (λ (t : List ℕ). Begins (P t) a b r) all h
+    subst (λ (t : List ℕ). BeginsAnswer (P t) a b r) all h
 
 -- what holds of all bytes of which so many were taken
 pub of_long : (P : List ℕ → Type 0) (old new : Option (List ℕ)) (n : ℕ) → LosesCount old new n

@@ -2,11 +2,11 @@
 use Rattle.std.proofs.Common.{◌≡◌, sym, ◌∙◌, ap, arith, ℕ, ◌+◌, ◌<◌, List, [], ◌∷◌, ◌++◌, length, map}
 use Rattle.std.proofs.{lemmas.Grind.common_steps, lemmas.List.Elements.All-get_or, lemmas.List.FromFn.map-range_with_len_more}
 use Rattle.std.specs.List.{flat_map, range_with_len}
-use Rattle.flow_design.specs.{declared.plan.Plan.Plan, StaticRules.FitsEngine, StaticRules.IsModuleSound}
+use Rattle.flow_design.specs.{declared.plan.Plan.Plan, StaticRules.FitsEngine, StaticRules.IsModuleSound, Names.Token}
 use Rattle.lockstep_defs.specs.Lockstep.{no_module}
-use Rattle.serial_order.specs.Orders.{HasModule}
+use Rattle.serial_order.specs.Orders.{DesignHasModule}
 use Rattle.trace_text.proofs.LogLines.{joined}
-use Rattle.report_text.specs.Lines.{Token, line, text_of_lines}
+use Rattle.report_text.specs.Lines.{line, text_of_lines}
 use Rattle.whole_answer.proofs.PointLines.{last_line}
 
 -- ---- tokens
@@ -26,7 +26,7 @@ lines_more f n text new so_far added =
     ∙ ap text_of_lines (sym (map-range_with_len_more f 0 n n (omega arith)))))
 
 -- each module of a plan that the engine takes is there
-pub has_module : (p : Plan) (i : ℕ) → FitsEngine p → i < length p.design.modules → HasModule p.design i
+pub has_module : (p : Plan) (i : ℕ) → FitsEngine p → i < length p.design.modules → DesignHasModule p.design i
 has_module p i fits inside = record {
   in_range = inside;
   sound = All-get_or (IsModuleSound (length p.design.channels)) p.design.modules i no_module inside fits.modules;

@@ -6,7 +6,7 @@ use Rattle.std.specs.{Prelude.All, List.list_any}
 use Rattle.flow_design.specs.{declared.design.Block.Block, declared.design.Module.Module, declared.plan.Plan.Plan}
 use Rattle.lockstep_defs.specs.Laws.{is_query}
 use Rattle.depth_order.specs.Depths.{AsksNothing}
-use Rattle.whole_answer.specs.Further.{has_query, fewest_bits, least_told, not_taken}
+use Rattle.whole_answer.specs.Further.{has_query_operation, fewest_bits, least_told, not_taken}
 
 -- what holds of no element
 all_false : {X : Type 0} (p : X → Bool) (xs : List X) → list_any p xs ≡ false → All (λ x. p x ≡ false) xs
@@ -18,13 +18,13 @@ block_asks b = list_any (λ t. is_query t.op) b.ops
 abbrev module_asks : Module → Bool
 module_asks m = list_any block_asks m.blocks
 
-asks_nothing : (p : Plan) → has_query p.design ≡ false → AsksNothing p
-unfolding has_query
+asks_nothing : (p : Plan) → has_query_operation p.design ≡ false → AsksNothing p
+unfolding has_query_operation
 asks_nothing p none i m l j b k =
     all_false (λ t. is_query t.op) _ (all_false block_asks _ (all_false module_asks p.design.modules none i m l) j b k)
 
-has_none : (p : Plan) → AsksNothing p → has_query p.design ≡ false
-unfolding has_query
+has_none : (p : Plan) → AsksNothing p → has_query_operation p.design ≡ false
+unfolding has_query_operation
 has_none p quiet =
     list_any_none module_asks p.design.modules (λ i m l. list_any_none block_asks _ (λ j b k.
     list_any_none (λ t. is_query t.op) _ (quiet i m l j b k)))
@@ -40,4 +40,4 @@ module _ (slack : ℕ) (p : Plan) where
   unfolding least_told
   refused asks =
       sym (ap (λ (b : Bool). cond b (not_taken 22) (fewest_bits slack p))
-      (true_from_ne_false (has_query p.design) (λ none. asks (asks_nothing p none))))
+      (true_from_ne_false (has_query_operation p.design) (λ none. asks (asks_nothing p none))))

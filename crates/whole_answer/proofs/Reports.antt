@@ -14,7 +14,7 @@ use Rattle.outcome_guard.specs.Runs.{all_go_on, next_counts, counts_after, first
 use Rattle.report_text.specs.{Lines.line, Lines.runs_tokens, ReportText.report_text_of}
 use Rattle.sim_io.specs.Causes.{AppendsPrefix}
 use Rattle.sim_io.proofs.{Pieces.appends_both, Pending.prefix_of_longer, Pending.prefix_longer, Pending.prefix_after, Pending.range_both}
-use Rattle.whole_answer.specs.{declared.answer.Answer.Answer, declared.ending.Ending.Ending, Answer.IsRest, Job.plan_at, Job.report_at}
+use Rattle.whole_answer.specs.{declared.answer.Answer.Answer, declared.ending.Ending.Ending, Answer.IsRest, Job.plan_at, Job.report_after}
 use Rattle.whole_answer.specs.{Job.first_numbers, Job.texts_of, Job.counts_in, Job.ending_of, Job.is_done, Job.first_not_done}
 use Rattle.whole_answer.specs.{Job.endings_of, Job.job, Going.Told, Going.told_of, Going.first_told, Going.more_told, Going.IsGoing}
 use Rattle.whole_answer.specs.declared.ending.Ending.TheVariants.{Done, Words, Text, Deadlock, Cycles, Ops}
@@ -68,8 +68,8 @@ one_edit_more k = ap (range_with_len 1) (add-one k) ∙ (range_more 1 k ∙ ap (
 -- ---- a job
 
 module _ (events : Bool) (p : Plan) (edits : List Edit) where
-  report_is : (k : ℕ) (plan : Plan) → plan ≡ plan_at p edits k → report plan ≡ report_at p edits k
-  unfolding report_at
+  report_is : (k : ℕ) (plan : Plan) → plan ≡ plan_at p edits k → report plan ≡ report_after p edits k
+  unfolding report_after
   report_is k plan e = ap report e
 
   same_design : (k : ℕ) (plan : Plan) → plan ≡ plan_at p edits k → plan.design ≡ p.design
@@ -106,7 +106,7 @@ module _ (events : Bool) (p : Plan) (edits : List Edit) where
       ≡ texts_of events p edits (first_numbers ((k + 1) + 1))
   texts_more k next e =
       let texts = texts_of events p edits (first_numbers (k + 1)) in
-      let text_at : ℕ → List ℕ = λ j. report_text_of p.design (report_at p edits j) j events in
+      let text_at : ℕ → List ℕ = λ j. report_text_of p.design (report_after p edits j) j events in
       ap₂ (λ (d : Design) (r : Report). texts ++ report_text_of d r (k + 1) events) (same_design (k + 1) next e) (report_is (k + 1) next e)
       ∙ (flat_map_more text_at [] (first_numbers (k + 1)) (k + 1)
       ∙ ap (λ (ks : List ℕ). flat_map text_at ks) (sym (one_number_more k)))
@@ -139,7 +139,7 @@ module _ (events : Bool) (p : Plan) (edits : List Edit) where
   unfolding job
   text_begins n most =
       let last = length edits + 1 in
-      let text_at : ℕ → List ℕ = λ j. report_text_of p.design (report_at p edits j) j events in
+      let text_at : ℕ → List ℕ = λ j. report_text_of p.design (report_after p edits j) j events in
       let runs : List ℕ = line (runs_tokens (counts_in p edits (length edits)).runs) in
       let count : last ≡ n + (last - n) = omega (arith, most) in (
         flat_map text_at (range_with_len (0 + n) (last - n)) ++ runs,
@@ -192,7 +192,7 @@ module _ (events : Bool) (p : Plan) (edits : List Edit) where
           plan = first_plan;
           fits = fits;
           text = subst (Appends first held) (ap (λ (r : Report). report_text_of p.design r 0 events) is ∙ sym (append-nil _)) written;
-          ending = ap (λ (r : Report). ending_of r.verdict) is ∙ sym (ending_more [] (ending_of (report_at p edits 0).verdict));
+          ending = ap (λ (r : Report). ending_of r.verdict) is ∙ sym (ending_more [] (ending_of (report_after p edits 0).verdict));
           count = ap (λ (r : Report). first_counts r.answers) is;
           runs = omega arith;
         }
@@ -205,8 +205,8 @@ module _ (events : Bool) (p : Plan) (edits : List Edit) where
   unfolding more_told
   goes_on k plan next told first held last g e fits written =
       let is = report_is (k + 1) next e in
-      let ending_at : ℕ → Ending = λ j. ending_of (report_at p edits j).verdict in
-      let answers_at : ℕ → List (List Bool) = λ j. (report_at p edits j).answers in
+      let ending_at : ℕ → Ending = λ j. ending_of (report_after p edits j).verdict in
+      let answers_at : ℕ → List (List Bool) = λ j. (report_after p edits j).answers in
       let texts = texts_of events p edits (first_numbers (k + 1)) in
       record {
         plan = e;

@@ -5,7 +5,7 @@ use Rattle.std.specs.{declared.option.Option.Option, Io.KnownBytes.Appends, Io.K
 use Rattle.sim_io.specs.Causes.{AppendsPrefix}
 use Rattle.whole_answer.specs.{declared.answer.Answer.Answer, Exit.status_of, declared.status.Status.Status}
 use Rattle.whole_answer.specs.declared.status.Status.TheVariants.{WriteFault}
-use Rattle.whole_answer.specs.Answer.{Answers, Begins, IsAnswer, IsRest, Tells, TellsAnswer}
+use Rattle.whole_answer.specs.Answer.{Answers, BeginsAnswer, SaysAnswered, IsRest, Tells, TellsAnswer}
 use Rattle.sim_io.proofs.{Pieces.appends_both, Pending.prefix_after}
 
 pub appends_kept : (a b c : Option (List ℕ)) (xs : List ℕ) → Appends a b xs → Keeps b c → Appends a c xs
@@ -42,13 +42,13 @@ tells_whole whole rest result a b c finished r t = record {
 }
 
 -- a fault, or want of memory, after a prefix was written
-pub tells_none : (whole : Answer) (result : Status) (a b : Option (List ℕ)) (finished : Bool) → (IsAnswer result → ⊥)
+pub tells_none : (whole : Answer) (result : Status) (a b : Option (List ℕ)) (finished : Bool) → (SaysAnswered result → ⊥)
     → AppendsPrefix a b whole.text → Tells whole result a b finished
 tells_none whole result a b finished never p = record { answered = λ i. absurd (never i); write = λ _. p; memory = λ _. p }
 
 -- the answer of the words, where it was begun and its rest told
 pub told_rest : {E : Type 0} (words : List (List ℕ)) (bytes : List ℕ) (rest : Answer) (result : Status) (a b c : Option (List ℕ))
-    (finished : Bool) → Begins {E = E} (Answers words bytes) a b (Ok rest) → Tells rest result b c finished
+    (finished : Bool) → BeginsAnswer {E = E} (Answers words bytes) a b (Ok rest) → Tells rest result b c finished
     → TellsAnswer words bytes result a c finished
 told_rest words bytes rest result a b c finished h t = record {
   whole = h.whole;
@@ -58,7 +58,7 @@ told_rest words bytes rest result a b c finished h t = record {
 
 -- and where a fault came first
 pub told_fault : {E : Type 0} (words : List (List ℕ)) (bytes : List ℕ) (e : E) (result : Status) (a b : Option (List ℕ))
-    (finished : Bool) → (IsAnswer result → ⊥) → Begins (Answers words bytes) a b (Err e)
+    (finished : Bool) → (SaysAnswered result → ⊥) → BeginsAnswer (Answers words bytes) a b (Err e)
     → TellsAnswer words bytes result a b finished
 told_fault words bytes e result a b finished never h = record {
   whole = h.whole;

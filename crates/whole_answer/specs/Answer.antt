@@ -52,11 +52,11 @@ takes_input (Some (Of asked)) = true
 -- ---- what the program's status tells
 
 -- the status says that the program has answered: nothing failed, and memory did not run out
-abbrev pub IsAnswer : Status → Type 0
-IsAnswer ReadFault = ⊥
-IsAnswer WriteFault = ⊥
-IsAnswer Memory = ⊥
-IsAnswer _ = Unit {0}
+abbrev pub SaysAnswered : Status → Type 0
+SaysAnswered ReadFault = ⊥
+SaysAnswered WriteFault = ⊥
+SaysAnswered Memory = ⊥
+SaysAnswered _ = Unit {0}
 
 -- a prefix of the whole answer's text was written, and `rest` is what is left of it, with its ending
 pub record IsRest (whole : Answer) (old new : Option (List ℕ)) (rest : Answer) : Type 0 where
@@ -64,7 +64,7 @@ pub record IsRest (whole : Answer) (old new : Option (List ℕ)) (rest : Answer)
   pub ending : rest.ending ≡ whole.ending
 
 -- an answer for which `IsIt` holds was begun: the result is its rest, or an error after a prefix of it was written
-pub record Begins {E : Type 0} (IsIt : Answer → Type 0) (old new : Option (List ℕ)) (result : Result Answer E) : Type 0 where
+pub record BeginsAnswer {E : Type 0} (IsIt : Answer → Type 0) (old new : Option (List ℕ)) (result : Result Answer E) : Type 0 where
   pub whole : Answer
   pub is_it : IsIt whole
   pub rest : IfOk result (λ rest. IsRest whole old new rest)
@@ -73,7 +73,7 @@ pub record Begins {E : Type 0} (IsIt : Answer → Type 0) (old new : Option (Lis
 -- what a status tells about the sink, which held `old` and now holds `new`, given the whole answer
 pub record Tells (whole : Answer) (result : Status) (old new : Option (List ℕ)) (finished : Bool) : Type 0 where
   -- where the program has answered, the whole answer was written and finished, and the status is the answer's
-  pub answered : IsAnswer result → (result ≡ status_of whole.ending) × Appends old new whole.text × (finished ≡ true)
+  pub answered : SaysAnswered result → (result ≡ status_of whole.ending) × Appends old new whole.text × (finished ≡ true)
   -- where the sink failed or memory ran out, a prefix of the whole answer was written
   pub write : result ≡ WriteFault → AppendsPrefix old new whole.text
   pub memory : result ≡ Memory → AppendsPrefix old new whole.text

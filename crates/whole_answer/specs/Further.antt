@@ -2,7 +2,8 @@
 use Rattle.std.specs.Prelude.{ℕ, ◌==◌, ◌&&◌, ◌||◌, not, Bool, nat_lt, if◌then◌else◌, List, [], ◌∷◌, ◌++◌, Option, None, Some, codes}
 use Rattle.std.specs.Prelude.{decimal, find, length, map, sum}
 use Rattle.std.specs.List.{list_any, range_with_len}
-use Rattle.flow_design.specs.{declared.design.Design.Design, declared.plan.Plan.Plan, declared.report.Verdict.Verdict, Reports.clock_of}
+use Rattle.flow_design.specs.{declared.design.Design.Design, declared.plan.Plan.Plan, Reports.clock_of, Names.Token}
+use Rattle.flow_design.specs.declared.report.Verdict.{Verdict}
 use Rattle.flow_design.specs.declared.report.Verdict.TheVariants as verdict
 use Rattle.lockstep_defs.specs.{Laws.is_query, Report.report}
 use Rattle.serial_order.specs.{declared.order.Used.Used, declared.order.Order.Order, Orders.order_of}
@@ -12,7 +13,7 @@ use Rattle.depth_sweep.specs.{declared.point.Point.Point, Grid.grid_of, Grid.mos
 use Rattle.depth_advice.specs.{Advice.advised, Advice.wide, DepthLines.depth_lines}
 use Rattle.least_depths.specs.{Least.sizes, SizeText.size_text}
 use Rattle.least_memory.specs.{Least.leasts, LeastText.least_text}
-use Rattle.report_text.specs.{Lines.line, Lines.text_of_lines, Lines.Token, Lines.verdict_tokens, ReportText.module_name}
+use Rattle.report_text.specs.{Lines.line, Lines.text_of_lines, Lines.verdict_tokens, ReportText.module_name}
 use Rattle.whole_answer.specs.{declared.answer.Answer.Answer, declared.ending.Ending.Ending, Job.is_done, Job.ending_of}
 use Rattle.whole_answer.specs.declared.ending.Ending.TheVariants.{Done, Text}
 
@@ -112,8 +113,8 @@ unfoldable pub sized : ℕ → Plan → Answer
 sized slack p = record { text = size_text slack p; ending = ending_of (sizes slack p).verdict }
 
 -- the design has a query operation
-unfoldable pub has_query : Design → Bool
-has_query design = list_any (λ m. list_any (λ b. list_any (λ t. is_query t.op) b.ops) m.blocks) design.modules
+unfoldable pub has_query_operation : Design → Bool
+has_query_operation design = list_any (λ m. list_any (λ b. list_any (λ t. is_query t.op) b.ops) m.blocks) design.modules
 
 -- the depths with the fewest bits that lose no more than `slack` clocks, with the ending of the verdict with them
 unfoldable pub fewest_bits : ℕ → Plan → Answer
@@ -121,4 +122,4 @@ fewest_bits slack p = record { text = least_text slack p; ending = ending_of (le
 
 -- the answer to `least`: the depths with the fewest bits, or `refused 0 22` where some operation is a query
 unfoldable pub least_told : ℕ → Plan → Answer
-least_told slack p = if has_query p.design then not_taken 22 else fewest_bits slack p
+least_told slack p = if has_query_operation p.design then not_taken 22 else fewest_bits slack p

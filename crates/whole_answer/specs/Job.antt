@@ -17,8 +17,8 @@ abbrev pub plan_at : Plan → List Edit → ℕ → Plan
 plan_at p edits k = plan_after p (take k edits)
 
 -- the report of the plan after its first k edits
-unfoldable pub report_at : Plan → List Edit → ℕ → Report
-report_at p edits k = report (plan_at p edits k)
+unfoldable pub report_after : Plan → List Edit → ℕ → Report
+report_after p edits k = report (plan_at p edits k)
 
 -- the numbers of the first n reports
 abbrev pub first_numbers : ℕ → List ℕ
@@ -27,14 +27,14 @@ first_numbers n = range_with_len 0 n
 -- ---- the texts of the reports
 
 abbrev pub texts_of : Bool → Plan → List Edit → List ℕ → List ℕ
-texts_of events p edits numbers = flat_map (λ k. report_text_of p.design (report_at p edits k) k events) numbers
+texts_of events p edits numbers = flat_map (λ k. report_text_of p.design (report_after p edits k) k events) numbers
 
 -- ---- the runs
 
 -- the count of runs after the first report and n more
 abbrev pub counts_in : Plan → List Edit → ℕ → RunCount
-counts_in p edits n = counts_after (first_counts (report_at p edits 0).answers)
-    (map (λ k. (report_at p edits k).answers) (range_with_len 1 n))
+counts_in p edits n = counts_after (first_counts (report_after p edits 0).answers)
+    (map (λ k. (report_after p edits k).answers) (range_with_len 1 n))
 
 -- ---- the ending
 
@@ -58,7 +58,7 @@ first_not_done [] = Done
 first_not_done (s ∷ ss) = if is_done s then first_not_done ss else s
 
 abbrev pub endings_of : Plan → List Edit → List ℕ → List Ending
-endings_of p edits numbers = map (λ k. ending_of (report_at p edits k).verdict) numbers
+endings_of p edits numbers = map (λ k. ending_of (report_after p edits k).verdict) numbers
 
 -- ---- the job
 

@@ -1,9 +1,9 @@
 -- What a task makes of a session that reading and checking accept.
 use Rattle.std.specs.Prelude.{ℕ, ◌%◌, ◌^◌, List, [], ◌∷◌, length, codes, decimal, slice_index_or, sum_by, unwrap_or}
 use Rattle.flow_design.specs.{declared.limits.Scale.Scale, declared.limits.Scale.TheVariants.Standard, declared.plan.Plan.Plan}
-use Rattle.flow_design.specs.{declared.report.Report.Report, declared.session.Statement.Statement}
+use Rattle.flow_design.specs.{declared.report.Report.Report, declared.session.Statement.Statement, Names.Token}
 use Rattle.lockstep_defs.specs.Report.{report}
-use Rattle.report_text.specs.Lines.{line, text_of_lines, Token, verdict_tokens, runs_tokens}
+use Rattle.report_text.specs.Lines.{line, text_of_lines, verdict_tokens, runs_tokens}
 use Rattle.flow_grammar.specs.{declared.fault.Code.Code, declared.fault.TextFault.TextFault}
 use Rattle.flow_grammar.specs.declared.fault.Code.TheVariants as code
 use Rattle.flow_print.specs.Canonical.{canonical_text}
@@ -21,26 +21,26 @@ abbrev pub refused_words : Answer
 refused_words = record { text = line (codes "refused" ∷ codes "words" ∷ []); ending = Words }
 
 -- the number that stands for a code in the answer
-abbrev pub number_of : Code → ℕ
-number_of code.TooLong = 1
-number_of code.NotAscii = 2
-number_of code.Syntax = 3
-number_of code.BadNumber = 4
-number_of code.DoubleName = 5
-number_of code.UnknownName = 6
-number_of code.BadLimit = 7
-number_of code.Ends = 8
-number_of code.PortClash = 9
-number_of code.BadLoop = 10
-number_of code.BadOffset = 11
-number_of code.Truncated = 12
-number_of code.TooMany = 13
-number_of code.WrongSide = 14
+abbrev pub code_number : Code → ℕ
+code_number code.TooLong = 1
+code_number code.NotAscii = 2
+code_number code.Syntax = 3
+code_number code.BadNumber = 4
+code_number code.DoubleName = 5
+code_number code.UnknownName = 6
+code_number code.BadLimit = 7
+code_number code.Ends = 8
+code_number code.PortClash = 9
+code_number code.BadLoop = 10
+code_number code.BadOffset = 11
+code_number code.Truncated = 12
+code_number code.TooMany = 13
+code_number code.WrongSide = 14
 
 -- the answer `refused LINE CODE`
 abbrev pub refused : TextFault → Answer
 refused fault = record {
-  text = line (codes "refused" ∷ decimal fault.line ∷ decimal (number_of fault.code) ∷ []);
+  text = line (codes "refused" ∷ decimal fault.line ∷ decimal (code_number fault.code) ∷ []);
   ending = Text;
 }
 
@@ -62,8 +62,8 @@ canonical statements = record { text = canonical_text statements; ending = Done 
 -- ---- the summary of a generated session
 
 -- the values in the first sink, which is the only one that a generated session has
-abbrev pub values_in : Report → List ℕ
-values_in r = slice_index_or r.outputs 0 []
+abbrev pub first_sink_values : Report → List ℕ
+first_sink_values r = slice_index_or r.outputs 0 []
 
 -- the tokens of the line `sum COUNT TOTAL`
 abbrev pub sum_tokens : List ℕ → List Token
@@ -75,7 +75,7 @@ gen_tokens seed modules = codes "gen" ∷ decimal seed ∷ decimal modules ∷ [
 
 -- the lines of a summary: what was asked for, the verdict, the sum, and the number of runs, which is 1
 abbrev pub summary_lines : ℕ → ℕ → Report → List (List Token)
-summary_lines seed modules r = gen_tokens seed modules ∷ verdict_tokens r.verdict ∷ sum_tokens (values_in r) ∷ runs_tokens 1 ∷ []
+summary_lines seed modules r = gen_tokens seed modules ∷ verdict_tokens r.verdict ∷ sum_tokens (first_sink_values r) ∷ runs_tokens 1 ∷ []
 
 unfoldable pub summary : ℕ → ℕ → Plan → Answer
 summary seed modules p = record {

@@ -2,9 +2,9 @@
 ghost use Rattle.std.specs.Prelude.{◌≡◌, ◌≢◌, ◌≤◌, ◌↔◌, [], false, map, string_bytes, IfOk, IfSome, IsErrOf, Some};
 ghost use Rattle.sim_io.specs.Causes.{Rose};
 ghost use Rattle.flow_grammar.specs.Text.{IsAnswer, session_of};
-ghost use Rattle.cli_words.specs.CommandWords.{accepted, IsInRange, IsSound};
-ghost use Rattle.whole_answer.specs.Made.{refused_words, refused, generated, number_of};
-ghost use Rattle.whole_answer.specs.Answer.{Answers, AnswersCommand, AnswersText, Begins, takes_input};
+ghost use Rattle.cli_words.specs.CommandWords.{accepted, IsInRange, IsWithinBounds};
+ghost use Rattle.whole_answer.specs.Made.{refused_words, refused, generated, code_number};
+ghost use Rattle.whole_answer.specs.Answer.{Answers, AnswersCommand, AnswersText, BeginsAnswer, takes_input};
 
 use crate::ending::Ending;
 use crate::host::Host;
@@ -85,7 +85,7 @@ pub(crate) fn answer_words<R: Threads + Wait + Sync, S: Source, G: Gate + Sync, 
     sink: &mut K,
 ) -> Result<Answer, Unanswered>
     ensures answers { IfSome (S.left source.old) (λ bytes.
-        Begins (Answers (map string_bytes words.now) bytes) (K.held sink.old) (K.held sink.new) result) }
+        BeginsAnswer (Answers (map string_bytes words.now) bytes) (K.held sink.old) (K.held sink.new) result) }
     ensures read_fault { result ≡ Err Unanswered.ReadFault → Rose (S.faults source.old) (S.faults source.new) }
     ensures unwritten { result ≡ Err Unanswered.ReadFault → sink.new ≡ sink.old }
     ensures source_faults { S.faults source.old ≤ S.faults source.new }
@@ -93,7 +93,7 @@ pub(crate) fn answer_words<R: Threads + Wait + Sync, S: Source, G: Gate + Sync, 
     ensures sink_faults { K.faults sink.old ≤ K.faults sink.new }
 
     ensures without_input { takes_input (accepted (map string_bytes words.now)) ≡ false
-        → Begins (Answers (map string_bytes words.now) []) (K.held sink.old) (K.held sink.new) result }
+        → BeginsAnswer (Answers (map string_bytes words.now) []) (K.held sink.old) (K.held sink.new) result }
     ensures unread { takes_input (accepted (map string_bytes words.now)) ≡ false → source.new ≡ source.old }
     ensures reads_none { takes_input (accepted (map string_bytes words.now)) ≡ false → result ≢ Err Unanswered.ReadFault }
 {
@@ -116,7 +116,7 @@ fn obey<R: Threads + Wait + Sync, S: Source, G: Gate + Sync, K: Sink>(
 ) -> Result<Answer, Unanswered>
     requires { IsInRange command }
     ensures answers { IfSome (S.left source.old) (λ bytes.
-        Begins (AnswersCommand (Some command) bytes) (K.held sink.old) (K.held sink.new) result) }
+        BeginsAnswer (AnswersCommand (Some command) bytes) (K.held sink.old) (K.held sink.new) result) }
     ensures read_fault { result ≡ Err Unanswered.ReadFault → Rose (S.faults source.old) (S.faults source.new) }
     ensures unwritten { result ≡ Err Unanswered.ReadFault → sink.new ≡ sink.old }
     ensures source_faults { S.faults source.old ≤ S.faults source.new }
@@ -124,7 +124,7 @@ fn obey<R: Threads + Wait + Sync, S: Source, G: Gate + Sync, K: Sink>(
     ensures sink_faults { K.faults sink.old ≤ K.faults sink.new }
 
     ensures without_input { takes_input (Some command) ≡ false
-        → Begins (AnswersCommand (Some command) []) (K.held sink.old) (K.held sink.new) result }
+        → BeginsAnswer (AnswersCommand (Some command) []) (K.held sink.old) (K.held sink.new) result }
     ensures unread { takes_input (Some command) ≡ false → source.new ≡ source.old }
     ensures reads_none { takes_input (Some command) ≡ false → result ≢ Err Unanswered.ReadFault }
 {
@@ -143,9 +143,9 @@ fn answer_source<R: Threads + Wait + Sync, S: Source, G: Gate + Sync, K: Sink>(
     gate: &G,
     sink: &mut K,
 ) -> Result<Answer, Unanswered>
-    requires { IsSound asked.now.scale asked.now.task }
+    requires { IsWithinBounds asked.now.scale asked.now.task }
     ensures answers { IfSome (S.left source.old) (λ bytes.
-        Begins (AnswersText asked.now bytes) (K.held sink.old) (K.held sink.new) result) }
+        BeginsAnswer (AnswersText asked.now bytes) (K.held sink.old) (K.held sink.new) result) }
     ensures read_fault { result ≡ Err Unanswered.ReadFault → Rose (S.faults source.old) (S.faults source.new) }
     ensures unwritten { result ≡ Err Unanswered.ReadFault → sink.new ≡ sink.old }
     ensures source_faults { S.faults source.old ≤ S.faults source.new }
@@ -189,8 +189,8 @@ fn answer_text<R: Threads + Wait + Sync, G: Gate + Sync, K: Sink>(
     gate: &G,
     sink: &mut K,
 ) -> Result<Answer, TellFault>
-    requires { IsSound asked.now.scale asked.now.task }
-    ensures answers { Begins (AnswersText asked.now text) (K.held sink.old) (K.held sink.new) result }
+    requires { IsWithinBounds asked.now.scale asked.now.task }
+    ensures answers { BeginsAnswer (AnswersText asked.now text) (K.held sink.old) (K.held sink.new) result }
     ensures write_fault { IsErrOf result TellFault.WriteFault → Rose (K.faults sink.old) (K.faults sink.new) }
     ensures faults { K.faults sink.old ≤ K.faults sink.new }
 {
@@ -239,7 +239,7 @@ fn refuse(alloc: Global, fault: TextFault) -> Result<Answer, OutOfMemory>
 
 /// The number that stands for a code in the answer.
 fn number_of(code: Code) -> u64
-    ensures { result ≡ number_of code }
+    ensures { result ≡ code_number code }
 {
     code as u64
 }

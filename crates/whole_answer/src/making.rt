@@ -4,10 +4,10 @@ ghost use Rattle.sim_io.specs.Causes.{AppendsPrefix, Rose};
 ghost use Rattle.flow_design.specs.{Plans.EditFits, StaticRules.FitsEngine};
 ghost use Rattle.session_plan.specs.Plans.{plan_of, edits_of};
 ghost use Rattle.report_text.specs.Lines.{line, text_of_lines};
-ghost use Rattle.cli_words.specs.CommandWords.{IsSound};
+ghost use Rattle.cli_words.specs.CommandWords.{IsWithinBounds};
 ghost use Rattle.flow_check.specs.Scales.{KeepsScale};
 ghost use Rattle.whole_answer.specs.{Job.job, Answer.IsRest};
-ghost use Rattle.whole_answer.specs.Made.{made, with_limits, canonical, summary, summary_lines, sum_tokens, values_in};
+ghost use Rattle.whole_answer.specs.Made.{made, with_limits, canonical, summary, summary_lines, sum_tokens, first_sink_values};
 
 use crate::advising::advise_depths;
 use crate::answer::Answer;
@@ -41,7 +41,7 @@ pub(crate) fn make<R: Threads + Wait + Sync, G: Gate + Sync, K: Sink>(
     checked: Checked,
     sink: &mut K,
 ) -> Result<Answer, TellFault>
-    requires sound { IsSound asked.now.scale asked.now.task }
+    requires sound { IsWithinBounds asked.now.scale asked.now.task }
     requires plan { checked.plan ≡ plan_of asked.now.scale session.statements }
     requires edits { checked.edits ≡ edits_of session.statements }
     requires fits { FitsEngine checked.plan }
@@ -184,7 +184,7 @@ fn print_summary(
 
 /// The values in the first sink of a report; none where it has no sink.
 fn values_in(outcome: &Report) -> &[u64]
-    ensures { result.now ≡ values_in outcome.now }
+    ensures { result.now ≡ first_sink_values outcome.now }
 {
     match outcome.outputs.as_slice() {
         [] => &[],

@@ -2,7 +2,7 @@
 ghost use Rattle.std.specs.Prelude.{◌≡◌, ◌<◌, ◌∷◌, ◌++◌, [], decimal, flat_map, length, IfOk, OnOk};
 ghost use Rattle.flow_design.specs.StaticRules.{FitsEngine};
 ghost use Rattle.report_text.specs.Lines.{line};
-ghost use Rattle.serial_order.specs.Orders.{HasModule};
+ghost use Rattle.serial_order.specs.Orders.{DesignHasModule};
 ghost use Rattle.whole_answer.specs.Further.{order_tokens, order_words, ordered, used_words};
 
 use crate::answer::Answer;
@@ -32,7 +32,7 @@ pub(crate) fn order_modules(alloc: Global, plan: &Plan) -> Result<Answer, OutOfM
 /// it.
 #[tactic(auto, using(crate::proofs::FurtherLines::line_of_more))]
 fn print_order(text: &mut List<u8>, design: &Design, module: u32) -> Result<(), OutOfMemory>
-    requires { HasModule design.now «module» }
+    requires { DesignHasModule design.now «module» }
     ensures { OnOk result (text.new ≡ text.old ++ line (order_tokens design.now «module»)) }
 {
     text.extend_from_slice(b"order")?;

@@ -1,6 +1,6 @@
 //! How the program ends.
 ghost use Rattle.std.specs.Prelude.{◌≡◌};
-ghost use Rattle.whole_answer.specs.{Answer.IsAnswer, Exit.exit_number, Exit.status_of};
+ghost use Rattle.whole_answer.specs.{Answer.SaysAnswered, Exit.exit_number, Exit.status_of};
 
 use crate::ending::Ending;
 
@@ -31,7 +31,7 @@ impl Status {
     /// The status of an answer that was written whole.
     pub(crate) fn of(ending: Ending) -> Status
         ensures status { result ≡ status_of ending }
-        ensures answer { IsAnswer result }
+        ensures answer { SaysAnswered result }
     {
         match ending {
             Ending::Done => Status::Done,

@@ -5,8 +5,8 @@ ghost use Rattle.timing_bridge.specs.{Designs.design, declared.entry.HubEntry.Hu
 ghost use Rattle.turn_lock.specs.{Entries.entries_of, Passes.view_of, Passes.pass_lock, Passes.lock_id};
 ghost use Rattle.sim_core.specs.{Drives.AreOwn, Views.theory_of};
 ghost use mathlib.Core.List.{IsPrefix};
-ghost use Rattle.sim_hub.specs.{Places.IsFirst, Places.HasModule, Places.HasModules, Steps.ComesHome, Ledgers.entries_in};
-ghost use Rattle.sim_hub.specs.Hubs.{hub_id, perf_view, IsOverAt, IsPerfOf};
+ghost use Rattle.sim_hub.specs.Places.{IsFirstPass, HasModule, HasModules};
+ghost use Rattle.sim_hub.specs.{Steps.ComesHome, Ledgers.entries_in, Hubs.hub_id, Hubs.perf_view, Hubs.IsOverAt, Hubs.IsPerfOf};
 ghost use Rattle.sim_hub.specs.Closings.{AreFrom, AreNew, AreOfHub, AllHome, HasEachModule, ClosedIs, EndsAt};
 
 use super::Hub;
@@ -77,12 +77,12 @@ fn split_all(
     count: u32,
 ) -> Result<(Pass<Books>, Vec<ModulePass>), OutOfMemory>
     requires own { pass_lock first ≡ lock_id lock.now }
-    requires first { IsFirst 0 (view_of first).seen (view_of first) }
+    requires first { IsFirstPass 0 (view_of first).seen (view_of first) }
     requires room { count < (view_of first).passes }
     requires modules { HasModules count (view_of first).seen }
     requires fresh { (n : ℕ) → entries_of bearer n (view_of first).seen ≡ [] }
     ensures own { IfOk result (λ r. pass_lock r.0 ≡ lock_id lock.now) }
-    ensures first { IfOk result (λ r. IsFirst count (view_of first).seen (view_of r.0)) }
+    ensures first { IfOk result (λ r. IsFirstPass count (view_of first).seen (view_of r.0)) }
     ensures count { IfOk result (λ r. length r.1.items ≡ count) }
     ensures modules { IfOk result (λ r. AreFrom (lock_id lock.now) (view_of first).seen r.1.items) }
 {
@@ -113,7 +113,7 @@ fn module_pass(pass: Pass<Books>, which: u32) -> ModulePass
 
 /// The performance pass, made from the first pass after that has made a pass for each of `count` modules.
 fn perf_pass(pass: Pass<Books>, count: u32) -> PerfPass
-    requires first { IsFirst count (view_of pass).seen (view_of pass) }
+    requires first { IsFirstPass count (view_of pass).seen (view_of pass) }
     requires modules { HasModules count (view_of pass).seen }
     requires fresh { entries_of bearer 0 (view_of pass).seen ≡ [] }
     ensures { result.place.pass ≡ pass }

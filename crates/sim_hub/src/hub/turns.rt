@@ -3,7 +3,7 @@ ghost use Rattle.std.specs.Prelude.{◌≡◌, ℕ, ◌+◌, ◌^◌, ◌<◌, L
 ghost use Rattle.turn_lock.specs.Passes.{view_of, pass_lock, turn_view, turn_lock_of, begun_at};
 ghost use Rattle.turn_lock.specs.Turns.{BeginsTurn};
 ghost use Rattle.timing_bridge.specs.Entries.{bearer};
-ghost use Rattle.sim_hub.specs.{Hubs.hub_id, Ledgers.entries_under, Steps.MayAdd, Steps.IsEnd};
+ghost use Rattle.sim_hub.specs.{Hubs.hub_id, Ledgers.entries_under, Steps.MayAdd, Steps.IsTurnEnd};
 
 use super::Hub;
 use crate::kept::Books;
@@ -29,7 +29,7 @@ impl Hub {
         requires adds { MayAdd number added (begun_at turn) (entries_under turn.value) }
         ensures lock { pass_lock result.pass ≡ hub_id self.now }
         ensures number { result.number ≡ number }
-        ensures end { IsEnd added (begun_at turn) (entries_under turn.value) (turn_view turn) (view_of result.pass) }
+        ensures end { IsTurnEnd added (begun_at turn) (entries_under turn.value) (turn_view turn) (view_of result.pass) }
     {
         let pass = if added {
             self.lock.put(turn)

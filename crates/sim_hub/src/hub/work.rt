@@ -1,7 +1,8 @@
 //! What passes do in their turns.
 ghost use Rattle.std.specs.Prelude.{◌≡◌, ◌⊎◌, ℕ, ◌+◌, ◌^◌, ◌<◌, List, [], ◌∷◌, ◌++◌, length, true, false};
 ghost use Rattle.sim_hub.specs.Places.{HasDeskOut, HasNoDeskOut, IsLater};
-ghost use Rattle.sim_hub.specs.Hubs.{module_of, module_view, perf_view, IsOfHub, IsPerfOf, DeskIs, OutIs, PerfIs, ReturnIs, IsDeskBurst, TellsReady};
+ghost use Rattle.sim_hub.specs.Hubs.{module_of, module_view, perf_view, IsOfHub, IsPerfOf, DeskIs, OutIs, PerfIs, ReturnIs, IsDeskBurst};
+ghost use Rattle.sim_hub.specs.Hubs.{TellsReady};
 
 use super::Hub;
 use crate::answer::{Desk, PerfAnswer};

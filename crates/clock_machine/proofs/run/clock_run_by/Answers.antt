@@ -5,24 +5,24 @@ use Rattle.flow_design.specs.declared.report.Verdict.TheVariants.{Cycles}
 use Rattle.lockstep_defs.specs.{Channels.HistoryStep, Laws.NoneBefore, Lockstep.state, Lockstep.history, Report.events_of, Report.report}
 use Rattle.lockstep_defs.specs.Verdict.{settled_verdict, is_settled}
 use Rattle.lockstep_defs.proofs.Exits.{IsAt, settled_exit, cycles_exit}
-use Rattle.clock_machine.specs.{declared.run.Run.Run, Parts.kept, Parts.report_from}
+use Rattle.clock_machine.specs.{declared.run.Run.Run, Parts.events_kept, Parts.report_from}
 use Rattle.clock_machine.proofs.Kept.{kept_report}
 use Rattle.clock_machine.proofs.Coming.{come_at, none_next, settled_state, settled_fit, same_later, told_at}
 use Rattle.clock_machine.proofs.run.clock_run_by.Goals as goal
 
 -- a report from the kept events, where the run ends
 kept_exit : (keep : Bool) (p : Plan) (v : Verdict) (st : ClockState) (all events : List EventLine) (answers : List (List Bool)) (r : Report)
-    → r ≡ report_from p v st events answers → events ≡ kept keep all → report p ≡ report_from p v st all answers
-    → r ≡ record (report p) { events = kept keep (report p).events }
+    → r ≡ report_from p v st events answers → events ≡ events_kept keep all → report p ≡ report_from p v st all answers
+    → r ≡ record (report p) { events = events_kept keep (report p).events }
 kept_exit keep p v st all events answers r made are is =
     made ∙ (ap (λ (es : List EventLine). report_from p v st es answers) are ∙ kept_report keep p v st all answers is)
 
 -- a run that is told up to a settled clock, and holds its state
 settled_end : (p : Plan) (keep : Bool) (clock : ℕ) (run : Run) (r : Report)
     → IsAt p clock (state p clock) (events_of (history p clock)) run.answers → clock ≤ p.cycles → is_settled p clock (state p clock) ≡ true
-    → run.state ≡ state p clock → run.round.events ≡ kept keep (events_of (history p clock))
+    → run.state ≡ state p clock → run.round.events ≡ events_kept keep (events_of (history p clock))
     → r ≡ report_from p (settled_verdict p clock run.state) run.state run.round.events run.answers
-    → r ≡ record (report p) { events = kept keep (report p).events }
+    → r ≡ record (report p) { events = events_kept keep (report p).events }
 settled_end p keep clock run r at early settled same events made =
     kept_exit keep p (settled_verdict p clock (state p clock)) (state p clock) (events_of (history p clock)) run.round.events run.answers r
     (made ∙ ap (λ (st : ClockState). report_from p (settled_verdict p clock st) st run.round.events run.answers) same) events
@@ -60,7 +60,7 @@ returns-then-branch c =
     let same = same_later p clock settled in
     settled_end p c.args.keep clock run _ (told_at p c.args.keep clock run come c.loop-clock.invariant.none same) (omega arith) settled
     (settled_state p c.args.keep (clock + 1) run come same.settled ∙ same.state_is)
-    (come.events ∙ ap (λ (steps : List HistoryStep). kept c.args.keep (events_of steps)) same.history_is) c.in_ok-report.ensures
+    (come.events ∙ ap (λ (steps : List HistoryStep). events_kept c.args.keep (events_of steps)) same.history_is) c.in_ok-report.ensures
 
 pub settle-requires-then-branch-2 : goal.settle-requires-then-branch-2
 settle-requires-then-branch-2 c =

@@ -5,7 +5,7 @@ use Rattle.std.proofs.lemmas.List.{append-nil, get_or_default, get_or-set_same, 
 use Rattle.std.specs.List.{list_any, flat_map}
 use Rattle.flow_design.specs.{declared.plan.Plan.Plan, declared.state.Element.Element, declared.state.ModuleState.ModuleState}
 use Rattle.lockstep_defs.specs.{Machine.nobody, Report.outcomes}
-use Rattle.lockstep_defs.specs.Lockstep.{numbered, moves, state, state_at, step_of, steps_in}
+use Rattle.lockstep_defs.specs.Lockstep.{numbered, moves, state, state_at, module_step, steps_in}
 use Rattle.lockstep_defs.proofs.Agrees.{all_modules}
 use Rattle.clock_machine.specs.{Clocks.HasDone, Clocks.step_at, Clocks.does_move, Seats.IsSeated, Seats.no_seat}
 use Rattle.clock_machine.proofs.{Fronts.numbered_more, Fronts.numbered_all, Fronts.below_or_at, Steps.done_more}
@@ -38,11 +38,11 @@ or_else true b c e f = cc
 or_else false b c e f = f
 
 steps_more : (p : Plan) (clock i : ℕ) → i < length (state p clock).modules
-    → flat_map (step_of p clock (state p clock).contents) (take i (numbered (state p clock))) ++ step_at p clock i
-    ≡ flat_map (step_of p clock (state p clock).contents) (take (i + 1) (numbered (state p clock)))
+    → flat_map (module_step p clock (state p clock).contents) (take i (numbered (state p clock))) ++ step_at p clock i
+    ≡ flat_map (module_step p clock (state p clock).contents) (take (i + 1) (numbered (state p clock)))
 steps_more p clock i h =
     let st = state p clock in
-    let step = step_of p clock st.contents in
+    let step = module_step p clock st.contents in
     sym (ap (flat_map step) (numbered_more st.modules i nobody h)
     ∙ (flat_map-append step (take i (numbered st)) ((i, state_at p clock i) ∷ [])
     ∙ ap (λ l. flat_map step (take i (numbered st)) ++ l) (append-nil _)))
@@ -130,7 +130,7 @@ returns-clause-done c =
     let clock = c.args.at.now.clock in
     let count = c.requires.seated.state_count in
     let all = all_modules p clock in
-    subst (λ ms. HasDone c.args.at.now.keep c.args.round.now c.loop-i.round (flat_map (step_of p clock (state p clock).contents) ms))
+    subst (λ ms. HasDone c.args.at.now.keep c.args.round.now c.loop-i.round (flat_map (module_step p clock (state p clock).contents) ms))
     (numbered_all (state p clock).modules c.loop-i.i (omega arith)) c.loop-i.invariant.done
 
 pub take_turn-requires-clause-seated : goal.take_turn-requires-clause-seated

@@ -1,6 +1,6 @@
 use Rattle.std.proofs.Common.{◌≡◌, ℕ, ◌+◌, ◌<◌, ◌≤◌, ◌++◌, [], length, take, get_or}
 use Rattle.std.specs.List.{list_any, flat_map}
-use Rattle.lockstep_defs.specs.{Machine.nobody, Lockstep.numbered, Lockstep.moves, Lockstep.state, Lockstep.step_of, Report.outcomes}
+use Rattle.lockstep_defs.specs.{Machine.nobody, Lockstep.numbered, Lockstep.moves, Lockstep.state, Lockstep.module_step, Report.outcomes}
 use Rattle.clock_machine.specs.{Clocks.HasDone, Clocks.step_at, Seats.IsSeated, Seats.no_seat}
 use Rattle.clock_machine.proofs.turns.take_turns.Given as goal
 
@@ -15,7 +15,7 @@ invariant-loop-i l =
           no_seat);
       rest : (k : ℕ) → l.i ≤ k → k < length p.design.modules
           → IsSeated p l.at.of.now.codes.now l.at.clock k (get_or l.states k nobody) (get_or l.seats k no_seat);
-      done : HasDone l.at.keep l.initial.round l.round (flat_map (step_of p l.at.clock st.contents) (take l.i (numbered st)));
+      done : HasDone l.at.keep l.initial.round l.round (flat_map (module_step p l.at.clock st.contents) (take l.i (numbered st)));
       told : (k : ℕ) → k < l.i → get_or l.answers k [] ≡ get_or l.initial.answers k [] ++ outcomes (step_at p l.at.clock k);
       untold : (k : ℕ) → l.i ≤ k → get_or l.answers k [] ≡ get_or l.initial.answers k [];
     }

@@ -1,6 +1,6 @@
 use Rattle.std.proofs.Common.{refl, ap, ap₂, ◌∙◌, List, [], ℕ, length, arith}
 use Rattle.std.proofs.lemmas.List.{length-map}
-use Rattle.fifo_table.specs.{Channels.Channel, Channels.with_depth, Roomed.RoomedChannels}
+use Rattle.fifo_table.specs.{Channels.Channel, Channels.deepened_channels, Roomed.RoomedChannels}
 use Rattle.engine_view.specs.{declared.engine.Engine.Engine, Taking.kinds_in}
 use Rattle.retime.proofs.Cutting.{sound_lanes_of}
 use Rattle.cycle_changes.specs.{declared.changes.Put.Put, Found.put_places}
@@ -62,7 +62,7 @@ returns-clause-same g c = λ no.
     let put = c.change.ensures.put in
     all_same old _ (c.undo.ensures.undone old.graph.lanes put.lanes) (c.undo.ensures.rooms ∙ put.rooms)
     (c.set_depth-2.ensures.channels
-    ∙ (ap₂ (λ (cs : List Channel) (n : ℕ). with_depth cs c.args.edit.now.channel n)
+    ∙ (ap₂ (λ (cs : List Channel) (n : ℕ). deepened_channels cs c.args.edit.now.channel n)
     (ap (λ (q : RoomedChannels). q.channels) put.fifos ∙ c.set_depth.ensures.channels) c.depth-stands.ensures.depth
     ∙ depth_back old.fifos.channels c.args.edit.now.channel c.args.edit.now.depth c.requires.edit.inside))
     (c.set_depth-2.ensures.push_rooms ∙ (ap (λ (q : RoomedChannels). q.push_rooms) put.fifos ∙ c.set_depth.ensures.push_rooms))

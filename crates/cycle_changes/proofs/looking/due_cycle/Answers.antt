@@ -3,7 +3,7 @@ use Rattle.std.specs.Prelude.{All}
 use Rattle.flow_word.specs.declared.access.Step.{Step}
 use Rattle.event_graph.specs.{Lanes.lane_at, Lanes.no_lane, Packed.in_lane}
 use Rattle.time_engine.specs.Conditions.{IsAccess}
-use Rattle.engine_view.specs.Held.{held}
+use Rattle.engine_view.specs.Held.{held_parts}
 use Rattle.cycle_changes.proofs.HeldSteps.{step_is, looked_at, not_looked}
 use Rattle.cycle_changes.proofs.looking.due_cycle.Goals as goal
 
@@ -17,7 +17,7 @@ latest-requires-clause-accesses c =
 
 pub returns-in-Ok : goal.returns-in-Ok
 returns-in-Ok c =
-    let h = held c.args.graph.now.lanes c.args.fifos.now.channels [] [] in
+    let h = held_parts c.args.graph.now.lanes c.args.fifos.now.channels [] [] in
     let step = in_lane c.look-step.result in
     looked_at h c.args.at.module c.args.at.step step step.accesses
     (step_is h c.args.at.module c.args.at.step step c.look-step.ensures.step) refl c.cycle_before.result c.in-Ok.cycle
@@ -25,7 +25,7 @@ returns-in-Ok c =
 
 pub returns-in-Err : goal.returns-in-Err
 returns-in-Err c =
-    let h = held c.args.graph.now.lanes c.args.fifos.now.channels [] [] in
+    let h = held_parts c.args.graph.now.lanes c.args.fifos.now.channels [] [] in
     let step = in_lane c.look-step.result in
     not_looked h c.args.at.module c.args.at.step step step.accesses
     (step_is h c.args.at.module c.args.at.step step c.look-step.ensures.step) refl c.in-Err._access

@@ -1,7 +1,7 @@
 use Rattle.std.proofs.Common.{[], sym, ap, ◌∙◌, List, length, ◌<◌, subst, get_or}
 use Rattle.flow_word.specs.{declared.access.Access.Access, declared.access.Step.Step}
 use Rattle.engine_view.specs.Engines.{held_in}
-use Rattle.cycle_changes.specs.Around.{StandsAt}
+use Rattle.cycle_changes.specs.Around.{IsAccessAt}
 use Rattle.cycle_changes.proofs.HeldSteps.{step_is}
 use Rattle.event_graph.specs.Packed.{whole}
 use Rattle.cycle_changes.proofs.reach.is_right_or_elsewhere.Goals as goal
@@ -13,4 +13,4 @@ returns-then-not-stands_at c = λ e s.
     let same = ap (λ (t : Step). t.accesses) (step_is h c.args.at.module c.args.at.step (whole c.step.result) c.step.ensures.step)
     ∙ sym c.as_slice.ensures in
     absurd (c.stands_at.ensures c.if-not-stands_at.true j a (subst (λ (xs : List Access). j < length xs) same u)
-    (subst (StandsAt c.args.port.side c.args.port.channel) (sym is ∙ ap (λ (xs : List Access). get_or xs j a) same) st))
+    (subst (IsAccessAt c.args.port.side c.args.port.channel) (sym is ∙ ap (λ (xs : List Access). get_or xs j a) same) st))

@@ -1,7 +1,7 @@
 use Rattle.std.proofs.Common.{ℕ, ◌+◌, ◌<◌, ◌≡◌, List, length, sym, ◌∙◌, ap, subst, arith, inl}
 use Rattle.std.specs.Prelude.{slice_index_or, slice_set}
 use Rattle.depth_cuts.specs.{declared.cuts.Cut.Cut, declared.cuts.Need.Need, declared.order.Choice.Choice, Cuts.AreAbove}
-use Rattle.depth_cuts.specs.Searching.{AreTried, IsAt, IsTried, need_at, swapped}
+use Rattle.depth_cuts.specs.Searching.{AreTried, IsAt, IsNeedTried, need_at, swapped}
 use Rattle.depth_cuts.proofs.Found.{lent_met, lent_unmet, none_better, found_here, raised_at, turn_within, is_put_back, all_tried}
 use Rattle.depth_cuts.proofs.Found.{one_more_tried, reaches_raised}
 use Rattle.depth_cuts.proofs.search.+search.Goals as goal
@@ -77,8 +77,8 @@ loop-turn-preserved t c =
     let restored : c.put_back.new.at ≡ at = is_put_back at c.search.new.at c.put_back.new.at need.channel need.depth
     c.raise-before.result rose
     raised.before back.depths back.bits in
-    let here : IsTried demands at.depths c.search.new.best (need_at needs (swapped first turn)) =
-    subst (λ (k : ℕ). IsTried demands at.depths c.search.new.best (need_at needs k)) c.swapped.ensures (λ es above met deep.
+    let here : IsNeedTried demands at.depths c.search.new.best (need_at needs (swapped first turn)) =
+    subst (λ (k : ℕ). IsNeedTried demands at.depths c.search.new.best (need_at needs k)) c.swapped.ensures (λ es above met deep.
     ok.searched es (subst (λ (ds : List ℕ). AreAbove ds es) (sym raised.depths)
     (reaches_raised at.depths es need.channel need.depth above deep)) met) in
     record {

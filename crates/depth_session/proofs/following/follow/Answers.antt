@@ -3,7 +3,7 @@ use Rattle.flow_design.specs.declared.plan.Plan.{Plan}
 use Rattle.lockstep_defs.specs.Report.{report}
 use Rattle.outcome_guard.specs.{declared.guard.Guard.Guard, declared.count.RunCount.RunCount}
 use Rattle.sim_core.specs.Records.{HasOtherAnswer, recorded_in}
-use Rattle.depth_session.specs.{Records.RepeatsAnswers, Records.counted, Settled.HasGoneOn, Settled.count_of}
+use Rattle.depth_session.specs.{Records.RepeatsAnswers, Records.run_count, Settled.HasGoneOn, Settled.count_of}
 use Rattle.depth_order.specs.Depths.{AsksNothing}
 use Rattle.depth_order.proofs.Silent.{no_answers}
 use Rattle.depth_session.proofs.Behind.{none_answered, counts_on, counts_again, no_less, none_added, none_other, same_logs}
@@ -64,7 +64,7 @@ returns-in_ok-run_again-in-Differs-clause-counted g c =
     let gone = subst (λ (r : Guard). HasGoneOn r v e w) c.in-Differs.is c.in_ok-go_on.ensures.gone in
     let other = subst (λ (p : Plan). HasOtherAnswer v.held.logs p c.in-Differs.field-0) (sym c.run_again.ensures.plan)
     (c.records_are_answers.ensures.differ v e w gone.0 _ gone.1) in
-    ap (λ (a : List (List Bool)). counted a (c.args.runs + 1)) c.in_ok-run_again-in-Differs.ensures.answers
+    ap (λ (a : List (List Bool)). run_count a (c.args.runs + 1)) c.in_ok-run_again-in-Differs.ensures.answers
     ∙ sym (counts_again v c.run_again.new.core c.args.runs _ other)
 
 pub returns-in_ok-run_again-in-Differs-clause-at_most : goal.returns-in_ok-run_again-in-Differs-clause-at_most

@@ -1,5 +1,5 @@
-use Rattle.depth_sweep.specs.Kept.{IsKept}
+use Rattle.depth_sweep.specs.Kept.{IsBestKept}
 use Rattle.depth_sweep.proofs.ranking.best.Given as goal
 
 abbrev pub invariant-loop-place : goal.invariant-loop-place
-invariant-loop-place l = IsKept l.points l.place l.kept
+invariant-loop-place l = IsBestKept l.points l.place l.kept

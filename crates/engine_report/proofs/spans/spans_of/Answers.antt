@@ -4,7 +4,7 @@ use Rattle.std.specs.Prelude.{is_some}
 use Rattle.flow_design.specs.declared.state.Advance.{Advance}
 use Rattle.event_graph.specs.Lanes.{lane_at}
 use Rattle.engine_view.specs.Engines.{held_in}
-use Rattle.engine_report.specs.{Standings.end_at, Standings.gap_of, Reading.cycle_before, Reading.HasPassedSteps}
+use Rattle.engine_report.specs.{Standings.end_at, Standings.gap_of_end, Reading.cycle_before, Reading.HasPassedSteps}
 use Rattle.timelines.specs.Spans.{AreSpans}
 use Rattle.engine_report.proofs.Stepping.{IsRead, below_got, cycle_got, none_told, step_told, open_told, end_told}
 use Rattle.engine_report.proofs.spans.spans_of.Goals.{then-timed-len+in_ok-go_on-2, else-timed-len+in_ok-stand-2}
@@ -53,7 +53,7 @@ returns c = λ p f e.
           let few : c.args.owner < length c.args.ends.now = c.requires.ends in
           let same : w.index-ends-owner.result ≡ end_at c.args.ends.now c.args.owner = w.index-ends-owner.is
           ∙ get_or_default c.args.ends.now c.args.owner _ None few in
-          let gap = w.gap_of.ensures ∙ ap (λ (o : Option Advance). gap_of o) same in
+          let gap = w.gap_of.ensures ∙ ap (λ (o : Option Advance). gap_of_end o) same in
           subst (AreSpans p c.args.owner) (sym w.spans-is) (end_told p h c.args.ends.now c.args.owner c.args.clock r c.loop-step.last
           w.min-then-timed-len.result c.loop-step.spans w.go_on-then-timed-len.new.spans (omega arith) last
           (w.min-then-timed-len.ensures ∙ ap (λ (n : ℕ). min (c.loop-step.last + n) c.args.clock) gap) passed

@@ -4,7 +4,7 @@ use Rattle.flow_word.specs.declared.access.Step.{Step}
 use Rattle.event_graph.specs.{Lanes.lane_at, Lanes.no_lane, Packed.whole}
 use Rattle.time_engine.specs.Conditions.{IsAccess}
 use Rattle.engine_view.specs.Held.{no_step}
-use Rattle.engine_report.specs.Reading.{step_at}
+use Rattle.engine_report.specs.Reading.{lane_step}
 use Rattle.engine_report.proofs.spans.stand.Goals as goal
 
 pub stand_from-requires-clause-inside : goal.stand_from-requires-clause-inside
@@ -19,6 +19,6 @@ stand_from-requires-clause-inside c =
 pub returns-clause-spans : goal.returns-clause-spans
 returns-clause-spans c =
     let steps = (lane_at c.args.engine.now.graph.lanes c.args.place.module).steps in
-    let is : step_at c.args.engine.now.graph.lanes c.args.place ≡ whole c.step-step.result =
+    let is : lane_step c.args.engine.now.graph.lanes c.args.place ≡ whole c.step-step.result =
     get_or_from_slice_get steps c.args.place.step (whole c.step-step.result) no_step c.step-step.ensures.step in
     rw (is, ← c.min-arrival.ensures, ← c.as_slice.ensures) c.stand_from.ensures.spans

@@ -1,7 +1,7 @@
 use Rattle.std.proofs.Common.{◌≡◌, refl, sym, ap, ◌∙◌, ℕ, zero, suc, ◌+◌, ◌<◌, ◌≤◌, List, [], ◌∷◌, ◌++◌, length, take, arith}
 use Rattle.std.proofs.{Math.ListN.set, lemmas.List.append_assoc}
 use Rattle.flow_word.specs.declared.access.Access.{Access}
-use Rattle.event_graph.specs.Words.{most_accesses, accesses_in, behind}
+use Rattle.event_graph.specs.Words.{most_accesses, accesses_in, behind_access}
 use Rattle.event_graph.proofs.Chained.{has_first, some_word, only, going_from, some_in}
 use Rattle.event_graph.proofs.words.+read_all.Goals as goal
 
@@ -36,7 +36,7 @@ pub read_all-requires : goal.read_all-requires
 read_all-requires t c =
     let on = sym c.goes_on.ensures ∙ c.if-not-goes_on.false in
     let g = going_from _ c.args.words.now c.requires.1.0 on in
-    let few : c.args.at + 1 + length (accesses_in g.fewer (behind c.args.words.now)) ≤ most_accesses =
+    let few : c.args.at + 1 + length (accesses_in g.fewer (behind_access c.args.words.now)) ≤ most_accesses =
     omega (arith, ap length g.others, c.requires.1.1) in
     (omega (arith, c.behind.ensures.fewer, c.decreases), (g.fewer, rw c.behind.ensures.words (g.there, few)))
 
@@ -44,11 +44,11 @@ pub returns : goal.returns
 returns t c = λ most here few.
     let on = sym c.goes_on.ensures ∙ c.if-not-goes_on.false in
     let g = going_from most c.args.words.now here on in
-    let fewer : c.args.at + 1 + length (accesses_in g.fewer (behind c.args.words.now)) ≤ most_accesses =
+    let fewer : c.args.at + 1 + length (accesses_in g.fewer (behind_access c.args.words.now)) ≤ most_accesses =
     omega (arith, ap length g.others, few) in
     let rest = (rw c.behind.ensures.words at c.read_all.ensures) g.fewer g.there fewer in
     let one = one_written c.args.items.now c.args.at c.read_access.result (omega (arith, c.told-items, some_in most _ here, few)) in
-    let others = accesses_in g.fewer (behind c.args.words.now) in
+    let others = accesses_in g.fewer (behind_access c.args.words.now) in
     rest
     ∙ (ap (λ (xs : List Access). xs ++ others) one
     ∙ (append_assoc (take c.args.at c.args.items.now) (c.read_access.result ∷ []) others

@@ -1,7 +1,7 @@
 use Rattle.std.proofs.Common.{ap}
 use Rattle.std.specs.Option.{option_map}
 use Rattle.session_plan.specs.Plans.{plan_of}
-use Rattle.flow_check.specs.Checked.{at_line}
+use Rattle.flow_check.specs.Checked.{fault_on_line}
 use Rattle.flow_check.proofs.Fits.{strict}
 use Rattle.flow_check.proofs.laws.fitting_plans_are_checked.Goals as goal
 
@@ -9,5 +9,5 @@ pub returns : goal.returns
 returns c = record {
   plans = strict;
   sessions = λ scale statements lines fits keeps.
-      ap (option_map (at_line statements lines)) (strict scale (plan_of scale statements) fits keeps);
+      ap (option_map (fault_on_line statements lines)) (strict scale (plan_of scale statements) fits keeps);
 }

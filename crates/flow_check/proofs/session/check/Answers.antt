@@ -4,7 +4,7 @@ use Rattle.flow_design.specs.{declared.session.Statement.Statement, declared.pla
 use Rattle.flow_design.specs.{declared.limits.Scale.Scale, Plans.EditFits, StaticRules.FitsEngine}
 use Rattle.flow_grammar.specs.Rules.{KeepsReadingRules}
 use Rattle.session_plan.specs.Plans.{plan_of}
-use Rattle.flow_check.specs.{Checked.at_line, Checked.fault_of, Rules.checking_fault, Scales.KeepsScale}
+use Rattle.flow_check.specs.{Checked.fault_on_line, Checked.fault_of, Rules.checking_fault, Scales.KeepsScale}
 use Rattle.flow_check.proofs.{Reading.edits_fit, Reading.plan_read, Fits.fits, Fits.none_mapped}
 use Rattle.flow_check.proofs.session.check.Goals as goal
 
@@ -12,7 +12,7 @@ use Rattle.flow_check.proofs.session.check.Goals as goal
 both : (scale : Scale) (statements : List Statement) (lines : List ℕ) (plan : Plan) → plan ≡ plan_of scale statements
     → KeepsReadingRules scale statements → fault_of scale statements lines ≡ None → FitsEngine plan × KeepsScale scale plan
 both scale statements lines plan is rules told =
-    let none = none_mapped (at_line statements lines) (checking_fault scale (plan_of scale statements)) told in
+    let none = none_mapped (fault_on_line statements lines) (checking_fault scale (plan_of scale statements)) told in
     subst (λ (p : Plan). FitsEngine p × KeepsScale scale p) (sym is)
     (fits scale (plan_of scale statements) (plan_read scale statements rules) none)
 

@@ -1,7 +1,7 @@
 use Rattle.std.proofs.Common.{◌≡◌, map, take}
 use Rattle.report_text.specs.Lines.{text_of_lines}
-use Rattle.flow_print.specs.Canonical.{tokens_of}
+use Rattle.flow_print.specs.Canonical.{statement_tokens}
 use Rattle.flow_print.proofs.session.print_session.Given as goal
 
 abbrev pub invariant-loop-statement : goal.invariant-loop-statement
-invariant-loop-statement l = l.text ≡ text_of_lines (map (tokens_of l.version) (take l.statement-index l.statements))
+invariant-loop-statement l = l.text ≡ text_of_lines (map (statement_tokens l.version) (take l.statement-index l.statements))

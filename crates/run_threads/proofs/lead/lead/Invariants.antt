@@ -1,9 +1,9 @@
 use Rattle.std.proofs.Common.{◌≡◌, length}
 use Rattle.sim_hub.specs.Hubs.{IsPerfOf, perf_view}
-use Rattle.run_threads.specs.{Leading.HasGoneOn, Slots.AreSlots}
+use Rattle.run_threads.specs.{Leading.HasMoreTurns, Slots.AreSlots}
 use Rattle.run_threads.proofs.lead.lead.Given as goal
 
 abbrev pub invariant-loop : goal.invariant-loop
 invariant-loop g l =
-    IsPerfOf l.crew.hub.now l.perf × HasGoneOn (perf_view l.initial.perf) (perf_view l.perf)
+    IsPerfOf l.crew.hub.now l.perf × HasMoreTurns (perf_view l.initial.perf) (perf_view l.perf)
     × (length l.slots.items ≡ length l.initial.slots.items) × AreSlots l.crew.hub.now l.slots.items

@@ -1,7 +1,7 @@
 use Rattle.std.proofs.{Common.◌≡◌, Common.[], Common.length, Common.ap, Common.sym, Common.◌∙◌, Common.subst, lemmas.List.length-map}
 use mathlib.Core.List.{IsPrefix}
 use Rattle.timing_bridge.specs.Entries.{history_of}
-use Rattle.sim_hub.specs.{Hubs.perf_view, Closings.IsRun, Closings.ClosedIs}
+use Rattle.sim_hub.specs.{Hubs.perf_view, Closings.IsWholeRun, Closings.ClosedIs}
 use Rattle.run_threads.specs.{declared.drive.Seat.Seat, Slots.AreHere}
 use Rattle.run_threads.proofs.Openings.{prefix_trans, one_plan}
 use Rattle.run_threads.proofs.Places.{new_here, here_own, here_home, here_each}
@@ -35,4 +35,4 @@ returns-in-Final g c = let t = c.in-Final.threaded in let perf = c.run_all-perf.
     closed.1.first in
     let same = one_plan p t.core.plan t.turns.items closed.0 begins closed.2.0 in
     let plan : t.core.plan ≡ c.args.core.plan = sym same in
-    record { run = subst (λ q. IsRun q t) plan closed.2.1 }
+    record { run = subst (λ q. IsWholeRun q t) plan closed.2.1 }

@@ -1,7 +1,7 @@
 use Rattle.std.proofs.Common.{◌≡◌, false}
 use Rattle.module_interp.specs.Runs.{waits}
-use Rattle.session_tests.specs.Runs.{IsRun}
+use Rattle.session_tests.specs.Runs.{IsSomeRun}
 use Rattle.session_tests.proofs.module_runs.all_iterations.Given as goal
 
 abbrev pub invariant-loop-number : goal.invariant-loop-number
-invariant-loop-number g l = IsRun l.run × (waits l.run ≡ false)
+invariant-loop-number g l = IsSomeRun l.run × (waits l.run ≡ false)

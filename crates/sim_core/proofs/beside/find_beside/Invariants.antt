@@ -1,5 +1,5 @@
-use Rattle.sim_core.specs.Asking.{AreBesideTo, HasRoom}
+use Rattle.sim_core.specs.Asking.{AreBesideTo, SetHasRoom}
 use Rattle.sim_core.proofs.beside.find_beside.Given as goal
 
 abbrev pub invariant-loop-owner : goal.invariant-loop-owner
-invariant-loop-owner l = AreBesideTo l.plan l.owner l.beside × HasRoom l.plan l.set
+invariant-loop-owner l = AreBesideTo l.plan l.owner l.beside × SetHasRoom l.plan l.set

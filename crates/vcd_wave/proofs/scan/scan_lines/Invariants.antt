@@ -1,11 +1,11 @@
 use Rattle.std.proofs.Common.{length}
-use Rattle.vcd_wave.specs.{declared.scan.Scan.Scan as State, Scans.opening_scan, Scans.Leads}
+use Rattle.vcd_wave.specs.{declared.scan.Scan.Scan as State, Scans.opening_scan, Scans.ScanLeads}
 use Rattle.vcd_wave.proofs.scan.scan_lines.Given as goal
 
 abbrev pub invariant-loop-rest : goal.invariant-loop-rest
 invariant-loop-rest l =
-    ((r : State) → Leads l.asked l.scan l.rest r → Leads l.asked (opening_scan l.asked.count) l.fn.text r)
-    × ((r : State) → Leads l.asked (opening_scan l.asked.count) l.fn.text r → Leads l.asked l.scan l.rest r)
+    ((r : State) → ScanLeads l.asked l.scan l.rest r → ScanLeads l.asked (opening_scan l.asked.count) l.fn.text r)
+    × ((r : State) → ScanLeads l.asked (opening_scan l.asked.count) l.fn.text r → ScanLeads l.asked l.scan l.rest r)
 
 abbrev pub decreases-loop-rest : goal.decreases-loop-rest
 decreases-loop-rest l = length l.rest

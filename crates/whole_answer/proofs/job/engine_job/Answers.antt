@@ -3,7 +3,7 @@ use Rattle.std.specs.{Prelude.Bool, Prelude.if◌then◌else◌, declared.option
 use Rattle.flow_design.specs.{declared.plan.Plan.Plan, declared.report.Report.Report, StaticRules.FitsEngine}
 use Rattle.lockstep_defs.specs.Report.{report}
 use Rattle.outcome_guard.specs.Runs.{next_counts}
-use Rattle.depth_session.specs.Sessions.{Session, opened, with_edit}
+use Rattle.depth_session.specs.Sessions.{Session, opening_session, with_edit}
 use Rattle.report_text.specs.{Lines.line, Lines.runs_tokens, ReportText.report_text_of}
 use Rattle.sim_io.specs.Causes.{AppendsPrefix}
 use Rattle.sim_io.proofs.Pending.{prefix_none}
@@ -25,7 +25,7 @@ loop-edit-init g c =
     let events = c.args.events in
     let p = c.args.plan in
     let s = c.in_ok-session.session in
-    let begun : s ≡ opened p = c.in_ok-session.ensures.opened in
+    let begun : s ≡ opening_session p = c.in_ok-session.ensures.opened in
     let plan : s.plan ≡ p = ap (λ (v : Session). v.plan) begun in
     let first = g.K.Sink.held c.args.sink.now in
     let held = g.K.Sink.held c.write_report.new.sink in

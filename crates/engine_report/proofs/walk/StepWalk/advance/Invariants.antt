@@ -1,5 +1,5 @@
 use Rattle.std.proofs.Common.{◌-◌}
-use Rattle.engine_report.specs.Walking.{never, IsWalk, FoundIn}
+use Rattle.engine_report.specs.Walking.{past_every_cycle, IsWalk, FoundIn}
 use Rattle.engine_report.proofs.walk.StepWalk.advance.Given as goal
 
 abbrev pub invariant-loop-found : goal.invariant-loop-found
@@ -9,4 +9,4 @@ invariant-loop-found l = record {
 }
 
 abbrev pub decreases-loop-found : goal.decreases-loop-found
-decreases-loop-found l = never - l.self.clock
+decreases-loop-found l = past_every_cycle - l.self.clock

@@ -1,5 +1,5 @@
 use Rattle.std.proofs.{Common.◌<◌, Common.length, lemmas.List.length-set, lemmas.List.length-map}
-use Rattle.event_graph.specs.{Lanes.Lane, Lanes.no_lane, Lanes.timed, Roomed.RoomedLane}
+use Rattle.event_graph.specs.{Lanes.Lane, Lanes.no_lane, Lanes.lane_with_cycle, Roomed.RoomedLane}
 use Rattle.flow_word.proofs.Changed.{shown_set, shown_kept}
 use Rattle.event_graph.proofs.Growth.{all_sound}
 use Rattle.event_graph.proofs.graph.Graph.set_cycle.Goals as goal
@@ -13,7 +13,7 @@ invariant_of-self g c = (
 pub returns-clause-lanes : goal.returns-clause-lanes
 returns-clause-lanes g c =
     let there : c.args.owner < length c.self.inside.lanes.items = rw (← c.self.view_is, length-map) at c.requires.owner in
-    rw (← c.self.view_is) (shown_set (λ (l : RoomedLane). l.lane) (λ (l : Lane). timed l c.args.cycle) c.self.inside.lanes.items
+    rw (← c.self.view_is) (shown_set (λ (l : RoomedLane). l.lane) (λ (l : Lane). lane_with_cycle l c.args.cycle) c.self.inside.lanes.items
     c.args.owner c.index_mut.result.now c.set_cycle.new.self no_lane there c.index_mut.ensures.value c.set_cycle.ensures.lane)
 
 pub returns-clause-kept : goal.returns-clause-kept

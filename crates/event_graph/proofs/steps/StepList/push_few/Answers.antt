@@ -1,13 +1,13 @@
 use Rattle.std.proofs.Common.{[], ◌∷◌, arith, length, ap, length-append}
 use Rattle.event_graph.proofs.Packing.{few_kept, opened_with, inside_with}
-use Rattle.event_graph.specs.{Packed.whole, Packed.IsKept, declared.steps.Head.Head}
+use Rattle.event_graph.specs.{Packed.whole, Packed.IsStepKept, declared.steps.Head.Head}
 use Rattle.event_graph.proofs.steps.StepList.push_few.Goals as goal
 
 -- the head of the step
 abbrev head_of : goal.After-self-1 → Head
 head_of c = record { gap = c.args.step.now.gap; first_query = c.args.step.now.first_query; at = c.push_accesses.result }
 
-kept : (c : goal.After-self-1) → IsKept c.self.inside.words.items c.self.inside.others.items c.push_accesses.new.words.items
+kept : (c : goal.After-self-1) → IsStepKept c.self.inside.words.items c.self.inside.others.items c.push_accesses.new.words.items
     c.self.inside.others.items (whole c.args.step.now) (head_of c)
 kept c =
     few_kept c.self.inside.words.items c.push_accesses.new.words.items c.self.inside.others.items c.args.step.now.accesses (head_of c)

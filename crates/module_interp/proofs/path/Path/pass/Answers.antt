@@ -1,7 +1,7 @@
 use Rattle.std.proofs.Common.{◌≡◌, ◌+◌, ◌≤◌, false, [], ap}
 use Rattle.lockstep_defs.specs.Machine.{move, is_over}
 use Rattle.module_code.specs.Moves.{gone_on}
-use Rattle.module_interp.specs.{declared.path.Path.Path, Paths.AsksNothing}
+use Rattle.module_interp.specs.{declared.path.Path.Path, Paths.RequestsNothing}
 use Rattle.module_interp.specs.declared.path.Stage.TheVariants.{Begun, Ticked}
 use Rattle.module_interp.proofs.Ways.{Passes, has_begun, one_passes, passes_keep, passes_nearer}
 use Rattle.module_interp.proofs.path.Path.pass.Goals as goal
@@ -12,7 +12,7 @@ commit_due-requires-clause-answer c =
     record { state = h.sound; noted = c.requires.noted; clock = h.clock; count = h.count }
 
 passed : (x y : Path) → y ≡ record x { state = y.state; stage = Ticked }
-    → x.stage ≡ Begun → is_over x.limit x.state ≡ false → AsksNothing x
+    → x.stage ≡ Begun → is_over x.limit x.state ≡ false → RequestsNothing x
     → gone_on y.of y.state ≡ move x.of x.state [] → y.state.control.block ≡ x.state.control.block
     → y.state.control.newest ≤ y.state.control.clock
     → Passes x (record y { since = y.since + 1 }) 0

@@ -1,5 +1,5 @@
 use Rattle.std.proofs.{Common.◌<◌, Common.length, Common.arith, lemmas.List.length-map}
-use Rattle.query_log.specs.{declared.roomy.RoomyLog.RoomyLog, Logs.Log, Logs.no_log, Logs.answered, Logs.log_of}
+use Rattle.query_log.specs.{declared.roomy.RoomyLog.RoomyLog, Logs.Log, Logs.no_log, Logs.verified_more, Logs.bare_log}
 use Rattle.flow_word.proofs.Changed.{shown_set, shown_old, shown_new, shown_other}
 use Rattle.query_log.proofs.SoundLogs.{replaced, read_sound, read_log, answered_sound}
 use Rattle.query_log.proofs.log.QueryLog.add.Goals as goal
@@ -29,7 +29,7 @@ invariant_of-self c =
 pub returns-clause-logs : goal.returns-clause-logs
 returns-clause-logs c =
     let there : c.args.owner < length c.self.inside.logs.items = rw (← c.self.view_is, length-map) at c.requires.owner in
-    rw (← c.self.view_is) (shown_set log_of (λ (l : Log). answered l c.args.yes) c.self.inside.logs.items c.args.owner
+    rw (← c.self.view_is) (shown_set bare_log (λ (l : Log). verified_more l c.args.yes) c.self.inside.logs.items c.args.owner
     c.index_mut.result.now c.add.new.self no_log there c.index_mut.ensures.value c.add.ensures.log)
 
 pub returns-clause-own_room : goal.returns-clause-own_room

@@ -1,5 +1,5 @@
 use Rattle.std.proofs.{Common.refl, Common.◌<◌, Common.length, Math.Seq.map-set_same, lemmas.List.length-map, lemmas.Result.on_ok_weaker}
-use Rattle.query_log.specs.{declared.roomy.RoomyLog.RoomyLog, Logs.log_of}
+use Rattle.query_log.specs.{declared.roomy.RoomyLog.RoomyLog, Logs.bare_log}
 use Rattle.flow_word.proofs.Changed.{shown_new, shown_kept}
 use Rattle.query_log.proofs.SoundLogs.{replaced, read_sound}
 use Rattle.query_log.proofs.log.QueryLog.reserve.Goals as goal
@@ -12,7 +12,7 @@ invariant_of-self c =
 
 pub returns-clause-logs : goal.returns-clause-logs
 returns-clause-logs c =
-    rw (← c.self.view_is) (map-set_same log_of c.self.inside.logs.items c.args.owner _ c.index_mut.result.now
+    rw (← c.self.view_is) (map-set_same bare_log c.self.inside.logs.items c.args.owner _ c.index_mut.result.now
     (rw (← c.index_mut.ensures.value, c.reserve.ensures.items) refl))
 
 pub returns-clause-room : goal.returns-clause-room

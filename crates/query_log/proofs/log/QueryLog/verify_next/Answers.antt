@@ -1,5 +1,5 @@
 use Rattle.std.proofs.{Common.refl, Common.◌+◌, Common.◌<◌, Common.length, Common.arith, Math.Seq.map-set_same, lemmas.List.length-map}
-use Rattle.query_log.specs.{declared.roomy.RoomyLog.RoomyLog, Logs.Log, Logs.no_log, Logs.log_of}
+use Rattle.query_log.specs.{declared.roomy.RoomyLog.RoomyLog, Logs.Log, Logs.no_log, Logs.bare_log}
 use Rattle.flow_word.proofs.Changed.{shown_set}
 use Rattle.query_log.proofs.SoundLogs.{replaced, read_log}
 use Rattle.query_log.proofs.log.QueryLog.verify_next.Goals as goal
@@ -24,7 +24,7 @@ invariant_of-self c =
 pub returns-clause-logs : goal.returns-clause-logs
 returns-clause-logs c =
     let there : c.args.owner < length c.self.inside.logs.items = rw (← c.self.view_is, length-map) at c.requires.owner in
-    rw (← c.self.view_is) (shown_set log_of (λ (l : Log). record l { verified = l.verified + 1 }) c.self.inside.logs.items c.args.owner
+    rw (← c.self.view_is) (shown_set bare_log (λ (l : Log). record l { verified = l.verified + 1 }) c.self.inside.logs.items c.args.owner
     c.index_mut.result.now _ no_log there c.index_mut.ensures.value (rw c.verify_next.ensures refl))
 
 pub returns-clause-rooms : goal.returns-clause-rooms

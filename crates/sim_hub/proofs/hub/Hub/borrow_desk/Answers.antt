@@ -2,7 +2,7 @@ use Rattle.std.proofs.Common.{◌≡◌, ◌+◌, ℕ, Bool, List, sym, subst, �
 use Rattle.turn_lock.specs.{declared.view.View.View, Passes.view_of, Passes.turn_view, Turns.BeginsTurn}
 use Rattle.timing_bridge.specs.{declared.entry.HubEntry.HubEntry, Entries.bearer}
 use Rattle.sim_hub.specs.{declared.ledger.Ledger.Ledger, Ledgers.entries_in, Places.IsLater, Places.IsLegal, declared.answer.Desk.Desk}
-use Rattle.sim_hub.specs.{Hubs.OutAt, Steps.ComesHome, Steps.LendingIs, Steps.MayAdd, Steps.IsEnd}
+use Rattle.sim_hub.specs.{Hubs.OutAt, Steps.ComesHome, Steps.LendingIs, Steps.MayAdd, Steps.IsTurnEnd}
 use Rattle.sim_hub.proofs.{Books.of_borrowed, Books.of_books, Keeping.kept_legal}
 use Rattle.sim_hub.proofs.Answering.{lending_adds, is_later, desk_answer, end_seen, module_later}
 use Rattle.sim_hub.proofs.hub.Hub.borrow_desk.Goals as goal
@@ -40,10 +40,10 @@ end-place-requires-clause-adds g c =
 -- the turn is this pass's next
 later : (m tries : ℕ) (answer : Desk) (added : Bool) (log more begun : List HubEntry)
     (v t w : View HubEntry) → BeginsTurn bearer tries log v t → begun ≡ log
-    → LendingIs m log more answer added → IsEnd added begun more t w → IsLater v w
+    → LendingIs m log more answer added → IsTurnEnd added begun more t w → IsLater v w
 later m tries answer added log more begun v t w b same lending e =
     is_later (m + 1) tries added log more v t w b (lending_adds m log more answer added lending)
-    (subst (λ (x : List HubEntry). IsEnd added x more t w) same e)
+    (subst (λ (x : List HubEntry). IsTurnEnd added x more t w) same e)
 
 pub invariant_of-pass : goal.invariant_of-pass
 invariant_of-pass g c =
@@ -61,7 +61,7 @@ invariant_of-pass g c =
     let after = later p.which turn.0 answer added (entries_in d) more _ (view_of p.place.pass) t w turn.1 turn.1.history lending
     c.end-place.ensures.end in
     let seen = end_seen (p.which + 1) added (entries_in d) more t w (lending_adds p.which (entries_in d) more answer added lending)
-    (subst (λ (x : List HubEntry). IsEnd added x more t w) turn.1.history c.end-place.ensures.end) in
+    (subst (λ (x : List HubEntry). IsTurnEnd added x more t w) turn.1.history c.end-place.ensures.end) in
     record {
       is = c.end-place.ensures.number ∙ p.is;
       within = module_later p.which (view_of p.place.pass).seen w.seen p.within after.begins
@@ -94,7 +94,7 @@ returns-clause-answer g c =
     let lending = of_books (λ log. LendingIs p.which log more answer added) c.deref_mut.ensures.value c.value_mut.ensures.value
     c.lend-desk.ensures.lending in
     desk_answer turn.0 (entries_in d) more (view_of p.place.pass) t w turn.1 p.which answer added lending
-    (subst (λ (x : List HubEntry). IsEnd added x more t w) turn.1.history c.end-place.ensures.end)
+    (subst (λ (x : List HubEntry). IsTurnEnd added x more t w) turn.1.history c.end-place.ensures.end)
 
 pub returns-clause-out : goal.returns-clause-out
 returns-clause-out g c =
@@ -109,5 +109,5 @@ returns-clause-out g c =
     let lending = of_books (λ log. LendingIs p.which log more answer added) c.deref_mut.ensures.value c.value_mut.ensures.value
     c.lend-desk.ensures.lending in
     let seen = end_seen (p.which + 1) added (entries_in d) more t w (lending_adds p.which (entries_in d) more answer added lending)
-    (subst (λ (x : List HubEntry). IsEnd added x more t w) turn.1.history c.end-place.ensures.end) in
+    (subst (λ (x : List HubEntry). IsTurnEnd added x more t w) turn.1.history c.end-place.ensures.end) in
     subst (λ (es : List HubEntry). OutAt p.which es answer) (sym seen) c.lend-desk.ensures.out

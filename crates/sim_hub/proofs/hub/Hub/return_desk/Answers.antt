@@ -2,7 +2,7 @@ use Rattle.std.proofs.Common.{◌+◌, ℕ, true, List, length, sym, subst, ◌�
 use Rattle.turn_lock.specs.Passes.{view_of, turn_view}
 use Rattle.timing_bridge.specs.declared.entry.HubEntry.{HubEntry}
 use Rattle.sim_hub.specs.{declared.ledger.Ledger.Ledger, Ledgers.entries_in, Places.HasNoDesk, Places.IsLegal}
-use Rattle.sim_hub.specs.Steps.{BackIs, ComesBack, MayAdd, IsEnd}
+use Rattle.sim_hub.specs.Steps.{BackIs, ComesBack, MayAdd, IsTurnEnd}
 use Rattle.sim_hub.proofs.{Books.of_borrowed, Books.of_books, Keeping.kept_legal}
 use Rattle.sim_hub.proofs.Answering.{back_adds, is_later, back_answer, end_seen, module_later}
 use Rattle.sim_hub.proofs.hub.Hub.return_desk.Goals as goal
@@ -52,7 +52,7 @@ invariant_of-pass g c =
     let back = of_books (λ log. BackIs p.which n log more made) c.deref_mut.ensures.value c.value_mut.ensures.value
     c.take_back-made.ensures.back in
     let may = back_adds p.which n (entries_in d) more made back in
-    let over = subst (λ (x : List HubEntry). IsEnd true x more t w) turn.1.history c.end-place.ensures.end in
+    let over = subst (λ (x : List HubEntry). IsTurnEnd true x more t w) turn.1.history c.end-place.ensures.end in
     let after = is_later (p.which + 1) turn.0 true (entries_in d) more v t w turn.1 may over in
     let seen = end_seen (p.which + 1) true (entries_in d) more t w may over in
     record {
@@ -75,7 +75,7 @@ returns-clause-later g c =
     c.take_back-made.ensures.back in
     is_later (p.which + 1) turn.0 true (entries_in d) more (view_of p.place.pass) t w turn.1
     (back_adds p.which n (entries_in d) more made back)
-    (subst (λ (x : List HubEntry). IsEnd true x more t w) turn.1.history c.end-place.ensures.end)
+    (subst (λ (x : List HubEntry). IsTurnEnd true x more t w) turn.1.history c.end-place.ensures.end)
 
 pub returns-clause-turn : goal.returns-clause-turn
 returns-clause-turn g c =
@@ -90,7 +90,7 @@ returns-clause-turn g c =
     let back = of_books (λ log. BackIs p.which n log more made) c.deref_mut.ensures.value c.value_mut.ensures.value
     c.take_back-made.ensures.back in
     back_answer turn.0 (entries_in d) more (view_of p.place.pass) t w turn.1 p.which n made back
-    (subst (λ (x : List HubEntry). IsEnd true x more t w) turn.1.history c.end-place.ensures.end)
+    (subst (λ (x : List HubEntry). IsTurnEnd true x more t w) turn.1.history c.end-place.ensures.end)
 
 pub returns-clause-home : goal.returns-clause-home
 returns-clause-home g c =
@@ -105,5 +105,5 @@ returns-clause-home g c =
     let back = of_books (λ log. BackIs p.which n log more made) c.deref_mut.ensures.value c.value_mut.ensures.value
     c.take_back-made.ensures.back in
     let seen = end_seen (p.which + 1) true (entries_in d) more t w (back_adds p.which n (entries_in d) more made back)
-    (subst (λ (x : List HubEntry). IsEnd true x more t w) turn.1.history c.end-place.ensures.end) in
+    (subst (λ (x : List HubEntry). IsTurnEnd true x more t w) turn.1.history c.end-place.ensures.end) in
     subst (HasNoDesk p.which) (sym seen) c.take_back-made.ensures.home

@@ -6,12 +6,6 @@ use Rattle.flow_design.specs.{declared.design.Channel.Channel, Plans.is_fifo, Pl
 use Rattle.report_text.specs.Lines.{line, text_of_lines}
 use Rattle.depth_advice.specs.DepthLines.{depth_tokens, depth_lines}
 
--- a line of three tokens
-pub line_of_three : (text a b c : List ℕ) → (((text ++ a) ++ 32 ∷ b) ++ 32 ∷ c) ++ 10 ∷ [] ≡ text ++ line (a ∷ b ∷ c ∷ [])
-line_of_three text a b c = grind (arith, common_steps)
-
--- ---- all lines
-
 -- what is printed, with what the channels from a place on give, is the whole
 abbrev pub IsPrinting : List ℕ → List ℕ → List Channel → List ℕ → ℕ → Type 0
 IsPrinting first text channels depths at =

@@ -26,7 +26,7 @@ pub fn print_depths(
 }
 
 /// Adds the line `depth NAME D` of a FIFO. After `OutOfMemory` the text may have part of it.
-#[tactic(auto, using(crate::proofs::DepthLines::line_of_three))]
+#[tactic(auto, using(report_text::proofs::LineLemmas::line_of_three))]
 fn print_depth(text: &mut List<u8>, channel: &Channel, depth: u64) -> Result<(), OutOfMemory>
     ensures { OnOk result (text.new ≡ text.old ++ line (depth_tokens (channel.now, depth))) }
 {

@@ -42,6 +42,10 @@ begins_through new text old h g =
     let shorter : length old ≤ length text = omega (arith, ap length g, length-take (length old) text) in
     sym (take-take (length old) (length text) new shorter) ∙ (ap (λ t. take (length old) t) h ∙ g)
 
+-- a line of three tokens
+pub line_of_three : (text a b c : List ℕ) → (((text ++ a) ++ 32 ∷ b) ++ 32 ∷ c) ++ 10 ∷ [] ≡ text ++ line (a ∷ b ∷ c ∷ [])
+line_of_three text a b c = grind (arith, common_steps)
+
 -- a line of four tokens
 pub line_of_four : (text a b c d : List ℕ) → ((((text ++ a) ++ 32 ∷ b) ++ 32 ∷ c) ++ 32 ∷ d) ++ 10 ∷ [] ≡ text ++ line (a ∷ b ∷ c ∷ d ∷ [])
 line_of_four text a b c d = grind (arith, common_steps)

@@ -12,12 +12,15 @@ line tokens = join_with_byte 32 tokens ++ 10 ∷ []
 abbrev pub text_of_lines : List (List Token) → List ℕ
 text_of_lines = flat_map line
 
--- the tokens of a verdict line, as `verdict done C`
+-- the words of a verdict, as `done C`; and then, of its line
+abbrev pub verdict_words : Verdict → List Token
+verdict_words (Done c) = codes "done" ∷ decimal c ∷ []
+verdict_words (Deadlock c) = codes "deadlock" ∷ decimal c ∷ []
+verdict_words (Cycles c) = codes "cycles" ∷ decimal c ∷ []
+verdict_words (Ops c) = codes "ops" ∷ decimal c ∷ []
+
 abbrev pub verdict_tokens : Verdict → List Token
-verdict_tokens (Done c) = codes "verdict" ∷ codes "done" ∷ decimal c ∷ []
-verdict_tokens (Deadlock c) = codes "verdict" ∷ codes "deadlock" ∷ decimal c ∷ []
-verdict_tokens (Cycles c) = codes "verdict" ∷ codes "cycles" ∷ decimal c ∷ []
-verdict_tokens (Ops c) = codes "verdict" ∷ codes "ops" ∷ decimal c ∷ []
+verdict_tokens verdict = codes "verdict" ∷ verdict_words verdict
 
 -- the tokens of `runs K`, the last line of a text
 abbrev pub runs_tokens : ℕ → List Token

@@ -8,5 +8,5 @@ mod report;
 pub use lines::{
     print_numbers, print_runs, print_verdict, push_number, push_token, push_value, push_values,
 };
-pub use names::{channel_name, kind_word, module_name, stall_word};
+pub use names::{channel_name, kind_word, module_name, stall_word, verdict_words};
 pub use report::print_report;

@@ -3,6 +3,7 @@ ghost use Rattle.std.specs.Prelude.{◌≡◌, [], ◌∷◌, ◌++◌, decimal,
 ghost use Rattle.std.specs.Io.{StartsWith};
 ghost use Rattle.report_text.specs.Lines.{line, verdict_tokens, runs_tokens, spaced};
 
+use crate::names::verdict_words;
 use flow_design::Verdict;
 use flow_word::{List, OutOfMemory};
 use itoa::Buffer;
@@ -36,16 +37,16 @@ pub fn print_runs(text: &mut List<u8>, runs: u64) -> Result<(), OutOfMemory>
 }
 
 /// Adds the line `verdict VERDICT C`. After `OutOfMemory` the text may end with a part of it.
+#[tactic(auto, using(crate::proofs::LineLemmas::line_of_three, crate::proofs::LineLemmas::still_starts))]
 pub fn print_verdict(text: &mut List<u8>, verdict: Verdict) -> Result<(), OutOfMemory>
     ensures ok { OnOk result (text.new ≡ text.old ++ line (verdict_tokens verdict)) }
     ensures err { OnErr result (StartsWith text.new text.old) }
 {
-    match verdict {
-        Verdict::Done(clock) => print_numbers(text, b"verdict done", &[clock]),
-        Verdict::Deadlock(clock) => print_numbers(text, b"verdict deadlock", &[clock]),
-        Verdict::Cycles(clock) => print_numbers(text, b"verdict cycles", &[clock]),
-        Verdict::Ops(clock) => print_numbers(text, b"verdict ops", &[clock]),
-    }
+    text.extend_from_slice(b"verdict")?;
+    let (word, clock) = verdict_words(verdict);
+    push_token(text, word)?;
+    push_value(text, clock)?;
+    text.push(b'\n')
 }
 
 /// Adds numbers, each with a space before it. After `OutOfMemory` the text may end with a part of them.

@@ -1,8 +1,9 @@
-//! The names of channels and modules by number, and the words for kinds and stalls.
-ghost use Rattle.std.specs.Prelude.{◌≡◌, ◌<◌, length};
+//! The names of channels and modules by number, and the words for kinds, stalls and verdicts.
+ghost use Rattle.std.specs.Prelude.{◌≡◌, ◌<◌, ◌∷◌, [], decimal, length};
+ghost use Rattle.report_text.specs.Lines.{verdict_words};
 ghost use Rattle.report_text.specs.ReportText.{channel_name, module_name, kind_token, stall_word};
 
-use flow_design::Design;
+use flow_design::{Design, Verdict};
 use flow_word::{Kind, Side};
 
 /// The name of the channel with this number.
@@ -42,5 +43,17 @@ pub fn stall_word(side: Side) -> &'static [u8]
     match side {
         Side::Pop => b"empty",
         Side::Push => b"full",
+    }
+}
+
+/// The word of a verdict, and its clock.
+pub fn verdict_words(verdict: Verdict) -> (&'static [u8], u64)
+    ensures { verdict_words verdict ≡ result.0.now ∷ decimal result.1 ∷ [] }
+{
+    match verdict {
+        Verdict::Done(clock) => (b"done", clock),
+        Verdict::Deadlock(clock) => (b"deadlock", clock),
+        Verdict::Cycles(clock) => (b"cycles", clock),
+        Verdict::Ops(clock) => (b"ops", clock),
     }
 }

@@ -4,7 +4,6 @@ use Rattle.std.specs.Prelude.{decimal, find, length, map, sum}
 use Rattle.std.specs.List.{list_any, range_with_len}
 use Rattle.flow_design.specs.{declared.design.Design.Design, declared.plan.Plan.Plan, Reports.clock_of, Names.Token}
 use Rattle.flow_design.specs.declared.report.Verdict.{Verdict}
-use Rattle.flow_design.specs.declared.report.Verdict.TheVariants as verdict
 use Rattle.lockstep_defs.specs.{Laws.is_query, Report.report}
 use Rattle.serial_order.specs.{declared.order.Used.Used, declared.order.Order.Order, Orders.order_of}
 use Rattle.serial_order.specs.declared.order.Used.TheVariants as used
@@ -13,7 +12,7 @@ use Rattle.depth_sweep.specs.{declared.point.Point.Point, Grid.grid_of, Grid.mos
 use Rattle.depth_advice.specs.{Advice.advised, Advice.wide, DepthLines.depth_lines}
 use Rattle.least_depths.specs.{Least.sizes, SizeText.size_text}
 use Rattle.least_memory.specs.{Least.leasts, LeastText.least_text}
-use Rattle.report_text.specs.{Lines.line, Lines.text_of_lines, Lines.verdict_tokens, ReportText.module_name}
+use Rattle.report_text.specs.{Lines.line, Lines.text_of_lines, Lines.verdict_tokens, Lines.verdict_words, ReportText.module_name}
 use Rattle.whole_answer.specs.{declared.answer.Answer.Answer, declared.ending.Ending.Ending, Job.is_done, Job.ending_of}
 use Rattle.whole_answer.specs.declared.ending.Ending.TheVariants.{Done, Text}
 
@@ -53,13 +52,6 @@ ordered design = record {
 }
 
 -- ---- `sweep`
-
--- the word of a verdict and its clock
-abbrev pub verdict_words : Verdict → List Token
-verdict_words (verdict.Done c) = codes "done" ∷ decimal c ∷ []
-verdict_words (verdict.Deadlock c) = codes "deadlock" ∷ decimal c ∷ []
-verdict_words (verdict.Cycles c) = codes "cycles" ∷ decimal c ∷ []
-verdict_words (verdict.Ops c) = codes "ops" ∷ decimal c ∷ []
 
 -- the tokens of the line of a point: `point`, its depths, and its verdict's word and clock
 abbrev pub point_tokens : Point → List Token

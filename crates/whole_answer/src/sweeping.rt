@@ -1,10 +1,9 @@
 //! The answer to `sweep`.
-ghost use Rattle.std.specs.Prelude.{◌≡◌, ◌≤◌, ◌∷◌, ◌++◌, [], decimal, map, IfOk, OnOk};
-ghost use Rattle.std.specs.List.{list_any};
+ghost use Rattle.std.specs.{Prelude.◌≡◌, Prelude.◌≤◌, Prelude.◌++◌, Prelude.[], Prelude.map, Prelude.IfOk, Prelude.OnOk, List.list_any};
 ghost use Rattle.flow_design.specs.StaticRules.{FitsEngine};
 ghost use Rattle.report_text.specs.Lines.{line, text_of_lines};
 ghost use Rattle.whole_answer.specs.Further.{best_of, best_tokens, first_ending, is_done_at, not_taken, point_tokens, points_ending, swept};
-ghost use Rattle.whole_answer.specs.Further.{told_points, verdict_words};
+ghost use Rattle.whole_answer.specs.Further.{told_points};
 
 use crate::answer::Answer;
 use crate::ending::Ending;
@@ -12,7 +11,7 @@ use crate::refusing::{TOO_MANY_POINTS, refuse};
 use depth_sweep::{Point, SweepFault, best, sweep};
 use flow_design::{Plan, Verdict};
 use flow_word::{List, OutOfMemory};
-use report_text::{print_numbers, push_token, push_value, push_values};
+use report_text::{print_numbers, push_token, push_value, push_values, verdict_words};
 use std::alloc::Global;
 use std::thread::Threads;
 
@@ -73,18 +72,6 @@ fn print_point(text: &mut List<u8>, point: &Point) -> Result<(), OutOfMemory>
     push_token(text, word)?;
     push_value(text, clock)?;
     text.push(b'\n')
-}
-
-/// The word of a verdict, and its clock.
-fn verdict_words(verdict: Verdict) -> (&'static [u8], u64)
-    ensures { verdict_words verdict ≡ result.0.now ∷ decimal result.1 ∷ [] }
-{
-    match verdict {
-        Verdict::Done(clock) => (b"done", clock),
-        Verdict::Deadlock(clock) => (b"deadlock", clock),
-        Verdict::Cycles(clock) => (b"cycles", clock),
-        Verdict::Ops(clock) => (b"ops", clock),
-    }
 }
 
 /// Adds the line of the best point: `best` and its depths, or `best none`. After `OutOfMemory` the text may have part of it.

@@ -89,17 +89,6 @@ note_more b s oldest i gs ns now g e n is inside there read own so_far k h d l =
       rw (item, note) own
 ]
 
--- the value and the address of an operation that is due
-pub note_is : (b : Block) (s : ModuleState) (oldest : ℕ) (g : Guarded) (n : Note) (test : Bool)
-    → test ≡ passes s.registers (temps_of s (g.slot.rank - oldest)) (operation_at b g.slot.op).guard → n.passes ≡ test
-    → (test ≡ true → n.iteration ≡ g.slot.rank - oldest)
-    → (test ≡ true → n.value ≡ (noted_for b s (record { iteration = g.slot.rank - oldest; op = g.slot.op })).value)
-    → (test ≡ true → n.address ≡ (noted_for b s (record { iteration = g.slot.rank - oldest; op = g.slot.op })).address)
-    → noted_by (g, n) ≡ noted_at b s oldest g
-note_is b s oldest g n true is same iteration value address =
-    rw (same, sym is, iteration refl, value refl, address refl) refl
-note_is b s oldest g n false is same iteration value address = rw (same, sym is) refl
-
 zipped : {X Y Z : Type 0} (f : X × Y → Option Z) (h : X → Option Z) (xs : List X) (ys : List Y) → length xs ≤ length ys
     → ((k : ℕ) (x : X) (y : Y) → k < length xs → f (get_or xs k x, get_or ys k y) ≡ h (get_or xs k x))
     → filter_map f (zip xs ys) ≡ filter_map h xs

@@ -13,15 +13,9 @@ use Rattle.flow_design.specs.Module.{block_of, operation_at, no_operation, inter
 use Rattle.flow_design.specs.Module.{due_in, due}
 use Rattle.flow_design.specs.StaticRules.{IsModuleSound, IsMemorySound, IsTimedSound, IsOperationSound}
 use Rattle.lockstep_defs.specs.Machine.{memory_of}
-use Rattle.lockstep_defs.proofs.{Blocks.block_sound, Blocks.some_interval, Blocks.span, Live.length-ages_down, Standing.due_in_range}
+use Rattle.lockstep_defs.proofs.{Blocks.block_sound, Blocks.some_interval, Blocks.span, Live.length-ages_down}
 use Rattle.module_code.specs.{Ready.IsOperationReady, Sound.IsStateSound, Sound.IsDueSound}
 use Rattle.module_code.proofs.Begins.{live_count_is, few_live}
-
--- each due operation of a sound state
-pub due_sound : (m : Module) (s : ModuleState) → IsStateSound m s → All (IsDueSound m s) (due m s)
-due_sound m s sound k d within =
-    let found = due_in_range m s k d within in
-    record { iteration = rw sound.state.places.temps found.iteration; op = found.op }
 
 -- ---- what an operation looks up
 

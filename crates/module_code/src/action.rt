@@ -1,11 +1,13 @@
 //! Operations as actions: their expressions are operands, and the places that they write have masks.
-ghost use Rattle.std.specs.Prelude.{◌≡◌, IfOk, slice_index, map};
+ghost use Rattle.std.specs.Prelude.{◌≡◌, List as Items, IfOk, slice_index, map};
+ghost use Rattle.flow_design.specs.declared.design.Channel.{Channel as ChannelOf};
+ghost use Rattle.flow_design.specs.{declared.design.Block.Block as BlockOf, declared.design.Module.Module as ModuleOf};
 ghost use Rattle.lockstep_defs.specs.Machine.{width_of};
 ghost use Rattle.module_code.specs.{Masks.IsMaskOf, Actions.IsActionOf, Actions.action_room, Actions.takes_reply};
 
 use crate::operand::{Operand, operand_of};
 use crate::target::{Target, mask_of, target_of};
-use flow_design::{Block, Channel, Memory, Module, Op};
+use flow_design::{Block, Channel, Expr, Memory, Module, Op};
 use flow_word::OutOfMemory;
 use std::alloc::Global;
 
@@ -63,25 +65,14 @@ pub(crate) fn action_of(
             target,
             memory,
             address,
-        } => {
-            let target = target_of(of, block, *target);
-            Ok(Action::Load(target, *memory, operand_of(alloc, address)?))
-        }
+        } => load_of(alloc, of, block, *target, *memory, address),
         Op::Store {
             memory,
             address,
             value,
-        } => {
-            let mask = memory_mask(of.memories.as_slice(), *memory);
-            let address = operand_of(alloc, address)?;
-            let value = operand_of(alloc, value)?;
-            Ok(Action::Store(*memory, mask, address, value))
-        }
+        } => store_of(alloc, of, *memory, address, value),
         Op::Read { channel, target } => Ok(Action::Read(*channel, target_of(of, block, *target))),
-        Op::Write(channel, value) => {
-            let mask = channel_mask(channels, *channel);
-            Ok(Action::Write(*channel, mask, operand_of(alloc, value)?))
-        }
+        Op::Write(channel, value) => write_of(alloc, channels, *channel, value),
         Op::TryRead {
             channel,
             target,
@@ -102,6 +93,53 @@ pub(crate) fn action_of(
         Op::Empty { channel, target } => Ok(Action::Empty(*channel, target_of(of, block, *target))),
         Op::Full { channel, target } => Ok(Action::Full(*channel, target_of(of, block, *target))),
     }
+}
+
+/// Compiles a `load` of a block.
+fn load_of(
+    alloc: Global,
+    of: &Module,
+    block: &Block,
+    target: u32,
+    memory: u32,
+    address: &Expr<u32>,
+) -> Result<Action, OutOfMemory>
+    ensures { (channels : Items ChannelOf)
+        → IfOk result (λ action. IsActionOf channels of.now block.now action (Op.Load target memory address.now)) }
+{
+    let target = target_of(of, block, target);
+    Ok(Action::Load(target, memory, operand_of(alloc, address)?))
+}
+
+/// Compiles a `store` of a module.
+fn store_of(
+    alloc: Global,
+    of: &Module,
+    memory: u32,
+    address: &Expr<u32>,
+    value: &Expr<u32>,
+) -> Result<Action, OutOfMemory>
+    ensures { (channels : Items ChannelOf) (block : BlockOf)
+        → IfOk result (λ action. IsActionOf channels of.now block action (Op.Store memory address.now value.now)) }
+{
+    let mask = memory_mask(of.memories.as_slice(), memory);
+    let address = operand_of(alloc, address)?;
+    let value = operand_of(alloc, value)?;
+    Ok(Action::Store(memory, mask, address, value))
+}
+
+/// Compiles a `write`.
+fn write_of(
+    alloc: Global,
+    channels: &[Channel],
+    channel: u32,
+    value: &Expr<u32>,
+) -> Result<Action, OutOfMemory>
+    ensures { (of : ModuleOf) (block : BlockOf)
+        → IfOk result (λ action. IsActionOf channels.now of block action (Op.Write channel value.now)) }
+{
+    let mask = channel_mask(channels, channel);
+    Ok(Action::Write(channel, mask, operand_of(alloc, value)?))
 }
 
 /// The mask of a channel's width.

@@ -1,6 +1,6 @@
 //! What is noted of the due operations before the replies, and what they ask of the channels.
-ghost use Rattle.std.specs.Prelude.{◌≡◌, ℕ, ◌+◌, ◌*◌, ◌<◌, ◌≤◌, ◌^◌, ◌++◌, ◌∷◌, [], true, if◌then◌else◌, length, map, filter_map, All};
-ghost use Rattle.std.specs.Prelude.{List as Items, IfOk, IfSome, OnOk};
+ghost use Rattle.std.specs.Prelude.{◌≡◌, ℕ, ◌+◌, ◌*◌, ◌<◌, ◌≤◌, ◌^◌, ◌++◌, ◌∷◌, [], if◌then◌else◌, length, map, filter_map, All};
+ghost use Rattle.std.specs.Prelude.{List as Items, None, Some, IfOk, IfSome, OnOk};
 ghost use Rattle.std.specs.List.{zip};
 ghost use Rattle.flow_design.specs.declared.limits.TheConstants.{LIVE_ITERATIONS, OPERATIONS};
 ghost use Rattle.flow_design.specs.declared.design.Channel.{Channel as ChannelOf};
@@ -11,13 +11,26 @@ ghost use Rattle.module_code.specs.{Actions.action_request, Actions.action_room,
 ghost use Rattle.module_code.specs.{Moves.standing, Moves.notes_of, Sound.HasCode, Sound.IsActionAt, Sound.IsStateSound};
 ghost use Rattle.module_code.specs.Notes.{noted_for, noted_by, listed, AreNotesIn};
 
-use crate::action::Action;
 use crate::code::{BlockCode, Guarded};
 use crate::noted::{Note, Notes};
 use crate::running::{Prepared, prepare, temps_of};
 use flow_design::{Due, Module, ModuleState, Request};
 use flow_expr::variable;
 use flow_word::{List, OutOfMemory, Words};
+
+/// A module in one of its states.
+#[derive(Clone, Copy)]
+struct Situation<'a> {
+    of: &'a Module,
+    state: &'a ModuleState,
+}
+
+/// An operation as a live iteration does it, with the temps of that iteration.
+#[derive(Clone, Copy)]
+struct Instance<'a> {
+    due: Due,
+    temps: &'a [u64],
+}
 
 /// Notes the due operations, and fills `asked` with the requests of the FIFO operations among them, in commit order. The code is that
 /// of the block in which the module stands. What the notes and the list held before is lost. `scratch` is memory that is used again:
@@ -47,7 +60,8 @@ pub fn note(
     asked.truncate(0);
     let items = notes.items.as_mut_slice();
     let room = scratch.as_mut_slice();
-    let count = note_all(of, actions, due.oldest, state, room, items, asked)?;
+    let on = Situation { of, state };
+    let count = note_all(&on, actions, due.oldest, room, items, asked)?;
     notes.from = due.from;
     notes.to = due.to;
     notes.count = count;
@@ -83,53 +97,43 @@ fn make_places(items: &mut List<Note>, places: usize) -> Result<(), OutOfMemory>
 /// operation is its rank less that of the oldest.
 #[inline(always)]
 fn note_all(
-    of: &Module,
+    on: &Situation<'_>,
     actions: &[Guarded],
     oldest: u64,
-    state: &ModuleState,
     scratch: &mut [u64],
     items: &mut [Note],
     asked: &mut List<Request>,
 ) -> Result<u64, OutOfMemory>
-    requires sound { IsStateSound of.now state.now }
-    requires code { (channels : Items ChannelOf) × (IsModuleSound (length channels) of.now
-        × All (IsGuardedOf channels of.now (block_of of.now state.now) (length scratch.old)) actions.now) }
-    requires slots { All (λ g. IsSlotOf (block_of of.now state.now) oldest (length state.now.temps) g.slot) actions.now }
-    requires few { length state.now.temps ≤ LIVE_ITERATIONS }
+    requires sound { IsStateSound on.now.of.now on.now.state.now }
+    requires code { (channels : Items ChannelOf) × (IsModuleSound (length channels) on.now.of.now
+        × All (IsGuardedOf channels on.now.of.now (block_of on.now.of.now on.now.state.now) (length scratch.old)) actions.now) }
+    requires slots { All (λ g. IsSlotOf (block_of on.now.of.now on.now.state.now) oldest (length on.now.state.now.temps) g.slot)
+        actions.now }
+    requires few { length on.now.state.now.temps ≤ LIVE_ITERATIONS }
     requires places { length actions.now ≤ length items.old }
     ensures noted { OnOk result (filter_map noted_by (zip actions.now items.new)
-        ≡ map (noted_for (block_of of.now state.now) state.now)
-        (passing (block_of of.now state.now) state.now (map (standing oldest) actions.now))) }
+        ≡ map (noted_for (block_of on.now.of.now on.now.state.now) on.now.state.now)
+        (passing (block_of on.now.of.now on.now.state.now) on.now.state.now (map (standing oldest) actions.now))) }
     ensures places { OnOk result (length items.new ≡ length items.old) }
     ensures count { IfOk result (λ count. count
-        ≡ length (passing (block_of of.now state.now) state.now (map (standing oldest) actions.now))) }
+        ≡ length (passing (block_of on.now.of.now on.now.state.now) on.now.state.now (map (standing oldest) actions.now))) }
     ensures asked { OnOk result ((channels : Items ChannelOf) (room : ℕ)
-        → All (IsGuardedOf channels of.now (block_of of.now state.now) room) actions.now
-        → asked.new ≡ asked.old ++ filter_map (request_for channels of.now state.now)
-        (passing (block_of of.now state.now) state.now (map (standing oldest) actions.now))) }
+        → All (IsGuardedOf channels on.now.of.now (block_of on.now.of.now on.now.state.now) room) actions.now
+        → asked.new ≡ asked.old ++ filter_map (request_for channels on.now.of.now on.now.state.now)
+        (passing (block_of on.now.of.now on.now.state.now) on.now.state.now (map (standing oldest) actions.now))) }
 {
     let mut iteration = 0u32;
-    let mut temps = temps_of(state, iteration);
+    let mut temps = temps_of(on.state, iteration);
     let mut count = 0u64;
     for (at, guarded) in actions.iter().enumerate() {
         let due = Due {
             iteration: (guarded.slot.rank - oldest) as u32,
             op: guarded.slot.op,
         };
-        temps = temps_after(state, temps, iteration, due.iteration);
+        temps = temps_after(on.state, temps, iteration, due.iteration);
         iteration = due.iteration;
-        let passes = passes(guarded.guard, state.registers.as_slice(), temps);
-        note_one(
-            passes,
-            of,
-            &guarded.action,
-            state,
-            due,
-            temps,
-            scratch,
-            &mut items[at],
-            asked,
-        )?;
+        let instance = Instance { due, temps };
+        let passes = note_one(on, guarded, &instance, scratch, &mut items[at], asked)?;
         count += passes as u64;
     }
     Ok(count)
@@ -165,34 +169,35 @@ fn passes(guard: Option<u32>, registers: &[u64], temps: &[u64]) -> bool
     }
 }
 
-/// Notes an operation of an iteration with these temps, and adds its request if it is due and a FIFO operation.
+/// Notes an operation, and adds its request if it is due and a FIFO operation. Tells whether it is due.
 #[inline(always)]
 fn note_one(
-    passes: bool,
-    of: &Module,
-    action: &Action,
-    state: &ModuleState,
-    due: Due,
-    temps: &[u64],
+    on: &Situation<'_>,
+    guarded: &Guarded,
+    instance: &Instance<'_>,
     scratch: &mut [u64],
     note: &mut Note,
     asked: &mut List<Request>,
-) -> Result<(), OutOfMemory>
-    requires action { IsActionAt of.now state.now due action.now }
-    requires temps { temps.now ≡ temps_of state.now due.iteration }
-    requires room { action_room action.now ≤ length scratch.old }
-    ensures passes { OnOk result (note.new.passes ≡ passes) }
-    ensures iteration { OnOk result (passes ≡ true → note.new.iteration ≡ due.iteration) }
-    ensures value { OnOk result (passes ≡ true → note.new.value ≡ (noted_for (block_of of.now state.now) state.now due).value) }
-    ensures address { OnOk result (passes ≡ true → note.new.address ≡ (noted_for (block_of of.now state.now) state.now due).address) }
-    ensures asked { OnOk result (asked.new
-        ≡ asked.old ++ filter_map (λ d. action_request state.now d.iteration action.now) (if passes then due ∷ [] else [])) }
+) -> Result<bool, OutOfMemory>
+    requires action { IsActionAt on.now.of.now on.now.state.now instance.now.due guarded.now.action }
+    requires op { instance.now.due.op ≡ guarded.now.slot.op }
+    requires temps { instance.now.temps.now ≡ temps_of on.now.state.now instance.now.due.iteration }
+    requires guard { IfSome guarded.now.guard (λ at. at < length on.now.state.now.registers + length instance.now.temps.now) }
+    requires room { action_room guarded.now.action ≤ length scratch.old }
+    ensures due { IfOk result (λ due. due ≡ passes on.now.state.now.registers instance.now.temps.now guarded.now.guard) }
+    ensures noted { IfOk result (λ due. noted_by (guarded.now, note.new)
+        ≡ (if due then Some (noted_for (block_of on.now.of.now on.now.state.now) on.now.state.now instance.now.due) else None)) }
+    ensures asked { IfOk result (λ due. asked.new
+        ≡ asked.old ++ filter_map (λ d. action_request on.now.state.now d.iteration guarded.now.action)
+        (if due then instance.now.due ∷ [] else [])) }
     ensures room { OnOk result (length scratch.new ≡ length scratch.old) }
 {
+    let Instance { due, temps } = *instance;
+    let passes = passes(guarded.guard, on.state.registers.as_slice(), temps);
     note.passes = passes;
     if passes {
         note.iteration = due.iteration;
-        match prepare(action, state, due.iteration, temps, scratch) {
+        match prepare(&guarded.action, on.state, due.iteration, temps, scratch) {
             Prepared::Writes(value, address) => {
                 note.value = value;
                 note.address = address;
@@ -204,5 +209,5 @@ fn note_one(
             }
         }
     }
-    Ok(())
+    Ok(passes)
 }

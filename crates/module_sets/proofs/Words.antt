@@ -204,19 +204,6 @@ in_masks (first ∷ rest) mask n (inr h) = elim (in_masks rest mask n h) [
   | inr last ↦ inr last
 ]
 
--- none yet
-pub joined_none : (words : List ℕ) (masks : List Mask) → IsJoined words (take 0 masks) words
-joined_none words masks = record {
-  room = refl;
-  has = λ n. (
-    λ h. inl h,
-    λ h. elim h [
-      | inl before ↦ before
-      | inr (none, u) ↦ elim none [ ]
-    ],
-  );
-}
-
 -- and one more
 pub joined_more : (first before now : List ℕ) (masks : List Mask) (at : ℕ) (d : Mask) → at < length masks
     → IsJoined first (take at masks) before → IsJoined before (get_or masks at d ∷ []) now → IsJoined first (take (at + 1) masks) now

@@ -1,46 +1,46 @@
 use Rattle.std.proofs.Common.{◌≡◌, ◌∙◌, refl, ap, sym, arith, ℕ, ◌+◌, ◌-◌, ◌<◌, ◌++◌, [], ◌∷◌, List, map, take, length, length-append, cond}
+use Rattle.std.proofs.Common.{Bool, Some, None}
 use Rattle.std.proofs.{lemmas.List.take_all, lemmas.List.length-set, lemmas.List.Elements.filter_map-append}
 use Rattle.std.specs.{Int.from_bool, List.filter_map}
 use Rattle.flow_design.specs.{declared.state.Due.Due, declared.state.Request.Request}
 use Rattle.flow_design.specs.Module.{block_of, operation_at, temps_of, passes}
 use Rattle.lockstep_defs.specs.Machine.{request_for}
 use Rattle.block_schedule.specs.Schedules.{IsSlotOf}
-use Rattle.module_code.specs.{declared.code.Guarded.Guarded, Codes.IsGuardedOf, Moves.passing, Moves.standing}
+use Rattle.module_code.specs.{declared.code.Guarded.Guarded, Codes.IsGuardedOf, Notes.noted_for, Moves.passing, Moves.standing}
 use Rattle.module_code.proofs.Asked.{asked_once, action_at}
-use Rattle.module_code.proofs.Looking.{all_noted, at_place, note_is, note_more, one_counted, passing_more, passing_next}
+use Rattle.module_code.proofs.Looking.{all_noted, at_place, note_more, one_counted, passing_more, passing_next}
 use Rattle.module_code.proofs.noting.note_all.Goals as goal
 
 pub note_one-requires-clause-action : goal.note_one-requires-clause-action
 note_one-requires-clause-action c =
     let g = c.index-actions-at.result in
     let (channels, (of, code)) = c.requires.code in
-    let own = at_place (λ (h : Guarded). IsSlotOf (block_of c.args.of.now c.args.state.now) c.args.oldest (length
-    c.args.state.now.temps) h.slot)
+    let own = at_place (λ (h : Guarded). IsSlotOf (block_of c.args.on.now.of.now c.args.on.now.state.now) c.args.oldest (length
+    c.args.on.now.state.now.temps) h.slot)
     c.args.actions.now c.index-actions-at.is c.loop-at-test.true c.requires.slots in
-    action_at channels c.args.of.now c.args.state.now _ (g.slot.rank - c.args.oldest) g of c.requires.sound
-    (at_place (IsGuardedOf channels c.args.of.now (block_of c.args.of.now c.args.state.now) (length c.args.scratch.now)) c.args.actions.now
-    c.index-actions-at.is c.loop-at-test.true code)
+    action_at channels c.args.on.now.of.now c.args.on.now.state.now _ (g.slot.rank - c.args.oldest) g of c.requires.sound
+    (at_place (IsGuardedOf channels c.args.on.now.of.now (block_of c.args.on.now.of.now c.args.on.now.state.now)
+    (length c.args.scratch.now)) c.args.actions.now c.index-actions-at.is c.loop-at-test.true code)
     (record { iteration = omega (arith, own.from, own.to); op = own.op })
 
 pub loop-at-preserved : goal.loop-at-preserved
 loop-at-preserved c =
-    let m = c.args.of.now in
-    let s = c.args.state.now in
+    let m = c.args.on.now.of.now in
+    let s = c.args.on.now.state.now in
     let b = block_of m s in
     let i = c.loop-at.at in
     let gs = c.args.actions.now in
     let g = c.index-actions-at.result in
     let place : ℕ = g.slot.rank - c.args.oldest in
     let due : Due = record { iteration = place; op = g.slot.op } in
-    let p = c.passes-passes.result in
-    let h = c.in_ok-note_one.ensures in
+    let p = c.in_ok-passes.passes in
+    let h = c.in_ok-passes.ensures in
     let (channels, (of, code)) = c.requires.code in
     let front : List Due = passing b s (map (standing c.args.oldest) (take i gs)) in
     let one : List Due = cond p (due ∷ []) [] in
     let guard : g.guard ≡ (operation_at b g.slot.op).guard =
     (at_place (IsGuardedOf channels m b (length c.args.scratch.now)) gs c.index-actions-at.is c.loop-at-test.true code).guard in
-    let same : p ≡ passes s.registers (temps_of s place) g.guard = rw (c.as_slice.ensures, c.temps_after-temps.ensures) at
-    c.passes-passes.ensures in
+    let same : p ≡ passes s.registers (temps_of s place) g.guard = rw c.temps_after-temps.ensures at h.due in
     let test : p ≡ passes s.registers (temps_of s place) (operation_at b g.slot.op).guard =
     same ∙ ap (passes s.registers (temps_of s place)) guard in
     let next : passing b s (map (standing c.args.oldest) (take (i + 1) gs)) ≡ front ++ one =
@@ -49,7 +49,7 @@ loop-at-preserved c =
     record {
       noted = note_more b s c.args.oldest i gs c.loop-at.items _ g g c.note_one.new.note refl c.loop-at-test.true there
           c.index-actions-at.is
-          (note_is b s c.args.oldest g c.note_one.new.note p test h.passes h.iteration h.value h.address) c.loop-at.invariant.noted;
+          (h.noted ∙ ap (λ (q : Bool). cond q (Some (noted_for b s due)) None) test) c.loop-at.invariant.noted;
       places = length-set c.loop-at.items i c.note_one.new.note ∙ c.loop-at.invariant.places;
       count = ap (λ (n : ℕ). n + from_bool p) c.loop-at.invariant.count
           ∙ (ap (λ (n : ℕ). length front + n) (sym (one_counted due p).0)
@@ -69,13 +69,14 @@ loop-at-preserved c =
 
 pub returns-clause-noted : goal.returns-clause-noted
 returns-clause-noted c =
-    all_noted (block_of c.args.of.now c.args.state.now) c.args.state.now c.args.oldest c.loop-at.at c.args.actions.now c.loop-at.items
-    c.loop-at.invariant.noted c.loop-at-test.false (omega (arith, c.requires.places, c.loop-at.invariant.places))
+    all_noted (block_of c.args.on.now.of.now c.args.on.now.state.now) c.args.on.now.state.now c.args.oldest c.loop-at.at
+    c.args.actions.now c.loop-at.items c.loop-at.invariant.noted c.loop-at-test.false
+    (omega (arith, c.requires.places, c.loop-at.invariant.places))
 
 pub returns-clause-asked : goal.returns-clause-asked
 returns-clause-asked c channels room is =
     c.loop-at.invariant.asked channels room is
     ∙ ap (λ (gs : List Guarded). c.args.asked.now
-    ++ filter_map (request_for channels c.args.of.now c.args.state.now)
-    (passing (block_of c.args.of.now c.args.state.now) c.args.state.now (map (standing c.args.oldest) gs)))
+    ++ filter_map (request_for channels c.args.on.now.of.now c.args.on.now.state.now)
+    (passing (block_of c.args.on.now.of.now c.args.on.now.state.now) c.args.on.now.state.now (map (standing c.args.oldest) gs)))
     (take_all c.loop-at.at c.args.actions.now c.loop-at-test.false)

@@ -26,8 +26,7 @@ fn latest(draft: &Draft, fifos: &FifoTable, accesses: &LaneAccesses<'_>, clock: 
     requires { All (IsAccess fifos.now.channels) accesses.now }
 {
     let mut cycle = clock;
-    for number in 0..accesses.len() {
-        let access = accesses.at(number);
+    for access in accesses.iter() {
         if access.kind.is_blocking() {
             cycle = cycle.max(possible_from(draft, fifos, &access)?);
         }

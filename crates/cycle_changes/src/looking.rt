@@ -48,7 +48,7 @@ fn has_outcomes(engine: &Engine, at: Place, cycle: u64) -> bool
         (step_of (held_in engine.now []) at.module at.step).accesses
         ≡ flags_of (held_in engine.now []) at.module at.step) }
 {
-    let step = engine.graph.step(at);
+    let step = engine.graph.look(at);
     let found = compare_outcomes(
         &engine.graph,
         &engine.fifos,

@@ -8,7 +8,7 @@ ghost use Rattle.cycle_changes.specs.Around.{AreLooked, IsAccessAt, HasAccessAt,
 
 use crate::looking::look;
 use engine_view::Engine;
-use event_graph::{Access, Place};
+use event_graph::{Access, LaneAccesses, Place};
 use flow_word::Port;
 
 /// Whether each step with a cycle that waits for the step at this place is right.
@@ -18,9 +18,9 @@ pub fn are_waiting_right(engine: &Engine, at: Place) -> bool
     ensures { result ≡ true → AreLooked (held_in engine.now [])
         (λ step. WaitsForStep engine.now.fifos.channels step at) }
 {
-    let step = engine.graph.step(at);
-    for access in step.accesses.as_slice() {
-        if !are_enabled_right(engine, at, access) {
+    let step = engine.graph.look(at);
+    for access in step.accesses.iter() {
+        if !are_enabled_right(engine, at, &access) {
             return false;
         }
     }
@@ -128,17 +128,17 @@ pub fn is_right_or_elsewhere(engine: &Engine, port: Port, at: Place) -> bool
         → HasAccessAt port.side port.channel (step_of (held_in engine.now []) at.module at.step)
         → IsLooked (held_in engine.now []) at.module at.step }
 {
-    if !stands_at(engine.graph.step(at).accesses.as_slice(), port) {
+    if !stands_at(&engine.graph.look(at).accesses, port) {
         return true;
     }
     look(engine, at)
 }
 
 /// Whether one of these accesses is at the port.
-fn stands_at(accesses: &[Access], port: Port) -> bool
+fn stands_at(accesses: &LaneAccesses<'_>, port: Port) -> bool
     ensures { result ≡ false → All (λ a. IsAccessAt port.side port.channel a → ⊥) accesses.now }
 {
-    for access in accesses {
+    for access in accesses.iter() {
         if access.channel == port.channel && access.kind.side() == port.side {
             return true;
         }

@@ -135,9 +135,9 @@ impl Search {
         if !has_cycle(graph, place) {
             return Ok(());
         }
-        let step = graph.step(place);
-        for access in step.accesses.as_slice() {
-            if let Some(enabled) = enabled_by(fifos, access) {
+        let step = graph.look(place);
+        for access in step.accesses.iter() {
+            if let Some(enabled) = enabled_by(fifos, &access) {
                 self.touch(graph, fifos, enabled)?;
             }
         }

@@ -34,7 +34,7 @@ fn timed_outcomes(alloc: Global, engine: &Engine, owner: u32) -> Result<Flags, O
         let all = List::from_slice(alloc, outcomes)?;
         return Ok(all);
     }
-    let step = engine.graph.step(Place {
+    let step = engine.graph.look(Place {
         module: owner,
         step: first,
     });

@@ -84,7 +84,7 @@ fn stand(engine: &Engine, ends: &[Option<Advance>], owner: u32, limit: u64) -> S
     if first == engine.graph.len(owner) {
         return stand_at_end(last, &ends[owner as usize]);
     }
-    let step = engine.graph.step(Place {
+    let step = engine.graph.look(Place {
         module: owner,
         step: first,
     });

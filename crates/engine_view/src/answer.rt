@@ -7,7 +7,7 @@ ghost use Rattle.engine_view.specs.Turns.{IsSomeCore, HasUnsure, HasAnswered, Ke
 use crate::engine::Engine;
 use crate::outcomes::{compare_outcomes, write_outcomes};
 use crate::take::take_all;
-use crate::turn::count_queries;
+use crate::turn::queries_among;
 use event_graph::Place;
 use outcome_guard::Guard;
 
@@ -53,21 +53,21 @@ impl Engine {
             module: owner,
             step: self.graph.frontier(owner),
         };
-        let step = self.graph.step(at);
+        let step = self.graph.look(at);
         write_outcomes(
             &self.graph,
             &self.fifos,
             &mut self.log,
             owner,
             cycle,
-            step.accesses.as_slice(),
+            &step.accesses,
         );
         take_all(
             &mut self.fifos,
             &self.log,
             at,
             step.first_query,
-            step.accesses.as_slice(),
+            &step.accesses,
             true,
         );
     }
@@ -83,13 +83,13 @@ impl Engine {
         ensures room { KeepsRoom self.old self.new }
         ensures others { (m : ℕ) → m ≢ owner → log_at self.new.log.logs m ≡ log_at self.old.log.logs m }
     {
-        let step = self.graph.step(Place {
+        let step = self.graph.look(Place {
             module: owner,
             step: self.graph.frontier(owner),
         });
         match compare_outcomes(&self.graph, &self.fifos, &self.log, owner, cycle, &step) {
             Guard::Same => {
-                let queries = count_queries(step.accesses.as_slice());
+                let queries = queries_among(&step.accesses);
                 self.log.verify_up_to(owner, step.first_query + queries);
                 Guard::Same
             }

@@ -4,7 +4,7 @@ ghost use Rattle.engine_view.specs.Rooms.{CanEmit, HasEmitted};
 
 use crate::engine::Engine;
 use crate::take::take_all;
-use event_graph::{Place, Step, StepView};
+use event_graph::{LaneAccesses, Place, Step, StepView};
 
 impl Engine {
     /// Adds a step of a module, and the pushes and pops of its blocking accesses. There must be room for them.
@@ -21,7 +21,7 @@ impl Engine {
             &self.log,
             at,
             step.first_query,
-            step.accesses.as_slice(),
+            &LaneAccesses::of_slice(step.accesses.as_slice()),
             false,
         );
         self.credits[owner as usize] -= 2;
@@ -29,7 +29,7 @@ impl Engine {
         let _ = self.graph.push_step(owner, step);
     }
 
-    /// Adds a copy of a step of a module, and the pushes and pops of its blocking accesses. The step has one access to four, and its
+    /// Adds a copy of a step of a module, and the pushes and pops of its blocking accesses. The step has one access to eight, and its
     /// numbers fit 32 bits. There must be room for it.
     #[inline(always)]
     pub fn emit_few(&mut self, owner: u32, step: &StepView<'_>)
@@ -46,7 +46,7 @@ impl Engine {
             &self.log,
             at,
             step.first_query,
-            step.accesses.as_slice(),
+            &LaneAccesses::of_slice(step.accesses.as_slice()),
             false,
         );
         self.credits[owner as usize] -= 2;

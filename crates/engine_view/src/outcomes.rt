@@ -7,7 +7,7 @@ ghost use Rattle.engine_view.specs.{Held.queries_in, Held.flags_by, Held.flag_no
 ghost use Rattle.engine_view.specs.{Answered.outcome_by, Answered.outcomes_of, Turns.IsOther};
 
 use crate::take::was_possible;
-use event_graph::{Access, Graph, StepView};
+use event_graph::{Access, Graph, LaneAccesses, LaneStep};
 use fifo_table::FifoTable;
 use outcome_guard::Guard;
 use query_log::{Query, QueryLog};
@@ -22,7 +22,7 @@ pub fn write_outcomes(
     log: &mut QueryLog,
     owner: u32,
     cycle: u64,
-    accesses: &[Access],
+    accesses: &LaneAccesses<'_>,
 )
     requires owner { owner < length log.old.logs }
     requires inside { All (IsAccess fifos.now.channels) accesses.now }
@@ -34,9 +34,9 @@ pub fn write_outcomes(
     ensures own_room { slice_index log.old.rooms owner ≤ slice_index log.new.rooms owner + queries_in accesses.now }
     ensures other_rooms { (k : ℕ) → k ≢ owner → slice_index log.old.rooms k ≤ slice_index log.new.rooms k }
 {
-    for access in accesses {
+    for access in accesses.iter() {
         if !access.kind.is_blocking() {
-            let outcome = outcome_in(graph, fifos, access, cycle);
+            let outcome = outcome_in(graph, fifos, &access, cycle);
             log.add(owner, outcome);
         }
     }
@@ -49,7 +49,7 @@ pub fn compare_outcomes(
     log: &QueryLog,
     owner: u32,
     cycle: u64,
-    step: &StepView<'_>,
+    step: &LaneStep<'_>,
 ) -> Guard
     requires owner { owner < length log.now.logs }
     requires inside { All (IsAccess fifos.now.channels) step.now.accesses }
@@ -63,9 +63,9 @@ pub fn compare_outcomes(
         (found_flags graph.now.lanes fifos.now.channels cycle step.now.accesses) step.now.accesses owner step.now.first_query q }
 {
     let mut number = step.first_query;
-    for access in step.accesses.as_slice() {
+    for access in step.accesses.iter() {
         let outcome = log.outcome(owner, number);
-        if !is_alike(graph, fifos, access, outcome, cycle) {
+        if !is_alike(graph, fifos, &access, outcome, cycle) {
             return Guard::Differs(Query {
                 module: owner,
                 number,

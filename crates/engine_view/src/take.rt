@@ -7,7 +7,7 @@ ghost use Rattle.time_engine.specs.Conditions.{IsAccess};
 ghost use Rattle.engine_view.specs.{Held.possible_by, Taking.with_access, Taking.taken_all, Taking.kinds_in};
 ghost use Rattle.engine_view.specs.Rooms.{room_of, TakesAt, CanTake, done_by};
 
-use event_graph::{Access, Kind, Place};
+use event_graph::{Access, Kind, LaneAccesses, Place};
 use fifo_table::FifoTable;
 use flow_word::Side;
 use query_log::QueryLog;
@@ -22,7 +22,7 @@ pub fn take_all(
     log: &QueryLog,
     at: Place,
     first_query: u64,
-    accesses: &[Access],
+    accesses: &LaneAccesses<'_>,
     later: bool,
 )
     requires owner { at.module < length log.now.logs }
@@ -37,9 +37,9 @@ pub fn take_all(
         → room_of fifos.old side c ≤ room_of fifos.new side c }
 {
     let mut number = first_query;
-    for access in accesses {
+    for access in accesses.iter() {
         let done = is_done(log, at.module, number, access.kind, later);
-        take_if(fifos, at, access, done);
+        take_if(fifos, at, &access, done);
         number += query_count(access.kind);
     }
 }

@@ -1,13 +1,13 @@
 //! A turn at one module.
-ghost use Rattle.std.specs.Prelude.{◌≡◌, ℕ, ◌+◌, ◌<◌, ◌≤◌, true, length, All};
-ghost use Rattle.event_graph.specs.{Lanes.cycle_bound, Lanes.with_cycle, Packed.whole};
+ghost use Rattle.std.specs.Prelude.{◌≡◌, ℕ, ◌+◌, ◌<◌, ◌≤◌, ◌^◌, true, length, All};
+ghost use Rattle.event_graph.specs.{Lanes.cycle_bound, Lanes.with_cycle, Packed.in_lane};
 ghost use Rattle.time_engine.specs.{Conditions.IsAccess, Conditions.HasPlaces, Possible.when_possible};
 ghost use Rattle.event_timing.specs.Enablers.{is_decided as decided};
 ghost use Rattle.engine_view.specs.{Held.queries_in, Held.are_among, Known.as_known, Known.are_decided, Taking.kinds_in};
 ghost use Rattle.engine_view.specs.Turns.{IsSomeCore, IsDue, MayTakeIn, HasTimed, KeepsRoom, lanes_behind, ticks_of, is_progress, left};
 
 use crate::engine::Engine;
-use event_graph::{Access, Candidate, Graph, Place, StepView};
+use event_graph::{Access, Candidate, Graph, LaneAccesses, LaneStep, Place};
 use fifo_table::FifoTable;
 use flow_word::Steps;
 use outcome_guard::Guard;
@@ -76,7 +76,7 @@ impl Engine {
         ensures less { is_progress result ≡ true → left self.new < left self.old }
         ensures ticks { steps.new ≡ steps.old + ticks_of result }
     {
-        let first = self.graph.step(Place {
+        let first = self.graph.look(Place {
             module: owner,
             step: self.graph.frontier(owner),
         });
@@ -84,7 +84,7 @@ impl Engine {
             self.assign_first(owner, cycle, steps);
             return Timing::Assigned(cycle);
         }
-        if !all_decided(&self.graph, &self.fifos, first.accesses.as_slice()) {
+        if !all_decided(&self.graph, &self.fifos, &first.accesses) {
             return Timing::Nothing;
         }
         match self.answer_first(owner, cycle) {
@@ -110,9 +110,9 @@ impl Engine {
 }
 
 /// Whether all queries of a step, `queries` of them, are among its module's first `verified` queries.
-fn are_first(step: &StepView, queries: u64, verified: u64) -> bool
+fn are_first(step: &LaneStep<'_>, queries: u64, verified: u64) -> bool
     requires { queries ≡ queries_in step.now.accesses }
-    ensures { result ≡ are_among (whole step.now) verified }
+    ensures { result ≡ are_among (in_lane step.now) verified }
 {
     if queries == 0 {
         return true;
@@ -127,6 +127,14 @@ fn are_first(step: &StepView, queries: u64, verified: u64) -> bool
 pub fn count_queries(accesses: &[Access]) -> u64
     ensures count { result ≡ queries_in accesses.now }
 {
+    queries_among(&LaneAccesses::of_slice(accesses))
+}
+
+/// How many of a step's accesses are queries.
+pub(crate) fn queries_among(accesses: &LaneAccesses<'_>) -> u64
+    requires { length accesses.now < 2 ^ 64 }
+    ensures { result ≡ queries_in accesses.now }
+{
     accesses
         .iter()
         .filter(|access| !access.kind.is_blocking())
@@ -134,13 +142,13 @@ pub fn count_queries(accesses: &[Access]) -> u64
 }
 
 /// Whether each query among these accesses is decided.
-fn all_decided(graph: &Graph, fifos: &FifoTable, accesses: &[Access]) -> bool
+fn all_decided(graph: &Graph, fifos: &FifoTable, accesses: &LaneAccesses<'_>) -> bool
     requires inside { All (IsAccess fifos.now.channels) accesses.now }
     requires places { HasPlaces graph.now.lanes fifos.now.channels }
     ensures { result ≡ are_decided graph.now.lanes fifos.now.channels accesses.now }
 {
-    for access in accesses {
-        if !access.kind.is_blocking() && !is_decided(graph, fifos, access) {
+    for access in accesses.iter() {
+        if !access.kind.is_blocking() && !is_decided(graph, fifos, &access) {
             return false;
         }
     }

@@ -1,8 +1,7 @@
 -- Words that hold the accesses of a step, from one access to the next.
-use Rattle.std.proofs.Common.{◌≡◌, refl, ap, ◌∙◌, ℕ, zero, suc, ◌+◌, ◌-◌, ◌<◌, ◌≤◌, Bool, true, false, cond, List, inl, inr, [], ◌∷◌}
-use Rattle.std.proofs.Common.{length, get_or, arith}
-use Rattle.std.proofs.lemmas.Bool.{cases_Bool, cond_both}
-use Rattle.std.specs.Prelude.{Some, slice_get}
+use Rattle.std.proofs.Common.{◌≡◌, ap, sym, ◌∙◌, ℕ, zero, suc, ◌<◌, ◌≤◌, Bool, true, false, cond, List, inl, inr, [], ◌∷◌, length, get_or}
+use Rattle.std.proofs.Common.{arith}
+use Rattle.std.proofs.lemmas.Bool.{both_ways, cases_Bool, cond_both}
 use Rattle.flow_word.specs.declared.access.Access.{Access}
 use Rattle.event_graph.specs.Words.{has_value, goes_on, access_in, behind_access, accesses_in, HasAccess, BeginWithAccesses}
 
@@ -49,17 +48,43 @@ going_from (suc most) words here on =
     let g = going_on most words here on in
     record { fewer = most; there = g.there; others = g.others }
 
--- ---- how many accesses there are
+-- with one more allowed the accesses are the same
+record IsWider (most : ℕ) (words : List ℕ) : Type 0 where
+  there : BeginWithAccesses (suc most) words
+  same : accesses_in (suc most) words ≡ accesses_in most words
 
--- one more than after the first
-pub one_more : (words rest : List ℕ) (count : ℕ) → goes_on (get_or words 0 0) ≡ true → rest ≡ behind_access words
-    → ((fewer : ℕ) → BeginWithAccesses fewer rest → count ≡ length (accesses_in fewer rest))
-    → (most : ℕ) → BeginWithAccesses most words → 1 + count ≡ length (accesses_in most words)
-one_more words rest count on is so most here =
-    let g = going_from most words here on in
-    let counted = so g.fewer (rw is g.there) in
-    let all = ap length g.others in
-    omega (arith, rw is at counted)
+wider : (most : ℕ) (words : List ℕ) → BeginWithAccesses most words → IsWider most words
+unfolding BeginWithAccesses
+wider zero words here = absurd here
+wider (suc most) words here = elim (cases_Bool (goes_on (get_or words 0 0))) [
+  | inl on ↦
+      let g = going_on most words here on in
+      let rest = wider most (behind_access words) g.there in
+      let there : BeginWithAccesses (suc (suc most)) words = (here.0, λ e. rest.there) in
+      record {
+        there = there;
+        same = (going_on (suc most) words there on).others
+            ∙ (ap (λ (xs : List Access). access_in words ∷ xs) rest.same ∙ sym g.others);
+      }
+  | inr last ↦
+      let there : BeginWithAccesses (suc (suc most)) words = (here.0, λ e. absurd (both_ways _ last e)) in
+      record { there = there; same = only (suc (suc most)) words there last ∙ sym (only (suc most) words here last) }
+]
+
+-- after an access that goes on come the others, and as many are allowed
+pub record GoesWithin (most : ℕ) (words : List ℕ) : Type 0 where
+  pub there : BeginWithAccesses most (behind_access words)
+  pub others : accesses_in most words ≡ access_in words ∷ accesses_in most (behind_access words)
+
+pub going_within : (most : ℕ) (words : List ℕ) → BeginWithAccesses most words → goes_on (get_or words 0 0) ≡ true → GoesWithin most words
+unfolding BeginWithAccesses
+going_within zero words here on = absurd here
+going_within (suc most) words here on =
+    let g = going_on most words here on in
+    let w = wider most (behind_access words) g.there in
+    record { there = w.there; others = g.others ∙ ap (λ (xs : List Access). access_in words ∷ xs) (sym w.same) }
+
+-- ---- how many accesses there are
 
 pub some_in : (most : ℕ) (words : List ℕ) → BeginWithAccesses most words → 1 ≤ length (accesses_in most words)
 unfolding accesses_in BeginWithAccesses
@@ -73,38 +98,4 @@ few_in (suc most) words here = elim (cases_Bool (goes_on (get_or words 0 0))) [
   | inl on ↦ let g = going_on most words here on in let rest = few_in most (behind_access words) g.there in
       omega (arith, ap length g.others)
   | inr last ↦ omega (arith, ap length (only (suc most) words here last))
-]
-
--- ---- the access with a number
-
-pub first_in : (most : ℕ) (words : List ℕ) → BeginWithAccesses most words → slice_get (accesses_in most words) 0 ≡ Some (access_in words)
-unfolding accesses_in BeginWithAccesses
-first_in zero words here = absurd here
-first_in (suc most) words here = refl
-
--- a later access has the number before it among those after the first
-pub record IsLater (most : ℕ) (words : List ℕ) (number : ℕ) : Type 0 where
-  pub fewer : ℕ
-  pub there : BeginWithAccesses fewer (behind_access words)
-  pub within : number - 1 < length (accesses_in fewer (behind_access words))
-  pub is : slice_get (accesses_in most words) number ≡ slice_get (accesses_in fewer (behind_access words)) (number - 1)
-
-get_later : (a : Access) (items : List Access) (number : ℕ) → 0 < number → slice_get (a ∷ items) number ≡ slice_get items (number - 1)
-get_later a items zero some = absurd (omega (arith, some))
-get_later a items (suc number) some = let e : suc number - 1 ≡ number = omega arith in rw e refl
-
-pub later_in : (most : ℕ) (words : List ℕ) (number : ℕ) → BeginWithAccesses most words → number < length (accesses_in most words)
-    → 0 < number
-    → IsLater most words number
-later_in most words number here within later = elim (cases_Bool (goes_on (get_or words 0 0))) [
-  | inl on ↦
-      let g = going_from most words here on in
-      record {
-        fewer = g.fewer;
-        there = g.there;
-        within = omega (arith, ap length g.others);
-        is = ap (λ (xs : List Access). slice_get xs number) g.others
-            ∙ get_later (access_in words) (accesses_in g.fewer (behind_access words)) number later;
-      }
-  | inr last ↦ absurd (omega (arith, ap length (only most words here last)))
 ]

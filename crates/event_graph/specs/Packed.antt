@@ -3,7 +3,7 @@ use Rattle.std.specs.Prelude.{◌≡◌, ℕ, ◌+◌, ◌*◌, ◌<◌, ◌≤�
 use Rattle.std.specs.Prelude.{slice_index_or, All}
 use Rattle.flow_word.specs.{Room.Roomed, declared.access.Access.Access, declared.access.Step.Step}
 use Rattle.event_graph.specs.{declared.steps.Head.Head, declared.view.StepView.StepView, declared.view.LaneStep.LaneStep}
-use Rattle.event_graph.specs.Words.{Fits, is_kept, upper, most_accesses, accesses_in, HasAccess, BeginWithAccesses, words_of}
+use Rattle.event_graph.specs.Words.{Fits, is_kept, upper, most_accesses, most_words, accesses_in, HasAccess, BeginWithAccesses, words_of}
 
 -- the step that a view shows
 abbrev pub whole : StepView → Step
@@ -68,9 +68,9 @@ pub record IsStepKept (words : List ℕ) (others : List Step) (words' : List ℕ
 -- all words of each step are there, and there is room for `room` further steps
 pub record IsPacked (heads : Roomed Head) (words : Roomed ℕ) (others : Roomed Step) (room : ℕ) : Type 0 where
   pub inside : All (IsStepThere words.items others.items) heads.items
-  pub words_few : length words.items + 8 * room < 2 ^ 32
+  pub words_few : length words.items + most_words * room < 2 ^ 32
   pub others_few : length others.items ≤ length heads.items
   pub few : length heads.items + room < 2 ^ 30
   pub heads_room : room ≤ heads.room
-  pub words_room : 8 * room ≤ words.room
+  pub words_room : most_words * room ≤ words.room
   pub others_room : room ≤ others.room

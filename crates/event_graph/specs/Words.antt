@@ -54,7 +54,11 @@ behind_access words = drop (size_of (slice_index words 0)) words
 
 -- the most accesses of a step that is kept as words
 abbrev pub most_accesses : ℕ
-most_accesses = 4
+most_accesses = 8
+
+-- the most words that such a step takes: two for each access
+abbrev pub most_words : ℕ
+most_words = 2 * most_accesses
 
 -- the accesses with which the words begin, up to the first that does not go on; `most` of them at most
 unfoldable pub accesses_in : ℕ → List ℕ → List Access

@@ -82,7 +82,7 @@ impl Graph {
         self.lanes[owner as usize].push_step(step)
     }
 
-    /// Adds a copy of a step at the end of a module's lane. The step has one access to four, and its numbers fit 32 bits. It
+    /// Adds a copy of a step at the end of a module's lane. The step has one access to eight, and its numbers fit 32 bits. It
     /// succeeds where the lane has room. After `OutOfMemory` the lanes are as they were.
     #[inline(always)]
     pub fn push_few(&mut self, owner: u32, step: &StepView<'_>) -> Result<(), OutOfMemory>

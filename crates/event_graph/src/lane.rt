@@ -121,7 +121,7 @@ impl RoomyLane {
         Ok(())
     }
 
-    /// Adds a copy of a step at the end. The step has one access to four, and its numbers fit 32 bits. It succeeds where there is room.
+    /// Adds a copy of a step at the end. The step has one access to eight, and its numbers fit 32 bits. It succeeds where there is room.
     /// After `OutOfMemory` the lane is as it was.
     #[inline(always)]
     pub fn push_few(&mut self, step: &StepView<'_>) -> Result<(), OutOfMemory>

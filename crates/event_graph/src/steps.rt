@@ -1,7 +1,7 @@
 //! The steps of a lane, each in as few bytes as it needs.
 ghost use Rattle.std.specs.Prelude.{◌≡◌, ◌+◌, ◌<◌, ◌≤◌, ◌^◌, [], ◌∷◌, ◌++◌, true, length, slice_get, Some, All, IsOk, OnOk, OnErr};
 ghost use Rattle.event_graph.specs.Packed.{whole, in_lane, packed, IsFewStep, IsStepKept};
-ghost use Rattle.event_graph.specs.Words.{Fits, BeginWithAccesses, accesses_in, most_accesses};
+ghost use Rattle.event_graph.specs.Words.{Fits, BeginWithAccesses, accesses_in, most_accesses, most_words};
 
 use crate::view::{AccessesView, LaneAccesses, LaneStep, StepView};
 use crate::words::{
@@ -27,7 +27,7 @@ pub struct Head {
     pub at: u32,
 }
 
-/// A list of steps. A step with one access to four, whose numbers fit 32 bits and whose accesses fit a word each, is kept as a head
+/// A list of steps. A step with one access to eight, whose numbers fit 32 bits and whose accesses fit a word each, is kept as a head
 /// and words. Any other step is kept whole in a list of its own, and its word has its number there.
 #[derive(Drop)]
 pub struct StepList {
@@ -144,7 +144,7 @@ impl StepList {
         Ok(())
     }
 
-    /// Adds a copy of a step at the end. The step has one access to four, its numbers fit 32 bits, and its accesses fit a word each.
+    /// Adds a copy of a step at the end. The step has one access to eight, its numbers fit 32 bits, and its accesses fit a word each.
     /// It succeeds where there is room, and then uses one place of it. After `OutOfMemory` the steps are as they were.
     #[inline(always)]
     pub fn push_few(&mut self, step: &StepView<'_>) -> Result<(), OutOfMemory>
@@ -218,14 +218,14 @@ fn read_few<'a>(words: &[u64]) -> AccessesView<'a>
 
 /// Keeps a step beside the earlier ones, and answers its head. There must be room for it.
 fn keep(words: &mut RoomyList<u64>, others: &mut RoomyList<Step>, step: Step) -> Head
-    requires words_room { 8 ≤ words.old.room }
+    requires words_room { most_words ≤ words.old.room }
     requires others_room { 1 ≤ others.old.room }
     requires words_few { length words.old.items < 2 ^ 32 }
     requires others_few { length others.old.items < 2 ^ 32 }
     ensures kept { IsStepKept words.old.items others.old.items words.new.items others.new.items step result }
-    ensures words_more { length words.new.items ≤ length words.old.items + 8 }
+    ensures words_more { length words.new.items ≤ length words.old.items + most_words }
     ensures others_more { length others.new.items ≤ length others.old.items + 1 }
-    ensures words_room { words.old.room ≤ words.new.room + 8 }
+    ensures words_room { words.old.room ≤ words.new.room + most_words }
     ensures others_room { others.old.room ≤ others.new.room + 1 }
 {
     if is_few(&step) {
@@ -246,7 +246,7 @@ fn keep(words: &mut RoomyList<u64>, others: &mut RoomyList<Step>, step: Step) ->
     }
 }
 
-/// Whether a step has one access to four, its numbers fit 32 bits, and its accesses fit a word each.
+/// Whether a step has one access to eight, its numbers fit 32 bits, and its accesses fit a word each.
 fn is_few(step: &Step) -> bool
     ensures { result ≡ true → IsFewStep step.now }
 {
@@ -258,18 +258,18 @@ fn is_few(step: &Step) -> bool
         && all_fit(accesses)
 }
 
-/// Adds the words of one access to four, and answers the place of the first word. There must be room for them.
+/// Adds the words of one access to eight, and answers the place of the first word. There must be room for them.
 #[inline(always)]
 fn push_accesses(words: &mut RoomyList<u64>, items: &[Access]) -> u32
     requires some { 1 ≤ length items.now }
     requires few { length items.now ≤ most_accesses }
     requires fit { All Fits items.now }
-    requires room { 8 ≤ words.old.room }
+    requires room { most_words ≤ words.old.room }
     requires words_few { length words.old.items < 2 ^ 32 }
     ensures at { result ≡ length words.old.items }
     ensures items { words.new.items ≡ words.old.items ++ packed items.now }
-    ensures more { length words.new.items ≤ length words.old.items + 8 }
-    ensures room { words.old.room ≤ words.new.room + 8 }
+    ensures more { length words.new.items ≤ length words.old.items + most_words }
+    ensures room { words.old.room ≤ words.new.room + most_words }
 {
     let at = words.len() as u32;
     let more = items.len() > 1;

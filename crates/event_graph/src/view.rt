@@ -1,8 +1,9 @@
 //! Views of a step in its lane.
-ghost use Rattle.std.specs.Prelude.{◌≡◌, ◌<◌, [], ◌∷◌, length, take, slice_get, Some};
-ghost use Rattle.event_graph.specs.Words.{BeginWithAccesses, accesses_in, most_accesses};
+ghost use Rattle.std.specs.{Prelude.◌≡◌, Prelude.[], Prelude.◌∷◌, Prelude.length, Prelude.take, Iterator.YieldsFirst, Iterator.item_count};
+ghost use Rattle.event_graph.specs.Held.{listed_in, HoldsAccesses};
+ghost use Rattle.event_graph.specs.Words.{BeginWithAccesses, access_in, accesses_in, most_accesses};
 
-use crate::words::{MOST_ACCESSES, access_at, count_accesses};
+use crate::words::{MOST_ACCESSES, behind, goes_on, read_access};
 use flow_word::Access;
 use std::marker::Model;
 
@@ -113,13 +114,13 @@ pub struct StepView<'a> {
 }
 
 /// The accesses that are unpacked one by one: words of a lane, or a slice.
-#[derive(Drop)]
+#[derive(Clone, Copy)]
 enum Listed<'a> {
     Words(&'a [u64]),
     Slice(&'a [Access]),
 }
 
-/// A view of the accesses of a step, in commit order, which has no copy. Each access is unpacked only when it is asked for.
+/// The accesses of a step that are left, in commit order. It has no copy of them: each is unpacked when it comes.
 #[derive(Drop)]
 pub struct LaneAccesses<'a> {
     listed: Listed<'a>,
@@ -151,7 +152,7 @@ impl<'a> LaneAccesses<'a> {
 
     /// A view of these accesses.
     #[inline(always)]
-    pub(crate) fn of_slice(items: &'a [Access]) -> LaneAccesses<'a>
+    pub fn of_slice(items: &'a [Access]) -> LaneAccesses<'a>
         ensures { result ≡ items.now }
     {
         LaneAccesses {
@@ -159,37 +160,52 @@ impl<'a> LaneAccesses<'a> {
         }
     }
 
-    /// How many accesses there are.
+    /// The same accesses once more, to go over.
     #[inline(always)]
-    pub fn len(&self) -> usize
-        ensures { result ≡ length self.now }
+    pub fn iter(&self) -> LaneAccesses<'a>
+        ensures { result ≡ self.now }
     {
-        match &self.listed {
-            Listed::Words(words) => count_accesses(words),
-            Listed::Slice(items) => items.len(),
-        }
-    }
-
-    /// The access with this number, counted from 0.
-    #[inline(always)]
-    pub fn at(&self, number: usize) -> Access
-        requires { number < length self.now }
-        ensures { slice_get self.now number ≡ Some result }
-    {
-        match &self.listed {
-            Listed::Words(words) => access_at(words, number),
-            Listed::Slice(items) => item_at(items, number),
+        LaneAccesses {
+            listed: self.listed,
         }
     }
 }
 
-/// The access with this number, counted from 0, in a slice.
+impl<'a> Iterator for LaneAccesses<'a> {
+    type Item = Access;
+
+    ghost next_gives = { YieldsFirst (λ rest. rest) };
+
+    ghost remaining = { item_count (λ rest. rest) };
+
+    #[inline(always)]
+    fn next(&mut self) -> Option<Access> {
+        match self.listed {
+            Listed::Words(words) => {
+                self.listed = after_first(words);
+                Some(read_access(words))
+            }
+            Listed::Slice(items) => {
+                let (first, rest) = items.split_first()?;
+                self.listed = Listed::Slice(rest);
+                Some(*first)
+            }
+        }
+    }
+}
+
+/// The accesses after the first of those with which these words begin.
 #[inline(always)]
-fn item_at(items: &[Access], number: usize) -> Access
-    requires { number < length items.now }
-    ensures { slice_get items.now number ≡ Some result }
+fn after_first(words: &[u64]) -> Listed<'_>
+    requires { BeginWithAccesses most_accesses words.now }
+    ensures accesses { accesses_in most_accesses words.now ≡ access_in words.now ∷ listed_in result }
+    ensures listed { HoldsAccesses result }
 {
-    items[number]
+    if goes_on(words[0]) {
+        Listed::Words(behind(words))
+    } else {
+        Listed::Slice(&[])
+    }
 }
 
 /// A view of a step in its lane. Each of its accesses is unpacked only when it is asked for.

@@ -3,7 +3,7 @@
 //! The lowest three bits of a word are the code of the access's kind. The next bit tells whether its value follows as a word, and
 //! the bit after it whether another access of the step follows. Then comes the channel, and in the upper half the ordinal. A value
 //! of 0 is left out. The code 6 stands for a step that is kept whole: its number is in the upper half.
-ghost use Rattle.std.specs.Prelude.{◌≡◌, ℕ, ◌+◌, ◌*◌, ◌<◌, ◌≤◌, ◌++◌, true, false, length, take, slice_get, Some, All};
+ghost use Rattle.std.specs.Prelude.{◌≡◌, ℕ, ◌+◌, ◌*◌, ◌<◌, ◌≤◌, ◌++◌, true, false, length, take, All};
 ghost use Rattle.event_graph.specs.Words.{Fits, is_kept as is_kept_by, has_value as has_value_by, goes_on as goes_on_by, upper as upper_by};
 ghost use Rattle.event_graph.specs.Words.{kind_with_code, code_of as code_by, access_word, words_of, access_in, behind_access};
 ghost use Rattle.event_graph.specs.Words.{size_of as size_by, HasAccess, BeginWithAccesses, accesses_in, most_accesses};
@@ -21,10 +21,10 @@ const UPPER: u64 = 0x1_0000_0000;
 const CHANNELS: u64 = 0x800_0000;
 
 /// The most accesses of a step that is kept as words.
-pub(crate) const MOST_ACCESSES: usize = 4;
+pub(crate) const MOST_ACCESSES: usize = 8;
 
 /// The most words that such a step takes.
-pub(crate) const MOST_WORDS: u64 = 8;
+pub(crate) const MOST_WORDS: u64 = 16;
 
 /// Whether the word is that of a step that is kept whole.
 #[inline(always)]
@@ -130,63 +130,6 @@ pub(crate) fn read_access(words: &[u64]) -> Access
         ordinal: upper(word),
         value: if has_value(word) { words[1] } else { 0 },
     }
-}
-
-/// How many accesses these words begin with: those of one step.
-#[inline(always)]
-pub(crate) fn count_accesses(words: &[u64]) -> usize
-    requires { BeginWithAccesses most_accesses words.now }
-    ensures { result ≡ length (accesses_in most_accesses words.now) }
-{
-    if !goes_on(words[0]) {
-        return 1;
-    }
-    let rest = behind(words);
-    if !goes_on(rest[0]) {
-        return 2;
-    }
-    1 + count_on(rest)
-}
-
-/// As `count_accesses`, for words of any number of accesses.
-fn count_on(words: &[u64]) -> usize
-    requires { (most : ℕ) × BeginWithAccesses most words.now }
-    ensures count { (most : ℕ) → BeginWithAccesses most words.now → result ≡ length (accesses_in most words.now) }
-    ensures few { result ≤ length words.now }
-{
-    if !goes_on(words[0]) {
-        return 1;
-    }
-    1 + count_on(behind(words))
-}
-
-/// The access with this number, counted from 0, among those with which the words begin.
-#[inline(always)]
-pub(crate) fn access_at(words: &[u64], number: usize) -> Access
-    requires words { BeginWithAccesses most_accesses words.now }
-    requires number { number < length (accesses_in most_accesses words.now) }
-    ensures { slice_get (accesses_in most_accesses words.now) number ≡ Some result }
-{
-    if number == 0 {
-        return read_access(words);
-    }
-    let rest = behind(words);
-    if number == 1 {
-        return read_access(rest);
-    }
-    walk_to(rest, number - 1)
-}
-
-/// As `access_at`, for words of any number of accesses.
-fn walk_to(words: &[u64], number: usize) -> Access
-    requires { (most : ℕ) × (BeginWithAccesses most words.now × (number < length (accesses_in most words.now))) }
-    ensures { (most : ℕ) → BeginWithAccesses most words.now → number < length (accesses_in most words.now)
-        → slice_get (accesses_in most words.now) number ≡ Some result }
-{
-    if number == 0 {
-        return read_access(words);
-    }
-    walk_to(behind(words), number - 1)
 }
 
 /// Writes the accesses with which the words begin into the list, from a place on, and answers how many the list then has.

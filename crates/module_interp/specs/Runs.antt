@@ -33,10 +33,14 @@ pub record IsSmallAccess (a : Access) : Type 0 where
   pub channel : a.channel < 2 ^ 27
   pub ordinal : a.ordinal < 2 ^ 32
 
--- the step has one access to four, and its numbers fit 32 bits
+-- the most accesses of a step that is told in place
+abbrev pub most_accesses : ℕ
+most_accesses = 8
+
+-- the step has one access to eight, and its numbers fit 32 bits
 pub record IsFew (s : StepOf) : Type 0 where
   pub some : 1 ≤ length s.accesses
-  pub most : length s.accesses ≤ 4
+  pub most : length s.accesses ≤ most_accesses
   pub gap : s.gap < 2 ^ 32
   pub first_query : s.first_query < 2 ^ 32
   pub small : All IsSmallAccess s.accesses

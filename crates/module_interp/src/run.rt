@@ -7,7 +7,7 @@ ghost use Rattle.lockstep_defs.specs.Channels.{Exchange, moved_by};
 ghost use Rattle.lockstep_defs.specs.{Report.queries, OwnRun.Own, OwnRun.access_of, Machine.is_over as over_by};
 ghost use Rattle.module_interp.specs.OwnRests.{done_in, first_rest, next_rest, accesses_at, mark_at, all_fit};
 ghost use Rattle.module_interp.specs.Paths.{IsAtStep, IsAtEnd, IsTallyOf};
-ghost use Rattle.module_interp.specs.Runs.{waits, is_step, listed_step, inlets_of, popped_in, IsFew, IsSoundMark, StandsAt};
+ghost use Rattle.module_interp.specs.Runs.{waits, is_step, listed_step, inlets_of, most_accesses, popped_in, IsFew, IsSoundMark, StandsAt};
 
 use crate::making::{first_path, go_to_start};
 use crate::own_channels::OwnChannels;
@@ -20,6 +20,9 @@ use std::alloc::Global;
 
 /// One more than the greatest number of 32 bits.
 const MOST: u64 = 0x1_0000_0000;
+
+/// The most accesses of a step that is told in place.
+const MOST_ACCESSES: u64 = 8;
 
 /// A module's own run, ahead of time: from one local clock with a due FIFO operation to the next, on the replies that it is fed.
 ///
@@ -171,7 +174,7 @@ impl ModuleRun {
         Ok(mark)
     }
 
-    /// Runs to the next rest, and gives no mark. The answer is whether the rest is a step of one access to four whose numbers fit 32
+    /// Runs to the next rest, and gives no mark. The answer is whether the rest is a step of one access to eight whose numbers fit 32
     /// bits: that step then waits for replies, and `gap`, `listed` and `queries` tell it. Any other mark is still to be given, by
     /// `give`. `OutOfMemory` where memory ran out.
     #[inline(always)]
@@ -209,16 +212,16 @@ impl ModuleRun {
         Ok(())
     }
 
-    /// Whether the rest is a step of at most four accesses whose gap fits 32 bits. The other numbers of a step always fit, by the
+    /// Whether the rest is a step of at most eight accesses whose gap fits 32 bits. The other numbers of a step always fit, by the
     /// operation limit.
     #[inline(always)]
     fn rests_at_few(&self) -> bool
         ensures alive { result ≡ true → over_by self.now.path.value.limit self.now.path.value.state ≡ false }
-        ensures most { result ≡ true → length self.now.path.value.asked ≤ 4 }
+        ensures most { result ≡ true → length self.now.path.value.asked ≤ most_accesses }
         ensures gap { result ≡ true → self.now.path.value.since < 2 ^ 32 }
     {
         !is_over(self.path.limit, &self.path.state)
-            && self.path.asked.len() <= 4
+            && self.path.asked.len() <= MOST_ACCESSES
             && self.path.since < MOST
     }
 

@@ -66,7 +66,7 @@ fn assume_rest(graph: &Graph, log: &mut QueryLog)
     for owner in 0..graph.modules() {
         let step = graph.frontier(owner);
         if step < graph.len(owner) {
-            let first = graph.step(Place {
+            let first = graph.look(Place {
                 module: owner,
                 step,
             });

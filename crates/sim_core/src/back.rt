@@ -55,7 +55,7 @@ pub(crate) fn record_mark(
     }
 }
 
-/// Emits a module's next mark, which is a step of one access to four. There must be room for it.
+/// Emits a module's next mark, which is a step of one access to eight. There must be room for it.
 #[inline(always)]
 pub(crate) fn record_few(engine: &mut Engine, owner: u32, step: &StepView<'_>)
     requires owner { owner < length engine.old.graph.lanes }

@@ -1,27 +1,18 @@
 -- How many of the accesses are queries, one access after the other.
-use Rattle.std.proofs.Common.{◌≡◌, refl, ap, ◌∙◌, ℕ, ◌+◌, ◌<◌, ◌≤◌, Bool, true, false, cond, not, List, length, take, get_or}
-use Rattle.std.proofs.{lemmas.List.take_all, lemmas.List.Filters.length-filter_more}
+use Rattle.std.proofs.Common.{◌≡◌, ap, ◌∙◌, ℕ, ◌+◌, List, [], ◌∷◌, ◌++◌, length, length-append, cond, not, arith}
+use Rattle.std.proofs.lemmas.List.Elements.{filter-append}
 use Rattle.std.specs.Prelude.{filter}
 use Rattle.flow_word.specs.{Kinds.is_blocking, declared.access.Access.Access}
 
-one_where : (b : Bool) → cond {A = ℕ} (not b) 1 0 ≡ cond b 0 1
-one_where true = refl
-one_where false = refl
+one : (a : Access) → length (filter (λ (b : Access). not (is_blocking b.kind)) (a ∷ [])) ≡ cond (is_blocking a.kind) 0 1
+one a = grind arith
 
-pub queries_next : (accesses : List Access) (i : ℕ) (d : Access) (queries more : ℕ) → i < length accesses
-    → queries ≡ length (filter (λ (a : Access). not (is_blocking a.kind)) (take i accesses))
-    → more ≡ cond (is_blocking (get_or accesses i d).kind) 0 1
-    → queries + more ≡ length (filter (λ (a : Access). not (is_blocking a.kind)) (take (i + 1) accesses))
-queries_next accesses i d queries more inside so is =
-    rw (
-      length-filter_more (λ (a : Access). not (is_blocking a.kind)) accesses i d inside,
-      so,
-      is,
-      one_where (is_blocking (get_or accesses i d).kind),
-    ) refl
-
-pub queries_all : (accesses : List Access) (i queries : ℕ) → length accesses ≤ i
-    → queries ≡ length (filter (λ (a : Access). not (is_blocking a.kind)) (take i accesses))
-    → queries ≡ length (filter (λ (a : Access). not (is_blocking a.kind)) accesses)
-queries_all accesses i queries all so =
-    so ∙ ap (λ (xs : List Access). length (filter (λ (a : Access). not (is_blocking a.kind)) xs)) (take_all i accesses all)
+pub queries_next : (come : List Access) (next : Access) (queries more : ℕ)
+    → queries ≡ length (filter (λ (a : Access). not (is_blocking a.kind)) come)
+    → more ≡ cond (is_blocking next.kind) 0 1
+    → queries + more ≡ length (filter (λ (a : Access). not (is_blocking a.kind)) (come ++ next ∷ []))
+queries_next come next queries more so is =
+    let p = λ (a : Access). not (is_blocking a.kind) in
+    let all = ap length (filter-append p come (next ∷ [])) ∙ length-append (filter p come) (filter p (next ∷ [])) in
+    let last = one next in
+    omega arith

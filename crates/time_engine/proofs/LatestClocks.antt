@@ -1,6 +1,6 @@
 -- The latest of clocks, one access after the other.
-use Rattle.std.proofs.Common.{◌≡◌, refl, ap, ◌∙◌, ℕ, ◌+◌, ◌<◌, ◌≤◌, max, length, get_or, take, true, false, List, [], ◌∷◌, ◌++◌, arith}
-use Rattle.std.proofs.{lemmas.List.take_more, lemmas.List.Elements.filter-append, lemmas.List.Elements.filter_map-append}
+use Rattle.std.proofs.Common.{◌≡◌, refl, ap, ◌∙◌, ℕ, ◌≤◌, max, true, false, List, [], ◌∷◌, ◌++◌, arith}
+use Rattle.std.proofs.lemmas.List.Elements.{filter-append, filter_map-append}
 use Rattle.std.specs.{Prelude.filter, List.filter_map}
 use Rattle.flow_word.specs.{declared.access.Access.Access, Kinds.is_blocking}
 use Rattle.event_graph.specs.Lanes.{Lane}
@@ -56,10 +56,9 @@ unfolding clocks_of
 clocks_of-none lanes channels = refl
 
 -- one access more
-pub latest_next : (lanes : List Lane) (channels : List Channel) (accesses : List Access) (i : ℕ) (d : Access) (clock sofar next : ℕ)
-    → i < length accesses
-    → sofar ≡ latest (clock ∷ clocks_of lanes channels (take i accesses))
-    → next ≡ latest (sofar ∷ clocks_of lanes channels (get_or accesses i d ∷ []))
-    → next ≡ latest (clock ∷ clocks_of lanes channels (take (i + 1) accesses))
-latest_next lanes channels accesses i d clock sofar next inside so then =
-    rw (take_more accesses i d inside, clocks_of-append) (latest_more clock _ _ sofar next so then)
+pub latest_next : (lanes : List Lane) (channels : List Channel) (come : List Access) (next : Access) (clock sofar now : ℕ)
+    → sofar ≡ latest (clock ∷ clocks_of lanes channels come)
+    → now ≡ latest (sofar ∷ clocks_of lanes channels (next ∷ []))
+    → now ≡ latest (clock ∷ clocks_of lanes channels (come ++ next ∷ []))
+latest_next lanes channels come next clock sofar now so then =
+    rw (clocks_of-append lanes channels come (next ∷ [])) (latest_more clock _ _ sofar now so then)

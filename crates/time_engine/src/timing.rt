@@ -139,13 +139,14 @@ fn latest_and_queries(
 {
     let mut cycle = clock;
     let mut queries = 0u64;
-    for number in 0..accesses.len() {
-        let access = accesses.at(number);
+    let mut number = 0u32;
+    for access in accesses.iter() {
         match later(graph, fifos, &access, cycle) {
             Some(later) => cycle = later,
-            None => return Err(number as u32),
+            None => return Err(number),
         }
         queries += query_count(access.kind);
+        number += 1;
     }
     Ok((cycle, queries))
 }

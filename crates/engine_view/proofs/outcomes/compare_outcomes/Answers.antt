@@ -1,15 +1,25 @@
-use Rattle.std.proofs.Common.{◌≡◌, refl, get_or}
+use Rattle.std.proofs.Common.{◌≡◌, ◌∙◌, refl, ap, List, [], ◌∷◌, ◌++◌, length, get_or, length-append}
 use Rattle.flow_word.specs.{declared.access.Access.Access, declared.access.Kind.TheVariants.Read}
 use Rattle.query_log.specs.{Logs.log_at, declared.query.Query.Query}
-use Rattle.engine_view.proofs.Comparing.{compares_more, compares_not}
+use Rattle.time_engine.proofs.Yielded.{within, here, onward}
+use Rattle.engine_view.proofs.{Comparing.compares_more, Comparing.compares_not, outcomes.compare_outcomes.Goals.In-Some}
 use Rattle.engine_view.proofs.outcomes.compare_outcomes.Goals as goal
 
 abbrev no_access : Access
 no_access = record { kind = Read; channel = 0; ordinal = 0; value = 0 }
 
+-- the accesses that came, this one, and those that are left
+parts : (c : In-Some) → c.args.step.now.accesses ≡ c.loop-access.yielded ++ c.in-Some.access ∷ c.next.new.self
+parts c = c.loop-access.invariant.0 ∙ ap (λ (xs : List Access). c.loop-access.yielded ++ xs) c.in-Some.ensures.steps
+
+-- this access, by its place
+same : (c : In-Some) → get_or c.args.step.now.accesses (length c.loop-access.yielded) no_access ≡ c.in-Some.access
+same c = here c.args.step.now.accesses _ _ _ (parts c) no_access
+
 pub returns-then-not-is_alike-clause-differs : goal.returns-then-not-is_alike-clause-differs
 returns-then-not-is_alike-clause-differs c = λ q e.
-    let access = get_or c.args.step.now.accesses c.loop-access.access-index no_access in
+    let some = (goal.at.returns-then-not-is_alike-clause-differs c).In-Some in
+    let access = c.in-Some.access in
     let query : Query = record {
       «module» = c.args.owner;
       number = c.loop-access.number;
@@ -18,18 +28,22 @@ returns-then-not-is_alike-clause-differs c = λ q e.
       ordinal = access.ordinal;
     } in
     let other = compares_not c.args.graph.now.lanes c.args.fifos.now.channels c.args.cycle c.args.step.now.accesses
-    (log_at c.args.log.now.logs c.args.owner).outcomes c.args.step.now.first_query c.loop-access.access-index c.loop-access.number no_access
-    c.loop-access.invariant c.args.owner query (rw c.as_slice-access-items.ensures at c.loop-access-test.true)
-    (λ s. let z = rw (c.as_slice-access-items.ensures, c.outcome-outcome.ensures) at c.if-not-is_alike.ensures.1 in let y = z s in
-    cc) refl refl refl
-    refl refl in
-    let same : query ≡ q = cc in
-    rw same at other
+    (log_at c.args.log.now.logs c.args.owner).outcomes c.args.step.now.first_query (length c.loop-access.yielded) c.loop-access.number
+    no_access c.loop-access.invariant.1 c.args.owner query (within c.args.step.now.accesses _ _ _ (parts some))
+    (rw (same some) (λ s. let y = (rw c.outcome-outcome.ensures at c.if-not-is_alike.ensures.1) s in cc)) refl refl
+    (rw (same some) refl) (rw (same some) refl) (rw (same some) refl) in
+    let is : query ≡ q = cc in
+    rw is at other
 
 pub loop-access-preserved : goal.loop-access-preserved
 loop-access-preserved c =
-    compares_more c.args.graph.now.lanes c.args.fifos.now.channels c.args.cycle c.args.step.now.accesses
-    (log_at c.args.log.now.logs c.args.owner).outcomes c.args.step.now.first_query c.loop-access.access-index c.loop-access.number no_access
-    c.loop-access.invariant c.query_count-number.result (rw c.as_slice-access-items.ensures at c.loop-access-test.true)
-    (rw (← c.outcome-outcome.ensures) (rw c.as_slice-access-items.ensures at (c.if-not-is_alike.ensures.0 refl)))
-    (rw c.as_slice-access-items.ensures at c.query_count-number.ensures.count)
+    let some = (goal.at.loop-access-preserved c).In-Some in
+    let longer = length-append c.loop-access.yielded (c.in-Some.access ∷ []) in (
+      onward c.args.step.now.accesses _ _ _ (parts some),
+      rw longer (compares_more c.args.graph.now.lanes c.args.fifos.now.channels c.args.cycle c.args.step.now.accesses
+          (log_at c.args.log.now.logs c.args.owner).outcomes c.args.step.now.first_query (length c.loop-access.yielded)
+          c.loop-access.number no_access c.loop-access.invariant.1 c.query_count-number.result
+          (within c.args.step.now.accesses _ _ _ (parts some))
+          (rw (same some) (rw (← c.outcome-outcome.ensures) (c.if-not-is_alike.ensures.0 refl)))
+          (rw (same some) c.query_count-number.ensures.count)),
+    )

@@ -1,4 +1,4 @@
-use Rattle.std.proofs.{Common.refl, Common.drop, Common.arith, Common.rules, lemmas.List.get_or_read}
+use Rattle.std.proofs.{Common.refl, Common.◌∙◌, Common.drop, Common.arith, Common.rules, lemmas.List.get_or_read}
 use Rattle.query_log.specs.Logs.{log_at}
 use Rattle.engine_view.proofs.Adding.{done_first}
 use Rattle.engine_view.proofs.engine.Engine.emit_few.Goals as goal
@@ -11,7 +11,7 @@ returns c = record {
     channels = rw (
       ← c.len.ensures.count,
       ← done_first c.args.step.now.accesses (drop c.args.step.now.first_query (log_at c.args.self.now.log.logs c.args.owner).outcomes),
-      ← c.as_slice.ensures,
+      ← (c.of_slice.ensures ∙ c.as_slice.ensures),
     ) c.take_all.ensures.channels;
     kinds = c.take_all.ensures.kinds;
     log = refl;
@@ -21,7 +21,7 @@ returns c = record {
     room = record {
       place = c.push_few.ensures.rooms;
       one = c.take_all.ensures.one;
-      others = rw (← c.as_slice.ensures) c.take_all.ensures.others;
+      others = rw (← (c.of_slice.ensures ∙ c.as_slice.ensures)) c.take_all.ensures.others;
     };
   };
 }

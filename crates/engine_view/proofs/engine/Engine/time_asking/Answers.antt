@@ -1,15 +1,15 @@
-use Rattle.std.proofs.Common.{refl, sym, ap, ◌∙◌, Bool, List, [], inl, arith}
+use Rattle.std.proofs.Common.{refl, sym, ap, Bool, List, [], inl, arith}
 use Rattle.flow_word.specs.declared.access.Step.{Step}
-use Rattle.event_graph.specs.{Lanes.no_lane, Packed.whole}
+use Rattle.event_graph.specs.{Lanes.no_lane, Packed.in_lane}
 use Rattle.engine_view.specs.{Held.no_step, Engines.held_in, Turns.first_of}
 use Rattle.engine_view.proofs.{Leaving.less_answered, Unsure.verified_now, Turning.IsFirst, Turning.is_first}
-use Rattle.engine_view.proofs.{engine.Engine.time_asking.Given.Over, engine.Engine.time_asking.Goals.After-step-first}
+use Rattle.engine_view.proofs.{engine.Engine.time_asking.Given.Over, engine.Engine.time_asking.Goals.After-look-first}
 use Rattle.engine_view.proofs.Turning as turning
 use Rattle.engine_view.proofs.engine.Engine.time_asking.Goals as goal
 
-first : (g : Over) (c : After-step-first g) (over : List Bool)
-    → IsFirst (held_in c.args.self.now over) c.args.owner (whole c.step-first.result)
-first g c over = is_first (held_in c.args.self.now over) c.args.owner c.frontier.ensures.count c.step-first.ensures.step
+first : (g : Over) (c : After-look-first g) (over : List Bool)
+    → IsFirst (held_in c.args.self.now over) c.args.owner (in_lane c.look-first.result)
+first g c over = is_first (held_in c.args.self.now over) c.args.owner c.frontier.ensures.count c.look-first.ensures.step
 
 pub verified-requires : goal.verified-requires
 verified-requires g c =
@@ -23,12 +23,12 @@ verified-requires g c =
 pub are_first-requires : goal.are_first-requires
 are_first-requires g c =
     let (limit, due) = c.requires.due in
-    due.takes.count (whole c.step-first.result) (rw (← c.frontier.ensures.count) c.step-first.ensures.step)
+    due.takes.count (in_lane c.look-first.result) (rw (← c.frontier.ensures.count) c.look-first.ensures.step)
 
 pub assign_first-requires-clause-may : goal.assign_first-requires-clause-may
 assign_first-requires-clause-may g c =
     let (d, over, i, k, r) = c.requires.core in
-    let at = first g (goal.at.assign_first-requires-clause-may g c).After-step-first over in
+    let at = first g (goal.at.assign_first-requires-clause-may g c).After-look-first over in
     let (limit, due) = c.requires.due in
     (d, over, limit, due.limited, i, k, turning.may_assign at i k c.verified.ensures.count due.at due.below c.if-are_first.ensures)
 
@@ -45,8 +45,8 @@ returns-then-are_first g c = record {
 pub all_decided-requires-clause-inside : goal.all_decided-requires-clause-inside
 all_decided-requires-clause-inside g c =
     let (d, over, i, k, r) = c.requires.core in
-    let at = first g (goal.at.all_decided-requires-clause-inside g c).After-step-first over in
-    rw (c.as_slice.ensures ∙ ap (λ (t : Step). t.accesses) (sym at.is))
+    let at = first g (goal.at.all_decided-requires-clause-inside g c).After-look-first over in
+    rw (ap (λ (t : Step). t.accesses) (sym at.is))
     (k.sound.inside c.args.owner no_lane (c.requires.due.1).takes.may.inside (first_of (held_in c.args.self.now over) c.args.owner) no_step at.there)
 
 pub all_decided-requires-clause-places : goal.all_decided-requires-clause-places
@@ -56,19 +56,19 @@ pub returns-then-not-all_decided-clause-done : goal.returns-then-not-all_decided
 returns-then-not-all_decided-clause-done g c = λ limit due. (
   refl,
   λ d over i k.
-      turning.idle_undecided (first g (goal.at.returns-then-not-all_decided-clause-done g c).After-step-first over) i k
-      c.verified.ensures.count limit c.if-are_first.ensures c.as_slice.ensures c.if-not-all_decided.ensures,
+      turning.idle_undecided (first g (goal.at.returns-then-not-all_decided-clause-done g c).After-look-first over) i k
+      c.verified.ensures.count limit c.if-are_first.ensures refl c.if-not-all_decided.ensures,
 )
 
 pub answer_first-requires-clause-unsure : goal.answer_first-requires-clause-unsure
 answer_first-requires-clause-unsure g c =
-    turning.unsure_here (first g (goal.at.answer_first-requires-clause-unsure g c).After-step-first []) c.verified.ensures.count
+    turning.unsure_here (first g (goal.at.answer_first-requires-clause-unsure g c).After-look-first []) c.verified.ensures.count
     c.if-are_first.ensures (c.requires.due.1).takes.may.inside
 
 pub returns-in-Same-clause-done : goal.returns-in-Same-clause-done
 returns-in-Same-clause-done g c = λ limit due d over i k.
-    let at = first g (goal.at.returns-in-Same-clause-done g c).After-step-first over in
-    let may = turning.may_answer at i k c.verified.ensures.count due.at due.below c.if-are_first.ensures c.as_slice.ensures
+    let at = first g (goal.at.returns-in-Same-clause-done g c).After-look-first over in
+    let may = turning.may_answer at i k c.verified.ensures.count due.at due.below c.if-are_first.ensures refl
     c.if-not-all_decided.ensures in
     let a = c.in-Same.ensures.answered d over i k in
     (may, record { acts = (c.args.cycle, may, inl (a.same, a.now.core)); kept = a.now.kept })
@@ -76,7 +76,7 @@ returns-in-Same-clause-done g c = λ limit due d over i k.
 pub returns-in-Same-clause-less : goal.returns-in-Same-clause-less
 returns-in-Same-clause-less g c = λ e.
     let (d, over, i, k, r) = c.requires.core in
-    let unsure = turning.unsure_here (first g (goal.at.returns-in-Same-clause-less g c).After-step-first []) c.verified.ensures.count
+    let unsure = turning.unsure_here (first g (goal.at.returns-in-Same-clause-less g c).After-look-first []) c.verified.ensures.count
     c.if-are_first.ensures (c.requires.due.1).takes.may.inside in
     less_answered c.args.self.now c.answer_first.new.self c.args.owner c.answer_first.ensures.graph unsure c.answer_first.ensures.others
     (rw c.answer_first.ensures.graph at (verified_now d (held_in c.args.self.now over) c.args.owner c.args.cycle
@@ -86,10 +86,10 @@ pub returns-in-Differs-clause-done : goal.returns-in-Differs-clause-done
 returns-in-Differs-clause-done g c = λ limit due. (
   c.in-Differs.ensures.answered.0,
   λ d over i k.
-      let at = first g (goal.at.returns-in-Differs-clause-done g c).After-step-first over in
+      let at = first g (goal.at.returns-in-Differs-clause-done g c).After-look-first over in
       record {
         cycle = c.args.cycle;
-        may = turning.may_answer at i k c.verified.ensures.count due.at due.below c.if-are_first.ensures c.as_slice.ensures
+        may = turning.may_answer at i k c.verified.ensures.count due.at due.below c.if-are_first.ensures refl
             c.if-not-all_decided.ensures;
         found = c.in-Differs.ensures.answered.1 d over i k;
       },

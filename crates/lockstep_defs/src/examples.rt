@@ -76,7 +76,8 @@ pub fn queries()
 
 /// Modules that wait for one another.
 pub fn deadlocks()
-    ensures deadlock_at_once { Shows Examples.deadlock_at_once (Deadlock 0) [] (held_by_channel 0 false 1 ∷ held_by_channel 1 false 0 ∷ []) }
+    ensures deadlock_at_once { Shows Examples.deadlock_at_once (Deadlock 0) []
+        (held_by_channel 0 false 1 ∷ held_by_channel 1 false 0 ∷ []) }
     ensures deadlocked_record { Shows (Examples.deadlocked_record_goes_on 2) (Deadlock 2) ([] ∷ [])
         (held_by_channel 0 true 0 ∷ held_by_channel 1 false 1 ∷ []) }
     ensures record_that_goes_on { Shows (Examples.deadlocked_record_goes_on 3) (Done 9) ((3 ∷ []) ∷ []) [] }

@@ -7,7 +7,7 @@ ghost use Rattle.session_plan.specs.declared.section.Level.TheVariants as level;
 ghost use Rattle.flow_design.specs.Names.{Name as SpecName};
 
 use crate::names::Names;
-use crate::numbering::{terminator, timed};
+use crate::numbering::{BodyScope, terminator};
 use crate::scope::{ModuleNames, names_of};
 use crate::section::{Level, Sort, begins, body_of, declared_width};
 use flow_design::{Block, BlockKind, Memory, Module, Name, Next, Statement, Timed};
@@ -44,18 +44,12 @@ fn memories_of(alloc: Global, body: &[Statement]) -> Result<List<Memory>, OutOfM
 }
 
 /// The operations of a body, in order.
-fn operations_of(
-    alloc: Global,
-    channels: &Names,
-    own: &ModuleNames,
-    temps: &Names,
-    body: &[Statement],
-) -> Result<List<Timed>, OutOfMemory>
-    ensures { IfOk result (λ ops. ops ≡ filter_map (timed (scope_at channels.now own.now temps.now)) body.now) }
+fn operations_of(scope: &BodyScope, body: &[Statement]) -> Result<List<Timed>, OutOfMemory>
+    ensures { IfOk result (λ ops. ops ≡ filter_map (timed scope.now) body.now) }
 {
-    let mut ops = List::new(alloc);
+    let mut ops = List::new(scope.alloc);
     for statement in body {
-        if let Some(op) = timed(alloc, channels, own, temps, statement)? {
+        if let Some(op) = scope.timed(statement)? {
             ops.push(op)?;
         }
     }
@@ -113,11 +107,17 @@ fn block_of(
     ensures { IfOk result (λ b. b ≡ block (scope_at channels.now own.now []) (head.now, body.now)) }
 {
     let temps = names_of(alloc, Sort::Temps, body)?;
+    let scope = BodyScope {
+        alloc,
+        channels,
+        own,
+        temps: &temps,
+    };
     Ok(Block {
         kind: kind_of(own, head),
         len: len_of(head),
         temps: widths_of(alloc, Sort::Temps, body)?,
-        ops: operations_of(alloc, channels, own, &temps, body)?,
+        ops: operations_of(&scope, body)?,
         next: next_of(own, body),
     })
 }

@@ -1,169 +1,222 @@
 //! Replacing names by numbers.
-ghost use Rattle.std.specs.Prelude.{◌≡◌, [], ◌++◌, option_map, IfOk};
+ghost use Rattle.std.specs.Prelude.{◌≡◌, [], option_map, IfOk};
 ghost use Rattle.session_plan.specs.{Names.name_number, Tables.scope_at};
-ghost use Rattle.session_plan.specs.Numbered.{numbered_expr, operation, timed, terminator};
+ghost use Rattle.session_plan.specs.Numbered.{numbered_expr, operation, places, timed, terminator};
 
 use crate::names::Names;
 use crate::scope::ModuleNames;
 use flow_design::{Expr, Name, Next, Op, Statement, Timed};
 use flow_word::{Boxed, OutOfMemory};
 use std::alloc::Global;
+use std::marker::Model;
 
-/// The number of a register or temp: temps are numbered after the registers.
-#[tactic(auto, using(crate::proofs::NameLemmas::number_behind, crate::proofs::NameLemmas::number_among))]
-fn place(own: &ModuleNames, temps: &Names, name: &Name) -> u32
-    ensures { result ≡ name_number (own.now.registers ++ temps.now) name.now }
-{
-    let number = own.registers.number(name.bytes());
-    if number < own.registers.len() {
-        number
-    } else {
-        own.registers.len() + temps.number(name.bytes())
-    }
+/// The names that the operations of a body may use, and where their expressions are made. Contracts see the names.
+#[derive(Drop)]
+pub(crate) struct BodyScope<'a> {
+    pub(crate) alloc: Global,
+    pub(crate) channels: &'a Names<'a>,
+    pub(crate) own: &'a ModuleNames<'a>,
+    pub(crate) temps: &'a Names<'a>,
 }
 
-/// An expression with its names replaced by numbers.
-#[tactic(auto, using(crate::proofs::Trees::the_numbered))]
-fn numbered(
-    alloc: Global,
-    own: &ModuleNames,
-    temps: &Names,
-    expr: &Expr<Name>,
-) -> Result<Expr<u32>, OutOfMemory>
-    ensures { IfOk result (λ e. e ≡ numbered_expr (own.now.registers ++ temps.now) expr.now) }
-{
-    match expr {
-        Expr::Number(value) => Ok(Expr::Number(*value)),
-        Expr::Var(name) => Ok(Expr::Var(place(own, temps, name))),
-        Expr::Unary(op, a) => Ok(Expr::Unary(
-            *op,
-            Boxed::new(alloc, numbered(alloc, own, temps, a.get())?)?,
-        )),
-        Expr::Binary(op, a, b) => {
-            let a = Boxed::new(alloc, numbered(alloc, own, temps, a.get())?)?;
-            let b = Boxed::new(alloc, numbered(alloc, own, temps, b.get())?)?;
-            Ok(Expr::Binary(*op, a, b))
-        }
-        Expr::Sext(width, a) => Ok(Expr::Sext(
-            *width,
-            Boxed::new(alloc, numbered(alloc, own, temps, a.get())?)?,
-        )),
-        Expr::Pick(a, b, c) => {
-            let a = Boxed::new(alloc, numbered(alloc, own, temps, a.get())?)?;
-            let b = Boxed::new(alloc, numbered(alloc, own, temps, b.get())?)?;
-            let c = Boxed::new(alloc, numbered(alloc, own, temps, c.get())?)?;
-            Ok(Expr::Pick(a, b, c))
-        }
-    }
+impl<'a> Model for BodyScope<'a> {
+    ghost use Rattle.session_plan.specs.{Names.Scope, Tables.scope_at};
+
+    ghost Value = { Scope };
+
+    ghost view = { λ scope. scope_at scope.channels.now scope.own.now scope.temps.now };
 }
 
-/// An operation with its names replaced by numbers.
-fn operation(
-    alloc: Global,
-    channels: &Names,
-    own: &ModuleNames,
-    temps: &Names,
-    op: &Op<Name>,
-) -> Result<Op<u32>, OutOfMemory>
-    ensures { IfOk result (λ o. o ≡ operation (scope_at channels.now own.now temps.now) op.now) }
-{
-    match op {
-        Op::Set(target, value) => Ok(Op::Set(
-            place(own, temps, target),
-            numbered(alloc, own, temps, value)?,
-        )),
-        Op::Load {
-            target,
-            memory,
-            address,
-        } => {
-            Ok(Op::Load {
-                target: place(own, temps, target),
-                memory: own.memories.number(memory.bytes()),
-                address: numbered(alloc, own, temps, address)?,
-            })
+impl<'a> BodyScope<'a> {
+    /// The number of a register or temp: temps are numbered after the registers.
+    #[tactic(auto, using(crate::proofs::NameLemmas::number_behind, crate::proofs::NameLemmas::number_among))]
+    fn place(&self, name: &Name) -> u32
+        ensures { result ≡ name_number (places self.now) name.now }
+    {
+        let number = self.own.registers.number(name.bytes());
+        if number < self.own.registers.len() {
+            number
+        } else {
+            self.own.registers.len() + self.temps.number(name.bytes())
         }
-        Op::Store {
-            memory,
-            address,
-            value,
-        } => {
-            Ok(Op::Store {
-                memory: own.memories.number(memory.bytes()),
-                address: numbered(alloc, own, temps, address)?,
-                value: numbered(alloc, own, temps, value)?,
-            })
+    }
+
+    /// The number of a channel.
+    fn channel(&self, name: &Name) -> u32
+        ensures { result ≡ name_number self.now.channels name.now }
+    {
+        self.channels.number(name.bytes())
+    }
+
+    /// The number of a memory.
+    fn memory(&self, name: &Name) -> u32
+        ensures { result ≡ name_number self.now.memories name.now }
+    {
+        self.own.memories.number(name.bytes())
+    }
+
+    /// An expression with its names replaced by numbers.
+    #[tactic(auto, using(crate::proofs::Trees::the_numbered))]
+    fn numbered(&self, expr: &Expr<Name>) -> Result<Expr<u32>, OutOfMemory>
+        ensures { IfOk result (λ e. e ≡ numbered_expr (places self.now) expr.now) }
+    {
+        match expr {
+            Expr::Number(value) => Ok(Expr::Number(*value)),
+            Expr::Var(name) => Ok(Expr::Var(self.place(name))),
+            Expr::Unary(op, a) => Ok(Expr::Unary(
+                *op,
+                Boxed::new(self.alloc, self.numbered(a.get())?)?,
+            )),
+            Expr::Binary(op, a, b) => {
+                let a = Boxed::new(self.alloc, self.numbered(a.get())?)?;
+                let b = Boxed::new(self.alloc, self.numbered(b.get())?)?;
+                Ok(Expr::Binary(*op, a, b))
+            }
+            Expr::Sext(width, a) => Ok(Expr::Sext(
+                *width,
+                Boxed::new(self.alloc, self.numbered(a.get())?)?,
+            )),
+            Expr::Pick(a, b, c) => {
+                let a = Boxed::new(self.alloc, self.numbered(a.get())?)?;
+                let b = Boxed::new(self.alloc, self.numbered(b.get())?)?;
+                let c = Boxed::new(self.alloc, self.numbered(c.get())?)?;
+                Ok(Expr::Pick(a, b, c))
+            }
         }
-        Op::Read { channel, target } => Ok(Op::Read {
-            channel: channels.number(channel.bytes()),
-            target: place(own, temps, target),
-        }),
-        Op::Write(channel, value) => Ok(Op::Write(
-            channels.number(channel.bytes()),
-            numbered(alloc, own, temps, value)?,
-        )),
+    }
+
+    /// An operation with its names replaced by numbers.
+    fn operation(&self, op: &Op<Name>) -> Result<Op<u32>, OutOfMemory>
+        ensures { IfOk result (λ o. o ≡ operation self.now op.now) }
+    {
+        match op {
+            Op::Set(target, value) => Ok(Op::Set(self.place(target), self.numbered(value)?)),
+            Op::Load {
+                target,
+                memory,
+                address,
+            } => self.load(target, memory, address),
+            Op::Store {
+                memory,
+                address,
+                value,
+            } => self.store(memory, address, value),
+            Op::Read { channel, target } => Ok(Op::Read {
+                channel: self.channel(channel),
+                target: self.place(target),
+            }),
+            Op::Write(channel, value) => self.write(channel, value),
+            Op::TryRead {
+                channel,
+                target,
+                outcome,
+            } => Ok(self.try_read(channel, target, outcome)),
+            Op::TryWrite {
+                channel,
+                outcome,
+                value,
+            } => self.try_write(channel, outcome, value),
+            Op::Empty { channel, target } => Ok(Op::Empty {
+                channel: self.channel(channel),
+                target: self.place(target),
+            }),
+            Op::Full { channel, target } => Ok(Op::Full {
+                channel: self.channel(channel),
+                target: self.place(target),
+            }),
+        }
+    }
+
+    /// A `load` with its names replaced by numbers.
+    fn load(
+        &self,
+        target: &Name,
+        memory: &Name,
+        address: &Expr<Name>,
+    ) -> Result<Op<u32>, OutOfMemory>
+        ensures { IfOk result (λ o. o ≡ operation self.now (Op.Load target.now memory.now address.now)) }
+    {
+        Ok(Op::Load {
+            target: self.place(target),
+            memory: self.memory(memory),
+            address: self.numbered(address)?,
+        })
+    }
+
+    /// A `store` with its names replaced by numbers.
+    fn store(
+        &self,
+        memory: &Name,
+        address: &Expr<Name>,
+        value: &Expr<Name>,
+    ) -> Result<Op<u32>, OutOfMemory>
+        ensures { IfOk result (λ o. o ≡ operation self.now (Op.Store memory.now address.now value.now)) }
+    {
+        Ok(Op::Store {
+            memory: self.memory(memory),
+            address: self.numbered(address)?,
+            value: self.numbered(value)?,
+        })
+    }
+
+    /// A `write` with its names replaced by numbers.
+    fn write(&self, channel: &Name, value: &Expr<Name>) -> Result<Op<u32>, OutOfMemory>
+        ensures { IfOk result (λ o. o ≡ operation self.now (Op.Write channel.now value.now)) }
+    {
+        Ok(Op::Write(self.channel(channel), self.numbered(value)?))
+    }
+
+    /// A `tryread` with its names replaced by numbers.
+    fn try_read(&self, channel: &Name, target: &Name, outcome: &Name) -> Op<u32>
+        ensures { result ≡ operation self.now (Op.TryRead channel.now target.now outcome.now) }
+    {
         Op::TryRead {
-            channel,
-            target,
-            outcome,
-        } => {
-            Ok(Op::TryRead {
-                channel: channels.number(channel.bytes()),
-                target: place(own, temps, target),
-                outcome: place(own, temps, outcome),
-            })
+            channel: self.channel(channel),
+            target: self.place(target),
+            outcome: self.place(outcome),
         }
-        Op::TryWrite {
-            channel,
-            outcome,
-            value,
-        } => {
-            Ok(Op::TryWrite {
-                channel: channels.number(channel.bytes()),
-                outcome: place(own, temps, outcome),
-                value: numbered(alloc, own, temps, value)?,
-            })
-        }
-        Op::Empty { channel, target } => Ok(Op::Empty {
-            channel: channels.number(channel.bytes()),
-            target: place(own, temps, target),
-        }),
-        Op::Full { channel, target } => Ok(Op::Full {
-            channel: channels.number(channel.bytes()),
-            target: place(own, temps, target),
-        }),
     }
-}
 
-/// The number of a guard, if there is one.
-fn guard(own: &ModuleNames, temps: &Names, name: &Option<Name>) -> Option<u32>
-    ensures { result ≡ option_map (name_number (own.now.registers ++ temps.now)) name.now }
-{
-    match name {
-        Some(name) => Some(place(own, temps, name)),
-        None => None,
+    /// A `trywrite` with its names replaced by numbers.
+    fn try_write(
+        &self,
+        channel: &Name,
+        outcome: &Name,
+        value: &Expr<Name>,
+    ) -> Result<Op<u32>, OutOfMemory>
+        ensures { IfOk result (λ o. o ≡ operation self.now (Op.TryWrite channel.now outcome.now value.now)) }
+    {
+        Ok(Op::TryWrite {
+            channel: self.channel(channel),
+            outcome: self.place(outcome),
+            value: self.numbered(value)?,
+        })
     }
-}
 
-/// The operation that an `at` schedules, with its offset and guard. `None` for any other statement.
-pub(crate) fn timed(
-    alloc: Global,
-    channels: &Names,
-    own: &ModuleNames,
-    temps: &Names,
-    statement: &Statement,
-) -> Result<Option<Timed>, OutOfMemory>
-    ensures { IfOk result (λ t. t ≡ timed (scope_at channels.now own.now temps.now) statement.now) }
-{
-    match statement {
-        Statement::At(offset, name, op) => {
-            Ok(Some(Timed {
-                offset: *offset,
-                guard: guard(own, temps, name),
-                op: operation(alloc, channels, own, temps, op)?,
-            }))
+    /// The number of a guard, if there is one.
+    fn guard(&self, name: &Option<Name>) -> Option<u32>
+        ensures { result ≡ option_map (name_number (places self.now)) name.now }
+    {
+        match name {
+            Some(name) => Some(self.place(name)),
+            None => None,
         }
-        _ => Ok(None),
+    }
+
+    /// The operation that an `at` schedules, with its offset and guard. `None` for any other statement.
+    pub(crate) fn timed(&self, statement: &Statement) -> Result<Option<Timed>, OutOfMemory>
+        ensures { IfOk result (λ t. t ≡ timed self.now statement.now) }
+    {
+        match statement {
+            Statement::At(offset, name, op) => {
+                Ok(Some(Timed {
+                    offset: *offset,
+                    guard: self.guard(name),
+                    op: self.operation(op)?,
+                }))
+            }
+            _ => Ok(None),
+        }
     }
 }
 

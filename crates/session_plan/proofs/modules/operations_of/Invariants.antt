@@ -1,9 +1,7 @@
 use Rattle.std.proofs.Common.{◌≡◌, ◌++◌, drop}
 use Rattle.std.specs.List.{filter_map}
-use Rattle.session_plan.specs.{Numbered.timed, Tables.scope_at}
+use Rattle.session_plan.specs.Numbered.{timed}
 use Rattle.session_plan.proofs.modules.operations_of.Given as goal
 
 abbrev pub invariant-loop-statement : goal.invariant-loop-statement
-invariant-loop-statement l =
-    l.ops ++ filter_map (timed (scope_at l.channels l.own l.temps)) (drop l.statement-index l.body)
-    ≡ filter_map (timed (scope_at l.channels l.own l.temps)) l.body
+invariant-loop-statement l = l.ops ++ filter_map (timed l.scope) (drop l.statement-index l.body) ≡ filter_map (timed l.scope) l.body

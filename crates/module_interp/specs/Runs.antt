@@ -34,13 +34,13 @@ pub record IsSmallAccess (a : Access) : Type 0 where
   pub ordinal : a.ordinal < 2 ^ 32
 
 -- the most accesses of a step that is told in place
-abbrev pub most_accesses : ℕ
-most_accesses = 8
+abbrev pub few_accesses : ℕ
+few_accesses = 8
 
 -- the step has one access to eight, and its numbers fit 32 bits
 pub record IsFew (s : StepOf) : Type 0 where
   pub some : 1 ≤ length s.accesses
-  pub most : length s.accesses ≤ most_accesses
+  pub most : length s.accesses ≤ few_accesses
   pub gap : s.gap < 2 ^ 32
   pub first_query : s.first_query < 2 ^ 32
   pub small : All IsSmallAccess s.accesses

@@ -7,7 +7,7 @@ ghost use Rattle.lockstep_defs.specs.Channels.{Exchange, moved_by};
 ghost use Rattle.lockstep_defs.specs.{Report.queries, OwnRun.Own, OwnRun.access_of, Machine.is_over as over_by};
 ghost use Rattle.module_interp.specs.OwnRests.{done_in, first_rest, next_rest, accesses_at, mark_at, all_fit};
 ghost use Rattle.module_interp.specs.Paths.{IsAtStep, IsAtEnd, IsTallyOf};
-ghost use Rattle.module_interp.specs.Runs.{waits, is_step, listed_step, inlets_of, most_accesses, popped_in, IsFew, IsSoundMark, StandsAt};
+ghost use Rattle.module_interp.specs.Runs.{waits, is_step, listed_step, inlets_of, few_accesses, popped_in, IsFew, IsSoundMark, StandsAt};
 
 use crate::making::{first_path, go_to_start};
 use crate::own_channels::OwnChannels;
@@ -22,7 +22,7 @@ use std::alloc::Global;
 const MOST: u64 = 0x1_0000_0000;
 
 /// The most accesses of a step that is told in place.
-const MOST_ACCESSES: u64 = 8;
+const FEW_ACCESSES: u64 = 8;
 
 /// A module's own run, ahead of time: from one local clock with a due FIFO operation to the next, on the replies that it is fed.
 ///
@@ -217,11 +217,11 @@ impl ModuleRun {
     #[inline(always)]
     fn rests_at_few(&self) -> bool
         ensures alive { result ≡ true → over_by self.now.path.value.limit self.now.path.value.state ≡ false }
-        ensures most { result ≡ true → length self.now.path.value.asked ≤ most_accesses }
+        ensures most { result ≡ true → length self.now.path.value.asked ≤ few_accesses }
         ensures gap { result ≡ true → self.now.path.value.since < 2 ^ 32 }
     {
         !is_over(self.path.limit, &self.path.state)
-            && self.path.asked.len() <= MOST_ACCESSES
+            && self.path.asked.len() <= FEW_ACCESSES
             && self.path.since < MOST
     }
 

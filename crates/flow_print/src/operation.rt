@@ -1,10 +1,10 @@
 //! Writing operations and their guards, after the offset.
 ghost use Rattle.std.specs.Prelude.{◌≡◌, ◌∷◌, ◌++◌, OnOk};
-ghost use Rattle.flow_grammar.specs.Parts.{guard_parts, op_parts};
+ghost use Rattle.flow_grammar.specs.Parts.{expr_parts, guard_parts, op_parts};
 ghost use Rattle.flow_print.specs.Canonical.{spaced_parts};
 
 use crate::expression::print_expression;
-use flow_design::{Name, Op};
+use flow_design::{Expr, Name, Op};
 use flow_grammar::Verb;
 use flow_word::{List, OutOfMemory};
 use report_text::push_token;
@@ -26,32 +26,22 @@ pub fn print_operation(text: &mut List<u8>, op: &Op<Name>) -> Result<(), OutOfMe
     ensures { OnOk result (text.new ≡ text.old ++ spaced_parts (op_parts op.now)) }
 {
     match op {
-        Op::Set(target, value) => {
-            push_two(text, Verb::Set.word(), target)?;
-            print_expression(text, value)
-        }
+        Op::Set(target, value) => push_two_and(text, Verb::Set.word(), target, value),
         Op::Load {
             target,
             memory,
             address,
-        } => {
-            push_three(text, Verb::Load.word(), target, memory)?;
-            print_expression(text, address)
-        }
+        } => push_three_and(text, Verb::Load.word(), target, memory, address),
         Op::Store {
             memory,
             address,
             value,
         } => {
-            push_two(text, Verb::Store.word(), memory)?;
-            print_expression(text, address)?;
+            push_two_and(text, Verb::Store.word(), memory, address)?;
             print_expression(text, value)
         }
         Op::Read { channel, target } => push_three(text, Verb::Read.word(), channel, target),
-        Op::Write(channel, value) => {
-            push_two(text, Verb::Write.word(), channel)?;
-            print_expression(text, value)
-        }
+        Op::Write(channel, value) => push_two_and(text, Verb::Write.word(), channel, value),
         Op::TryRead {
             channel,
             target,
@@ -64,10 +54,7 @@ pub fn print_operation(text: &mut List<u8>, op: &Op<Name>) -> Result<(), OutOfMe
             channel,
             outcome,
             value,
-        } => {
-            push_three(text, Verb::TryWrite.word(), channel, outcome)?;
-            print_expression(text, value)
-        }
+        } => push_three_and(text, Verb::TryWrite.word(), channel, outcome, value),
         Op::Empty { channel, target } => push_three(text, Verb::Empty.word(), channel, target),
         Op::Full { channel, target } => push_three(text, Verb::Full.word(), channel, target),
     }
@@ -92,4 +79,32 @@ fn push_three(
 {
     push_two(text, word, first)?;
     push_token(text, second.bytes())
+}
+
+/// Adds a word, a name and an expression.
+fn push_two_and(
+    text: &mut List<u8>,
+    word: &[u8],
+    name: &Name,
+    expr: &Expr<Name>,
+) -> Result<(), OutOfMemory>
+    ensures { OnOk result (text.new ≡ text.old ++ 32 ∷ word.now ++ 32 ∷ name.now ++ spaced_parts (expr_parts expr.now)) }
+{
+    push_two(text, word, name)?;
+    print_expression(text, expr)
+}
+
+/// Adds a word, two names and an expression.
+fn push_three_and(
+    text: &mut List<u8>,
+    word: &[u8],
+    first: &Name,
+    second: &Name,
+    expr: &Expr<Name>,
+) -> Result<(), OutOfMemory>
+    ensures { OnOk result (text.new
+        ≡ text.old ++ 32 ∷ word.now ++ 32 ∷ first.now ++ 32 ∷ second.now ++ spaced_parts (expr_parts expr.now)) }
+{
+    push_three(text, word, first, second)?;
+    print_expression(text, expr)
 }

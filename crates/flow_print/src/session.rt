@@ -7,7 +7,7 @@ ghost use Rattle.flow_print.specs.Canonical.{token_of, statement_tokens, version
 use crate::operation::{print_guard, print_operation};
 use flow_design::{Name, Op, Session, Statement};
 use flow_grammar::{Keyword, has_delays};
-use flow_word::{List, OutOfMemory};
+use flow_word::{List, OutOfMemory, Width};
 use report_text::{print_numbers, push_token, push_value, push_values};
 use std::alloc::Global;
 
@@ -47,27 +47,17 @@ fn print_statement(
 {
     match statement {
         Statement::Flow(number) => print_numbers(text, Keyword::Flow.word(), &[*number]),
-        Statement::Source(name, width) => {
-            print_named(text, Keyword::Source, name, &[width.number()])
-        }
-        Statement::Sink(name, width) => print_named(text, Keyword::Sink, name, &[width.number()]),
+        Statement::Source(name, width) => print_sized(text, Keyword::Source, name, *width),
+        Statement::Sink(name, width) => print_sized(text, Keyword::Sink, name, *width),
         Statement::Fifo {
             name,
             width,
             depth,
             delay,
-        } => {
-            if has_delays(version) {
-                print_named(text, Keyword::Fifo, name, &[width.number(), *depth, *delay])
-            } else {
-                print_named(text, Keyword::Fifo, name, &[width.number(), *depth])
-            }
-        }
+        } => print_fifo(text, version, name, *width, *depth, *delay),
         Statement::Module(name) => print_named(text, Keyword::Module, name, &[]),
-        Statement::Reg(name, width) => print_named(text, Keyword::Reg, name, &[width.number()]),
-        Statement::Mem(name, width, len) => {
-            print_named(text, Keyword::Mem, name, &[width.number(), *len])
-        }
+        Statement::Reg(name, width) => print_sized(text, Keyword::Reg, name, *width),
+        Statement::Mem(name, width, len) => print_memory(text, name, *width, *len),
         Statement::Block(name, len) => print_named(text, Keyword::Block, name, &[*len]),
         Statement::Loop {
             name,
@@ -75,7 +65,7 @@ fn print_statement(
             len,
             again,
         } => { print_loop(text, name, *interval, *len, again) }
-        Statement::Temp(name, width) => print_named(text, Keyword::Temp, name, &[width.number()]),
+        Statement::Temp(name, width) => print_sized(text, Keyword::Temp, name, *width),
         Statement::At(offset, guard, op) => print_timed(text, *offset, guard, op),
         Statement::Goto(block) => print_named(text, Keyword::Goto, block, &[]),
         Statement::Branch {
@@ -109,6 +99,48 @@ fn print_named(
     push_token(text, name.bytes())?;
     push_values(text, numbers)?;
     text.push(b'\n')
+}
+
+/// Adds the line of a keyword, a name and a width.
+fn print_sized(
+    text: &mut List<u8>,
+    keyword: Keyword,
+    name: &Name,
+    width: Width,
+) -> Result<(), OutOfMemory>
+    ensures { OnOk result (text.new ≡ text.old ++ line (keyword_word keyword ∷ name.now ∷ decimal width ∷ [])) }
+{
+    print_named(text, keyword, name, &[width.number()])
+}
+
+/// Adds the line of a FIFO, in the form of this version of the language.
+fn print_fifo(
+    text: &mut List<u8>,
+    version: u64,
+    name: &Name,
+    width: Width,
+    depth: u64,
+    delay: u64,
+) -> Result<(), OutOfMemory>
+    ensures { OnOk result (text.new ≡ text.old ++ line (tokens_of version (Statement.Fifo name.now width depth delay))) }
+{
+    if has_delays(version) {
+        print_named(text, Keyword::Fifo, name, &[width.number(), depth, delay])
+    } else {
+        print_named(text, Keyword::Fifo, name, &[width.number(), depth])
+    }
+}
+
+/// Adds the line of a memory.
+fn print_memory(
+    text: &mut List<u8>,
+    name: &Name,
+    width: Width,
+    len: u64,
+) -> Result<(), OutOfMemory>
+    ensures { OnOk result (text.new ≡ text.old ++ line (map token_of (parts (Statement.Mem name.now width len)))) }
+{
+    print_named(text, Keyword::Mem, name, &[width.number(), len])
 }
 
 /// Adds the line of a loop.

@@ -1,5 +1,5 @@
 -- A session of depth edits, in terms of its plans' reports alone.
-use Rattle.std.specs.Prelude.{◌≡◌, Bool, true, false, List, [], ◌∷◌}
+use Rattle.std.specs.Prelude.{◌≡◌, Bool, true, false}
 use Rattle.flow_design.specs.{declared.plan.Edit.Edit, declared.plan.Plan.Plan, Plans.with_depth}
 use Rattle.lockstep_defs.specs.Report.{report}
 use Rattle.outcome_guard.specs.{declared.count.RunCount.RunCount, Runs.first_counts, Runs.next_counts}
@@ -26,8 +26,3 @@ pub record IsBroken (old new : Session) (e : Edit) : Type 0 where
   pub plan : new.plan ≡ plan_behind old e
   pub runs : new.count.runs ≡ old.count.runs
   pub stopped : new.live ≡ false
-
--- the session after these further edits
-abbrev pub with_edits : Session → List Edit → Session
-with_edits s [] = s
-with_edits s (e ∷ more) = with_edits (with_edit s e) more

@@ -91,16 +91,6 @@ module _ (lo hi : ℕ) (ordered : lo ≤ hi) where
   pub next_some : (n i unit : ℕ) → i < n → unit ≡ length (grid lo hi (n - i)) → 0 < unit / (hi - lo + 1)
   next_some n i unit inside is = subst (λ (u : ℕ). 0 < u) (sym (next_unit n i unit inside is)) (grid_some (n - (i + 1)))
 
-  pub digit_short : (n i unit rest : ℕ) → i < n → unit ≡ length (grid lo hi (n - i)) → rest < unit
-      → rest / (unit / (hi - lo + 1)) < hi - lo + 1
-  digit_short n i unit rest inside is short =
-      let m = n - (i + 1) in
-      let u = length (grid lo hi m) in
-      let one_more : n - i ≡ suc m = omega arith in
-      let whole : unit ≡ width lo hi * u = is ∙ (ap (λ (k : ℕ). length (grid lo hi k)) one_more ∙ grid_more m) in
-      subst (λ (v : ℕ). rest / v < hi - lo + 1) (sym (next_unit n i unit inside is))
-      (subst (λ (w : ℕ). rest / u < w) (sym width_is) (div_below rest u (width lo hi) (grid_some m) (omega (arith, short, whole))))
-
   -- one depth more of the list with this number
   pub one_depth_more : (n i number unit rest : ℕ) (depths new : List ℕ) → i < n → unit ≡ length (grid lo hi (n - i)) → rest < unit
       → get_or (grid lo hi n) number [] ≡ depths ++ get_or (grid lo hi (n - i)) rest []

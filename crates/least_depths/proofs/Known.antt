@@ -1,7 +1,6 @@
 -- What a late depth says of the depths that are tried.
-use Rattle.std.proofs.Common.{◌≡◌, ℕ, ◌+◌, ◌<◌, ◌≤◌, true, false, sym, ◌∙◌, subst, arith, inl, inr}
-use Rattle.std.proofs.lemmas.Bool.{cases_Bool, cases_lt}
-use Rattle.std.specs.Prelude.{slice_index}
+use Rattle.std.proofs.Common.{◌≡◌, ℕ, ◌<◌, ◌≤◌, true, false, sym, ◌∙◌, subst, arith, inl, inr}
+use Rattle.std.proofs.lemmas.Bool.{cases_Bool}
 use Rattle.flow_design.specs.{declared.limits.TheConstants.FIFO_DEPTH, declared.plan.Plan.Plan, Plans.with_depth, StaticRules.FitsEngine}
 use Rattle.lockstep_defs.specs.Verdict.{verdict}
 use Rattle.depth_order.specs.Depths.{AsksNothing}
@@ -30,16 +29,6 @@ late_known p clock f bound d late low high below = elim (cases_Bool (is_in_time 
   | inr e ↦ e
 ]
 
--- where none is tried
-pub known_untried : (p : Plan) (clock f bound : ℕ) → HasDepth p f → IsLateBelow p clock f bound
-    → AreKnown p f (record { clock = clock; late_below = bound; timely_from = slice_index p.depths f })
-known_untried p clock f bound x late =
-    let most = x.most in
-    record {
-      late = λ d low less below. late_known p clock f bound d late low (omega arith) below;
-      timely = λ d low less from. absurd (omega arith);
-    }
-
 -- where the bound is tried and is in time
 pub known_timely : (p : Plan) → FitsEngine p → AsksNothing p → (clock f bound : ℕ) → HasDepth p f → IsLateBelow p clock f bound
     → 1 ≤ bound → is_in_time p clock f bound ≡ true
@@ -49,19 +38,4 @@ known_timely p h none clock f bound x late low t =
     record {
       late = λ d some less below. late_known p clock f bound d late some (omega arith) below;
       timely = λ d some less from. in_time_more p h none p.depths (own_depths p h) f x.fifo clock bound d low from (omega arith) t;
-    }
-
--- and where it is not
-pub known_late : (p : Plan) (clock f bound : ℕ) → HasDepth p f → IsLateBelow p clock f bound → is_in_time p clock f bound ≡ false
-    → AreKnown p f (record { clock = clock; late_below = bound + 1; timely_from = slice_index p.depths f })
-known_late p clock f bound x late t =
-    let most = x.most in
-    record {
-      late = λ d low less below. elim (cases_lt d bound) [
-        | inl lower ↦ late_known p clock f bound d late low (omega arith) lower
-        | inr at ↦
-            let same : d ≡ bound = omega arith in
-            subst (λ (k : ℕ). is_in_time p clock f k ≡ false) (sym same) t
-      ];
-      timely = λ d low less from. absurd (omega arith);
     }

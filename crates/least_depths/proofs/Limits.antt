@@ -3,8 +3,7 @@ use Rattle.std.proofs.Common.{◌≡◌, ℕ, zero, suc, ◌+◌, ◌++◌, ◌<
 use Rattle.std.proofs.Common.{subst, arith, inl, inr}
 use Rattle.std.proofs.lemmas.Bool.{cases_Bool, cases_lt, lt-ltb, le-ltb, leb-true, false_from_ne_true}
 use Rattle.std.specs.{Prelude.nat_lt, Prelude.nat_le, List.list_all, List.list_any}
-use Rattle.flow_design.specs.{declared.limits.TheConstants.CYCLES, declared.plan.Plan.Plan, declared.report.Verdict.Verdict}
-use Rattle.flow_design.specs.{declared.state.ClockState.ClockState, StaticRules.FitsEngine}
+use Rattle.flow_design.specs.{declared.plan.Plan.Plan, declared.report.Verdict.Verdict, declared.state.ClockState.ClockState}
 use Rattle.flow_design.specs.declared.report.Verdict.TheVariants.{Done, Deadlock, Cycles, Ops}
 use Rattle.lockstep_defs.specs.{Channels.reply, Machine.is_spent, Laws.NoneBefore}
 use Rattle.lockstep_defs.specs.Lockstep.{Moment, moves, steps_in, clock_step, opening, moment, next_moment, state}
@@ -125,28 +124,3 @@ module _ (p : Plan) (clock : ℕ) where
           | inr none ↦ absurd (true≢false (sym (done_by_test clock (verdict p) done) ∙ late p n none clock at_least))
         ]
   ]
-
-limit_within : (clock cycles : ℕ) → 1 ≤ cycles → cycles ≤ CYCLES → (1 ≤ limit_for clock cycles) × (limit_for clock cycles ≤ CYCLES)
-limit_within clock cycles some most = elim (cases_lt clock cycles) [
-  | inl l ↦ let is = early_limit clock cycles l in (omega arith, omega arith)
-  | inr l ↦ let is = own_limit clock cycles l in (omega arith, omega arith)
-]
-
-pub limited_fits : (p : Plan) → FitsEngine p → (clock : ℕ) → FitsEngine (limited clock p)
-limited_fits p h clock =
-    let limit = limit_within clock p.cycles h.some_cycles h.cycles in
-    record {
-      channel_count = h.channel_count;
-      module_count = h.module_count;
-      inputs = h.inputs;
-      depths = h.depths;
-      input_count = h.input_count;
-      channels = λ f l. let k = h.channels f l in
-          record { name = k.name; popping = k.popping; pushing = k.pushing; entries = k.entries };
-      modules = h.modules;
-      some_cycles = limit.0;
-      cycles = limit.1;
-      some_operations = h.some_operations;
-      operations = h.operations;
-      pace = h.pace;
-    }

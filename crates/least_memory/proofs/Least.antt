@@ -6,7 +6,7 @@ use Rattle.flow_design.specs.{declared.limits.TheConstants.FIFO_DEPTH, declared.
 use Rattle.flow_design.specs.{Plans.is_fifo, Plans.kind_at, StaticRules.FitsEngine}
 use Rattle.flow_design.specs.declared.report.Verdict.TheVariants.{Done, Deadlock, Cycles, Ops}
 use Rattle.lockstep_defs.specs.{Report.report, Verdict.verdict}
-use Rattle.depth_order.specs.Depths.{with_depths, AreDepths, AsksNothing, IsDoneBy}
+use Rattle.depth_order.specs.Depths.{with_depths, AreDepths, IsDoneBy}
 use Rattle.depth_order.proofs.Plans.{fifo_inside}
 use Rattle.depth_advice.specs.Advice.{advised, wide}
 use Rattle.depth_advice.proofs.{Depths.advised_depths, Depths.wide_fits, Depths.never_blocks, Depths.fifo_entry, Finding.verdict_told}
@@ -171,9 +171,6 @@ wide_deepest p q e = subst AreDeepest (sym e) (λ f fifo. fifo_entry p (λ g. FI
 
 pub wide_fit : (p q : Plan) → FitsEngine p → q ≡ wide p → FitsEngine q
 wide_fit p q fits e = subst FitsEngine (sym e) (wide_fits p fits)
-
-pub wide_quiet : (p q : Plan) → AsksNothing p → q ≡ wide p → AsksNothing q
-wide_quiet p q none e = subst AsksNothing (sym e) none
 
 -- ---- numbers
 

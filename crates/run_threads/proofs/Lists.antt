@@ -9,10 +9,6 @@ module _ {A : Type 0} where
   get-snoc (a ∷ xs) x y zero e = inl e
   get-snoc (a ∷ xs) x y (suc k) e = ⊎_elim (λ h. inl h) (λ h. inr (ap suc h.0, h.1)) (get-snoc xs x y k e)
 
-  pub get-mid : (xs : List A) (x : A) (ys : List A) → slice_get (xs ++ x ∷ ys) (length xs) ≡ Some x
-  get-mid [] x ys = refl
-  get-mid (a ∷ xs) x ys = get-mid xs x ys
-
   pub all-snoc : (P : ℕ → A → Type 0) (xs : List A) (x : A) → ((k : ℕ) (y : A) → slice_get xs k ≡ Some y → P k y) → P (length xs) x
       → (k : ℕ) (y : A) → slice_get (xs ++ x ∷ []) k ≡ Some y → P k y
   all-snoc P xs x all is k y e =

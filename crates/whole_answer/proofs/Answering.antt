@@ -79,11 +79,6 @@ pub begins_fails : {E : Type 0} (IsIt : Answer → Type 0) (held : Option (List 
 begins_fails IsIt held r f a =
     record { whole = a.0; is_it = a.1; rest = IfOk-from_err r _ f; prefix = on_err r (prefix_none held a.0.text) }
 
--- an answer of one kind that is one of another
-pub begins_so : {E : Type 0} (IsIt IsOther : Answer → Type 0) (old new : Option (List ℕ)) (r : Result Answer E)
-    → ((a : Answer) → IsIt a → IsOther a) → BeginsAnswer IsIt old new r → BeginsAnswer IsOther old new r
-begins_so IsIt IsOther old new r so b = record { whole = b.whole; is_it = so b.whole b.is_it; rest = b.rest; prefix = b.prefix }
-
 -- the fault has another name
 pub begins_as_ok : {E F : Type 0} (IsIt : Answer → Type 0) (old new : Option (List ℕ)) (a : Answer)
     → BeginsAnswer {E = E} IsIt old new (Ok a) → BeginsAnswer {E = F} IsIt old new (Ok a)

@@ -90,12 +90,6 @@ beside_more p fits m inside beside more masks are added ports own set across of 
 -- ---- what was done
 
 module _ (p : Plan) (fits : FitsEngine p) (x : Core ModuleState) (asking : List ℕ) (are : AreAsking p x asking) where
-  pub asking_more : (now : List ℕ) (m : ℕ) → IsAdded asking m now → AreAsking p x now
-  asking_more now m added = record {
-    room = still_room p asking now added.room are.room;
-    idle = λ n l none. are.idle n l (λ h. none ((added.has n).1 (inl h)));
-  }
-
   pub asking_ran : IsAgreed (design p) (lockstep_run p) p.cycles x → (m count : ℕ) (y : Core ModuleState)
       → ActsAll (design p) p.cycles x (runs count m) y → (now : List ℕ) → IsAdded asking m now → AreAsking p y now
   asking_ran agreed m count y acts now added = record {
@@ -156,21 +150,6 @@ module _ (p : Plan) (fits : FitsEngine p) (x : Core ModuleState) (asking : List 
             | inr other ↦ others n other none
           ]);
     }
-
--- where what is held is the same
-pub asking_kept : (p : Plan) (g h : Held) → h ≡ g → FitsEngine p → (asking : List ℕ) → AreAsking p (core_of (design p) g) asking
-    → (now : List ℕ) (m : ℕ) → IsAdded asking m now → AreAsking p (core_of (design p) h) now
-asking_kept p g h same fits asking are now m added =
-    rw same (asking_more p fits (core_of (design p) g) asking are now m added)
-
--- and behind Runs of a module
-pub asking_returned : (p : Plan) (g h : Held) → h ≡ g → FitsEngine p
-    → IsAgreed (design p) (lockstep_run p) p.cycles (core_of (design p) h)
-    → (asking : List ℕ) → AreAsking p (core_of (design p) g) asking → (now : List ℕ) (m : ℕ) → IsAdded asking m now
-    → (count : ℕ) (y : Core ModuleState)
-    → ActsAll (design p) p.cycles (core_of (design p) h) (runs count m) y → AreAsking p y now
-asking_returned p g h same fits agreed asking are now m added count y acts =
-    asking_ran p fits (core_of (design p) h) asking (rw same are) agreed m count y acts now added
 
 -- who shares a channel with whom doesn't depend on depths
 pub beside_edited : (p : Plan) (channel depth : ℕ) (beside : List (List Mask)) → AreBeside p beside

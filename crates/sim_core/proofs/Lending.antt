@@ -5,12 +5,11 @@ use Rattle.std.proofs.{lemmas.Bool.Decides.eqb_tells, lemmas.List.length-set, le
 use Rattle.std.specs.Prelude.{IfSome}
 use Rattle.flow_design.specs.{declared.plan.Plan.Plan, declared.state.Advance.Advance, declared.state.ModuleState.ModuleState}
 use Rattle.module_interp.specs.declared.run.ModuleRun.{ModuleRun}
-use Rattle.event_timing.specs.{Core.Core, Actions.Acts, Actions.Action.Run, Agreement.IsAgreed}
+use Rattle.event_timing.specs.{Core.Core, Agreement.IsAgreed}
 use Rattle.timing_bridge.specs.Designs.{design, lockstep_run}
 use Rattle.engine_view.specs.{Held.Held, Held.core_of, Shown.IsSound, Taking.kinds_in, Rooms.IsRoomy, Engines.held_in}
 use Rattle.engine_view.specs.declared.engine.Engine.{Engine}
-use Rattle.sim_core.specs.{Views.CoreView, Views.theory_of, Drives.Goes, Drives.GoesOn}
-use Rattle.sim_core.specs.Runs.{IsRunOf, IsEndOf, IsCore, lent_of, over_of}
+use Rattle.sim_core.specs.{Views.CoreView, Runs.IsRunOf, Runs.IsEndOf, Runs.IsCore, Runs.lent_of, Runs.over_of}
 
 -- where the lists are the same
 pub held_same : (s t : Engine) (over : List Bool) → t.graph.lanes ≡ s.graph.lanes → t.fifos.channels ≡ s.fifos.channels
@@ -71,12 +70,6 @@ lent_set (r ∷ rs) (suc m) = lent_set rs m
 pub same_some : (a b : ModuleRun) → Some a ≡ Some b → a ≡ b
 same_some a b e = cc
 
--- ---- from view to view
-
-pub acts_at : (v w : CoreView) (m : ℕ) (y : Core ModuleState) → w ≡ v → Acts (design w.plan) w.plan.cycles (theory_of w) (Run m) y
-    → Acts (design v.plan) v.plan.cycles (theory_of v) (Run m) y
-acts_at v w m y e s = subst (λ (u : CoreView). Acts (design u.plan) u.plan.cycles (theory_of u) (Run m) y) e s
-
 -- ---- a run that is taken out and put back
 
 lent_again : (bs : List Bool) (m : ℕ) → get_or bs m true ≡ false → set (set bs m true) m false ≡ bs
@@ -91,34 +84,9 @@ pub record IsRoundTrip (before taken after back : CoreView) (m : ℕ) : Type 0 w
   pub home : back ≡ record after { lent = set after.lent m false }
 
 module _ {before taken after back : CoreView} {m : ℕ} (t : IsRoundTrip before taken after back m) where
-  pub lent_back : after.lent ≡ taken.lent → back.lent ≡ before.lent
-  lent_back e = rw (t.home, e, t.out) (lent_again before.lent m t.here)
-
   pub same_back : after ≡ taken → back ≡ before
   same_back e = rw (t.home, e, t.out) (ap (λ (bs : List Bool). record before { lent = bs }) (lent_again before.lent m t.here))
-
-  pub acts_back : Acts (design taken.plan) taken.plan.cycles (theory_of taken) (Run m) (theory_of after)
-      → Acts (design before.plan) before.plan.cycles (theory_of before) (Run m) (theory_of back)
-  acts_back s = rw t.home (rw t.out at s)
-
-  pub goes_back : {a b : ℕ} → Goes taken a after b → Goes before a back b
-  goes_back g =
-      let lent = rw t.home at lent_back g.lent in
-      rw t.home (record {
-        actions = g.actions;
-        all = rw t.out at g.all;
-        ticked = g.ticked;
-        plan = rw t.out at g.plan;
-        lent = lent;
-      })
-
-  pub goes_on_back : {a b : ℕ} → GoesOn taken a after b → GoesOn before a back b
-  goes_on_back g = record { goes = goes_back g.goes; risen = rw t.home (rw t.out at g.risen) }
 
 pub some_so : {A P : Type 0} (o : Option A) → P → IfSome o (λ a. P)
 some_so {A} {P} (Some a) p = p
 some_so {A} {P} None p = tt
-
-pub some_then : {A : Type 0} (o : Option A) (P Q : Type 0) → (P → Q) → IfSome o (λ a. P) → IfSome o (λ a. Q)
-some_then {A} (Some a) P Q f p = f p
-some_then {A} None P Q f p = p

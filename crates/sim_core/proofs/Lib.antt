@@ -47,3 +47,4 @@ pub mod Asking
 pub mod Waking
 pub mod Listing
 pub mod OwnMarks
+pub mod Stretching

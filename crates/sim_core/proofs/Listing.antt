@@ -77,9 +77,6 @@ module _ (p : Plan) (x : Core ModuleState) (due : Due) (candidates : List Candid
     was_listed : (n : ℕ) → IsListed now n → IsListed due n
     was_listed n (asks, listed) = (λ h. asks ((added.has n).1 (inl h)), rw same at listed)
 
-    pub listed_roomed : AreListed p x now candidates
-    listed_roomed = listed_fewer now (ap (λ (set : List ℕ). length set) same) (λ n l listed. was_listed n listed)
-
     pub listed_ran : FitsEngine p → IsAgreed (design p) (lockstep_run p) p.cycles x → (count : ℕ) (y : Core ModuleState)
         → ActsAll (design p) p.cycles x (runs count m) y → AreListed p y now candidates
     unfolding IsStaying

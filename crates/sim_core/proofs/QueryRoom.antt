@@ -11,7 +11,7 @@ use Rattle.engine_view.specs.Held.{queries_in}
 use Rattle.sim_core.specs.Runs.{HasBodiesWithin, AreBodyLengths}
 use Rattle.sim_core.proofs.Marking.{step_of_mark}
 
-bodies_within : (m : Module) (a b : ℕ) → a ≤ b → HasBodiesWithin m a → HasBodiesWithin m b
+pub bodies_within : (m : Module) (a b : ℕ) → a ≤ b → HasBodiesWithin m a → HasBodiesWithin m b
 bodies_within m a b l h k d inside = let fits = h k d inside in omega arith
 
 -- so are those that are told, where there is room for as many

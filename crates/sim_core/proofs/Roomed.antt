@@ -1,5 +1,5 @@
 -- A core as it is stored: a module's run is taken out or put back; room is made for a module's marks, and Runs of that module follow.
-use Rattle.std.proofs.Common.{◌≡◌, sym, subst, ◌∙◌, ℕ, ◌<◌, List, [], length, get_or, set, Bool, Option, None, Some, arith}
+use Rattle.std.proofs.Common.{◌≡◌, sym, subst, ℕ, ◌<◌, List, [], length, get_or, set, Bool, Option, None, Some, arith}
 use Rattle.std.specs.Prelude.{All, IfSome, slice_index_or}
 use Rattle.flow_word.specs.declared.access.Port.{Port}
 use Rattle.flow_design.specs.{declared.plan.Plan.Plan, declared.state.Advance.Advance, declared.state.ModuleState.ModuleState}
@@ -12,10 +12,9 @@ use Rattle.timing_bridge.specs.Designs.{design}
 use Rattle.engine_view.specs.{declared.engine.Engine.Engine, Engines.held_in, Held.Held, Held.core_of}
 use Rattle.engine_view.specs.Rooms.{EngineHasModule, IsSameButRoom, IsRoomy, AreAllPorts}
 use Rattle.sim_core.specs.{declared.due.Due.Due, declared.unread.Unread.Unread, declared.wiring.Wiring.Wiring, Candidates.AreListed}
-use Rattle.sim_core.specs.{Waking.AreWaking, Waking.IsSpread, Opening.ports_to, Returned.core_in, Unread.AreUnread}
+use Rattle.sim_core.specs.{Waking.AreDue, Waking.IsSpread, Opening.ports_to, Returned.core_in, Stretches.IsHeldAlike, Unread.AreUnread}
 use Rattle.sim_core.specs.Runs.{IsRunOf, IsOut, IsCore, IsStoredCore, lent_of, over_of}
-use Rattle.sim_core.proofs.Asking.{asking_kept, asking_returned}
-use Rattle.sim_core.proofs.{Listing.listed_ran, Listing.listed_roomed, Waking.waking_more, Waking.waking_ran, Marking.table_count}
+use Rattle.sim_core.proofs.{Asking.asking_ran, Listing.listed_ran, Waking.waking_ran, Marking.table_count}
 use Rattle.sim_core.proofs.Leaving as leaving
 use Rattle.sim_core.proofs.Lending as lending
 use Rattle.sim_core.proofs.Ports as ports
@@ -43,87 +42,69 @@ module _ {p : Plan} {s : Engine} {ends : List (Option Advance)} {runs : List (Op
 
 -- ---- room for a module's marks
 
-module _ {p : Plan} {s : Engine} {ends : List (Option Advance)} {runs : List (Option ModuleRun)} {wiring : Wiring}
-    {unread : List Unread} {due : Due} {candidates : List Candidate}
-    (k : IsStoredCore p s ends runs wiring unread due candidates) (m : ℕ) (inside : m < length p.design.modules)
-    (own : List Port) (own_is : own ≡ get_or wiring.ports m []) where
-  own_ports : own ≡ ports_to p m (length p.design.channels)
-  own_ports = own_is ∙ k.wired.ports_are.each m inside
-
+module _ {p : Plan} {s : Engine} {ends : List (Option Advance)} {runs : List (Option ModuleRun)} (k : IsCore p s ends runs) (m : ℕ)
+    (inside : m < length p.design.modules) (own : List Port) (own_is : own ≡ ports_to p m (length p.design.channels)) where
   channels : length s.fifos.channels ≡ length p.design.channels
-  channels = table_count p s.fifos.channels k.core.table
+  channels = table_count p s.fifos.channels k.table
 
   -- ---- what it asks to make room
 
   pub has_module : EngineHasModule s m
   has_module =
-      let lanes = k.core.sound.lanes in
-      let logs = k.core.sound.logs in
-      let count = k.core.counted in
+      let lanes = k.sound.lanes in
+      let logs = k.sound.logs in
+      let count = k.counted in
       record { lane = omega arith; log = omega arith; credit = omega arith }
 
   pub ports_inside : All (λ (port : Port). port.channel < length s.fifos.channels) own
-  ports_inside = ports.all_within p m (length s.fifos.channels) own channels own_ports
+  ports_inside = ports.all_within p m (length s.fifos.channels) own channels own_is
 
   -- ---- with room
 
   module _ (t : Engine) (same : IsSameButRoom m s t) (room : (d : Design ModuleState) (over : List Bool)
       → AreAllPorts d m (length s.fifos.channels) own → IsRoomy d s over → IsRoomy d t over) where
-    pub held_same : held_in t (over_of ends) ≡ held_in s (over_of ends)
+    pub held_same : IsHeldAlike s ends t ends
     held_same = lending.held_same s t (over_of ends) same.lanes same.channels same.logs
 
     pub core : IsCore p t ends runs
-    core = lending.core_roomed p s ends runs t k.core held_same same.count
-        (room (design p) (over_of ends) (ports.all_there p m (length s.fifos.channels) own channels own_ports) k.core.room)
+    core = lending.core_roomed p s ends runs t k held_same same.count
+        (room (design p) (over_of ends) (ports.all_there p m (length s.fifos.channels) own channels own_is) k.room)
 
-    unread_are : AreUnread (core_values (design p) (core_in p t ends)) (length p.design.channels) unread
-    unread_are = leaving.unread_same p (held_in s (over_of ends)) (held_in t (over_of ends)) unread held_same k.unread_are
+-- ---- behind Runs of a module
 
-    running_roomed : AreWaking p (core_in p t ends) due.running
-    running_roomed =
-        subst (λ (h : Held). AreWaking p (core_of (design p) h) due.running) (sym held_same) k.due_are.running_are
+module _ {p : Plan} {s : Engine} {ends : List (Option Advance)} {runs : List (Option ModuleRun)} {wiring : Wiring}
+    {unread : List Unread} {due : Due} {candidates : List Candidate}
+    (k : IsStoredCore p s ends runs wiring unread due candidates) (m : ℕ) (inside : m < length p.design.modules)
+    (f : Engine) (ends' : List (Option Advance)) where
+  -- where there were none
+  pub stored_alike : IsHeldAlike s ends f ends' → (runs' : List (Option ModuleRun)) → IsCore p f ends' runs'
+      → IsStoredCore p f ends' runs' wiring unread due candidates
+  stored_alike same runs' core' = record {
+    core = core';
+    wired = k.wired;
+    unread_are = leaving.unread_same p (held_in s (over_of ends)) (held_in f (over_of ends')) unread same k.unread_are;
+    due_are = subst (λ (h : Held). AreDue p (core_of (design p) h) due) (sym same) k.due_are;
+    listed_are = subst (λ (h : Held). AreListed p (core_of (design p) h) due candidates) (sym same) k.listed_are;
+  }
 
-    listed_same : AreListed p (core_in p t ends) due candidates
-    listed_same = subst (λ (h : Held). AreListed p (core_of (design p) h) due candidates) (sym held_same) k.listed_are
+  module _ (count : ℕ) (acts : ActsAll (design p) p.cycles (core_in p s ends) (actions.runs count m) (core_in p f ends')) where
+    pub unread_ran : AreUnread (core_values (design p) (core_in p f ends')) (length p.design.channels) unread
+    unread_ran = leaving.unread_ran p s ends runs k.core unread k.unread_are m count (core_in p f ends') acts
 
-    pub stored_roomed : (now : Due) → IsAdded due.asking m now.asking
-        → IsSpread due.running (slice_index_or wiring.hints m []) m now.running → now.unlisted ≡ due.unlisted
-        → IsStoredCore p t ends runs wiring unread now candidates
-    stored_roomed now added spread same_unlisted = record {
-      core = core;
+    pub stored_ran : (runs' : List (Option ModuleRun)) → IsCore p f ends' runs' → (unread' : List Unread)
+        → AreUnread (core_values (design p) (core_in p f ends')) (length p.design.channels) unread'
+        → (now : Due) → IsAdded due.asking m now.asking → IsSpread due.running (slice_index_or wiring.hints m []) m now.running
+        → now.unlisted ≡ due.unlisted → IsStoredCore p f ends' runs' wiring unread' now candidates
+    stored_ran runs' core' unread' are now added spread same_unlisted = record {
+      core = core';
       wired = k.wired;
-      unread_are = unread_are;
+      unread_are = are;
       due_are = record {
-        asking_are = asking_kept p (held_in s (over_of ends)) (held_in t (over_of ends)) held_same k.core.fits due.asking
-            k.due_are.asking_are now.asking m added;
-        running_are = waking_more p (core_in p t ends) due.running running_roomed
-            (slice_index_or wiring.hints m []) m now.running spread;
+        asking_are = asking_ran p k.core.fits (core_in p s ends) due.asking k.due_are.asking_are k.core.agreed m count
+            (core_in p f ends') acts now.asking added;
+        running_are = waking_ran p (core_in p s ends) due.running k.due_are.running_are wiring.hints k.wired.beside_are m inside
+            now.running spread count (core_in p f ends') acts;
       };
-      listed_are = listed_roomed p (core_in p t ends) due candidates listed_same m now k.due_are.asking_are.room added
-          same_unlisted;
+      listed_are = listed_ran p (core_in p s ends) due candidates k.listed_are m now k.due_are.asking_are.room added
+          same_unlisted k.core.fits k.core.agreed count (core_in p f ends') acts;
     }
-
-    -- ---- behind Runs of the module
-
-    module _ (f : Engine) (ends' : List (Option Advance)) (count : ℕ)
-        (acts : ActsAll (design p) p.cycles (core_in p t ends) (actions.runs count m) (core_in p f ends')) where
-      pub unread_ran : AreUnread (core_values (design p) (core_in p f ends')) (length p.design.channels) unread
-      unread_ran = leaving.unread_ran p t ends runs core unread unread_are m count (core_in p f ends') acts
-
-      pub stored_ran : (runs' : List (Option ModuleRun)) → IsCore p f ends' runs' → (unread' : List Unread)
-          → AreUnread (core_values (design p) (core_in p f ends')) (length p.design.channels) unread'
-          → (now : Due) → IsAdded due.asking m now.asking → IsSpread due.running (slice_index_or wiring.hints m []) m now.running
-          → now.unlisted ≡ due.unlisted → IsStoredCore p f ends' runs' wiring unread' now candidates
-      stored_ran runs' core' unread' are now added spread same_unlisted = record {
-        core = core';
-        wired = k.wired;
-        unread_are = are;
-        due_are = record {
-          asking_are = asking_returned p (held_in s (over_of ends)) (held_in t (over_of ends)) held_same k.core.fits core.agreed due.asking
-              k.due_are.asking_are now.asking m added count (core_in p f ends') acts;
-          running_are = waking_ran p (core_in p t ends) due.running running_roomed wiring.hints k.wired.beside_are m
-              inside now.running spread count (core_in p f ends') acts;
-        };
-        listed_are = listed_ran p (core_in p t ends) due candidates listed_same m now k.due_are.asking_are.room added
-            same_unlisted k.core.fits core.agreed count (core_in p f ends') acts;
-      }

@@ -5,22 +5,20 @@ use Rattle.std.proofs.lemmas.Bool.{both_ways, cases_lt}
 use Rattle.std.specs.Prelude.{slice_get, slice_index_or}
 use Rattle.flow_design.specs.{declared.plan.Plan.Plan, StaticRules.FitsEngine}
 use Rattle.query_log.specs.declared.query.Query.{Query}
-use Rattle.event_timing.specs.{Machines.Design, Core.Core, Core.view, Enablers.candidate, Actions.Action.Run, Actions.Action.Assign}
-use Rattle.event_timing.specs.{Actions.Action.Answer, Actions.Action.Earliest, Agreement.IsAgreed, Agreement.AllVerified, Work.work}
-use Rattle.event_timing.specs.Actions.{Action, Acts, ActsAll, MayRun, IsQuiet, IsNoRunOf, after_run}
-use Rattle.event_timing.proofs.{Agreement.all_agree, Deciding.determined_inside, Assigning.put_same, Beside.others_grow, Running.run_cases}
+use Rattle.event_timing.specs.{Machines.Design, Core.Core, Core.view, Enablers.candidate, Actions.Action.Assign, Actions.Action.Answer}
+use Rattle.event_timing.specs.{Actions.Action.Earliest, Agreement.IsAgreed, Agreement.AllVerified, Work.work}
+use Rattle.event_timing.specs.Actions.{Action, Acts, ActsAll, MayRun, IsQuiet, after_run}
+use Rattle.event_timing.proofs.{Agreement.all_agree, Deciding.determined_inside, Assigning.put_same, Running.run_cases}
 use Rattle.event_timing.proofs.ActionBound.{more_work, most_work, never_found, all_rise}
 use Rattle.timing_bridge.specs.Designs.{design, lockstep_run}
 use Rattle.timing_bridge.proofs.{Bounded.plan_is_bounded, History.plan_is_design, History.run_is_history}
-use Rattle.module_interp.specs.declared.run.ModuleRun.{ModuleRun}
 use Rattle.engine_view.specs.{declared.turn.Timing.Timing, Cursors.CursorView, Turns.IsDifferent, Turns.IsFoundOther}
 use Rattle.engine_view.specs.declared.turn.Timing.TheVariants as turn
 use Rattle.outcome_guard.specs.declared.guard.Guard.TheVariants as guard
-use Rattle.sim_core.specs.{Runs.IsOut, Runs.IsRunOf, Views.CoreView, Views.theory_of, declared.visit.Visit.Visit}
+use Rattle.sim_core.specs.{Views.CoreView, Views.theory_of, declared.visit.Visit.Visit}
 use Rattle.sim_core.specs.Turns.{IsStill, IsEarliestOther, HasTurned, HasAnsweredLeast}
 use Rattle.sim_core.specs.declared.visit.Visit.TheVariants.{Acted, Differs, Idle}
 use Rattle.sim_core.specs.Drives.{given, Goes, GoesOn, VisitLeads, HasVisited, AreOwn, IsGoingRound}
-use Rattle.sim_core.proofs.Staying.{run_stays}
 
 -- ---- each action makes another core
 
@@ -51,9 +49,6 @@ module _ (v w : CoreView) (m before : ℕ) (plan : w.plan ≡ v.plan) (lent : w.
     ];
   }
 
-  pub ran : Acts (design v.plan) v.plan.cycles (theory_of v) (Run m) (theory_of w) → GoesOn v before w before
-  ran (may, is) = one (Run m) (may, is) (run_changes (design v.plan) (theory_of v) (theory_of w) m may is) before (omega arith)
-
   pub was_assigned : (c after : ℕ) → HasTurned (turn.Assigned c) v m w → after ≡ before + 1 → GoesOn v before w after
   was_assigned c after acts ticked =
       one (Assign m) acts (assign_changes (design v.plan) v.plan.cycles (theory_of v) (theory_of w) m acts) after ticked
@@ -63,25 +58,6 @@ module _ (v w : CoreView) (m before : ℕ) (plan : w.plan ≡ v.plan) (lent : w.
 
   pub was_least : HasAnsweredLeast (Some (m, guard.Same)) v w → GoesOn v before w before
   was_least (acts, changed) = one (Earliest m) acts changed before (omega arith)
-
--- a run that is out of the core stands where it stood while its module's step is given its cycle, or its queries are answered
-module _ (v w : CoreView) (m : ℕ) (plan : w.plan ≡ v.plan) (lent : w.lent ≡ v.lent) (fits : FitsEngine v.plan)
-    (agreed : IsAgreed (design v.plan) (lockstep_run v.plan) v.plan.cycles (theory_of v)) (run : ModuleRun) (out : IsOut v m run) where
-  still_out : (a : Action) → IsNoRunOf m (a ∷ []) → Acts (design v.plan) v.plan.cycles (theory_of v) a (theory_of w) → IsOut w m run
-  still_out a none acts = record {
-    inside = subst (λ (q : Plan). m < length q.design.modules) (sym plan) out.inside;
-    lent = ap (λ (bs : List Bool). slice_index_or bs m true) lent ∙ out.lent;
-    run_is = subst (λ (q : Plan). IsRunOf q (theory_of w) m run) (sym plan)
-        (run_stays v.plan (theory_of v) (theory_of w) agreed.marks m
-        (others_grow (design v.plan) (lockstep_run v.plan) (plan_is_design v.plan fits) (run_is_history v.plan fits) v.plan.cycles
-        (theory_of v) agreed m (a ∷ []) none (theory_of w) (theory_of w, acts, refl)) run out.run_is);
-  }
-
-  pub out_timed : (r : Timing) → HasTurned r v m w → IsOut w m run
-  out_timed (turn.Assigned c) acts = still_out (Assign m) tt acts
-  out_timed (turn.Answered c) (acts, changed, next) = still_out (Answer m) tt acts
-  out_timed (turn.Differs q) (same, other) = rw same out
-  out_timed turn.Nothing (same, idle) = rw same out
 
 -- ---- lists of actions
 

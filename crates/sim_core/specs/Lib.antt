@@ -19,3 +19,4 @@ pub mod Costs
 pub mod Asking
 pub mod OwnMarks
 pub mod Waking
+pub mod Stretches

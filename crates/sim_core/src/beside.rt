@@ -2,12 +2,13 @@
 ghost use Rattle.std.specs.Prelude.{◌≡◌, ◌≢◌, ◌<◌, ℕ, All, true, length, IfOk};
 ghost use Rattle.flow_design.specs.StaticRules.{FitsEngine};
 ghost use Rattle.flow_word.specs.{Kinds.other_side, declared.access.Side.TheVariants.Push};
-ghost use Rattle.module_sets.specs.Sets.{Has, HasMask, capacity};
+ghost use Rattle.module_sets.specs.Sets.{Has, HasMask, IsAdded, capacity};
 ghost use Rattle.timing_bridge.specs.Designs.{design};
 ghost use Rattle.engine_view.specs.{Turns.is_progress, declared.turn.Timing.TheVariants.Nothing};
 ghost use Rattle.sim_core.specs.Asking.{Lacks, SetHasRoom, AreAcross, AreBeside};
 ghost use Rattle.sim_core.specs.{Waking.IsSpread, Waking.IsWoken, Opening.AreOwnPorts, Readers.AreReaders, Readers.AreUsers};
 
+use crate::due::Due;
 use crate::wiring::ports_of;
 use engine_view::Timing;
 use flow_design::Plan;
@@ -109,6 +110,21 @@ pub(crate) fn wake_after(running: &mut ModuleSet, beside: &[Mask], owner: u32, t
         Timing::Answered(_) => spread(running, beside, owner),
         Timing::Assigned(_) | Timing::Differs(_) | Timing::Nothing => {}
     }
+}
+
+/// Of which modules something may be permitted after so many Runs of this one: itself and those beside it, with those before.
+#[inline(always)]
+pub(crate) fn wake_ran(due: &mut Due, beside: &[Mask], owner: u32, count: u32)
+    ensures none { count ≡ 0 → due.new ≡ due.old }
+    ensures asking { 0 < count → IsAdded due.old.asking owner due.new.asking }
+    ensures running { 0 < count → IsSpread due.old.running beside.now owner due.new.running }
+    ensures unlisted { due.new.unlisted ≡ due.old.unlisted }
+{
+    if count == 0 {
+        return;
+    }
+    due.asking.add(owner);
+    spread(&mut due.running, beside, owner);
 }
 
 /// Adds a module to a set, with those beside it.

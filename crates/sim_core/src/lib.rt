@@ -20,6 +20,7 @@ mod records;
 mod report;
 mod running;
 mod spans;
+mod stretch;
 mod timing;
 mod turn;
 mod unread;

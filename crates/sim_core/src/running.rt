@@ -1,19 +1,18 @@
 //! Runs of the modules.
-ghost use Rattle.std.specs.Prelude.{◌≡◌, ◌<◌, true, false, length, slice_index_or, slice_set, IfOk, IfSome, IsNone, OnOk, OnErr};
+ghost use Rattle.std.specs.Prelude.{◌≡◌, ◌<◌, ◌≤◌, Bool, true, false, length, slice_index_or, slice_set, IfOk, IfSome, IsNone, OnErr};
 ghost use Rattle.event_timing.specs.{Actions.Acts, Actions.MayRun, Actions.Action.Run};
 ghost use Rattle.timing_bridge.specs.Designs.{design};
-ghost use Rattle.module_interp.specs.Runs.{waits};
-ghost use Rattle.sim_core.specs.{Views.theory_of, Runs.IsAnswered, Runs.IsOut};
+ghost use Rattle.sim_core.specs.{Views.theory_of, Runs.IsAnswered, Runs.IsOut, Stretches.HasDoneRuns, Stretches.is_short};
 
-use crate::back::emit_mark;
-use crate::beside::spread;
+use crate::beside::wake_ran;
 use crate::bodies::body_length;
 use crate::machine::Core;
+use crate::stretch::{End, Member, Stretch, is_over, run_held};
 use crate::wiring::ports_of;
 use event_graph::Place;
 use flow_word::OutOfMemory;
 use module_interp::ModuleRun;
-use run_ahead::{find_replies, first_missing};
+use run_ahead::first_missing;
 
 impl Core {
     /// Does a module's Run, if it is permitted: commits the replies to the module's newest step, and emits its next mark. The
@@ -31,12 +30,82 @@ impl Core {
         ensures plan { self.new.plan ≡ self.old.plan }
         ensures lent { self.new.lent ≡ self.old.lent }
     {
-        let Some(mut run) = self.take_out(owner) else {
+        let ran = self.run_up_to(owner, 1);
+        if ran.end.is_short() {
+            return Err(OutOfMemory);
+        }
+        if ran.runs == 0 {
             return Ok(false);
+        }
+        Ok(true)
+    }
+
+    /// Does Runs of a module as long as they are permitted, up to some number. The module's run must not be lent. It ends for want
+    /// of memory only where a further Run is permitted.
+    pub(crate) fn run_up_to(&mut self, owner: u32, most: u32) -> Stretch
+        requires owner { owner < length self.old.plan.design.modules }
+        requires here { slice_index_or self.old.lent owner true ≡ false }
+        requires some { 0 < most }
+        ensures ran { HasDoneRuns self.old owner result.runs self.new }
+        ensures most { result.runs ≤ most }
+        ensures none { result.runs ≡ 0 → is_short result.end ≡ false
+            → MayRun (design self.old.plan) (theory_of self.old) owner → ⊥ }
+        ensures fewer { is_short result.end ≡ true → result.runs < most }
+        ensures more { is_short result.end ≡ true → MayRun (design self.new.plan) (theory_of self.new) owner }
+    {
+        let ran = self.run_stretch(owner, most);
+        match ran.end {
+            End::On { .. } => ran,
+            End::Still => self.still(owner, ran.runs),
+            // The list of replies wanted memory, though not all of them are there.
+            End::Short if !self.may_run(owner) => self.still(owner, ran.runs),
+            End::Short => ran,
+        }
+    }
+
+    /// Does Runs of a module as long as they are permitted, up to some number; memory may be wanted even where no further Run is
+    /// permitted.
+    #[inline(always)]
+    fn run_stretch(&mut self, owner: u32, most: u32) -> Stretch
+        requires owner { owner < length self.old.plan.design.modules }
+        requires here { slice_index_or self.old.lent owner true ≡ false }
+        requires some { 0 < most }
+        ensures ran { HasDoneRuns self.old owner result.runs self.new }
+        ensures most { result.runs ≤ most }
+        ensures on { (asks : Bool) → result.end ≡ End.On asks → 0 < result.runs }
+        ensures still { result.end ≡ End.Still → MayRun (design self.new.plan) (theory_of self.new) owner → ⊥ }
+        ensures short { result.end ≡ End.Short → result.runs < most }
+    {
+        let member = Member {
+            number: owner,
+            ports: ports_of(&self.wiring.ports, owner),
+            body: body_length(&self.wiring.bodies, owner),
         };
-        let ran = self.run_with(owner, &mut run);
-        self.put_back(owner, run);
+        let ran = run_held(
+            &mut self.engine,
+            &mut self.ends,
+            &mut self.scratch.replies,
+            &member,
+            &mut self.runs[owner as usize],
+            most,
+        );
+        let beside = self.wiring.hints.beside(owner);
+        wake_ran(&mut self.due, beside, owner, ran.runs);
         ran
+    }
+
+    /// A stretch of so many Runs of a module, of which no further one is permitted.
+    #[inline(always)]
+    fn still(&mut self, owner: u32, runs: u32) -> Stretch
+        requires { MayRun (design self.old.plan) (theory_of self.old) owner → ⊥ }
+        ensures same { self.new ≡ self.old }
+        ensures still { result ≡ record { runs = runs; end = End.Still } }
+    {
+        self.rest(owner);
+        Stretch {
+            runs,
+            end: End::Still,
+        }
     }
 
     /// Takes a module's run out of the core. `None` where it is lent. Then the run counts as lent.
@@ -61,32 +130,6 @@ impl Core {
         self.runs[owner as usize] = Some(run);
     }
 
-    /// Does a module's Run, if it is permitted, with its run, which is out of the core. Returns whether the Run was permitted.
-    #[inline(always)]
-    pub(crate) fn run_with(&mut self, owner: u32, run: &mut ModuleRun) -> Result<bool, OutOfMemory>
-        requires out { IsOut self.old owner run.old }
-        ensures acts { IfOk result (λ ran. ran ≡ true → Acts (design self.old.plan) self.old.plan.cycles (theory_of self.old) (Run owner)
-            (theory_of self.new)) }
-        ensures not_permitted { IfOk result (λ ran. ran ≡ false → MayRun (design self.old.plan) (theory_of self.old) owner → ⊥) }
-        ensures unchanged { IfOk result (λ ran. ran ≡ false → self.new ≡ self.old) }
-        ensures no_memory { OnErr result (self.new ≡ self.old) }
-        ensures permitted { OnErr result (MayRun (design self.old.plan) (theory_of self.old) owner) }
-        ensures out { IsOut self.new owner run.new }
-        ensures plan { self.new.plan ≡ self.old.plan }
-        ensures lent { self.new.lent ≡ self.old.lent }
-    {
-        match self.try_with(owner, run) {
-            Ok(true) => Ok(true),
-            Ok(false) => {
-                self.rest(owner);
-                Ok(false)
-            }
-            // The list of replies wanted memory, though not all of them are there.
-            Err(OutOfMemory) if !self.may_run(owner) => Ok(false),
-            Err(OutOfMemory) => Err(OutOfMemory),
-        }
-    }
-
     /// Notes that no Run of a module is permitted.
     #[inline(always)]
     pub(crate) fn rest(&mut self, owner: u32)
@@ -94,29 +137,6 @@ impl Core {
         ensures { self.new ≡ self.old }
     {
         self.due.running.remove(owner);
-    }
-
-    /// Runs a module by its own run; memory may be wanted even where no Run is permitted.
-    #[inline(always)]
-    fn try_with(&mut self, owner: u32, run: &mut ModuleRun) -> Result<bool, OutOfMemory>
-        requires out { IsOut self.old owner run.old }
-        ensures acts { IfOk result (λ ran. ran ≡ true → Acts (design self.old.plan) self.old.plan.cycles (theory_of self.old) (Run owner)
-            (theory_of self.new)) }
-        ensures not_permitted { IfOk result (λ ran. ran ≡ false → MayRun (design self.old.plan) (theory_of self.old) owner → ⊥) }
-        ensures unchanged { IfOk result (λ ran. ran ≡ false → self.new ≡ self.old) }
-        ensures no_memory { OnErr result (self.new ≡ self.old) }
-        ensures out { IsOut self.new owner run.new }
-        ensures plan { self.new.plan ≡ self.old.plan }
-        ensures lent { self.new.lent ≡ self.old.lent }
-    {
-        if self.is_over(owner) {
-            return Ok(false);
-        }
-        if !self.feed(owner, run)? {
-            return Ok(false);
-        }
-        self.emit_next(owner, run)?;
-        Ok(true)
     }
 
     /// Whether a Run of a module is permitted. Its run may be lent or not. It takes no memory.
@@ -155,59 +175,6 @@ impl Core {
         requires { owner < length self.now.plan.design.modules }
         ensures { result ≡ slice_index_or self.now.held.over owner false }
     {
-        self.ends[owner as usize].is_some()
-    }
-
-    /// Gives a module's run, if it waits, the replies to the module's newest step, if all of them are there. Returns whether the
-    /// run does not wait then.
-    #[inline(always)]
-    fn feed(&mut self, owner: u32, run: &mut ModuleRun) -> Result<bool, OutOfMemory>
-        requires out { IsOut self.old owner run.old }
-        ensures unchanged { self.new ≡ self.old }
-        ensures out { IsOut self.new owner run.new }
-        ensures fed { IfOk result (λ fed. fed ≡ true → waits run.new ≡ false) }
-        ensures not_fed { IfOk result (λ fed. fed ≡ false → MayRun (design self.old.plan) (theory_of self.old) owner → ⊥) }
-    {
-        if !run.is_waiting() {
-            return Ok(true);
-        }
-        let Some(_told) = find_replies(
-            self.engine.log.outcomes(owner),
-            &self.engine.fifos,
-            run.queries(),
-            run.waiting(),
-            &mut self.scratch.replies,
-        )?
-        else {
-            return Ok(false);
-        };
-        run.feed(self.scratch.replies.as_slice());
-        Ok(true)
-    }
-
-    /// Brings a module's run to its next mark, and emits the mark. The run does not wait, and is out of the core.
-    #[inline(always)]
-    fn emit_next(&mut self, owner: u32, run: &mut ModuleRun) -> Result<(), OutOfMemory>
-        requires out { IsOut self.old owner run.old }
-        requires answered { waits run.old ≡ false }
-        requires lives { slice_index_or self.old.held.over owner false ≡ false }
-        ensures acts { OnOk result (Acts (design self.old.plan) self.old.plan.cycles (theory_of self.old) (Run owner)
-            (theory_of self.new)) }
-        ensures unchanged { OnErr result (self.new ≡ self.old) }
-        ensures out { IsOut self.new owner run.new }
-        ensures plan { self.new.plan ≡ self.old.plan }
-        ensures lent { self.new.lent ≡ self.old.lent }
-    {
-        self.due.asking.add(owner);
-        let beside = self.wiring.hints.beside(owner);
-        spread(&mut self.due.running, beside, owner);
-        // Each operation of a body makes one query of a step at most.
-        self.engine.make_room(
-            owner,
-            ports_of(&self.wiring.ports, owner),
-            body_length(&self.wiring.bodies, owner),
-        )?;
-        emit_mark(&mut self.engine, &mut self.ends, owner, run)?;
-        Ok(())
+        is_over(&self.ends, owner)
     }
 }

@@ -2,13 +2,12 @@
 ghost use Rattle.std.specs.Prelude.{◌≡◌, ℕ, ◌<◌, true, false, length, slice_index_or, IfOk, IfSome, IsNone, OnErr};
 ghost use Rattle.event_timing.specs.Actions.{MayRun};
 ghost use Rattle.timing_bridge.specs.Designs.{design};
-ghost use Rattle.module_interp.specs.declared.run.ModuleRun.{ModuleRun as RunOf};
-ghost use Rattle.sim_core.specs.{Runs.IsOut, Views.theory_of, Drives.Goes, Drives.GoesOn, Drives.VisitLeads, Drives.HasVisited};
+ghost use Rattle.sim_core.specs.{Views.theory_of, Drives.Goes, Drives.GoesOn, Drives.VisitLeads, Drives.HasVisited};
 
 use crate::machine::Core;
+use crate::stretch::End;
 use engine_view::Timing;
 use flow_word::{OutOfMemory, Steps};
-use module_interp::ModuleRun;
 use outcome_guard::Query;
 use std::sync::ledger::Ledger;
 
@@ -72,107 +71,80 @@ impl Core {
         if !self.due.running.has(owner) {
             return Ok(None);
         }
-        let Some(mut run) = self.take_out(owner) else {
+        let Some(first) = self.run_some(owner)? else {
             return Ok(None);
         };
-        let ran = self.run_stretch(owner, &mut run, steps);
-        self.put_back(owner, run);
-        ran
-    }
-
-    /// Does a stretch of Runs of a module with its run, which is out of the core, and the Assigns and Answers by which its queries
-    /// get their outcomes. `None` where no Run was permitted; else whether to visit the module again at once.
-    fn run_stretch<L: Ledger>(
-        &mut self,
-        owner: u32,
-        run: &mut ModuleRun,
-        steps: &mut Steps<L>,
-    ) -> Result<Option<bool>, OutOfMemory>
-        requires out { IsOut self.old owner run.old }
-        ensures some { IfOk result (λ ran. IfSome ran (λ again. GoesOn self.old steps.old self.new steps.new)) }
-        ensures unchanged { IfOk result (λ ran. IsNone ran → (self.new ≡ self.old) × (steps.new ≡ steps.old)) }
-        ensures none { IfOk result (λ ran. IsNone ran → MayRun (design self.old.plan) (theory_of self.old) owner → ⊥) }
-        ensures no_memory { OnErr result (Goes self.old steps.old self.new steps.new) }
-        ensures permitted { OnErr result (MayRun (design self.new.plan) (theory_of self.new) owner) }
-        ensures out { IsOut self.new owner run.new }
-        ensures plan { self.new.plan ≡ self.old.plan }
-        ensures lent { self.new.lent ≡ self.old.lent }
-    {
-        let ran = self.run_once(owner, run)?;
-        if !ran {
-            return Ok(None);
-        }
+        let mut end = first;
         let mut again = false;
         for _ in 1..STRETCH {
-            match self.go_on(owner, run, steps)? {
-                Some(more) => again |= more,
+            match end {
+                End::On { asks: true } => {}
+                End::On { asks: false } => return Ok(Some(true)),
+                End::Still | End::Short => return Ok(Some(again)),
+            }
+            match self.go_on(owner, steps)? {
+                Some((more, next)) => {
+                    again |= more;
+                    end = next;
+                }
                 None => return Ok(Some(again)),
             }
         }
         Ok(Some(true))
     }
 
-    /// Does another Run, or, where the module's newest step waits for an outcome, the Assigns and Answers by which it may get it.
-    /// `None` where none was permitted; else whether to visit the module again at once.
+    /// Does the Assigns and Answers by which a module's newest step may get its outcomes, and then Runs. `None` where none of them
+    /// was permitted; else whether to visit the module again at once, and why there was no further Run.
     #[inline(always)]
     fn go_on<L: Ledger>(
         &mut self,
         owner: u32,
-        run: &mut ModuleRun,
         steps: &mut Steps<L>,
-    ) -> Result<Option<bool>, OutOfMemory>
-        requires out { IsOut self.old owner run.old }
-        ensures some { IfOk result (λ ran. IfSome ran (λ again. GoesOn self.old steps.old self.new steps.new)) }
+    ) -> Result<Option<(bool, End)>, OutOfMemory>
+        requires owner { owner < length self.old.plan.design.modules }
+        requires here { slice_index_or self.old.lent owner true ≡ false }
+        ensures some { IfOk result (λ ran. IfSome ran (λ on. GoesOn self.old steps.old self.new steps.new)) }
         ensures unchanged { IfOk result (λ ran. IsNone ran → (self.new ≡ self.old) × (steps.new ≡ steps.old)) }
-        ensures no_memory { OnErr result ((self.new ≡ self.old) × (steps.new ≡ steps.old)) }
+        ensures no_memory { OnErr result (Goes self.old steps.old self.new steps.new) }
         ensures permitted { OnErr result (MayRun (design self.new.plan) (theory_of self.new) owner) }
-        ensures out { IsOut self.new owner run.new }
     {
-        if !self.has_asked(owner, run) {
-            let ran = self.run_once(owner, run)?;
-            return Ok(if ran { Some(false) } else { None });
-        }
-        match self.time_on(owner, steps) {
-            Visit::Acted { again } => Ok(Some(again)),
-            Visit::Differs(_) | Visit::Idle => Ok(None),
+        let Visit::Acted { again } = self.time_on(owner, steps) else {
+            return Ok(None);
+        };
+        match self.run_some(owner)? {
+            Some(end) => Ok(Some((again, end))),
+            None => Ok(Some((again, End::Still))),
         }
     }
 
-    /// Whether a module's newest step ends with a query whose outcome is not there.
+    /// Does Runs of a module as long as they are permitted, up to some number. `None` where none was permitted; else why there was no
+    /// further one.
     #[inline(always)]
-    fn has_asked(&self, owner: u32, run: &ModuleRun) -> bool
-        requires { owner < length self.now.plan.design.modules }
-    {
-        run.queries() >= self.engine.log.len(owner)
-            && run
-                .listed()
-                .last()
-                .is_some_and(|access| !access.kind.is_blocking())
-    }
-
-    /// Does one Run of a stretch, if it is permitted. Returns whether it was permitted.
-    fn run_once(&mut self, owner: u32, run: &mut ModuleRun) -> Result<bool, OutOfMemory>
-        requires out { IsOut self.old owner run.old }
-        ensures some { IfOk result (λ ran. ran ≡ true → (n : ℕ) → GoesOn self.old n self.new n) }
-        ensures unchanged { IfOk result (λ ran. ran ≡ false → self.new ≡ self.old) }
-        ensures none { IfOk result (λ ran. ran ≡ false → MayRun (design self.old.plan) (theory_of self.old) owner → ⊥) }
-        ensures no_memory { OnErr result (self.new ≡ self.old) }
+    fn run_some(&mut self, owner: u32) -> Result<Option<End>, OutOfMemory>
+        requires owner { owner < length self.old.plan.design.modules }
+        requires here { slice_index_or self.old.lent owner true ≡ false }
+        ensures some { IfOk result (λ ran. IfSome ran (λ end. (n : ℕ) → GoesOn self.old n self.new n)) }
+        ensures unchanged { IfOk result (λ ran. IsNone ran → self.new ≡ self.old) }
+        ensures none { IfOk result (λ ran. IsNone ran → MayRun (design self.old.plan) (theory_of self.old) owner → ⊥) }
+        ensures no_memory { OnErr result ((n : ℕ) → Goes self.old n self.new n) }
         ensures permitted { OnErr result (MayRun (design self.new.plan) (theory_of self.new) owner) }
-        ensures out { IsOut self.new owner run.new }
-        ensures plan { self.new.plan ≡ self.old.plan }
-        ensures lent { self.new.lent ≡ self.old.lent }
     {
-        // This brings in what a core always keeps: it agrees with its plan.
+        // The core agrees with its plan.
         let _count = self.modules();
-        self.run_with(owner, run)
+        let ran = self.run_up_to(owner, STRETCH);
+        if ran.end.is_short() {
+            return Err(OutOfMemory);
+        }
+        if ran.runs == 0 {
+            return Ok(None);
+        }
+        Ok(Some(ran.end))
     }
 
-    /// Does Assigns and Answers of a module as long as they are permitted, up to some number. If the module's run is out of the
-    /// core, it still stands where the core's marks say.
+    /// Does Assigns and Answers of a module as long as they are permitted, up to some number.
     fn time_on<L: Ledger>(&mut self, owner: u32, steps: &mut Steps<L>) -> Visit
         requires { owner < length self.old.plan.design.modules }
-        ensures timed { VisitLeads result self.old steps.old owner self.new steps.new }
-        ensures out { (run : RunOf) → IsOut self.old owner run → IsOut self.new owner run }
+        ensures { VisitLeads result self.old steps.old owner self.new steps.new }
     {
         let mut again = match self.time_once(owner, steps) {
             Visit::Acted { again: first } => first,
@@ -202,8 +174,7 @@ impl Core {
     #[inline(always)]
     fn time_once<L: Ledger>(&mut self, owner: u32, steps: &mut Steps<L>) -> Visit
         requires { owner < length self.old.plan.design.modules }
-        ensures timed { VisitLeads result self.old steps.old owner self.new steps.new }
-        ensures out { (run : RunOf) → IsOut self.old owner run → IsOut self.new owner run }
+        ensures { VisitLeads result self.old steps.old owner self.new steps.new }
     {
         // This brings in what a core always keeps: it agrees with its plan.
         let _count = self.modules();

@@ -1,7 +1,34 @@
+use Rattle.std.proofs.Common.{◌≡◌, refl, sym, ap, subst, ◌∙◌, ◌<◌, true, false, List, Bool, length, slice_index_or}
+use Rattle.flow_design.specs.declared.plan.Plan.{Plan}
+use Rattle.sim_core.specs.Drives.{GoesOn}
+use Rattle.sim_core.proofs.Rounds as rounds
+use Rattle.sim_core.proofs.Stretching as stretching
 use Rattle.sim_core.proofs.machine.Core.go_on.Goals as goal
 
-pub returns-in-Acted-clause-out : goal.returns-in-Acted-clause-out
-returns-in-Acted-clause-out g c = c.time_on.ensures.out c.args.run.now c.requires.out
+pub run_some-requires : goal.run_some-requires
+run_some-requires g c =
+    let on : GoesOn c.args.self.now c.args.steps.now c.time_on.new.self c.time_on.new.steps = rw c.in-Acted.is at c.time_on.ensures in
+    record {
+      owner = subst (λ (p : Plan). c.args.owner < length p.design.modules) (sym on.goes.plan) c.requires.owner;
+      here = ap (λ (bs : List Bool). slice_index_or bs c.args.owner true) on.goes.lent ∙ c.requires.here;
+    }
 
-pub returns-then-ran-clause-some : goal.returns-then-ran-clause-some
-returns-then-ran-clause-some g c = c.in_ok-ran.ensures.some c.if-ran.true c.args.steps.now
+pub returns-in_err-end-clause-no_memory : goal.returns-in_err-end-clause-no_memory
+returns-in_err-end-clause-no_memory g c =
+    let on : GoesOn c.args.self.now c.args.steps.now c.time_on.new.self c.time_on.new.steps = rw c.in-Acted.is at c.time_on.ensures in
+    stretching.on_err c.from_residual.result
+    (rounds.goes_join c.args.self.now c.time_on.new.self c.run_some.new.self c.args.steps.now c.time_on.new.steps c.time_on.new.steps
+    on.goes (c.in_err-end.ensures.no_memory c.time_on.new.steps))
+
+pub returns-in-Some-clause-some : goal.returns-in-Some-clause-some
+returns-in-Some-clause-some g c =
+    let on : GoesOn c.args.self.now c.args.steps.now c.time_on.new.self c.time_on.new.steps = rw c.in-Acted.is at c.time_on.ensures in
+    let more = rw c.in-Some.is at c.in_ok-end.ensures.some in
+    rounds.on_join c.args.self.now c.time_on.new.self c.run_some.new.self c.args.steps.now c.time_on.new.steps c.time_on.new.steps on
+    (more c.time_on.new.steps)
+
+pub returns-in-None-clause-some : goal.returns-in-None-clause-some
+returns-in-None-clause-some g c =
+    let on : GoesOn c.args.self.now c.args.steps.now c.time_on.new.self c.time_on.new.steps = rw c.in-Acted.is at c.time_on.ensures in
+    let same = (rw c.in-None.is at c.in_ok-end.ensures.unchanged) refl in
+    rw same on

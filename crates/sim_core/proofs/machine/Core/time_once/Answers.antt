@@ -1,16 +1,16 @@
 use Rattle.std.proofs.Common.{refl, sym, subst}
-use Rattle.flow_design.specs.{declared.plan.Plan.Plan, StaticRules.FitsEngine}
+use Rattle.flow_design.specs.declared.plan.Plan.{Plan}
 use Rattle.timing_bridge.proofs.Timings.{no_timing_at}
 use Rattle.event_timing.specs.{Actions.MayAssign, Agreement.IsAgreed}
 use Rattle.timing_bridge.specs.Designs.{design, lockstep_run}
-use Rattle.engine_view.specs.{Turns.IsIdle, declared.turn.Timing.TheVariants.Assigned, declared.turn.Timing.TheVariants.Answered}
+use Rattle.engine_view.specs.Turns.{IsIdle}
 use Rattle.sim_core.specs.{Drives.GoesOn, Views.CoreView, Views.theory_of}
 use Rattle.sim_core.proofs.Rounds as rounds
 use Rattle.sim_core.proofs.{machine.Core.time_once.Given.Over, machine.Core.time_once.Goals.In-Answered}
 use Rattle.sim_core.proofs.machine.Core.time_once.Goals as goal
 
-pub returns-then-not-has-clause-timed : goal.returns-then-not-has-clause-timed
-returns-then-not-has-clause-timed g c =
+pub returns-then-not-has : goal.returns-then-not-has
+returns-then-not-has g c =
     let inside = rw (← c.self.view_is) at c.requires in
     let none = c.self.invariant.due_are.asking_are.idle c.args.owner inside (c.has.ensures.none c.if-not-has.true) in (
       refl,
@@ -27,15 +27,10 @@ assign-requires-clause-may g c =
     subst (λ (q : Plan). MayAssign (design q) q.cycles (theory_of c.time.new.self) c.args.owner c.in-Answered.cycle)
     (sym c.time.ensures.plan) c.in-Answered.ensures.done.2
 
-pub returns-in-Assigned-clause-timed : goal.returns-in-Assigned-clause-timed
-returns-in-Assigned-clause-timed g c =
+pub returns-in-Assigned : goal.returns-in-Assigned
+returns-in-Assigned g c =
     rounds.was_assigned c.args.self.now c.time.new.self c.args.owner c.args.steps.now c.time.ensures.plan c.time.ensures.lent
     c.modules-count.ensures.agreed c.in-Assigned.field-0 c.time.new.steps c.in-Assigned.ensures.done c.in-Assigned.ensures.ticks
-
-pub returns-in-Assigned-clause-out : goal.returns-in-Assigned-clause-out
-returns-in-Assigned-clause-out g c = λ run out.
-    rounds.out_timed c.args.self.now c.time.new.self c.args.owner c.time.ensures.plan c.time.ensures.lent c.modules-count.ensures.fits
-    c.modules-count.ensures.agreed run out (Assigned c.in-Assigned.field-0) c.in-Assigned.ensures.done
 
 -- behind the answer
 module _ (g : Over) (c : In-Answered g) where
@@ -48,18 +43,9 @@ module _ (g : Over) (c : In-Answered g) where
   agreed = rounds.goes_agreed c.args.self.now c.time.new.self c.args.steps.now c.time.new.steps c.modules-count.ensures.agreed
       c.modules-count.ensures.fits answered.goes
 
-pub returns-in-Answered-clause-timed : goal.returns-in-Answered-clause-timed
-returns-in-Answered-clause-timed g c =
-    let at = (goal.at.returns-in-Answered-clause-timed g c).In-Answered in
+pub returns-in-Answered : goal.returns-in-Answered
+returns-in-Answered g c =
+    let at = (goal.at.returns-in-Answered g c).In-Answered in
     rounds.on_join c.args.self.now c.time.new.self c.assign.new.self c.args.steps.now c.time.new.steps c.assign.new.steps (answered g at)
     (rounds.was_assigned c.time.new.self c.assign.new.self c.args.owner c.time.new.steps c.assign.ensures.plan c.assign.ensures.lent
     (agreed g at) c.in-Answered.cycle c.assign.new.steps c.assign.ensures.done c.assign.ensures.ticks)
-
-pub returns-in-Answered-clause-out : goal.returns-in-Answered-clause-out
-returns-in-Answered-clause-out g c = λ run out.
-    let at = (goal.at.returns-in-Answered-clause-out g c).In-Answered in
-    let there = rounds.out_timed c.args.self.now c.time.new.self c.args.owner c.time.ensures.plan c.time.ensures.lent
-    c.modules-count.ensures.fits c.modules-count.ensures.agreed run out (Answered c.in-Answered.cycle) c.in-Answered.ensures.done in
-    rounds.out_timed c.time.new.self c.assign.new.self c.args.owner c.assign.ensures.plan c.assign.ensures.lent
-    (subst FitsEngine (sym c.time.ensures.plan) c.modules-count.ensures.fits) (agreed g at) run there (Assigned c.in-Answered.cycle)
-    c.assign.ensures.done

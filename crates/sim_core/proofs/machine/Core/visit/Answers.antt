@@ -13,13 +13,13 @@ returns-in-None-clause-visited g c =
     let (same, ticks) = (rw c.in-None.is at c.in_ok-run_on.ensures.unchanged) refl in
     let none = (rw c.in-None.is at c.in_ok-run_on.ensures.none) refl in
     rounds.timed_is_visit c.args.self.now c.time_on.new.self c.args.steps.now c.time_on.new.steps c.args.owner c.time_on.result none
-    (rw (same, ticks) at c.time_on.ensures.timed)
+    (rw (same, ticks) at c.time_on.ensures)
 
 pub returns-in-Acted-clause-visited : goal.returns-in-Acted-clause-visited
 returns-in-Acted-clause-visited g c =
     let some = rw c.in-Some.is at c.in_ok-run_on.ensures.some in
     rounds.timed_behind c.args.self.now c.run_on.new.self c.time_on-in-Some.new.self c.args.steps.now c.run_on.new.steps
-    c.time_on-in-Some.new.steps c.args.owner c.time_on-in-Some.result some c.time_on-in-Some.ensures.timed
+    c.time_on-in-Some.new.steps c.args.owner c.time_on-in-Some.result some c.time_on-in-Some.ensures
 
 pub returns-in-Differs : goal.returns-in-Differs
 returns-in-Differs g c =
@@ -27,7 +27,7 @@ returns-in-Differs g c =
     record {
       visited =
           rounds.timed_behind c.args.self.now c.run_on.new.self c.time_on-in-Some.new.self c.args.steps.now c.run_on.new.steps
-          c.time_on-in-Some.new.steps c.args.owner c.time_on-in-Some.result some c.time_on-in-Some.ensures.timed;
+          c.time_on-in-Some.new.steps c.args.owner c.time_on-in-Some.result some c.time_on-in-Some.ensures;
       no_memory = tt;
       permitted = tt;
     }

@@ -1,0 +1,22 @@
+use Rattle.std.proofs.Common.{◌≡◌, refl, sym, ap, subst, ◌∙◌, ◌<◌, arith}
+use Rattle.event_timing.specs.Actions.{MayRun}
+use Rattle.timing_bridge.specs.Designs.{design}
+use Rattle.sim_core.specs.{Views.CoreView, Views.theory_of, declared.stretch.Stretch.Stretch}
+use Rattle.sim_core.proofs.machine.Core.run_up_to.Goals as goal
+
+pub returns-in-On-clause-none : goal.returns-in-On-clause-none
+returns-in-On-clause-none c = λ e short may.
+    let some = c.run_stretch-ran.ensures.on c.in-On.asks c.in-On.is in absurd (omega arith)
+
+pub still-requires : goal.still-requires
+still-requires c = c.run_stretch-ran.ensures.still c.in-Still.is
+
+pub returns-in-Still-clause-none : goal.returns-in-Still-clause-none
+returns-in-Still-clause-none c = λ e short.
+    subst (λ (v : CoreView). MayRun (design v.plan) (theory_of v) c.args.owner → ⊥) (c.run_stretch-ran.ensures.ran.same (sym (ap (λ (s : Stretch). s.runs) c.still.ensures.still) ∙ e))
+    (c.run_stretch-ran.ensures.still c.in-Still.is)
+
+pub returns-in-Short-clause-none : goal.returns-in-Short-clause-none
+returns-in-Short-clause-none c = λ e short.
+    subst (λ (v : CoreView). MayRun (design v.plan) (theory_of v) c.args.owner → ⊥) (c.run_stretch-ran.ensures.ran.same (sym (ap (λ (s : Stretch). s.runs) c.still-in-Short.ensures.still) ∙ e))
+    (c.may_run.ensures.none c.if-not-may_run.true)

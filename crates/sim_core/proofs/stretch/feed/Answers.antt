@@ -1,0 +1,75 @@
+use Rattle.std.proofs.Common.{◌≡◌, true, refl, sym, ◌∙◌, ◌-◌, ◌<◌, List, Option, length, arith}
+use Rattle.flow_word.specs.declared.access.Step.{Step}
+use Rattle.flow_design.specs.{declared.plan.Plan.Plan, declared.state.Advance.Advance}
+use Rattle.module_interp.specs.{declared.run.ModuleRun.ModuleRun, Runs.waits}
+use Rattle.engine_view.specs.{Held.Held, Held.step_of, Held.emitted_of, Engines.held_in}
+use Rattle.sim_core.specs.{Runs.over_of, Stretches.IsOutOf}
+use Rattle.sim_core.proofs.{Stretching.log_inside, stretch.feed.Goals.After-waiting}
+use Rattle.sim_core.proofs.Fed as fed
+use Rattle.sim_core.proofs.stretch.feed.Goals as goal
+
+-- the step at which the run waits
+module _ (c : After-waiting) {p : Plan} {ends : List (Option Advance)} {runs : List (Option ModuleRun)}
+    (o : IsOutOf p c.args.engine.now ends runs c.args.owner c.args.run.now) where
+  abbrev h : Held
+  h = held_in c.args.engine.now (over_of ends)
+
+  inside : c.args.owner < length h.lanes
+  inside = let a = o.inside in let b = o.core.sound.lanes in omega arith
+
+  is_waiting : waits c.args.run.now ≡ true
+  is_waiting = sym c.is_waiting.ensures ∙ c.if-not-is_waiting.false
+
+  abbrev step : Step
+  step = step_of h c.args.owner (emitted_of h c.args.owner - 1)
+
+  accesses : c.waiting.result.now ≡ step.accesses
+  accesses = fed.asked_accesses o.core inside o.run_is is_waiting c.waiting.ensures.accesses
+
+  queries : c.queries.result ≡ step.first_query
+  queries = fed.asked_queries o.core inside o.run_is is_waiting c.queries.ensures.made
+
+pub outcomes-requires : goal.outcomes-requires
+outcomes-requires c = let (p, (ends, (runs, o))) = c.requires.out in log_inside o.core o.inside
+
+pub find_replies-requires : goal.find_replies-requires
+find_replies-requires c =
+    let at = (goal.at.find_replies-requires c).After-waiting in
+    let (p, (ends, (runs, o))) = c.requires.out in
+    rw (accesses at o) (fed.asked_inside o.core (inside at o) o.run_is (is_waiting at o))
+
+pub returns-in_default-clause-not_fed : goal.returns-in_default-clause-not_fed
+returns-in_default-clause-not_fed c = λ e p ends runs o.
+    let at = (goal.at.returns-in_default-clause-not_fed c).After-waiting in
+    let found = rw (c.outcomes.ensures, queries at o, accesses at o) at (c.in_ok-_told.ensures.missing (rw c.in_default.is refl)) in
+    fed.asked_not_fed o.core (inside at o) o.run_is (is_waiting at o) found
+
+pub feed-requires-clause-stands : goal.feed-requires-clause-stands
+feed-requires-clause-stands c =
+    let at = (goal.at.feed-requires-clause-stands c).After-waiting in
+    let (p, (ends, (runs, o))) = c.requires.out in
+    let found = rw (c.in-Some.is, c.outcomes.ensures, queries at o, accesses at o) at c.in_ok-_told.ensures.found in (
+      p,
+      (
+        c.args.owner,
+        (
+          _,
+          (
+            fed.asked_stands o.core (inside at o) o.run_is (is_waiting at o),
+            rw c.as_slice.ensures (fed.asked_fits o.core (inside at o) o.run_is (is_waiting at o) found),
+          ),
+        ),
+      ),
+    )
+
+pub returns-clause-out : goal.returns-clause-out
+returns-clause-out c = λ p ends runs o.
+    let at = (goal.at.returns-clause-out c).After-waiting in
+    let found = rw (c.in-Some.is, c.outcomes.ensures, queries at o, accesses at o) at c.in_ok-_told.ensures.found in
+    record {
+      core = o.core;
+      inside = o.inside;
+      lent = o.lent;
+      run_is = fed.asked_run o.core (inside at o) o.run_is (is_waiting at o) found (rw c.as_slice.ensures at c.feed.ensures.stands)
+          c.feed.ensures.fed;
+    }

@@ -1,0 +1,245 @@
+//! Runs of one module, one after the other.
+ghost use Rattle.std.specs.Prelude.{◌≡◌, ◌<◌, ◌≤◌, Bool, true, false, length, slice_index_or, IfOk, OnErr, List as Items, Option as Maybe};
+ghost use Rattle.flow_design.specs.declared.plan.Plan.{Plan as PlanOf};
+ghost use Rattle.module_interp.specs.{declared.run.ModuleRun.ModuleRun as RunOf, Runs.waits};
+ghost use Rattle.event_timing.specs.{Actions.Acts, Actions.ActsAll, Actions.MayRun, Actions.runs as runs_of, Actions.Action.Run};
+ghost use Rattle.timing_bridge.specs.Designs.{design};
+ghost use Rattle.sim_core.specs.{Returned.core_in, Runs.over_of};
+ghost use Rattle.sim_core.specs.Stretches.{IsMember, IsOutOf, IsRunOut, IsHeldAlike, is_short};
+
+use crate::back::emit_mark;
+use engine_view::Engine;
+use flow_design::{Advance, Reply};
+use flow_word::{List, OutOfMemory, Port};
+use module_interp::ModuleRun;
+use run_ahead::find_replies;
+
+/// A module, with what stays the same at each of its Runs.
+#[derive(Drop)]
+pub(crate) struct Member<'a> {
+    pub(crate) number: u32,
+    /// The ports of the module.
+    pub(crate) ports: &'a [Port],
+    /// The most operations that one of its bodies has. Each makes one query of a step at most.
+    pub(crate) body: u64,
+}
+
+/// Why a stretch of Runs has no further one.
+#[derive(Clone, Copy, Debug, PartialEq, Eq)]
+pub(crate) enum End {
+    /// It has as many as it may have; or, where it `asks`, the module's newest step ends with a query whose outcome is not there.
+    On { asks: bool },
+    /// No further Run is permitted.
+    Still,
+    /// Memory ran out.
+    Short,
+}
+
+impl End {
+    /// Whether memory ran out.
+    #[inline(always)]
+    pub(crate) fn is_short(self) -> bool
+        ensures { result ≡ is_short self }
+    {
+        match self {
+            End::Short => true,
+            End::On { .. } | End::Still => false,
+        }
+    }
+}
+
+/// A stretch of Runs: how many they were, and why there is no further one.
+#[derive(Clone, Copy, Debug, PartialEq, Eq)]
+pub(crate) struct Stretch {
+    pub(crate) runs: u32,
+    pub(crate) end: End,
+}
+
+/// Does a stretch of Runs of a module, whose run must be there, up to some number.
+#[inline(always)]
+pub(crate) fn run_held(
+    engine: &mut Engine,
+    ends: &mut Vec<Option<Advance>>,
+    replies: &mut List<Reply>,
+    member: &Member<'_>,
+    held: &mut Option<ModuleRun>,
+    most: u32,
+) -> Stretch
+    requires out { (p : PlanOf) × ((runs : Items (Maybe RunOf))
+        × (IsRunOut p engine.old ends.old.items runs member.now.number held.old
+        × IsMember p member.now.number member.now.ports.now member.now.body)) }
+    requires some { 0 < most }
+    ensures out { (p : PlanOf) (runs : Items (Maybe RunOf)) → IsRunOut p engine.old ends.old.items runs member.now.number held.old
+        → IsMember p member.now.number member.now.ports.now member.now.body
+        → IsRunOut p engine.new ends.new.items runs member.now.number held.new }
+    ensures acts { (p : PlanOf) (runs : Items (Maybe RunOf)) → IsRunOut p engine.old ends.old.items runs member.now.number held.old
+        → IsMember p member.now.number member.now.ports.now member.now.body
+        → ActsAll (design p) p.cycles (core_in p engine.old ends.old.items) (runs_of result.runs member.now.number)
+        (core_in p engine.new ends.new.items) }
+    ensures still { result.end ≡ End.Still → (p : PlanOf) (runs : Items (Maybe RunOf))
+        → IsRunOut p engine.old ends.old.items runs member.now.number held.old
+        → IsMember p member.now.number member.now.ports.now member.now.body
+        → MayRun (design p) (core_in p engine.new ends.new.items) member.now.number → ⊥ }
+    ensures most { result.runs ≤ most }
+    ensures on { (asks : Bool) → result.end ≡ End.On asks → 0 < result.runs }
+    ensures short { result.end ≡ End.Short → result.runs < most }
+    ensures none { result.runs ≡ 0 → IsHeldAlike engine.old ends.old.items engine.new ends.new.items }
+{
+    match held {
+        Some(run) => run_many(engine, ends, replies, member, run, most),
+        None => Stretch {
+            runs: 0,
+            end: End::Still,
+        },
+    }
+}
+
+/// Does a stretch of Runs of a module with its run, which is out of the core, up to some number.
+#[inline(always)]
+fn run_many(
+    engine: &mut Engine,
+    ends: &mut Vec<Option<Advance>>,
+    replies: &mut List<Reply>,
+    member: &Member<'_>,
+    run: &mut ModuleRun,
+    most: u32,
+) -> Stretch
+    requires out { (p : PlanOf) × ((runs : Items (Maybe RunOf))
+        × (IsOutOf p engine.old ends.old.items runs member.now.number run.old
+        × IsMember p member.now.number member.now.ports.now member.now.body)) }
+    requires some { 0 < most }
+    ensures out { (p : PlanOf) (runs : Items (Maybe RunOf)) → IsOutOf p engine.old ends.old.items runs member.now.number run.old
+        → IsMember p member.now.number member.now.ports.now member.now.body
+        → IsOutOf p engine.new ends.new.items runs member.now.number run.new }
+    ensures acts { (p : PlanOf) (runs : Items (Maybe RunOf)) → IsOutOf p engine.old ends.old.items runs member.now.number run.old
+        → IsMember p member.now.number member.now.ports.now member.now.body
+        → ActsAll (design p) p.cycles (core_in p engine.old ends.old.items) (runs_of result.runs member.now.number)
+        (core_in p engine.new ends.new.items) }
+    ensures still { result.end ≡ End.Still → (p : PlanOf) (runs : Items (Maybe RunOf))
+        → IsOutOf p engine.old ends.old.items runs member.now.number run.old
+        → IsMember p member.now.number member.now.ports.now member.now.body
+        → MayRun (design p) (core_in p engine.new ends.new.items) member.now.number → ⊥ }
+    ensures most { result.runs ≤ most }
+    ensures on { (asks : Bool) → result.end ≡ End.On asks → 0 < result.runs }
+    ensures short { result.end ≡ End.Short → result.runs < most }
+    ensures none { result.runs ≡ 0 → IsHeldAlike engine.old ends.old.items engine.new ends.new.items }
+{
+    let told = engine.log.len(member.number);
+    let mut runs = 0;
+    while runs < most {
+        match run_once(engine, ends, replies, member, run) {
+            Ok(true) => runs += 1,
+            Ok(false) => return Stretch {
+                runs,
+                end: End::Still,
+            },
+            Err(OutOfMemory) => return Stretch {
+                runs,
+                end: End::Short,
+            },
+        }
+        if has_asked(run, told) {
+            return Stretch {
+                runs,
+                end: End::On { asks: true },
+            };
+        }
+    }
+    Stretch {
+        runs,
+        end: End::On { asks: false },
+    }
+}
+
+/// Whether the step that waits ends with a query whose outcome is not among the module's first `told` ones.
+#[inline(always)]
+fn has_asked(run: &ModuleRun, told: u64) -> bool {
+    run.queries() >= told
+        && run
+            .listed()
+            .last()
+            .is_some_and(|access| !access.kind.is_blocking())
+}
+
+/// Does a module's Run, if it is permitted, with its run, which is out of the core. Returns whether the Run was permitted.
+///
+/// Memory may be wanted even where no Run is permitted. After `OutOfMemory` nothing has changed but the room.
+#[inline(always)]
+fn run_once(
+    engine: &mut Engine,
+    ends: &mut Vec<Option<Advance>>,
+    replies: &mut List<Reply>,
+    member: &Member<'_>,
+    run: &mut ModuleRun,
+) -> Result<bool, OutOfMemory>
+    requires out { (p : PlanOf) × ((runs : Items (Maybe RunOf))
+        × (IsOutOf p engine.old ends.old.items runs member.now.number run.old
+        × IsMember p member.now.number member.now.ports.now member.now.body)) }
+    ensures out { (p : PlanOf) (runs : Items (Maybe RunOf)) → IsOutOf p engine.old ends.old.items runs member.now.number run.old
+        → IsMember p member.now.number member.now.ports.now member.now.body
+        → IsOutOf p engine.new ends.new.items runs member.now.number run.new }
+    ensures acts { IfOk result (λ ran. ran ≡ true → (p : PlanOf) (runs : Items (Maybe RunOf))
+        → IsOutOf p engine.old ends.old.items runs member.now.number run.old
+        → IsMember p member.now.number member.now.ports.now member.now.body
+        → Acts (design p) p.cycles (core_in p engine.old ends.old.items) (Run member.now.number)
+        (core_in p engine.new ends.new.items)) }
+    ensures not_permitted { IfOk result (λ ran. ran ≡ false → (p : PlanOf) (runs : Items (Maybe RunOf))
+        → IsOutOf p engine.old ends.old.items runs member.now.number run.old
+        → MayRun (design p) (core_in p engine.old ends.old.items) member.now.number → ⊥) }
+    ensures unchanged { IfOk result (λ ran. ran ≡ false → IsHeldAlike engine.old ends.old.items engine.new ends.new.items) }
+    ensures no_memory { OnErr result (IsHeldAlike engine.old ends.old.items engine.new ends.new.items) }
+{
+    if is_over(ends, member.number) {
+        return Ok(false);
+    }
+    let fed = feed(engine, replies, member.number, run)?;
+    if !fed {
+        return Ok(false);
+    }
+    engine.make_room(member.number, member.ports, member.body)?;
+    emit_mark(engine, ends, member.number, run)?;
+    Ok(true)
+}
+
+/// Whether a module's end was emitted.
+#[inline(always)]
+pub(crate) fn is_over(ends: &Vec<Option<Advance>>, owner: u32) -> bool
+    requires { owner < length ends.now.items }
+    ensures { result ≡ slice_index_or (over_of ends.now.items) owner false }
+{
+    ends[owner as usize].is_some()
+}
+
+/// Gives a module's run, if it waits, the replies to the module's newest step, if all of them are there. Returns whether the run
+/// does not wait then. It is out of the core, and after `OutOfMemory` as it was.
+#[inline(always)]
+fn feed(
+    engine: &Engine,
+    replies: &mut List<Reply>,
+    owner: u32,
+    run: &mut ModuleRun,
+) -> Result<bool, OutOfMemory>
+    requires out { (p : PlanOf) × ((ends : Items (Maybe Advance)) × ((runs : Items (Maybe RunOf))
+        × IsOutOf p engine.now ends runs owner run.old)) }
+    ensures out { (p : PlanOf) (ends : Items (Maybe Advance)) (runs : Items (Maybe RunOf))
+        → IsOutOf p engine.now ends runs owner run.old → IsOutOf p engine.now ends runs owner run.new }
+    ensures fed { IfOk result (λ fed. fed ≡ true → waits run.new ≡ false) }
+    ensures not_fed { IfOk result (λ fed. fed ≡ false → (p : PlanOf) (ends : Items (Maybe Advance)) (runs : Items (Maybe RunOf))
+        → IsOutOf p engine.now ends runs owner run.old → MayRun (design p) (core_in p engine.now ends) owner → ⊥) }
+{
+    if !run.is_waiting() {
+        return Ok(true);
+    }
+    let Some(_told) = find_replies(
+        engine.log.outcomes(owner),
+        &engine.fifos,
+        run.queries(),
+        run.waiting(),
+        replies,
+    )?
+    else {
+        return Ok(false);
+    };
+    run.feed(replies.as_slice());
+    Ok(true)
+}

@@ -122,7 +122,7 @@ fn print_fifo(
     depth: u64,
     delay: u64,
 ) -> Result<(), OutOfMemory>
-    ensures { OnOk result (text.new ≡ text.old ++ line (tokens_of version (Statement.Fifo name.now width depth delay))) }
+    ensures { OnOk result (text.new ≡ text.old ++ line (statement_tokens version (Statement.Fifo name.now width depth delay))) }
 {
     if has_delays(version) {
         print_named(text, Keyword::Fifo, name, &[width.number(), depth, delay])
@@ -132,12 +132,7 @@ fn print_fifo(
 }
 
 /// Adds the line of a memory.
-fn print_memory(
-    text: &mut List<u8>,
-    name: &Name,
-    width: Width,
-    len: u64,
-) -> Result<(), OutOfMemory>
+fn print_memory(text: &mut List<u8>, name: &Name, width: Width, len: u64) -> Result<(), OutOfMemory>
     ensures { OnOk result (text.new ≡ text.old ++ line (map token_of (parts (Statement.Mem name.now width len)))) }
 {
     print_named(text, Keyword::Mem, name, &[width.number(), len])

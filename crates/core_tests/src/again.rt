@@ -1,6 +1,6 @@
 //! Cores that begin again.
 use clock_machine::clock_run;
-use flow_design::Report;
+use flow_word::OutOfMemory;
 use sim_core::{Core, finish_alone, run_alone};
 use std::process::Abort;
 use std::test::Fail;
@@ -8,20 +8,21 @@ use worked_sessions::{
     BOTH_ENDS_IN_ONE_MODULE, LATER_STALL, POLLING_LOOP, TIE_ONE_LATER, TWO_LEAST_QUERIES, read_plan,
 };
 
-/// The report of a core after it has begun again and come to its end.
-fn report_again<R: AllocGlobal>(rt: &R, core: &mut Core) -> Result<Option<Report>, Fail> {
-    let done = finish_alone(core.again(rt.alloc())?)?;
-    Ok(done.final_report(rt.alloc(), true)?)
+/// The core of a plan that is simulated once more, from a core that it takes over.
+fn simulated_again<R: AllocGlobal>(rt: &R, core: Core) -> Result<Core, OutOfMemory> {
+    finish_alone(core.again(rt.alloc())?)
 }
 
-/// Asserts that a session is reported as the lockstep machine reports it, both by the core that takes over the runs of a final one,
-/// and by the core after it, for which no run is left.
+/// Asserts that a session is reported as the lockstep machine reports it by a core that takes over the runs of a final one, and by
+/// the core after it.
 fn begins_again<R: AllocGlobal + Abort>(rt: &R, text: &[u8]) -> Result<(), Fail> {
     let plan = read_plan(rt.alloc(), text)?;
     let expected = Some(clock_run(rt.alloc(), &plan)?);
-    let mut core = run_alone(rt.alloc(), plan)?;
-    assert_eq!(rt; report_again(rt, &mut core)?, expected);
-    assert_eq!(rt; report_again(rt, &mut core)?, expected);
+    let first = run_alone(rt.alloc(), plan)?;
+    let second = simulated_again(rt, first)?;
+    assert_eq!(rt; second.final_report(rt.alloc(), true)?, expected);
+    let third = simulated_again(rt, second)?;
+    assert_eq!(rt; third.final_report(rt.alloc(), true)?, expected);
     Ok(())
 }
 

@@ -13,7 +13,8 @@ use Rattle.sim_core.specs.{Views.CoreView, Drives.AreOwn, Drives.Goes, Drives.Ha
 use Rattle.sim_core.specs.Records.{IsSoundCore, IsEditedOn, HasOtherAnswer, recorded_in, verified_in}
 use Rattle.sim_core.proofs.Rounds.{goes_same}
 use Rattle.depth_session.specs.{Records.RepeatsAnswers, Records.answers_of, Records.run_count, Sessions.Session, Sessions.plan_behind}
-use Rattle.depth_session.specs.Settled.{IsCoreSettled, HasGoneOn, count_of, count_with, settled_session}
+use Rattle.depth_session.specs.Settled.{IsCoreSettled, HasGoneOn, next_count, recorded_by, plan_in, session_of}
+use Rattle.depth_session.specs.declared.state.State.{State}
 use Rattle.depth_session.proofs.Going.{apart, counts_differ, nothing_new}
 use Rattle.depth_session.proofs.Logs.{counts_of_logs, log_goes_on, recorded_at}
 
@@ -81,26 +82,30 @@ driven v e w on settled lent (Differs q) other = (on, other)
 
 -- ---- the count
 
+-- the count of a session with this core
+abbrev pub count_of : CoreView → ℕ → RunCount
+count_of v runs = run_count (recorded_in v.held.logs) runs
+
 -- where no query is another the count goes on with what the core holds
 pub counts_on : (v : CoreView) (e : Edit) (w : CoreView) (runs : ℕ) → length w.held.logs ≡ length v.held.logs
     → ((m : ℕ) → m < length v.held.logs → OutcomesGrow (log_at v.held.logs m) (log_at w.held.logs m))
-    → (report w.plan).answers ≡ verified_in w.held.logs → count_of w runs ≡ count_with v runs w
+    → (report w.plan).answers ≡ verified_in w.held.logs → count_of w runs ≡ next_count (count_of v runs) w.plan
 counts_on v e w runs same grow answers =
     sym (ap (next_counts (count_of v runs)) answers ∙ counts_of_logs v.held.logs w.held.logs same grow runs)
 
 -- the recorded outcome, among those that are kept
-is_kept : (v w : CoreView) (q : Query) (o : HasOtherAnswer v.held.logs w.plan q)
+is_kept : (v : CoreView) (p : Plan) (q : Query) (o : HasOtherAnswer v.held.logs p q)
     → slice_get (answers_of (recorded_in v.held.logs) q.module) q.number ≡ Some o.recorded
-is_kept v w q o = ap (λ (os : List Bool). slice_get os q.number) (recorded_at v.held.logs q.module) ∙ o.was
+is_kept v p q o = ap (λ (os : List Bool). slice_get os q.number) (recorded_at v.held.logs q.module) ∙ o.was
 
 -- else one run more is counted
-pub counts_again : (v w : CoreView) (runs : ℕ) (q : Query) → HasOtherAnswer v.held.logs w.plan q
-    → count_with v runs w ≡ run_count (report w.plan).answers (runs + 1)
-counts_again v w runs q o =
-    let answers = (report w.plan).answers in
+pub counts_again : (v : CoreView) (p : Plan) (runs : ℕ) (q : Query) → HasOtherAnswer v.held.logs p q
+    → next_count (count_of v runs) p ≡ run_count (report p).answers (runs + 1)
+counts_again v p runs q o =
+    let answers = (report p).answers in
     let count = length-map v.held.logs (λ (l : Log). l.outcomes) in
     counts_differ (recorded_in v.held.logs) answers q.module q.number o.recorded o.found (let l = o.inside in omega arith)
-    (within answers q.module q.number o.found o.is) (is_kept v w q o) o.is o.differ runs
+    (within answers q.module q.number o.found o.is) (is_kept v p q o) o.is o.differ runs
   where
     none : (j : ℕ) (b : Bool) → slice_get [] j ≡ Some b → ⊥
     none j b e = cc
@@ -146,7 +151,7 @@ pub none_other : (v w : CoreView) → RepeatsAnswers (recorded_in v.held.logs) (
 none_other v w repeat q o =
     let count = length-map v.held.logs (λ (l : Log). l.outcomes) in
     apart (answers_of (report w.plan).answers q.module) (answers_of (recorded_in v.held.logs) q.module) q.number o.found o.recorded o.is
-    (is_kept v w q o) (λ e. o.differ (sym e)) (repeat q.module (let l = o.inside in omega arith))
+    (is_kept v w.plan q o) (λ e. o.differ (sym e)) (repeat q.module (let l = o.inside in omega arith))
 
 -- and no outcome is added
 pub none_added : (v : CoreView) (e : Edit) (w : CoreView) → IsEditedOn v e w
@@ -164,10 +169,10 @@ none_added v e w t grow begin repeat m l =
     nothing_new old.outcomes (take now.verified now.outcomes) now.outcomes found (log_goes_on old now (grow m l)) (begin m (omega arith))
     (subst (IsPrefix found) (recorded_at v.held.logs m) (repeat m (omega arith)))
 
--- what is said of the session is said of its core
-pub repeats_in_core : (v : CoreView) (runs : ℕ) (live : Bool) (s : Session) (e : Edit) (p : Plan) → settled_session v runs live ≡ s
-    → p ≡ with_depth v.plan e.channel e.depth → RepeatsAnswers s.count.kept (report (plan_behind s e)).answers
-    → RepeatsAnswers (recorded_in v.held.logs) (report p).answers
-repeats_in_core v runs live s e p is plan repeat =
-    subst (λ (q : Plan). RepeatsAnswers (recorded_in v.held.logs) (report q).answers) (sym plan)
+-- what is said of the session is said of what it has
+pub repeats_in_state : (state : State) (runs : ℕ) (live : Bool) (s : Session) (e : Edit) (p : Plan) → session_of state runs live ≡ s
+    → p ≡ with_depth (plan_in state) e.channel e.depth → RepeatsAnswers s.count.kept (report (plan_behind s e)).answers
+    → RepeatsAnswers (recorded_by state) (report p).answers
+repeats_in_state state runs live s e p is plan repeat =
+    subst (λ (q : Plan). RepeatsAnswers (recorded_by state) (report q).answers) (sym plan)
     (subst (λ (t : Session). RepeatsAnswers t.count.kept (report (plan_behind t e)).answers) (sym is) repeat)

@@ -1,29 +1,49 @@
 -- The core of a session, before and after an edit.
-use Rattle.std.specs.Prelude.{ℕ, Bool}
-use Rattle.flow_design.specs.declared.plan.Edit.{Edit}
+use Rattle.std.specs.Prelude.{ℕ, Bool, List, []}
+use Rattle.flow_design.specs.declared.plan.{Edit.Edit, Plan.Plan}
 use Rattle.outcome_guard.specs.{declared.guard.Guard.Guard, declared.count.RunCount.RunCount, Runs.next_counts}
 use Rattle.outcome_guard.specs.declared.guard.Guard.TheVariants.{Same, Differs}
 use Rattle.lockstep_defs.specs.Report.{report}
 use Rattle.event_timing.specs.Actions.{IsFinal, MayRun}
 use Rattle.timing_bridge.specs.Designs.{design}
 use Rattle.sim_core.specs.{Views.CoreView, Views.theory_of, Drives.AreOwn, Drives.IsDiffering, Records.IsEditedOn, Records.recorded_in}
-use Rattle.depth_session.specs.{Records.run_count, Sessions.Session}
+use Rattle.depth_session.specs.{Records.run_count, Sessions.Session, declared.state.State.State}
+use Rattle.depth_session.specs.declared.state.State.TheVariants as state
 
 -- the core is settled: it is final, and no run is lent
 pub record IsCoreSettled (v : CoreView) : Type 0 where
   pub final : IsFinal (design v.plan) v.plan.cycles (theory_of v)
   pub own : AreOwn v
 
--- the count of a session with this core: the answers that are kept are the outcomes that the core holds
-abbrev pub count_of : CoreView → ℕ → RunCount
-count_of v runs = run_count (recorded_in v.held.logs) runs
+-- the count after the report of this plan
+abbrev pub next_count : RunCount → Plan → RunCount
+next_count count p = next_counts count (report p).answers
 
-abbrev pub settled_session : CoreView → ℕ → Bool → Session
-settled_session v runs live = record { plan = v.plan; count = count_of v runs; live = live }
+-- ---- what a session has
 
--- the count after the report of the new core's plan
-abbrev pub count_with : CoreView → ℕ → CoreView → RunCount
-count_with v runs w = next_counts (count_of v runs) (report w.plan).answers
+abbrev pub plan_in : State → Plan
+plan_in (state.Core v) = v.plan
+plan_in (state.Plan p) = p
+
+-- the outcomes that are recorded
+abbrev pub recorded_by : State → List (List Bool)
+recorded_by (state.Core v) = recorded_in v.held.logs
+recorded_by (state.Plan p) = []
+
+abbrev pub HasCore : State → Type 0
+HasCore (state.Core v) = Unit {0}
+HasCore (state.Plan p) = ⊥
+
+abbrev pub IsStateSettled : State → Type 0
+IsStateSettled (state.Core v) = IsCoreSettled v
+IsStateSettled (state.Plan p) = ⊥
+
+-- the answers that are kept are the outcomes that are recorded
+abbrev pub count_in : State → ℕ → RunCount
+count_in s runs = run_count (recorded_by s) runs
+
+abbrev pub session_of : State → ℕ → Bool → Session
+session_of s runs live = record { plan = plan_in s; count = count_in s runs; live = live }
 
 -- a Run of some module is permitted
 abbrev pub MayRunSome : CoreView → Type 0

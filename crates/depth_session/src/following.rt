@@ -8,14 +8,17 @@ ghost use Rattle.sim_core.specs.{Views.theory_of, Drives.AreOwn, Drives.Goes, Dr
 ghost use Rattle.sim_core.specs.Records.{IsSoundCore, IsEditedOn, recorded_in};
 ghost use Rattle.depth_order.specs.Depths.{AsksNothing};
 ghost use Rattle.depth_session.specs.Records.{RepeatsAnswers};
-ghost use Rattle.depth_session.specs.Settled.{IsCoreSettled, HasGoneOn, MayRunSome, count_of, count_with};
+ghost use Rattle.depth_session.specs.Settled.{IsCoreSettled, HasGoneOn, MayRunSome};
+ghost use Rattle.depth_session.specs.Settled.{plan_in, recorded_by, count_in, next_count, HasCore, IsStateSettled};
 
 use crate::runner::Runner;
-use flow_design::{Edit, Plan};
+use crate::state::State;
+use flow_design::{Edit, Plan, copy_plan};
 use flow_word::{OutOfMemory, Steps};
 use sim_core::{Core, Guard, records_are_answers};
 use std::alloc::Global;
 use std::marker::Brand;
+use std::mem;
 use std::sync::Wait;
 use std::sync::ledger::{Blank, Ledger};
 use std::thread::Threads;
@@ -28,30 +31,33 @@ use std::thread::Threads;
 pub(crate) fn follow<R: Threads + Wait + Sync, U: Runner>(
     rt: &R,
     alloc: Global,
-    core: &mut Core,
+    state: &mut State,
     runs: u64,
     edit: &Edit,
     runner: &mut U,
 ) -> Result<u64, OutOfMemory>
-    requires settled { IsCoreSettled core.old }
+    requires settled { IsStateSettled state.old }
     requires few { runs < u64.MAX }
-    requires fits { EditFits core.old.plan edit.now }
-    ensures plan { core.new.plan ≡ with_depth core.old.plan edit.now.channel edit.now.depth }
-    ensures settled { OnOk result (IsCoreSettled core.new) }
-    ensures counted { IfOk result (λ now. count_of core.new now ≡ count_with core.old runs core.new) }
+    requires fits { EditFits (plan_in state.old) edit.now }
+    ensures plan { plan_in state.new ≡ with_depth (plan_in state.old) edit.now.channel edit.now.depth }
+    ensures settled { OnOk result (IsStateSettled state.new) }
+    ensures counted { IfOk result (λ now. count_in state.new now ≡ next_count (count_in state.old runs) (plan_in state.new)) }
     ensures made { U.made runner.old < u64.MAX → IfOk result (λ now. U.made runner.new + runs ≡ U.made runner.old + now) }
     ensures at_most { U.made runner.old < u64.MAX
-        → U.made runner.new + runs ≤ U.made runner.old + (count_with core.old runs core.new).runs }
+        → U.made runner.new + runs ≤ U.made runner.old + (next_count (count_in state.old runs) (plan_in state.new)).runs }
     ensures stays { u64.MAX ≤ U.made runner.old → U.made runner.new ≡ U.made runner.old }
     ensures few { U.made runner.new ≤ U.made runner.old + 1 }
-    ensures quiet { AsksNothing core.old.plan → U.made runner.new ≡ U.made runner.old }
-    ensures succeeds { RepeatsAnswers (recorded_in core.old.held.logs) (report core.new.plan).answers → IsOk result }
+    ensures quiet { AsksNothing (plan_in state.old) → U.made runner.new ≡ U.made runner.old }
+    ensures succeeds { RepeatsAnswers (count_in state.old runs).kept (report (plan_in state.new)).answers → IsOk result }
 {
     records_are_answers();
+    let State::Core(core) = state else {
+        unreachable!()
+    };
     match go_on::<Brand>(core, edit, Blank::new(1))? {
         Guard::Same => Ok(runs),
         Guard::Differs(_) => {
-            run_again(rt, alloc, core, runner)?;
+            run_again(rt, alloc, state, runner)?;
             Ok(runs + 1)
         }
     }
@@ -69,11 +75,11 @@ fn go_on<L: Ledger>(core: &mut Core, edit: &Edit, blank: Blank) -> Result<Guard,
     ensures gone { IfOk result (λ guard. HasGoneOn guard core.old edit.now core.new) }
     ensures no_memory { OnErr result (IsEditedOn core.old edit.now core.new × MayRunSome core.new) }
 {
-    let _before = core.modules();
+    core.agrees();
     let mut steps = Steps::<L>::new(blank);
     match core.edit(edit, &mut steps) {
         Guard::Differs(query) => {
-            let _now = core.modules();
+            core.agrees();
             Ok(Guard::Differs(query))
         }
         Guard::Same => drive_on(core, &mut steps),
@@ -90,28 +96,33 @@ fn drive_on<L: Ledger>(core: &mut Core, steps: &mut Steps<L>) -> Result<Guard, O
     ensures no_memory { OnErr result (MayRunSome core.new) }
 {
     let guard = core.drive(steps);
-    let _now = core.modules();
+    core.agrees();
     guard
 }
 
 /// Replaces a core by one that is simulated from the beginning. The runs of the modules are used again, so that no block is
-/// compiled a second time.
+/// compiled a second time. The old simulation is dropped before the new one begins. After `OutOfMemory` the plan is there.
 fn run_again<R: Threads + Wait + Sync, U: Runner>(
     rt: &R,
     alloc: Global,
-    core: &mut Core,
+    state: &mut State,
     runner: &mut U,
 ) -> Result<(), OutOfMemory>
-    requires { FitsEngine core.old.plan }
-    ensures plan { core.new.plan ≡ core.old.plan }
-    ensures settled { OnOk result (IsCoreSettled core.new) }
-    ensures answers { OnOk result (recorded_in core.new.held.logs ≡ (report core.new.plan).answers) }
+    requires core { HasCore state.old }
+    requires fits { FitsEngine (plan_in state.old) }
+    ensures plan { plan_in state.new ≡ plan_in state.old }
+    ensures settled { OnOk result (IsStateSettled state.new) }
+    ensures answers { OnOk result (recorded_by state.new ≡ (report (plan_in state.new)).answers) }
     ensures counted { U.made runner.old < u64.MAX → OnOk result (U.made runner.new ≡ U.made runner.old + 1) }
     ensures at_most { U.made runner.old < u64.MAX → U.made runner.new ≤ U.made runner.old + 1 }
     ensures stays { u64.MAX ≤ U.made runner.old → U.made runner.new ≡ U.made runner.old }
 {
+    let plan = copy_plan(alloc, state.plan())?;
+    let State::Core(core) = mem::replace(state, State::Plan(plan)) else {
+        unreachable!()
+    };
     let opening = core.again(alloc)?;
-    *core = second_core(rt, alloc, opening, runner)?;
+    *state = State::Core(second_core(rt, alloc, opening, runner)?);
     Ok(())
 }
 

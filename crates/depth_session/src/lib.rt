@@ -5,6 +5,7 @@ mod following;
 mod laws;
 mod runner;
 mod session;
+mod state;
 
 pub use laws::{logs_are_kept, records_go_on};
 pub use runner::{AloneRunner, Asked, Runner, ThreadRunner};

@@ -13,6 +13,7 @@ ghost use Rattle.depth_session.specs.Sessions.{opening_session, plan_behind, wit
 
 use crate::following::{first_core, follow};
 use crate::runner::Runner;
+use crate::state::State;
 use flow_design::{Edit, Plan, Report, Verdict};
 use flow_word::OutOfMemory;
 use sim_core::Core;
@@ -27,7 +28,7 @@ use std::thread::Threads;
 /// Contracts see the present plan, the answers that are kept, the count of runs, and whether the session is live: no edit so far
 /// ran out of memory.
 pub struct DepthSession {
-    core: Core,
+    state: State,
     runs: u64,
     live: bool,
 }
@@ -35,7 +36,7 @@ pub struct DepthSession {
 impl Drop for DepthSession {
     fn drop(self) {
         let DepthSession {
-            core: _core,
+            state: _state,
             runs: _runs,
             live: _live,
         } = self;
@@ -47,15 +48,15 @@ impl Model for DepthSession {
     ghost use Rattle.std.specs.Coded.{codes};
     ghost use Rattle.flow_design.specs.Codes.{plan_code};
     ghost use Rattle.depth_session.specs.Sessions.{Session};
-    ghost use Rattle.depth_session.specs.Settled.{IsCoreSettled, settled_session};
+    ghost use Rattle.depth_session.specs.Settled.{IsStateSettled, session_of};
 
     ghost Value = { Session };
 
     ghost coded = { Prim.hlevel (codes, plan_code) };
 
-    ghost view = { λ s. settled_session s.core s.runs s.live };
+    ghost view = { λ s. session_of s.state s.runs s.live };
 
-    ghost invariant = { λ s. s.live ≡ true → IsCoreSettled s.core };
+    ghost invariant = { λ s. s.live ≡ true → IsStateSettled s.state };
 }
 
 impl DepthSession {
@@ -75,7 +76,7 @@ impl DepthSession {
     {
         let core = first_core(rt, alloc, plan, runner)?;
         Ok(DepthSession {
-            core,
+            state: State::Core(core),
             runs: 1,
             live: true,
         })
@@ -112,7 +113,7 @@ impl DepthSession {
         ensures succeeds { RepeatsAnswers self.old.count.kept (report (plan_behind self.old edit.now)).answers → IsOk result }
     {
         self.live = false;
-        self.runs = follow(rt, alloc, &mut self.core, self.runs, edit, runner)?;
+        self.runs = follow(rt, alloc, &mut self.state, self.runs, edit, runner)?;
         self.live = true;
         Ok(())
     }
@@ -124,7 +125,7 @@ impl DepthSession {
         requires { self.now.live ≡ true }
         ensures { IfOk result (λ report. report ≡ report_with with_events self.now.plan) }
     {
-        self.core.report(alloc, with_events)
+        self.core().report(alloc, with_events)
     }
 
     /// The verdict of the present plan: it is the lockstep machine's. It takes no memory, and counts no run.
@@ -132,7 +133,7 @@ impl DepthSession {
         requires { self.now.live ≡ true }
         ensures { result ≡ lockstep.verdict self.now.plan }
     {
-        self.core.verdict()
+        self.core().verdict()
     }
 
     /// The final core of the present plan.
@@ -141,14 +142,17 @@ impl DepthSession {
         ensures plan { result.now.plan ≡ self.now.plan }
         ensures is_final { IsFinal (design result.now.plan) result.now.plan.cycles (theory_of result.now) }
     {
-        &self.core
+        match &self.state {
+            State::Core(core) => core,
+            State::Plan(_) => unreachable!(),
+        }
     }
 
     /// The present plan: with the depths of all edits so far.
     pub fn plan(&self) -> &Plan
         ensures { result.now ≡ self.now.plan }
     {
-        self.core.plan()
+        self.state.plan()
     }
 
     /// How many runs the reports so far count together.

@@ -1,7 +1,7 @@
 -- Where the passes of the modules are.
-use Rattle.std.specs.Prelude.{◌≡◌, ℕ, List, map, Some, slice_get}
+use Rattle.std.specs.Prelude.{◌≡◌, ◌≤◌, ℕ, List, [], map, Some, slice_get, vec_capacity}
 use Rattle.sim_hub.specs.{declared.hub.Hub.Hub, declared.pass.ModulePass.ModulePass}
-use Rattle.run_threads.specs.{Driving.IsHere, declared.drive.Seat.Seat, declared.start.Slot.Slot}
+use Rattle.run_threads.specs.{Driving.IsHere, declared.drive.Seat.Seat, declared.room.Room.Room, declared.start.Slot.Slot}
 use Rattle.run_threads.specs.declared.start.Slot.TheVariants as slot
 
 -- these are the passes of this hub's modules, in order, with no desk out
@@ -27,3 +27,10 @@ KeepsPass slot.Gone = ⊥
 -- these are the slots of the modules, in order
 abbrev pub AreSlots : Hub → List Slot → Type 0
 AreSlots hub slots = (k : ℕ) (s : Slot) → slice_get slots k ≡ Some s → SlotIs hub k s
+
+-- the lists are empty, and have room for so many modules
+pub record IsRoomFor (modules : ℕ) (room : Room) : Type 0 where
+  pub no_slots : room.slots.items ≡ []
+  pub no_passes : room.passes.items ≡ []
+  pub slots : modules ≤ vec_capacity room.slots
+  pub passes : modules ≤ vec_capacity room.passes

@@ -5,29 +5,19 @@ ghost use Rattle.run_threads.specs.{Driving.IsHere, Leading.HasMoreTurns, Slots.
 
 use crate::bells::Bells;
 use crate::concern::News;
+use crate::crew::Crew;
 use crate::drive::{Went, drive_once};
 use crate::gate::Gate;
 use crate::start::Slot;
 use crossbeam_utils::sync::Parker;
 use module_sets::ModuleSet;
 use sim_hub::{Hub, ModulePass, PerfAnswer, PerfPass};
-use std::alloc::Global;
 use std::mem;
 use std::sync::Wait;
 use std::thread::{Threads, yield_now};
 
 /// How many rounds over its modules the caller makes between two of its own turns, at most.
 const ROUNDS: u32 = 16;
-
-/// What the caller drives modules with.
-#[derive(Drop)]
-pub struct Crew<'e, G, R> {
-    pub rt: &'e R,
-    pub alloc: Global,
-    pub hub: &'e Hub,
-    pub gate: &'e G,
-    pub bells: &'e Bells,
-}
 
 /// Tries once to drive a module that is called. If the module had a thread, that thread must have ended. The second answer tells
 /// whether it ran.

@@ -3,10 +3,12 @@
 
 mod bells;
 mod concern;
+mod crew;
 mod drive;
 mod gate;
 mod lead;
 mod light;
+mod room;
 mod run;
 mod start;
 

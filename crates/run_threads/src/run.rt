@@ -5,18 +5,19 @@ ghost use Rattle.event_timing.specs.Core.{opening_core};
 ghost use Rattle.timing_bridge.specs.Designs.{design};
 ghost use Rattle.sim_core.specs.{Views.theory_of, Drives.AreOwn};
 ghost use Rattle.sim_hub.specs.{Hubs.IsOverAt, Hubs.IsPerfOf, Hubs.perf_view, Closings.IsWholeRun};
-ghost use Rattle.run_threads.specs.{Leading.HasMoreTurns, Slots.passes_in, Slots.AreHere};
+ghost use Rattle.run_threads.specs.{Leading.HasMoreTurns, Slots.passes_in, Slots.AreHere, Slots.IsRoomFor};
 
 use crate::bells::Bells;
+use crate::crew::Crew;
 use crate::drive::Seat;
 use crate::gate::Gate;
-use crate::lead::{Crew, gather, lead};
+use crate::lead::{gather, lead};
 use crate::light::Light;
-use crate::start::{Slot, seat_all, start_all};
+use crate::room::Room;
+use crate::start::{seat_all, start_all};
 use crossbeam_utils::sync::Parker;
 use flow_design::Plan;
 use flow_word::OutOfMemory;
-use module_sets::ModuleSet;
 use sim_core::Core;
 use sim_hub::{Closed, Hub, ModulePass, PerfPass, Threaded};
 use std::alloc::Global;
@@ -27,29 +28,29 @@ use std::thread::Threads;
 /// Drives all modules until all is over, and takes all passes back. All its memory was taken before: between starting a thread and
 /// the caller's lead nothing may fail.
 fn run_all<G: Gate + Sync, R: Threads + Wait + Sync>(
-    rt: &R,
-    alloc: Global,
-    hub: &Hub,
-    gate: &G,
-    bells: &Bells,
+    crew: &Crew<'_, G, R>,
     parker: Parker,
     perf: PerfPass,
     seats: Vec<Seat>,
     light: Light,
-    slots: Vec<Slot>,
-    passes: Vec<ModulePass>,
-    noted: ModuleSet,
+    room: Room,
 ) -> (PerfPass, Vec<ModulePass>)
-    requires perf { IsPerfOf hub.now perf }
-    requires here { AreHere hub.now (passes_in seats.items) }
-    requires empty { (slots.items ≡ []) × (passes.items ≡ []) }
-    requires room { (length seats.items ≤ vec_capacity slots) × (length seats.items ≤ vec_capacity passes) }
-    ensures perf { IsPerfOf hub.now result.0 }
+    requires perf { IsPerfOf crew.now.hub.now perf }
+    requires here { AreHere crew.now.hub.now (passes_in seats.items) }
+    requires room { IsRoomFor (length seats.items) room }
+    ensures perf { IsPerfOf crew.now.hub.now result.0 }
     ensures later { HasMoreTurns (perf_view perf) (perf_view result.0) }
     ensures over { IsOverAt (perf_view result.0).seen }
     ensures count { length result.1.items ≡ length seats.items }
-    ensures here { AreHere hub.now result.1.items }
+    ensures here { AreHere crew.now.hub.now result.1.items }
 {
+    let Room {
+        slots,
+        passes,
+        noted,
+    } = room;
+    let (rt, alloc, hub) = (crew.rt, crew.alloc, crew.hub);
+    let (gate, bells) = (crew.gate, crew.bells);
     thread::scope(
         thread::scope_env(),
         rt,
@@ -59,7 +60,6 @@ fn run_all<G: Gate + Sync, R: Threads + Wait + Sync>(
             ensures { IsPerfOf hub.entry.now result.0 × HasMoreTurns (perf_view perf) (perf_view result.0)
                 × IsOverAt (perf_view result.0).seen × (length result.1.items ≡ length seats.items) × AreHere hub.entry.now result.1.items }
         {
-            let slots = start_all(scope, rt, alloc, hub, gate, bells, seats, &light, slots);
             let crew = Crew {
                 rt,
                 alloc,
@@ -67,6 +67,7 @@ fn run_all<G: Gate + Sync, R: Threads + Wait + Sync>(
                 gate,
                 bells,
             };
+            let slots = start_all(scope, &crew, seats, &light, slots);
             let (perf, slots) = lead(&crew, &parker, perf, slots, noted);
             (perf, gather(rt, hub, slots, passes))
         },
@@ -92,19 +93,18 @@ pub fn run_core<G: Gate + Sync, R: Threads + Wait + Sync>(
     core.agrees();
     let mut driven = *light;
     driven.add_small(alloc, core.plan())?;
-    let noted = ModuleSet::new(alloc, core.modules())?;
+    let room = Room::new(alloc, core.modules())?;
     let (mut bells, parker) = Bells::new(alloc, &core)?;
     let (hub, perf, modules) = Hub::new(alloc, core)?;
-    let Ok(slots) = Vec::with_capacity(alloc, modules.len()) else {
-        return Err(OutOfMemory);
-    };
-    let Ok(passes) = Vec::with_capacity(alloc, modules.len()) else {
-        return Err(OutOfMemory);
-    };
     let seats = seat_all(alloc, &mut bells, modules)?;
-    let (perf, modules) = run_all(
-        rt, alloc, &hub, gate, &bells, parker, perf, seats, driven, slots, passes, noted,
-    );
+    let crew = Crew {
+        rt,
+        alloc,
+        hub: &hub,
+        gate,
+        bells: &bells,
+    };
+    let (perf, modules) = run_all(&crew, parker, perf, seats, driven, room);
     match hub.close(perf, modules) {
         Closed::Final(threaded) => {
             *light = bells.light();

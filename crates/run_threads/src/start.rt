@@ -5,6 +5,7 @@ ghost use Rattle.run_threads.specs.{Driving.IsBack, Lights.IsNamed};
 ghost use Rattle.run_threads.specs.Slots.{SlotIs, KeepsPass, AreSlots, AreHere, passes_in};
 
 use crate::bells::Bells;
+use crate::crew::Crew;
 use crate::drive::{Answered, Seat, drive};
 use crate::gate::Gate;
 use crate::light::Light;
@@ -58,17 +59,15 @@ pub fn seat_all(
 /// Starts a module's thread. Where the thread cannot be started, the caller keeps the pass.
 fn start_one<'s, 'e, G: Gate + Sync, R: Threads + Wait + Sync>(
     scope: &'s Scope<'s, &'e ()>,
-    rt: &'e R,
-    alloc: Global,
-    hub: &'e Hub,
-    gate: &'e G,
-    bells: &'e Bells,
+    crew: &Crew<'e, G, R>,
     seat: Seat,
 ) -> Slot
-    requires own { IsOfHub hub.now seat.pass }
+    requires own { IsOfHub crew.now.hub.now seat.pass }
     requires home { HasNoDeskOut (module_of seat.pass) (module_view seat.pass) }
-    ensures { SlotIs hub.now (module_of seat.pass) result }
+    ensures { SlotIs crew.now.hub.now (module_of seat.pass) result }
 {
+    let (rt, alloc, hub) = (crew.rt, crew.alloc, crew.hub);
+    let (gate, bells) = (crew.gate, crew.bells);
     let which = seat.pass.which();
     let promise = Comes {
         hub: Snapshot::of(hub),
@@ -91,48 +90,40 @@ fn start_one<'s, 'e, G: Gate + Sync, R: Threads + Wait + Sync>(
 /// Starts a module's thread, or leaves the module to the caller if it is to have none.
 fn place_one<'s, 'e, G: Gate + Sync, R: Threads + Wait + Sync>(
     scope: &'s Scope<'s, &'e ()>,
-    rt: &'e R,
-    alloc: Global,
-    hub: &'e Hub,
-    gate: &'e G,
-    bells: &'e Bells,
+    crew: &Crew<'e, G, R>,
     seat: Seat,
     light: &Light,
 ) -> Slot
-    requires own { IsOfHub hub.now seat.pass }
+    requires own { IsOfHub crew.now.hub.now seat.pass }
     requires home { HasNoDeskOut (module_of seat.pass) (module_view seat.pass) }
-    ensures slot { SlotIs hub.now (module_of seat.pass) result }
+    ensures slot { SlotIs crew.now.hub.now (module_of seat.pass) result }
     ensures kept { IsNamed light.now (module_of seat.pass) → KeepsPass result }
 {
     let which = seat.pass.which();
     if light.has(which) {
-        bells.leave(which);
+        crew.bells.leave(which);
         Slot::Here(seat.pass)
     } else {
-        start_one(scope, rt, alloc, hub, gate, bells, seat)
+        start_one(scope, crew, seat)
     }
 }
 
 /// Starts a thread for each module, except those that the caller drives.
 pub fn start_all<'s, 'e, G: Gate + Sync, R: Threads + Wait + Sync>(
     scope: &'s Scope<'s, &'e ()>,
-    rt: &'e R,
-    alloc: Global,
-    hub: &'e Hub,
-    gate: &'e G,
-    bells: &'e Bells,
+    crew: &Crew<'e, G, R>,
     seats: Vec<Seat>,
     light: &Light,
     slots: Vec<Slot>,
 ) -> Vec<Slot>
-    requires here { AreHere hub.now (passes_in seats.items) }
+    requires here { AreHere crew.now.hub.now (passes_in seats.items) }
     requires empty { slots.items ≡ [] }
     requires room { length seats.items ≤ vec_capacity slots }
-    ensures { (length result.items ≡ length seats.items) × AreSlots hub.now result.items }
+    ensures { (length result.items ≡ length seats.items) × AreSlots crew.now.hub.now result.items }
 {
     let mut slots = slots;
     for seat in seats {
-        slots.push_reserved(place_one(scope, rt, alloc, hub, gate, bells, seat, light));
+        slots.push_reserved(place_one(scope, crew, seat, light));
     }
     slots
 }

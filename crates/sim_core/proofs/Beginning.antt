@@ -109,29 +109,6 @@ core_runs p s ends runs c m run there =
       | inr w ↦ (rest_behind p x m (x.emitted m), (is.going w).1)
     ]
 
--- a core whose runs are lent, or go over to another
-pub stored_left : {p : Plan} {s : Engine} {ends : List (Option Advance)} {runs : List (Option ModuleRun)} {wiring : Wiring}
-    {unread : List Unread} {due : Due} {candidates : List Candidate}
-    → IsStoredCore p s ends runs wiring unread due candidates → (left : List (Option ModuleRun)) → AreLeft runs left
-    → IsStoredCore p s ends left wiring unread due candidates
-stored_left {p} {s} {ends} {runs} {wiring} {unread} {due} {candidates} k left l = record {
-  core = record {
-    fits = k.core.fits;
-    sound = k.core.sound;
-    agreed = k.core.agreed;
-    table = k.core.table;
-    count = l.count ∙ k.core.count;
-    counted = k.core.counted;
-    room = k.core.room;
-    runs_are = λ m run there. k.core.runs_are m run (l.each m run there);
-    ends_are = k.core.ends_are;
-  };
-  wired = k.wired;
-  unread_are = k.unread_are;
-  due_are = k.due_are;
-  listed_are = k.listed_are;
-}
-
 -- ---- the channels
 
 -- the values of inputs are the inputs

@@ -53,8 +53,7 @@ fn finish<L: Ledger>(core: &mut Core, blank: Blank) -> Result<(), OutOfMemory>
     ensures done { OnOk result (IsFinal (design core.new.plan) core.new.plan.cycles (theory_of core.new)) }
     ensures verified { OnOk result (AllVerified (theory_of core.new)) }
 {
-    // This brings in what a core always keeps: it agrees with its plan.
-    let _count = core.modules();
+    core.agrees();
     let mut steps = Steps::<L>::new(blank);
     core.drive(&mut steps)?;
     Ok(())

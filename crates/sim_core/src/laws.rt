@@ -33,5 +33,5 @@ pub fn every_order()
 pub fn steps_are_own_marks(core: &EngineCore)
     ensures { (i : ℕ) → i < length core.now.plan.design.modules → TellsOwnRun core.now i }
 {
-    let _count = core.modules();
+    core.agrees();
 }

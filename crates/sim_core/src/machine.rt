@@ -4,7 +4,7 @@ ghost use Rattle.flow_design.specs.StaticRules.{FitsEngine};
 ghost use Rattle.event_timing.specs.Agreement.{IsAgreed};
 ghost use Rattle.timing_bridge.specs.Designs.{design, lockstep_run};
 ghost use Rattle.engine_view.specs.{Held.emitted_of, Rooms.query_bound, Shown.IsSound, Shown.queries_before};
-ghost use Rattle.sim_core.specs.{Opening.ports_to, Readers.AreReaders, Views.theory_of};
+ghost use Rattle.sim_core.specs.{Opening.ports_to, Opening.AreOlderRuns, Readers.AreReaders, Views.theory_of};
 
 use crate::due::Due;
 use crate::unread::Unread;
@@ -162,5 +162,25 @@ impl Core {
         ensures sound { IsSound (design self.now.plan) self.now.held }
     {
         &self.engine
+    }
+
+    /// The plan and the runs of the modules that are not lent. All else is dropped.
+    pub(crate) fn into_plan_and_runs(self) -> (Plan, Vec<Option<ModuleRun>>)
+        ensures plan { result.0 ≡ self.plan }
+        ensures fits { FitsEngine result.0 }
+        ensures older { AreOlderRuns result.0 result.1.items }
+    {
+        let Core {
+            plan,
+            engine: _engine,
+            ends: _ends,
+            runs,
+            wiring: _wiring,
+            unread: _unread,
+            due: _due,
+            candidates: _candidates,
+            scratch: _scratch,
+        } = self;
+        (plan, runs)
     }
 }

@@ -5,7 +5,7 @@ ghost use Rattle.event_timing.specs.{Core.opening_core, Agreement.AllVerified};
 ghost use Rattle.timing_bridge.specs.Designs.{design};
 ghost use Rattle.lockstep_defs.specs.OwnRun.{Own};
 ghost use Rattle.module_interp.specs.{OwnRests.first_rest, Runs.StandsAt, Runs.waits};
-ghost use Rattle.sim_core.specs.Opening.{kind_in, kinds_of, AreFirstRuns, AreLeft, AreOlderRuns};
+ghost use Rattle.sim_core.specs.Opening.{kind_in, kinds_of, AreFirstRuns, AreOlderRuns};
 ghost use Rattle.sim_core.specs.Views.{theory_of};
 
 use crate::due::Due;
@@ -15,7 +15,7 @@ use crate::wiring::find_wiring;
 use engine_view::Engine;
 use event_graph::Graph;
 use fifo_table::{FifoTable, TableChannel};
-use flow_design::{Advance, ChannelKind, Plan, copy_plan};
+use flow_design::{Advance, ChannelKind, Plan};
 use flow_word::{List, OutOfMemory, Width, Words, cut};
 use module_interp::ModuleRun;
 use query_log::QueryLog;
@@ -34,24 +34,23 @@ impl Core {
         ensures verified { IfOk result (λ core. AllVerified (theory_of core)) }
         ensures own { IfOk result (λ core. (m : ℕ) → m < length plan.design.modules → slice_index_or core.lent m true ≡ false) }
     {
-        let runs = first_runs(alloc, &plan, &mut Vec::new(alloc))?;
+        let runs = first_runs(alloc, &plan, Vec::new(alloc))?;
         begin(alloc, plan, runs)
     }
 
-    /// A core of the same plan in which nothing is emitted yet. It takes over the runs of the modules, whose blocks are not
-    /// compiled again; of a module whose run is lent it has a new run. Of the old core only the plan may be used afterwards.
+    /// A core of the same plan in which nothing is emitted yet. It takes over the plan, and the runs of the modules, whose blocks are
+    /// not compiled again; of a module whose run is lent it has a new run. All else is dropped before memory is taken, so that the
+    /// two simulations are not held at once.
     ///
-    /// After `OutOfMemory` too the old core has its plan.
-    pub fn again(&mut self, alloc: Global) -> Result<Core, OutOfMemory>
-        ensures kept { self.new.plan ≡ self.old.plan }
-        ensures plan { IfOk result (λ core. core.plan ≡ self.old.plan) }
-        ensures opening { IfOk result (λ core. theory_of core ≡ opening_core (design self.old.plan)) }
+    /// After `OutOfMemory` the plan is lost.
+    pub fn again(self, alloc: Global) -> Result<Core, OutOfMemory>
+        ensures plan { IfOk result (λ core. core.plan ≡ self.plan) }
+        ensures opening { IfOk result (λ core. theory_of core ≡ opening_core (design self.plan)) }
         ensures verified { IfOk result (λ core. AllVerified (theory_of core)) }
-        ensures own { IfOk result (λ core. (m : ℕ) → m < length self.old.plan.design.modules
-            → slice_index_or core.lent m true ≡ false) }
+        ensures own { IfOk result (λ core. (m : ℕ) → m < length self.plan.design.modules → slice_index_or core.lent m true ≡ false) }
     {
-        let plan = copy_plan(alloc, &self.plan)?;
-        let runs = first_runs(alloc, &plan, &mut self.runs)?;
+        let (plan, older) = self.into_plan_and_runs();
+        let runs = first_runs(alloc, &plan, older)?;
         begin(alloc, plan, runs)
     }
 }
@@ -99,17 +98,17 @@ fn begin(alloc: Global, plan: Plan, runs: Vec<Option<ModuleRun>>) -> Result<Core
 fn first_runs(
     alloc: Global,
     plan: &Plan,
-    older: &mut Vec<Option<ModuleRun>>,
+    older: Vec<Option<ModuleRun>>,
 ) -> Result<Vec<Option<ModuleRun>>, OutOfMemory>
     requires fits { FitsEngine plan.now }
-    requires older { AreOlderRuns plan.now older.old.items }
-    ensures first { IfOk result (λ runs. AreFirstRuns plan.now runs.items (length plan.now.design.modules)) }
-    ensures left { AreLeft older.old.items older.new.items }
+    requires older { AreOlderRuns plan.now older.items }
+    ensures { IfOk result (λ runs. AreFirstRuns plan.now runs.items (length plan.now.design.modules)) }
 {
     let modules = plan.design.modules.len() as u32;
     let mut runs = Vec::with_capacity(alloc, modules as usize)?;
+    let mut older = older;
     for number in 0..modules {
-        let run = first_run(alloc, plan, number, take_run(older, number as usize))?;
+        let run = first_run(alloc, plan, number, take_run(&mut older, number as usize))?;
         runs.push(Some(run))?;
     }
     Ok(runs)

@@ -10,8 +10,8 @@ returns-in-Differs-clause-gone g c =
     let v = c.args.core.now in
     let w = c.edit.new.self in
     let e = c.args.edit.now in
-    let from = c.modules-before.ensures in
-    let to = c.modules-now.ensures in
+    let from = c.agrees.ensures in
+    let to = c.agrees-in-Differs.ensures in
     let edited = subst (λ (r : Guard). IsEdited v w e r c.new-steps.result c.edit.new.steps) c.in-Differs.is c.edit.ensures.edited in
     differs_at_once v e w c.in-Differs.query c.new-steps.result c.edit.new.steps
     (record { fits = from.fits; sound = from.sound; agreed = from.agreed })
@@ -24,7 +24,7 @@ returns-clause-gone g c =
     let e = c.args.edit.now in
     let middle = c.edit.new.self in
     let w = c.drive_on.new.core in
-    let from = c.modules-before.ensures in
+    let from = c.agrees.ensures in
     let edited = subst (λ (r : Guard). IsEdited v middle e r c.new-steps.result c.edit.new.steps) c.in-Same.is c.edit.ensures.edited in
     let on = went_on v e middle w c.new-steps.result c.edit.new.steps c.drive_on.new.steps
     (record { fits = from.fits; sound = from.sound; agreed = from.agreed }) c.drive_on.ensures.sound c.requires.settled c.requires.fits
@@ -38,7 +38,7 @@ returns-clause-no_memory g c =
     let e = c.args.edit.now in
     let middle = c.edit.new.self in
     let w = c.drive_on.new.core in
-    let from = c.modules-before.ensures in
+    let from = c.agrees.ensures in
     let edited = subst (λ (r : Guard). IsEdited v middle e r c.new-steps.result c.edit.new.steps) c.in-Same.is c.edit.ensures.edited in
     let on = went_on v e middle w c.new-steps.result c.edit.new.steps c.drive_on.new.steps
     (record { fits = from.fits; sound = from.sound; agreed = from.agreed }) c.drive_on.ensures.sound c.requires.settled c.requires.fits

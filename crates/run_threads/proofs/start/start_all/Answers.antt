@@ -22,7 +22,7 @@ pub place_one-requires-clause-home : goal.place_one-requires-clause-home
 place_one-requires-clause-home g c κs within = let ys = c.loop-seat.yielded in let s = c.in-Some.seat in
     let rest = c.next.new.self.rest.items in
     let all = left_behind c.args.seats.items ys _ s rest c.loop-seat.invariant.2 c.in-Some.ensures.steps.0 in
-    home_at c.args.hub.now (length ys) s.pass (c.requires.here (length ys) s.pass (here c.args.seats.items ys s rest all))
+    home_at c.args.crew.now.hub.now (length ys) s.pass (c.requires.here (length ys) s.pass (here c.args.seats.items ys s rest all))
 
 pub loop-seat-preserved : goal.loop-seat-preserved
 loop-seat-preserved g c =
@@ -30,7 +30,7 @@ loop-seat-preserved g c =
     let ys = c.loop-seat.yielded in
     let s = c.in-Some.seat in
     let rest = c.next.new.self.rest.items in
-    let h = c.args.hub.now in let ss = c.loop-seat.slots.items in let slot = c.place_one.result in
+    let h = c.args.crew.now.hub.now in let ss = c.loop-seat.slots.items in let slot = c.place_one.result in
     let all = left_behind c.args.seats.items ys _ s rest i.2 c.in-Some.ensures.steps.0 in
     let which : module_of s.pass ≡ length ss = (c.requires.here (length ys) s.pass (here c.args.seats.items ys s rest all)).1 ∙ sym i.0 in
     let e = c.push_reserved.ensures in (

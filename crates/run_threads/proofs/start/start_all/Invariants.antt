@@ -4,5 +4,5 @@ use Rattle.run_threads.proofs.start.start_all.Given as goal
 
 abbrev pub invariant-loop-seat : goal.invariant-loop-seat
 invariant-loop-seat g l =
-    (length l.slots.items ≡ length l.yielded) × AreSlots l.hub l.slots.items
+    (length l.slots.items ≡ length l.yielded) × AreSlots l.crew.hub.now l.slots.items
     × (l.fn.seats.items ≡ l.yielded ++ l.seat-iterator.rest.items) × (vec_capacity l.initial.slots ≡ vec_capacity l.slots)

@@ -10,5 +10,5 @@ returns-clause-done g c = subst (λ (guard : Guard). HasDriven guard c.drive.new
 
 pub returns-clause-verified : goal.returns-clause-verified
 returns-clause-verified g c =
-    goes_verified c.args.core.now c.drive.new.self _ _ c.modules-count.ensures.agreed c.modules-count.ensures.fits c.drive.ensures.goes
+    goes_verified c.args.core.now c.drive.new.self _ _ c.agrees.ensures.agreed c.agrees.ensures.fits c.drive.ensures.goes
     c.requires.verified

@@ -1,15 +1,15 @@
 use Rattle.std.proofs.Common.{sym, subst}
 use Rattle.depth_order.specs.Depths.{AsksNothing}
-use Rattle.depth_session.specs.Sessions.{Session}
-use Rattle.depth_session.proofs.Behind.{repeats_in_core}
+use Rattle.depth_session.specs.{Sessions.Session, Settled.plan_in}
+use Rattle.depth_session.proofs.Behind.{repeats_in_state}
 use Rattle.depth_session.proofs.session.DepthSession.edit.Goals as goal
 
 pub returns-in_err-self-inside-clause-succeeds : goal.returns-in_err-self-inside-clause-succeeds
 returns-in_err-self-inside-clause-succeeds g c = λ repeat.
     let i = c.self.inside in
     let no = c.in_err-self-inside.ensures.succeeds
-    (repeats_in_core i.core i.runs i.live c.args.self.now c.args.edit.now c.follow.new.core.plan c.self.view_is c.follow.ensures.plan
-    repeat) in
+    (repeats_in_state i.state i.runs i.live c.args.self.now c.args.edit.now (plan_in c.follow.new.state) c.self.view_is
+    c.follow.ensures.plan repeat) in
     cc
 
 pub returns-in_err-self-inside-clause-quiet : goal.returns-in_err-self-inside-clause-quiet

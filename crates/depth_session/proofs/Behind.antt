@@ -12,9 +12,9 @@ use Rattle.retime.specs.Edits.{OutcomesGrow}
 use Rattle.sim_core.specs.{Views.CoreView, Drives.AreOwn, Drives.Goes, Drives.HasDriven, Drives.IsDiffering, Edits.IsEdited}
 use Rattle.sim_core.specs.Records.{IsSoundCore, IsEditedOn, HasOtherAnswer, recorded_in, verified_in}
 use Rattle.sim_core.proofs.Rounds.{goes_same}
-use Rattle.depth_session.specs.{Records.RepeatsAnswers, Records.answers_of, Records.run_count, Sessions.Session, Sessions.plan_behind}
+use Rattle.depth_session.specs.Records.{RepeatsAnswers, answers_of, run_count}
+use Rattle.depth_session.specs.{Sessions.Session, Sessions.plan_behind, declared.state.State.State}
 use Rattle.depth_session.specs.Settled.{IsCoreSettled, HasGoneOn, next_count, recorded_by, plan_in, session_of}
-use Rattle.depth_session.specs.declared.state.State.{State}
 use Rattle.depth_session.proofs.Going.{apart, counts_differ, nothing_new}
 use Rattle.depth_session.proofs.Logs.{counts_of_logs, log_goes_on, recorded_at}
 

@@ -1,6 +1,6 @@
 -- The core of a session, before and after an edit.
 use Rattle.std.specs.Prelude.{ℕ, Bool, List, []}
-use Rattle.flow_design.specs.declared.plan.{Edit.Edit, Plan.Plan}
+use Rattle.flow_design.specs.{declared.plan.Edit.Edit, declared.plan.Plan.Plan}
 use Rattle.outcome_guard.specs.{declared.guard.Guard.Guard, declared.count.RunCount.RunCount, Runs.next_counts}
 use Rattle.outcome_guard.specs.declared.guard.Guard.TheVariants.{Same, Differs}
 use Rattle.lockstep_defs.specs.Report.{report}

@@ -8,8 +8,8 @@ ghost use Rattle.sim_core.specs.{Views.theory_of, Drives.AreOwn, Drives.Goes, Dr
 ghost use Rattle.sim_core.specs.Records.{IsSoundCore, IsEditedOn, recorded_in};
 ghost use Rattle.depth_order.specs.Depths.{AsksNothing};
 ghost use Rattle.depth_session.specs.Records.{RepeatsAnswers};
-ghost use Rattle.depth_session.specs.Settled.{IsCoreSettled, HasGoneOn, MayRunSome};
-ghost use Rattle.depth_session.specs.Settled.{plan_in, recorded_by, count_in, next_count, HasCore, IsStateSettled};
+ghost use Rattle.depth_session.specs.Settled.{IsCoreSettled, HasGoneOn, MayRunSome, plan_in, recorded_by, count_in, next_count, HasCore};
+ghost use Rattle.depth_session.specs.Settled.{IsStateSettled};
 
 use crate::runner::Runner;
 use crate::state::State;

@@ -19,7 +19,7 @@ use Rattle.timing_bridge.proofs.{History.plan_is_design, History.run_is_history,
 use Rattle.timing_bridge.proofs.Onward.{assigned_is, answered_is, idle_is, opened_is}
 use Rattle.outcome_guard.specs.declared.guard.Guard.{Guard}
 use Rattle.outcome_guard.specs.declared.guard.Guard.TheVariants as guard
-use Rattle.engine_view.specs.{Held.Held, Held.core_of, Turns.is_progress, Turns.IsIdle, declared.turn.Timing.Timing}
+use Rattle.engine_view.specs.{Turns.is_progress, Turns.IsIdle, declared.turn.Timing.Timing}
 use Rattle.engine_view.specs.declared.turn.Timing.TheVariants as turn
 use Rattle.sim_core.specs.Asking.{Lacks, SetHasRoom, AreAcross, AreAcrossTo, AreBeside, AreBesideTo, AreAsking}
 use Rattle.sim_core.specs.{Opening.ports_to, Turns.HasTurned, Turns.HasAnsweredLeast, Views.CoreView, Views.theory_of}
@@ -131,7 +131,7 @@ module _ (p : Plan) (fits : FitsEngine p) (x : Core ModuleState) (asking : List 
           rw (is, ← (answered_is (design p) p.cycles x m c may).1) asking_after_one
       asking_answered y (c, may, inr (different, is)) = rw is asking_still
 
-    asking_idle : IsIdle (design p) p.cycles x m → AreAsking p x now
+    pub asking_idle : IsIdle (design p) p.cycles x m → AreAsking p x now
     asking_idle idle = record {
       room = still_room p asking now roomed are.room;
       idle = λ n l none.

@@ -138,7 +138,7 @@ no_runs m (suc n) = ((λ e. absurd (omega arith)), no_runs m n)
 
 module _ (p : Plan) (s : Engine) (ends : List (Option Advance)) (modules : List (Option ModuleRun))
     (k : IsCore p s ends modules) (unread : List Unread) (are : AreUnreadIn p s ends unread) where
-  grown : (m : ℕ) (actions : List Action) → IsNoRunOf m actions → (y : Core ModuleState)
+  pub grown : (m : ℕ) (actions : List Action) → IsNoRunOf m actions → (y : Core ModuleState)
       → ActsAll (design p) p.cycles (core_in p s ends) actions y → AreUnread (core_values (design p) y) (length p.design.channels) unread
   grown m actions o y acts =
       unread_grow (core_values (design p) (core_in p s ends)) (core_values (design p) y) (length p.design.channels) unread

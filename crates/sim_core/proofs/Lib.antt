@@ -48,3 +48,4 @@ pub mod Waking
 pub mod Listing
 pub mod OwnMarks
 pub mod Stretching
+pub mod Stretched

@@ -47,11 +47,11 @@ asking_none p x quiet asking room = record {
 
 module _ (p : Plan) (x : Core ModuleState) (due : Due) (candidates : List Candidate) (are : AreListed p x due candidates) where
   -- of each that is listed still the same is determined
-  IsStaying : Core ModuleState → Due → Type 0
+  unfoldable pub IsStaying : Core ModuleState → Due → Type 0
   IsStaying y now = (n : ℕ) → n < length p.design.modules → IsListed now n
       → IsListed due n × (candidate (design p) (view (design p) y) n ≡ candidate (design p) (view (design p) x) n)
 
-  listed_by : (y : Core ModuleState) (now : Due) → length now.unlisted ≡ length due.unlisted → IsStaying y now
+  pub listed_by : (y : Core ModuleState) (now : Due) → length now.unlisted ≡ length due.unlisted → IsStaying y now
       → AreListed p y now candidates
   unfolding IsStaying
   listed_by y now roomed stays = record {

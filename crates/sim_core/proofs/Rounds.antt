@@ -1,8 +1,8 @@
 -- Going round the modules as long as something is permitted.
-use Rattle.std.proofs.Common.{◌≡◌, refl, sym, ap, subst, ◌∙◌, ℕ, suc, ◌+◌, ◌-◌, ◌*◌, ◌<◌, ◌≤◌, ◌⊎◌, inl, inr, true, false, Bool, Some}
-use Rattle.std.proofs.Common.{get_or, List, [], ◌∷◌, ◌++◌, length, arith, mul-le-mul_right}
+use Rattle.std.proofs.Common.{◌≡◌, refl, sym, ap, subst, ◌∙◌, ℕ, suc, ◌+◌, ◌-◌, ◌*◌, ◌<◌, ◌≤◌, ◌⊎◌, inl, inr, true, false, Some, get_or}
+use Rattle.std.proofs.Common.{List, [], ◌∷◌, ◌++◌, length, arith, mul-le-mul_right}
 use Rattle.std.proofs.lemmas.Bool.{both_ways, cases_lt}
-use Rattle.std.specs.Prelude.{slice_get, slice_index_or}
+use Rattle.std.specs.Prelude.{slice_get}
 use Rattle.flow_design.specs.{declared.plan.Plan.Plan, StaticRules.FitsEngine}
 use Rattle.query_log.specs.declared.query.Query.{Query}
 use Rattle.event_timing.specs.{Machines.Design, Core.Core, Core.view, Enablers.candidate, Actions.Action.Assign, Actions.Action.Answer}
@@ -12,7 +12,7 @@ use Rattle.event_timing.proofs.{Agreement.all_agree, Deciding.determined_inside,
 use Rattle.event_timing.proofs.ActionBound.{more_work, most_work, never_found, all_rise}
 use Rattle.timing_bridge.specs.Designs.{design, lockstep_run}
 use Rattle.timing_bridge.proofs.{Bounded.plan_is_bounded, History.plan_is_design, History.run_is_history}
-use Rattle.engine_view.specs.{declared.turn.Timing.Timing, Cursors.CursorView, Turns.IsDifferent, Turns.IsFoundOther}
+use Rattle.engine_view.specs.{Cursors.CursorView, Turns.IsDifferent, Turns.IsFoundOther}
 use Rattle.engine_view.specs.declared.turn.Timing.TheVariants as turn
 use Rattle.outcome_guard.specs.declared.guard.Guard.TheVariants as guard
 use Rattle.sim_core.specs.{Views.CoreView, Views.theory_of, declared.visit.Visit.Visit}
@@ -39,7 +39,8 @@ assign_changes {S} d limit x y m (c, may, is) e =
 
 module _ (v w : CoreView) (m before : ℕ) (plan : w.plan ≡ v.plan) (lent : w.lent ≡ v.lent)
     (agreed : IsAgreed (design v.plan) (lockstep_run v.plan) v.plan.cycles (theory_of v)) where
-  one : (a : Action) → Acts (design v.plan) v.plan.cycles (theory_of v) a (theory_of w) → (theory_of w ≡ theory_of v → ⊥) → (after : ℕ)
+  unfoldable pub one : (a : Action) → Acts (design v.plan) v.plan.cycles (theory_of v) a (theory_of w)
+      → (theory_of w ≡ theory_of v → ⊥) → (after : ℕ)
       → after ≡ before + given (a ∷ []) → GoesOn v before w after
   one a acts changed after ticked = record {
     goes = record { actions = a ∷ []; all = (theory_of w, acts, refl); ticked = ticked; plan = plan; lent = lent };
@@ -49,11 +50,11 @@ module _ (v w : CoreView) (m before : ℕ) (plan : w.plan ≡ v.plan) (lent : w.
     ];
   }
 
-  pub was_assigned : (c after : ℕ) → HasTurned (turn.Assigned c) v m w → after ≡ before + 1 → GoesOn v before w after
+  unfoldable pub was_assigned : (c after : ℕ) → HasTurned (turn.Assigned c) v m w → after ≡ before + 1 → GoesOn v before w after
   was_assigned c after acts ticked =
       one (Assign m) acts (assign_changes (design v.plan) v.plan.cycles (theory_of v) (theory_of w) m acts) after ticked
 
-  pub was_answered : (c after : ℕ) → HasTurned (turn.Answered c) v m w → after ≡ before + 0 → GoesOn v before w after
+  unfoldable pub was_answered : (c after : ℕ) → HasTurned (turn.Answered c) v m w → after ≡ before + 0 → GoesOn v before w after
   was_answered c after (acts, changed, next) ticked = one (Answer m) acts changed after ticked
 
   pub was_least : HasAnsweredLeast (Some (m, guard.Same)) v w → GoesOn v before w before
@@ -66,11 +67,11 @@ pub acts_join : {S : Type 0} → (d : Design S) (limit : ℕ) (x y z : Core S) (
 acts_join {S} d limit x y z [] behind e b = rw (← e) b
 acts_join {S} d limit x y z (a ∷ more) behind (w, t, r) b = (w, t, acts_join d limit w y z more behind r b)
 
-given_join : (front behind : List Action) → given (front ++ behind) ≡ given front + given behind
+pub given_join : (front behind : List Action) → given (front ++ behind) ≡ given front + given behind
 given_join [] behind = omega arith
 given_join (a ∷ rest) behind = let e = given_join rest behind in grind arith
 
-pub goes_join : (first now next : CoreView) (before ticks later : ℕ) → Goes first before now ticks → Goes now ticks next later
+unfoldable pub goes_join : (first now next : CoreView) (before ticks later : ℕ) → Goes first before now ticks → Goes now ticks next later
     → Goes first before next later
 goes_join first now next before ticks later g o = record {
   actions = g.actions ++ o.actions;
@@ -81,7 +82,7 @@ goes_join first now next before ticks later g o = record {
   lent = o.lent ∙ g.lent;
 }
 
-pub on_join : (first now next : CoreView) (before ticks later : ℕ) → GoesOn first before now ticks → GoesOn now ticks next later
+unfoldable pub on_join : (first now next : CoreView) (before ticks later : ℕ) → GoesOn first before now ticks → GoesOn now ticks next later
     → GoesOn first before next later
 on_join first now next before ticks later g o = record {
   goes = goes_join first now next before ticks later g.goes o.goes;

@@ -1,6 +1,6 @@
 -- Runs of one module, one after the other.
-use Rattle.std.proofs.Common.{◌≡◌, refl, sym, ap, subst, ◌∙◌, ℕ, zero, suc, ◌+◌, ◌<◌, Bool, true, false, List, [], ◌∷◌, inl, inr, length}
-use Rattle.std.proofs.Common.{get_or, set, Option, None, Some, is_some, is_none, arith}
+use Rattle.std.proofs.Common.{◌≡◌, refl, sym, ap, subst, ℕ, zero, suc, ◌+◌, ◌<◌, Bool, true, false, List, [], ◌∷◌, inl, inr, length, get_or}
+use Rattle.std.proofs.Common.{set, Option, None, Some, is_some, is_none, arith}
 use Rattle.std.proofs.{lemmas.List.length-map, lemmas.Bool.cases_lt}
 use Rattle.flow_design.specs.{declared.plan.Plan.Plan, declared.state.Advance.Advance, StaticRules.FitsEngine}
 use Rattle.flow_design.specs.declared.state.ModuleState.{ModuleState}
@@ -10,7 +10,7 @@ use Rattle.event_timing.specs.Actions.{Acts, ActsAll, runs}
 use Rattle.event_timing.proofs.{Agreement.acts_agree, ActionBound.more_work}
 use Rattle.timing_bridge.specs.Designs.{design, lockstep_run}
 use Rattle.timing_bridge.proofs.History.{plan_is_design, run_is_history}
-use Rattle.engine_view.specs.{Held.Held, Held.core_of, declared.engine.Engine.Engine, Engines.held_in}
+use Rattle.engine_view.specs.{Held.Held, declared.engine.Engine.Engine, Engines.held_in}
 use Rattle.sim_core.specs.{Drives.given, Drives.Goes, Drives.GoesOn, Returned.core_in, Views.CoreView, Views.theory_of}
 use Rattle.sim_core.specs.{declared.due.Due.Due, declared.unread.Unread.Unread, declared.wiring.Wiring.Wiring, Waking.IsSpread}
 use Rattle.sim_core.specs.Runs.{IsCore, IsRunOf, IsStoredCore, lent_of, over_of}

@@ -5,24 +5,14 @@ use Rattle.flow_design.specs.{declared.plan.Plan.Plan, declared.state.Advance.Ad
 use Rattle.module_interp.specs.declared.run.ModuleRun.{ModuleRun}
 use Rattle.module_sets.specs.Sets.{Has, HasMask, capacity}
 use Rattle.event_graph.specs.declared.candidate.Candidate.{Candidate}
-use Rattle.event_timing.specs.Actions.{IsQuiet, MayAssign}
+use Rattle.event_timing.specs.Actions.{IsQuiet}
 use Rattle.timing_bridge.specs.Designs.{design}
-use Rattle.timing_bridge.proofs.History.{plan_is_design}
 use Rattle.engine_view.specs.{declared.engine.Engine.Engine, declared.turn.Timing.Timing, Held.core_of, Engines.held_in, Taking.kinds_in}
-use Rattle.engine_view.specs.declared.turn.Timing.TheVariants.{Nothing}
-use Rattle.engine_view.specs.Turns.{MayTakeIn, HasTimed, KeepsRoom, is_progress, left}
+use Rattle.engine_view.specs.{declared.turn.Timing.TheVariants.Nothing, Turns.HasTimed, Turns.KeepsRoom, Turns.is_progress, Turns.left}
 use Rattle.sim_core.specs.{Asking.Lacks, Candidates.AreCandidates, Waking.IsWoken, Turns.HasTurned, Views.CoreView, declared.due.Due.Due}
 use Rattle.sim_core.specs.{declared.unread.Unread.Unread, declared.wiring.Wiring.Wiring, Runs.IsStoredCore, Runs.lent_of, Runs.over_of}
-use Rattle.sim_core.proofs.{Asking.asking_turned, Asking.still_room, Waking.waking_turned, Keeping.kept_of}
-use Rattle.sim_core.proofs.Listing.{asking_none, listed_turned}
+use Rattle.sim_core.proofs.{Asking.asking_turned, Asking.still_room, Waking.waking_turned, Listing.asking_none, Listing.listed_turned}
 use Rattle.sim_core.proofs.Turning as turning
-
--- the step that may be given its cycle is so in the engine
-pub may_take : {p : Plan} {s : Engine} {ends : List (Option Advance)} {runs : List (Option ModuleRun)} {wiring : Wiring}
-    {unread : List Unread} {due : Due} {candidates : List Candidate} → IsStoredCore p s ends runs wiring unread due candidates
-    → (m c : ℕ) → MayAssign (design p) p.cycles (core_of (design p) (held_in s (over_of ends))) m c → MayTakeIn s m c
-may_take {p} {s} {ends} k m c may =
-    (design p, over_of ends, p.cycles, k.core.fits.cycles, plan_is_design p k.core.fits, kept_of k.core, may)
 
 -- the engine behind the turn, and of whom something may be permitted then
 module _ {p : Plan} {s : Engine} {ends : List (Option Advance)} {runs : List (Option ModuleRun)} {wiring : Wiring} {unread : List Unread}

@@ -1,67 +1,112 @@
 -- Rounds of Assigns and Answers, the Earliest behind them, and the end.
 use Rattle.std.proofs.Common.{◌≡◌, refl, sym, ap, subst, ◌∙◌, ℕ, zero, suc, ◌+◌, ◌*◌, ◌^◌, ◌<◌, ◌≤◌, ◌⊎◌, inl, inr, true, false, length}
-use Rattle.std.proofs.Common.{Option, Some, None, arith, mul-le-mul_right}
+use Rattle.std.proofs.Common.{List, [], ◌∷◌, Option, Some, None, arith, mul-le-mul_right}
 use Rattle.std.proofs.lemmas.Bool.{cases_Bool, cases_lt}
 use Rattle.std.specs.Prelude.{IfSome}
 use Rattle.flow_design.specs.declared.limits.TheConstants.{MODULES, COUNTED_OPERATIONS}
 use Rattle.flow_design.specs.{declared.plan.Plan.Plan, declared.state.ModuleState.ModuleState, StaticRules.FitsEngine}
-use Rattle.event_timing.specs.{Machines.Design, Enablers.known_of, Enablers.all_decided, Views.first_accesses, Core.Core, Core.view}
-use Rattle.event_timing.specs.{Actions.IsDetermined, Actions.IsFinal, Permitted.IsInside, Work.work}
+use Rattle.event_timing.specs.{Machines.Design, Machines.IsDesign, Histories.Trace, Histories.IsHistory, Enablers.known_of}
+use Rattle.event_timing.specs.{Enablers.all_decided, Views.first_accesses, Core.Core, Core.view, Permitted.IsInside, Work.work}
+use Rattle.event_timing.specs.Actions.{IsDetermined, IsFinal, Action, Acts, ActsAll}
 use Rattle.event_timing.specs.Agreement.{IsAgreed, AllVerified}
-use Rattle.event_timing.proofs.{ActionBound.most_work, Agreement.final_closed, Deciding.determined_inside}
-use Rattle.query_log.specs.declared.query.Query.{Query}
+use Rattle.event_timing.specs.Actions.Action.{Run, Assign, Answer, Earliest}
+use Rattle.event_timing.proofs.ActionBound.{all_rise, most_work, never_found}
+use Rattle.event_timing.proofs.{Agreement.final_closed, Deciding.determined_inside}
 use Rattle.outcome_guard.specs.declared.guard.Guard.TheVariants as guard
 use Rattle.timing_bridge.specs.{Designs.design, Designs.lockstep_run, Turns.NoTiming}
 use Rattle.timing_bridge.specs.Rounds.{may_time, after_timing, next_timing, timings, earliest_of}
 use Rattle.timing_bridge.proofs.{Bounded.plan_is_bounded, History.plan_is_design, History.run_is_history, Timings.none_left_at}
 use Rattle.timing_bridge.proofs.Onward.{assigned_is, answered_is, idle_is, next_none, timings_none, timings_more, timings_on, timings_over}
 use Rattle.timing_bridge.proofs.Onward.{earliest_found}
-use Rattle.engine_view.specs.{declared.turn.Timing.Timing, Turns.is_progress, Turns.ticks_of}
-use Rattle.engine_view.specs.declared.turn.Timing.TheVariants as turn
-use Rattle.sim_core.specs.{Views.CoreView, Views.theory_of, Turns.HasTurned, Turns.HasAnsweredLeast, Turns.IsFirstEarliest}
-use Rattle.sim_core.specs.Timings.{AreUntimable, IsNextFrom, IsUntimable, TimesOne, IsTimingRound, HasMore}
+use Rattle.sim_core.specs.{Views.CoreView, Views.theory_of, Drives.given, declared.timing.Batch.Batch, declared.visit.Visit.Visit}
+use Rattle.sim_core.specs.Turns.{HasAnsweredLeast, IsFirstEarliest}
+use Rattle.sim_core.specs.Timings.{AreUntimable, IsNextFrom, IsUntimable, TimesSome, IsTimingRound, HasMore}
+use Rattle.sim_core.specs.Stretches.{AreTimingsOf, StretchLeads, TimesOn, answers_among}
+use Rattle.sim_core.specs.declared.visit.Visit.TheVariants.{Acted, Differs, Idle}
 use Rattle.sim_core.proofs.Rounds as rounds
 use Rattle.sim_core.proofs.Rounds.{to_do}
 
--- ---- one action
+-- ---- some actions of one module
 
-module _ (v w : CoreView) (m before : ℕ) (plan : w.plan ≡ v.plan) (lent : w.lent ≡ v.lent)
-    (agreed : IsAgreed (design v.plan) (lockstep_run v.plan) v.plan.cycles (theory_of v)) where
-  pub was_timed : (r : Timing) (after : ℕ) → HasTurned r v m w → after ≡ before + ticks_of r → is_progress r ≡ true
-      → TimesOne v before m w after
-  was_timed (turn.Assigned c) after (e, may, is) ticked p =
-      let (there, then) = assigned_is (design v.plan) v.plan.cycles (theory_of v) m e may in
-      record {
-        may = there;
-        is = is ∙ sym then;
-        goes = rounds.was_assigned v w m before plan lent agreed c after (e, may, is) ticked;
-      }
-  was_timed (turn.Answered c) after ((e, may, inl (same, is)), changed, next) ticked p =
-      let (there, then) = answered_is (design v.plan) v.plan.cycles (theory_of v) m e may in
-      record {
-        may = there;
-        is = is ∙ sym then;
-        goes = rounds.was_answered v w m before plan lent agreed c after ((e, may, inl (same, is)), changed, next) ticked;
-      }
-  was_timed (turn.Answered c) after ((e, may, inr (other, is)), changed, next) ticked p = absurd (changed is)
-  was_timed (turn.Differs q) after done ticked p = cc
-  was_timed turn.Nothing after done ticked p = cc
+module _ {S : Type 0} (d : Design S) (h : Trace S) (i : IsDesign d) (history : IsHistory d h) (limit m : ℕ) (inside : m < d.modules) where
+  -- what is done there is what rounds do that stand there
+  round_more : (x z y : Core S) → may_time d limit x m ≡ true → z ≡ after_timing d limit x m → (n more : ℕ)
+      → timings d limit (n + more) m z ≡ timings d limit more m y → timings d limit (suc n + more) m x ≡ timings d limit more m y
+  round_more x z y may is n more rest =
+      ap (λ (k : ℕ). timings d limit k m x) (let e : suc n + more ≡ suc (n + more) = omega arith in e)
+      ∙ timings_more d limit (n + more) m x inside may ∙ ap (timings d limit (n + more) m) (sym is) ∙ rest
 
-  pub not_timed : (r : Timing) (after : ℕ) → AllVerified (theory_of v) → HasTurned r v m w → after ≡ before + ticks_of r
-      → is_progress r ≡ false → IsUntimable v m × (w ≡ v) × (after ≡ before)
-  not_timed (turn.Assigned c) after f done ticked p = cc
-  not_timed (turn.Answered c) after f done ticked p = cc
-  not_timed (turn.Differs q) after f (same, other) ticked p = absurd (rounds.none_differs v f m q other)
-  not_timed turn.Nothing after f (same, idle) ticked p =
-      (idle_is (design v.plan) v.plan.cycles (theory_of v) m idle.no_assign idle.no_answer, same, omega arith)
+  round_assigned : (x z y : Core S) → Acts d limit x (Assign m) z → (n more : ℕ)
+      → timings d limit (n + more) m z ≡ timings d limit more m y → timings d limit (suc n + more) m x ≡ timings d limit more m y
+  round_assigned x z y (c, may, is) n more rest =
+      let (there, then) = assigned_is d limit x m c may in round_more x z y there (is ∙ sym then) n more rest
 
-pub progressed : (r : Timing) → ((c : ℕ) × (r ≡ turn.Assigned c)) ⊎ ((c : ℕ) × (r ≡ turn.Answered c)) → is_progress r ≡ true
-progressed r (inl (c, e)) = cc
-progressed r (inr (c, e)) = cc
+  round_answered : (x z y : Core S) → AllVerified x → Acts d limit x (Answer m) z → (n more : ℕ)
+      → timings d limit (n + more) m z ≡ timings d limit more m y → timings d limit (suc n + more) m x ≡ timings d limit more m y
+  round_answered x z y verified (c, may, inl (same, is)) n more rest =
+      let (there, then) = answered_is d limit x m c may in round_more x z y there (is ∙ sym then) n more rest
+  round_answered x z y verified (c, may, inr (other, is)) n more rest =
+      absurd (other (never_found d x verified m c may.determined.at may.open_query))
 
-pub rested : (r : Timing) → ((q : Query) × (r ≡ turn.Differs q)) ⊎ (r ≡ turn.Nothing) → is_progress r ≡ false
-rested r (inl (q, e)) = cc
-rested r (inr e) = cc
+  all_round : (actions : List Action) → AreTimingsOf m actions → (x y : Core S) → IsAgreed d h limit x → AllVerified x
+      → ActsAll d limit x actions y → (more : ℕ) → timings d limit (length actions + more) m x ≡ timings d limit more m y
+  all_round [] f x y agreed verified is more =
+      ap (λ (k : ℕ). timings d limit k m x) (let e : 0 + more ≡ more = omega arith in e) ∙ ap (timings d limit more m) (sym is)
+  all_round (Run k ∷ rest) f x y agreed verified acts more = absurd f
+  all_round (Assign k ∷ rest) (e, f) x y agreed verified (z, act, acts) more =
+      let (n, agreed', verified') = all_rise d h i history limit x agreed verified (Assign k ∷ []) z (z, act, refl) in
+      round_assigned x z y (subst (λ (j : ℕ). Acts d limit x (Assign j) z) e act) (length rest) more
+      (all_round rest f z y agreed' verified' acts more)
+  all_round (Answer k ∷ rest) (e, f) x y agreed verified (z, act, acts) more =
+      let (n, agreed', verified') = all_rise d h i history limit x agreed verified (Answer k ∷ []) z (z, act, refl) in
+      round_answered x z y verified (subst (λ (j : ℕ). Acts d limit x (Answer j) z) e act) (length rest) more
+      (all_round rest f z y agreed' verified' acts more)
+  all_round (Earliest k ∷ rest) f x y agreed verified acts more = absurd f
+
+-- how many they are
+count_is : (m : ℕ) (actions : List Action) → AreTimingsOf m actions → length actions ≡ given actions + answers_among actions
+count_is m [] f = omega arith
+count_is m (Run k ∷ rest) f = absurd f
+count_is m (Assign k ∷ rest) (e, f) = let more = count_is m rest f in omega arith
+count_is m (Answer k ∷ rest) (e, f) = let more = count_is m rest f in omega arith
+count_is m (Earliest k ∷ rest) f = absurd f
+
+module _ (v w : CoreView) (m b a answers cycles : ℕ) (inside : m < length v.plan.design.modules)
+    (agreed : IsAgreed (design v.plan) (lockstep_run v.plan) v.plan.cycles (theory_of v)) (fits : FitsEngine v.plan)
+    (verified : AllVerified (theory_of v)) (ticked : a ≡ b + cycles) (few : answers ≤ cycles) where
+  many : (t : TimesOn v b m answers w a) → length t.on.goes.actions ≡ cycles + answers
+  many t =
+      let all = count_is m t.on.goes.actions t.are in
+      let one = t.on.goes.ticked in
+      let other = t.answered in
+      omega arith
+
+  pub times_some : (visit : Visit) → StretchLeads visit answers v b m w a → 0 < cycles + answers
+      → TimesSome v b m (cycles + answers) w a
+  times_some (Acted again) t some =
+      let i = plan_is_design v.plan fits in
+      let history = run_is_history v.plan fits in
+      subst (λ (n : ℕ). TimesSome v b m n w a) (many t) (record {
+        goes = t.on;
+        rounds = all_round (design v.plan) (lockstep_run v.plan) i history v.plan.cycles m inside t.on.goes.actions t.are (theory_of v)
+            (theory_of w) agreed verified t.on.goes.all;
+        few = (all_rise (design v.plan) (lockstep_run v.plan) i history v.plan.cycles (theory_of v) agreed verified t.on.goes.actions
+            (theory_of w) t.on.goes.all).0;
+      })
+  times_some (Differs q) (same, ticks, other) some = absurd (omega arith)
+  times_some Idle (same, ticks, idle) some = absurd (omega arith)
+
+  pub times_none : (visit : Visit) → StretchLeads visit answers v b m w a → cycles + answers ≡ 0
+      → IsUntimable v m × (w ≡ v) × (a ≡ b)
+  times_none (Acted again) t none = absurd (nothing t.on.goes.actions (many t ∙ none) t.on.goes.all)
+    where
+      nothing : (actions : List Action) → length actions ≡ 0
+          → ActsAll (design v.plan) v.plan.cycles (theory_of v) actions (theory_of w) → ⊥
+      nothing [] e is = let rise = t.on.risen in let same = ap (work (design v.plan)) is in absurd (omega arith)
+      nothing (one ∷ rest) e acts = absurd (omega (arith, e))
+  times_none (Differs q) (same, ticks, other) none = absurd (rounds.none_differs v verified m q other)
+  times_none Idle (same, ticks, idle) none =
+      (idle_is (design v.plan) v.plan.cycles (theory_of v) m idle.no_assign idle.no_answer, same, ticks)
 
 -- ---- the rounds
 
@@ -82,11 +127,11 @@ untimable_more v at m before here n l u =
 
 -- what comes next, where none does from module `at` on
 pub next_over : (v w : CoreView) → w ≡ v → (at : ℕ) → at ≤ length v.plan.design.modules
-    → AreUntimable v at (length v.plan.design.modules) → (r : Option ℕ) → IfSome r (λ m. m < at)
-    → IfSome r (λ m. AreUntimable w 0 m) → IfSome r (λ m. IsNextFrom v at m)
+    → AreUntimable v at (length v.plan.design.modules) → (r : Option Batch) → IfSome r (λ batch. batch.owner < at)
+    → IfSome r (λ batch. AreUntimable w 0 batch.owner) → IfSome r (λ batch. IsNextFrom v at batch.owner)
 next_over v w same at l behind None below first = tt
-next_over v w same at l behind (Some m) below first =
-    (omega arith, inr (behind, subst (λ (u : CoreView). AreUntimable u 0 m) same first))
+next_over v w same at l behind (Some batch) below first =
+    (omega arith, inr (behind, subst (λ (u : CoreView). AreUntimable u 0 batch.owner) same first))
 
 -- where nothing is permitted of some modules, rounds go on behind them
 timings_past : {S : Type 0} (d : Design S) (limit n at m : ℕ) (x : Core S) → at ≤ m → m ≤ d.modules
@@ -129,7 +174,7 @@ module _ {first now : CoreView} {before ticks at done : ℕ} (r : IsTimingRound 
   verified_now = rounds.goes_verified first now before ticks r.agreed r.fits r.goes r.verified
 
   -- so many actions fit a counter
-  pub few_done : done + 1 < 2 ^ 64
+  pub few_done : done < 2 ^ 64
   few_done =
       let most = most_work d (lockstep_run first.plan) limit (theory_of now)
       (subst (λ (q : Plan). IsAgreed (design q) (lockstep_run q) q.cycles (theory_of now)) r.goes.plan agreed_now) first.plan.ops
@@ -139,15 +184,15 @@ module _ {first now : CoreView} {before ticks at done : ℕ} (r : IsTimingRound 
       let ops = r.fits.operations in
       bound (length first.plan.design.modules) first.plan.ops done _ _ modules ops few most
     where
-      bound : (n o done a b : ℕ) → n ≤ MODULES → o ≤ COUNTED_OPERATIONS → done + a ≤ b → b ≤ n * (3 * o + 1) → done + 1 < 2 ^ 64
+      bound : (n o done a b : ℕ) → n ≤ MODULES → o ≤ COUNTED_OPERATIONS → done + a ≤ b → b ≤ n * (3 * o + 1) → done < 2 ^ 64
       bound n o done a b l u f m =
           let p : n * (3 * o + 1) ≤ MODULES * (3 * o + 1) = mul-le-mul_right (3 * o + 1) l in
           omega arith
 
-  -- one action more, of the module that comes next
-  pub went : {next : CoreView} {later m : ℕ} → IsNextFrom now at m → TimesOne now ticks m next later
-      → IsTimingRound first next before later m (done + 1)
-  went {next} {later} {m} (inside, comes) o = record {
+  -- some actions more, of the module that comes next
+  pub went : {next : CoreView} {later m count : ℕ} → IsNextFrom now at m → TimesSome now ticks m count next later
+      → IsTimingRound first next before later m (done + count)
+  went {next} {later} {m} {count} (inside, comes) o = record {
     goes = rounds.goes_join first now next before ticks later r.goes o.goes.goes;
     agreed = r.agreed;
     fits = r.fits;
@@ -155,19 +200,13 @@ module _ {first now : CoreView} {before ticks at done : ℕ} (r : IsTimingRound 
     at_most = let e = ap (λ (q : Plan). length q.design.modules) o.goes.goes.plan in omega arith;
     rounds = more_rounds;
     few =
-        let rise = subst (λ (q : Plan). work (design q) (theory_of now) < work (design q) (theory_of next)) r.goes.plan o.goes.risen in
+        let more = subst (λ (q : Plan). count + work (design q) (theory_of now) ≤ work (design q) (theory_of next)) r.goes.plan o.few in
         let few = r.few in
         omega arith;
   }
     where
       same_count : length now.plan.design.modules ≡ length first.plan.design.modules
       same_count = ap (λ (q : Plan). length q.design.modules) r.goes.plan
-
-      may : may_time d limit (theory_of now) m ≡ true
-      may = subst (λ (q : Plan). may_time (design q) q.cycles (theory_of now) m ≡ true) r.goes.plan o.may
-
-      is : theory_of next ≡ after_timing d limit (theory_of now) m
-      is = subst (λ (q : Plan). theory_of next ≡ after_timing (design q) q.cycles (theory_of now) m) r.goes.plan o.is
 
       idle : (from to : ℕ) → AreUntimable now from to → (k : ℕ) → from ≤ k → k < to → may_time d limit (theory_of now) k ≡ false
       idle from to none k l u =
@@ -186,12 +225,12 @@ module _ {first now : CoreView} {before ticks at done : ℕ} (r : IsTimingRound 
           ∙ timings_over d limit n (theory_of now)
           ∙ timings_past d limit n 0 m (theory_of now) (omega arith) (omega arith) (idle 0 m before_m)
 
-      more_rounds : (more : ℕ) → timings d limit (done + 1 + more) 0 (theory_of first) ≡ timings d limit more m (theory_of next)
+      more_rounds : (more : ℕ) → timings d limit (done + count + more) 0 (theory_of first) ≡ timings d limit more m (theory_of next)
       more_rounds more =
-          let c = same_count in
-          let sum : done + 1 + more ≡ done + suc more = omega arith in
-          ap (λ (n : ℕ). timings d limit n 0 (theory_of first)) sum ∙ r.rounds (suc more) ∙ to_next (suc more) comes
-          ∙ timings_more d limit more m (theory_of now) (omega arith) may ∙ sym (ap (timings d limit more m) is)
+          let sum : done + count + more ≡ done + (count + more) = omega arith in
+          ap (λ (n : ℕ). timings d limit n 0 (theory_of first)) sum ∙ r.rounds (count + more) ∙ to_next (count + more) comes
+          ∙ subst (λ (q : Plan). timings (design q) q.cycles (count + more) m (theory_of now)
+          ≡ timings (design q) q.cycles more m (theory_of next)) r.goes.plan (o.rounds more)
 
   -- where none comes next, the rounds are over
   module _ (none : AreUntimable now 0 (length now.plan.design.modules)) where
@@ -214,8 +253,8 @@ module _ {first now : CoreView} {before ticks at done : ℕ} (r : IsTimingRound 
         (subst (λ (q : Plan). next_timing (design q) q.cycles (theory_of now) at ≡ None) (sym r.goes.plan) none_next)
 
   -- something that was done is a turn less
-  pub went_on : {next : CoreView} {later m : ℕ} → TimesOne now ticks m next later → to_do next < to_do now
-  went_on {next} {later} {m} o =
+  pub went_on : {next : CoreView} {later m count : ℕ} → TimesSome now ticks m count next later → to_do next < to_do now
+  went_on {next} {later} {m} {count} o =
       let agreed = rounds.goes_agreed now next ticks later agreed_now fits_now o.goes.goes in
       let less = rounds.to_do_less now next ticks later o.goes agreed (subst FitsEngine (sym o.goes.goes.plan) fits_now) in
       omega arith

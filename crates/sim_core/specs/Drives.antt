@@ -1,5 +1,5 @@
 -- What rounds over the modules leave of a core.
-use Rattle.std.specs.Prelude.{◌≡◌, ℕ, suc, ◌+◌, ◌-◌, ◌*◌, ◌<◌, ◌⊎◌, List, [], ◌∷◌, length, slice_index_or, true, false}
+use Rattle.std.specs.Prelude.{◌≡◌, ℕ, suc, ◌+◌, ◌-◌, ◌*◌, ◌<◌, ◌⊎◌, Bool, List, [], ◌∷◌, length, slice_index_or, true, false}
 use Rattle.flow_design.specs.StaticRules.{FitsEngine}
 use Rattle.query_log.specs.declared.query.Query.{Query}
 use Rattle.outcome_guard.specs.declared.guard.Guard.{Guard}
@@ -31,6 +31,12 @@ pub record Goes (v : CoreView) (before : ℕ) (w : CoreView) (after : ℕ) : Typ
 pub record GoesOn (v : CoreView) (before : ℕ) (w : CoreView) (after : ℕ) : Type 0 where
   pub goes : Goes v before w after
   pub risen : work (design v.plan) (theory_of v) < work (design v.plan) (theory_of w)
+
+-- the visit did some actions
+abbrev pub has_acted : Visit → Bool
+has_acted (Acted again) = true
+has_acted (Differs q) = false
+has_acted Idle = false
 
 -- Assigns and Answers of module m lead from v to w, or none is permitted, or one finds a query with another outcome
 abbrev pub VisitLeads : Visit → CoreView → ℕ → ℕ → CoreView → ℕ → Type 0

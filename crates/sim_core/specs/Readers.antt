@@ -1,7 +1,7 @@
 -- The module that pops, or pushes, each channel.
 use Rattle.std.specs.Prelude.{◌≡◌, ℕ, ◌+◌, ◌<◌, Bool, cond, ◌&&◌, nat_eq, List, length, drop, slice_index}
 use Rattle.std.specs.List.{position_or_len}
-use Rattle.flow_word.specs.{declared.access.Port.Port, declared.access.Side.Side, declared.access.Side.TheVariants.Pop}
+use Rattle.flow_word.specs.{declared.access.Side.Side, declared.access.Side.TheVariants.Pop}
 use Rattle.flow_design.specs.{declared.design.Module.Module, declared.plan.Plan.Plan, StaticRules.uses, Operations.port_at}
 use Rattle.timing_bridge.specs.Designs.{design}
 

@@ -1,14 +1,18 @@
--- Runs of one module, one after the other.
-use Rattle.std.specs.Prelude.{◌≡◌, ℕ, ◌<◌, Bool, true, false, List, Option, None, Some, length, slice_index_or}
+-- Actions of one module, one after the other.
+use Rattle.std.specs.Prelude.{◌≡◌, ℕ, suc, ◌<◌, Bool, true, false, List, [], ◌∷◌, Option, None, Some, length, slice_index_or, ⊤}
 use Rattle.flow_word.specs.declared.access.Port.{Port}
 use Rattle.flow_design.specs.{declared.plan.Plan.Plan, declared.state.Advance.Advance}
 use Rattle.lockstep_defs.specs.Lockstep.{module_at}
 use Rattle.module_interp.specs.declared.run.ModuleRun.{ModuleRun}
-use Rattle.event_timing.specs.Actions.{ActsAll, runs}
+use Rattle.event_timing.specs.Actions.{Action, ActsAll, runs}
+use Rattle.event_timing.specs.Actions.Action.{Run, Assign, Answer, Earliest}
 use Rattle.timing_bridge.specs.Designs.{design}
-use Rattle.engine_view.specs.{declared.engine.Engine.Engine, Engines.held_in}
-use Rattle.sim_core.specs.{Opening.ports_to, Returned.core_in, Views.CoreView, Views.theory_of, declared.stretch.End.End}
-use Rattle.sim_core.specs.Runs.{HasBodiesWithin, IsCore, IsRunOf, lent_of, over_of}
+use Rattle.engine_view.specs.{declared.engine.Engine.Engine, declared.turn.Timing.Timing, Engines.held_in, Turns.IsDifferent, Turns.IsIdle}
+use Rattle.engine_view.specs.declared.turn.Timing.TheVariants.{Assigned, Answered}
+use Rattle.engine_view.specs.declared.turn.Timing.TheVariants as timing
+use Rattle.sim_core.specs.{Opening.ports_to, Returned.core_in, Views.CoreView, Views.theory_of, declared.stretch.End.End, Drives.GoesOn}
+use Rattle.sim_core.specs.{declared.visit.Visit.Visit, Runs.HasBodiesWithin, Runs.IsCore, Runs.IsRunOf, Runs.lent_of, Runs.over_of}
+use Rattle.sim_core.specs.declared.visit.Visit.TheVariants.{Acted, Differs, Idle}
 use Rattle.sim_core.specs.declared.stretch.End.TheVariants.{On, Still, Short}
 
 -- memory ran out
@@ -46,3 +50,53 @@ pub record HasDoneRuns (v : CoreView) (m count : ℕ) (w : CoreView) : Type 0 wh
   pub same : count ≡ 0 → w ≡ v
   pub plan : w.plan ≡ v.plan
   pub lent : w.lent ≡ v.lent
+
+-- ---- Assigns and Answers
+
+-- what contracts see of what is held of the plan
+abbrev pub view_in : Plan → Engine → List (Option Advance) → List (Option ModuleRun) → CoreView
+view_in p s ends runs = record { plan = p; held = held_in s (over_of ends); lent = lent_of runs }
+
+-- what is held is a core of the plan, which has module m and this limit
+pub record IsHeldOf (p : Plan) (s : Engine) (ends : List (Option Advance)) (runs : List (Option ModuleRun)) (m limit : ℕ)
+    : Type 0 where
+  pub core : IsCore p s ends runs
+  pub inside : m < length p.design.modules
+  pub limited : limit ≡ p.cycles
+
+-- each of the actions is an Assign or an Answer of module m; and how many are Answers
+abbrev pub AreTimingsOf : ℕ → List Action → Type 0
+AreTimingsOf m [] = ⊤
+AreTimingsOf m (Run n ∷ rest) = ⊥
+AreTimingsOf m (Assign n ∷ rest) = (n ≡ m) × AreTimingsOf m rest
+AreTimingsOf m (Answer n ∷ rest) = (n ≡ m) × AreTimingsOf m rest
+AreTimingsOf m (Earliest n ∷ rest) = ⊥
+
+abbrev pub answers_among : List Action → ℕ
+answers_among [] = 0
+answers_among (Run n ∷ rest) = answers_among rest
+answers_among (Assign n ∷ rest) = answers_among rest
+answers_among (Answer n ∷ rest) = suc (answers_among rest)
+answers_among (Earliest n ∷ rest) = answers_among rest
+
+-- some of them lead from v to w, and a counter rose by one for each Assign
+pub record TimesOn (v : CoreView) (before m answers : ℕ) (w : CoreView) (after : ℕ) : Type 0 where
+  pub on : GoesOn v before w after
+  pub are : AreTimingsOf m on.goes.actions
+  pub answered : answers_among on.goes.actions ≡ answers
+
+-- an Assign of module m leads from v to w; or an Answer, and the Assign of the same step; or nothing changed, since an outcome
+-- differs or neither is permitted
+abbrev pub HasTimedOnce : Timing → CoreView → ℕ → ℕ → CoreView → ℕ → Type 0
+HasTimedOnce (Assigned c) v before m w after = TimesOn v before m 0 w after
+HasTimedOnce (Answered c) v before m w after = TimesOn v before m 1 w after
+HasTimedOnce (timing.Differs q) v before m w after =
+    (w ≡ v) × (after ≡ before) × IsDifferent (design v.plan) v.plan.cycles v.held m q
+HasTimedOnce timing.Nothing v before m w after = (w ≡ v) × (after ≡ before) × IsIdle (design v.plan) v.plan.cycles (theory_of v) m
+
+-- so a stretch of them leads from v to w, with so many Answers
+abbrev pub StretchLeads : Visit → ℕ → CoreView → ℕ → ℕ → CoreView → ℕ → Type 0
+StretchLeads (Acted again) answers v before m w after = TimesOn v before m answers w after
+StretchLeads (Differs q) answers v before m w after =
+    (w ≡ v) × (after ≡ before) × IsDifferent (design v.plan) v.plan.cycles v.held m q
+StretchLeads Idle answers v before m w after = (w ≡ v) × (after ≡ before) × IsIdle (design v.plan) v.plan.cycles (theory_of v) m

@@ -2,21 +2,19 @@
 use Rattle.std.specs.Prelude.{◌≡◌, ℕ, ◌+◌, ◌<◌, ◌≤◌, ◌⊎◌, true, false, length, slice_index_or}
 use Rattle.flow_design.specs.StaticRules.{FitsEngine}
 use Rattle.event_timing.specs.{Actions.MayRun, Actions.IsDetermined, Agreement.IsAgreed, Agreement.AllVerified, Work.work}
-use Rattle.timing_bridge.specs.{Designs.design, Designs.lockstep_run, Rounds.may_time, Rounds.after_timing, Rounds.timings}
+use Rattle.timing_bridge.specs.{Designs.design, Designs.lockstep_run, Rounds.may_time, Rounds.timings}
 use Rattle.sim_core.specs.{Views.CoreView, Views.theory_of, Drives.Goes, Drives.GoesOn}
 
--- an Assign or an Answer of module m is permitted
-abbrev pub IsTimable : CoreView → ℕ → Type 0
-IsTimable v m = may_time (design v.plan) v.plan.cycles (theory_of v) m ≡ true
-
+-- no Assign and no Answer of module m is permitted
 abbrev pub IsUntimable : CoreView → ℕ → Type 0
 IsUntimable v m = may_time (design v.plan) v.plan.cycles (theory_of v) m ≡ false
 
--- the Assign or Answer of module m was permitted, and leads from v to w
-pub record TimesOne (v : CoreView) (before m : ℕ) (w : CoreView) (after : ℕ) : Type 0 where
-  pub may : IsTimable v m
-  pub is : theory_of w ≡ after_timing (design v.plan) v.plan.cycles (theory_of v) m
+-- some Assigns and Answers of module m, so many, lead from v to w, and are those of rounds that stand at module m
+pub record TimesSome (v : CoreView) (before m count : ℕ) (w : CoreView) (after : ℕ) : Type 0 where
   pub goes : GoesOn v before w after
+  pub rounds : (more : ℕ) → timings (design v.plan) v.plan.cycles (count + more) m (theory_of v)
+      ≡ timings (design v.plan) v.plan.cycles more m (theory_of w)
+  pub few : count + work (design v.plan) (theory_of v) ≤ work (design v.plan) (theory_of w)
 
 -- of none of the modules from this one on, below another, an Assign or an Answer is permitted
 abbrev pub AreUntimable : CoreView → ℕ → ℕ → Type 0

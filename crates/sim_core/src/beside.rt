@@ -1,14 +1,16 @@
 //! Which modules may be given a cycle or an answer, and which modules share a channel.
-ghost use Rattle.std.specs.Prelude.{◌≡◌, ◌≢◌, ◌<◌, ℕ, All, true, length, IfOk};
+ghost use Rattle.std.specs.Prelude.{◌≡◌, ◌≢◌, ◌<◌, ℕ, All, true, false, length, IfOk};
 ghost use Rattle.flow_design.specs.StaticRules.{FitsEngine};
 ghost use Rattle.flow_word.specs.{Kinds.other_side, declared.access.Side.TheVariants.Push};
-ghost use Rattle.module_sets.specs.Sets.{Has, HasMask, IsAdded, capacity};
+ghost use Rattle.module_sets.specs.Sets.{Has, HasMask, IsAdded, IsRemoved, capacity};
 ghost use Rattle.timing_bridge.specs.Designs.{design};
 ghost use Rattle.engine_view.specs.{Turns.is_progress, declared.turn.Timing.TheVariants.Nothing};
-ghost use Rattle.sim_core.specs.Asking.{Lacks, SetHasRoom, AreAcross, AreBeside};
-ghost use Rattle.sim_core.specs.{Waking.IsSpread, Waking.IsWoken, Opening.AreOwnPorts, Readers.AreReaders, Readers.AreUsers};
+ghost use Rattle.sim_core.specs.{Asking.Lacks, Asking.SetHasRoom, Asking.AreAcross, Asking.AreBeside, Drives.has_acted, Waking.IsSpread};
+ghost use Rattle.sim_core.specs.{Waking.IsWoken, Opening.AreOwnPorts, Readers.AreReaders, Readers.AreUsers};
 
 use crate::due::Due;
+use crate::timings::Timed;
+use crate::visit::Visit;
 use crate::wiring::ports_of;
 use engine_view::Timing;
 use flow_design::Plan;
@@ -125,6 +127,41 @@ pub(crate) fn wake_ran(due: &mut Due, beside: &[Mask], owner: u32, count: u32)
     }
     due.asking.add(owner);
     spread(&mut due.running, beside, owner);
+}
+
+/// Of which modules something may be permitted after a stretch of Assigns and Answers of this one: itself and those beside it, with those
+/// before. An Answer may let Runs of them go on.
+#[inline(always)]
+pub(crate) fn wake_timed(due: &mut Due, beside: &[Mask], owner: u32, timed: Timed)
+    ensures none { has_acted timed.visit ≡ false → due.new ≡ due.old }
+    ensures asking { has_acted timed.visit ≡ true → IsSpread due.old.asking beside.now owner due.new.asking }
+    ensures running { has_acted timed.visit ≡ true → 0 < timed.answers → IsSpread due.old.running beside.now owner due.new.running }
+    ensures no_answer { timed.answers ≡ 0 → due.new.running ≡ due.old.running }
+    ensures unlisted { due.new.unlisted ≡ due.old.unlisted }
+{
+    match timed.visit {
+        Visit::Acted { .. } => {
+            spread(&mut due.asking, beside, owner);
+            if timed.answers > 0 {
+                spread(&mut due.running, beside, owner);
+            }
+        }
+        Visit::Differs(_) | Visit::Idle => {}
+    }
+}
+
+/// Notes that a module, if it is `idle`, is not asking. Its candidate is then not listed.
+#[inline(always)]
+pub(crate) fn unask(due: &mut Due, owner: u32, idle: bool)
+    ensures none { idle ≡ false → due.new ≡ due.old }
+    ensures asking { idle ≡ true → IsRemoved due.old.asking owner due.new.asking }
+    ensures running { due.new.running ≡ due.old.running }
+    ensures unlisted { idle ≡ true → IsAdded due.old.unlisted owner due.new.unlisted }
+{
+    if idle {
+        due.asking.remove(owner);
+        due.unlisted.add(owner);
+    }
 }
 
 /// Adds a module to a set, with those beside it.

@@ -92,8 +92,7 @@ impl Core {
         if let Some(owner) = self.next_hinted(cursor) {
             return Some(Next { owner, from });
         }
-        // The core agrees with its plan.
-        let _count = self.modules();
+        self.agrees();
         let owner = self.next_due(from)?;
         Some(Next {
             owner,

@@ -22,6 +22,7 @@ mod running;
 mod spans;
 mod stretch;
 mod timing;
+mod timings;
 mod turn;
 mod unread;
 mod visit;

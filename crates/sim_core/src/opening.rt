@@ -5,8 +5,7 @@ ghost use Rattle.event_timing.specs.{Core.opening_core, Agreement.AllVerified};
 ghost use Rattle.timing_bridge.specs.Designs.{design};
 ghost use Rattle.lockstep_defs.specs.OwnRun.{Own};
 ghost use Rattle.module_interp.specs.{OwnRests.first_rest, Runs.StandsAt, Runs.waits};
-ghost use Rattle.sim_core.specs.Opening.{kind_in, kinds_of, AreFirstRuns, AreOlderRuns};
-ghost use Rattle.sim_core.specs.Views.{theory_of};
+ghost use Rattle.sim_core.specs.{Opening.kind_in, Opening.kinds_of, Opening.AreFirstRuns, Opening.AreOlderRuns, Views.theory_of};
 
 use crate::due::Due;
 use crate::machine::{Core, Scratch};

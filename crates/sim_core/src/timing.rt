@@ -4,17 +4,25 @@ ghost use Rattle.event_timing.specs.{Actions.IsDetermined, Actions.IsFinal, Acti
 ghost use Rattle.timing_bridge.specs.{Designs.design, Rounds.earliest_of, Rounds.timings, Turns.NoTiming};
 ghost use Rattle.module_sets.specs.Sets.{Has, capacity};
 ghost use Rattle.sim_core.specs.{Views.theory_of, Drives.Goes};
-ghost use Rattle.sim_core.specs.Timings.{TimesOne, IsUntimable, AreUntimable, AreUnrunnable, IsNextFrom, IsReady};
+ghost use Rattle.sim_core.specs.Timings.{TimesSome, IsUntimable, AreUntimable, AreUnrunnable, IsNextFrom, IsReady};
 
 use crate::due::first_below;
 use crate::machine::Core;
-use engine_view::Timing;
 use event_graph::Candidate;
 use flow_word::Steps;
 use module_sets::ModuleSet;
 use outcome_guard::Guard;
 use std::sync::ledger::Ledger;
 use time_engine::candidate;
+
+/// Assigns and Answers of a module, one after the other.
+#[derive(Clone, Copy, Debug, PartialEq, Eq)]
+struct Batch {
+    /// The module.
+    owner: u32,
+    /// How many they were.
+    count: u64,
+}
 
 impl Core {
     /// Does each permitted Assign and Answer, and answers how many they were. It goes over the modules in order, round after round,
@@ -30,46 +38,45 @@ impl Core {
         self.agrees();
         let mut at = 0;
         let mut done = 0;
-        while let Some(owner) = self.time_next(at, steps) {
-            at = owner;
-            done += 1;
+        while let Some(batch) = self.time_next(at, steps) {
+            at = batch.owner;
+            done += batch.count;
         }
         done
     }
 
-    /// Does an Assign or Answer of the first module of which one is permitted, from this one on, and then from the first one on.
-    /// Returns the module.
-    fn time_next<L: Ledger>(&mut self, at: u32, steps: &mut Steps<L>) -> Option<u32>
+    /// Does Assigns and Answers of the first module of which one is permitted, from this one on, and then from the first one on.
+    fn time_next<L: Ledger>(&mut self, at: u32, steps: &mut Steps<L>) -> Option<Batch>
         requires at { at ≤ length self.old.plan.design.modules }
         requires verified { AllVerified (theory_of self.old) }
-        ensures done { IfSome result (λ m. TimesOne self.old steps.old m self.new steps.new) }
-        ensures first { IfSome result (λ m. IsNextFrom self.old at m) }
+        ensures done { IfSome result (λ batch. TimesSome self.old steps.old batch.owner batch.count self.new steps.new) }
+        ensures first { IfSome result (λ batch. IsNextFrom self.old at batch.owner) }
         ensures none { IsNone result → AreUntimable self.old 0 (length self.old.plan.design.modules) }
         ensures unchanged { IsNone result → (self.new ≡ self.old) × (steps.new ≡ steps.old) }
     {
         let count = self.modules();
         match self.time_from(at, count, steps) {
-            Some(owner) => Some(owner),
+            Some(batch) => Some(batch),
             None => self.time_from(0, at, steps),
         }
     }
 
-    /// Does an Assign or Answer of the first module of which one is permitted, from this one on and below another. Returns the
-    /// module.
-    fn time_from<L: Ledger>(&mut self, from: u32, to: u32, steps: &mut Steps<L>) -> Option<u32>
+    /// Does Assigns and Answers of the first module of which one is permitted, from this one on and below another.
+    fn time_from<L: Ledger>(&mut self, from: u32, to: u32, steps: &mut Steps<L>) -> Option<Batch>
         requires to { to ≤ length self.old.plan.design.modules }
         requires verified { AllVerified (theory_of self.old) }
-        ensures done { IfSome result (λ m. TimesOne self.old steps.old m self.new steps.new) }
-        ensures behind { IfSome result (λ m. from ≤ m) }
-        ensures below { IfSome result (λ m. m < to) }
-        ensures first { IfSome result (λ m. AreUntimable self.old from m) }
+        ensures done { IfSome result (λ batch. TimesSome self.old steps.old batch.owner batch.count self.new steps.new) }
+        ensures behind { IfSome result (λ batch. from ≤ batch.owner) }
+        ensures below { IfSome result (λ batch. batch.owner < to) }
+        ensures first { IfSome result (λ batch. AreUntimable self.old from batch.owner) }
         ensures none { IsNone result → AreUntimable self.old from to }
         ensures unchanged { IsNone result → (self.new ≡ self.old) × (steps.new ≡ steps.old) }
     {
         let mut at = from;
         while let Some(owner) = self.next_asking(at, to) {
-            if self.time_one(owner, steps) {
-                return Some(owner);
+            let count = self.time_some(owner, steps);
+            if count > 0 {
+                return Some(Batch { owner, count });
             }
             at = owner + 1;
         }
@@ -87,19 +94,18 @@ impl Core {
         first_below(&self.due.asking, from, to)
     }
 
-    /// Does one Assign or Answer of a module, if one is permitted. Returns whether one was done.
-    fn time_one<L: Ledger>(&mut self, owner: u32, steps: &mut Steps<L>) -> bool
+    /// Does Assigns and Answers of a module as long as they are permitted. Returns how many were done. After some billions of cycles it
+    /// stops, though more may be permitted.
+    fn time_some<L: Ledger>(&mut self, owner: u32, steps: &mut Steps<L>) -> u64
         requires owner { owner < length self.old.plan.design.modules }
         requires verified { AllVerified (theory_of self.old) }
-        ensures done { result ≡ true → TimesOne self.old steps.old owner self.new steps.new }
-        ensures none { result ≡ false → IsUntimable self.old owner }
-        ensures unchanged { result ≡ false → (self.new ≡ self.old) × (steps.new ≡ steps.old) }
+        ensures done { 0 < result → TimesSome self.old steps.old owner result self.new steps.new }
+        ensures none { result ≡ 0 → IsUntimable self.old owner }
+        ensures unchanged { result ≡ 0 → (self.new ≡ self.old) × (steps.new ≡ steps.old) }
     {
         self.agrees();
-        match self.time(owner, steps) {
-            Timing::Assigned(_) | Timing::Answered(_) => true,
-            Timing::Differs(_) | Timing::Nothing => false,
-        }
+        let timed = self.time_stretch(owner, u32::MAX, steps);
+        timed.cycles as u64 + timed.answers as u64
     }
 
     /// Does the Earliest of the first module with the least cycle, if one is permitted: no Run is permitted, and a step is open.

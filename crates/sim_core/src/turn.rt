@@ -2,15 +2,16 @@
 ghost use Rattle.std.specs.Prelude.{◌≡◌, ◌+◌, ◌<◌, ◌≤◌, ℕ, length, slice_index_or, IfSome, Some};
 ghost use Rattle.event_graph.specs.Lanes.{cycle_bound};
 ghost use Rattle.time_engine.specs.Conditions.{HasAccesses, HasPlaces};
-ghost use Rattle.event_timing.specs.Actions.{IsQuiet, MayAssign, MayEarliest};
+ghost use Rattle.event_timing.specs.Actions.{IsQuiet, MayEarliest};
 ghost use Rattle.engine_view.specs.Turns.{ticks_of};
 ghost use Rattle.timing_bridge.specs.Designs.{design};
-ghost use Rattle.sim_core.specs.{Views.theory_of, Turns.HasTurned, Turns.HasAnsweredLeast, Turns.IsFirstEarliest};
+ghost use Rattle.sim_core.specs.{Views.theory_of, Stretches.StretchLeads, Turns.HasTurned, Turns.HasAnsweredLeast, Turns.IsFirstEarliest};
 ghost use Rattle.sim_core.specs.Candidates.{AreCandidates, IsCandidate, IsListed};
 
-use crate::beside::{ask_after, spread, wake_after};
+use crate::beside::{ask_after, spread, unask, wake_after, wake_timed};
 use crate::due::Due;
 use crate::machine::Core;
+use crate::timings::{Timed, time_many};
 use engine_view::Timing;
 use event_graph::{Candidate, Graph};
 use fifo_table::FifoTable;
@@ -44,25 +45,26 @@ impl Core {
         timing
     }
 
-    /// Does a module's Assign, which must be permitted, with this cycle. It takes no memory.
-    #[inline(never)]
-    pub(crate) fn assign<L: Ledger>(&mut self, owner: u32, cycle: u64, steps: &mut Steps<L>)
+    /// Does Assigns and Answers of a module as long as they are permitted, until so many steps got a cycle. It takes no memory.
+    #[inline(always)]
+    pub(crate) fn time_stretch<L: Ledger>(
+        &mut self,
+        owner: u32,
+        most: u32,
+        steps: &mut Steps<L>,
+    ) -> Timed
         requires owner { owner < length self.old.plan.design.modules }
-        requires may { MayAssign (design self.old.plan) self.old.plan.cycles (theory_of self.old) owner cycle }
-        ensures done { HasTurned (Timing.Assigned cycle) self.old owner self.new }
-        ensures plan { self.new.plan ≡ self.old.plan }
-        ensures lent { self.new.lent ≡ self.old.lent }
-        ensures ticks { steps.new ≡ steps.old + 1 }
+        requires some { 0 < most }
+        ensures leads { StretchLeads result.visit result.answers self.old steps.old owner self.new steps.new }
+        ensures ticks { steps.new ≡ steps.old + result.cycles }
+        ensures answers { result.answers ≤ result.cycles }
     {
-        self.engine.assign_first(owner, cycle, steps);
+        let limit = self.plan.cycles;
+        let timed = time_many(&mut self.engine, owner, limit, most, steps);
         let beside = self.wiring.hints.beside(owner);
-        ask_after(
-            &mut self.due.asking,
-            &mut self.due.unlisted,
-            beside,
-            owner,
-            &Timing::Assigned(cycle),
-        );
+        wake_timed(&mut self.due, beside, owner, timed);
+        unask(&mut self.due, owner, timed.idle);
+        timed
     }
 
     /// Does the Earliest of the first module with the least cycle, and answers that module and what was found. `None` where no step

@@ -6,13 +6,12 @@ ghost use Rattle.sim_core.specs.{Views.theory_of, Drives.Goes, Drives.GoesOn, Dr
 
 use crate::machine::Core;
 use crate::stretch::End;
-use engine_view::Timing;
 use flow_word::{OutOfMemory, Steps};
 use outcome_guard::Query;
 use std::sync::ledger::Ledger;
 
-/// The most actions of a stretch of Runs, or of other actions: so few that a module's steps were made shortly before they get their
-/// cycles.
+/// The most Runs of a stretch, or the most steps to which a stretch gives cycles: so few that a module's steps were made shortly before
+/// they get their cycles.
 const STRETCH: u32 = 64;
 
 /// What a visit did at a module.
@@ -66,8 +65,7 @@ impl Core {
         ensures no_memory { OnErr result (Goes self.old steps.old self.new steps.new) }
         ensures permitted { OnErr result (MayRun (design self.new.plan) (theory_of self.new) owner) }
     {
-        // The core agrees with its plan.
-        let _count = self.modules();
+        self.agrees();
         if !self.due.running.has(owner) {
             return Ok(None);
         }
@@ -129,8 +127,7 @@ impl Core {
         ensures no_memory { OnErr result ((n : ℕ) → Goes self.old n self.new n) }
         ensures permitted { OnErr result (MayRun (design self.new.plan) (theory_of self.new) owner) }
     {
-        // The core agrees with its plan.
-        let _count = self.modules();
+        self.agrees();
         let ran = self.run_up_to(owner, STRETCH);
         if ran.end.is_short() {
             return Err(OutOfMemory);
@@ -146,49 +143,9 @@ impl Core {
         requires { owner < length self.old.plan.design.modules }
         ensures { VisitLeads result self.old steps.old owner self.new steps.new }
     {
-        let mut again = match self.time_once(owner, steps) {
-            Visit::Acted { again: first } => first,
-            other => return other,
-        };
-        for _ in 1..STRETCH {
-            if self.is_timed(owner) {
-                return Visit::Acted { again };
-            }
-            match self.time_once(owner, steps) {
-                Visit::Acted { again: more } => again |= more,
-                Visit::Differs(_) | Visit::Idle => return Visit::Acted { again },
-            }
-        }
-        Visit::Acted { again: true }
-    }
-
-    /// Whether each step of a module has a cycle.
-    #[inline(always)]
-    fn is_timed(&self, owner: u32) -> bool
-        requires { owner < length self.now.plan.design.modules }
-    {
-        self.engine.graph.frontier(owner) == self.engine.graph.len(owner)
-    }
-
-    /// Does one Assign or Answer of a module, if one is permitted. After an Answer it does the Assign of the same step too.
-    #[inline(always)]
-    fn time_once<L: Ledger>(&mut self, owner: u32, steps: &mut Steps<L>) -> Visit
-        requires { owner < length self.old.plan.design.modules }
-        ensures { VisitLeads result self.old steps.old owner self.new steps.new }
-    {
-        // This brings in what a core always keeps: it agrees with its plan.
-        let _count = self.modules();
         if !self.due.asking.has(owner) {
             return Visit::Idle;
         }
-        match self.time(owner, steps) {
-            Timing::Assigned(_) => Visit::Acted { again: false },
-            Timing::Answered(cycle) => {
-                self.assign(owner, cycle, steps);
-                Visit::Acted { again: true }
-            }
-            Timing::Differs(query) => Visit::Differs(query),
-            Timing::Nothing => Visit::Idle,
-        }
+        self.time_stretch(owner, STRETCH, steps).visit
     }
 }

@@ -1,4 +1,4 @@
-use Rattle.std.proofs.Common.{◌≡◌, ℕ, ◌<◌, ◌≤◌, List, Option, None, Some, length, arith}
+use Rattle.std.proofs.Common.{ℕ, ◌<◌, ◌≤◌, List, Option, None, Some, length, arith}
 use Rattle.std.specs.Prelude.{IfSome}
 use Rattle.engine_view.specs.Engines.{held_in}
 use Rattle.sim_core.specs.{Asking.Lacks, Asking.AreAsking, Runs.lent_of, Runs.over_of, Timings.AreUntimable}

@@ -10,4 +10,4 @@ returns-then-is_short-clause-permitted c = c.run_up_to-ran.ensures.more (sym c.i
 
 pub returns-clause-some : goal.returns-clause-some
 returns-clause-some c =
-    stretching.ran_on c.run_up_to-ran.ensures.ran c.modules-count.ensures.fits c.modules-count.ensures.agreed (omega arith)
+    stretching.ran_on c.run_up_to-ran.ensures.ran c.agrees.ensures.fits c.agrees.ensures.agreed (omega arith)

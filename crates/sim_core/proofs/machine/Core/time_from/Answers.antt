@@ -1,15 +1,15 @@
-use Rattle.std.proofs.Common.{refl, subst, ◌∙◌, ◌≤◌, ◌+◌, arith}
+use Rattle.std.proofs.Common.{◌≡◌, refl, subst, ◌≤◌, ◌+◌, arith}
 use Rattle.sim_core.specs.{Timings.AreUntimable, Views.CoreView}
 use Rattle.sim_core.proofs.TimingRounds.{untimable_more, untimable_on}
 use Rattle.sim_core.proofs.machine.Core.time_from.Goals as goal
 
-pub returns-then-time_one-clause-done : goal.returns-then-time_one-clause-done
-returns-then-time_one-clause-done g c =
+pub returns-then-count-gt0-clause-done : goal.returns-then-count-gt0-clause-done
+returns-then-count-gt0-clause-done g c =
     let i = c.loop-owner.invariant in
-    rw (← i.same, ← i.ticks) (c.time_one.ensures.done c.if-time_one.true)
+    rw (← i.same, ← i.ticks) (c.time_some-count.ensures.done (let some = c.if-count-gt0.true in omega arith))
 
-pub returns-then-time_one-clause-first : goal.returns-then-time_one-clause-first
-returns-then-time_one-clause-first g c =
+pub returns-then-count-gt0-clause-first : goal.returns-then-count-gt0-clause-first
+returns-then-count-gt0-clause-first g c =
     let i = c.loop-owner.invariant in
     subst (λ (v : CoreView). AreUntimable v c.args.from c.in-Some.owner) i.same
     (untimable_on c.loop-owner.self c.args.from c.loop-owner.at c.in-Some.owner i.none c.in-Some.ensures.before)
@@ -17,7 +17,8 @@ returns-then-time_one-clause-first g c =
 pub loop-owner-preserved : goal.loop-owner-preserved
 loop-owner-preserved g c =
     let i = c.loop-owner.invariant in
-    let (same, ticks) = c.time_one.ensures.unchanged c.if-time_one.false in
+    let none : c.time_some-count.result ≡ 0 = let z = c.if-count-gt0.false in omega arith in
+    let (same, ticks) = c.time_some-count.ensures.unchanged none in
     let behind = c.in-Some.ensures.behind in
     let before = i.behind in
     rw (same, ticks) (record {
@@ -25,7 +26,7 @@ loop-owner-preserved g c =
       ticks = i.ticks;
       none = untimable_on c.loop-owner.self c.args.from c.loop-owner.at (c.in-Some.owner + 1) i.none
           (untimable_more c.loop-owner.self c.loop-owner.at c.in-Some.owner c.in-Some.ensures.before
-          (c.time_one.ensures.none c.if-time_one.false));
+          (c.time_some-count.ensures.none none));
       behind = let l : c.args.from ≤ c.in-Some.owner + 1 = omega arith in l;
     })
 

@@ -1,0 +1,21 @@
+use Rattle.std.specs.Prelude.{◌≡◌, ◌≤◌, ◌<◌, ◌+◌, ◌-◌, List, Option}
+use Rattle.flow_design.specs.{declared.plan.Plan.Plan, declared.state.Advance.Advance}
+use Rattle.module_interp.specs.declared.run.ModuleRun.{ModuleRun}
+use Rattle.sim_core.specs.Stretches.{IsHeldOf, TimesOn, view_in}
+use Rattle.sim_core.proofs.timings.time_many.Given as goal
+
+abbrev pub invariant-loop-cycles : goal.invariant-loop-cycles
+invariant-loop-cycles g l = record {
+  held : (p : Plan) (ends : List (Option Advance)) (runs : List (Option ModuleRun)) → IsHeldOf p l.fn.engine ends runs l.owner l.limit
+      → IsHeldOf p l.engine ends runs l.owner l.limit;
+  none : l.cycles ≡ 0 → l.engine ≡ l.fn.engine;
+  some : 0 < l.cycles → (p : Plan) (ends : List (Option Advance)) (runs : List (Option ModuleRun))
+      → IsHeldOf p l.fn.engine ends runs l.owner l.limit
+      → TimesOn (view_in p l.fn.engine ends runs) l.fn.steps l.owner l.answers (view_in p l.engine ends runs) l.steps;
+  ticks : l.steps ≡ l.fn.steps + l.cycles;
+  few : l.answers ≤ l.cycles;
+  most : l.cycles ≤ l.most;
+}
+
+abbrev pub decreases-loop-cycles : goal.decreases-loop-cycles
+decreases-loop-cycles g l = l.most - l.cycles

@@ -42,8 +42,8 @@ IsStateSettled (state.Plan p) = ⊥
 abbrev pub count_in : State → ℕ → RunCount
 count_in s runs = run_count (recorded_by s) runs
 
-abbrev pub session_of : State → ℕ → Bool → Session
-session_of s runs live = record { plan = plan_in s; count = count_in s runs; live = live }
+abbrev pub session_with : State → ℕ → Bool → Session
+session_with s runs live = record { plan = plan_in s; count = count_in s runs; live = live }
 
 -- a Run of some module is permitted
 abbrev pub MayRunSome : CoreView → Type 0

@@ -48,13 +48,13 @@ impl Model for DepthSession {
     ghost use Rattle.std.specs.Coded.{codes};
     ghost use Rattle.flow_design.specs.Codes.{plan_code};
     ghost use Rattle.depth_session.specs.Sessions.{Session};
-    ghost use Rattle.depth_session.specs.Settled.{IsStateSettled, session_of};
+    ghost use Rattle.depth_session.specs.Settled.{IsStateSettled, session_with};
 
     ghost Value = { Session };
 
     ghost coded = { Prim.hlevel (codes, plan_code) };
 
-    ghost view = { λ s. session_of s.state s.runs s.live };
+    ghost view = { λ s. session_with s.state s.runs s.live };
 
     ghost invariant = { λ s. s.live ≡ true → IsStateSettled s.state };
 }

@@ -16,7 +16,7 @@ use Rattle.time_engine.specs.Cycles.{open_step, determined}
 use Rattle.event_timing.specs.{Machines.ready, Views.own, Views.from, Enablers.candidate, Agreement.stop}
 use Rattle.event_timing.specs.Core.{Core, core_reply, view}
 use Rattle.timing_bridge.specs.{Designs.design, OwnRuns.clocks_of_steps}
-use Rattle.timing_bridge.specs.CoreReports.{core_state, core_states, determines_some, core_verdict, modules_of}
+use Rattle.timing_bridge.specs.CoreReports.{core_state, core_verdict, modules_of}
 use Rattle.timing_bridge.specs.CoreReports as theory
 use Rattle.timing_bridge.proofs.History.{plan_is_design}
 use Rattle.engine_view.specs.Held.{Held, step_of, no_step, emitted_of, waited, core_of}

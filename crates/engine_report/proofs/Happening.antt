@@ -2,7 +2,7 @@
 use Rattle.std.proofs.Common.{◌≡◌, refl, subst, ◌∙◌, ℕ, ◌<◌, List, [], ◌∷◌, map, length, drop, arith}
 use Rattle.std.proofs.{lemmas.List.Elements.All-head, lemmas.List.Elements.All-tail, lemmas.List.Sorted.All-permutation}
 use Rattle.std.specs.{Prelude.All, Prelude.IsPermutation, List.range_with_len, List.flat_map}
-use Rattle.flow_word.specs.{declared.access.Access.Access, declared.access.Kind.Kind}
+use Rattle.flow_word.specs.declared.access.Access.{Access}
 use Rattle.flow_design.specs.{declared.plan.Plan.Plan, declared.state.Reply.Reply, declared.state.Request.Request}
 use Rattle.flow_design.specs.declared.report.EventLine.{EventLine}
 use Rattle.lockstep_defs.specs.{Channels.HistoryStep, Lockstep.requests_of, OwnRun.paired, Report.events_of}
@@ -17,9 +17,6 @@ use Rattle.engine_report.specs.Read.{event_line, events_at, numbered_places, tim
 use Rattle.engine_report.proofs.{Loops.all_mapped, Loops.all_given, Asking.same_kind, Asking.same_channel}
 
 -- ---- one step
-
-abbrev event_with : ℕ → ℕ → Kind → ℕ → EventLine
-event_with i cycle kind channel = record { «module» = i; kind = kind; channel = channel; cycle = cycle }
 
 told_events : (s : HistoryStep) (rs : List Request) (xs : List Access) (ys : List Reply) → map bridge.seen_request rs ≡ map seen xs
     → map (machine.event_of s) (paired rs ys) ≡ map (event_line s.module s.clock) xs

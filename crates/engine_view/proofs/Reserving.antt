@@ -1,8 +1,8 @@
 -- The loop that makes room at a module's ports.
-use Rattle.std.proofs.Common.{◌≡◌, refl, ◌∙◌, ℕ, ◌+◌, ◌<◌, ◌≤◌, List, length, take, arith}
+use Rattle.std.proofs.Common.{◌≡◌, refl, ◌∙◌, ℕ, ◌+◌, ◌<◌, ◌≤◌, List, length, take, Some, arith}
 use Rattle.std.proofs.{lemmas.List.take_more, lemmas.List.take_all, Math.ListN.get_or}
 use Rattle.std.proofs.lemmas.List.Elements.{All-push, All-weaker}
-use Rattle.std.specs.Prelude.{All}
+use Rattle.std.specs.Prelude.{All, slice_get}
 use Rattle.flow_word.specs.{declared.access.Port.Port, declared.access.Side.Side}
 use Rattle.fifo_table.specs.Roomed.{RoomedChannels}
 use Rattle.engine_view.specs.Rooms.{room_of}
@@ -39,3 +39,11 @@ pub reserves_all : (places : ℕ) (ports : List Port) (old now : RoomedChannels)
     → length ports ≤ index
     → All (IsRoomyPort places now) ports
 reserves_all places ports old now index r all = let room = r.room in rw (take_all index ports all) at room
+
+-- ---- as many places at each port as are told of it
+
+-- so much room is at the ports before this index
+pub record ReservesEachOn (ports : List Port) (places : List ℕ) (old now : RoomedChannels) (index : ℕ) : Type 0 where
+  pub channels : now.channels ≡ old.channels
+  pub kept : (side : Side) (c : ℕ) → room_of old side c ≤ room_of now side c
+  pub room : (i : ℕ) (port : Port) → i < index → slice_get ports i ≡ Some port → IsRoomyPort (get_or places i 0) now port

@@ -1,7 +1,8 @@
 -- Room stays while modules act.
-use Rattle.std.proofs.Common.{◌≡◌, refl, sym, ap, subst, ◌∙◌, ℕ, zero, suc, ◌+◌, ◌-◌, ◌*◌, ◌<◌, ◌≤◌, Bool, true, false, List, [], ◌∷◌}
-use Rattle.std.proofs.Common.{length, map, get_or, set, arith}
-use Rattle.std.proofs.{lemmas.Bool.Decides.nat_tests, lemmas.List.get_or-set_same, lemmas.List.get_or-set_other, lemmas.Bool.cond-false}
+use Rattle.std.proofs.Common.{◌≡◌, refl, sym, ap, subst, ◌∙◌, ℕ, zero, suc, ◌+◌, ◌-◌, ◌*◌, ◌<◌, ◌≤◌, inl, inr, Bool, true, false, List, []}
+use Rattle.std.proofs.Common.{◌∷◌, length, map, get_or, set, arith}
+use Rattle.std.proofs.{lemmas.Bool.Decides.nat_tests, lemmas.Bool.cond-false, lemmas.Bool.cases_lt}
+use Rattle.std.proofs.lemmas.List.{get_or-set_same, get_or-set_other}
 use Rattle.std.specs.Prelude.{All}
 use Rattle.flow_word.specs.{Kinds.side_of, Kinds.same_side, declared.access.Side.Side, declared.access.Step.Step}
 use Rattle.flow_word.specs.declared.access.Access.{Access}
@@ -47,6 +48,15 @@ apart_of (a ∷ xs) f = (
   apart_of xs (λ side c. let l = f side c in omega arith),
 )
 
+-- what takes at most once a port uses at most as much room there as it takes
+pub used_taken : {m : ℕ} {xs : List Access} {lanes lanes' : List ℕ} {table table' : RoomedChannels}
+    → UsesRoom m xs lanes lanes' table table' → (side : Side) (c : ℕ)
+    → room_of table side c ≤ room_of table' side c + takers side c (map seen xs)
+used_taken {m} {xs} {lanes} {lanes'} {table} {table'} used side c = elim (cases_lt 0 (takers side c (map seen xs))) [
+  | inl l ↦ let one = used.one side c in omega arith
+  | inr l ↦ let others = used.others side c (λ j e inside k. let some = some_taker side c xs j e inside k in omega arith) in omega arith
+]
+
 -- what holds of each access as the theory sees it holds of the one of this number
 pub each_at : (P : theory.Access → Type 0) (xs : List Access) → Each P (map seen xs) → (j : ℕ) (e : Access) → j < length xs
     → P (seen (get_or xs j e))
@@ -70,6 +80,12 @@ room_for {S} d h lanes table logs credits r m xs some inside owned j e l t =
     let own = each_at (λ a. d.owner a.side a.channel ≡ m) xs owned j e l in
     let room = rw own at (r.ends (side_of a.kind) a.channel k.channel) in
     omega arith
+
+-- at each of module m's ports there is room for what these accesses take, for what they may take later, and for the credit that is
+-- left behind their step
+abbrev pub IsEnoughFor : {S : Type 0} → Design S → Held → ℕ → List Access → RoomedChannels → List ℕ → Type 0
+IsEnoughFor {S} d h m xs table credits = (side : Side) (c : ℕ) → c < length h.channels → d.owner side c ≡ m
+    → (get_or credits m 0 - 2) + 1 + takers side c (map seen xs) ≤ room_of table side c
 
 -- the places at a side of a channel are of its owner
 pub own_for : {S : Type 0} → (d : Design S) (h : Held) → IsSound d h → (m : ℕ) (xs : List Access) → All (IsAccess h.channels) xs
@@ -108,16 +124,30 @@ module _ {S : Type 0} (d : Design S) (i : IsDesign d) (h : Held) (m : ℕ) (t : 
   pub owned_next : Each (λ a. d.owner a.side a.channel ≡ m) (map seen t.accesses)
   owned_next = subst (Each (λ a. d.owner a.side a.channel ≡ m)) next.accesses (i.owned m (ready d m (newest d (core_of d h) m)))
 
+  once_next : (side : Side) (c : ℕ) → takers side c (map seen t.accesses) ≤ 1
+  once_next side c = subst (λ (xs : List theory.Access). takers side c xs ≤ 1) next.accesses
+      (i.single side m (ready d m (newest d (core_of d h) m)) c)
+
   pub apart_next : TakeOncePerPort t.accesses
-  apart_next = apart_of t.accesses (λ side c. subst (λ (xs : List theory.Access). takers side c xs ≤ 1) next.accesses
-      (i.single side m (ready d m (newest d (core_of d h) m)) c))
+  apart_next = apart_of t.accesses once_next
 
   pub own_next : IsSound d h → StandAtOwn m h.channels t.accesses
   own_next s = own_for d h s m t.accesses next.inside owned_next
 
-  pub room_for_next : (lanes : List ℕ) (table : RoomedChannels) (logs credits : List ℕ) → HasRoom d h lanes table logs credits
-      → 0 < get_or credits m 0 + pending (core_of d h) m → HasRoomFor table t.accesses
-  room_for_next lanes table logs credits r some = room_for d h lanes table logs credits r m t.accesses some next.inside owned_next
+  pub room_for_next : (table : RoomedChannels) (credits : List ℕ) → IsEnoughFor d h m t.accesses table credits
+      → HasRoomFor table t.accesses
+  room_for_next table credits enough j e l k =
+      let a = get_or t.accesses j e in
+      let own = each_at (λ a. d.owner a.side a.channel ≡ m) t.accesses owned_next j e l in
+      let room = enough (side_of a.kind) a.channel (next.inside j e l).channel own in
+      let some = some_taker (side_of a.kind) a.channel t.accesses j e l (record { taking = k; same_side = refl; same_channel = refl }) in
+      omega arith
+
+  -- where the credit suffices for one step, there is enough
+  pub rich_next : {lanes : List ℕ} {table : RoomedChannels} {logs credits : List ℕ} → HasRoom d h lanes table logs credits
+      → 2 ≤ get_or credits m 0 → IsEnoughFor d h m t.accesses table credits
+  rich_next {lanes} {table} {logs} {credits} r rich side c l own =
+      let room = rw own at (r.ends side c l) in let once = once_next side c in omega arith
 
 module _ {S : Type 0} (d : Design S) (i : IsDesign d) (h : Held) (m : ℕ) (t : Step) (inside : m < length h.lanes) (s : IsSound d h)
     (next : IsNextStep d h m t)
@@ -153,11 +183,11 @@ module _ {S : Type 0} (d : Design S) (i : IsDesign d) (h : Held) (m : ℕ) (t : 
   queries_else n f = rw (emitted_else n f) (queries_same d i h m t inside n (emitted_of h n) (omega arith))
 
   pub room_emitted : (lanes lanes' : List ℕ) (table table' : RoomedChannels) (logs credits : List ℕ) → HasRoom d h lanes table logs credits
-      → m < length credits → 2 ≤ get_or credits m 0
+      → m < length credits → IsEnoughFor d h m t.accesses table credits
       → UsesRoom m t.accesses lanes lanes' table table' → queries_in t.accesses ≤ get_or logs m 0
       → t.first_query + queries_in t.accesses < query_bound
       → HasRoom d g lanes' table' logs (set credits m (get_or credits m 0 - 2))
-  room_emitted lanes lanes' table table' logs credits old known rich used log_room few =
+  room_emitted lanes lanes' table table' logs credits old known enough used log_room few =
       let mine = get_or-set_same credits m (get_or credits m 0 - 2) 0 known in
       let rest = λ (n : ℕ). get_or-set_other credits m n (get_or credits m 0 - 2) 0 in
       let first = next.first_query in
@@ -183,7 +213,8 @@ module _ {S : Type 0} (d : Design S) (i : IsDesign d) (h : Held) (m : ℕ) (t : 
           let mine = get_or-set_same credits m (get_or credits m 0 - 2) 0 known in
           let rest = get_or-set_other credits m (d.owner side c) (get_or credits m 0 - 2) 0 in
           let most = pending_most (core_of d g) (d.owner side c) in
-          let less = used.one side c in
+          let less = used_taken used side c in
+          let room = enough side c l in
           let still = pending_other (d.owner side c) in
           let kept = used.others side c in
           let free = free_side d m t.accesses (owned_next d i h m t next) side c in

@@ -111,10 +111,9 @@ pub record CanEmit (e : Engine) (m : ℕ) (step : Step) : Type 0 where
   pub after : 0 < length (lane_at e.graph.lanes m).steps → 1 ≤ step.gap
   pub takes : CanTake m e.fifos step.accesses
   pub lane_room : 0 < slice_index e.graph.rooms m
-  pub credit : 2 ≤ slice_index e.credits.items m
   pub few : step.first_query < query_bound
 
--- the step was emitted, with the pushes and pops of its blocking accesses, and used two of module m's credit
+-- the step was emitted, with the pushes and pops of its blocking accesses, and used two of module m's credit, or what was left of it
 pub record HasEmitted (e : Engine) (m : ℕ) (step : Step) (f : Engine) : Type 0 where
   pub lanes : f.graph.lanes ≡ with_step e.graph.lanes m step
   pub sound : All IsSoundLane f.graph.lanes

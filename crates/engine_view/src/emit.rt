@@ -24,7 +24,8 @@ impl Engine {
             &LaneAccesses::of_slice(step.accesses.as_slice()),
             false,
         );
-        self.credits[owner as usize] -= 2;
+        let credit = &mut self.credits[owner as usize];
+        *credit = credit.saturating_sub(2);
         // The lane has room for the step.
         let _ = self.graph.push_step(owner, step);
     }
@@ -49,7 +50,8 @@ impl Engine {
             &LaneAccesses::of_slice(step.accesses.as_slice()),
             false,
         );
-        self.credits[owner as usize] -= 2;
+        let credit = &mut self.credits[owner as usize];
+        *credit = credit.saturating_sub(2);
         // The lane has room for the step.
         let _ = self.graph.push_few(owner, step);
     }

@@ -1,5 +1,5 @@
 //! Room for further steps.
-ghost use Rattle.std.specs.Prelude.{◌≡◌, ℕ, ◌+◌, ◌^◌, ◌<◌, ◌≤◌, Bool, List, length, slice_index, All, OnOk};
+ghost use Rattle.std.specs.Prelude.{◌≡◌, ℕ, ◌+◌, ◌^◌, ◌<◌, ◌≤◌, Bool, List, length, slice_get, slice_index, All, OnOk, Some};
 ghost use Rattle.flow_word.specs.declared.access.Side.{Side as side_type};
 ghost use Rattle.flow_design.specs.declared.state.ModuleState.{ModuleState};
 ghost use Rattle.event_timing.specs.Machines.{Design};
@@ -65,6 +65,53 @@ impl Engine {
         self.credits[owner as usize] = places;
         Ok(())
     }
+
+    /// Makes room for `steps` further steps of a module. Of each of its ports it is told for how many places: there is room for these
+    /// then, and for the one that the module's newest step may still take.
+    ///
+    /// `ports` are the module's ports, with as many numbers in `places`, and `queries` is the most queries that the last of these steps
+    /// may have. All else stays, the module's credit too, and after `OutOfMemory`.
+    pub fn make_room_at(
+        &mut self,
+        owner: u32,
+        ports: &[Port],
+        places: &[u64],
+        steps: u64,
+        queries: u64,
+    ) -> Result<(), OutOfMemory>
+        requires owner { EngineHasModule self.old owner }
+        requires ports { All (λ port. port.channel < length self.old.fifos.channels) ports.now }
+        requires places { length places.now ≡ length ports.now }
+        ensures same { IsSameButRoom owner self.old self.new }
+        ensures steps { OnOk result (steps ≤ slice_index self.new.graph.rooms owner) }
+        ensures places { OnOk result ((i : ℕ) (port : Port) → slice_get ports.now i ≡ Some port
+            → slice_index places.now i + 1 ≤ room_of self.new.fifos port.side port.channel) }
+        ensures queries { OnOk result (queries ≤ slice_index self.new.log.rooms owner) }
+        ensures room { (d : Design ModuleState) (over : List Bool) → IsRoomy d self.old over → IsRoomy d self.new over }
+    {
+        self.log.reserve(owner, queries)?;
+        self.graph.reserve(owner, steps)?;
+        reserve_each(&mut self.fifos, ports, places)
+    }
+}
+
+/// Makes room at each of the ports: for as many places as are told of it, and for the one that the module's newest step may still
+/// take.
+fn reserve_each(fifos: &mut FifoTable, ports: &[Port], places: &[u64]) -> Result<(), OutOfMemory>
+    requires ports { All (λ port. port.channel < length fifos.old.channels) ports.now }
+    requires places { length places.now ≡ length ports.now }
+    ensures channels { fifos.new.channels ≡ fifos.old.channels }
+    ensures kept { (side : side_type) (c : ℕ) → room_of fifos.old side c ≤ room_of fifos.new side c }
+    ensures room { OnOk result ((i : ℕ) (port : Port) → slice_get ports.now i ≡ Some port
+        → slice_index places.now i + 1 ≤ room_of fifos.new port.side port.channel) }
+{
+    for (at, port) in ports.iter().enumerate() {
+        if places[at] == u64::MAX {
+            return Err(OutOfMemory);
+        }
+        reserve_port(fifos, *port, places[at])?;
+    }
+    Ok(())
 }
 
 /// Makes room at each of the ports: for `places` places, and for the one that the module's newest step may still take.

@@ -1,5 +1,5 @@
 //! Starting the modules' threads, or keeping modules with the caller.
-ghost use Rattle.std.specs.Prelude.{◌≡◌, ◌≤◌, [], length, map, IfOk, vec_capacity};
+ghost use Rattle.std.specs.Prelude.{◌≡◌, ◌≤◌, [], length, IfOk, vec_capacity};
 ghost use Rattle.sim_hub.specs.{Places.HasNoDeskOut, Hubs.IsOfHub, Hubs.module_of, Hubs.module_view};
 ghost use Rattle.run_threads.specs.{Driving.IsBack, Lights.IsNamed};
 ghost use Rattle.run_threads.specs.Slots.{SlotIs, KeepsPass, AreSlots, AreHere, passes_in};

@@ -1,6 +1,6 @@
 //! The names that a session declares.
-ghost use Rattle.std.specs.{Prelude.◌≡◌, Prelude.[], Prelude.IfOk, List.filter_map};
-ghost use Rattle.session_plan.specs.{Names.name_number, Sections.declared};
+ghost use Rattle.std.specs.{Prelude.◌≡◌, Prelude.IfOk, List.filter_map};
+ghost use Rattle.session_plan.specs.Sections.{declared};
 
 use crate::names::Names;
 use crate::section::{Sort, declared};

@@ -13,7 +13,7 @@ use Rattle.module_interp.specs.{declared.run.ModuleRun.ModuleRun, OwnRests.first
 use Rattle.flow_design.specs.declared.design.ChannelKind.TheVariants as plan
 use Rattle.lockstep_defs.specs.{Machine.width_of, OwnRun.Own, Channels.contents_of, Channels.values, Channels.element_from}
 use Rattle.lockstep_defs.specs.Lockstep.{inputs_of, opening, moment, state}
-use Rattle.event_graph.specs.{Lanes.Lane, Lanes.no_lane, declared.candidate.Candidate.Candidate}
+use Rattle.event_graph.specs.Lanes.{Lane, no_lane}
 use Rattle.query_log.specs.Logs.{no_log}
 use Rattle.fifo_table.specs.{declared.channel.TableChannel.TableChannel, declared.channel.TableChannel.TheVariants.Sink}
 use Rattle.fifo_table.specs.Channels.{IsSoundKind, unused, values_of, lag_of}
@@ -24,8 +24,7 @@ use Rattle.timing_bridge.proofs.History.{plan_is_design, run_is_history}
 use Rattle.engine_view.specs.{Held.Held, Held.emitted_of, Held.core_of, Shown.IsSound, Shown.IsKind, Opened.opening_held, Opened.AreKinds}
 use Rattle.engine_view.specs.{Rooms.HasRoom, declared.engine.Engine.Engine, Engines.held_in, Taking.kinds_in}
 use Rattle.engine_view.proofs.{Opened.opening_core_is, Opened.copy_at, Roomy.room_opening}
-use Rattle.sim_core.specs.Runs.{IsCore, IsStoredCore, IsRunOf, rest_behind, lent_of, over_of}
-use Rattle.sim_core.specs.{declared.due.Due.Due, declared.unread.Unread.Unread, declared.wiring.Wiring.Wiring}
+use Rattle.sim_core.specs.Runs.{IsCore, IsRunOf, rest_behind, lent_of, over_of}
 use Rattle.sim_core.specs.Opening.{kind_by, kind_in, kinds_of, source_values, AreFirstRuns, AreLeft, AreOlderRuns}
 use Rattle.sim_core.proofs.Keeping.{over_at}
 

@@ -1,7 +1,7 @@
 -- A mark of a module, emitted by a Run: what it makes of the core.
-use Rattle.std.proofs.Common.{◌≡◌, refl, sym, ap, subst, ◌∙◌, ℕ, suc, ◌-◌, ◌^◌, ◌<◌, ◌≤◌, inl, inr, true, false, List, length, get_or, set}
-use Rattle.std.proofs.Common.{Option, Some, None, is_some, arith}
-use Rattle.std.proofs.{lemmas.Bool.both_ways, lemmas.Bool.cond-false, lemmas.Bool.Decides.eqb_tells}
+use Rattle.std.proofs.Common.{◌≡◌, refl, sym, ap, subst, ◌∙◌, ℕ, suc, ◌-◌, ◌^◌, ◌<◌, ◌≤◌, inl, inr, true, false, List, [], ◌∷◌, length}
+use Rattle.std.proofs.Common.{get_or, set, Option, Some, None, is_some, arith}
+use Rattle.std.proofs.{lemmas.Bool.both_ways, lemmas.Bool.cases_lt, lemmas.Bool.cond-false, lemmas.Bool.Decides.eqb_tells}
 use Rattle.std.proofs.lemmas.List.{length-set, length-map, map-set, get_or-set_same, get_or-set_other}
 use Rattle.flow_word.specs.declared.access.Step.{Step as StepOf}
 use Rattle.flow_design.specs.{declared.plan.Plan.Plan, declared.state.ModuleState.ModuleState, declared.state.Advance.Advance}
@@ -19,9 +19,12 @@ use Rattle.engine_view.specs.Held.{Held, emitted_of, queries_in, core_of}
 use Rattle.engine_view.specs.{Shown.IsSound, Rooms.HasRoom, Rooms.CanEmit, Rooms.HasEmitted, declared.engine.Engine.Engine, Engines.held_in}
 use Rattle.engine_view.specs.Emitted.{IsNextStep, with_emitted, with_over}
 use Rattle.engine_view.proofs.{Emitted.emitted_core, Ended.over_core, Assigned.IsAlike, Assigned.alike_queries}
-use Rattle.engine_view.proofs.Roomy.{few_queries, apart_next, own_next, room_for_next, room_emitted, room_same, pending_same}
-use Rattle.sim_core.specs.{Marks.IsRestBehind, Runs.IsEndOf, Runs.IsCore, Runs.rest_behind, Runs.lent_of, Runs.over_of}
-use Rattle.sim_core.proofs.{Ahead.over_of_mark, Lends.not_lent, Resting.rest_is, Marking.next_step, Staying.fed_is, Keeping.core_acted}
+use Rattle.engine_view.proofs.Roomy.{IsEnoughFor, few_queries, apart_next, own_next, room_for_next, rich_next, room_emitted, room_same}
+use Rattle.engine_view.proofs.Roomy.{pending_same}
+use Rattle.sim_core.specs.{Marks.IsRestBehind, Returned.HasPlacesForMarks}
+use Rattle.sim_core.specs.Runs.{IsEndOf, IsCore, rest_behind, lent_of, over_of}
+use Rattle.sim_core.proofs.{Ahead.over_of_mark, Lends.not_lent, Resting.rest_is, Staying.fed_is, Keeping.core_acted}
+use Rattle.sim_core.proofs.Marking.{next_step, table_count}
 
 -- a Run of a module whose run is out of the core is permitted
 pub record IsReady (p : Plan) (s : Engine) (ends : List (Option Advance)) (runs : List (Option ModuleRun)) (m : ℕ)
@@ -97,9 +100,23 @@ module _ {p : Plan} {s : Engine} {ends : List (Option Advance)} {runs : List (Op
     pub acts_to : {f : Engine} → HasEmitted s m t f → Acts d p.cycles x (Run m) (core_of d (held_in f (over_of ends)))
     acts_to e = (r.may, subst (λ (q : Held). core_of d q ≡ after_run d x m) (sym (emitted_is e)) core_is.0)
 
-    -- there is room for it
-    pub can_emit : 2 ≤ get_or s.credits.items m 0 → CanEmit s m t
-    can_emit rich =
+    -- there is room for it in the lane, and at the ports
+    lane_there : HasPlacesForMarks p s m (Step t ∷ []) → 0 < get_or s.graph.rooms m 0
+    lane_there (inl l) = let most = r.core.room.steps m in omega arith
+    lane_there (inr f) = f.steps
+
+    enough : HasPlacesForMarks p s m (Step t ∷ []) → IsEnoughFor d h m t.accesses s.fifos s.credits.items
+    enough (inl l) = rich_next d (plan_is_design p r.core.fits) h m t step_is r.core.room l
+    enough (inr f) = elim (cases_lt (get_or s.credits.items m 0) 2) [
+      | inl l ↦ λ side c inside own.
+          let count = table_count p s.fifos.channels r.core.table in
+          let room = f.ports side c (omega arith) own in
+          omega arith
+      | inr l ↦ rich_next d (plan_is_design p r.core.fits) h m t step_is r.core.room l
+    ]
+
+    pub can_emit : HasPlacesForMarks p s m (Step t ∷ []) → CanEmit s m t
+    can_emit places =
         let logs = r.core.sound.logs in
         let lanes = r.core.sound.lanes in
         let count = r.core.counted in
@@ -112,18 +129,16 @@ module _ {p : Plan} {s : Engine} {ends : List (Option Advance)} {runs : List (Op
             inside = step_is.inside;
             own = own_next d (plan_is_design p r.core.fits) h m t step_is r.core.sound;
             apart = apart_next d (plan_is_design p r.core.fits) h m t step_is;
-            room = room_for_next d (plan_is_design p r.core.fits) h m t step_is s.graph.rooms s.fifos s.log.rooms s.credits.items
-                r.core.room (omega arith);
+            room = room_for_next d (plan_is_design p r.core.fits) h m t step_is s.fifos s.credits.items (enough places);
           };
-          lane_room = let l = r.core.room.steps m in omega arith;
-          credit = rich;
+          lane_room = lane_there places;
           few = let f = small.first_query in omega arith;
         }
 
     -- so it is a core with the step
-    pub step_core : {f : Engine} → HasEmitted s m t f → 2 ≤ get_or s.credits.items m 0
+    pub step_core : {f : Engine} → HasEmitted s m t f → HasPlacesForMarks p s m (Step t ∷ [])
         → queries_in t.accesses ≤ get_or s.log.rooms m 0 → IsCore p f ends runs
-    step_core {f} e rich log_room =
+    step_core {f} e places log_room =
         let first = small.first_query in
         let few = few_queries t.accesses in
         let most = small.few in
@@ -134,7 +149,7 @@ module _ {p : Plan} {s : Engine} {ends : List (Option Advance)} {runs : List (Op
         (ap (λ (cs : List ℕ). length cs) e.credits ∙ count)
         (rw (is, e.log, e.credits) (room_emitted d (plan_is_design p r.core.fits) h m t r.inside r.core.sound step_is marks r.may next.1
         s.graph.rooms f.graph.rooms s.fifos f.fifos s.log.rooms s.credits.items r.core.room
-        (let n = r.core.counted in let i = r.inside in omega arith) rich e.room log_room (omega arith)))
+        (let n = r.core.counted in let i = r.inside in omega arith) (enough places) e.room log_room (omega arith)))
         (λ n other there. (others_out n other there, tt)) (λ n mark there. inl there)
 
   -- ---- the end

@@ -1,5 +1,5 @@
 -- A Run's next mark, emitted.
-use Rattle.std.proofs.Common.{◌≡◌, refl, sym, subst, ◌∙◌, ℕ, false, List, length, set, Option, Some, arith}
+use Rattle.std.proofs.Common.{◌≡◌, refl, sym, subst, ◌∙◌, ℕ, inl, false, List, length, set, Option, Some, arith}
 use Rattle.std.proofs.lemmas.Bool.{both_ways}
 use Rattle.flow_word.specs.{declared.access.Access.Access, declared.access.Step.Step as StepOf}
 use Rattle.flow_design.specs.{declared.plan.Plan.Plan, declared.state.ModuleState.ModuleState, declared.state.Advance.Advance}
@@ -118,4 +118,9 @@ module _ {p : Plan} {s : Engine} {ends : List (Option Advance)} {runs : List (Op
 
   -- the mark to which the run comes is the module's next
   pub is_next : {mark : Advance} → mark ≡ mark_at p m rest → IsSoundMark (length rest.steps) mark → IsNextMark p s ends runs m mark
-  is_next is sound = record { room = r.room; may = may; is = is; sound = sound }
+  is_next is sound = record {
+    room = record { core = r.room.core; lent = r.room.lent; places = inl r.room.places; outcomes = r.room.outcomes };
+    may = may;
+    is = is;
+    sound = sound;
+  }

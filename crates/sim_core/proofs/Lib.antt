@@ -48,4 +48,5 @@ pub mod Waking
 pub mod Listing
 pub mod OwnMarks
 pub mod Stretching
+pub mod Counting
 pub mod Stretched

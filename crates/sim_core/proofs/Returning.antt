@@ -1,8 +1,8 @@
 -- Marks that come back, one after the other.
-use Rattle.std.proofs.Common.{◌≡◌, refl, sym, ap, subst, ◌∙◌, ℕ, suc, ◌+◌, ◌*◌, ◌^◌, ◌<◌, ◌≤◌, ◌⊎◌, inl, inr, Bool, true, false, List, []}
-use Rattle.std.proofs.Common.{◌∷◌, length, drop, drop-set-lt, get_or, set, Option, Some, arith}
-use Rattle.std.proofs.lemmas.Bool.{cases_Bool}
-use Rattle.flow_word.specs.declared.access.Step.{Step as StepOf}
+use Rattle.std.proofs.Common.{◌≡◌, refl, sym, ap, subst, ◌∙◌, ℕ, suc, ◌+◌, ◌^◌, ◌<◌, ◌≤◌, ◌⊎◌, inl, inr, Bool, true, false, List, [], ◌∷◌}
+use Rattle.std.proofs.Common.{length, drop, drop-set-lt, get_or, set, Option, Some, arith}
+use Rattle.std.proofs.{lemmas.Bool.cases_Bool, lemmas.List.Sums.sum_by-cons}
+use Rattle.flow_word.specs.{declared.access.Side.Side, declared.access.Step.Step as StepOf}
 use Rattle.flow_design.specs.{declared.plan.Plan.Plan, declared.state.ModuleState.ModuleState, declared.state.Advance.Advance}
 use Rattle.flow_design.specs.{declared.state.Advance.TheVariants.Step, StaticRules.FitsEngine}
 use Rattle.lockstep_defs.specs.{Lockstep.module_at, OwnRun.Own}
@@ -13,12 +13,13 @@ use Rattle.event_timing.specs.Actions.{Acts, ActsAll, MayRun, after_run}
 use Rattle.event_timing.specs.Actions as actions
 use Rattle.event_timing.proofs.Running.{run_marks}
 use Rattle.timing_bridge.specs.Designs.{design}
-use Rattle.engine_view.specs.Held.{Held, queries_in, core_of}
-use Rattle.engine_view.specs.{declared.engine.Engine.Engine, Engines.held_in, Rooms.CanEmit, Rooms.HasEmitted}
+use Rattle.engine_view.specs.{Held.Held, Held.queries_in, Held.core_of, declared.engine.Engine.Engine, Engines.held_in}
+use Rattle.engine_view.specs.Rooms.{CanEmit, HasEmitted, room_of}
 use Rattle.run_ahead.specs.{declared.mail.Mail.Mail, declared.mail.Task.Task, declared.mail.Burst.Burst, Working.burst_of}
 use Rattle.run_ahead.specs.Mails.{taken_after, none_taken, task_left, IsBehindStep, IsPast, RunsOn, IsBurst, IsBurstFrom}
-use Rattle.sim_core.specs.{Returned.core_in, Returned.HasRoomForMarks, Returned.IsNextMark, Returned.AreReturned, Runs.HasBodiesWithin}
-use Rattle.sim_core.specs.{Runs.IsCore, Runs.rest_behind, Runs.over_of, Runs.lent_of, Tasks.IsTaskFor, Tasks.IsTaskLeft, Tasks.rest_of}
+use Rattle.sim_core.specs.{Taken.taken_at, Tasks.IsTaskFor, Tasks.IsTaskLeft, Tasks.rest_of}
+use Rattle.sim_core.specs.Returned.{HasPlacesForMarks, core_in, HasRoomForMarks, IsNextMark, AreReturned}
+use Rattle.sim_core.specs.Runs.{HasBodiesWithin, IsCore, rest_behind, over_of, lent_of}
 use Rattle.sim_core.proofs.{QueryRoom.room_for_step, Tasks.waits_first, Tasks.goes_first, Emission.IsReady}
 use Rattle.sim_core.proofs.Ahead.{Goes, Waits, waits_behind, over_behind, goes_on, waiting_stands, going_stands, over_stands}
 use Rattle.sim_core.proofs.Emission as emission
@@ -43,15 +44,18 @@ module _ {p : Plan} {s : Engine} {ends : List (Option Advance)} {runs : List (Op
   pub mark_step : {t : StepOf} → mark ≡ Step t → mark_at p m rest ≡ Step t
   mark_step e = sym n.is ∙ e
 
+  step_places : {t : StepOf} → mark ≡ Step t → HasPlacesForMarks p s m (Step t ∷ [])
+  step_places e = subst (λ (a : Advance). HasPlacesForMarks p s m (a ∷ [])) e n.room.places
+
   -- a step can be emitted, and leads to a core; so does an end
   module _ (inside : m < length s.graph.lanes) where
     module _ {t : StepOf} (e : mark ≡ Step t) where
       pub step_fits : CanEmit s m t
-      step_fits = emission.can_emit (may_record inside) (mark_step e) short_rest (small_step e) n.room.places
+      step_fits = emission.can_emit (may_record inside) (mark_step e) short_rest (small_step e) (step_places e)
 
       pub core_emitted : {f : Engine} → HasEmitted s m t f → IsCore p f ends runs
       core_emitted done =
-          emission.step_core (may_record inside) (mark_step e) short_rest (small_step e) done n.room.places
+          emission.step_core (may_record inside) (mark_step e) short_rest (small_step e) done (step_places e)
           (room_for_step p n.room.core.fits m rest t (mark_step e) n.room.outcomes)
 
       pub acts_emitted : {f : Engine} → HasEmitted s m t f → Acts (design p) p.cycles (core_in p s ends) (Run m) (core_in p f ends)
@@ -158,10 +162,34 @@ on_way_first p f x b m task burst t i =
 
 -- ---- the loop
 
+-- room for marks is room for the first, and then for the others
+module _ {p : Plan} {s : Engine} {m : ℕ} {mark : Advance} {more : List Advance} where
+  first_places : HasPlacesForMarks p s m (mark ∷ more) → HasPlacesForMarks p s m (mark ∷ [])
+  first_places (inl l) = inl (omega arith)
+  first_places (inr f) = inr (record {
+    steps = let n = f.steps in omega arith;
+    ports = λ side c inside own.
+        let room = f.ports side c inside own in let all = sum_by-cons (taken_at side c) mark more in omega arith;
+  })
+
+  other_places : {t : Engine} → get_or s.credits.items m 0 ≤ get_or t.credits.items m 0 + 2
+      → get_or s.graph.rooms m 0 ≤ get_or t.graph.rooms m 0 + 1
+      → ((side : Side) (c : ℕ) → room_of s.fifos side c ≤ room_of t.fifos side c + taken_at side c mark)
+      → HasPlacesForMarks p s m (mark ∷ more) → HasPlacesForMarks p t m more
+  other_places {t} credit lane left (inl l) = inl (omega arith)
+  other_places {t} credit lane left (inr f) = inr (record {
+    steps = let n = f.steps in omega arith;
+    ports = λ side c inside own.
+        let room = f.ports side c inside own in
+        let all = sum_by-cons (taken_at side c) mark more in
+        let after = left side c in
+        omega arith;
+  })
+
 -- those left of a burst's marks are still to be emitted; with them the first core comes to where all marks bring it
 pub record IsReturningOn (p : Plan) (s : Engine) (ends : List (Option Advance)) (runs : List (Option ModuleRun))
     (m : ℕ) (mail : Mail) (short : Bool) (last : Task) (left : List Advance) (first : Core ModuleState) (count : ℕ) : Type 0 where
-  pub room : HasRoomForMarks p s ends runs m (length left)
+  pub room : HasRoomForMarks p s ends runs m left
   pub on : IsOnWay p (core_in p s ends) m mail short last left
   pub acts : (y : Core ModuleState) → ActsAll (design p) p.cycles (core_in p s ends) (actions.runs (length left) m) y
       → ActsAll (design p) p.cycles first (actions.runs count m) y
@@ -187,7 +215,7 @@ module _ {p : Plan} {s : Engine} {ends : List (Option Advance)} {runs : List (Op
     room = record {
       core = r.room.core;
       lent = r.room.lent;
-      places = let l = r.room.places in omega arith;
+      places = first_places r.room.places;
       outcomes = r.room.outcomes;
     };
     may = far.may;
@@ -197,13 +225,14 @@ module _ {p : Plan} {s : Engine} {ends : List (Option Advance)} {runs : List (Op
 
   pub returning_more : {t : Engine} {ends' : List (Option Advance)} → t.log ≡ s.log → IsCore p t ends' runs
       → Acts (design p) p.cycles (core_in p s ends) (Run m) (core_in p t ends')
-      → get_or s.credits.items m 0 ≤ get_or t.credits.items m 0 + 2
+      → get_or s.credits.items m 0 ≤ get_or t.credits.items m 0 + 2 → get_or s.graph.rooms m 0 ≤ get_or t.graph.rooms m 0 + 1
+      → ((side : Side) (c : ℕ) → room_of s.fifos side c ≤ room_of t.fifos side c + taken_at side c mark)
       → IsReturningOn p t ends' runs m mail short last more first count
-  returning_more {t} {ends'} log core (may, after) credit = record {
+  returning_more {t} {ends'} log core (may, after) credit lane left = record {
     room = record {
       core = core;
       lent = r.room.lent;
-      places = let l = r.room.places in omega arith;
+      places = other_places credit lane left r.room.places;
       outcomes = rw log r.room.outcomes;
     };
     on = subst (λ (x : Core ModuleState). IsOnWay p x m mail short last more) (sym after) far.on;
@@ -225,7 +254,7 @@ all_acts {p} {s} {ends} r = r.acts (core_in p s ends) refl
 -- with room, a burst of a task for the core can come back
 pub are_returned : (s : Engine) {p : Plan} {t : Engine} {ends : List (Option Advance)} {runs : List (Option ModuleRun)} {m : ℕ}
     {burst : Burst} → held_in t (over_of ends) ≡ held_in s (over_of ends) → IsCore p t ends runs
-    → get_or (lent_of runs) m true ≡ true → 2 * length burst.emitted ≤ get_or t.credits.items m 0
+    → get_or (lent_of runs) m true ≡ true → HasPlacesForMarks p t m burst.emitted
     → HasBodiesWithin (module_at p m) (get_or t.log.rooms m 0)
     → (task : Task) × (IsTaskFor p (core_in p s ends) m task × IsBurst p m (rest_of p (core_in p s ends) m task) task burst)
     → AreReturned p t ends runs m burst.emitted (task_left burst)

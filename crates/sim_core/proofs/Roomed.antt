@@ -1,5 +1,5 @@
 -- A core as it is stored: a module's run is taken out or put back; room is made for a module's marks, and Runs of that module follow.
-use Rattle.std.proofs.Common.{◌≡◌, sym, subst, ℕ, ◌<◌, List, [], length, get_or, set, Bool, Option, None, Some, arith}
+use Rattle.std.proofs.Common.{◌≡◌, sym, subst, ◌∙◌, ℕ, ◌<◌, List, [], length, get_or, set, Bool, Option, None, Some, arith}
 use Rattle.std.specs.Prelude.{All, IfSome, slice_index_or}
 use Rattle.flow_word.specs.declared.access.Port.{Port}
 use Rattle.flow_design.specs.{declared.plan.Plan.Plan, declared.state.Advance.Advance, declared.state.ModuleState.ModuleState}
@@ -12,9 +12,10 @@ use Rattle.timing_bridge.specs.Designs.{design}
 use Rattle.engine_view.specs.{declared.engine.Engine.Engine, Engines.held_in, Held.Held, Held.core_of}
 use Rattle.engine_view.specs.Rooms.{EngineHasModule, IsSameButRoom, IsRoomy, AreAllPorts}
 use Rattle.sim_core.specs.{declared.due.Due.Due, declared.unread.Unread.Unread, declared.wiring.Wiring.Wiring, Candidates.AreListed}
-use Rattle.sim_core.specs.{Waking.AreDue, Waking.IsSpread, Opening.ports_to, Returned.core_in, Stretches.IsHeldAlike, Unread.AreUnread}
-use Rattle.sim_core.specs.Runs.{IsRunOf, IsOut, IsCore, IsStoredCore, lent_of, over_of}
-use Rattle.sim_core.proofs.{Asking.asking_ran, Listing.listed_ran, Waking.waking_ran, Marking.table_count}
+use Rattle.sim_core.specs.{Waking.AreDue, Waking.IsSpread, Opening.ports_to, Returned.core_in, Unread.AreUnread}
+use Rattle.sim_core.specs.Stretches.{IsHeldAlike, IsMember}
+use Rattle.sim_core.specs.Runs.{IsRunOf, IsOut, IsCore, IsWired, IsStoredCore, lent_of, over_of}
+use Rattle.sim_core.proofs.{Asking.asking_ran, QueryRoom.bodies_told, Listing.listed_ran, Waking.waking_ran, Marking.table_count}
 use Rattle.sim_core.proofs.Leaving as leaving
 use Rattle.sim_core.proofs.Lending as lending
 use Rattle.sim_core.proofs.Ports as ports
@@ -39,6 +40,16 @@ module _ {p : Plan} {s : Engine} {ends : List (Option Advance)} {runs : List (Op
       → IfSome o (λ run. IsOut (record { plan = p; held = held_in s (over_of ends); lent = lent_of (set runs m None) }) m run)
   run_out None e = tt
   run_out (Some run) e = record { inside = inside; lent = lending.lent_set runs m; run_is = k.core.runs_are m run e }
+
+-- ---- what is told of a module
+
+pub member : {p : Plan} {w : Wiring} → IsWired p w → (m : ℕ) → m < length p.design.modules → {own : List Port} {most : ℕ}
+    → own ≡ get_or w.ports m [] → most ≡ get_or w.bodies m 0 → IsMember p m own most
+member {p} {w} k m inside {own} {most} ports body = record {
+  inside = inside;
+  ports_are = ports ∙ k.ports_are.each m inside;
+  bodies_are = bodies_told p k.bodies_are m inside body (omega arith);
+}
 
 -- ---- room for a module's marks
 

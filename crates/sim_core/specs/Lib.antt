@@ -13,6 +13,7 @@ pub mod Tasks
 pub mod Readers
 pub mod Lent
 pub mod Unread
+pub mod Taken
 pub mod Returned
 pub mod AccessLog
 pub mod Costs

@@ -1,32 +1,52 @@
 -- Marks with which a run comes back to a core.
-use Rattle.std.specs.Prelude.{◌≡◌, ℕ, ◌*◌, ◌<◌, ◌≤◌, Bool, true, false, List, length, slice_index, slice_index_or, Option}
+use Rattle.std.specs.Prelude.{◌≡◌, ℕ, ◌+◌, ◌*◌, ◌<◌, ◌≤◌, ◌⊎◌, Bool, true, false, List, [], ◌∷◌, Option, length, slice_index}
+use Rattle.std.specs.Prelude.{slice_index_or}
+use Rattle.flow_word.specs.declared.access.Side.{Side}
 use Rattle.flow_design.specs.{declared.plan.Plan.Plan, declared.state.Advance.Advance, declared.state.ModuleState.ModuleState}
 use Rattle.lockstep_defs.specs.Lockstep.{module_at}
 use Rattle.module_interp.specs.{declared.run.ModuleRun.ModuleRun, OwnRests.mark_at, Runs.waits, Runs.IsSoundMark}
 use Rattle.event_timing.specs.{Core.Core, Actions.MayRun}
 use Rattle.timing_bridge.specs.Designs.{design}
-use Rattle.engine_view.specs.{Held.core_of, declared.engine.Engine.Engine, Engines.held_in}
+use Rattle.engine_view.specs.{Held.core_of, Rooms.room_of, declared.engine.Engine.Engine, Engines.held_in}
 use Rattle.run_ahead.specs.{declared.mail.Task.Task, Mails.IsBurst, Working.burst_of}
 use Rattle.sim_core.specs.Runs.{HasBodiesWithin, IsRunOf, IsCore, lent_of, over_of, rest_behind}
-use Rattle.sim_core.specs.Tasks.{IsTaskFor, rest_of}
+use Rattle.sim_core.specs.{Tasks.IsTaskFor, Tasks.rest_of, Taken.taken_by_marks}
 
 -- the theory's core of what is stored
 abbrev pub core_in : Plan → Engine → List (Option Advance) → Core ModuleState
 core_in p s ends = core_of (design p) (held_in s (over_of ends))
 
--- module m's run is out of the core, and there is room for `count` of its marks
+-- there is a place for each of these marks in module m's lane; and at each of the module's ports for all that they take there, and for
+-- what its newest step may still take
+pub record HasPlaceForEach (p : Plan) (s : Engine) (m : ℕ) (marks : List Advance) : Type 0 where
+  pub steps : length marks ≤ slice_index s.graph.rooms m
+  pub ports : (side : Side) (c : ℕ) → c < length p.design.channels → (design p).owner side c ≡ m
+      → taken_by_marks side c marks + 1 ≤ room_of s.fifos side c
+
+-- module m's credit suffices for these marks, whatever they take; or there is room for what they take
+abbrev pub HasPlacesForMarks : Plan → Engine → ℕ → List Advance → Type 0
+HasPlacesForMarks p s m marks = (2 * length marks ≤ slice_index s.credits.items m) ⊎ HasPlaceForEach p s m marks
+
+-- module m's run is out of the core, and there is room for these marks of the module
 pub record HasRoomForMarks (p : Plan) (s : Engine) (ends : List (Option Advance)) (runs : List (Option ModuleRun))
-    (m count : ℕ) : Type 0 where
+    (m : ℕ) (marks : List Advance) : Type 0 where
   pub core : IsCore p s ends runs
   pub lent : slice_index_or (lent_of runs) m true ≡ true
-  pub places : 2 * count ≤ slice_index s.credits.items m
+  pub places : HasPlacesForMarks p s m marks
   -- a step has at most as many queries as its body has operations
+  pub outcomes : HasBodiesWithin (module_at p m) (slice_index s.log.rooms m)
+
+-- module m's run is out of the core, and the module's credit suffices for one mark more
+pub record HasRoomForOne (p : Plan) (s : Engine) (ends : List (Option Advance)) (runs : List (Option ModuleRun)) (m : ℕ) : Type 0 where
+  pub core : IsCore p s ends runs
+  pub lent : slice_index_or (lent_of runs) m true ≡ true
+  pub places : 2 ≤ slice_index s.credits.items m
   pub outcomes : HasBodiesWithin (module_at p m) (slice_index s.log.rooms m)
 
 -- the mark is module m's next one, a Run of the module is permitted, and there is room for it
 pub record IsNextMark (p : Plan) (s : Engine) (ends : List (Option Advance)) (runs : List (Option ModuleRun)) (m : ℕ)
     (mark : Advance) : Type 0 where
-  pub room : HasRoomForMarks p s ends runs m 1
+  pub room : HasRoomForMarks p s ends runs m (mark ∷ [])
   pub may : MayRun (design p) (core_in p s ends) m
   pub is : mark ≡ mark_at p m (rest_behind p (core_in p s ends) m ((core_in p s ends).emitted m))
   pub sound : IsSoundMark (length (rest_behind p (core_in p s ends) m ((core_in p s ends).emitted m)).steps) mark
@@ -34,7 +54,7 @@ pub record IsNextMark (p : Plan) (s : Engine) (ends : List (Option Advance)) (ru
 -- module m's run is out of the core and waits for nothing, and there is room for its next mark
 pub record CanGoOn (p : Plan) (s : Engine) (ends : List (Option Advance)) (runs : List (Option ModuleRun)) (m : ℕ) (run : ModuleRun)
     : Type 0 where
-  pub room : HasRoomForMarks p s ends runs m 1
+  pub room : HasRoomForOne p s ends runs m
   pub inside : m < length p.design.modules
   pub run_is : IsRunOf p (core_in p s ends) m run
   pub answered : waits run ≡ false
@@ -43,7 +63,7 @@ pub record CanGoOn (p : Plan) (s : Engine) (ends : List (Option Advance)) (runs 
 -- the marks are those of a burst on a task for the core; it leaves this run and mail, and there is room for the marks
 pub record AreReturned (p : Plan) (s : Engine) (ends : List (Option Advance)) (runs : List (Option ModuleRun)) (m : ℕ)
     (marks : List Advance) (last : Task) : Type 0 where
-  pub room : HasRoomForMarks p s ends runs m (length marks)
+  pub room : HasRoomForMarks p s ends runs m marks
   pub task : Task
   pub short : Bool
   pub is_task : IsTaskFor p (core_in p s ends) m task

@@ -1,13 +1,15 @@
 //! Emitting the marks of a run.
-ghost use Rattle.std.specs.Prelude.{◌≡◌, ◌+◌, ◌<◌, ◌≤◌, length, slice_index, slice_get, slice_set, OnErr, OnOk, Some, List as Items};
+ghost use Rattle.std.specs.Prelude.{◌≡◌, ℕ, ◌+◌, ◌<◌, ◌≤◌, length, slice_index, slice_get, slice_set, OnErr, OnOk, Some, List as Items};
 ghost use Rattle.std.specs.Prelude.{Option as Maybe};
+ghost use Rattle.flow_word.specs.declared.access.Side.{Side as SideOf};
 ghost use Rattle.flow_design.specs.declared.plan.Plan.{Plan as PlanOf};
 ghost use Rattle.event_timing.specs.{Actions.Acts, Actions.ActsAll, Actions.runs, Actions.Action.Run};
 ghost use Rattle.timing_bridge.specs.Designs.{design};
 ghost use Rattle.module_interp.specs.declared.run.ModuleRun.{ModuleRun as RunOf};
 ghost use Rattle.event_graph.specs.Packed.{whole, IsFewStep};
+ghost use Rattle.engine_view.specs.Rooms.{room_of};
 ghost use Rattle.run_ahead.specs.declared.mail.Task.{Task as TaskOf};
-ghost use Rattle.sim_core.specs.{Runs.IsCore, Runs.IsRunOf, Tasks.IsTaskLeft};
+ghost use Rattle.sim_core.specs.{Runs.IsCore, Runs.IsRunOf, Taken.taken_at, Tasks.IsTaskLeft};
 ghost use Rattle.sim_core.specs.Returned.{core_in, CanGoOn, IsNextMark, AreReturned};
 
 use engine_view::Engine;
@@ -45,6 +47,8 @@ pub(crate) fn record_mark(
         (core_in p engine.new ends.new.items) }
     ensures log { engine.new.log ≡ engine.old.log }
     ensures credit { slice_index engine.old.credits.items owner ≤ slice_index engine.new.credits.items owner + 2 }
+    ensures places { slice_index engine.old.graph.rooms owner ≤ slice_index engine.new.graph.rooms owner + 1 }
+    ensures ports { (side : SideOf) (c : ℕ) → room_of engine.old.fifos side c ≤ room_of engine.new.fifos side c + taken_at side c mark }
     ensures lanes { length engine.new.graph.lanes ≡ length engine.old.graph.lanes }
 {
     match mark {

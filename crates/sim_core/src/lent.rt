@@ -1,6 +1,5 @@
 //! Lending runs, and taking them back with their marks.
-ghost use Rattle.std.specs.Prelude.{◌≡◌, ◌+◌, ◌^◌, ◌<◌, ◌≤◌, true, false, length, slice_set, slice_index_or, IsNone, IfOk, IfSome, OnOk};
-ghost use Rattle.std.specs.Prelude.{OnErr};
+ghost use Rattle.std.specs.Prelude.{◌≡◌, ◌<◌, true, false, length, slice_set, slice_index_or, IsNone, IfOk, IfSome, OnOk, OnErr};
 ghost use Rattle.event_timing.specs.Actions.{ActsAll, MayRun, runs};
 ghost use Rattle.timing_bridge.specs.Designs.{design};
 ghost use Rattle.sim_core.specs.{Runs.IsOut, Tasks.IsBurstOf, Tasks.IsTaskOf, Views.theory_of};
@@ -9,7 +8,9 @@ use crate::back::record_all;
 use crate::beside::spread;
 use crate::bodies::body_length;
 use crate::machine::Core;
+use crate::marks_room::make_room_for_marks;
 use crate::post::{Wants, make_mail};
+use crate::stretch::Member;
 use crate::unread::{Inlets, keep_unread};
 use crate::wiring::ports_of;
 use flow_word::OutOfMemory;
@@ -17,23 +18,6 @@ use module_interp::ModuleRun;
 use run_ahead::{Burst, Mail, Task};
 use std::alloc::Global;
 use std::mem;
-
-/// How many places a module is given at once at each of its ports: enough for 256 Runs, of which each takes at most two.
-const CREDIT: u64 = 512;
-
-/// For how many places room is made, where `there` are there and `wanted` are wanted. Where more are needed, it is for many at
-/// once, so that memory is seldom asked for.
-fn places_for(there: u64, wanted: u64) -> u64
-    requires { wanted + 1 < 2 ^ 64 }
-    ensures wanted { wanted ≤ result }
-    ensures few { result + 1 < 2 ^ 64 }
-{
-    if there >= wanted {
-        wanted
-    } else {
-        wanted.max(CREDIT)
-    }
-}
 
 impl Core {
     /// Lends a module's run with its mail, if a Run of the module is permitted and its run is not lent; else `None`.
@@ -110,16 +94,12 @@ impl Core {
         self.due.asking.add(owner);
         let beside = self.wiring.hints.beside(owner);
         spread(&mut self.due.running, beside, owner);
-        let Some(wanted) = emitted.len().checked_mul(2) else {
-            return Err(OutOfMemory);
+        let member = Member {
+            number: owner,
+            ports: ports_of(&self.wiring.ports, owner),
+            body: body_length(&self.wiring.bodies, owner),
         };
-        let places = places_for(self.engine.credits[owner as usize], wanted);
-        self.engine.make_room_for(
-            owner,
-            ports_of(&self.wiring.ports, owner),
-            body_length(&self.wiring.bodies, owner),
-            places,
-        )?;
+        make_room_for_marks(&mut self.engine, &member, emitted.as_slice())?;
         record_all(&mut self.engine, &mut self.ends, owner, &mut emitted);
         let inlets = Inlets {
             alloc: *self.engine.credits.allocator(),

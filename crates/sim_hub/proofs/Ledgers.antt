@@ -50,9 +50,6 @@ module _ (core : CoreView) (turns : List HubTurn) (out : ℕ) (short : Bool) (ca
 
   -- ---- where nothing is added
 
-  pub had_memory : short ≡ false → Behind (history_of core.plan turns) HadMemory
-  had_memory memory = kept_behind core turns out short capacity k HadMemory (sym k.matches.short_is ∙ memory)
-
   pub was_short : short ≡ true → Behind (history_of core.plan turns) WasShort
   was_short wanted = kept_behind core turns out short capacity k WasShort (sym k.matches.short_is ∙ wanted)
 

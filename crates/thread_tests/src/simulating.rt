@@ -131,6 +131,41 @@ fn many_blocking_reads(rt: HostRuntime) -> Result<(), Fail> {
     is_reported(&rt, &text, 0, &expected)
 }
 
+/// A module that writes 600 values to a sink, and before and after them passes other ports once or twice.
+const UNEVEN_PORTS: &[u8] = b"\
+flow 1
+source a 8
+sink y 8
+source b 8
+sink z 8
+module m
+reg x 8
+reg n 16
+reg go 1
+block first 1
+at 0 read a x
+at 0 write z 1
+goto l
+loop l 1 1 while go
+at 0 set n + n 1
+at 0 set go <u n 599
+at 0 write y x
+goto last
+block last 1
+at 0 read b x
+at 0 write z x
+stop
+input a 5
+input b 6
+end
+";
+
+#[test]
+fn uneven_ports(rt: HostRuntime) -> Result<(), Fail> {
+    let expected = clock_run(rt.alloc(), &read_plan(rt.alloc(), UNEVEN_PORTS)?)?;
+    is_reported(&rt, UNEVEN_PORTS, 1, &expected)
+}
+
 #[test]
 fn turns_are_bursts(rt: HostRuntime) -> Result<(), Fail> {
     let gate = notes_for(&rt);

@@ -28,7 +28,7 @@ loop-at-preserved c = record {
       let left : drop (c.loop-at.at + 1) c.take_mark-mark.new.marks ≡ drop (suc c.loop-at.at) c.loop-at.marks =
       rw (z, c.take_mark-mark.ensures.marks) (returning.drop_behind c.loop-at.marks c.loop-at.at (Ended 0)) in
       rw left (returning.returning_more on c.record_mark.ensures.log (c.record_mark.ensures.core p out next)
-      (c.record_mark.ensures.acts p out next) c.record_mark.ensures.credit);
+      (c.record_mark.ensures.acts p out next) c.record_mark.ensures.credit c.record_mark.ensures.places c.record_mark.ensures.ports);
 }
 
 pub returns : goal.returns

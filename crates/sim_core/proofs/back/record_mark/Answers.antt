@@ -1,4 +1,6 @@
-use Rattle.std.proofs.Common.{refl, arith}
+use Rattle.std.proofs.Common.{refl, ap, arith}
+use Rattle.engine_view.proofs.Roomy.{used_taken}
+use Rattle.sim_core.specs.Taken.{taken_at}
 use Rattle.sim_core.proofs.Emitting.{not_a_step}
 use Rattle.sim_core.proofs.Returning as returning
 use Rattle.sim_core.proofs.back.record_mark.Goals as goal
@@ -18,6 +20,13 @@ pub returns-in-Step-clause-acts : goal.returns-in-Step-clause-acts
 returns-in-Step-clause-acts c p runs n =
     returning.acts_emitted n c.requires.owner c.in-Step.is c.emit_step.ensures.emitted
 
+pub returns-in-Step-clause-places : goal.returns-in-Step-clause-places
+returns-in-Step-clause-places c = c.emit_step.ensures.emitted.room.place.own
+
+pub returns-in-Step-clause-ports : goal.returns-in-Step-clause-ports
+returns-in-Step-clause-ports c = λ side k.
+    rw (ap (taken_at side k) c.in-Step.is) (used_taken c.emit_step.ensures.emitted.room side k)
+
 pub returns-in_default : goal.returns-in_default
 returns-in_default c = record {
   core = λ p runs n. returning.core_ended n c.requires.owner (not_a_step c.args.mark c.in_default.not-Step);
@@ -25,4 +34,6 @@ returns-in_default c = record {
   log = refl;
   credit = omega arith;
   lanes = refl;
+  places = omega arith;
+  ports = λ side k. omega arith;
 }

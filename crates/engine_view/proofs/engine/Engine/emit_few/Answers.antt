@@ -1,4 +1,5 @@
-use Rattle.std.proofs.{Common.refl, Common.◌∙◌, Common.drop, Common.arith, Common.rules, lemmas.List.get_or_read}
+use Rattle.std.proofs.Common.{refl, ap, ◌∙◌, ℕ, ◌-◌, set, drop, arith, rules}
+use Rattle.std.proofs.lemmas.List.{get_or_read}
 use Rattle.query_log.specs.Logs.{log_at}
 use Rattle.engine_view.proofs.Adding.{done_first}
 use Rattle.engine_view.proofs.engine.Engine.emit_few.Goals as goal
@@ -17,7 +18,9 @@ returns c = record {
     log = refl;
     credits =
         let inside = c.requires.step.owner.credit in
-        rw (get_or_read c.args.self.now.credits.items c.args.owner c.index_mut.result.now (omega arith) c.index_mut.ensures.value 0) refl;
+        let there = get_or_read c.args.self.now.credits.items c.args.owner c.index_mut-credit.result.now (omega arith)
+        c.index_mut-credit.ensures.value 0 in
+        ap (set c.args.self.now.credits.items c.args.owner) (c.saturating_sub.ensures ∙ ap (λ (n : ℕ). n - 2) there);
     room = record {
       place = c.push_few.ensures.rooms;
       one = c.take_all.ensures.one;

@@ -1,0 +1,68 @@
+//! Room for the marks with which a run comes back.
+ghost use Rattle.std.specs.Prelude.{◌+◌, ◌*◌, ◌^◌, ◌<◌, ◌≤◌, ◌⊎◌, slice_index, OnOk, List as Items, Option as Maybe};
+ghost use Rattle.flow_design.specs.declared.plan.Plan.{Plan as PlanOf};
+ghost use Rattle.module_interp.specs.declared.run.ModuleRun.{ModuleRun as RunOf};
+ghost use Rattle.sim_core.specs.{Returned.HasPlacesForMarks, Runs.IsCore, Stretches.IsHeldAlike, Stretches.IsMember};
+
+use crate::stretch::Member;
+use crate::taken::count_taken;
+use engine_view::Engine;
+use flow_design::Advance;
+use flow_word::OutOfMemory;
+
+/// For how many marks room is made at once, whatever they take. What more marks take is counted first.
+const MARKS: u64 = 256;
+
+/// For how many places at each port room is made for a few marks, of which each takes two at most. Where the credit does not
+/// suffice, it is for many marks at once, so that memory is seldom asked for.
+fn places_for(credit: u64, marks: u64) -> u64
+    requires { (marks ≤ 256) ⊎ (2 * marks ≤ credit) }
+    ensures wanted { 2 * marks ≤ result }
+    ensures few { result + 1 < 2 ^ 64 }
+{
+    if marks <= credit / 2 {
+        2 * marks
+    } else {
+        2 * MARKS
+    }
+}
+
+/// Makes room for the next marks of a module, which are these.
+///
+/// For a few marks it is as for Runs: so many places at each port that memory is seldom asked for. Where there are many, it is at each
+/// port for what the marks take there, since a module may have many ports of which a mark takes few. All else stays, after
+/// `OutOfMemory` too.
+pub(crate) fn make_room_for_marks(
+    engine: &mut Engine,
+    member: &Member<'_>,
+    marks: &[Advance],
+) -> Result<(), OutOfMemory>
+    requires core { (p : PlanOf) × ((ends : Items (Maybe Advance)) × ((runs : Items (Maybe RunOf))
+        × (IsCore p engine.old ends runs × IsMember p member.now.number member.now.ports.now member.now.body))) }
+    ensures core { (p : PlanOf) (ends : Items (Maybe Advance)) (runs : Items (Maybe RunOf)) → IsCore p engine.old ends runs
+        → IsMember p member.now.number member.now.ports.now member.now.body → IsCore p engine.new ends runs }
+    ensures alike { (ends : Items (Maybe Advance)) → IsHeldAlike engine.old ends engine.new ends }
+    ensures places { OnOk result ((p : PlanOf) (ends : Items (Maybe Advance)) (runs : Items (Maybe RunOf)) → IsCore p engine.old ends runs
+        → IsMember p member.now.number member.now.ports.now member.now.body
+        → HasPlacesForMarks p engine.new member.now.number marks.now) }
+    ensures queries { OnOk result (member.now.body ≤ slice_index engine.new.log.rooms member.now.number) }
+{
+    let count = marks.len() as u64;
+    let credit = engine.credits[member.number as usize];
+    if count > MARKS && count > credit / 2 {
+        let taken = count_taken(*engine.credits.allocator(), member.ports, marks)?;
+        return engine.make_room_at(
+            member.number,
+            member.ports,
+            taken.as_slice(),
+            count,
+            member.body,
+        );
+    }
+    engine.make_room_for(
+        member.number,
+        member.ports,
+        member.body,
+        places_for(credit, count),
+    )
+}

@@ -1,11 +1,11 @@
 //! A channel with its pushes and pops.
-ghost use Rattle.std.specs.Prelude.{◌≡◌, ◌≤◌, slice_get, IfOk, OnOk};
+ghost use Rattle.std.specs.Prelude.{◌≡◌, ◌≤◌, slice_get, OnOk};
 ghost use Rattle.fifo_table.specs.Channels.{unused, lag_of, free_of, deepened, places_of};
 ghost use Rattle.fifo_table.specs.Roomed.{channel_of};
 
 use crate::places::Places;
 use crate::pushes::Pushes;
-use flow_word::{List, OutOfMemory, Place, Side, Words};
+use flow_word::{OutOfMemory, Place, Side, Words};
 use std::alloc::Global;
 
 /// The kind of a channel, with all that the table needs of it.
@@ -36,15 +36,15 @@ pub struct RoomyChannel {
 }
 
 impl RoomyChannel {
-    /// A channel of this kind without any push or pop. `OutOfMemory` where memory ran out.
-    pub fn new(alloc: Global, kind: &TableChannel) -> Result<RoomyChannel, OutOfMemory>
-        ensures { IfOk result (λ channel. channel_of channel ≡ unused kind.now) }
+    /// A channel of this kind without any push or pop. It takes no memory.
+    pub fn new(alloc: Global, kind: TableChannel) -> RoomyChannel
+        ensures { channel_of result ≡ unused kind }
     {
-        Ok(RoomyChannel {
-            kind: copied(alloc, kind)?,
+        RoomyChannel {
+            kind,
             pushes: Pushes::new(alloc),
             pops: Places::new(alloc),
-        })
+        }
     }
 
     /// Reserves room for `pushes` further pushes and `pops` further pops. Neither room falls. The pushes and pops stay.
@@ -115,21 +115,5 @@ impl RoomyChannel {
         if let TableChannel::Fifo { depth: current, .. } = &mut self.kind {
             *current = depth;
         }
-    }
-}
-
-fn copied(alloc: Global, kind: &TableChannel) -> Result<TableChannel, OutOfMemory>
-    ensures { IfOk result (λ copy. copy ≡ kind.now) }
-{
-    match kind {
-        TableChannel::Source(inputs) => Ok(TableChannel::Source(List::from_slice(
-            alloc,
-            inputs.as_slice(),
-        )?)),
-        TableChannel::Sink => Ok(TableChannel::Sink),
-        TableChannel::Fifo { depth, delay } => Ok(TableChannel::Fifo {
-            depth: *depth,
-            delay: *delay,
-        }),
     }
 }

@@ -47,14 +47,14 @@ impl Model for FifoTable {
 
 impl FifoTable {
     /// A table of these channels without any push or pop. `OutOfMemory` where memory ran out.
-    pub fn new(alloc: Global, channels: &[TableChannel]) -> Result<FifoTable, OutOfMemory>
-        requires count { length channels.now < 2 ^ 32 }
-        requires kinds { All IsSoundKind channels.now }
-        ensures { IfOk result (λ table. table.channels ≡ map unused channels.now) }
+    pub fn new(alloc: Global, channels: Vec<TableChannel>) -> Result<FifoTable, OutOfMemory>
+        requires count { length channels.items < 2 ^ 32 }
+        requires kinds { All IsSoundKind channels.items }
+        ensures { IfOk result (λ table. table.channels ≡ map unused channels.items) }
     {
         let mut made = Vec::with_capacity(alloc, channels.len())?;
         for kind in channels {
-            made.push(RoomyChannel::new(alloc, kind)?)?;
+            made.push(RoomyChannel::new(alloc, kind))?;
         }
         Ok(FifoTable { channels: made })
     }

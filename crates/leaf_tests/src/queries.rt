@@ -22,7 +22,10 @@ fn nth_input(ordinal: u64) -> Access
 #[test]
 fn a_source_has_as_many_values_as_inputs(rt: HostRuntime) -> Result<(), Fail> {
     let inputs = List::from_slice(rt.alloc(), &[7])?;
-    let fifos = FifoTable::new(rt.alloc(), &[TableChannel::Source(inputs)])?;
+    let fifos = FifoTable::new(
+        rt.alloc(),
+        vec![in rt.alloc(); TableChannel::Source(inputs)]?,
+    )?;
     let graph = Graph::new(rt.alloc(), 1)?;
     assert_eq!(rt; decide(&graph, &fifos, &nth_input(1), 0), Decision::Yes);
     assert_eq!(rt; decide(&graph, &fifos, &nth_input(2), 0), Decision::No);

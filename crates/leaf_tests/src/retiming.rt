@@ -28,7 +28,10 @@ fn holds_one<L: Ledger, R: Abort>(rt: &R, alloc: Global, blank: Blank) -> Result
 {
     let mut graph = Graph::new(alloc, 1)?;
     graph.push_step(0, step_after(alloc, 3))?;
-    let mut fifos = FifoTable::new(alloc, &[TableChannel::Fifo { depth: 1, delay: 4 }])?;
+    let mut fifos = FifoTable::new(
+        alloc,
+        vec![in alloc; TableChannel::Fifo { depth: 1, delay: 4 }]?,
+    )?;
     fifos.add_push(0, Place { module: 0, step: 0 }, 7)?;
     assert_eq!(rt; first_touched(&graph, &fifos, &depth_of(2)), None);
     let mut steps = Steps::<L>::new(blank);

@@ -10,7 +10,10 @@ use std::test::Fail;
 fn a_module_has_room_for_many_steps_at_once(rt: HostRuntime) -> Result<(), Fail> {
     let mut engine = Engine {
         graph: Graph::new(rt.alloc(), 1)?,
-        fifos: FifoTable::new(rt.alloc(), &[TableChannel::Fifo { depth: 2, delay: 1 }])?,
+        fifos: FifoTable::new(
+            rt.alloc(),
+            vec![in rt.alloc(); TableChannel::Fifo { depth: 2, delay: 1 }]?,
+        )?,
         log: QueryLog::new(rt.alloc(), 1)?,
         credits: vec![in rt.alloc(); 0; 1]?,
     };

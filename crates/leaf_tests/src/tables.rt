@@ -6,12 +6,12 @@ use std::test::Fail;
 #[test]
 fn accesses_are_enabled_by_ordinal_and_depth(rt: HostRuntime) -> Result<(), Fail> {
     let inputs = List::from_slice(rt.alloc(), &[7, 8])?;
-    let channels = [
+    let channels = vec![in rt.alloc();
         TableChannel::Source(inputs),
         TableChannel::Sink,
         TableChannel::Fifo { depth: 2, delay: 5 },
-    ];
-    let mut table = FifoTable::new(rt.alloc(), &channels)?;
+    ]?;
+    let mut table = FifoTable::new(rt.alloc(), channels)?;
     table.reserve(2, 2, 1)?;
     let push = Place { module: 0, step: 4 };
     let pop = Place { module: 1, step: 6 };

@@ -22,7 +22,7 @@ fn reads_an_input<L: Ledger, R: Abort>(
     requires one { L.parts ≡ 1 }
 {
     let inputs = List::from_slice(alloc, &[7])?;
-    let fifos = FifoTable::new(alloc, &[TableChannel::Source(inputs)])?;
+    let fifos = FifoTable::new(alloc, vec![in alloc; TableChannel::Source(inputs)]?)?;
     let mut accesses = Accesses::new(alloc);
     accesses.push(Access {
         kind: Kind::Read,

@@ -65,7 +65,7 @@ fn begin(alloc: Global, plan: Plan, runs: Vec<Option<ModuleRun>>) -> Result<Core
 {
     let modules = plan.design.modules.as_slice().len() as u32;
     let kinds = make_kinds(alloc, &plan)?;
-    let fifos = FifoTable::new(alloc, kinds.as_slice())?;
+    let fifos = FifoTable::new(alloc, kinds)?;
     let graph = Graph::new(alloc, modules)?;
     let log = QueryLog::new(alloc, modules)?;
     let ends = no_ends(alloc, modules)?;
@@ -156,12 +156,12 @@ fn no_ends(alloc: Global, modules: u32) -> Result<Vec<Option<Advance>>, OutOfMem
 }
 
 /// The plan's channels as the table has them.
-fn make_kinds(alloc: Global, plan: &Plan) -> Result<List<TableChannel>, OutOfMemory>
+fn make_kinds(alloc: Global, plan: &Plan) -> Result<Vec<TableChannel>, OutOfMemory>
     requires fits { FitsEngine plan.now }
-    ensures { IfOk result (λ kinds. kinds ≡ kinds_of plan.now) }
+    ensures { IfOk result (λ kinds. kinds.items ≡ kinds_of plan.now) }
 {
     let count = plan.design.channels.as_slice().len();
-    let mut kinds = List::with_room(alloc, count as u64)?;
+    let mut kinds = Vec::with_capacity(alloc, count)?;
     for i in 0..count {
         kinds.push(make_kind(alloc, plan, i)?)?;
     }

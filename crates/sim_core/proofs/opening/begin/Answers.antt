@@ -12,14 +12,14 @@ use Rattle.sim_core.proofs.opening.begin.Goals as goal
 
 pub new-requires-clause-count : goal.new-requires-clause-count
 new-requires-clause-count c =
-    let e = ap (λ (ys : List TableChannel). length ys) (c.as_slice-2.ensures ∙ c.in_ok-kinds.ensures) in
+    let e = ap (λ (ys : List TableChannel). length ys) c.in_ok-kinds.ensures in
     let n = beginning.kinds_length c.args.plan c.requires.fits in
     let k = c.requires.fits.channel_count in
     omega arith
 
 pub new-requires-clause-kinds : goal.new-requires-clause-kinds
-new-requires-clause-kinds c = beginning.kinds_sound c.args.plan c.requires.fits c.as_slice-2.result.now
-    (c.as_slice-2.ensures ∙ c.in_ok-kinds.ensures)
+new-requires-clause-kinds c = beginning.kinds_sound c.args.plan c.requires.fits c.in_ok-kinds.kinds.items
+    c.in_ok-kinds.ensures
 
 pub invariant_of-result : goal.invariant_of-result
 invariant_of-result c =
@@ -32,7 +32,7 @@ invariant_of-result c =
     } in
     let over : over_of c.in_ok-ends.ends.items ≡ replicate n false = ap over_of c.in_ok-ends.ensures ∙ beginning.none_over n in
     let is = beginning.held_is n (kinds_of c.args.plan) (held_in s (over_of c.in_ok-ends.ends.items)) c.in_ok-graph.ensures
-    (c.in_ok-fifos.ensures ∙ ap (map unused) (c.as_slice-2.ensures ∙ c.in_ok-kinds.ensures)) c.in_ok-log.ensures over in
+    (c.in_ok-fifos.ensures ∙ ap (map unused) c.in_ok-kinds.ensures) c.in_ok-log.ensures over in
     let count = ap (λ (xs : List Module). length xs) c.as_slice.ensures in
     record {
       core = beginning.core_begun c.args.plan c.requires.fits n count s c.in_ok-ends.ends.items c.args.runs.items
@@ -58,7 +58,7 @@ returns-clause-opening c =
     } in
     let over : over_of c.in_ok-ends.ends.items ≡ replicate n false = ap over_of c.in_ok-ends.ensures ∙ beginning.none_over n in
     let is = beginning.held_is n (kinds_of c.args.plan) (held_in s (over_of c.in_ok-ends.ends.items)) c.in_ok-graph.ensures
-    (c.in_ok-fifos.ensures ∙ ap (map unused) (c.as_slice-2.ensures ∙ c.in_ok-kinds.ensures)) c.in_ok-log.ensures over in
+    (c.in_ok-fifos.ensures ∙ ap (map unused) c.in_ok-kinds.ensures) c.in_ok-log.ensures over in
     ap (core_of (design c.args.plan)) (sym is) ∙ (beginning.begins c.args.plan c.requires.fits n
     (ap (λ (xs : List Module). length xs) c.as_slice.ensures)).0
 

@@ -1,5 +1,5 @@
 -- Lanes with other cycles, as puts leave them.
-use Rattle.std.proofs.Common.{◌≡◌, refl, sym, ap, ap₂, subst, ◌∙◌, ℕ, suc, ◌<◌, ◌≤◌, ◌⊎◌, inl, inr, List, [], ◌∷◌, length, get_or, Vec}
+use Rattle.std.proofs.Common.{◌≡◌, refl, sym, ap, ap₂, subst, ◌∙◌, ℕ, suc, ◌<◌, ◌≤◌, ◌⊎◌, inl, inr, List, [], ◌∷◌, length, get_or, Vec, Option}
 use Rattle.std.proofs.Common.{Global, arith}
 use Rattle.std.proofs.{Math.ListN.set, Math.Seq.map-set_same, Math.Seq.drop-length, lemmas.Bool.Decides.eqb_tells}
 use Rattle.std.proofs.lemmas.List.{get_or-set_same, set-set, set-get_or}
@@ -11,7 +11,7 @@ use Rattle.fifo_table.specs.{declared.channel.TableChannel.TableChannel, Roomed.
 use Rattle.fifo_table.specs.declared.channel.TableChannel.TheVariants.{Source, Sink, Fifo}
 use Rattle.fifo_table.specs.Channels.{Channel, channel_at, deepened, depth_of, unused, deepened_channels}
 use Rattle.engine_view.specs.{Emitted.place_of, Rooms.room_of, declared.engine.Engine.Engine, Engines.held_in}
-use Rattle.flow_design.specs.declared.plan.Edit.{Edit}
+use Rattle.flow_design.specs.{declared.plan.Edit.Edit, declared.state.Advance.Advance}
 use Rattle.query_log.specs.Logs.{RoomedLogs}
 use Rattle.retime.specs.Rounds.{only_steps}
 use Rattle.retime.proofs.Counts.{same_length, same_steps}
@@ -118,6 +118,7 @@ pub record IsPutEdited (s : Engine) (edit : Edit) (puts : List Put) (t : Engine)
   pub push_rooms : t.fifos.push_rooms ≡ s.fifos.push_rooms
   pub pop_rooms : t.fifos.pop_rooms ≡ s.fifos.pop_rooms
   pub log : t.log ≡ s.log
+  pub ends : t.ends ≡ s.ends
   pub credits : t.credits ≡ s.credits
 
 -- so it is where puts followed a depth that was set
@@ -131,6 +132,7 @@ put_edited s t fifos edit puts channels pushes pops put = record {
   push_rooms = ap (λ (q : RoomedChannels). q.push_rooms) put.fifos ∙ pushes;
   pop_rooms = ap (λ (q : RoomedChannels). q.pop_rooms) put.fifos ∙ pops;
   log = put.log;
+  ends = put.ends;
   credits = put.credits;
 }
 
@@ -141,11 +143,12 @@ none_put s sound = record {
   rooms = refl;
   fifos = refl;
   log = refl;
+  ends = refl;
   credits = refl;
 }
 
 module _ (s t : Engine) (edit : Edit) (puts : List Put) (put : IsPutEdited s edit puts t) where
-  pub other_cycles : HasOtherCycles (held_in s []) (held_in t []) edit
+  pub other_cycles : HasOtherCycles (held_in s) (held_in t) edit
   other_cycles =
       let o = puts_are_other s.graph.lanes puts t.graph.lanes put.lanes in
       record {
@@ -155,7 +158,7 @@ module _ (s t : Engine) (edit : Edit) (puts : List Put) (put : IsPutEdited s edi
         sound = o.sound;
         channels = put.channels;
         logs = ap (λ (l : RoomedLogs). l.logs) put.log;
-        over = refl;
+        over = rw put.ends refl;
       }
 
   pub no_room_lost : LosesNoRoom s t
@@ -163,6 +166,7 @@ module _ (s t : Engine) (edit : Edit) (puts : List Put) (put : IsPutEdited s edi
     lanes = λ k. let e = ap (λ (rs : List ℕ). get_or rs k 0) put.lane_rooms in omega arith;
     fifos = at_side;
     logs = ap (λ (l : RoomedLogs). l.rooms) put.log;
+    ends = put.ends;
     credits = put.credits;
   }
     where
@@ -170,18 +174,21 @@ module _ (s t : Engine) (edit : Edit) (puts : List Put) (put : IsPutEdited s edi
       at_side Pop c = let e = ap (λ (rs : List ℕ). get_or rs c 0) put.pop_rooms in omega arith
       at_side Push c = let e = ap (λ (rs : List ℕ). get_or rs c 0) put.push_rooms in omega arith
 
-abbrev engine_of : List Lane → List ℕ → List Channel → List ℕ → List ℕ → RoomedLogs → Vec ℕ Global → Engine
-engine_of lanes rooms channels pushes pops log credits = record {
+abbrev engine_of : List Lane → List ℕ → List Channel → List ℕ → List ℕ → RoomedLogs → Vec (Option Advance) Global
+    → Vec ℕ Global → Engine
+engine_of lanes rooms channels pushes pops log ends credits = record {
   graph = record { lanes = lanes; rooms = rooms };
   fifos = record { channels = channels; push_rooms = pushes; pop_rooms = pops };
   log = log;
+  ends = ends;
   credits = credits;
 }
 
 -- where all is as it was, the engine is
 pub all_same : (s t : Engine) → t.graph.lanes ≡ s.graph.lanes → t.graph.rooms ≡ s.graph.rooms → t.fifos.channels ≡ s.fifos.channels
-    → t.fifos.push_rooms ≡ s.fifos.push_rooms → t.fifos.pop_rooms ≡ s.fifos.pop_rooms → t.log ≡ s.log → t.credits ≡ s.credits → t ≡ s
-all_same s t lanes rooms channels pushes pops log credits =
-    let same : engine_of t.graph.lanes t.graph.rooms t.fifos.channels t.fifos.push_rooms t.fifos.pop_rooms t.log t.credits ≡ s =
-    rw (lanes, rooms, channels, pushes, pops, log, credits) refl in
+    → t.fifos.push_rooms ≡ s.fifos.push_rooms → t.fifos.pop_rooms ≡ s.fifos.pop_rooms → t.log ≡ s.log → t.ends ≡ s.ends
+    → t.credits ≡ s.credits → t ≡ s
+all_same s t lanes rooms channels pushes pops log ends credits =
+    let same : engine_of t.graph.lanes t.graph.rooms t.fifos.channels t.fifos.push_rooms t.fifos.pop_rooms t.log t.ends t.credits ≡ s =
+    rw (lanes, rooms, channels, pushes, pops, log, ends, credits) refl in
     same

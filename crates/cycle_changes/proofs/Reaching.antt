@@ -24,7 +24,7 @@ other_twice Push = refl
 -- a place of the table is of a module with a lane
 pub has_owner : (e : Engine) → IsSomeCore e → (side : Side) (c : ℕ) → c < length e.fifos.channels → (n : ℕ) (p : Place)
     → slice_get (places_of side (channel_at e.fifos.channels c)) n ≡ Some p → p.module < length e.graph.lanes
-has_owner e (d, over, i, k, r) side c l n p at =
+has_owner e (d, i, k, r) side c l n p at =
     let places = places_of side (channel_at e.fifos.channels c) in
     let all = k.sound.places.each c (unused Sink) l side in
     (subst (HasStep e.graph.lanes) (get_or_from_slice_get places n p p at) (all n p (slice_get_within places n p at))).owner
@@ -49,13 +49,13 @@ module _ (e : Engine) (core : IsSomeCore e) where
   d = core.0
 
   abbrev h : Held
-  h = held_in e core.1
+  h = held_in e
 
   abbrev i : IsDesign d
-  i = core.2
+  i = core.1
 
   abbrev y : IsSound d h
-  y = core.3.sound
+  y = core.2.sound
 
   module _ (side : Side) (c n m k : ℕ) (l : k < first_of h m) (q : StandsAs side c n (step_of h m k)) where
     emitted : k < emitted_of h m

@@ -13,13 +13,13 @@ use Rattle.event_timing.specs.Machines.{Design, IsDesign, Each}
 use Rattle.event_timing.specs.{Core.Core, Core.core_accesses, Core.view, Enablers.candidate, Edits.edited}
 use Rattle.event_timing.proofs.{Editing.edit_design, OwnRuns.same_side_is}
 use Rattle.cycle_changes.specs.Records.{IsRightRecord, IsRight, IsUnmoved, IsBeside, IsChecked, IsAmong, IsSaidAround, with_cycles, partner}
-use Rattle.cycle_changes.specs.{Looks.IsLooked, Looks.cycle_held, OtherCycles.HasOtherCycles, Changed.AreRightChanges}
+use Rattle.cycle_changes.specs.{Looks.IsLooked, Looks.cycle_held, Changed.AreRightChanges}
 use Rattle.cycle_changes.specs.Around.{IsLookedAround, IsAccessAt, WaitsForStep}
 use Rattle.cycle_changes.specs.Records as records
 use Rattle.cycle_changes.proofs.{Enabled.around, Onward.record_on, OtherHeld.other_now, RightLooks.look_is}
 use Rattle.cycle_changes.proofs.Waiting.{event_found, no_access}
 use Rattle.engine_view.specs.{Emitted.place_of, Kept.IsKept, Kept.IsNow, declared.engine.Engine.Engine, Engines.held_in}
-use Rattle.engine_view.specs.Held.{Held, held_parts, step_of, emitted_of, seen, core_of}
+use Rattle.engine_view.specs.Held.{Held, step_of, emitted_of, seen, core_of}
 use Rattle.engine_view.proofs.{Bounds.candidate_is, Knowing.timed_within}
 
 -- ---- lists of accesses
@@ -53,12 +53,12 @@ beside_or fifo (a ∷ xs) =
 
 module _ (s t : Engine) (edit : Edit) (limit : ℕ) (seeds puts : List Place) (inside : edit.channel < length s.fifos.channels)
     (is_fifo : IsFifo (channel_at s.fifos.channels edit.channel).kind) (c : AreRightChanges s t edit limit seeds puts)
-    (d : Design ModuleState) (over : List Bool) (i : IsDesign d) (k : IsKept d (held_in s over)) where
+    (d : Design ModuleState) (i : IsDesign d) (k : IsKept d (held_in s)) where
   abbrev h : Held
-  h = held_in s over
+  h = held_in s
 
   abbrev g : Held
-  g = held_in t over
+  g = held_in t
 
   abbrev x : Core ModuleState
   x = core_of d h
@@ -72,23 +72,12 @@ module _ (s t : Engine) (edit : Edit) (limit : ℕ) (seeds puts : List Place) (i
   i_edited : IsDesign e
   i_edited = edit_design d edit.channel edit.depth i
 
-  other : HasOtherCycles h g edit
-  other = record {
-    lanes = c.other.lanes;
-    steps = c.other.steps;
-    counts = c.other.counts;
-    sound = c.other.sound;
-    channels = c.other.channels;
-    logs = c.other.logs;
-    over = refl;
-  }
-
   now : IsNow e g y
-  now = other_now d h g edit k inside is_fifo other
+  now = other_now d h g edit k inside is_fifo c.other
 
   -- the old cycles under the new depth
   abbrev felt : Held
-  felt = held_parts s.graph.lanes (deepened_channels s.fifos.channels edit.channel edit.depth) s.log.logs over
+  felt = record h { channels = deepened_channels s.fifos.channels edit.channel edit.depth }
 
   felt_now : IsNow e felt x
   felt_now = other_now d h felt edit k inside is_fifo (record {
@@ -103,14 +92,13 @@ module _ (s t : Engine) (edit : Edit) (limit : ℕ) (seeds puts : List Place) (i
 
   -- ---- looks
 
-  right_of : (m j : ℕ) → j < x.timed m → IsLooked (held_in t []) m j → IsRight e y m j
+  right_of : (m j : ℕ) → j < x.timed m → IsLooked (held_in t) m j → IsRight e y m j
   right_of m j l looked =
       subst (λ (z : Core ModuleState). IsRight e z m j) now.core
-      ((look_is e i_edited g now.kept.sound m j (omega (arith, other.counts m))).0
+      ((look_is e i_edited g now.kept.sound m j (omega (arith, c.other.counts m))).0
       (record { cycle = looked.cycle; outcomes = looked.outcomes }))
 
-  felt_right : (m j : ℕ) → j < x.timed m
-      → IsLooked (held_parts s.graph.lanes (deepened_channels s.fifos.channels edit.channel edit.depth) s.log.logs []) m j → IsRight e x m j
+  felt_right : (m j : ℕ) → j < x.timed m → IsLooked felt m j → IsRight e x m j
   felt_right m j l looked =
       subst (λ (z : Core ModuleState). IsRight e z m j) felt_now.core
       ((look_is e i_edited felt felt_now.kept.sound m j l).0 (record { cycle = looked.cycle; outcomes = looked.outcomes }))
@@ -118,10 +106,10 @@ module _ (s t : Engine) (edit : Edit) (limit : ℕ) (seeds puts : List Place) (i
   changed : ℕ → ℕ → Bool
   changed m j = not (eqb (cycle_held g m j) (x.cycle m j))
 
-  put_in : (m j : ℕ) → Contains puts (place_of m j) → IsLookedAround (held_in t []) limit (place_of m j)
-  put_in m j (n, l, is) = subst (IsLookedAround (held_in t []) limit) is (c.around n (place_of m j) l)
+  put_in : (m j : ℕ) → Contains puts (place_of m j) → IsLookedAround (held_in t) limit (place_of m j)
+  put_in m j (n, l, is) = subst (IsLookedAround (held_in t) limit) is (c.around n (place_of m j) l)
 
-  put_of : (m j : ℕ) → changed m j ≡ true → IsLookedAround (held_in t []) limit (place_of m j)
+  put_of : (m j : ℕ) → changed m j ≡ true → IsLookedAround (held_in t) limit (place_of m j)
   unfolding changed
   put_of m j q =
       elim (c.same m j) [
@@ -138,10 +126,10 @@ module _ (s t : Engine) (edit : Edit) (limit : ℕ) (seeds puts : List Place) (i
       not_false false q = cc
 
   emitted : (m j : ℕ) → j < x.timed m → j < emitted_of g m
-  emitted m j l = omega (arith, timed_within d h k.sound m, ap (λ (ss : List _). length ss) (other.steps m))
+  emitted m j l = omega (arith, timed_within d h k.sound m, ap (λ (ss : List _). length ss) (c.other.steps m))
 
   waits : (m j : ℕ) (a : theory.Access) → j < x.timed m → IsAmong a (core_accesses e x m j) → records.is_free_at e x m j a ≡ false → (n : ℕ)
-      → records.enabling_step e x m j a ≡ Some n → WaitsForStep t.fifos.channels (step_of (held_in t []) m j) (place_of (partner e a) n)
+      → records.enabling_step e x m j a ≡ Some n → WaitsForStep t.fifos.channels (step_of (held_in t) m j) (place_of (partner e a) n)
   waits m j a l at free n f =
       let l' = emitted m j l in
       let xs = (step_of g m j).accesses in
@@ -164,8 +152,8 @@ module _ (s t : Engine) (edit : Edit) (limit : ℕ) (seeds puts : List Place) (i
   said = record {
     same = same_of;
     own = λ m j q l. right_of m j l (put_of m j q).own;
-    following = λ m j q l. right_of m (suc j) l ((put_of m j q).following (omega (arith, other.counts m)));
-    enabled = λ m j a l at free n f q. right_of m j l ((put_of (partner e a) n q).waiting m j (omega (arith, other.counts m))
+    following = λ m j q l. right_of m (suc j) l ((put_of m j q).following (omega (arith, c.other.counts m)));
+    enabled = λ m j a l at free n f q. right_of m j l ((put_of (partner e a) n q).waiting m j (omega (arith, c.other.counts m))
         (waits m j a l at free n f));
   }
 
@@ -179,7 +167,7 @@ module _ (s t : Engine) (edit : Edit) (limit : ℕ) (seeds puts : List Place) (i
         | inr b ↦
             elim (c.felt m j l b) [
               | inl looked ↦ inl (still, inr (inr (felt_right m j l looked)))
-              | inr (n, w, is) ↦ inr (right_of m j l (subst (λ (p : Place). IsLooked (held_in t []) p.module p.step) is
+              | inr (n, w, is) ↦ inr (right_of m j l (subst (λ (p : Place). IsLooked (held_in t) p.module p.step) is
                   (c.looked n (place_of m j) w)))
             ]
       ]

@@ -1,5 +1,5 @@
 -- A change of a depth that leaves a right record.
-use Rattle.std.specs.Prelude.{◌≡◌, ℕ, ◌≤◌, ◌⊎◌, List, [], length, slice_index, All, Contains}
+use Rattle.std.specs.Prelude.{◌≡◌, ℕ, ◌≤◌, ◌⊎◌, List, length, slice_index, All, Contains}
 use Rattle.flow_design.specs.declared.plan.Edit.{Edit}
 use Rattle.flow_word.specs.{declared.access.Place.Place, declared.access.Side.Side}
 use Rattle.event_graph.specs.Lanes.{lane_at}
@@ -7,16 +7,16 @@ use Rattle.fifo_table.specs.Channels.{deepened_channels}
 use Rattle.event_timing.specs.Edits.{edited}
 use Rattle.cycle_changes.specs.{Records.IsRightRecord, Looks.IsLooked, Looks.cycle_held, OtherCycles.HasOtherCycles, Seeds.AreSeeds}
 use Rattle.cycle_changes.specs.Around.{IsLookedAround, NoneIsDue}
-use Rattle.engine_view.specs.{Emitted.place_of, Held.held_parts, Held.core_of, Kept.IsKept, Rooms.room_of, declared.engine.Engine.Engine}
+use Rattle.engine_view.specs.{Emitted.place_of, Held.core_of, Kept.IsKept, Rooms.room_of, declared.engine.Engine.Engine}
 use Rattle.engine_view.specs.{Engines.held_in, Taking.kinds_in, Turns.IsSomeCore, Turns.OfEach}
 use Rattle.retime.specs.{Cuts.KeepsRoomEdited, Rounds.only_steps}
 
 -- for each design of which s is a right record, t is a right record of the design with the new depth
 abbrev pub StaysRight : Edit → ℕ → Engine → Engine → Type 0
 StaysRight edit limit s t =
-    OfEach s (λ d over. IsRightRecord d limit (core_of d (held_in s over))
-    → IsRightRecord (edited d edit.channel edit.depth) limit (core_of (edited d edit.channel edit.depth) (held_in t over))
-    × IsKept (edited d edit.channel edit.depth) (held_in t over))
+    OfEach s (λ d. IsRightRecord d limit (core_of d (held_in s))
+    → IsRightRecord (edited d edit.channel edit.depth) limit (core_of (edited d edit.channel edit.depth) (held_in t))
+    × IsKept (edited d edit.channel edit.depth) (held_in t))
 
 -- t stays right after s, differs from s only in the depth and in cycles, and has the room that the credits promise
 pub record HasChanged (edit : Edit) (limit : ℕ) (s t : Engine) : Type 0 where
@@ -31,17 +31,18 @@ pub record HasChanged (edit : Edit) (limit : ℕ) (s t : Engine) : Type 0 where
 -- what a check of new cycles finds: each step in which the new depth is felt, by the old cycles, is a seed, and each seed is right
 -- now; each step with another cycle is a put, and what it can reach is right; no further step is determined below the limit
 pub record AreRightChanges (s t : Engine) (edit : Edit) (limit : ℕ) (seeds puts : List Place) : Type 0 where
-  pub other : HasOtherCycles (held_in s []) (held_in t []) edit
+  pub other : HasOtherCycles (held_in s) (held_in t) edit
   pub felt : AreSeeds
-      (held_parts s.graph.lanes (deepened_channels s.fifos.channels edit.channel edit.depth) s.log.logs []) edit.channel seeds
-  pub looked : All (λ p. IsLooked (held_in t []) p.module p.step) seeds
-  pub same : (m k : ℕ) → (cycle_held (held_in t []) m k ≡ cycle_held (held_in s []) m k) ⊎ Contains puts (place_of m k)
-  pub around : All (IsLookedAround (held_in t []) limit) puts
-  pub late : NoneIsDue (held_in t []) limit
+      (record (held_in s) { channels = deepened_channels s.fifos.channels edit.channel edit.depth }) edit.channel seeds
+  pub looked : All (λ p. IsLooked (held_in t) p.module p.step) seeds
+  pub same : (m k : ℕ) → (cycle_held (held_in t) m k ≡ cycle_held (held_in s) m k) ⊎ Contains puts (place_of m k)
+  pub around : All (IsLookedAround (held_in t) limit) puts
+  pub late : NoneIsDue (held_in t) limit
 
--- engine t has the credits of engine s, and no less room
+-- engine t has the end marks and the credits of engine s, and no less room
 pub record LosesNoRoom (s t : Engine) : Type 0 where
   pub lanes : (k : ℕ) → slice_index s.graph.rooms k ≤ slice_index t.graph.rooms k
   pub fifos : (side : Side) (c : ℕ) → room_of s.fifos side c ≤ room_of t.fifos side c
   pub logs : t.log.rooms ≡ s.log.rooms
+  pub ends : t.ends ≡ s.ends
   pub credits : t.credits ≡ s.credits

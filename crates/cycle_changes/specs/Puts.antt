@@ -37,6 +37,7 @@ pub record HasPut (s : Engine) (puts : List Put) (t : Engine) : Type 0 where
   pub rooms : t.graph.rooms ≡ s.graph.rooms
   pub fifos : t.fifos ≡ s.fifos
   pub log : t.log ≡ s.log
+  pub ends : t.ends ≡ s.ends
   pub credits : t.credits ≡ s.credits
 
 -- the cycle lies between those of the step before and the step after

@@ -18,7 +18,7 @@ use time_engine::candidate;
 /// It takes no memory.
 pub fn is_right_around(engine: &Engine, at: Place, limit: u64) -> bool
     requires core { IsSomeCore engine.now }
-    ensures { result ≡ true → IsLookedAround (held_in engine.now []) limit at }
+    ensures { result ≡ true → IsLookedAround (held_in engine.now) limit at }
 {
     if !has_cycle(&engine.graph, at) {
         return false;
@@ -38,7 +38,7 @@ pub fn is_right_around(engine: &Engine, at: Place, limit: u64) -> bool
 /// Whether each of these places has a step with a cycle, and that step is right.
 pub fn are_right(engine: &Engine, places: &[Place]) -> bool
     requires core { IsSomeCore engine.now }
-    ensures { result ≡ true → All (λ p. IsLooked (held_in engine.now []) p.module p.step) places.now }
+    ensures { result ≡ true → All (λ p. IsLooked (held_in engine.now) p.module p.step) places.now }
 {
     for place in places {
         if !is_right(engine, *place) {
@@ -51,7 +51,7 @@ pub fn are_right(engine: &Engine, places: &[Place]) -> bool
 /// Whether the place has a step with a cycle, and that step is right.
 fn is_right(engine: &Engine, at: Place) -> bool
     requires core { IsSomeCore engine.now }
-    ensures { result ≡ true → IsLooked (held_in engine.now []) at.module at.step }
+    ensures { result ≡ true → IsLooked (held_in engine.now) at.module at.step }
 {
     if !has_cycle(&engine.graph, at) {
         return false;
@@ -63,7 +63,7 @@ fn is_right(engine: &Engine, at: Place) -> bool
 pub fn are_late(engine: &Engine, limit: u64) -> bool
     requires limit { limit ≤ cycle_bound }
     requires core { IsSomeCore engine.now }
-    ensures { result ≡ true → NoneIsDue (held_in engine.now []) limit }
+    ensures { result ≡ true → NoneIsDue (held_in engine.now) limit }
 {
     for owner in 0..engine.graph.modules() {
         if let Candidate::At(_) = candidate(&engine.graph, &engine.fifos, owner, limit) {
@@ -90,8 +90,8 @@ fn is_next_right(engine: &Engine, at: Place) -> bool
     requires there { HasStep engine.now.graph.lanes at }
     requires timed { at.step < length (lane_at engine.now.graph.lanes at.module).cycles }
     requires core { IsSomeCore engine.now }
-    ensures { result ≡ true → suc at.step < first_of (held_in engine.now []) at.module
-        → IsLooked (held_in engine.now []) at.module (suc at.step) }
+    ensures { result ≡ true → suc at.step < first_of (held_in engine.now) at.module
+        → IsLooked (held_in engine.now) at.module (suc at.step) }
 {
     let frontier = engine.graph.frontier(at.module);
     let step = at.step + 1;

@@ -10,10 +10,10 @@ ghost use Rattle.cycle_changes.specs.{OtherCycles.HasOtherCycles, Changed.AreRig
 /// An engine with a new depth and new cycles is a core of the edited design, and has the room that the credits promise.
 pub fn changes_are_cores()
     ensures core { (s t : Engine) (e : Edit) → e.channel < length s.fifos.channels
-        → IsFifo (channel_at s.fifos.channels e.channel).kind → HasOtherCycles (held_in s []) (held_in t []) e → LosesNoRoom s t
+        → IsFifo (channel_at s.fifos.channels e.channel).kind → HasOtherCycles (held_in s) (held_in t) e → LosesNoRoom s t
         → IsSomeCore s → IsSomeCore t }
     ensures room { (s t : Engine) (e : Edit) → e.channel < length s.fifos.channels
-        → IsFifo (channel_at s.fifos.channels e.channel).kind → HasOtherCycles (held_in s []) (held_in t []) e → LosesNoRoom s t
+        → IsFifo (channel_at s.fifos.channels e.channel).kind → HasOtherCycles (held_in s) (held_in t) e → LosesNoRoom s t
         → KeepsRoomEdited e s t }
 {}
 

@@ -17,7 +17,7 @@ pub fn look(engine: &Engine, at: Place) -> bool
     requires there { HasStep engine.now.graph.lanes at }
     requires timed { at.step < length (lane_at engine.now.graph.lanes at.module).cycles }
     requires core { IsSomeCore engine.now }
-    ensures { (result ≡ true) ↔ IsLooked (held_in engine.now []) at.module at.step }
+    ensures { (result ≡ true) ↔ IsLooked (held_in engine.now) at.module at.step }
 {
     let Some(cycle) = due_cycle(&engine.graph, &engine.fifos, at) else {
         return false;
@@ -45,8 +45,8 @@ fn has_outcomes(engine: &Engine, at: Place, cycle: u64) -> bool
     requires there { HasStep engine.now.graph.lanes at }
     requires core { IsSomeCore engine.now }
     ensures { (result ≡ true) ↔ (found_flags engine.now.graph.lanes engine.now.fifos.channels cycle
-        (step_of (held_in engine.now []) at.module at.step).accesses
-        ≡ flags_of (held_in engine.now []) at.module at.step) }
+        (step_of (held_in engine.now) at.module at.step).accesses
+        ≡ flags_of (held_in engine.now) at.module at.step) }
 {
     let step = engine.graph.look(at);
     let found = compare_outcomes(

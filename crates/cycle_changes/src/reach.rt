@@ -15,7 +15,7 @@ use flow_word::Port;
 pub fn are_waiting_right(engine: &Engine, at: Place) -> bool
     requires there { HasStep engine.now.graph.lanes at }
     requires core { IsSomeCore engine.now }
-    ensures { result ≡ true → AreLooked (held_in engine.now [])
+    ensures { result ≡ true → AreLooked (held_in engine.now)
         (λ step. WaitsForStep engine.now.fifos.channels step at) }
 {
     let step = engine.graph.look(at);
@@ -30,9 +30,9 @@ pub fn are_waiting_right(engine: &Engine, at: Place) -> bool
 /// Whether each step with a cycle is right that waits for the given access of this step, at the other side of its channel.
 fn are_enabled_right(engine: &Engine, at: Place, access: &Access) -> bool
     requires there { HasStep engine.now.graph.lanes at }
-    requires access { Contains (step_of (held_in engine.now []) at.module at.step).accesses access.now }
+    requires access { Contains (step_of (held_in engine.now) at.module at.step).accesses access.now }
     requires core { IsSomeCore engine.now }
-    ensures { result ≡ true → AreLooked (held_in engine.now [])
+    ensures { result ≡ true → AreLooked (held_in engine.now)
         (WaitsAt engine.now.fifos.channels (other_side (side_of access.now.kind)) access.now.channel at) }
 {
     if !engine.fifos.is_fifo(access.channel) {
@@ -72,7 +72,7 @@ fn are_right_at(engine: &Engine, port: Port, ordinal: u64) -> bool
     requires channel { port.channel < length engine.now.fifos.channels }
     requires from_one { 1 ≤ ordinal }
     requires core { IsSomeCore engine.now }
-    ensures { result ≡ true → AreLooked (held_in engine.now [])
+    ensures { result ≡ true → AreLooked (held_in engine.now)
         (StandsAs port.side port.channel ordinal) }
 {
     let taker = engine.fifos.place(port.channel, port.side, ordinal - 1);
@@ -99,9 +99,9 @@ fn are_right_at(engine: &Engine, port: Port, ordinal: u64) -> bool
 fn are_right_in(engine: &Engine, port: Port, owner: u32, first: u64, last: u64) -> bool
     requires owner { owner < length engine.now.graph.lanes }
     requires core { IsSomeCore engine.now }
-    ensures { result ≡ true → (k : ℕ) → first ≤ k → k ≤ last → k < first_of (held_in engine.now []) owner
-        → HasAccessAt port.side port.channel (step_of (held_in engine.now []) owner k)
-        → IsLooked (held_in engine.now []) owner k }
+    ensures { result ≡ true → (k : ℕ) → first ≤ k → k ≤ last → k < first_of (held_in engine.now) owner
+        → HasAccessAt port.side port.channel (step_of (held_in engine.now) owner k)
+        → IsLooked (held_in engine.now) owner k }
 {
     let end = last.saturating_add(1).min(engine.graph.frontier(owner));
     for step in first..end {
@@ -122,11 +122,11 @@ fn are_right_in(engine: &Engine, port: Port, owner: u32, first: u64, last: u64) 
 /// Whether a step with a cycle is right, or has no access at the port.
 pub fn is_right_or_elsewhere(engine: &Engine, port: Port, at: Place) -> bool
     requires there { HasStep engine.now.graph.lanes at }
-    requires timed { at.step < first_of (held_in engine.now []) at.module }
+    requires timed { at.step < first_of (held_in engine.now) at.module }
     requires core { IsSomeCore engine.now }
     ensures { result ≡ true
-        → HasAccessAt port.side port.channel (step_of (held_in engine.now []) at.module at.step)
-        → IsLooked (held_in engine.now []) at.module at.step }
+        → HasAccessAt port.side port.channel (step_of (held_in engine.now) at.module at.step)
+        → IsLooked (held_in engine.now) at.module at.step }
 {
     if !stands_at(&engine.graph.look(at).accesses, port) {
         return true;

@@ -17,7 +17,7 @@ use flow_word::{Port, Side};
 pub fn find_seeds(engine: &Engine, channel: u32, seeds: &mut Vec<Place>) -> bool
     requires channel { channel < length engine.now.fifos.channels }
     requires core { IsSomeCore engine.now }
-    ensures { result ≡ true → AreSeeds (held_in engine.now []) channel seeds.new.items }
+    ensures { result ≡ true → AreSeeds (held_in engine.now) channel seeds.new.items }
 {
     let port = Port {
         side: Side::Push,
@@ -41,11 +41,11 @@ pub fn find_seeds(engine: &Engine, channel: u32, seeds: &mut Vec<Place>) -> bool
 /// Adds a step if it has an access at the port and is not right. False where memory runs out.
 fn keep_felt(engine: &Engine, port: Port, at: Place, seeds: &mut Vec<Place>) -> bool
     requires there { HasStep engine.now.graph.lanes at }
-    requires timed { at.step < first_of (held_in engine.now []) at.module }
+    requires timed { at.step < first_of (held_in engine.now) at.module }
     requires core { IsSomeCore engine.now }
     ensures felt { result ≡ true
-        → HasAccessAt port.side port.channel (step_of (held_in engine.now []) at.module at.step)
-        → IsLooked (held_in engine.now []) at.module at.step ⊎ Contains seeds.new.items at }
+        → HasAccessAt port.side port.channel (step_of (held_in engine.now) at.module at.step)
+        → IsLooked (held_in engine.now) at.module at.step ⊎ Contains seeds.new.items at }
     ensures kept { (p : place) → Contains seeds.old.items p → Contains seeds.new.items p }
 {
     if is_right_or_elsewhere(engine, port, at) {

@@ -1,11 +1,10 @@
 //! Whether a path shows that a plan ends late.
-ghost use Rattle.std.specs.Prelude.{◌≡◌, true, map, is_some};
+ghost use Rattle.std.specs.Prelude.{◌≡◌, true};
 ghost use Rattle.flow_design.specs.declared.plan.Plan.{Plan};
 ghost use Rattle.lockstep_defs.specs.Verdict.{verdict};
 ghost use Rattle.time_engine.specs.Conditions.{HasAccesses};
 ghost use Rattle.depth_order.specs.Depths.{with_depths, IsDoneBy};
-ghost use Rattle.engine_view.specs.Engines.{held_in};
-ghost use Rattle.path_check.specs.Waits.{IsTried};
+ghost use Rattle.path_check.specs.Waits.{IsTried, held_with};
 
 use crate::trails::Trail;
 use engine_view::Engine;
@@ -15,7 +14,7 @@ use path_check::{ends_after, never_ends};
 /// Whether a path shows that the plan, with the depths of the path, ends after a clock or never.
 pub(crate) fn is_late(engine: &Engine, ends: &[Option<Advance>], trail: &Trail, clock: u64) -> bool
     requires { HasAccesses engine.now.graph.lanes engine.now.fifos.channels }
-    ensures { result ≡ true → (p : Plan) → IsTried p (held_in engine.now (map is_some ends.now)) ends.now trail.now.depths
+    ensures { result ≡ true → (p : Plan) → IsTried p (held_with engine.now ends.now) ends.now trail.now.depths
         → IsDoneBy clock (verdict (with_depths p trail.now.depths)) → ⊥ }
 {
     let depths = trail.depths.as_slice();

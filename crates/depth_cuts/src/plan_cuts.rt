@@ -1,10 +1,10 @@
 //! Finds a cut of a plan with these depths.
-ghost use Rattle.std.specs.Prelude.{map, is_some, IfOk, IfSome};
+ghost use Rattle.std.specs.Prelude.{IfOk, IfSome};
 ghost use Rattle.flow_design.specs.declared.plan.Plan.{Plan};
 ghost use Rattle.time_engine.specs.Conditions.{HasAccesses};
 ghost use Rattle.depth_order.specs.Depths.{AreDepths, AsksNothing};
-ghost use Rattle.engine_view.specs.Engines.{held_in};
 ghost use Rattle.engine_report.specs.Finished.{IsFinished};
+ghost use Rattle.path_check.specs.Waits.{held_with};
 ghost use Rattle.depth_cuts.specs.PlanCuts.{AreDeepest, IsCutFor};
 
 use crate::cuts::Cut;
@@ -31,7 +31,7 @@ pub fn find_cut(
 ) -> Result<Option<Cut>, OutOfMemory>
     requires { HasAccesses engine.now.graph.lanes engine.now.fifos.channels }
     ensures { IfOk result (λ found. IfSome found (λ cut. (p : Plan)
-        → IsFinished p (held_in engine.now (map is_some ends.now)) ends.now → AsksNothing p → AreDeepest p → AreDepths p depths.now
+        → IsFinished p (held_with engine.now ends.now) ends.now → AsksNothing p → AreDeepest p → AreDepths p depths.now
         → IsCutFor p clock depths.now cut)) }
 {
     let Some(mut trail) = find_trail(alloc, engine, ends, depths, clock)? else {

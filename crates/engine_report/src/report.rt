@@ -1,5 +1,5 @@
 //! The report.
-ghost use Rattle.std.specs.Prelude.{◌≡◌, true, false, [], map, is_some, IfOk};
+ghost use Rattle.std.specs.Prelude.{◌≡◌, true, false, [], IfOk};
 ghost use Rattle.lockstep_defs.specs.Verdict as lockstep;
 ghost use Rattle.engine_view.specs.Engines.{held_in};
 ghost use Rattle.engine_report.specs.{Finished.IsFinished, Finished.report_with, Read.AreEvents};
@@ -11,7 +11,7 @@ use crate::outputs::outputs;
 use crate::verdict::verdict;
 use engine_view::Engine;
 use event_graph::Graph;
-use flow_design::{Advance, EventLine, Plan, Report, Verdict};
+use flow_design::{EventLine, Plan, Report, Verdict};
 use flow_word::{List, OutOfMemory};
 use std::alloc::Global;
 use timing_bridge::{every_report, steps_in_order};
@@ -26,15 +26,14 @@ pub fn report_of(
     alloc: Global,
     plan: &Plan,
     engine: &Engine,
-    ends: &[Option<Advance>],
     with_events: bool,
 ) -> Result<Report, OutOfMemory>
-    requires { IsFinished plan.now (held_in engine.now (map is_some ends.now)) ends.now }
+    requires { IsFinished plan.now (held_in engine.now) engine.now.ends.items }
     ensures { IfOk result (λ report. report ≡ report_with with_events plan.now) }
 {
     every_report();
     steps_in_order();
-    let verdict = verdict(engine, ends, plan.cycles);
+    let verdict = verdict(engine, plan.cycles);
     Ok(Report {
         verdict,
         outputs: outputs(alloc, plan, engine)?,
@@ -46,13 +45,13 @@ pub fn report_of(
 
 /// The verdict of a plan, read off what an engine holds at the end of its simulation. It is the lockstep machine's. It takes no
 /// memory.
-pub fn verdict_of(plan: &Plan, engine: &Engine, ends: &[Option<Advance>]) -> Verdict
-    requires { IsFinished plan.now (held_in engine.now (map is_some ends.now)) ends.now }
+pub fn verdict_of(plan: &Plan, engine: &Engine) -> Verdict
+    requires { IsFinished plan.now (held_in engine.now) engine.now.ends.items }
     ensures { result ≡ lockstep.verdict plan.now }
 {
     every_report();
     steps_in_order();
-    verdict(engine, ends, plan.cycles)
+    verdict(engine, plan.cycles)
 }
 
 /// The events if they are asked for, else none.

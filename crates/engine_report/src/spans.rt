@@ -1,5 +1,5 @@
 //! The spans of a module.
-ghost use Rattle.std.specs.Prelude.{ℕ, ◌≡◌, ◌<◌, ◌≤◌, ◌+◌, min, max, length, map, is_some, All, IfOk, OnOk};
+ghost use Rattle.std.specs.Prelude.{ℕ, ◌≡◌, ◌<◌, ◌≤◌, ◌+◌, min, max, length, All, IfOk, OnOk};
 ghost use Rattle.time_engine.specs.{Conditions.IsAccess, Conditions.HasAccesses, Conditions.HasPlaces, Possible.when_possible};
 ghost use Rattle.flow_design.specs.{declared.plan.Plan.Plan, Reports.clock_of};
 ghost use Rattle.lockstep_defs.specs.Verdict.{verdict};
@@ -26,17 +26,16 @@ use timelines::{Doing, Span, go_on};
 pub fn spans_of(
     alloc: Global,
     engine: &Engine,
-    ends: &[Option<Advance>],
     owner: u32,
     clock: u64,
 ) -> Result<List<Span>, OutOfMemory>
     requires owner { owner < length engine.now.graph.lanes }
     requires accesses { HasAccesses engine.now.graph.lanes engine.now.fifos.channels }
     requires places { HasPlaces engine.now.graph.lanes engine.now.fifos.channels }
-    requires ends { owner < length ends.now }
-    requires short { gap_of_end (end_at ends.now owner) < gap_bound }
+    requires ends { owner < length engine.now.ends.items }
+    requires short { gap_of_end (end_at engine.now.ends.items owner) < gap_bound }
     ensures { IfOk result (λ spans. (p : Plan)
-        → IsFinished p (held_in engine.now (map is_some ends.now)) ends.now → clock ≡ clock_of (verdict p)
+        → IsFinished p (held_in engine.now) engine.now.ends.items → clock ≡ clock_of (verdict p)
         → AreSpans p owner spans) }
 {
     let mut spans = List::new(alloc);
@@ -53,7 +52,7 @@ pub fn spans_of(
         last = cycle;
     }
     if timed == engine.graph.len(owner) {
-        let end = last + gap_of(&ends[owner as usize]);
+        let end = last + gap_of(&engine.ends[owner as usize]);
         go_on(&mut spans, end.min(clock), Doing::Moves)?;
     } else {
         let place = Place {

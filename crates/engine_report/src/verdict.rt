@@ -53,36 +53,36 @@ impl Standing {
 /// The verdict: the cycle limit where a step is determined or a module's stop is above the limit. Else the clock is the last stop,
 /// and the kind depends on how the modules ended. It takes no memory.
 #[tactic(auto, using(crate::proofs::Together::together_more))]
-pub fn verdict(engine: &Engine, ends: &[Option<Advance>], limit: u64) -> Verdict
-    requires ends { length ends.now ≡ length engine.now.graph.lanes }
-    requires gaps { (i : ℕ) → gap_of_end (end_at ends.now i) < gap_bound }
+pub fn verdict(engine: &Engine, limit: u64) -> Verdict
+    requires ends { length engine.now.ends.items ≡ length engine.now.graph.lanes }
+    requires gaps { (i : ℕ) → gap_of_end (end_at engine.now.ends.items i) < gap_bound }
     requires accesses { HasAccesses engine.now.graph.lanes engine.now.fifos.channels }
     requires places { HasPlaces engine.now.graph.lanes engine.now.fifos.channels }
     requires limit { limit ≤ cycle_bound }
     ensures { result ≡ verdict_by limit
-        (map (standing_at engine.now.graph.lanes engine.now.fifos.channels ends.now) (owners engine.now.graph.lanes)) }
+        (map (standing_at engine.now.graph.lanes engine.now.fifos.channels engine.now.ends.items) (owners engine.now.graph.lanes)) }
 {
     let mut all = Standing::of_none();
     for owner in 0..engine.graph.modules() {
-        all = all.with(stand(engine, ends, owner, limit));
+        all = all.with(stand(engine, owner, limit));
     }
     verdict_for(limit, all)
 }
 
 /// The standing of a module.
-fn stand(engine: &Engine, ends: &[Option<Advance>], owner: u32, limit: u64) -> Standing
+fn stand(engine: &Engine, owner: u32, limit: u64) -> Standing
     requires owner { owner < length engine.now.graph.lanes }
-    requires ends { length ends.now ≡ length engine.now.graph.lanes }
-    requires gaps { (i : ℕ) → gap_of_end (end_at ends.now i) < gap_bound }
+    requires ends { length engine.now.ends.items ≡ length engine.now.graph.lanes }
+    requires gaps { (i : ℕ) → gap_of_end (end_at engine.now.ends.items i) < gap_bound }
     requires accesses { HasAccesses engine.now.graph.lanes engine.now.fifos.channels }
     requires places { HasPlaces engine.now.graph.lanes engine.now.fifos.channels }
     requires limit { limit ≤ cycle_bound }
-    ensures { result ≡ standing_at engine.now.graph.lanes engine.now.fifos.channels ends.now owner }
+    ensures { result ≡ standing_at engine.now.graph.lanes engine.now.fifos.channels engine.now.ends.items owner }
 {
     let last = last_cycle(&engine.graph, owner);
     let first = engine.graph.frontier(owner);
     if first == engine.graph.len(owner) {
-        return stand_at_end(last, &ends[owner as usize]);
+        return stand_at_end(last, &engine.ends[owner as usize]);
     }
     let step = engine.graph.look(Place {
         module: owner,

@@ -47,16 +47,16 @@ left_answered g h m lanes l others was now =
 -- ---- the same of an engine
 
 pub less_assigned : (s : Engine) (graph : RoomedLanes) (m c : ℕ) → graph.lanes ≡ with_cycle s.graph.lanes m c → m < length s.graph.lanes
-    → first_of (held_in s []) m < emitted_of (held_in s []) m
-    → are_among (step_of (held_in s []) m (first_of (held_in s []) m)) (log_at s.log.logs m).verified ≡ true
+    → first_of (held_in s) m < emitted_of (held_in s) m
+    → are_among (step_of (held_in s) m (first_of (held_in s) m)) (log_at s.log.logs m).verified ≡ true
     → left (record s { graph = graph }) < left s
 unfolding left
-less_assigned s graph m c e inside less among = rw e (left_assigned (held_in s []) m c inside less among)
+less_assigned s graph m c e inside less among = rw e (left_assigned (held_in s) m c inside less among)
 
-pub less_answered : (s t : Engine) (m : ℕ) → t.graph ≡ s.graph → HasUnsure (held_in s []) m
+pub less_answered : (s t : Engine) (m : ℕ) → t.graph ≡ s.graph → HasUnsure (held_in s) m
     → ((n : ℕ) → (n ≡ m → ⊥) → log_at t.log.logs n ≡ log_at s.log.logs n)
-    → are_among (step_of (held_in s []) m (first_of (held_in s []) m)) (log_at t.log.logs m).verified ≡ true → left t < left s
+    → are_among (step_of (held_in s) m (first_of (held_in s) m)) (log_at t.log.logs m).verified ≡ true → left t < left s
 unfolding left
 less_answered s t m e u others now =
     let lanes = ap (λ (g : RoomedLanes). g.lanes) e in
-    left_answered (held_in t []) (held_in s []) m lanes u.inside others u.unsure now
+    left_answered (held_in t) (held_in s) m lanes u.inside others u.unsure now

@@ -14,7 +14,7 @@ use Rattle.event_timing.specs.Machines.{Design, IsDesign, Each, ready, takers, t
 use Rattle.event_timing.specs.{Core.Core, Agreement.AreOwnMarks, Actions.MayRun, Actions.newest, Actions.emit_step}
 use Rattle.event_timing.proofs.Assigning.{put_same, put_other, put_at_other}
 use Rattle.engine_view.specs.Held.{Held, step_of, emitted_of, seen, queries_in, are_among, core_of, held_parts}
-use Rattle.engine_view.specs.{Shown.IsSound, Shown.queries_before, declared.engine.Engine.Engine, Engines.held_in}
+use Rattle.engine_view.specs.{Shown.IsSound, Shown.queries_before, declared.engine.Engine.Engine, Engines.held_in, Engines.over_of}
 use Rattle.engine_view.specs.Emitted.{IsNextStep, with_emitted, place_of, done_at_once}
 use Rattle.engine_view.specs.Rooms.{query_bound, room_of, TakesAt, TakeOncePerPort, HasRoomFor, StandAtOwn, UsesRoom, pending, HasRoom}
 use Rattle.engine_view.specs.Rooms.{IsRoomy}
@@ -308,15 +308,15 @@ room_opening {S} d h lanes table logs credits none empty = record {
 -- ---- room of an engine
 
 -- where only the room is another, and none is less
-pub roomy_kept : {S : Type 0} → (d : Design S) (s t : Engine) (over : List Bool) → t.graph.lanes ≡ s.graph.lanes
-    → t.fifos.channels ≡ s.fifos.channels → t.log.logs ≡ s.log.logs
+pub roomy_kept : {S : Type 0} → (d : Design S) (s t : Engine) → t.graph.lanes ≡ s.graph.lanes
+    → t.fifos.channels ≡ s.fifos.channels → t.log.logs ≡ s.log.logs → t.ends.items ≡ s.ends.items
     → ((k : ℕ) → get_or s.graph.rooms k 0 ≤ get_or t.graph.rooms k 0)
     → ((side : Side) (c : ℕ) → room_of s.fifos side c ≤ room_of t.fifos side c)
-    → ((k : ℕ) → get_or s.log.rooms k 0 ≤ get_or t.log.rooms k 0) → IsRoomy d s over
-    → HasRoom d (held_in t over) t.graph.rooms t.fifos t.log.rooms s.credits.items
-roomy_kept {S} d s t over el ec eo f g q r =
-    rw (el, eo)
+    → ((k : ℕ) → get_or s.log.rooms k 0 ≤ get_or t.log.rooms k 0) → IsRoomy d s
+    → HasRoom d (held_in t) t.graph.rooms t.fifos t.log.rooms s.credits.items
+roomy_kept {S} d s t el ec eo ee f g q r =
+    rw (el, eo, ee)
     (subst (λ (cs : List Channel). HasRoom d
-    (held_parts s.graph.lanes cs s.log.logs over) t.graph.rooms t.fifos t.log.rooms s.credits.items)
+    (held_parts s.graph.lanes cs s.log.logs (over_of s.ends.items)) t.graph.rooms t.fifos t.log.rooms s.credits.items)
     (sym ec)
-    (room_kept d (held_in s over) s.graph.rooms t.graph.rooms s.fifos t.fifos s.log.rooms t.log.rooms s.credits.items r f g q))
+    (room_kept d (held_in s) s.graph.rooms t.graph.rooms s.fifos t.fifos s.log.rooms t.log.rooms s.credits.items r f g q))

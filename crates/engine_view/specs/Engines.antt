@@ -1,7 +1,12 @@
 -- What an engine holds, as the code has it.
-use Rattle.std.specs.Prelude.{Bool, List}
+use Rattle.std.specs.Prelude.{Bool, List, map, Option, is_some}
+use Rattle.flow_design.specs.declared.state.Advance.{Advance}
 use Rattle.engine_view.specs.{declared.engine.Engine.Engine, Held.Held, Held.held_parts}
 
--- what an engine holds, with the marks of modules that are over, which it does not keep itself
-abbrev pub held_in : Engine → List Bool → Held
-held_in e over = held_parts e.graph.lanes e.fifos.channels e.log.logs over
+-- for each module, whether it has an end mark
+abbrev pub over_of : List (Option Advance) → List Bool
+over_of ends = map is_some ends
+
+-- what an engine holds: of the end marks, only which modules have one
+abbrev pub held_in : Engine → Held
+held_in e = held_parts e.graph.lanes e.fifos.channels e.log.logs (over_of e.ends.items)

@@ -1,6 +1,7 @@
 -- Room for the pushes, pops and outcomes of further steps.
 use Rattle.std.specs.Prelude.{◌≡◌, ◌≢◌, ℕ, ◌+◌, ◌-◌, ◌*◌, ◌^◌, ◌<◌, ◌≤◌, Bool, true, cond, not, eqb, ◌&&◌, ◌||◌, List, [], ◌∷◌, length}
 use Rattle.std.specs.Prelude.{drop, slice_get, slice_index, slice_set, All, Some}
+use Rattle.flow_design.specs.declared.state.Advance.{Advance}
 use Rattle.flow_word.specs.Kinds.{side_of, is_blocking, is_taking}
 use Rattle.flow_word.specs.{declared.access.Access.Access, declared.access.Port.Port, declared.access.Side.Side, declared.access.Step.Step}
 use Rattle.flow_word.specs.declared.access.Side.TheVariants.{Pop, Push}
@@ -73,8 +74,8 @@ pub record HasRoom {S : Type 0} (d : Design S) (h : Held) (lanes : List ℕ) (ta
   pub few : (m : ℕ) → queries_before h m (emitted_of h m) < query_bound
 
 -- an engine has the room that its modules' credits promise
-abbrev pub IsRoomy : {S : Type 0} → Design S → Engine → List Bool → Type 0
-IsRoomy {S} d e over = HasRoom d (held_in e over) e.graph.rooms e.fifos e.log.rooms e.credits.items
+abbrev pub IsRoomy : {S : Type 0} → Design S → Engine → Type 0
+IsRoomy {S} d e = HasRoom d (held_in e) e.graph.rooms e.fifos e.log.rooms e.credits.items
 
 -- the list has each port of module m on the first `channels` channels
 abbrev pub AreAllPorts : {S : Type 0} → Design S → ℕ → ℕ → List Port → Type 0
@@ -94,6 +95,7 @@ pub record IsSameButRoom (m : ℕ) (e f : Engine) : Type 0 where
   pub lanes : f.graph.lanes ≡ e.graph.lanes
   pub channels : f.fifos.channels ≡ e.fifos.channels
   pub logs : f.log.logs ≡ e.log.logs
+  pub ends : f.ends ≡ e.ends
   pub count : length f.credits.items ≡ length e.credits.items
   pub other_credits : (n : ℕ) → n ≢ m → slice_index f.credits.items n ≡ slice_index e.credits.items n
 
@@ -121,5 +123,14 @@ pub record HasEmitted (e : Engine) (m : ℕ) (step : Step) (f : Engine) : Type 0
       ≡ taken_all (place_of m (length (lane_at e.graph.lanes m).steps)) e.fifos.channels step.accesses (done_at_once step.accesses)
   pub kinds : kinds_in f.fifos.channels ≡ kinds_in e.fifos.channels
   pub log : f.log ≡ e.log
+  pub ends : f.ends ≡ e.ends
   pub credits : f.credits.items ≡ slice_set e.credits.items m (slice_index e.credits.items m - 2)
   pub room : UsesRoom m step.accesses e.graph.rooms f.graph.rooms e.fifos f.fifos
+
+-- module m's end mark was emitted, and nothing else has changed
+pub record HasEmittedEnd (e : Engine) (m : ℕ) (end : Advance) (f : Engine) : Type 0 where
+  pub graph : f.graph ≡ e.graph
+  pub fifos : f.fifos ≡ e.fifos
+  pub log : f.log ≡ e.log
+  pub ends : f.ends.items ≡ slice_set e.ends.items m (Some end)
+  pub credits : f.credits ≡ e.credits

@@ -17,7 +17,7 @@ impl Engine {
     /// and the query is told. It takes no memory.
     pub fn answer_first(&mut self, owner: u32, cycle: u64) -> Guard
         requires core { IsSomeCore self.old }
-        requires unsure { HasUnsure (held_in self.old []) owner }
+        requires unsure { HasUnsure (held_in self.old) owner }
         ensures answered { HasAnswered result owner cycle self.old self.new }
         ensures graph { self.new.graph ≡ self.old.graph }
         ensures room { KeepsRoom self.old self.new }
@@ -41,7 +41,7 @@ impl Engine {
     /// pushes and pops that they decide.
     fn record_outcomes(&mut self, owner: u32, cycle: u64)
         requires core { IsSomeCore self.old }
-        requires unsure { HasUnsure (held_in self.old []) owner }
+        requires unsure { HasUnsure (held_in self.old) owner }
         requires fresh { first_outcome self.old owner ≡ None }
         ensures answered { HasAnswered Guard.Same owner cycle self.old self.new }
         ensures graph { self.new.graph ≡ self.old.graph }
@@ -76,7 +76,7 @@ impl Engine {
     /// whose outcome differs, and then nothing changes.
     fn confirm_outcomes(&mut self, owner: u32, cycle: u64) -> Guard
         requires core { IsSomeCore self.old }
-        requires unsure { HasUnsure (held_in self.old []) owner }
+        requires unsure { HasUnsure (held_in self.old) owner }
         requires recorded { is_some (first_outcome self.old owner) ≡ true }
         ensures answered { HasAnswered result owner cycle self.old self.new }
         ensures only_log { self.new ≡ record self.old { log = self.new.log } }

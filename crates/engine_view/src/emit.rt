@@ -1,10 +1,12 @@
-//! Adding a step, with its pushes and pops.
+//! Adding a step, with its pushes and pops, or the mark of an end.
+ghost use Rattle.std.specs.Prelude.{◌<◌, length};
 ghost use Rattle.event_graph.specs.Packed.{whole, IsFewStep};
-ghost use Rattle.engine_view.specs.Rooms.{CanEmit, HasEmitted};
+ghost use Rattle.engine_view.specs.Rooms.{CanEmit, HasEmitted, HasEmittedEnd};
 
 use crate::engine::Engine;
 use crate::take::take_all;
 use event_graph::{LaneAccesses, Place, Step, StepView};
+use flow_design::Advance;
 
 impl Engine {
     /// Adds a step of a module, and the pushes and pops of its blocking accesses. There must be room for them.
@@ -54,5 +56,13 @@ impl Engine {
         *credit = credit.saturating_sub(2);
         // The lane has room for the step.
         let _ = self.graph.push_few(owner, step);
+    }
+
+    /// Marks the end of a module's own run.
+    pub fn emit_end(&mut self, owner: u32, end: Advance)
+        requires { owner < length self.old.ends.items }
+        ensures { HasEmittedEnd self.old owner end self.new }
+    {
+        self.ends[owner as usize] = Some(end);
     }
 }

@@ -1,6 +1,7 @@
 //! What an engine holds.
 use event_graph::Graph;
 use fifo_table::FifoTable;
+use flow_design::Advance;
 use query_log::QueryLog;
 
 /// What an engine holds of a plan, with room for further steps.
@@ -13,6 +14,8 @@ pub struct Engine {
     pub fifos: FifoTable,
     /// The outcomes of each module's queries.
     pub log: QueryLog,
+    /// The end mark of each module whose own run came to its end. `None` for any other.
+    pub ends: Vec<Option<Advance>>,
     /// Each module's credit: how many more places its steps may take at each of its ports without asking for memory, two for a
     /// step.
     pub credits: Vec<u64>,
@@ -24,6 +27,7 @@ impl Drop for Engine {
             graph: _graph,
             fifos: _fifos,
             log: _log,
+            ends: _ends,
             credits: _credits,
         } = self;
     }

@@ -24,8 +24,8 @@ impl Engine {
         ensures same { IsSameButRoom owner self.old self.new }
         ensures credit { OnOk result (2 ≤ slice_index self.new.credits.items owner) }
         ensures queries { OnOk result (queries ≤ slice_index self.new.log.rooms owner) }
-        ensures room { (d : Design ModuleState) (over : List Bool) → AreAllPorts d owner (length self.old.fifos.channels) ports.now
-            → IsRoomy d self.old over → IsRoomy d self.new over }
+        ensures room { (d : Design ModuleState) → AreAllPorts d owner (length self.old.fifos.channels) ports.now
+            → IsRoomy d self.old → IsRoomy d self.new }
     {
         let places = if self.credits[owner as usize] >= 2 {
             2
@@ -53,8 +53,8 @@ impl Engine {
         ensures same { IsSameButRoom owner self.old self.new }
         ensures credit { OnOk result (places ≤ slice_index self.new.credits.items owner) }
         ensures queries { OnOk result (queries ≤ slice_index self.new.log.rooms owner) }
-        ensures room { (d : Design ModuleState) (over : List Bool) → AreAllPorts d owner (length self.old.fifos.channels) ports.now
-            → IsRoomy d self.old over → IsRoomy d self.new over }
+        ensures room { (d : Design ModuleState) → AreAllPorts d owner (length self.old.fifos.channels) ports.now
+            → IsRoomy d self.old → IsRoomy d self.new }
     {
         self.log.reserve(owner, queries)?;
         if self.credits[owner as usize] >= places {
@@ -87,7 +87,7 @@ impl Engine {
         ensures places { OnOk result ((i : ℕ) (port : Port) → slice_get ports.now i ≡ Some port
             → slice_index places.now i + 1 ≤ room_of self.new.fifos port.side port.channel) }
         ensures queries { OnOk result (queries ≤ slice_index self.new.log.rooms owner) }
-        ensures room { (d : Design ModuleState) (over : List Bool) → IsRoomy d self.old over → IsRoomy d self.new over }
+        ensures room { (d : Design ModuleState) → IsRoomy d self.old → IsRoomy d self.new }
     {
         self.log.reserve(owner, queries)?;
         self.graph.reserve(owner, steps)?;

@@ -8,6 +8,8 @@ use std::test::Fail;
 
 #[test]
 fn a_module_has_room_for_many_steps_at_once(rt: HostRuntime) -> Result<(), Fail> {
+    let mut ends = Vec::new(rt.alloc());
+    ends.push(None)?;
     let mut engine = Engine {
         graph: Graph::new(rt.alloc(), 1)?,
         fifos: FifoTable::new(
@@ -15,6 +17,7 @@ fn a_module_has_room_for_many_steps_at_once(rt: HostRuntime) -> Result<(), Fail>
             vec![in rt.alloc(); TableChannel::Fifo { depth: 2, delay: 1 }]?,
         )?,
         log: QueryLog::new(rt.alloc(), 1)?,
+        ends,
         credits: vec![in rt.alloc(); 0; 1]?,
     };
     let ports = [Port {

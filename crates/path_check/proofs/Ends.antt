@@ -1,7 +1,6 @@
 -- What a path of steps says of the end of the plan with these depths.
-use Rattle.std.proofs.Common.{◌≡◌, ℕ, zero, suc, ◌+◌, ◌-◌, ◌<◌, ◌≤◌, List, length, map, Option, None, Some, refl, sym, ◌∙◌, arith, inl, inr}
+use Rattle.std.proofs.Common.{◌≡◌, ℕ, zero, suc, ◌+◌, ◌-◌, ◌<◌, ◌≤◌, List, length, Option, None, Some, refl, sym, ◌∙◌, arith, inl, inr}
 use Rattle.std.proofs.lemmas.Bool.{cases_lt, lt-ltb, le-ltb}
-use Rattle.std.specs.Prelude.{is_some}
 use Rattle.flow_word.specs.declared.access.Place.{Place}
 use Rattle.flow_design.specs.{declared.plan.Plan.Plan, declared.report.Verdict.TheVariants.Done, declared.state.Advance.Advance}
 use Rattle.flow_design.specs.declared.state.Advance.TheVariants.{Step, Ended, Spent}
@@ -12,11 +11,11 @@ use Rattle.timing_bridge.specs.Designs.{design, lockstep_run, start_in}
 use Rattle.timing_bridge.proofs.History.{plan_is_design, run_is_history, moves_same}
 use Rattle.timelines.proofs.Waits.{cycle_moves}
 use Rattle.depth_order.specs.Depths.{with_depths}
-use Rattle.engine_view.specs.{declared.engine.Engine.Engine, Engines.held_in, Held.Held, Held.core_of, Held.emitted_of}
+use Rattle.engine_view.specs.{declared.engine.Engine.Engine, Held.Held, Held.core_of, Held.emitted_of}
 use Rattle.engine_view.proofs.Knowing.{timed_within}
 use Rattle.engine_report.specs.{Finished.IsFinished, Finished.IsEndMark, Standings.end_at, Standings.gap_of_end}
 use Rattle.path_check.specs.Paths.{Same}
-use Rattle.path_check.specs.Waits.{IsTried, cycle_at, IsTimedAt, ComesAfter, ComesLater, IsAlong, nth_place, moves_behind}
+use Rattle.path_check.specs.Waits.{IsTried, held_with, cycle_at, IsTimedAt, ComesAfter, ComesLater, IsAlong, nth_place, moves_behind}
 use Rattle.path_check.proofs.{Late.ends_later, Late.never_ends, Steps.moves_on, Steps.moves_last}
 
 -- ---- behind the last step
@@ -118,13 +117,13 @@ along_first e depths path l timed = record {
   within = omega arith;
   first = timed;
   last = timed;
-  along = λ p ends t. comes_first p (held_in e (map is_some ends)) depths (nth_place path 0);
+  along = λ p ends t. comes_first p (held_with e ends) depths (nth_place path 0);
 }
 
 pub along_more : (e : Engine) (depths : List ℕ) (path : List Place) (n clocks more all : ℕ) → n < length path → all ≤ clocks + more
     → IsTimedAt e.graph.lanes (nth_place path n)
-    → ((p : Plan) (ends : List (Option Advance)) → IsTried p (held_in e (map is_some ends)) ends depths
-    → ComesLater p (held_in e (map is_some ends)) depths (nth_place path (n - 1)) (nth_place path n) more)
+    → ((p : Plan) (ends : List (Option Advance)) → IsTried p (held_with e ends) ends depths
+    → ComesLater p (held_with e ends) depths (nth_place path (n - 1)) (nth_place path n) more)
     → IsAlong e depths path n clocks → IsAlong e depths path (n + 1) all
 along_more e depths path n clocks more all l few timed adds a =
     let at : (n + 1) - 1 ≡ n = omega arith in
@@ -134,7 +133,7 @@ along_more e depths path n clocks more all l few timed adds a =
       first = a.first;
       last = rw at timed;
       along = λ p ends t. rw at
-          (fewer_clocks p (held_in e (map is_some ends)) depths (nth_place path 0) (nth_place path n) all (clocks + more)
+          (fewer_clocks p (held_with e ends) depths (nth_place path 0) (nth_place path n) all (clocks + more)
           few (adds p ends t (nth_place path 0) clocks (a.along p ends t)));
     }
 
@@ -143,16 +142,16 @@ along_more e depths path n clocks more all l few timed adds a =
 pub path_ends_late : (e : Engine) (depths : List ℕ) (path : List Place) (clocks : ℕ) → IsAlong e depths path (length path) clocks
     → (ends : List (Option Advance)) (clock : ℕ)
     → clock ≤ cycle_at e.graph.lanes (nth_place path 0) + clocks + moves_behind e.graph.lanes ends (nth_place path (length path - 1))
-    → (p : Plan) → IsTried p (held_in e (map is_some ends)) ends depths → (end : ℕ) → verdict (with_depths p depths) ≡ Done end
+    → (p : Plan) → IsTried p (held_with e ends) ends depths → (end : ℕ) → verdict (with_depths p depths) ≡ Done end
     → clock < end
 path_ends_late e depths path clocks a ends clock l p t end done =
-    late_end p (held_in e (map is_some ends)) ends depths t (nth_place path 0) (nth_place path (length path - 1)) clocks a.last
+    late_end p (held_with e ends) ends depths t (nth_place path 0) (nth_place path (length path - 1)) clocks a.last
     (a.along p ends t) clock l end done
 
 pub path_never_ends : (e : Engine) (depths : List ℕ) (path : List Place) (clocks : ℕ) → IsAlong e depths path (length path) clocks
     → 0 < clocks → nth_place path 0 ≡ nth_place path (length path - 1) → (p : Plan) (ends : List (Option Advance))
-    → IsTried p (held_in e (map is_some ends)) ends depths → (end : ℕ) → verdict (with_depths p depths) ≡ Done end → ⊥
+    → IsTried p (held_with e ends) ends depths → (end : ℕ) → verdict (with_depths p depths) ≡ Done end → ⊥
 path_never_ends e depths path clocks a some round p ends t end done =
-    no_end p (held_in e (map is_some ends)) ends depths t (nth_place path 0) (nth_place path (length path - 1)) clocks a.last
+    no_end p (held_with e ends) ends depths t (nth_place path 0) (nth_place path (length path - 1)) clocks a.last
     (a.along p ends t)
     some round end done

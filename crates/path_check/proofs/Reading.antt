@@ -2,7 +2,7 @@
 use Rattle.std.proofs.Common.{◌≡◌, ℕ, zero, suc, ◌+◌, ◌-◌, ◌<◌, ◌≤◌, Bool, true, false, ◌||◌, List, [], ◌∷◌, refl, sym, ap, ◌∙◌, arith}
 use Rattle.std.proofs.Common.{length, map, slice_get, slice_index_or, Option, None, Some, subst}
 use Rattle.std.proofs.{lemmas.Bool.and_from, lemmas.Bool.eq-eqb, lemmas.Option.get_or_from_slice_get, lemmas.Option.slice_get_within}
-use Rattle.std.specs.Prelude.{slice_index, cond, is_some, IfSome}
+use Rattle.std.specs.Prelude.{slice_index, cond, IfSome}
 use Rattle.flow_word.specs.{declared.access.Access.Access, declared.access.Place.Place, declared.access.Side.Side}
 use Rattle.flow_word.specs.declared.access.Side.TheVariants.{Pop, Push}
 use Rattle.flow_word.specs.Kinds.{side_of, other_side, same_side, is_blocking}
@@ -18,13 +18,13 @@ use Rattle.timing_bridge.specs.Designs.{design, lockstep_run, start_in}
 use Rattle.timing_bridge.proofs.History.{plan_is_design, run_is_history}
 use Rattle.depth_order.specs.Depths.{with_depths}
 use Rattle.depth_order.proofs.Order.{same_elements}
-use Rattle.engine_view.specs.{declared.engine.Engine.Engine, Engines.held_in, Shown.IsKind, Shown.IsTakenAt}
+use Rattle.engine_view.specs.{declared.engine.Engine.Engine, Shown.IsKind, Shown.IsTakenAt}
 use Rattle.engine_view.specs.Held.{Held, core_of, step_of, no_step, emitted_of, seen, waited}
 use Rattle.engine_view.proofs.Knowing.{shown_inside}
 use Rattle.engine_report.specs.Finished.{IsFinished}
 use Rattle.engine_report.proofs.Ending.{apart_at}
 use Rattle.path_check.specs.Paths.{blocks_at, can_wait_at}
-use Rattle.path_check.specs.Waits.{IsTried, free_with, OneWaits, cycle_at, IsTimedAt, ComesLater}
+use Rattle.path_check.specs.Waits.{IsTried, held_with, free_with, OneWaits, cycle_at, IsTimedAt, ComesLater}
 use Rattle.path_check.proofs.Steps.{comes_next, comes_after, gap_behind}
 
 -- ---- accesses
@@ -163,16 +163,16 @@ pub lags_add : (e : Engine) (depths : List ℕ) (before next : Place) (found : O
     → IsTimedAt e.graph.lanes next
     → IfSome found (λ lag. OneWaits e.fifos.channels depths
     (slice_index_or (lane_at e.graph.lanes next.module).steps next.step no_step).accesses before lag)
-    → IfSome found (λ clocks. (p : Plan) (ends : List (Option Advance)) → IsTried p (held_in e (map is_some ends)) ends depths
-    → ComesLater p (held_in e (map is_some ends)) depths before next clocks)
+    → IfSome found (λ clocks. (p : Plan) (ends : List (Option Advance)) → IsTried p (held_with e ends) ends depths
+    → ComesLater p (held_with e ends) depths before next clocks)
 lags_add e depths before next None first timed w = tt
 lags_add e depths before next (Some lag) first timed w =
-    λ p ends t. waits_adds p (held_in e (map is_some ends)) ends depths t before next lag first timed w
+    λ p ends t. waits_adds p (held_with e ends) ends depths t before next lag first timed w
 
 pub gaps_add : (e : Engine) (depths : List ℕ) (before next : Place) (gap : ℕ)
     → gap ≡ (slice_index_or (lane_at e.graph.lanes next.module).steps next.step no_step).gap → IsTimedAt e.graph.lanes next
     → next.module ≡ before.module → next.step ≡ suc before.step
-    → (p : Plan) (ends : List (Option Advance)) → IsTried p (held_in e (map is_some ends)) ends depths
-    → ComesLater p (held_in e (map is_some ends)) depths before next gap
+    → (p : Plan) (ends : List (Option Advance)) → IsTried p (held_with e ends) ends depths
+    → ComesLater p (held_with e ends) depths before next gap
 gaps_add e depths before next gap is timed same step p ends t =
-    rw is (next_adds p (held_in e (map is_some ends)) ends depths t before next timed same step)
+    rw is (next_adds p (held_with e ends) ends depths t before next timed same step)

@@ -8,7 +8,7 @@ use Rattle.event_graph.specs.Lanes.{Lane, lane_at}
 use Rattle.fifo_table.specs.Channels.{Channel, IsFifo, channel_at, places_of, free_of, lag_of}
 use Rattle.timing_bridge.specs.Designs.{design, lockstep_run, start_in}
 use Rattle.depth_order.specs.Depths.{with_depths, AreDepths, AreDeeper, AsksNothing}
-use Rattle.engine_view.specs.{declared.engine.Engine.Engine, Engines.held_in, Held.Held}
+use Rattle.engine_view.specs.{declared.engine.Engine.Engine, Held.Held, Held.held_parts}
 use Rattle.engine_report.specs.{Finished.IsFinished, Standings.end_at, Standings.gap_of_end}
 use Rattle.path_check.specs.Paths.{IsAfter}
 
@@ -18,6 +18,10 @@ use Rattle.path_check.specs.Paths.{IsAfter}
 abbrev pub depths_with : List ℕ → Option Edit → List ℕ
 depths_with depths None = depths
 depths_with depths (Some edit) = slice_set depths edit.channel edit.depth
+
+-- what an engine holds, with these end marks
+abbrev pub held_with : Engine → List (Option Advance) → Held
+held_with engine ends = held_parts engine.graph.lanes engine.fifos.channels engine.log.logs (map is_some ends)
 
 -- the held run is the end of the plan's run, the plan asks nothing, and the depths fit its FIFOs and are no greater than their own
 pub record IsTried (p : Plan) (h : Held) (ends : List (Option Advance)) (depths : List ℕ) : Type 0 where
@@ -87,8 +91,8 @@ pub record IsAlong (engine : Engine) (depths : List ℕ) (path : List Place) (n 
   pub within : n ≤ length path
   pub first : IsTimedAt engine.graph.lanes (nth_place path 0)
   pub last : IsTimedAt engine.graph.lanes (nth_place path (n - 1))
-  pub along : (p : Plan) (ends : List (Option Advance)) → IsTried p (held_in engine (map is_some ends)) ends depths
-      → ComesAfter p (held_in engine (map is_some ends)) depths (nth_place path 0) (nth_place path (n - 1)) clocks
+  pub along : (p : Plan) (ends : List (Option Advance)) → IsTried p (held_with engine ends) ends depths
+      → ComesAfter p (held_with engine ends) depths (nth_place path 0) (nth_place path (n - 1)) clocks
 
 -- how many clocks after a step its module still moves, up to its end; 0 where the module has a next step
 abbrev pub moves_behind : List Lane → List (Option Advance) → Place → ℕ

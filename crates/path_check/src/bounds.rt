@@ -1,11 +1,10 @@
 //! Depths of FIFOs with which a plan ends late.
-ghost use Rattle.std.specs.Prelude.{◌≡◌, ◌<◌, ◌≤◌, true, length, map, is_some, IfOk};
+ghost use Rattle.std.specs.Prelude.{◌≡◌, ◌<◌, ◌≤◌, true, length, IfOk};
 ghost use Rattle.flow_design.specs.{declared.plan.Plan.Plan, Plans.is_fifo, Plans.kind_at};
 ghost use Rattle.time_engine.specs.Conditions.{HasAccesses};
 ghost use Rattle.depth_order.specs.Depths.{AsksNothing};
-ghost use Rattle.engine_view.specs.Engines.{held_in};
 ghost use Rattle.engine_report.specs.Finished.{IsFinished};
-ghost use Rattle.path_check.specs.Late.{IsLateBelow};
+ghost use Rattle.path_check.specs.{Late.IsLateBelow, Waits.held_with};
 
 use crate::events::is_timed;
 use crate::latest::Latest;
@@ -38,7 +37,7 @@ pub fn late_depth(
     target: &Target,
 ) -> Result<u64, OutOfMemory>
     requires { HasAccesses engine.now.graph.lanes engine.now.fifos.channels }
-    ensures { IfOk result (λ depth. (p : Plan) → IsFinished p (held_in engine.now (map is_some ends.now)) ends.now → AsksNothing p
+    ensures { IfOk result (λ depth. (p : Plan) → IsFinished p (held_with engine.now ends.now) ends.now → AsksNothing p
         → depths.now ≡ p.depths → is_fifo (kind_at p target.now.channel) ≡ true
         → IsLateBelow p target.now.clock target.now.channel depth) }
 {

@@ -1,12 +1,11 @@
 //! What a path of steps shows of the end of a plan.
-ghost use Rattle.std.specs.Prelude.{◌≡◌, ◌≢◌, ℕ, ◌<◌, true, length, map, is_some, Option, IfSome, List as Items};
+ghost use Rattle.std.specs.Prelude.{◌≡◌, ◌≢◌, ℕ, ◌<◌, true, length, Option, IfSome, List as Items};
 ghost use Rattle.flow_design.specs.{declared.plan.Plan.Plan, declared.report.Verdict.TheVariants.Done, declared.state.Advance.Advance};
 ghost use Rattle.lockstep_defs.specs.Verdict.{verdict};
 ghost use Rattle.depth_order.specs.Depths.{with_depths};
 ghost use Rattle.time_engine.specs.Conditions.{HasAccesses};
-ghost use Rattle.engine_view.specs.Engines.{held_in};
 ghost use Rattle.engine_report.specs.Standings.{gap_of_end};
-ghost use Rattle.path_check.specs.Waits.{IsTried, depths_with, IsTimedAt, IsAlong, cycle_at, nth_place, moves_behind};
+ghost use Rattle.path_check.specs.Waits.{IsTried, held_with, depths_with, IsTimedAt, IsAlong, cycle_at, nth_place, moves_behind};
 
 use crate::waits::{clocks_between, is_timed};
 use engine_view::Engine;
@@ -28,7 +27,7 @@ pub fn ends_after(
     clock: u64,
 ) -> bool
     requires { HasAccesses engine.now.graph.lanes engine.now.fifos.channels }
-    ensures { result ≡ true → (p : Plan) → IsTried p (held_in engine.now (map is_some ends.now)) ends.now (depths_with depths.now edit)
+    ensures { result ≡ true → (p : Plan) → IsTried p (held_with engine.now ends.now) ends.now (depths_with depths.now edit)
         → (end : ℕ) → verdict (with_depths p (depths_with depths.now edit)) ≡ Done end → clock < end }
 {
     match clocks_along(engine, depths, edit, path) {
@@ -49,7 +48,7 @@ pub fn ends_after(
 pub fn never_ends(engine: &Engine, depths: &[u64], edit: Option<Edit>, path: &[Place]) -> bool
     requires { HasAccesses engine.now.graph.lanes engine.now.fifos.channels }
     ensures { result ≡ true → (p : Plan) (ends : Items (Option Advance))
-        → IsTried p (held_in engine.now (map is_some ends)) ends (depths_with depths.now edit)
+        → IsTried p (held_with engine.now ends) ends (depths_with depths.now edit)
         → (end : ℕ) → verdict (with_depths p (depths_with depths.now edit)) ≢ Done end }
 {
     match clocks_along(engine, depths, edit, path) {

@@ -1,5 +1,5 @@
 -- What is held after an edit agrees with the history of the edited design.
-use Rattle.std.proofs.Common.{ℕ, ◌<◌, Bool, List, length, arith}
+use Rattle.std.proofs.Common.{ℕ, ◌<◌, length, arith}
 use Rattle.flow_design.specs.{declared.state.ModuleState.ModuleState, declared.plan.Edit.Edit}
 use Rattle.query_log.specs.Logs.{log_at}
 use Rattle.outcome_guard.specs.declared.guard.Guard.{Guard}
@@ -10,34 +10,34 @@ use Rattle.engine_view.specs.{Held.core_of, declared.engine.Engine.Engine, Engin
 use Rattle.retime.specs.{Rounds.LeadsAll, Edits.IsEditOf, Edits.RecordGrows, Edits.OutcomesGrow}
 use Rattle.retime.proofs.{Agreeing.cut_agrees, Counts.same_steps, Growing.records_grow, Outcomes.outcomes_grow}
 
-module _ (d : Design ModuleState) (y z : Trace ModuleState) (limit : ℕ) (over : List Bool) (old new : Engine) (guard : Guard)
-    (edit : Edit) (t : ℕ) (e : IsEditOf d y z limit over old new guard edit t) where
+module _ (d : Design ModuleState) (y z : Trace ModuleState) (limit : ℕ) (old new : Engine) (guard : Guard)
+    (edit : Edit) (t : ℕ) (e : IsEditOf d y z limit old new guard edit t) where
   abbrev f : Design ModuleState
   f = edited d edit.channel edit.depth
 
   abbrev x : Core ModuleState
-  x = after_edit d (core_of d (held_in old over)) t
+  x = after_edit d (core_of d (held_in old)) t
 
-  is_kept : IsKept d (held_in old over)
+  is_kept : IsKept d (held_in old)
   is_kept = record { sound = e.final.sound; marks = e.final.agreed.marks; earlier = e.final.agreed.time.verified_then }
 
   is_design : IsDesign f
   is_design = edit_design d edit.channel edit.depth e.final.design
 
-  leads : LeadsAll f limit x (held_in new over)
-  leads = (e.retimed d over e.final.design is_kept).0
+  leads : LeadsAll f limit x (held_in new)
+  leads = (e.retimed d e.final.design is_kept).0
 
   cut : IsAgreed f z limit x
-  cut = cut_agrees d y limit (held_in old over) e.final edit t e.from e.lags z e.history
+  cut = cut_agrees d y limit (held_in old) e.final edit t e.from e.lags z e.history
 
-  pub agreed_behind : IsAgreed f z limit (core_of f (held_in new over))
-  agreed_behind = all_agree f z is_design e.history limit x cut leads.actions (core_of f (held_in new over)) leads.all
+  pub agreed_behind : IsAgreed f z limit (core_of f (held_in new))
+  agreed_behind = all_agree f z is_design e.history limit x cut leads.actions (core_of f (held_in new)) leads.all
 
-  grows : (m : ℕ) → RecordGrows x (core_of f (held_in new over)) m
-  grows m = records_grow f z is_design e.history limit x cut leads.actions leads.timings (core_of f (held_in new over)) leads.all m
+  grows : (m : ℕ) → RecordGrows x (core_of f (held_in new)) m
+  grows m = records_grow f z is_design e.history limit x cut leads.actions leads.timings (core_of f (held_in new)) leads.all m
 
   pub outcomes_behind : (m : ℕ) → m < length old.log.logs → OutcomesGrow (log_at old.log.logs m) (log_at new.log.logs m)
   outcomes_behind m l =
-      outcomes_grow d f (held_in old over) (held_in new over) t m e.final.sound leads.kept.sound l
+      outcomes_grow d f (held_in old) (held_in new) t m e.final.sound leads.kept.sound l
       (let a = e.final.sound.logs in let b = leads.kept.sound.logs in omega arith)
       (same_steps old.graph.lanes new.graph.lanes e.steps m) (grows m)

@@ -30,15 +30,15 @@ timings_more (Earliest m ∷ rest) a t s = absurd t
 
 leads_more : (first now next : Engine) (limit : ℕ) (a : Action) → AreTimings (a ∷ [])
     → HasGone limit first now
-    → OfEach now (λ d over. Leads d limit (held_in now over) a (held_in next over))
+    → OfEach now (λ d. Leads d limit (held_in now) a (held_in next))
     → HasGone limit first next
-leads_more first now next limit a t all one d over y k =
-    let before = all d over y k in
-    let after = one d over y before.kept in
+leads_more first now next limit a t all one d y k =
+    let before = all d y k in
+    let after = one d y before.kept in
     record {
       actions = before.actions ++ a ∷ [];
       timings = timings_more before.actions a before.timings t;
-      all = acts_more d limit (core_of d (held_in first over)) before.actions (core_of d (held_in now over)) (core_of d (held_in next over))
+      all = acts_more d limit (core_of d (held_in first)) before.actions (core_of d (held_in now)) (core_of d (held_in next))
           a before.all after.acts;
       kept = after.kept;
     }
@@ -57,32 +57,32 @@ pub record HasTurned (limit : ℕ) (first now : Engine) (before ticks : ℕ) : T
 pub none_turned : (limit : ℕ) (first : Engine) (ticks : ℕ) → IsSomeCore first → HasTurned limit first first ticks ticks
 none_turned limit first ticks core = record {
   core = core;
-  acts = λ d over i k. record { actions = []; timings = tt; all = refl; kept = k };
-  room = record { credits = refl; room = λ d over i k r. r };
+  acts = λ d i k. record { actions = []; timings = tt; all = refl; kept = k };
+  room = record { ends = refl; credits = refl; room = λ d i k r. r };
   steps = refl;
   kinds = refl;
   ticked = refl;
 }
 
-kept_on : (t : Timing) (limit m : ℕ) (now next : Engine) → HasTimed t limit m now next → OfEach now (λ d over. IsKept d (held_in next over))
-kept_on (Assigned c) limit m now next done d over i k = (done d over i k).1.kept
-kept_on (Answered c) limit m now next done d over i k = (done d over i k).1.kept
-kept_on (Differs q) limit m now next (same, idle) d over i k = rw same k
-kept_on Nothing limit m now next (same, idle) d over i k = rw same k
+kept_on : (t : Timing) (limit m : ℕ) (now next : Engine) → HasTimed t limit m now next → OfEach now (λ d. IsKept d (held_in next))
+kept_on (Assigned c) limit m now next done d i k = (done d i k).1.kept
+kept_on (Answered c) limit m now next done d i k = (done d i k).1.kept
+kept_on (Differs q) limit m now next (same, idle) d i k = rw same k
+kept_on Nothing limit m now next (same, idle) d i k = rw same k
 
 gone_on : (t : Timing) (limit m : ℕ) (first now next : Engine) → HasTimed t limit m now next → HasGone limit first now
     → HasGone limit first next
 gone_on (Assigned c) limit m first now next done acts =
-    leads_more first now next limit (Assign m) tt acts (λ d over i k. (done d over i k).1)
+    leads_more first now next limit (Assign m) tt acts (λ d i k. (done d i k).1)
 gone_on (Answered c) limit m first now next done acts =
-    leads_more first now next limit (Answer m) tt acts (λ d over i k. (done d over i k).1)
+    leads_more first now next limit (Answer m) tt acts (λ d i k. (done d i k).1)
 gone_on (Differs q) limit m first now next (same, idle) acts = rw same acts
 gone_on Nothing limit m first now next (same, idle) acts = rw same acts
 
 -- what is known of some design stays so
-core_after : (now next : Engine) → IsSomeCore now → OfEach now (λ d over. IsKept d (held_in next over)) → KeepsRoom now next
+core_after : (now next : Engine) → IsSomeCore now → OfEach now (λ d. IsKept d (held_in next)) → KeepsRoom now next
     → IsSomeCore next
-core_after now next (d, over, i, k, r) kept room = (d, over, i, kept d over i k, room.room d over i k r)
+core_after now next (d, i, k, r) kept room = (d, i, kept d i k, room.room d i k r)
 
 -- one turn more, whatever was done
 pub turned : {limit m : ℕ} {first now : Engine} {before ticks : ℕ} {cursor : CursorView} (next : Engine) (later : ℕ) (t : Timing)
@@ -93,8 +93,9 @@ turned {limit} {m} {first} {now} {before} {ticks} {cursor} next later t at count
   core = core_after now next so_far.core (kept_on t limit m now next done) room;
   acts = gone_on t limit m first now next done so_far.acts;
   room = record {
+    ends = room.ends ∙ so_far.room.ends;
     credits = room.credits ∙ so_far.room.credits;
-    room = λ d over i k r. room.room d over i (so_far.acts d over i k).kept (so_far.room.room d over i k r);
+    room = λ d i k r. room.room d i (so_far.acts d i k).kept (so_far.room.room d i k r);
   };
   steps = steps_behind t m now.graph.lanes next.graph.lanes lanes ∙ so_far.steps;
   kinds = kinds ∙ so_far.kinds;
@@ -109,7 +110,7 @@ turned {limit} {m} {first} {now} {before} {ticks} {cursor} next later t at count
 
 -- nothing is permitted of the module but a Run or an Earliest, whatever the design
 abbrev pub IsIdleIn : ℕ → Engine → ℕ → Type 0
-IsIdleIn limit now m = OfEach now (λ d over. IsIdle d limit (core_of d (held_in now over)) m)
+IsIdleIn limit now m = OfEach now (λ d. IsIdle d limit (core_of d (held_in now)) m)
 
 -- of none that is passed is one permitted
 pub idle_on : (limit m : ℕ) (now next : Engine) (c d : CursorView) → IsNext c m → HasTimed Nothing limit m now next
@@ -131,9 +132,9 @@ idle_outside {S} d limit h m l = record {
 pub all_idle : {limit : ℕ} {first now : Engine} {before ticks : ℕ} (cursor : CursorView) → HasTurned limit first now before ticks
     → cursor.count ≡ length first.graph.lanes → ((m : ℕ) → m < cursor.count → IsPassed cursor m) → AreIdle (IsIdleIn limit now) cursor
     → HasEndedForEach Same limit now
-all_idle {limit} {first} {now} cursor so_far counted all idle d over y k m =
+all_idle {limit} {first} {now} cursor so_far counted all idle d y k m =
     let count = same_length first.graph.lanes now.graph.lanes so_far.steps in
     elim (cases_lt m (length now.graph.lanes)) [
-      | inl l ↦ idle m (all m (omega arith)) d over y k
-      | inr l ↦ idle_outside d limit (held_in now over) m l
+      | inl l ↦ idle m (all m (omega arith)) d y k
+      | inr l ↦ idle_outside d limit (held_in now) m l
     ]

@@ -44,17 +44,19 @@ pub record IsCutBack (old new : Engine) (edit : Edit) (clock : ℕ) : Type 0 whe
   pub push_rooms : new.fifos.push_rooms ≡ old.fifos.push_rooms
   pub pop_rooms : new.fifos.pop_rooms ≡ old.fifos.pop_rooms
   pub log_rooms : new.log.rooms ≡ old.log.rooms
+  pub ends : new.ends ≡ old.ends
   pub credits : new.credits ≡ old.credits
 
 -- for each design of which the old engine is a core: actions lead from its core after the edit, cut back at clock t, to the new
 -- engine's core
 abbrev pub HasRetimed : Guard → Edit → ℕ → ℕ → Engine → Engine → Type 0
 HasRetimed guard edit t limit old new =
-    OfEach old (λ d over.
-    LeadsAll (edited d edit.channel edit.depth) limit (after_edit d (core_of d (held_in old over)) t) (held_in new over)
-    × HasEnded guard (edited d edit.channel edit.depth) limit (held_in new over))
+    OfEach old (λ d.
+    LeadsAll (edited d edit.channel edit.depth) limit (after_edit d (core_of d (held_in old)) t) (held_in new)
+    × HasEnded guard (edited d edit.channel edit.depth) limit (held_in new))
 
--- the credits stay, and the room that they promise is there for the edited design
+-- the end marks and the credits stay, and the room that the credits promise is there for the edited design
 pub record KeepsRoomEdited (edit : Edit) (old new : Engine) : Type 0 where
+  pub ends : new.ends ≡ old.ends
   pub credits : new.credits ≡ old.credits
-  pub room : OfEach old (λ d over. IsRoomy d old over → IsRoomy (edited d edit.channel edit.depth) new over)
+  pub room : OfEach old (λ d. IsRoomy d old → IsRoomy (edited d edit.channel edit.depth) new)

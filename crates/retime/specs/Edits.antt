@@ -73,9 +73,9 @@ pub record OutcomesGrow (old now : Log) : Type 0 where
 
 -- the old engine is a final core of the design and agrees with its history `y`; a retiming from the edit's clock on leads to the
 -- new engine; `z` is the history of the edited design
-pub record IsEditOf (d : Design ModuleState) (y z : Trace ModuleState) (limit : ℕ) (over : List Bool) (old new : Engine) (guard : Guard)
+pub record IsEditOf (d : Design ModuleState) (y z : Trace ModuleState) (limit : ℕ) (old new : Engine) (guard : Guard)
     (e : Edit) (t : ℕ) : Type 0 where
-  pub final : IsFinalOf d y limit (held_in old over)
+  pub final : IsFinalOf d y limit (held_in old)
   pub lags : (c : ℕ) → d.lag Push c ≡ 1
   pub from : IsEditFrom old.graph.lanes old.fifos.channels e limit t
   pub history : IsHistory (edited d e.channel e.depth) z

@@ -22,10 +22,10 @@ HasEnded {S} (Differs q) d limit g = IsDifferent d limit g q.module q
 
 -- for each design of which s is a core: Assigns and Answers lead from it to t
 abbrev pub HasGone : ℕ → Engine → Engine → Type 0
-HasGone limit s t = OfEach s (λ d over. LeadsAll d limit (core_of d (held_in s over)) (held_in t over))
+HasGone limit s t = OfEach s (λ d. LeadsAll d limit (core_of d (held_in s)) (held_in t))
 
 abbrev pub HasEndedForEach : Guard → ℕ → Engine → Type 0
-HasEndedForEach guard limit t = OfEach t (λ d over. HasEnded guard d limit (held_in t over))
+HasEndedForEach guard limit t = OfEach t (λ d. HasEnded guard d limit (held_in t))
 
 -- the steps of all modules, without cycles
 abbrev pub only_steps : List Lane → List (List Step)

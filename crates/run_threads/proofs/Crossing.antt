@@ -16,7 +16,6 @@ use Rattle.flow_design.proofs.design.Next.TheSendSync as next
 use Rattle.flow_design.proofs.expr.BinOp.TheSendSync as binary
 use Rattle.flow_design.proofs.expr.UnOp.TheSendSync as unary
 use Rattle.flow_design.proofs.expr.Expr.TheLaws.TheKnot as expr
-use Rattle.flow_design.proofs.state.Advance.TheSendSync as advance
 use Rattle.flow_design.proofs.state.ModuleState.TheSendSync as state
 use Rattle.flow_design.proofs.state.Request.TheSendSync as request
 use Rattle.flow_design.specs.contracts.design.Module as unit
@@ -133,15 +132,12 @@ core_field =
       (
         held.the_field_send,
         (
-          (search (advance.the_send, crosses, sendable) depth 30 fits 5000),
+          (search (run_send, crosses, sendable) depth 30 fits 5000),
           (
-            (search (run_send, crosses, sendable) depth 30 fits 5000),
+            wiring.the_field_send,
             (
-              wiring.the_field_send,
-              (
-                list.the_send _ unread.the_send,
-                (due.the_field_send, (candidates.the_send, (scratch.the_field_send, tt))),
-              ),
+              list.the_send _ unread.the_send,
+              (due.the_field_send, (candidates.the_send, (scratch.the_field_send, tt))),
             ),
           ),
         ),

@@ -24,7 +24,8 @@ use Rattle.timing_bridge.proofs.History.{plan_is_design, run_is_history}
 use Rattle.engine_view.specs.{Held.Held, Held.emitted_of, Held.core_of, Shown.IsSound, Shown.IsKind, Opened.opening_held, Opened.AreKinds}
 use Rattle.engine_view.specs.{Rooms.HasRoom, declared.engine.Engine.Engine, Engines.held_in, Taking.kinds_in}
 use Rattle.engine_view.proofs.{Opened.opening_core_is, Opened.copy_at, Roomy.room_opening}
-use Rattle.sim_core.specs.Runs.{IsCore, IsRunOf, rest_behind, lent_of, over_of}
+use Rattle.sim_core.specs.Runs.{IsCore, IsRunOf, rest_behind, lent_of}
+use Rattle.engine_view.specs.Engines.{over_of}
 use Rattle.sim_core.specs.Opening.{kind_by, kind_in, kinds_of, source_values, AreFirstRuns, AreLeft, AreOlderRuns}
 use Rattle.sim_core.proofs.Keeping.{over_at}
 
@@ -98,10 +99,10 @@ older_at p runs left m None older l e = tt
 older_at p runs left m (Some run) older l e = older m run (l.each m run (sym e))
 
 -- the runs of a core
-pub core_runs : (p : Plan) (s : Engine) (ends : List (Option Advance)) (runs : List (Option ModuleRun))
-    → IsCore p s ends runs → AreOlderRuns p runs
-core_runs p s ends runs c m run there =
-    let x = core_of (design p) (held_in s (over_of ends)) in
+pub core_runs : (p : Plan) (s : Engine) (runs : List (Option ModuleRun))
+    → IsCore p s runs → AreOlderRuns p runs
+core_runs p s runs c m run there =
+    let x = core_of (design p) (held_in s) in
     let is : IsRunOf p x m run = c.runs_are m run there in
     elim (cases_Bool (waits run)) [
       | inl w ↦ let (k, e, stands) = is.waiting w in (rest_behind p x m k, stands)
@@ -219,12 +220,12 @@ module _ (p : Plan) (fits : FitsEngine p) where
         let none : get_or (over_of ends) m false ≡ false = ap (λ (bs : List Bool). get_or bs m false) e ∙ copy_at n m false in
         both_ways _ none over
 
-    pub core_begun : (s : Engine) (ends : List (Option Advance)) (runs : List (Option ModuleRun))
-        → h ≡ held_in s (over_of ends) → over_of ends ≡ replicate n false → AreFirstRuns p runs n
-        → s.credits.items ≡ replicate n 0 → IsCore p s ends runs
-    core_begun s ends runs e over r none =
+    pub core_begun : (s : Engine) (runs : List (Option ModuleRun))
+        → h ≡ held_in s → over_of s.ends.items ≡ replicate n false → AreFirstRuns p runs n
+        → s.credits.items ≡ replicate n 0 → IsCore p s runs
+    core_begun s runs e over r none =
         let lanes : length s.graph.lanes ≡ n = ap (λ (q : Held). length q.lanes) (sym e) ∙ length-replicate n no_lane in
-        let core : core_of (design p) (held_in s (over_of ends)) ≡ opening_core (design p) = ap (core_of (design p)) (sym e) ∙ begins.0 in
+        let core : core_of (design p) (held_in s) ≡ opening_core (design p) = ap (core_of (design p)) (sym e) ∙ begins.0 in
         record {
           fits = fits;
           sound = subst (IsSound (design p)) e begins.1;
@@ -237,7 +238,7 @@ module _ (p : Plan) (fits : FitsEngine p) where
               (λ m. ap (λ (q : List ℕ). get_or q m 0) none ∙ copy_at n m 0));
           runs_are = λ m run there. let z = r.each m run there in
               subst (λ (q : Held). IsRunOf p (core_of (design p) q) m run) e (first_run m run z.0 z.1);
-          ends_are = λ m mark there. absurd (no_end ends over m mark there);
+          ends_are = λ m mark there. absurd (no_end s.ends.items over m mark there);
         }
       where
         kinds_unused : (ks : List TableChannel) → kinds_in (map unused ks) ≡ ks

@@ -17,7 +17,8 @@ use Rattle.event_timing.proofs.{Beside.others_grow, Editing.cycles_rise, Editing
 use Rattle.timing_bridge.specs.Designs.{design, lockstep_run}
 use Rattle.timing_bridge.proofs.{Edits.edited_fits, Edits.same_design, Lending.timings_no_run}
 use Rattle.timing_bridge.proofs.History.{plan_is_design, run_is_history}
-use Rattle.engine_view.specs.{Held.core_of, Kept.IsKept, Rooms.IsRoomy, Shown.IsSound, Engines.held_in, Taking.kinds_in, Turns.IsSomeCore}
+use Rattle.engine_view.specs.{Held.core_of, Kept.IsKept, Rooms.IsRoomy, Shown.IsSound, Engines.held_in, Engines.over_of, Taking.kinds_in}
+use Rattle.engine_view.specs.Turns.{IsSomeCore}
 use Rattle.engine_view.specs.declared.engine.Engine.{Engine}
 use Rattle.cycle_changes.specs.{Records.IsRightRecord, Changed.HasChanged, Moved.moved_in}
 use Rattle.cycle_changes.proofs.{Final.right_final, Marks.marks_on, Onward.final_record, Recording.right_agrees}
@@ -26,10 +27,11 @@ use Rattle.retime.specs.Rounds.{LeadsAll, HasEnded, only_steps, cycles_in, steps
 use Rattle.retime.specs.Touched.{ArePlacesInOrder, IsFirstTouched, IsNeverTouched}
 use Rattle.retime.proofs.{Counts.few_cycles, Counts.same_steps, Counts.same_length, Cutting.sound_lanes_of, Behind.agreed_behind}
 use Rattle.retime.proofs.{Behind.outcomes_behind, Otherwise.other_in_history, Tallied.places_in_order}
-use Rattle.sim_core.specs.{Edits.IsEdited, Edits.IsTrueGuard, Edits.StayBelow, Runs.IsCore, Runs.IsStoredCore, Runs.IsWired, Runs.over_of}
+use Rattle.sim_core.specs.{Edits.IsEdited, Edits.IsTrueGuard, Edits.StayBelow, Runs.IsCore, Runs.IsStoredCore, Runs.IsWired}
 use Rattle.sim_core.specs.{declared.due.Due.Due, declared.unread.Unread.Unread, Waking.IsFull, declared.wiring.Wiring.Wiring}
 use Rattle.sim_core.proofs.{Asking.beside_edited, Asking.still_room, Listing.listed_all, Waking.due_all, Leaving.unread_none, Cut.final_of}
-use Rattle.sim_core.proofs.{Cut.history_of, Cut.cut_of, Keeping.kept_of, SameSteps.marks_beside, Staying.run_stays, Staying.end_stays}
+use Rattle.sim_core.proofs.{Cut.history_of, Cut.cut_of, Keeping.kept_of, Keeping.same_end, SameSteps.marks_beside, Staying.run_stays}
+use Rattle.sim_core.proofs.Staying.{end_stays}
 use Rattle.sim_core.proofs.EditedRuns.{run_edited, end_edited, channel_inside, fifo_there, depth_there, kinds_edited}
 use Rattle.lockstep_defs.specs.Ports.{owner}
 
@@ -47,16 +49,13 @@ pub retiming_from : {guard : Guard} {e : Edit} {clock limit : ℕ} {r s t : Engi
     → IsRetiming guard e clock limit r t before after → IsRetiming guard e clock limit s t start after
 retiming_from same from done = rw (← same, ← from) done
 
-module _ {p : Plan} {s : Engine} {ends : List (Option Advance)} {runs : List (Option ModuleRun)} (k : IsCore p s ends runs) {e : Edit}
+module _ {p : Plan} {s : Engine} {runs : List (Option ModuleRun)} (k : IsCore p s runs) {e : Edit}
     (fit : EditFits p e) where
-  abbrev over : List Bool
-  over = over_of ends
-
   abbrev d : Design ModuleState
   d = design p
 
   abbrev x : Core ModuleState
-  x = core_of d (held_in s over)
+  x = core_of d (held_in s)
 
   abbrev q : Plan
   q = with_depth p e.channel e.depth
@@ -66,7 +65,7 @@ module _ {p : Plan} {s : Engine} {ends : List (Option Advance)} {runs : List (Op
 
   pub in_order : (side : Side) → ArePlacesInOrder (places_of side (channel_at s.fifos.channels e.channel))
   in_order side =
-      places_in_order d (held_in s over) k.sound e.channel (channel_inside p k.fits e fit s.fifos.channels k.table) is_design side
+      places_in_order d (held_in s) k.sound e.channel (channel_inside p k.fits e fit s.fifos.channels k.table) is_design side
 
   -- where the depth is the one that stands, the plan stays as it is
   pub same_plan : depth_of (channel_at s.fifos.channels e.channel).kind ≡ e.depth → p ≡ q
@@ -84,12 +83,12 @@ module _ {p : Plan} {s : Engine} {ends : List (Option Advance)} {runs : List (Op
   module _ (final : IsFinal d p.cycles x) {t : Engine} {guard : Guard} {clock : ℕ}
       (from : IsEditFrom s.graph.lanes s.fifos.channels e p.cycles clock) {before after : ℕ}
       (anew : IsRetiming guard e clock p.cycles s t before after) where
-    is_edit : IsEditOf d (lockstep_run p) (lockstep_run q) p.cycles over s t guard e clock
+    is_edit : IsEditOf d (lockstep_run p) (lockstep_run q) p.cycles s t guard e clock
     is_edit = record {
-      final = final_of p k.fits e fit (held_in s over) k.sound k.agreed final;
+      final = final_of p k.fits e fit (held_in s) k.sound k.agreed final;
       lags = λ c. refl;
       from = from;
-      history = history_of p k.fits e fit (held_in s over) k.sound k.agreed final;
+      history = history_of p k.fits e fit (held_in s) k.sound k.agreed final;
       retimed = anew.retimed;
       steps = anew.steps;
     }
@@ -98,18 +97,18 @@ module _ {p : Plan} {s : Engine} {ends : List (Option Advance)} {runs : List (Op
     cut = after_edit d x clock
 
     abbrev y : Core ModuleState
-    y = core_of (design q) (held_in t over)
+    y = core_of (design q) (held_in t)
 
-    both : LeadsAll (design q) p.cycles cut (held_in t over) × HasEnded guard (design q) p.cycles (held_in t over)
-    both = subst (λ (f : Design ModuleState). LeadsAll f p.cycles cut (held_in t over) × HasEnded guard f p.cycles (held_in t over)) same
-        (anew.retimed d over is_design (kept_of k))
+    both : LeadsAll (design q) p.cycles cut (held_in t) × HasEnded guard (design q) p.cycles (held_in t)
+    both = subst (λ (f : Design ModuleState). LeadsAll f p.cycles cut (held_in t) × HasEnded guard f p.cycles (held_in t)) same
+        (anew.retimed d is_design (kept_of k))
 
     agreed_now : IsAgreed (design q) (lockstep_run q) p.cycles y
-    agreed_now = subst (λ (f : Design ModuleState). IsAgreed f (lockstep_run q) p.cycles (core_of f (held_in t over))) same
-        (agreed_behind d (lockstep_run p) (lockstep_run q) p.cycles over s t guard e clock is_edit)
+    agreed_now = subst (λ (f : Design ModuleState). IsAgreed f (lockstep_run q) p.cycles (core_of f (held_in t))) same
+        (agreed_behind d (lockstep_run p) (lockstep_run q) p.cycles s t guard e clock is_edit)
 
     cut_now : IsAgreed (design q) (lockstep_run q) p.cycles cut
-    cut_now = cut_of p k.fits e fit (held_in s over) k.sound k.agreed final clock from
+    cut_now = cut_of p k.fits e fit (held_in s) k.sound k.agreed final clock from
 
     beside : (m : ℕ) → GrowsBeside (design q) cut y m
     beside m = others_grow (design q) (lockstep_run q) (plan_is_design q q_fits) (run_is_history q q_fits) p.cycles cut cut_now m
@@ -119,7 +118,7 @@ module _ {p : Plan} {s : Engine} {ends : List (Option Advance)} {runs : List (Op
     lane_count = sym (length-map t.graph.lanes (λ (l : Lane). l.steps))
         ∙ (ap (λ ls. length ls) anew.steps ∙ length-map s.graph.lanes (λ (l : Lane). l.steps))
 
-    pub core_edited : IsCore q t ends runs
+    pub core_edited : IsCore q t runs
     core_edited = record {
       fits = q_fits;
       sound = both.0.kept.sound;
@@ -127,28 +126,28 @@ module _ {p : Plan} {s : Engine} {ends : List (Option Advance)} {runs : List (Op
       table = anew.kinds ∙ kinds_edited p k.fits e fit s.fifos.channels k.table;
       count = k.count ∙ sym lane_count;
       counted = rw anew.room.credits (k.counted ∙ sym lane_count);
-      room = subst (λ (f : Design ModuleState). IsRoomy f t over) same
-          (anew.room.room d over is_design (kept_of k) k.room);
+      room = subst (λ (f : Design ModuleState). IsRoomy f t) same
+          (anew.room.room d is_design (kept_of k) k.room);
       runs_are = λ m run there.
           run_stays q cut y cut_now.marks m (beside m) run
           (run_edited p k.fits e fit m x cut.timed cut.cycle cut.verified run (k.runs_are m run there));
       ends_are = λ m mark there.
           end_stays q cut y cut_now.marks m (beside m) mark
-          (end_edited p k.fits e fit m x cut.timed cut.cycle cut.verified mark (k.ends_are m mark there));
+          (end_edited p k.fits e fit m x cut.timed cut.cycle cut.verified mark (k.ends_are m mark (same_end s t anew.room.ends m mark there)));
     }
 
-    pub true_guard : (lent : List Bool) → IsTrueGuard guard (record { plan = q; held = held_in t over; lent = lent })
+    pub true_guard : (lent : List Bool) → IsTrueGuard guard (record { plan = q; held = held_in t; lent = lent })
     true_guard lent = by guard both.1
       where
-        by : (g : Guard) → HasEnded g (design q) p.cycles (held_in t over)
-            → IsTrueGuard g (record { plan = q; held = held_in t over; lent = lent })
+        by : (g : Guard) → HasEnded g (design q) p.cycles (held_in t)
+            → IsTrueGuard g (record { plan = q; held = held_in t; lent = lent })
         by Same ended = tt
         by (Differs u) ended =
-            other_in_history (design q) (lockstep_run q) (plan_is_design q q_fits) (run_is_history q q_fits) p.cycles (held_in t over)
+            other_in_history (design q) (lockstep_run q) (plan_is_design q q_fits) (run_is_history q q_fits) p.cycles (held_in t)
             both.0.kept.sound agreed_now u ended
 
-    pub is_edited : (lent : List Bool) → IsEdited (record { plan = p; held = held_in s over; lent = lent })
-        (record { plan = q; held = held_in t over; lent = lent }) e guard before after
+    pub is_edited : (lent : List Bool) → IsEdited (record { plan = p; held = held_in s; lent = lent })
+        (record { plan = q; held = held_in t; lent = lent }) e guard before after
     is_edited lent = inr (inl (record {
       clock = clock;
       from = from;
@@ -156,7 +155,7 @@ module _ {p : Plan} {s : Engine} {ends : List (Option Advance)} {runs : List (Op
       ended = both.1;
       ticked = anew.ticked;
       few = few_cycles s.graph.lanes t.graph.lanes (sound_lanes_of t anew.core) anew.steps after before _ anew.ticked;
-      outcomes = outcomes_behind d (lockstep_run p) (lockstep_run q) p.cycles over s t guard e clock is_edit;
+      outcomes = outcomes_behind d (lockstep_run p) (lockstep_run q) p.cycles s t guard e clock is_edit;
     }))
 
   -- ---- few cycles changed
@@ -165,13 +164,16 @@ module _ {p : Plan} {s : Engine} {ends : List (Option Advance)} {runs : List (Op
     logs : t.log.logs ≡ s.log.logs
     logs = rw done.log refl
 
+    over_stays : over_of t.ends.items ≡ over_of s.ends.items
+    over_stays = rw done.room.ends refl
+
     abbrev now : Core ModuleState
-    now = core_of (design q) (held_in t over)
+    now = core_of (design q) (held_in t)
 
     -- they are right again
-    right_now : IsRightRecord (design q) p.cycles now × IsKept (design q) (held_in t over)
-    right_now = subst (λ (f : Design ModuleState). IsRightRecord f p.cycles (core_of f (held_in t over)) × IsKept f (held_in t over)) same
-        (done.right d over is_design (kept_of k)
+    right_now : IsRightRecord (design q) p.cycles now × IsKept (design q) (held_in t)
+    right_now = subst (λ (f : Design ModuleState). IsRightRecord f p.cycles (core_of f (held_in t)) × IsKept f (held_in t)) same
+        (done.right d is_design (kept_of k)
         (final_record d (lockstep_run p) is_design (run_is_history p k.fits) p.cycles x k.agreed final))
 
     agrees_now : IsAgreed (design q) (lockstep_run q) p.cycles now
@@ -182,13 +184,13 @@ module _ {p : Plan} {s : Engine} {ends : List (Option Advance)} {runs : List (Op
 
     beside_now : (m : ℕ) → GrowsBeside (design q) x now m
     beside_now m =
-        subst (λ (f : Design ModuleState). GrowsBeside f x (core_of f (held_in t over)) m) same
-        (marks_beside d e.channel e.depth (held_in s over) (held_in t over) k.sound
-        (subst (λ (f : Design ModuleState). IsSound f (held_in t over)) (sym same) right_now.1.sound) k.agreed.marks
-        (subst (λ (f : Design ModuleState). AreOwnMarks f (core_of f (held_in t over))) (sym same) right_now.1.marks)
-        (same_steps s.graph.lanes t.graph.lanes done.steps) logs refl m)
+        subst (λ (f : Design ModuleState). GrowsBeside f x (core_of f (held_in t)) m) same
+        (marks_beside d e.channel e.depth (held_in s) (held_in t) k.sound
+        (subst (λ (f : Design ModuleState). IsSound f (held_in t)) (sym same) right_now.1.sound) k.agreed.marks
+        (subst (λ (f : Design ModuleState). AreOwnMarks f (core_of f (held_in t))) (sym same) right_now.1.marks)
+        (same_steps s.graph.lanes t.graph.lanes done.steps) logs over_stays m)
 
-    pub core_changed : IsCore q t ends runs
+    pub core_changed : IsCore q t runs
     core_changed = record {
       fits = q_fits;
       sound = right_now.1.sound;
@@ -196,20 +198,20 @@ module _ {p : Plan} {s : Engine} {ends : List (Option Advance)} {runs : List (Op
       table = done.kinds ∙ kinds_edited p k.fits e fit s.fifos.channels k.table;
       count = k.count ∙ sym (same_length s.graph.lanes t.graph.lanes done.steps);
       counted = rw done.room.credits (k.counted ∙ sym (same_length s.graph.lanes t.graph.lanes done.steps));
-      room = subst (λ (f : Design ModuleState). IsRoomy f t over) same
-          (done.room.room d over is_design (kept_of k) k.room);
+      room = subst (λ (f : Design ModuleState). IsRoomy f t) same
+          (done.room.room d is_design (kept_of k) k.room);
       runs_are = λ m run there.
           run_stays q x now marks_here m (beside_now m) run
           (run_edited p k.fits e fit m x x.timed x.cycle x.verified run (k.runs_are m run there));
       ends_are = λ m mark there.
           end_stays q x now marks_here m (beside_now m) mark
-          (end_edited p k.fits e fit m x x.timed x.cycle x.verified mark (k.ends_are m mark there));
+          (end_edited p k.fits e fit m x x.timed x.cycle x.verified mark (k.ends_are m mark (same_end s t done.room.ends m mark there)));
     }
 
     -- the cycles below the clock are those of a core that agrees with the edited plan too
     stay : {clock : ℕ} → IsEditFrom s.graph.lanes s.fifos.channels e p.cycles clock → StayBelow clock s.graph.lanes t.graph.lanes
     stay {clock} from at c is less =
-        let cut = cut_of p k.fits e fit (held_in s over) k.sound k.agreed final clock from in
+        let cut = cut_of p k.fits e fit (held_in s) k.sound k.agreed final clock from in
         let there = get_or_from_slice_get (lane_at s.graph.lanes at.module).cycles at.step c 0 is in
         let within = slice_get_within (lane_at s.graph.lanes at.module).cycles at.step c is in
         let rise = cycles_rise d (lockstep_run p) p.cycles x k.agreed.time at.module in
@@ -229,8 +231,8 @@ module _ {p : Plan} {s : Engine} {ends : List (Option Advance)} {runs : List (Op
     pub is_changed : {clock : ℕ} → IsEditFrom s.graph.lanes s.fifos.channels e p.cycles clock → (lent : List Bool) (before after : ℕ)
         → after ≡ before + moved_in s.graph.lanes t.graph.lanes
         → after + cycles_in (map (timed_below clock) s.graph.lanes) ≤ before + steps_in_lanes s.graph.lanes
-        → IsEdited (record { plan = p; held = held_in s over; lent = lent })
-        (record { plan = q; held = held_in t over; lent = lent }) e Same
+        → IsEdited (record { plan = p; held = held_in s; lent = lent })
+        (record { plan = q; held = held_in t; lent = lent }) e Same
         before after
     is_changed {clock} from lent before after ticked few = inr (inr (record {
       clock = clock;
@@ -241,14 +243,14 @@ module _ {p : Plan} {s : Engine} {ends : List (Option Advance)} {runs : List (Op
       final = right_final (design q) p.cycles now right_now.0;
       steps = done.steps;
       logs = logs;
-      over = refl;
+      over = over_stays;
       stay = stay from;
       ticked = ticked;
       few = few;
     }))
 
 -- the clock that the code goes by
-pub edit_from : {p : Plan} {s : Engine} {ends : List (Option Advance)} {runs : List (Option ModuleRun)} → IsCore p s ends runs → {e : Edit}
+pub edit_from : {p : Plan} {s : Engine} {runs : List (Option ModuleRun)} → IsCore p s runs → {e : Edit}
     → EditFits p e → {stands : ℕ} → stands ≡ depth_of (channel_at s.fifos.channels e.channel).kind
     → 1 ≤ stands → (stands ≡ e.depth → ⊥) → (o : Option ℕ)
     → IfSome o (λ t. IsFirstTouched s.graph.lanes (channel_at s.fifos.channels e.channel) e.depth t)
@@ -281,13 +283,13 @@ wired_edited {p} {w} k channel depth = record {
 }
 
 -- so a core is stored after an edit, with nothing unread, and each module in the sets
-pub stored_edited : {p : Plan} {s : Engine} {ends : List (Option Advance)} {runs : List (Option ModuleRun)} {wiring : Wiring}
+pub stored_edited : {p : Plan} {s : Engine} {runs : List (Option ModuleRun)} {wiring : Wiring}
     {unread : List Unread} {due : Due} {candidates : List Candidate}
-    → IsStoredCore p s ends runs wiring unread due candidates → (e : Edit) (t : Engine)
-    → IsCore (with_depth p e.channel e.depth) t ends runs
+    → IsStoredCore p s runs wiring unread due candidates → (e : Edit) (t : Engine)
+    → IsCore (with_depth p e.channel e.depth) t runs
     → (now : Due) → length now.asking ≡ length due.asking → IsFull now.asking → length now.running ≡ length due.running
-    → IsFull now.running → now.unlisted ≡ due.unlisted → IsStoredCore (with_depth p e.channel e.depth) t ends runs wiring [] now candidates
-stored_edited {p} {s} {ends} {runs} {wiring} {unread} {due} {candidates} k e t core now same all same' all' unlisted = record {
+    → IsFull now.running → now.unlisted ≡ due.unlisted → IsStoredCore (with_depth p e.channel e.depth) t runs wiring [] now candidates
+stored_edited {p} {s} {runs} {wiring} {unread} {due} {candidates} k e t core now same all same' all' unlisted = record {
   core = core;
   wired = wired_edited k.wired e.channel e.depth;
   unread_are = unread_none _ _;

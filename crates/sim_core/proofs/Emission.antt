@@ -15,32 +15,33 @@ use Rattle.event_timing.specs.{Actions.Action.Run, Agreement.AreOwnMarks, Growth
 use Rattle.event_timing.proofs.{Assigning.put_same, Growing.settled_all, Running.newest_own, Beside.run_grows}
 use Rattle.timing_bridge.specs.Designs.{design}
 use Rattle.timing_bridge.proofs.History.{plan_is_design}
-use Rattle.engine_view.specs.Held.{Held, emitted_of, queries_in, core_of}
-use Rattle.engine_view.specs.{Shown.IsSound, Rooms.HasRoom, Rooms.CanEmit, Rooms.HasEmitted, declared.engine.Engine.Engine, Engines.held_in}
+use Rattle.engine_view.specs.Held.{Held, held_parts, emitted_of, queries_in, core_of}
+use Rattle.engine_view.specs.{Shown.IsSound, Rooms.HasRoom, Rooms.CanEmit, Rooms.HasEmitted, declared.engine.Engine.Engine}
+use Rattle.engine_view.specs.{Rooms.HasEmittedEnd, Engines.held_in, Engines.over_of}
 use Rattle.engine_view.specs.Emitted.{IsNextStep, with_emitted, with_over}
 use Rattle.engine_view.proofs.{Emitted.emitted_core, Ended.over_core, Assigned.IsAlike, Assigned.alike_queries}
 use Rattle.engine_view.proofs.Roomy.{IsEnoughFor, few_queries, apart_next, own_next, room_for_next, rich_next, room_emitted, room_same}
 use Rattle.engine_view.proofs.Roomy.{pending_same}
 use Rattle.sim_core.specs.{Marks.IsRestBehind, Returned.HasPlacesForMarks}
-use Rattle.sim_core.specs.Runs.{IsEndOf, IsCore, rest_behind, lent_of, over_of}
-use Rattle.sim_core.proofs.{Ahead.over_of_mark, Lends.not_lent, Resting.rest_is, Staying.fed_is, Keeping.core_acted}
+use Rattle.sim_core.specs.Runs.{IsEndOf, IsCore, rest_behind, lent_of}
+use Rattle.sim_core.proofs.{Ahead.over_of_mark, Lends.not_lent, Resting.rest_is, Staying.fed_is, Keeping.core_acted, Keeping.same_end}
 use Rattle.sim_core.proofs.Marking.{next_step, table_count}
 
 -- a Run of a module whose run is out of the core is permitted
-pub record IsReady (p : Plan) (s : Engine) (ends : List (Option Advance)) (runs : List (Option ModuleRun)) (m : ℕ)
+pub record IsReady (p : Plan) (s : Engine) (runs : List (Option ModuleRun)) (m : ℕ)
     : Type 0 where
-  pub core : IsCore p s ends runs
+  pub core : IsCore p s runs
   pub inside : m < length s.graph.lanes
   pub lent : get_or (lent_of runs) m true ≡ true
-  pub may : MayRun (design p) (core_of (design p) (held_in s (over_of ends))) m
+  pub may : MayRun (design p) (core_of (design p) (held_in s)) m
 
-module _ {p : Plan} {s : Engine} {ends : List (Option Advance)} {runs : List (Option ModuleRun)} {m : ℕ}
-    (r : IsReady p s ends runs m) where
+module _ {p : Plan} {s : Engine} {runs : List (Option ModuleRun)} {m : ℕ}
+    (r : IsReady p s runs m) where
   abbrev d : Design ModuleState
   d = design p
 
   abbrev h : Held
-  h = held_in s (over_of ends)
+  h = held_in s
 
   abbrev x : Core ModuleState
   x = core_of d h
@@ -94,10 +95,10 @@ module _ {p : Plan} {s : Engine} {ends : List (Option Advance)} {runs : List (Op
     pub step_acts : Acts d p.cycles x (Run m) (core_of d g)
     step_acts = (r.may, core_is.0)
 
-    emitted_is : {f : Engine} → HasEmitted s m t f → held_in f (over_of ends) ≡ g
-    emitted_is e = rw (e.lanes, e.channels, e.log) refl
+    emitted_is : {f : Engine} → HasEmitted s m t f → held_in f ≡ g
+    emitted_is e = rw (e.lanes, e.channels, e.log, e.ends) refl
 
-    pub acts_to : {f : Engine} → HasEmitted s m t f → Acts d p.cycles x (Run m) (core_of d (held_in f (over_of ends)))
+    pub acts_to : {f : Engine} → HasEmitted s m t f → Acts d p.cycles x (Run m) (core_of d (held_in f))
     acts_to e = (r.may, subst (λ (q : Held). core_of d q ≡ after_run d x m) (sym (emitted_is e)) core_is.0)
 
     -- there is room for it in the lane, and at the ports
@@ -137,33 +138,30 @@ module _ {p : Plan} {s : Engine} {ends : List (Option Advance)} {runs : List (Op
 
     -- so it is a core with the step
     pub step_core : {f : Engine} → HasEmitted s m t f → HasPlacesForMarks p s m (Step t ∷ [])
-        → queries_in t.accesses ≤ get_or s.log.rooms m 0 → IsCore p f ends runs
+        → queries_in t.accesses ≤ get_or s.log.rooms m 0 → IsCore p f runs
     step_core {f} e places log_room =
         let first = small.first_query in
         let few = few_queries t.accesses in
         let most = small.few in
         let is = emitted_is e in
         let count = length-set s.credits.items m (get_or s.credits.items m 0 - 2) in
-        core_acted r.core f ends (Run m)
+        core_acted r.core f (Run m)
         (acts_to e) (subst (IsSound d) (sym is) core_is.1) e.kinds
         (ap (λ (cs : List ℕ). length cs) e.credits ∙ count)
         (rw (is, e.log, e.credits) (room_emitted d (plan_is_design p r.core.fits) h m t r.inside r.core.sound step_is marks r.may next.1
         s.graph.rooms f.graph.rooms s.fifos f.fifos s.log.rooms s.credits.items r.core.room
         (let n = r.core.counted in let i = r.inside in omega arith) (enough places) e.room log_room (omega arith)))
-        (λ n other there. (others_out n other there, tt)) (λ n mark there. inl there)
+        (λ n other there. (others_out n other there, tt)) (λ n mark there. inl (same_end s f e.ends n mark there))
 
   -- ---- the end
 
-  module _ {end : Advance} (mark : end ≡ mark_at p m rest) (over : is_step end ≡ false) (short : gap_of end < gap_bound) where
-    abbrev ends_now : List (Option Advance)
-    ends_now = set ends m (Some end)
+  length_over : length h.over ≡ length s.graph.lanes
+  length_over = r.core.sound.overs ∙ sym r.core.sound.lanes
 
-    overs_are : over_of ends_now ≡ set (over_of ends) m true
-    overs_are = map-set is_some ends m (Some end)
+  alike : IsAlike (with_over h m) h
+  alike = record { steps = λ n. refl; channels = refl; logs = refl }
 
-    length_over : length (over_of ends) ≡ length s.graph.lanes
-    length_over = r.core.sound.overs ∙ sym r.core.sound.lanes
-
+  module _ {end : Advance} (mark : end ≡ mark_at p m rest) (over : is_step end ≡ false) where
     is_done : d.is_over m (ready d m (newest d x m)) ≡ true
     is_done =
         let is_mark = over_of_mark p m rest in
@@ -171,36 +169,40 @@ module _ {p : Plan} {s : Engine} {ends : List (Option Advance)} {runs : List (Op
         ap (λ (q : ModuleState). is_over p.ops (ready d m q)) (newest_own d x marks m (emitted_of h m) (omega arith))
         ∙ (ap (is_over p.ops) (sym behind.state) ∙ over_there)
 
-    over_is : (core_of d (with_over h m) ≡ after_run d x m) × IsSound d (with_over h m)
+    pub over_is : (core_of d (with_over h m) ≡ after_run d x m) × IsSound d (with_over h m)
     over_is = over_core d h m (let n = length_over in let i = r.inside in omega arith) r.core.sound marks r.may is_done
 
-    pub held_is : held_in s (over_of ends_now) ≡ with_over h m
-    held_is = ap (held_in s) overs_are
+  module _ {end : Advance} (mark : end ≡ mark_at p m rest) (over : is_step end ≡ false) (short : gap_of end < gap_bound)
+      {f : Engine} (e : HasEmittedEnd s m end f) where
+    held_now : held_parts h.lanes h.channels h.logs (over_of f.ends.items) ≡ with_over h m
+    held_now = ap (held_parts h.lanes h.channels h.logs) (ap over_of e.ends ∙ map-set is_some s.ends.items m (Some end))
 
-    pub end_acts : Acts d p.cycles x (Run m) (core_of d (held_in s (over_of ends_now)))
-    end_acts = subst (λ (q : Held). Acts d p.cycles x (Run m) (core_of d q)) (sym held_is) (r.may, over_is.0)
+    held_is : held_in f ≡ with_over h m
+    held_is = rw (e.graph, e.fifos, e.log) held_now
+
+    pub end_acts : Acts d p.cycles x (Run m) (core_of d (held_in f))
+    end_acts = subst (λ (q : Held). Acts d p.cycles x (Run m) (core_of d q)) (sym held_is) (r.may, (over_is mark over).0)
 
     end_of : IsEndOf p (core_of d (with_over h m)) m end
     end_of = record { no_step = over; short = short; answered = λ k e. (r.may.answered k e, r.may.there k e); is = mark }
 
-    alike : IsAlike (with_over h m) h
-    alike = record { steps = λ n. refl; channels = refl; logs = refl }
-
-    pub end_core : IsCore p s ends_now runs
+    pub end_core : IsCore p f runs
     end_core =
-        core_acted r.core s ends_now (Run m) end_acts (subst (IsSound d) (sym held_is) over_is.1) refl refl
-        (subst (λ (q : Held). HasRoom d q s.graph.rooms s.fifos s.log.rooms s.credits.items) (sym held_is)
+        core_acted r.core f (Run m) end_acts (subst (IsSound d) (sym held_is) (over_is mark over).1) (rw e.fifos refl) (rw e.credits refl)
+        (rw (e.graph, e.fifos, e.log, e.credits)
+        (subst (λ (q : Held). HasRoom d q s.graph.rooms s.fifos s.log.rooms s.credits.items) (sym held_now)
         (room_same d h (with_over h m) s.graph.rooms s.graph.rooms s.fifos s.log.rooms s.credits.items r.core.room refl
         (λ n. pending_same (core_of d (with_over h m)) x n refl (λ k. refl))
-        (λ n. alike_queries (with_over h m) h alike n (emitted_of h n)) (λ n. refl) (λ k. omega arith)))
+        (λ n. alike_queries (with_over h m) h alike n (emitted_of h n)) (λ n. refl) (λ k. omega arith))))
         (λ n other there. (others_out n other there, tt))
         (λ n mark there.
+        let now : get_or (set s.ends.items m (Some end)) n None ≡ Some mark = rw (← e.ends) there in
         elim (eqb_tells n m) [
-          | inl e ↦
-              let here : get_or ends_now m None ≡ Some end = get_or-set_same ends m (Some end) None
-              (let a = length_over in let b = length-map ends is_some in let i = r.inside in omega arith) in
-              let module_is = e.1 in
+          | inl q ↦
+              let here : get_or (set s.ends.items m (Some end)) m None ≡ Some end = get_or-set_same s.ends.items m (Some end) None
+              (let a = length_over in let b = length-map s.ends.items is_some in let i = r.inside in omega arith) in
+              let module_is = q.1 in
               let same : end ≡ mark = cc in
               inr (rw (module_is, ← same) (subst (λ (q : Held). IsEndOf p (core_of d q) m end) (sym held_is) end_of))
-          | inr e ↦ inl (sym (get_or-set_other ends m n (Some end) None e.1) ∙ there)
+          | inr q ↦ inl (sym (get_or-set_other s.ends.items m n (Some end) None q.1) ∙ now)
         ])

@@ -11,7 +11,8 @@ use Rattle.module_interp.specs.Runs.{StandsAt, waits, is_step, listed_step, IsFe
 use Rattle.event_timing.specs.{Machines.Design, Core.Core, Actions.Acts, Actions.MayRun, Actions.Action.Run}
 use Rattle.timing_bridge.specs.Designs.{design}
 use Rattle.engine_view.specs.{Held.Held, Held.emitted_of, Held.core_of, declared.engine.Engine.Engine, Engines.held_in}
-use Rattle.sim_core.specs.{Runs.IsRunOf, Runs.rest_behind, Runs.over_of, Returned.CanGoOn, Returned.IsNextMark}
+use Rattle.sim_core.specs.{Runs.IsRunOf, Runs.rest_behind, Returned.CanGoOn, Returned.IsNextMark}
+use Rattle.engine_view.specs.Emitted.{with_over}
 use Rattle.sim_core.proofs.Returning as returning
 use Rattle.sim_core.proofs.{Staying.behind_same, Emission.IsReady}
 use Rattle.sim_core.proofs.Emission as emission
@@ -39,13 +40,13 @@ as_few run e f g few = rw (e, f, g) (record {
   fits = λ k d inside. let small = few.small k d inside in record { channel = small.channel; ordinal = small.ordinal };
 })
 
-module _ {p : Plan} {s : Engine} {ends : List (Option Advance)} {runs : List (Option ModuleRun)} {m : ℕ}
-    {run : ModuleRun} (r : CanGoOn p s ends runs m run) where
+module _ {p : Plan} {s : Engine} {runs : List (Option ModuleRun)} {m : ℕ}
+    {run : ModuleRun} (r : CanGoOn p s runs m run) where
   abbrev d : Design ModuleState
   d = design p
 
   abbrev h : Held
-  h = held_in s (over_of ends)
+  h = held_in s
 
   abbrev x : Core ModuleState
   x = core_of d h
@@ -64,7 +65,7 @@ module _ {p : Plan} {s : Engine} {ends : List (Option Advance)} {runs : List (Op
     there = λ k e. ((r.run_is.going r.answered).0 k e).1;
   }
 
-  may_run : IsReady p s ends runs m
+  may_run : IsReady p s runs m
   may_run = record {
     core = r.room.core;
     inside = let n = r.room.core.sound.lanes in let i = r.inside in omega arith;
@@ -83,17 +84,15 @@ module _ {p : Plan} {s : Engine} {ends : List (Option Advance)} {runs : List (Op
       over = λ q. w;
     }
 
-    run_ended : (mark : Advance) → IsNextMark p s ends runs m mark → is_step mark ≡ false → waits new ≡ false
-        → IsRunOf p (core_of d (held_in s (over_of (set ends m (Some mark))))) m new
-    run_ended mark n over w =
-        subst (λ (q : Held). IsRunOf p (core_of d q) m new) (sym (emission.held_is may_run n.is over n.sound.short)) (record {
-          waiting = λ q. absurd (both_ways _ w q);
-          going = λ q. ((r.run_is.going r.answered).0, go p m rest stands);
-          over = λ q. w;
-        })
+    run_ended : waits new ≡ false → IsRunOf p (core_of d (with_over h m)) m new
+    run_ended w = record {
+      waiting = λ q. absurd (both_ways _ w q);
+      going = λ q. ((r.run_is.going r.answered).0, go p m rest stands);
+      over = λ q. w;
+    }
 
     -- where the core has done the Run, the run is there
-    pub run_after : {mark : Advance} → IsNextMark p s ends runs m mark → waits new ≡ is_step mark
+    pub run_after : {mark : Advance} → IsNextMark p s runs m mark → waits new ≡ is_step mark
         → {y : Core ModuleState} → Acts d p.cycles x (Run m) y → IsRunOf p y m new
     run_after {mark = Step t} n w {y} (there, to) =
         let is = returning.mark_step n refl in
@@ -110,14 +109,12 @@ module _ {p : Plan} {s : Engine} {ends : List (Option Advance)} {runs : List (Op
           over = λ q. absurd (both_ways _ r.lives q);
         })
     run_after {mark = Ended e} n w {y} (there, to) =
-        subst (λ (z : Core ModuleState). IsRunOf p z m new) ((returning.acts_ended n may_run.inside refl).1 ∙ sym to)
-        (run_ended (Ended e) n refl w)
+        subst (λ (z : Core ModuleState). IsRunOf p z m new) (returning.over_ended n may_run.inside refl ∙ sym to) (run_ended w)
     run_after {mark = Spent e} n w {y} (there, to) =
-        subst (λ (z : Core ModuleState). IsRunOf p z m new) ((returning.acts_ended n may_run.inside refl).1 ∙ sym to)
-        (run_ended (Spent e) n refl w)
+        subst (λ (z : Core ModuleState). IsRunOf p z m new) (returning.over_ended n may_run.inside refl ∙ sym to) (run_ended w)
 
   -- the mark to which the run comes is the module's next
-  pub is_next : {mark : Advance} → mark ≡ mark_at p m rest → IsSoundMark (length rest.steps) mark → IsNextMark p s ends runs m mark
+  pub is_next : {mark : Advance} → mark ≡ mark_at p m rest → IsSoundMark (length rest.steps) mark → IsNextMark p s runs m mark
   is_next is sound = record {
     room = record { core = r.room.core; lent = r.room.lent; places = inl r.room.places; outcomes = r.room.outcomes };
     may = may;

@@ -13,7 +13,7 @@ use Rattle.event_timing.specs.{Core.Core, Actions.IsFinal}
 use Rattle.timing_bridge.specs.Designs.{design}
 use Rattle.engine_view.specs.{Held.core_of, declared.engine.Engine.Engine, Engines.held_in}
 use Rattle.engine_report.specs.{Standings.end_at, Standings.gap_of_end, Finished.IsEndMark, Finished.IsFinished}
-use Rattle.sim_core.specs.{Marks.IsRestBehind, Runs.IsCore, Runs.rest_behind, Runs.over_of}
+use Rattle.sim_core.specs.{Marks.IsRestBehind, Runs.IsCore, Runs.rest_behind}
 use Rattle.sim_core.proofs.{Marking.table_count, Resting.rest_is}
 
 marked : (p : Plan) (x : Core ModuleState) (m : ℕ) (o : Own) → IsRestBehind p x m (x.emitted m) o
@@ -35,22 +35,22 @@ short_mark (Some (Step t)) f = omega arith
 short_mark (Some (Ended n)) f = f (Ended n) refl
 short_mark (Some (Spent n)) f = f (Spent n) refl
 
-module _ (p : Plan) (s : Engine) (ends : List (Option Advance)) (runs : List (Option ModuleRun))
-    (k : IsCore p s ends runs) where
+module _ (p : Plan) (s : Engine) (runs : List (Option ModuleRun))
+    (k : IsCore p s runs) where
   abbrev x : Core ModuleState
-  x = core_of (design p) (held_in s (over_of ends))
+  x = core_of (design p) (held_in s)
 
-  inside : (m : ℕ) (mark : Advance) → get_or ends m None ≡ Some mark → m < length p.design.modules
+  inside : (m : ℕ) (mark : Advance) → get_or s.ends.items m None ≡ Some mark → m < length p.design.modules
   inside m mark there =
-      elim (cases_lt m (length ends)) [
-        | inl l ↦ let a = k.sound.overs in let b = length-map ends is_some in omega arith
-        | inr l ↦ let z = sym (get_or_past ends m None l) ∙ there in cc
+      elim (cases_lt m (length s.ends.items)) [
+        | inl l ↦ let a = k.sound.overs in let b = length-map s.ends.items is_some in omega arith
+        | inr l ↦ let z = sym (get_or_past s.ends.items m None l) ∙ there in cc
       ]
 
-  behind : (m : ℕ) (mark : Advance) → get_or ends m None ≡ Some mark → IsRestBehind p x m (x.emitted m) (rest_behind p x m (x.emitted m))
+  behind : (m : ℕ) (mark : Advance) → get_or s.ends.items m None ≡ Some mark → IsRestBehind p x m (x.emitted m) (rest_behind p x m (x.emitted m))
   behind m mark there = rest_is p k.fits x k.agreed.marks m (inside m mark there) (x.emitted m) (x.emitted m) (omega arith) (omega arith)
 
-  pub finished : IsFinal (design p) p.cycles x → IsFinished p (held_in s (over_of ends)) ends
+  pub finished : IsFinal (design p) p.cycles x → IsFinished p (held_in s) s.ends.items
   finished final = record {
     fits = k.fits;
     channels = table_count p s.fifos.channels k.table;
@@ -62,6 +62,6 @@ module _ (p : Plan) (s : Engine) (ends : List (Option Advance)) (runs : List (Op
       each = λ m mark there.
           let e = k.ends_are m mark there in
           marked p x m (rest_behind p x m (x.emitted m)) (behind m mark there) mark _ _ _ refl refl e.is e.no_step;
-      short = λ m. short_mark (end_at ends m) (λ mark there. same_gap mark (k.ends_are m mark there).short);
+      short = λ m. short_mark (end_at s.ends.items m) (λ mark there. same_gap mark (k.ends_are m mark there).short);
     };
   }

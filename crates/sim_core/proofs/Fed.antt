@@ -27,7 +27,7 @@ use Rattle.engine_view.specs.Held.{core_of}
 use Rattle.engine_view.specs.{Shown.IsSound, declared.engine.Engine.Engine, Engines.held_in}
 use Rattle.engine_view.proofs.{Reading.reply_is, Answered.among_is}
 use Rattle.sim_core.specs.{Found.replies_now, Marks.IsRestBehind}
-use Rattle.sim_core.specs.Runs.{IsRunOf, IsAnswered, IsCore, over_of, rest_behind}
+use Rattle.sim_core.specs.Runs.{IsRunOf, IsAnswered, IsCore, rest_behind}
 use Rattle.sim_core.proofs.{Marking.ordinal_is, Marking.queries_done, Resting.rest_is, Staying.tell, Staying.fed_is}
 use Rattle.sim_core.proofs.Finding.{replies_found, values_now, are_found, not_found}
 use Rattle.run_ahead.specs.Replies.{value_now, first_missing}
@@ -163,10 +163,10 @@ module _ (p : Plan) {h : Held} (s : IsSound (design p) h) (b : AreOwnMarks (desi
 
 -- ---- the step that waits
 
-module _ {p : Plan} {engine : Engine} {ends : List (Option Advance)} {runs : List (Option ModuleRun)} (core : IsCore p engine ends runs)
-    {i k : ℕ} (newest : suc k ≡ emitted_of (held_in engine (over_of ends)) i) (inside : i < length p.design.modules) where
+module _ {p : Plan} {engine : Engine} {runs : List (Option ModuleRun)} (core : IsCore p engine runs)
+    {i k : ℕ} (newest : suc k ≡ emitted_of (held_in engine) i) (inside : i < length p.design.modules) where
   abbrev h : Held
-  h = held_in engine (over_of ends)
+  h = held_in engine
 
   abbrev now : Core ModuleState
   now = core_of (design p) h
@@ -252,11 +252,11 @@ module _ {p : Plan} {engine : Engine} {ends : List (Option Advance)} {runs : Lis
 
 -- ---- the step that a run is asked about
 
-module _ {p : Plan} {engine : Engine} {ends : List (Option Advance)} {runs : List (Option ModuleRun)} (core : IsCore p engine ends runs)
+module _ {p : Plan} {engine : Engine} {runs : List (Option ModuleRun)} (core : IsCore p engine runs)
     {i : ℕ} (inside : i < length engine.graph.lanes) {run : ModuleRun}
-    (r : IsRunOf p (core_of (design p) (held_in engine (over_of ends))) i run) (w : waits run ≡ true) where
+    (r : IsRunOf p (core_of (design p) (held_in engine)) i run) (w : waits run ≡ true) where
   abbrev g : Held
-  g = held_in engine (over_of ends)
+  g = held_in engine
 
   abbrev k : ℕ
   k = emitted_of g i - 1

@@ -8,9 +8,9 @@ use Rattle.event_timing.specs.{Machines.Design, Core.Core, Actions.Action, Actio
 use Rattle.event_timing.proofs.{Agreement.acts_agree, Beside.others_grow}
 use Rattle.timing_bridge.specs.Designs.{design, lockstep_run}
 use Rattle.timing_bridge.proofs.History.{plan_is_design, run_is_history}
-use Rattle.engine_view.specs.{Held.core_of, Shown.IsSound, Rooms.IsRoomy, Engines.held_in, Taking.kinds_in, Kept.IsKept}
+use Rattle.engine_view.specs.{Held.core_of, Shown.IsSound, Rooms.IsRoomy, Engines.held_in, Engines.over_of, Taking.kinds_in, Kept.IsKept}
 use Rattle.engine_view.specs.declared.engine.Engine.{Engine}
-use Rattle.sim_core.specs.Runs.{IsCore, IsEndOf, over_of}
+use Rattle.sim_core.specs.Runs.{IsCore, IsEndOf}
 use Rattle.sim_core.proofs.Staying.{run_stays, end_stays}
 
 -- a module that is over has no Run
@@ -27,32 +27,37 @@ over_at [] m = refl
 over_at (e ∷ es) zero = refl
 over_at (e ∷ es) (suc m) = over_at es m
 
+-- where the end marks stay
+pub same_end : (s t : Engine) → t.ends ≡ s.ends → (m : ℕ) (mark : Advance) → get_or t.ends.items m None ≡ Some mark
+    → get_or s.ends.items m None ≡ Some mark
+same_end s t e m mark there = rw (← e) there
+
 -- the conditions of the turns at a module, and of an Earliest
-pub kept_of : {p : Plan} {s : Engine} {ends : List (Option Advance)} {runs : List (Option ModuleRun)}
-    → IsCore p s ends runs → IsKept (design p) (held_in s (over_of ends))
+pub kept_of : {p : Plan} {s : Engine} {runs : List (Option ModuleRun)}
+    → IsCore p s runs → IsKept (design p) (held_in s)
 kept_of k = record { sound = k.sound; marks = k.agreed.marks; earlier = k.agreed.time.verified_then }
 
-module _ {p : Plan} {s : Engine} {ends : List (Option Advance)} {runs : List (Option ModuleRun)} (k : IsCore p s ends runs) (t : Engine)
-    (others : List (Option Advance)) (a : Action) where
+module _ {p : Plan} {s : Engine} {runs : List (Option ModuleRun)} (k : IsCore p s runs) (t : Engine)
+    (a : Action) where
   abbrev d : Design ModuleState
   d = design p
 
   abbrev x : Core ModuleState
-  x = core_of d (held_in s (over_of ends))
+  x = core_of d (held_in s)
 
   abbrev y : Core ModuleState
-  y = core_of d (held_in t (over_of others))
+  y = core_of d (held_in t)
 
   beside : Acts d p.cycles x a y → (m : ℕ) → IsNoRunOf m (a ∷ []) → GrowsBeside d x y m
   beside acts m none = others_grow d (lockstep_run p) (plan_is_design p k.fits) (run_is_history p k.fits) p.cycles x k.agreed m (a ∷ [])
       none y (y, acts, refl)
 
   -- the runs of other modules stay where they stand, and so do the ends
-  pub core_acted : Acts d p.cycles x a y → IsSound d (held_in t (over_of others)) → kinds_in t.fifos.channels ≡ kinds_in s.fifos.channels
-      → length t.credits.items ≡ length s.credits.items → IsRoomy d t (over_of others)
+  pub core_acted : Acts d p.cycles x a y → IsSound d (held_in t) → kinds_in t.fifos.channels ≡ kinds_in s.fifos.channels
+      → length t.credits.items ≡ length s.credits.items → IsRoomy d t
       → ((m : ℕ) (run : ModuleRun) → get_or runs m None ≡ Some run → IsNoRunOf m (a ∷ []))
-      → ((m : ℕ) (mark : Advance) → get_or others m None ≡ Some mark → (get_or ends m None ≡ Some mark) ⊎ IsEndOf p y m mark)
-      → IsCore p t others runs
+      → ((m : ℕ) (mark : Advance) → get_or t.ends.items m None ≡ Some mark → (get_or s.ends.items m None ≡ Some mark) ⊎ IsEndOf p y m mark)
+      → IsCore p t runs
   core_acted acts sound kinds credit room no_run ends_of = record {
     fits = k.fits;
     sound = sound;
@@ -65,7 +70,7 @@ module _ {p : Plan} {s : Engine} {ends : List (Option Advance)} {runs : List (Op
     ends_are = λ m mark there.
         elim (ends_of m mark there) [
           | inl e ↦
-              let over : x.over m ≡ true = over_at ends m ∙ ap is_some e in
+              let over : x.over m ≡ true = over_at s.ends.items m ∙ ap is_some e in
               end_stays p x y k.agreed.marks m (beside acts m (no_run_of_over d p.cycles x y a m acts over)) mark (k.ends_are m mark e)
           | inr e ↦ e
         ];

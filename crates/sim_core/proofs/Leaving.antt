@@ -136,19 +136,19 @@ no_runs : (m n : ℕ) → IsNoRunOf (suc m) (runs n m)
 no_runs m zero = tt
 no_runs m (suc n) = ((λ e. absurd (omega arith)), no_runs m n)
 
-module _ (p : Plan) (s : Engine) (ends : List (Option Advance)) (modules : List (Option ModuleRun))
-    (k : IsCore p s ends modules) (unread : List Unread) (are : AreUnreadIn p s ends unread) where
+module _ (p : Plan) (s : Engine) (modules : List (Option ModuleRun))
+    (k : IsCore p s modules) (unread : List Unread) (are : AreUnreadIn p s unread) where
   pub grown : (m : ℕ) (actions : List Action) → IsNoRunOf m actions → (y : Core ModuleState)
-      → ActsAll (design p) p.cycles (core_in p s ends) actions y → AreUnread (core_values (design p) y) (length p.design.channels) unread
+      → ActsAll (design p) p.cycles (core_in p s) actions y → AreUnread (core_values (design p) y) (length p.design.channels) unread
   grown m actions o y acts =
-      unread_grow (core_values (design p) (core_in p s ends)) (core_values (design p) y) (length p.design.channels) unread
-      (others_grow (design p) (lockstep_run p) (plan_is_design p k.fits) (run_is_history p k.fits) p.cycles (core_in p s ends) k.agreed m
+      unread_grow (core_values (design p) (core_in p s)) (core_values (design p) y) (length p.design.channels) unread
+      (others_grow (design p) (lockstep_run p) (plan_is_design p k.fits) (run_is_history p k.fits) p.cycles (core_in p s) k.agreed m
       actions o y acts).grows.values_up are
 
-  pub unread_acted : (a : Action) (y : Core ModuleState) → Acts (design p) p.cycles (core_in p s ends) a y
+  pub unread_acted : (a : Action) (y : Core ModuleState) → Acts (design p) p.cycles (core_in p s) a y
       → AreUnread (core_values (design p) y) (length p.design.channels) unread
   unread_acted a y acts = grown (idle a) (a ∷ []) (no_run a) y (y, acts, refl)
 
-  pub unread_ran : (m n : ℕ) (y : Core ModuleState) → ActsAll (design p) p.cycles (core_in p s ends) (runs n m) y
+  pub unread_ran : (m n : ℕ) (y : Core ModuleState) → ActsAll (design p) p.cycles (core_in p s) (runs n m) y
       → AreUnread (core_values (design p) y) (length p.design.channels) unread
   unread_ran m n y acts = grown (suc m) (runs n m) (no_runs m n) y acts

@@ -9,22 +9,22 @@ use Rattle.event_timing.specs.{Core.Core, Agreement.IsAgreed}
 use Rattle.timing_bridge.specs.Designs.{design, lockstep_run}
 use Rattle.engine_view.specs.{Held.Held, Held.core_of, Shown.IsSound, Taking.kinds_in, Rooms.IsRoomy, Engines.held_in}
 use Rattle.engine_view.specs.declared.engine.Engine.{Engine}
-use Rattle.sim_core.specs.{Views.CoreView, Runs.IsRunOf, Runs.IsEndOf, Runs.IsCore, Runs.lent_of, Runs.over_of}
+use Rattle.sim_core.specs.{Views.CoreView, Runs.IsRunOf, Runs.IsEndOf, Runs.IsCore, Runs.lent_of}
 
 -- where the lists are the same
-pub held_same : (s t : Engine) (over : List Bool) → t.graph.lanes ≡ s.graph.lanes → t.fifos.channels ≡ s.fifos.channels
-    → t.log.logs ≡ s.log.logs → held_in t over ≡ held_in s over
-held_same s t over a b c = rw (a, b, c) refl
+pub held_same : (s t : Engine) → t.graph.lanes ≡ s.graph.lanes → t.fifos.channels ≡ s.fifos.channels
+    → t.log.logs ≡ s.log.logs → t.ends ≡ s.ends → held_in t ≡ held_in s
+held_same s t a b c e = rw (a, b, c, e) refl
 
 -- ---- what is kept
 
 -- with other room, or another run at one module
-pub core_roomed : (p : Plan) (s : Engine) (ends : List (Option Advance)) (runs : List (Option ModuleRun))
-    (t : Engine) → IsCore p s ends runs
-    → held_in t (over_of ends) ≡ held_in s (over_of ends) → length t.credits.items ≡ length s.credits.items
-    → IsRoomy (design p) t (over_of ends) → IsCore p t ends runs
-core_roomed p s ends runs t c e count room =
-    let same : core_of (design p) (held_in s (over_of ends)) ≡ core_of (design p) (held_in t (over_of ends)) = ap (core_of (design p))
+pub core_roomed : (p : Plan) (s : Engine) (runs : List (Option ModuleRun))
+    (t : Engine) → IsCore p s runs
+    → held_in t ≡ held_in s → t.ends ≡ s.ends → length t.credits.items ≡ length s.credits.items
+    → IsRoomy (design p) t → IsCore p t runs
+core_roomed p s runs t c e ends count room =
+    let same : core_of (design p) (held_in s) ≡ core_of (design p) (held_in t) = ap (core_of (design p))
     (sym e) in
     record {
       fits = c.fits;
@@ -35,14 +35,14 @@ core_roomed p s ends runs t c e count room =
       counted = count ∙ (c.counted ∙ ap (λ (h : Held). length h.lanes) (sym e));
       room = room;
       runs_are = λ m run there. subst (λ (x : Core ModuleState). IsRunOf p x m run) same (c.runs_are m run there);
-      ends_are = λ m mark there. subst (λ (x : Core ModuleState). IsEndOf p x m mark) same (c.ends_are m mark there);
+      ends_are = λ m mark there. subst (λ (x : Core ModuleState). IsEndOf p x m mark) same (c.ends_are m mark (rw (← ends) there));
     }
 
-pub core_lent : (p : Plan) (s : Engine) (ends : List (Option Advance)) (runs : List (Option ModuleRun)) (m : ℕ)
-    (o : Option ModuleRun) → IsCore p s ends runs → m < length s.graph.lanes
-    → ((run : ModuleRun) → o ≡ Some run → IsRunOf p (core_of (design p) (held_in s (over_of ends))) m run)
-    → IsCore p s ends (set runs m o)
-core_lent p s ends runs m o c inside f = record {
+pub core_lent : (p : Plan) (s : Engine) (runs : List (Option ModuleRun)) (m : ℕ)
+    (o : Option ModuleRun) → IsCore p s runs → m < length s.graph.lanes
+    → ((run : ModuleRun) → o ≡ Some run → IsRunOf p (core_of (design p) (held_in s)) m run)
+    → IsCore p s (set runs m o)
+core_lent p s runs m o c inside f = record {
   fits = c.fits;
   sound = c.sound;
   agreed = c.agreed;

@@ -13,7 +13,7 @@ use Rattle.timing_bridge.specs.Designs.{design}
 use Rattle.engine_view.specs.{Held.Held, Held.emitted_of, Held.core_of, declared.engine.Engine.Engine, Engines.held_in}
 use Rattle.run_ahead.specs.{declared.mail.Mail.Mail, declared.mail.Task.Task, Mails.values_on}
 use Rattle.sim_core.specs.{Lent.IsMade, Readers.AreReaders, Tasks.steps_committed, Tasks.IsTaskOf, Tasks.IsTaskLeft}
-use Rattle.sim_core.specs.Runs.{IsCore, IsRunOf, rest_behind, lent_of, over_of}
+use Rattle.sim_core.specs.Runs.{IsCore, IsRunOf, rest_behind, lent_of}
 use Rattle.sim_core.proofs.{Posted.going_posted, Posted.waiting_posted, Sending.popped_is}
 use Rattle.sim_core.proofs.Committed.{committed_waits, committed_goes}
 
@@ -35,21 +35,21 @@ is_lent (r ∷ rs) (suc m) e = is_lent rs m e
 -- ---- what was read
 
 -- where a run is at hand, what it counted, and what it waits for
-pub record IsAtHand (p : Plan) (s : Engine) (ends : List (Option Advance)) (runs : List (Option ModuleRun)) (m : ℕ)
+pub record IsAtHand (p : Plan) (s : Engine) (runs : List (Option ModuleRun)) (m : ℕ)
     (run : ModuleRun) (readers : List ℕ) (first : ℕ) (accesses : List Access) : Type 0 where
-  pub core : IsCore p s ends runs
+  pub core : IsCore p s runs
   pub inside : m < length p.design.modules
-  pub may : MayRun (design p) (core_of (design p) (held_in s (over_of ends))) m
-  pub run_is : IsRunOf p (core_of (design p) (held_in s (over_of ends))) m run
+  pub may : MayRun (design p) (core_of (design p) (held_in s)) m
+  pub run_is : IsRunOf p (core_of (design p) (held_in s)) m run
   pub readers_are : AreReaders p readers
   pub first_is : (q : Plan) (i : ℕ) (o : Own) → StandsAt q i o run → first ≡ length (queries (done_in o.steps))
   pub accesses_are : (q : Plan) (i : ℕ) (o : Own) → StandsAt q i o run → accesses ≡ cond (waits run) (accesses_at q i o) []
 
-module _ {p : Plan} {s : Engine} {ends : List (Option Advance)} {runs : List (Option ModuleRun)} {m : ℕ}
+module _ {p : Plan} {s : Engine} {runs : List (Option ModuleRun)} {m : ℕ}
     {run : ModuleRun} {readers : List ℕ} {first : ℕ} {xs : List Access}
-    (k : IsAtHand p s ends runs m run readers first xs) where
+    (k : IsAtHand p s runs m run readers first xs) where
   abbrev h : Held
-  h = held_in s (over_of ends)
+  h = held_in s
 
   pub task_lent : (mail : Mail) → IsMade (log_at h.logs m).outcomes h.channels readers m first run xs mail
       → IsTaskOf p (core_of (design p) h) m (record { run = run; mail = mail })
@@ -69,17 +69,17 @@ module _ {p : Plan} {s : Engine} {ends : List (Option Advance)} {runs : List (Op
 
 -- ---- what is left of a mail
 
-module _ {p : Plan} {s : Engine} {ends : List (Option Advance)} {runs : List (Option ModuleRun)}
-    (k : IsCore p s ends runs) {m : ℕ} (inside : m < length p.design.modules) {last : Task}
-    (t : IsTaskLeft p (core_of (design p) (held_in s (over_of ends))) m last) (c : ℕ) where
+module _ {p : Plan} {s : Engine} {runs : List (Option ModuleRun)}
+    (k : IsCore p s runs) {m : ℕ} (inside : m < length p.design.modules) {last : Task}
+    (t : IsTaskLeft p (core_of (design p) (held_in s)) m last) (c : ℕ) where
   abbrev x : Core ModuleState
-  x = core_of (design p) (held_in s (over_of ends))
+  x = core_of (design p) (held_in s)
 
   count_at : (n : ℕ) → n ≤ x.emitted m → StandsAt p m (rest_behind p x m n) last.run → steps_committed x m last.run ≡ n
       → popped_in last.run c ≡ core_tally (design p) x m Pop c (steps_committed x m last.run)
   count_at n most st e =
       st.tally.popped_are c
-      ∙ (popped_is p k.fits (held_in s (over_of ends)) k.table k.sound k.agreed.marks m inside n most c
+      ∙ (popped_is p k.fits (held_in s) k.table k.sound k.agreed.marks m inside n most c
       ∙ ap (core_tally (design p) x m Pop c) (sym e))
 
   -- the values that are left are the next ones behind those that were popped

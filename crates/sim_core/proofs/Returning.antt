@@ -14,12 +14,13 @@ use Rattle.event_timing.specs.Actions as actions
 use Rattle.event_timing.proofs.Running.{run_marks}
 use Rattle.timing_bridge.specs.Designs.{design}
 use Rattle.engine_view.specs.{Held.Held, Held.queries_in, Held.core_of, declared.engine.Engine.Engine, Engines.held_in}
-use Rattle.engine_view.specs.Rooms.{CanEmit, HasEmitted, room_of}
+use Rattle.engine_view.specs.Emitted.{with_over}
+use Rattle.engine_view.specs.Rooms.{CanEmit, HasEmitted, HasEmittedEnd, room_of}
 use Rattle.run_ahead.specs.{declared.mail.Mail.Mail, declared.mail.Task.Task, declared.mail.Burst.Burst, Working.burst_of}
 use Rattle.run_ahead.specs.Mails.{taken_after, none_taken, task_left, IsBehindStep, IsPast, RunsOn, IsBurst, IsBurstFrom}
 use Rattle.sim_core.specs.{Taken.taken_at, Tasks.IsTaskFor, Tasks.IsTaskLeft, Tasks.rest_of}
 use Rattle.sim_core.specs.Returned.{HasPlacesForMarks, core_in, HasRoomForMarks, IsNextMark, AreReturned}
-use Rattle.sim_core.specs.Runs.{HasBodiesWithin, IsCore, rest_behind, over_of, lent_of}
+use Rattle.sim_core.specs.Runs.{HasBodiesWithin, IsCore, rest_behind, lent_of}
 use Rattle.sim_core.proofs.{QueryRoom.room_for_step, Tasks.waits_first, Tasks.goes_first, Emission.IsReady}
 use Rattle.sim_core.proofs.Ahead.{Goes, Waits, waits_behind, over_behind, goes_on, waiting_stands, going_stands, over_stands}
 use Rattle.sim_core.proofs.Emission as emission
@@ -27,12 +28,12 @@ use Rattle.module_interp.proofs.Sound.{gap_at}
 
 -- ---- one mark
 
-module _ {p : Plan} {s : Engine} {ends : List (Option Advance)} {runs : List (Option ModuleRun)} {m : ℕ}
-    {mark : Advance} (n : IsNextMark p s ends runs m mark) where
+module _ {p : Plan} {s : Engine} {runs : List (Option ModuleRun)} {m : ℕ}
+    {mark : Advance} (n : IsNextMark p s runs m mark) where
   abbrev rest : Own
-  rest = rest_behind p (core_in p s ends) m ((core_in p s ends).emitted m)
+  rest = rest_behind p (core_in p s) m ((core_in p s).emitted m)
 
-  pub may_record : m < length s.graph.lanes → IsReady p s ends runs m
+  pub may_record : m < length s.graph.lanes → IsReady p s runs m
   may_record l = record { core = n.room.core; inside = l; lent = n.room.lent; may = n.may }
 
   pub short_rest : rest.since < 10 ^ 18
@@ -53,20 +54,24 @@ module _ {p : Plan} {s : Engine} {ends : List (Option Advance)} {runs : List (Op
       pub step_fits : CanEmit s m t
       step_fits = emission.can_emit (may_record inside) (mark_step e) short_rest (small_step e) (step_places e)
 
-      pub core_emitted : {f : Engine} → HasEmitted s m t f → IsCore p f ends runs
+      pub core_emitted : {f : Engine} → HasEmitted s m t f → IsCore p f runs
       core_emitted done =
           emission.step_core (may_record inside) (mark_step e) short_rest (small_step e) done (step_places e)
           (room_for_step p n.room.core.fits m rest t (mark_step e) n.room.outcomes)
 
-      pub acts_emitted : {f : Engine} → HasEmitted s m t f → Acts (design p) p.cycles (core_in p s ends) (Run m) (core_in p f ends)
+      pub acts_emitted : {f : Engine} → HasEmitted s m t f → Acts (design p) p.cycles (core_in p s) (Run m) (core_in p f)
       acts_emitted done = emission.acts_to (may_record inside) (mark_step e) short_rest (small_step e) done
 
     module _ (over : is_step mark ≡ false) where
-      pub core_ended : IsCore p s (set ends m (Some mark)) runs
-      core_ended = emission.end_core (may_record inside) n.is over n.sound.short
+      pub over_ended : core_of (design p) (with_over (held_in s) m) ≡ after_run (design p) (core_in p s) m
+      over_ended = (emission.over_is (may_record inside) n.is over).0
 
-      pub acts_ended : Acts (design p) p.cycles (core_in p s ends) (Run m) (core_in p s (set ends m (Some mark)))
-      acts_ended = emission.end_acts (may_record inside) n.is over n.sound.short
+    module _ (over : is_step mark ≡ false) {f : Engine} (done : HasEmittedEnd s m mark f) where
+      pub core_ended : IsCore p f runs
+      core_ended = emission.end_core (may_record inside) n.is over n.sound.short done
+
+      pub acts_ended : Acts (design p) p.cycles (core_in p s) (Run m) (core_in p f)
+      acts_ended = emission.end_acts (may_record inside) n.is over n.sound.short done
 
 -- ---- a burst on its way
 
@@ -187,30 +192,30 @@ module _ {p : Plan} {s : Engine} {m : ℕ} {mark : Advance} {more : List Advance
   })
 
 -- those left of a burst's marks are still to be emitted; with them the first core comes to where all marks bring it
-pub record IsReturningOn (p : Plan) (s : Engine) (ends : List (Option Advance)) (runs : List (Option ModuleRun))
+pub record IsReturningOn (p : Plan) (s : Engine) (runs : List (Option ModuleRun))
     (m : ℕ) (mail : Mail) (short : Bool) (last : Task) (left : List Advance) (first : Core ModuleState) (count : ℕ) : Type 0 where
-  pub room : HasRoomForMarks p s ends runs m left
-  pub on : IsOnWay p (core_in p s ends) m mail short last left
-  pub acts : (y : Core ModuleState) → ActsAll (design p) p.cycles (core_in p s ends) (actions.runs (length left) m) y
+  pub room : HasRoomForMarks p s runs m left
+  pub on : IsOnWay p (core_in p s) m mail short last left
+  pub acts : (y : Core ModuleState) → ActsAll (design p) p.cycles (core_in p s) (actions.runs (length left) m) y
       → ActsAll (design p) p.cycles first (actions.runs count m) y
 
-pub returning_first : {p : Plan} {s : Engine} {ends : List (Option Advance)} {runs : List (Option ModuleRun)} {m : ℕ}
-    {marks : List Advance} {last : Task} (r : AreReturned p s ends runs m marks last)
-    → IsReturningOn p s ends runs m r.task.mail r.short last marks (core_in p s ends) (length marks)
-returning_first {p} {s} {ends} {runs} {m} {marks} {last} r = record {
+pub returning_first : {p : Plan} {s : Engine} {runs : List (Option ModuleRun)} {m : ℕ}
+    {marks : List Advance} {last : Task} (r : AreReturned p s runs m marks last)
+    → IsReturningOn p s runs m r.task.mail r.short last marks (core_in p s) (length marks)
+returning_first {p} {s} {runs} {m} {marks} {last} r = record {
   room = r.room;
-  on = on_way_first p r.room.core.fits (core_in p s ends) r.room.core.agreed.marks m r.task (burst_of last marks r.short) r.is_task
+  on = on_way_first p r.room.core.fits (core_in p s) r.room.core.agreed.marks m r.task (burst_of last marks r.short) r.is_task
       r.is_burst;
   acts = λ y a. a;
 }
 
-module _ {p : Plan} {s : Engine} {ends : List (Option Advance)} {runs : List (Option ModuleRun)} {m : ℕ} {mail : Mail}
+module _ {p : Plan} {s : Engine} {runs : List (Option ModuleRun)} {m : ℕ} {mail : Mail}
     {short : Bool} {last : Task} {mark : Advance} {more : List Advance} {first : Core ModuleState} {count : ℕ}
-    (r : IsReturningOn p s ends runs m mail short last (mark ∷ more) first count) where
-  far : IsFarther p (core_in p s ends) m mail short last mark more
-  far = on_way_more p r.room.core.fits (core_in p s ends) r.room.core.agreed.marks m mail short last mark more r.on
+    (r : IsReturningOn p s runs m mail short last (mark ∷ more) first count) where
+  far : IsFarther p (core_in p s) m mail short last mark more
+  far = on_way_more p r.room.core.fits (core_in p s) r.room.core.agreed.marks m mail short last mark more r.on
 
-  pub next_mark : IsNextMark p s ends runs m mark
+  pub next_mark : IsNextMark p s runs m mark
   next_mark = record {
     room = record {
       core = r.room.core;
@@ -223,12 +228,12 @@ module _ {p : Plan} {s : Engine} {ends : List (Option Advance)} {runs : List (Op
     sound = far.sound;
   }
 
-  pub returning_more : {t : Engine} {ends' : List (Option Advance)} → t.log ≡ s.log → IsCore p t ends' runs
-      → Acts (design p) p.cycles (core_in p s ends) (Run m) (core_in p t ends')
+  pub returning_more : {t : Engine} → t.log ≡ s.log → IsCore p t runs
+      → Acts (design p) p.cycles (core_in p s) (Run m) (core_in p t)
       → get_or s.credits.items m 0 ≤ get_or t.credits.items m 0 + 2 → get_or s.graph.rooms m 0 ≤ get_or t.graph.rooms m 0 + 1
       → ((side : Side) (c : ℕ) → room_of s.fifos side c ≤ room_of t.fifos side c + taken_at side c mark)
-      → IsReturningOn p t ends' runs m mail short last more first count
-  returning_more {t} {ends'} log core (may, after) credit lane left = record {
+      → IsReturningOn p t runs m mail short last more first count
+  returning_more {t} log core (may, after) credit lane left = record {
     room = record {
       core = core;
       lent = r.room.lent;
@@ -236,29 +241,29 @@ module _ {p : Plan} {s : Engine} {ends : List (Option Advance)} {runs : List (Op
       outcomes = rw log r.room.outcomes;
     };
     on = subst (λ (x : Core ModuleState). IsOnWay p x m mail short last more) (sym after) far.on;
-    acts = λ y a. r.acts y (core_in p t ends', (may, after), a);
+    acts = λ y a. r.acts y (core_in p t, (may, after), a);
   }
 
 pub drop_behind : (xs : List Advance) (n : ℕ) (v : Advance) → drop (suc n) (set xs n v) ≡ drop (suc n) xs
 drop_behind xs n v = drop-set-lt (suc n) xs n v (omega arith)
 
 -- where none is left
-pub all_acts : {p : Plan} {s : Engine} {ends : List (Option Advance)} {runs : List (Option ModuleRun)} {m : ℕ}
+pub all_acts : {p : Plan} {s : Engine} {runs : List (Option ModuleRun)} {m : ℕ}
     {mail : Mail} {short : Bool} {last : Task} {first : Core ModuleState} {count : ℕ}
-    → IsReturningOn p s ends runs m mail short last [] first count
-    → ActsAll (design p) p.cycles first (actions.runs count m) (core_in p s ends)
-all_acts {p} {s} {ends} r = r.acts (core_in p s ends) refl
+    → IsReturningOn p s runs m mail short last [] first count
+    → ActsAll (design p) p.cycles first (actions.runs count m) (core_in p s)
+all_acts {p} {s} r = r.acts (core_in p s) refl
 
 -- ---- the core
 
 -- with room, a burst of a task for the core can come back
-pub are_returned : (s : Engine) {p : Plan} {t : Engine} {ends : List (Option Advance)} {runs : List (Option ModuleRun)} {m : ℕ}
-    {burst : Burst} → held_in t (over_of ends) ≡ held_in s (over_of ends) → IsCore p t ends runs
+pub are_returned : (s : Engine) {p : Plan} {t : Engine} {runs : List (Option ModuleRun)} {m : ℕ}
+    {burst : Burst} → held_in t ≡ held_in s → IsCore p t runs
     → get_or (lent_of runs) m true ≡ true → HasPlacesForMarks p t m burst.emitted
     → HasBodiesWithin (module_at p m) (get_or t.log.rooms m 0)
-    → (task : Task) × (IsTaskFor p (core_in p s ends) m task × IsBurst p m (rest_of p (core_in p s ends) m task) task burst)
-    → AreReturned p t ends runs m burst.emitted (task_left burst)
-are_returned s {p} {t} {ends} {runs} {m} {burst} same core lent places outcomes (task, (for', is)) = record {
+    → (task : Task) × (IsTaskFor p (core_in p s) m task × IsBurst p m (rest_of p (core_in p s) m task) task burst)
+    → AreReturned p t runs m burst.emitted (task_left burst)
+are_returned s {p} {t} {runs} {m} {burst} same core lent places outcomes (task, (for', is)) = record {
   room = record { core = core; lent = lent; places = places; outcomes = outcomes };
   task = task;
   short = burst.short;

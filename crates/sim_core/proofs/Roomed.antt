@@ -14,7 +14,7 @@ use Rattle.engine_view.specs.Rooms.{EngineHasModule, IsSameButRoom, IsRoomy, Are
 use Rattle.sim_core.specs.{declared.due.Due.Due, declared.unread.Unread.Unread, declared.wiring.Wiring.Wiring, Candidates.AreListed}
 use Rattle.sim_core.specs.{Waking.AreDue, Waking.IsSpread, Opening.ports_to, Returned.core_in, Unread.AreUnread}
 use Rattle.sim_core.specs.Stretches.{IsHeldAlike, IsMember}
-use Rattle.sim_core.specs.Runs.{IsRunOf, IsOut, IsCore, IsWired, IsStoredCore, lent_of, over_of}
+use Rattle.sim_core.specs.Runs.{IsRunOf, IsOut, IsCore, IsWired, IsStoredCore, lent_of}
 use Rattle.sim_core.proofs.{Asking.asking_ran, QueryRoom.bodies_told, Listing.listed_ran, Waking.waking_ran, Marking.table_count}
 use Rattle.sim_core.proofs.Leaving as leaving
 use Rattle.sim_core.proofs.Lending as lending
@@ -22,13 +22,13 @@ use Rattle.sim_core.proofs.Ports as ports
 
 -- ---- a run that is taken out or put back
 
-module _ {p : Plan} {s : Engine} {ends : List (Option Advance)} {runs : List (Option ModuleRun)} {wiring : Wiring}
+module _ {p : Plan} {s : Engine} {runs : List (Option ModuleRun)} {wiring : Wiring}
     {unread : List Unread} {due : Due} {candidates : List Candidate}
-    (k : IsStoredCore p s ends runs wiring unread due candidates) (m : ℕ) (inside : m < length p.design.modules) where
-  pub stored_lent : (o : Option ModuleRun) → ((run : ModuleRun) → o ≡ Some run → IsRunOf p (core_in p s ends) m run)
-      → IsStoredCore p s ends (set runs m o) wiring unread due candidates
+    (k : IsStoredCore p s runs wiring unread due candidates) (m : ℕ) (inside : m < length p.design.modules) where
+  pub stored_lent : (o : Option ModuleRun) → ((run : ModuleRun) → o ≡ Some run → IsRunOf p (core_in p s) m run)
+      → IsStoredCore p s (set runs m o) wiring unread due candidates
   stored_lent o f = record {
-    core = lending.core_lent p s ends runs m o k.core (let n = k.core.sound.lanes in omega arith) f;
+    core = lending.core_lent p s runs m o k.core (let n = k.core.sound.lanes in omega arith) f;
     wired = k.wired;
     unread_are = k.unread_are;
     due_are = k.due_are;
@@ -37,7 +37,7 @@ module _ {p : Plan} {s : Engine} {ends : List (Option Advance)} {runs : List (Op
 
   -- a run that was there is out
   pub run_out : (o : Option ModuleRun) → get_or runs m None ≡ o
-      → IfSome o (λ run. IsOut (record { plan = p; held = held_in s (over_of ends); lent = lent_of (set runs m None) }) m run)
+      → IfSome o (λ run. IsOut (record { plan = p; held = held_in s; lent = lent_of (set runs m None) }) m run)
   run_out None e = tt
   run_out (Some run) e = record { inside = inside; lent = lending.lent_set runs m; run_is = k.core.runs_are m run e }
 
@@ -53,7 +53,7 @@ member {p} {w} k m inside {own} {most} ports body = record {
 
 -- ---- room for a module's marks
 
-module _ {p : Plan} {s : Engine} {ends : List (Option Advance)} {runs : List (Option ModuleRun)} (k : IsCore p s ends runs) (m : ℕ)
+module _ {p : Plan} {s : Engine} {runs : List (Option ModuleRun)} (k : IsCore p s runs) (m : ℕ)
     (inside : m < length p.design.modules) (own : List Port) (own_is : own ≡ ports_to p m (length p.design.channels)) where
   channels : length s.fifos.channels ≡ length p.design.channels
   channels = table_count p s.fifos.channels k.table
@@ -72,50 +72,50 @@ module _ {p : Plan} {s : Engine} {ends : List (Option Advance)} {runs : List (Op
 
   -- ---- with room
 
-  module _ (t : Engine) (same : IsSameButRoom m s t) (room : (d : Design ModuleState) (over : List Bool)
-      → AreAllPorts d m (length s.fifos.channels) own → IsRoomy d s over → IsRoomy d t over) where
-    pub held_same : IsHeldAlike s ends t ends
-    held_same = lending.held_same s t (over_of ends) same.lanes same.channels same.logs
+  module _ (t : Engine) (same : IsSameButRoom m s t) (room : (d : Design ModuleState)
+      → AreAllPorts d m (length s.fifos.channels) own → IsRoomy d s → IsRoomy d t) where
+    pub held_same : IsHeldAlike s t
+    held_same = lending.held_same s t same.lanes same.channels same.logs same.ends
 
-    pub core : IsCore p t ends runs
-    core = lending.core_roomed p s ends runs t k held_same same.count
-        (room (design p) (over_of ends) (ports.all_there p m (length s.fifos.channels) own channels own_is) k.room)
+    pub core : IsCore p t runs
+    core = lending.core_roomed p s runs t k held_same same.ends same.count
+        (room (design p) (ports.all_there p m (length s.fifos.channels) own channels own_is) k.room)
 
 -- ---- behind Runs of a module
 
-module _ {p : Plan} {s : Engine} {ends : List (Option Advance)} {runs : List (Option ModuleRun)} {wiring : Wiring}
+module _ {p : Plan} {s : Engine} {runs : List (Option ModuleRun)} {wiring : Wiring}
     {unread : List Unread} {due : Due} {candidates : List Candidate}
-    (k : IsStoredCore p s ends runs wiring unread due candidates) (m : ℕ) (inside : m < length p.design.modules)
-    (f : Engine) (ends' : List (Option Advance)) where
+    (k : IsStoredCore p s runs wiring unread due candidates) (m : ℕ) (inside : m < length p.design.modules)
+    (f : Engine) where
   -- where there were none
-  pub stored_alike : IsHeldAlike s ends f ends' → (runs' : List (Option ModuleRun)) → IsCore p f ends' runs'
-      → IsStoredCore p f ends' runs' wiring unread due candidates
+  pub stored_alike : IsHeldAlike s f → (runs' : List (Option ModuleRun)) → IsCore p f runs'
+      → IsStoredCore p f runs' wiring unread due candidates
   stored_alike same runs' core' = record {
     core = core';
     wired = k.wired;
-    unread_are = leaving.unread_same p (held_in s (over_of ends)) (held_in f (over_of ends')) unread same k.unread_are;
+    unread_are = leaving.unread_same p (held_in s) (held_in f) unread same k.unread_are;
     due_are = subst (λ (h : Held). AreDue p (core_of (design p) h) due) (sym same) k.due_are;
     listed_are = subst (λ (h : Held). AreListed p (core_of (design p) h) due candidates) (sym same) k.listed_are;
   }
 
-  module _ (count : ℕ) (acts : ActsAll (design p) p.cycles (core_in p s ends) (actions.runs count m) (core_in p f ends')) where
-    pub unread_ran : AreUnread (core_values (design p) (core_in p f ends')) (length p.design.channels) unread
-    unread_ran = leaving.unread_ran p s ends runs k.core unread k.unread_are m count (core_in p f ends') acts
+  module _ (count : ℕ) (acts : ActsAll (design p) p.cycles (core_in p s) (actions.runs count m) (core_in p f)) where
+    pub unread_ran : AreUnread (core_values (design p) (core_in p f)) (length p.design.channels) unread
+    unread_ran = leaving.unread_ran p s runs k.core unread k.unread_are m count (core_in p f) acts
 
-    pub stored_ran : (runs' : List (Option ModuleRun)) → IsCore p f ends' runs' → (unread' : List Unread)
-        → AreUnread (core_values (design p) (core_in p f ends')) (length p.design.channels) unread'
+    pub stored_ran : (runs' : List (Option ModuleRun)) → IsCore p f runs' → (unread' : List Unread)
+        → AreUnread (core_values (design p) (core_in p f)) (length p.design.channels) unread'
         → (now : Due) → IsAdded due.asking m now.asking → IsSpread due.running (slice_index_or wiring.hints m []) m now.running
-        → now.unlisted ≡ due.unlisted → IsStoredCore p f ends' runs' wiring unread' now candidates
+        → now.unlisted ≡ due.unlisted → IsStoredCore p f runs' wiring unread' now candidates
     stored_ran runs' core' unread' are now added spread same_unlisted = record {
       core = core';
       wired = k.wired;
       unread_are = are;
       due_are = record {
-        asking_are = asking_ran p k.core.fits (core_in p s ends) due.asking k.due_are.asking_are k.core.agreed m count
-            (core_in p f ends') acts now.asking added;
-        running_are = waking_ran p (core_in p s ends) due.running k.due_are.running_are wiring.hints k.wired.beside_are m inside
-            now.running spread count (core_in p f ends') acts;
+        asking_are = asking_ran p k.core.fits (core_in p s) due.asking k.due_are.asking_are k.core.agreed m count
+            (core_in p f) acts now.asking added;
+        running_are = waking_ran p (core_in p s) due.running k.due_are.running_are wiring.hints k.wired.beside_are m inside
+            now.running spread count (core_in p f) acts;
       };
-      listed_are = listed_ran p (core_in p s ends) due candidates k.listed_are m now k.due_are.asking_are.room added
-          same_unlisted k.core.fits k.core.agreed count (core_in p f ends') acts;
+      listed_are = listed_ran p (core_in p s) due candidates k.listed_are m now k.due_are.asking_are.room added
+          same_unlisted k.core.fits k.core.agreed count (core_in p f) acts;
     }

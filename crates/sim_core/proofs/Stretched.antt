@@ -19,7 +19,7 @@ use Rattle.engine_view.specs.declared.turn.Timing.TheVariants as turn
 use Rattle.sim_core.specs.{Asking.Lacks, Asking.SetHasRoom, Asking.AreAsking, Candidates.AreListed, Drives.VisitLeads, Drives.has_acted}
 use Rattle.sim_core.specs.{Returned.core_in, Turns.HasTurned, Views.CoreView, Views.theory_of, Waking.AreWaking, Waking.IsSpread}
 use Rattle.sim_core.specs.{declared.due.Due.Due, declared.unread.Unread.Unread, declared.visit.Visit.Visit, declared.wiring.Wiring.Wiring}
-use Rattle.sim_core.specs.Runs.{IsCore, IsStoredCore, lent_of, over_of}
+use Rattle.sim_core.specs.Runs.{IsCore, IsStoredCore, lent_of}
 use Rattle.sim_core.specs.declared.visit.Visit.TheVariants.{Acted, Differs, Idle}
 use Rattle.sim_core.specs.Stretches.{AreTimingsOf, answers_among, HasTimedOnce, IsHeldOf, StretchLeads, TimesOn, view_in}
 use Rattle.sim_core.proofs.{Asking.asking_idle, Asking.still_room, Keeping.kept_of, Leaving.grown, Roomed.stored_alike}
@@ -141,33 +141,33 @@ one_tick (turn.Differs q) other e = cc
 one_tick turn.Nothing other e = cc
 
 -- a turn of the engine
-module _ {p : Plan} {s : Engine} {ends : List (Option Advance)} {runs : List (Option ModuleRun)} {m limit : ℕ}
-    (h : IsHeldOf p s ends runs m limit) (t : Engine) (r : Timing) (timed : HasTimed r limit m s t) (room : KeepsRoom s t)
+module _ {p : Plan} {s : Engine} {runs : List (Option ModuleRun)} {m limit : ℕ}
+    (h : IsHeldOf p s runs m limit) (t : Engine) (r : Timing) (timed : HasTimed r limit m s t) (room : KeepsRoom s t)
     (kinds : kinds_in t.fifos.channels ≡ kinds_in s.fifos.channels) (less : is_progress r ≡ true → left t < left s) where
   done : HasTimed r p.cycles m s t
   done = subst (λ (n : ℕ). HasTimed r n m s t) h.limited timed
 
-  core : IsCore p t ends runs
+  core : IsCore p t runs
   core = turning.core_timed h.core t m r done room kinds
 
-  pub held_behind : IsHeldOf p t ends runs m limit
+  pub held_behind : IsHeldOf p t runs m limit
   held_behind = record { core = core; inside = h.inside; limited = h.limited }
 
-  pub has_turned : HasTurned r (view_in p s ends runs) m (view_in p t ends runs)
+  pub has_turned : HasTurned r (view_in p s runs) m (view_in p t runs)
   has_turned =
       turning.turned h.core t m r (lent_of runs) done (λ cycle e.
-      turning.changed (design p) s t (over_of ends) (core.sound.lanes ∙ sym h.core.sound.lanes) (less (ap is_progress e)))
+      turning.changed (design p) s t (core.sound.lanes ∙ sym h.core.sound.lanes) (less (ap is_progress e)))
 
   pub times_behind : (before after : ℕ) → after ≡ before + ticks_of r
-      → HasTimedOnce r (view_in p s ends runs) before m (view_in p t ends runs) after
+      → HasTimedOnce r (view_in p s runs) before m (view_in p t runs) after
   times_behind before after ticked =
-      times_one (view_in p s ends runs) (view_in p t ends runs) m before refl refl h.core.agreed r after has_turned ticked
+      times_one (view_in p s runs) (view_in p t runs) m before refl refl h.core.agreed r after has_turned ticked
 
 -- the step that may be given its cycle is so in the engine
-pub may_take : {p : Plan} {s : Engine} {ends : List (Option Advance)} {runs : List (Option ModuleRun)} {m limit : ℕ}
-    → IsHeldOf p s ends runs m limit → (c : ℕ) → MayAssign (design p) p.cycles (core_in p s ends) m c → MayTakeIn s m c
-may_take {p} {s} {ends} h c may =
-    (design p, over_of ends, p.cycles, h.core.fits.cycles, plan_is_design p h.core.fits, kept_of h.core, may)
+pub may_take : {p : Plan} {s : Engine} {runs : List (Option ModuleRun)} {m limit : ℕ}
+    → IsHeldOf p s runs m limit → (c : ℕ) → MayAssign (design p) p.cycles (core_in p s) m c → MayTakeIn s m c
+may_take {p} {s} h c may =
+    (design p, p.cycles, h.core.fits.cycles, plan_is_design p h.core.fits, kept_of h.core, may)
 
 -- ---- one more of them
 
@@ -215,18 +215,18 @@ stretch_leads (Acted again) answers v w b a m f = f.on
 stretch_leads (Differs q) answers v w b a m f = f
 stretch_leads Idle answers v w b a m f = f
 
-module _ {p : Plan} {s : Engine} {ends : List (Option Advance)} {runs : List (Option ModuleRun)} {wiring : Wiring} {unread : List Unread}
-    {due : Due} {candidates : List Candidate} (k : IsStoredCore p s ends runs wiring unread due candidates) (m : ℕ)
+module _ {p : Plan} {s : Engine} {runs : List (Option ModuleRun)} {wiring : Wiring} {unread : List Unread}
+    {due : Due} {candidates : List Candidate} (k : IsStoredCore p s runs wiring unread due candidates) (m : ℕ)
     (inside : m < length p.design.modules) where
   abbrev d : Design ModuleState
   d = design p
 
   abbrev x : Core ModuleState
-  x = core_in p s ends
+  x = core_in p s
 
   -- where none is permitted of the module
   pub stored_unasked : IsIdle d p.cycles x m → (now : Due) → IsRemoved due.asking m now.asking → now.running ≡ due.running
-      → IsAdded due.unlisted m now.unlisted → IsStoredCore p s ends runs wiring unread now candidates
+      → IsAdded due.unlisted m now.unlisted → IsStoredCore p s runs wiring unread now candidates
   stored_unasked idle now removed same added = record {
     core = k.core;
     wired = k.wired;
@@ -246,13 +246,13 @@ module _ {p : Plan} {s : Engine} {ends : List (Option Advance)} {runs : List (Op
   }
 
   -- behind some Assigns and Answers of the module
-  module _ (t : Engine) (now_core : IsCore p t ends runs) (b a answers : ℕ)
-      (timed : TimesOn (view_in p s ends runs) b m answers (view_in p t ends runs) a) (now : Due)
+  module _ (t : Engine) (now_core : IsCore p t runs) (b a answers : ℕ)
+      (timed : TimesOn (view_in p s runs) b m answers (view_in p t runs) a) (now : Due)
       (asks : IsSpread due.asking (slice_index_or wiring.hints m []) m now.asking)
       (wakes : 0 < answers → IsSpread due.running (slice_index_or wiring.hints m []) m now.running)
       (rests : answers ≡ 0 → now.running ≡ due.running) (same : now.unlisted ≡ due.unlisted) where
     abbrev y : Core ModuleState
-    y = core_in p t ends
+    y = core_in p t
 
     acts : ActsAll d p.cycles x timed.on.goes.actions y
     acts = timed.on.goes.all
@@ -305,36 +305,36 @@ module _ {p : Plan} {s : Engine} {ends : List (Option Advance)} {runs : List (Op
           (stays_out due.asking now.asking k.due_are.asking_are.room asks n l out).found,
         ))
 
-    pub stored_timed : IsStoredCore p t ends runs wiring unread now candidates
+    pub stored_timed : IsStoredCore p t runs wiring unread now candidates
     stored_timed = record {
       core = now_core;
       wired = k.wired;
       unread_are =
-          grown p s ends runs k.core unread k.unread_are 0 timed.on.goes.actions (no_runs m 0 timed.on.goes.actions timed.are) y acts;
+          grown p s runs k.core unread k.unread_are 0 timed.on.goes.actions (no_runs m 0 timed.on.goes.actions timed.are) y acts;
       due_are = record { asking_are = asking; running_are = waking };
       listed_are = listed;
     }
 
   -- behind a stretch of them, whatever it did
-  pub stored_behind : (t : Engine) → IsCore p t ends runs → (b a answers : ℕ) (visit : Visit)
-      → StretchLeads visit answers (view_in p s ends runs) b m (view_in p t ends runs) a → (now : Due)
+  pub stored_behind : (t : Engine) → IsCore p t runs → (b a answers : ℕ) (visit : Visit)
+      → StretchLeads visit answers (view_in p s runs) b m (view_in p t runs) a → (now : Due)
       → (has_acted visit ≡ false → now ≡ due)
       → (has_acted visit ≡ true → IsSpread due.asking (slice_index_or wiring.hints m []) m now.asking)
       → (has_acted visit ≡ true → 0 < answers → IsSpread due.running (slice_index_or wiring.hints m []) m now.running)
       → (answers ≡ 0 → now.running ≡ due.running) → now.unlisted ≡ due.unlisted
-      → IsStoredCore p t ends runs wiring unread now candidates
+      → IsStoredCore p t runs wiring unread now candidates
   stored_behind t now_core b a answers (Acted again) timed now none asks wakes rests same =
       stored_timed t now_core b a answers timed now (asks refl) (wakes refl) rests same
   stored_behind t now_core b a answers (Differs q) (e, ticks, f) now none asks wakes rests same =
-      rw (none refl) (stored_alike k m inside t ends (ap (λ (v : CoreView). v.held) e) runs now_core)
+      rw (none refl) (stored_alike k m inside t (ap (λ (v : CoreView). v.held) e) runs now_core)
   stored_behind t now_core b a answers Idle (e, ticks, f) now none asks wakes rests same =
-      rw (none refl) (stored_alike k m inside t ends (ap (λ (v : CoreView). v.held) e) runs now_core)
+      rw (none refl) (stored_alike k m inside t (ap (λ (v : CoreView). v.held) e) runs now_core)
 
 -- where it was found that none is permitted, the module is not asking
-pub stored_then : {p : Plan} {s : Engine} {ends : List (Option Advance)} {runs : List (Option ModuleRun)} {wiring : Wiring}
-    {unread : List Unread} {due : Due} {candidates : List Candidate} → IsStoredCore p s ends runs wiring unread due candidates → (m : ℕ)
-    → m < length p.design.modules → (idle : Bool) → (idle ≡ true → IsIdle (design p) p.cycles (core_in p s ends) m) → (now : Due)
+pub stored_then : {p : Plan} {s : Engine} {runs : List (Option ModuleRun)} {wiring : Wiring}
+    {unread : List Unread} {due : Due} {candidates : List Candidate} → IsStoredCore p s runs wiring unread due candidates → (m : ℕ)
+    → m < length p.design.modules → (idle : Bool) → (idle ≡ true → IsIdle (design p) p.cycles (core_in p s) m) → (now : Due)
     → (idle ≡ false → now ≡ due) → (idle ≡ true → IsRemoved due.asking m now.asking) → now.running ≡ due.running
-    → (idle ≡ true → IsAdded due.unlisted m now.unlisted) → IsStoredCore p s ends runs wiring unread now candidates
+    → (idle ≡ true → IsAdded due.unlisted m now.unlisted) → IsStoredCore p s runs wiring unread now candidates
 stored_then k m inside true is now none removed same added = stored_unasked k m inside (is refl) now (removed refl) same (added refl)
 stored_then k m inside false is now none removed same added = rw (none refl) k

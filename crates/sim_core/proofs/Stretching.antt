@@ -13,7 +13,7 @@ use Rattle.timing_bridge.proofs.History.{plan_is_design, run_is_history}
 use Rattle.engine_view.specs.{Held.Held, declared.engine.Engine.Engine, Engines.held_in}
 use Rattle.sim_core.specs.{Drives.given, Drives.Goes, Drives.GoesOn, Returned.core_in, Views.CoreView, Views.theory_of}
 use Rattle.sim_core.specs.{declared.due.Due.Due, declared.unread.Unread.Unread, declared.wiring.Wiring.Wiring, Waking.IsSpread}
-use Rattle.sim_core.specs.Runs.{IsCore, IsRunOf, IsStoredCore, lent_of, over_of}
+use Rattle.sim_core.specs.Runs.{IsCore, IsRunOf, IsStoredCore, lent_of}
 use Rattle.sim_core.specs.Stretches.{HasDoneRuns, IsHeldAlike, IsRunOut}
 use Rattle.event_graph.specs.declared.candidate.Candidate.{Candidate}
 use Rattle.module_sets.specs.Sets.{IsAdded}
@@ -100,10 +100,10 @@ view_of p h lent = record { plan = p; held = h; lent = lent }
 view_same : (p : Plan) {g h : Held} {a b : List Bool} → h ≡ g → b ≡ a → view_of p h b ≡ view_of p g a
 view_same p e f = rw (e, f) refl
 
-module _ {p : Plan} {s : Engine} {ends : List (Option Advance)} {runs : List (Option ModuleRun)} (k : IsCore p s ends runs) {m : ℕ}
+module _ {p : Plan} {s : Engine} {runs : List (Option ModuleRun)} (k : IsCore p s runs) {m : ℕ}
     (inside : m < length p.design.modules) where
-  pub ends_inside : m < length ends
-  ends_inside = let a = k.sound.overs in let b = length-map ends is_some in omega arith
+  pub ends_inside : m < length s.ends.items
+  ends_inside = let a = k.sound.overs in let b = length-map s.ends.items is_some in omega arith
 
   pub log_inside : m < length s.log.logs
   log_inside = let a = k.sound.logs in omega arith
@@ -130,14 +130,14 @@ not_none (Some r ∷ rs) zero e f = cc
 not_none (r ∷ rs) (suc m) e f = not_none rs m e f
 
 -- a run that is not lent is there, and can be out
-pub is_there : {p : Plan} {s : Engine} {ends : List (Option Advance)} {runs : List (Option ModuleRun)} → IsCore p s ends runs → (m : ℕ)
-    → m < length p.design.modules → get_or (lent_of runs) m true ≡ false → IsRunOut p s ends (set runs m None) m (get_or runs m None)
-is_there {p} {s} {ends} {runs} k m inside here = go (get_or runs m None) refl
+pub is_there : {p : Plan} {s : Engine} {runs : List (Option ModuleRun)} → IsCore p s runs → (m : ℕ)
+    → m < length p.design.modules → get_or (lent_of runs) m true ≡ false → IsRunOut p s (set runs m None) m (get_or runs m None)
+is_there {p} {s} {runs} k m inside here = go (get_or runs m None) refl
   where
-    go : (o : Option ModuleRun) → get_or runs m None ≡ o → IsRunOut p s ends (set runs m None) m o
+    go : (o : Option ModuleRun) → get_or runs m None ≡ o → IsRunOut p s (set runs m None) m o
     go None e = absurd (not_none runs m here e)
     go (Some run) e = record {
-      core = lending.core_lent p s ends runs m None k (let n = k.sound.lanes in omega arith)
+      core = lending.core_lent p s runs m None k (let n = k.sound.lanes in omega arith)
           (λ other q. let no : None ≡ Some other = q in cc);
       inside = inside;
       lent = lending.lent_set runs m;
@@ -145,46 +145,46 @@ is_there {p} {s} {ends} {runs} k m inside here = go (get_or runs m None) refl
     }
 
 -- and come back
-module _ (p : Plan) (s : Engine) (ends : List (Option Advance)) (runs : List (Option ModuleRun)) (m : ℕ) where
-  pub core_back : (o : Option ModuleRun) → IsRunOut p s ends (set runs m None) m o → IsCore p s ends (set runs m o)
+module _ (p : Plan) (s : Engine) (runs : List (Option ModuleRun)) (m : ℕ) where
+  pub core_back : (o : Option ModuleRun) → IsRunOut p s (set runs m None) m o → IsCore p s (set runs m o)
   core_back None out = absurd out
   core_back (Some run) out =
-      subst (λ (rs : List (Option ModuleRun)). IsCore p s ends rs) (set_twice runs m None (Some run))
-      (lending.core_lent p s ends (set runs m None) m (Some run) out.core
+      subst (λ (rs : List (Option ModuleRun)). IsCore p s rs) (set_twice runs m None (Some run))
+      (lending.core_lent p s (set runs m None) m (Some run) out.core
       (let n = out.core.sound.lanes in let i = out.inside in omega arith)
-      (λ other q. subst (IsRunOf p (core_in p s ends) m) (lending.same_some run other q) out.run_is))
+      (λ other q. subst (IsRunOf p (core_in p s) m) (lending.same_some run other q) out.run_is))
 
-  pub lent_back : (o : Option ModuleRun) → IsRunOut p s ends (set runs m None) m o → get_or (lent_of runs) m true ≡ false
+  pub lent_back : (o : Option ModuleRun) → IsRunOut p s (set runs m None) m o → get_or (lent_of runs) m true ≡ false
       → lent_of (set runs m o) ≡ lent_of runs
   lent_back None out here = absurd out
   lent_back (Some run) out here = lent_still runs m run here
 
 -- ---- what a stretch of Runs leaves of all that a core keeps
 
-module _ {p : Plan} {s : Engine} {ends : List (Option Advance)} {all : List (Option ModuleRun)} {wiring : Wiring} {unread : List Unread}
-    {due : Due} {candidates : List Candidate} (k : IsStoredCore p s ends all wiring unread due candidates) (m : ℕ)
-    (inside : m < length p.design.modules) (here : get_or (lent_of all) m true ≡ false) (f : Engine) (ends' : List (Option Advance))
-    (held : Option ModuleRun) (out : IsRunOut p f ends' (set all m None) m held) (count : ℕ)
-    (acts : ActsAll (design p) p.cycles (core_in p s ends) (runs count m) (core_in p f ends'))
-    (none : count ≡ 0 → IsHeldAlike s ends f ends') where
+module _ {p : Plan} {s : Engine} {all : List (Option ModuleRun)} {wiring : Wiring} {unread : List Unread}
+    {due : Due} {candidates : List Candidate} (k : IsStoredCore p s all wiring unread due candidates) (m : ℕ)
+    (inside : m < length p.design.modules) (here : get_or (lent_of all) m true ≡ false) (f : Engine)
+    (held : Option ModuleRun) (out : IsRunOut p f (set all m None) m held) (count : ℕ)
+    (acts : ActsAll (design p) p.cycles (core_in p s) (runs count m) (core_in p f))
+    (none : count ≡ 0 → IsHeldAlike s f) where
   -- the sets are large enough
   pub stored_behind : (now : Due) → (count ≡ 0 → now ≡ due) → (0 < count → IsAdded due.asking m now.asking)
       → (0 < count → IsSpread due.running (slice_index_or wiring.hints m []) m now.running) → now.unlisted ≡ due.unlisted
-      → IsStoredCore p f ends' (set all m held) wiring unread now candidates
+      → IsStoredCore p f (set all m held) wiring unread now candidates
   stored_behind now same added spread unlisted =
       elim (cases_lt 0 count) [
-        | inl l ↦ roomed.stored_ran k m inside f ends' count acts (set all m held) (core_back p f ends' all m held out) unread
-            (roomed.unread_ran k m inside f ends' count acts) now (added l) (spread l) unlisted
+        | inl l ↦ roomed.stored_ran k m inside f count acts (set all m held) (core_back p f all m held out) unread
+            (roomed.unread_ran k m inside f count acts) now (added l) (spread l) unlisted
         | inr l ↦
             let zero_is : count ≡ 0 = omega arith in
-            rw (same zero_is) (roomed.stored_alike k m inside f ends' (none zero_is) (set all m held) (core_back p f ends' all m held out))
+            rw (same zero_is) (roomed.stored_alike k m inside f (none zero_is) (set all m held) (core_back p f all m held out))
       ]
 
-  pub has_run : HasDoneRuns (view_of p (held_in s (over_of ends)) (lent_of all)) m count
-      (view_of p (held_in f (over_of ends')) (lent_of (set all m held)))
+  pub has_run : HasDoneRuns (view_of p (held_in s) (lent_of all)) m count
+      (view_of p (held_in f) (lent_of (set all m held)))
   has_run = record {
     acts = acts;
-    same = λ e. view_same p (none e) (lent_back p f ends' all m held out here);
+    same = λ e. view_same p (none e) (lent_back p f all m held out here);
     plan = refl;
-    lent = lent_back p f ends' all m held out here;
+    lent = lent_back p f all m held out here;
   }

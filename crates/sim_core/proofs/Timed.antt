@@ -10,30 +10,30 @@ use Rattle.timing_bridge.specs.Designs.{design}
 use Rattle.engine_view.specs.{declared.engine.Engine.Engine, declared.turn.Timing.Timing, Held.core_of, Engines.held_in, Taking.kinds_in}
 use Rattle.engine_view.specs.{declared.turn.Timing.TheVariants.Nothing, Turns.HasTimed, Turns.KeepsRoom, Turns.is_progress, Turns.left}
 use Rattle.sim_core.specs.{Asking.Lacks, Candidates.AreCandidates, Waking.IsWoken, Turns.HasTurned, Views.CoreView, declared.due.Due.Due}
-use Rattle.sim_core.specs.{declared.unread.Unread.Unread, declared.wiring.Wiring.Wiring, Runs.IsStoredCore, Runs.lent_of, Runs.over_of}
+use Rattle.sim_core.specs.{declared.unread.Unread.Unread, declared.wiring.Wiring.Wiring, Runs.IsStoredCore, Runs.lent_of}
 use Rattle.sim_core.proofs.{Asking.asking_turned, Asking.still_room, Waking.waking_turned, Listing.asking_none, Listing.listed_turned}
 use Rattle.sim_core.proofs.Turning as turning
 
 -- the engine behind the turn, and of whom something may be permitted then
-module _ {p : Plan} {s : Engine} {ends : List (Option Advance)} {runs : List (Option ModuleRun)} {wiring : Wiring} {unread : List Unread}
-    {due : Due} {candidates : List Candidate} (k : IsStoredCore p s ends runs wiring unread due candidates) (m : ℕ)
+module _ {p : Plan} {s : Engine} {runs : List (Option ModuleRun)} {wiring : Wiring} {unread : List Unread}
+    {due : Due} {candidates : List Candidate} (k : IsStoredCore p s runs wiring unread due candidates) (m : ℕ)
     (inside : m < length p.design.modules) (t : Engine) (r : Timing) (done : HasTimed r p.cycles m s t) (room : KeepsRoom s t)
     (kinds : kinds_in t.fifos.channels ≡ kinds_in s.fifos.channels) (less : is_progress r ≡ true → left t < left s) where
   abbrev seen : Engine → CoreView
-  seen e = record { plan = p; held = held_in e (over_of ends); lent = lent_of runs }
+  seen e = record { plan = p; held = held_in e; lent = lent_of runs }
 
   pub turned : HasTurned r (seen s) m (seen t)
   turned =
       let core = turning.core_timed k.core t m r done room kinds in
       turning.turned k.core t m r (lent_of runs) done (λ cycle e.
-      turning.changed (design p) s t (over_of ends) (core.sound.lanes ∙ sym k.core.sound.lanes) (less (ap is_progress e)))
+      turning.changed (design p) s t (core.sound.lanes ∙ sym k.core.sound.lanes) (less (ap is_progress e)))
 
   pub stored : (now : Due) → length now.asking ≡ length due.asking → ((n : ℕ) → n ≢ m → Lacks now.asking n → Lacks due.asking n)
       → (r ≢ Nothing → Lacks now.asking m → Lacks due.asking m) → (is_progress r ≡ true → m < capacity due.asking → Has now.asking m)
       → (is_progress r ≡ true → (n : ℕ) → n < capacity due.asking → Lacks now.asking n → HasMask (slice_index_or wiring.hints m []) n → ⊥)
       → IsWoken r due.running (slice_index_or wiring.hints m []) m now.running → length now.unlisted ≡ length due.unlisted
       → ((n : ℕ) → n < capacity due.unlisted → Lacks now.asking n → Lacks now.unlisted n → Lacks due.asking n × Lacks due.unlisted n)
-      → IsStoredCore p t ends runs wiring unread now candidates
+      → IsStoredCore p t runs wiring unread now candidates
   stored now roomed others own acted beside woken roomed' listed = record {
     core = turning.core_timed k.core t m r done room kinds;
     wired = k.wired;
@@ -54,13 +54,13 @@ module _ {p : Plan} {s : Engine} {ends : List (Option Advance)} {runs : List (Op
   }
 
 -- where nothing is permitted and each candidate is right, none is asking and each is listed
-pub relisted : {p : Plan} {s : Engine} {ends : List (Option Advance)} {runs : List (Option ModuleRun)} {wiring : Wiring}
-    {unread : List Unread} {due : Due} {candidates : List Candidate} → IsStoredCore p s ends runs wiring unread due candidates
-    → IsQuiet (design p) p.cycles (core_of (design p) (held_in s (over_of ends))) → (now : Due) (anew : List Candidate)
+pub relisted : {p : Plan} {s : Engine} {runs : List (Option ModuleRun)} {wiring : Wiring}
+    {unread : List Unread} {due : Due} {candidates : List Candidate} → IsStoredCore p s runs wiring unread due candidates
+    → IsQuiet (design p) p.cycles (core_of (design p) (held_in s)) → (now : Due) (anew : List Candidate)
     → length now.asking ≡ length due.asking → now.running ≡ due.running → length now.unlisted ≡ length due.unlisted
     → length anew ≡ length s.graph.lanes → AreCandidates s.graph.lanes s.fifos.channels p.cycles (length s.graph.lanes) anew
-    → IsStoredCore p s ends runs wiring unread now anew
-relisted {p} {s} {ends} {runs} {wiring} {unread} {due} {candidates} k quiet now anew roomed same roomed' count all = record {
+    → IsStoredCore p s runs wiring unread now anew
+relisted {p} {s} {runs} {wiring} {unread} {due} {candidates} k quiet now anew roomed same roomed' count all = record {
   core = k.core;
   wired = k.wired;
   unread_are = k.unread_are;

@@ -27,10 +27,10 @@ use Rattle.engine_view.specs.Held.{Held, no_step, emitted_of, step_of, are_among
 use Rattle.engine_view.specs.Turns.{HasTimed, HasAnswered, KeepsRoom, HasUnsure, IsSomeCore, first_of, left_of, left}
 use Rattle.engine_view.specs.declared.turn.Timing.TheVariants as turn
 use Rattle.engine_view.proofs.Bounds.{candidate_is}
-use Rattle.sim_core.specs.{Views.CoreView, Runs.AreUnreadIn, Runs.IsCore, Runs.over_of, Turns.HasTurned, Turns.HasAnsweredLeast}
+use Rattle.sim_core.specs.{Views.CoreView, Runs.AreUnreadIn, Runs.IsCore, Turns.HasTurned, Turns.HasAnsweredLeast}
 use Rattle.sim_core.specs.{declared.due.Due.Due, Asking.SetHasRoom, declared.unread.Unread.Unread}
 use Rattle.sim_core.specs.Candidates.{AreCandidates, AreListed, IsCandidate, IsListed}
-use Rattle.sim_core.proofs.{Keeping.core_acted, Keeping.kept_of, Leaving.unread_acted}
+use Rattle.sim_core.proofs.{Keeping.core_acted, Keeping.kept_of, Keeping.same_end, Leaving.unread_acted}
 
 -- ---- what is left to do is read off the core
 
@@ -49,95 +49,89 @@ sum_same f g zero e = refl
 sum_same f g (suc n) e = ap₂ (λ (a b : ℕ). a + b) (sum_same f g n e) (e n)
 
 -- where less is left, the core is another
-pub changed : {S : Type 0} (d : Design S) (s t : Engine) (over : List Bool) → length t.graph.lanes ≡ length s.graph.lanes → left t < left s
-    → core_of d (held_in t over) ≡ core_of d (held_in s over) → ⊥
+pub changed : {S : Type 0} (d : Design S) (s t : Engine) → length t.graph.lanes ≡ length s.graph.lanes → left t < left s
+    → core_of d (held_in t) ≡ core_of d (held_in s) → ⊥
 unfolding left
-changed {S} d s t over same less e =
-    let each : (m : ℕ) → left_of (held_in t []) m ≡ left_of (held_in s []) m = λ m.
-    left_is d (held_in t []) m ∙ (ap (λ (x : Core S). left_by x m) (bare_same e) ∙ sym (left_is d (held_in s []) m)) in
-    let sums = sum_same (left_of (held_in t [])) (left_of (held_in s [])) (length t.graph.lanes) each in
-    let counts = ap (sum_to (left_of (held_in s []))) same in
+changed {S} d s t same less e =
+    let each : (m : ℕ) → left_of (held_in t) m ≡ left_of (held_in s) m = λ m.
+    left_is d (held_in t) m ∙ (ap (λ (x : Core S). left_by x m) e ∙ sym (left_is d (held_in s) m)) in
+    let sums = sum_same (left_of (held_in t)) (left_of (held_in s)) (length t.graph.lanes) each in
+    let counts = ap (sum_to (left_of (held_in s))) same in
     absurd (omega arith)
-  where
-    bare_same : core_of d (held_in t over) ≡ core_of d (held_in s over) → core_of d (held_in t []) ≡ core_of d (held_in s [])
-    bare_same q = ap (λ (x : Core S). record x { over = λ m. get_or [] m false }) q
 
 -- ---- what a call asks, and leaves
 
-module _ {p : Plan} {s : Engine} {ends : List (Option Advance)} {runs : List (Option ModuleRun)} (k : IsCore p s ends runs) where
-  abbrev over : List Bool
-  over = over_of ends
-
+module _ {p : Plan} {s : Engine} {runs : List (Option ModuleRun)} (k : IsCore p s runs) where
   abbrev d : Design ModuleState
   d = design p
 
   is_design : IsDesign d
   is_design = plan_is_design p k.fits
 
-  kept : IsKept d (held_in s over)
+  kept : IsKept d (held_in s)
   kept = kept_of k
 
   pub some_core : IsSomeCore s
-  some_core = (d, over, is_design, kept, k.room)
+  some_core = (d, is_design, kept, k.room)
 
   -- the lists that the view has
   abbrev seen : Engine → List Bool → CoreView
-  seen u lent = record { plan = p; held = held_in u over; lent = lent }
+  seen u lent = record { plan = p; held = held_in u; lent = lent }
 
   -- ---- a turn
 
   module _ (t : Engine) where
-    same_core : t ≡ s → IsCore p t ends runs
+    same_core : t ≡ s → IsCore p t runs
     same_core e = rw e k
 
     pub core_timed : (m : ℕ) (r : Timing) → HasTimed r p.cycles m s t → KeepsRoom s t
         → kinds_in t.fifos.channels ≡ kinds_in s.fifos.channels
-        → IsCore p t ends runs
+        → IsCore p t runs
     core_timed m (Assigned c) done room kinds =
-        let leads = (done d over is_design kept).1 in
-        core_acted k t ends (Assign m) leads.acts leads.kept.sound kinds (rw room.credits refl)
-        (room.room d over is_design kept k.room) (λ n run e. tt) (λ n mark e. inl e)
+        let leads = (done d is_design kept).1 in
+        core_acted k t (Assign m) leads.acts leads.kept.sound kinds (rw room.credits refl)
+        (room.room d is_design kept k.room) (λ n run e. tt) (λ n mark e. inl (same_end s t room.ends n mark e))
     core_timed m (Answered c) done room kinds =
-        let leads = (done d over is_design kept).1 in
-        core_acted k t ends (Answer m) leads.acts leads.kept.sound kinds (rw room.credits refl)
-        (room.room d over is_design kept k.room) (λ n run e. tt) (λ n mark e. inl e)
+        let leads = (done d is_design kept).1 in
+        core_acted k t (Answer m) leads.acts leads.kept.sound kinds (rw room.credits refl)
+        (room.room d is_design kept k.room) (λ n run e. tt) (λ n mark e. inl (same_end s t room.ends n mark e))
     core_timed m (Differs q) (e, f) room kinds = same_core e
     core_timed m turn.Nothing (e, f) room kinds = same_core e
 
-    pub unread_timed : (m : ℕ) (r : Timing) (unread : List Unread) → HasTimed r p.cycles m s t → AreUnreadIn p s ends unread
-        → AreUnreadIn p t ends unread
+    pub unread_timed : (m : ℕ) (r : Timing) (unread : List Unread) → HasTimed r p.cycles m s t → AreUnreadIn p s unread
+        → AreUnreadIn p t unread
     unread_timed m (Assigned c) unread done are =
-        unread_acted p s ends runs k unread are (Assign m) (core_of d (held_in t over)) (done d over is_design kept).1.acts
+        unread_acted p s runs k unread are (Assign m) (core_of d (held_in t)) (done d is_design kept).1.acts
     unread_timed m (Answered c) unread done are =
-        unread_acted p s ends runs k unread are (Answer m) (core_of d (held_in t over)) (done d over is_design kept).1.acts
+        unread_acted p s runs k unread are (Answer m) (core_of d (held_in t)) (done d is_design kept).1.acts
     unread_timed m (Differs q) unread (e, f) are = rw e are
     unread_timed m turn.Nothing unread (e, f) are = rw e are
 
     -- behind an answer the step may be given its cycle
-    next_assigns : (m c : ℕ) → MayAnswer d p.cycles (core_of d (held_in s over)) m c
-        → Acts d p.cycles (core_of d (held_in s over)) (Answer m) (core_of d (held_in t over))
-        → (core_of d (held_in t over) ≡ core_of d (held_in s over) → ⊥) → MayAssign d p.cycles (core_of d (held_in t over)) m c
+    next_assigns : (m c : ℕ) → MayAnswer d p.cycles (core_of d (held_in s)) m c
+        → Acts d p.cycles (core_of d (held_in s)) (Answer m) (core_of d (held_in t))
+        → (core_of d (held_in t) ≡ core_of d (held_in s) → ⊥) → MayAssign d p.cycles (core_of d (held_in t)) m c
     next_assigns m c may (e, found, inl (same, is)) changed =
         let there = may.determined.at in
         let there_too = found.determined.at in
         let one : e ≡ c = cc in
-        rw (is, one) (answered_assigns d p.cycles (core_of d (held_in s over)) m c may.determined)
+        rw (is, one) (answered_assigns d p.cycles (core_of d (held_in s)) m c may.determined)
     next_assigns m c may (e, found, inr (other, is)) changed = absurd (changed is)
 
     pub turned : (m : ℕ) (r : Timing) (lent : List Bool) → HasTimed r p.cycles m s t
-        → ((c : ℕ) → r ≡ Answered c → core_of d (held_in t over) ≡ core_of d (held_in s over) → ⊥)
+        → ((c : ℕ) → r ≡ Answered c → core_of d (held_in t) ≡ core_of d (held_in s) → ⊥)
         → HasTurned r (seen s lent) m (seen t lent)
-    turned m (Assigned c) lent done other = (done d over is_design kept).1.acts
+    turned m (Assigned c) lent done other = (done d is_design kept).1.acts
     turned m (Answered c) lent done other =
-        let (may, leads) = done d over is_design kept in
+        let (may, leads) = done d is_design kept in
         (leads.acts, other c refl, next_assigns m c may leads.acts (other c refl))
-    turned m (Differs q) lent (e, f) other = (ap (λ (u : Engine). seen u lent) e, f d over is_design kept)
-    turned m turn.Nothing lent (e, f) other = (ap (λ (u : Engine). seen u lent) e, f d over is_design kept)
+    turned m (Differs q) lent (e, f) other = (ap (λ (u : Engine). seen u lent) e, f d is_design kept)
+    turned m turn.Nothing lent (e, f) other = (ap (λ (u : Engine). seen u lent) e, f d is_design kept)
 
   -- ---- the least open step
 
   abbrev h : Held
-  h = held_in s over
+  h = held_in s
 
   abbrev x : Core ModuleState
   x = core_of d h
@@ -239,7 +233,7 @@ module _ {p : Plan} {s : Engine} {ends : List (Option Advance)} {runs : List (Op
     emitted : first_of h m < emitted_of h m
     emitted = first_emitted d x m c may.open_step.determined.at
 
-    pub open_unsure : HasUnsure (held_in s []) m
+    pub open_unsure : HasUnsure (held_in s) m
     open_unsure = record {
       inside = emitted_there m c may.open_step.determined.at;
       there = emitted;
@@ -252,24 +246,24 @@ module _ {p : Plan} {s : Engine} {ends : List (Option Advance)} {runs : List (Op
 
     module _ (t : Engine) where
       pub core_answered : (g : Guard) → HasAnswered g m c s t → KeepsRoom s t → kinds_in t.fifos.channels ≡ kinds_in s.fifos.channels
-          → IsCore p t ends runs
+          → IsCore p t runs
       core_answered guard.Same done room kinds =
-          let a = done d over is_design kept in
-          core_acted k t ends (Earliest m) (c, may, inl (a.same, a.now.core)) a.now.kept.sound kinds
-          (rw room.credits refl) (room.room d over is_design kept k.room) (λ n run e. tt) (λ n mark e. inl e)
+          let a = done d is_design kept in
+          core_acted k t (Earliest m) (c, may, inl (a.same, a.now.core)) a.now.kept.sound kinds
+          (rw room.credits refl) (room.room d is_design kept k.room) (λ n run e. tt) (λ n mark e. inl (same_end s t room.ends n mark e))
       core_answered (guard.Differs q) (e, f) room kinds = same_core t e
 
-      pub unread_answered : (g : Guard) (unread : List Unread) → HasAnswered g m c s t → AreUnreadIn p s ends unread
-          → AreUnreadIn p t ends unread
+      pub unread_answered : (g : Guard) (unread : List Unread) → HasAnswered g m c s t → AreUnreadIn p s unread
+          → AreUnreadIn p t unread
       unread_answered guard.Same unread done are =
-          let a = done d over is_design kept in
-          unread_acted p s ends runs k unread are (Earliest m) (core_of d (held_in t over)) (c, may, inl (a.same, a.now.core))
+          let a = done d is_design kept in
+          unread_acted p s runs k unread are (Earliest m) (core_of d (held_in t)) (c, may, inl (a.same, a.now.core))
       unread_answered (guard.Differs q) unread (e, f) are = rw e are
 
       pub open_answered : (g : Guard) (lent : List Bool) → HasAnswered g m c s t
           → HasAnsweredLeast (Some (m, g)) (seen s lent) (seen t lent)
       open_answered guard.Same lent done =
-          let a = done d over is_design kept in (
+          let a = done d is_design kept in (
             (c, may, inl (a.same, a.now.core)),
             λ e.
                 let now : x.verified m (x.timed m) ≡ true = ap (λ (q : Core ModuleState). q.verified m (x.timed m)) (sym e ∙ a.now.core)
@@ -277,4 +271,4 @@ module _ {p : Plan} {s : Engine} {ends : List (Option Advance)} {runs : List (Op
                 both_ways _ may.open_step.open_query now,
           )
       open_answered (guard.Differs q) lent (e, f) =
-          (ap (λ (u : Engine). seen u lent) e, record { cycle = c; may = may; found = f d over is_design kept })
+          (ap (λ (u : Engine). seen u lent) e, record { cycle = c; may = may; found = f d is_design kept })

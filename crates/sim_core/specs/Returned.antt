@@ -7,14 +7,14 @@ use Rattle.lockstep_defs.specs.Lockstep.{module_at}
 use Rattle.module_interp.specs.{declared.run.ModuleRun.ModuleRun, OwnRests.mark_at, Runs.waits, Runs.IsSoundMark}
 use Rattle.event_timing.specs.{Core.Core, Actions.MayRun}
 use Rattle.timing_bridge.specs.Designs.{design}
-use Rattle.engine_view.specs.{Held.core_of, Rooms.room_of, declared.engine.Engine.Engine, Engines.held_in}
+use Rattle.engine_view.specs.{Held.core_of, Rooms.room_of, declared.engine.Engine.Engine, Engines.held_in, Engines.over_of}
 use Rattle.run_ahead.specs.{declared.mail.Task.Task, Mails.IsBurst, Working.burst_of}
-use Rattle.sim_core.specs.Runs.{HasBodiesWithin, IsRunOf, IsCore, lent_of, over_of, rest_behind}
+use Rattle.sim_core.specs.Runs.{HasBodiesWithin, IsRunOf, IsCore, lent_of, rest_behind}
 use Rattle.sim_core.specs.{Tasks.IsTaskFor, Tasks.rest_of, Taken.taken_by_marks}
 
 -- the theory's core of what is stored
-abbrev pub core_in : Plan → Engine → List (Option Advance) → Core ModuleState
-core_in p s ends = core_of (design p) (held_in s (over_of ends))
+abbrev pub core_in : Plan → Engine → Core ModuleState
+core_in p s = core_of (design p) (held_in s)
 
 -- there is a place for each of these marks in module m's lane; and at each of the module's ports for all that they take there, and for
 -- what its newest step may still take
@@ -28,43 +28,43 @@ abbrev pub HasPlacesForMarks : Plan → Engine → ℕ → List Advance → Type
 HasPlacesForMarks p s m marks = (2 * length marks ≤ slice_index s.credits.items m) ⊎ HasPlaceForEach p s m marks
 
 -- module m's run is out of the core, and there is room for these marks of the module
-pub record HasRoomForMarks (p : Plan) (s : Engine) (ends : List (Option Advance)) (runs : List (Option ModuleRun))
+pub record HasRoomForMarks (p : Plan) (s : Engine) (runs : List (Option ModuleRun))
     (m : ℕ) (marks : List Advance) : Type 0 where
-  pub core : IsCore p s ends runs
+  pub core : IsCore p s runs
   pub lent : slice_index_or (lent_of runs) m true ≡ true
   pub places : HasPlacesForMarks p s m marks
   -- a step has at most as many queries as its body has operations
   pub outcomes : HasBodiesWithin (module_at p m) (slice_index s.log.rooms m)
 
 -- module m's run is out of the core, and the module's credit suffices for one mark more
-pub record HasRoomForOne (p : Plan) (s : Engine) (ends : List (Option Advance)) (runs : List (Option ModuleRun)) (m : ℕ) : Type 0 where
-  pub core : IsCore p s ends runs
+pub record HasRoomForOne (p : Plan) (s : Engine) (runs : List (Option ModuleRun)) (m : ℕ) : Type 0 where
+  pub core : IsCore p s runs
   pub lent : slice_index_or (lent_of runs) m true ≡ true
   pub places : 2 ≤ slice_index s.credits.items m
   pub outcomes : HasBodiesWithin (module_at p m) (slice_index s.log.rooms m)
 
 -- the mark is module m's next one, a Run of the module is permitted, and there is room for it
-pub record IsNextMark (p : Plan) (s : Engine) (ends : List (Option Advance)) (runs : List (Option ModuleRun)) (m : ℕ)
+pub record IsNextMark (p : Plan) (s : Engine) (runs : List (Option ModuleRun)) (m : ℕ)
     (mark : Advance) : Type 0 where
-  pub room : HasRoomForMarks p s ends runs m (mark ∷ [])
-  pub may : MayRun (design p) (core_in p s ends) m
-  pub is : mark ≡ mark_at p m (rest_behind p (core_in p s ends) m ((core_in p s ends).emitted m))
-  pub sound : IsSoundMark (length (rest_behind p (core_in p s ends) m ((core_in p s ends).emitted m)).steps) mark
+  pub room : HasRoomForMarks p s runs m (mark ∷ [])
+  pub may : MayRun (design p) (core_in p s) m
+  pub is : mark ≡ mark_at p m (rest_behind p (core_in p s) m ((core_in p s).emitted m))
+  pub sound : IsSoundMark (length (rest_behind p (core_in p s) m ((core_in p s).emitted m)).steps) mark
 
 -- module m's run is out of the core and waits for nothing, and there is room for its next mark
-pub record CanGoOn (p : Plan) (s : Engine) (ends : List (Option Advance)) (runs : List (Option ModuleRun)) (m : ℕ) (run : ModuleRun)
+pub record CanGoOn (p : Plan) (s : Engine) (runs : List (Option ModuleRun)) (m : ℕ) (run : ModuleRun)
     : Type 0 where
-  pub room : HasRoomForOne p s ends runs m
+  pub room : HasRoomForOne p s runs m
   pub inside : m < length p.design.modules
-  pub run_is : IsRunOf p (core_in p s ends) m run
+  pub run_is : IsRunOf p (core_in p s) m run
   pub answered : waits run ≡ false
-  pub lives : slice_index_or (over_of ends) m false ≡ false
+  pub lives : slice_index_or (over_of s.ends.items) m false ≡ false
 
 -- the marks are those of a burst on a task for the core; it leaves this run and mail, and there is room for the marks
-pub record AreReturned (p : Plan) (s : Engine) (ends : List (Option Advance)) (runs : List (Option ModuleRun)) (m : ℕ)
+pub record AreReturned (p : Plan) (s : Engine) (runs : List (Option ModuleRun)) (m : ℕ)
     (marks : List Advance) (last : Task) : Type 0 where
-  pub room : HasRoomForMarks p s ends runs m marks
+  pub room : HasRoomForMarks p s runs m marks
   pub task : Task
   pub short : Bool
-  pub is_task : IsTaskFor p (core_in p s ends) m task
-  pub is_burst : IsBurst p m (rest_of p (core_in p s ends) m task) task (burst_of last marks short)
+  pub is_task : IsTaskFor p (core_in p s) m task
+  pub is_burst : IsBurst p m (rest_of p (core_in p s) m task) task (burst_of last marks short)

@@ -1,5 +1,5 @@
 -- Where the modules' runs stand, compared with the core, and what a core keeps.
-use Rattle.std.specs.Prelude.{◌≡◌, ℕ, suc, ◌<◌, ◌≤◌, Bool, true, false, List, Option, None, Some, map, is_none, is_some, slice_index_or}
+use Rattle.std.specs.Prelude.{◌≡◌, ℕ, suc, ◌<◌, ◌≤◌, Bool, true, false, List, Option, None, Some, map, is_none, slice_index_or}
 use Rattle.std.specs.Prelude.{length, slice_index, All}
 use Rattle.flow_design.specs.{StaticRules.FitsEngine, declared.design.Module.Module, declared.plan.Plan.Plan}
 use Rattle.flow_design.specs.{declared.state.Advance.Advance, declared.state.ModuleState.ModuleState}
@@ -46,31 +46,28 @@ pub record IsEndOf (p : Plan) (x : Core ModuleState) (m : ℕ) (mark : Advance) 
 
 -- ---- a core
 
--- for each module whether its run is lent; and then, whether its end was emitted
+-- for each module whether its run is lent
 abbrev pub lent_of : List (Option ModuleRun) → List Bool
 lent_of runs = map is_none runs
 
-abbrev pub over_of : List (Option Advance) → List Bool
-over_of ends = map is_some ends
-
 -- what is held is a core of the plan that agrees with its lockstep run, with room, and each run stands at its module's newest mark;
 -- nothing is said of outcomes that are assumed
-pub record IsCore (p : Plan) (s : Engine) (ends : List (Option Advance)) (runs : List (Option ModuleRun)) : Type 0 where
+pub record IsCore (p : Plan) (s : Engine) (runs : List (Option ModuleRun)) : Type 0 where
   pub fits : FitsEngine p
-  pub sound : IsSound (design p) (held_in s (over_of ends))
-  pub agreed : IsAgreed (design p) (lockstep_run p) p.cycles (core_of (design p) (held_in s (over_of ends)))
+  pub sound : IsSound (design p) (held_in s)
+  pub agreed : IsAgreed (design p) (lockstep_run p) p.cycles (core_of (design p) (held_in s))
   pub table : kinds_in s.fifos.channels ≡ kinds_of p
   pub count : length runs ≡ length s.graph.lanes
   pub counted : length s.credits.items ≡ length s.graph.lanes
-  pub room : IsRoomy (design p) s (over_of ends)
+  pub room : IsRoomy (design p) s
   pub runs_are : (m : ℕ) (run : ModuleRun) → slice_index_or runs m None ≡ Some run
-      → IsRunOf p (core_of (design p) (held_in s (over_of ends))) m run
-  pub ends_are : (m : ℕ) (mark : Advance) → slice_index_or ends m None ≡ Some mark
-      → IsEndOf p (core_of (design p) (held_in s (over_of ends))) m mark
+      → IsRunOf p (core_of (design p) (held_in s)) m run
+  pub ends_are : (m : ℕ) (mark : Advance) → slice_index_or s.ends.items m None ≡ Some mark
+      → IsEndOf p (core_of (design p) (held_in s)) m mark
 
 -- for each channel the unread values are some of its values, in order
-abbrev pub AreUnreadIn : Plan → Engine → List (Option Advance) → List Unread → Type 0
-AreUnreadIn p s ends unread = AreUnread (core_values (design p) (core_of (design p) (held_in s (over_of ends)))) (length p.design.channels)
+abbrev pub AreUnreadIn : Plan → Engine → List Unread → Type 0
+AreUnreadIn p s unread = AreUnread (core_values (design p) (core_of (design p) (held_in s))) (length p.design.channels)
     unread
 
 -- no body of the module has more than `most` operations
@@ -96,10 +93,10 @@ pub record IsWired (p : Plan) (w : Wiring) : Type 0 where
   pub bodies_are : AreBodyLengths p (length p.design.modules) w.bodies
 
 -- and it is told who stands where, what came back unread, of whom something may be permitted, and of whom the candidate is right
-pub record IsStoredCore (p : Plan) (s : Engine) (ends : List (Option Advance)) (runs : List (Option ModuleRun)) (wiring : Wiring)
+pub record IsStoredCore (p : Plan) (s : Engine) (runs : List (Option ModuleRun)) (wiring : Wiring)
     (unread : List Unread) (due : Due) (candidates : List Candidate) : Type 0 where
-  pub core : IsCore p s ends runs
+  pub core : IsCore p s runs
   pub wired : IsWired p wiring
-  pub unread_are : AreUnreadIn p s ends unread
-  pub due_are : AreDue p (core_of (design p) (held_in s (over_of ends))) due
-  pub listed_are : AreListed p (core_of (design p) (held_in s (over_of ends))) due candidates
+  pub unread_are : AreUnreadIn p s unread
+  pub due_are : AreDue p (core_of (design p) (held_in s)) due
+  pub listed_are : AreListed p (core_of (design p) (held_in s)) due candidates

@@ -1,7 +1,7 @@
 -- Actions of one module, one after the other.
 use Rattle.std.specs.Prelude.{◌≡◌, ℕ, suc, ◌<◌, Bool, true, false, List, [], ◌∷◌, Option, None, Some, length, slice_index_or, ⊤}
 use Rattle.flow_word.specs.declared.access.Port.{Port}
-use Rattle.flow_design.specs.{declared.plan.Plan.Plan, declared.state.Advance.Advance}
+use Rattle.flow_design.specs.declared.plan.Plan.{Plan}
 use Rattle.lockstep_defs.specs.Lockstep.{module_at}
 use Rattle.module_interp.specs.declared.run.ModuleRun.{ModuleRun}
 use Rattle.event_timing.specs.Actions.{Action, ActsAll, runs}
@@ -11,7 +11,7 @@ use Rattle.engine_view.specs.{declared.engine.Engine.Engine, declared.turn.Timin
 use Rattle.engine_view.specs.declared.turn.Timing.TheVariants.{Assigned, Answered}
 use Rattle.engine_view.specs.declared.turn.Timing.TheVariants as timing
 use Rattle.sim_core.specs.{Opening.ports_to, Returned.core_in, Views.CoreView, Views.theory_of, declared.stretch.End.End, Drives.GoesOn}
-use Rattle.sim_core.specs.{declared.visit.Visit.Visit, Runs.HasBodiesWithin, Runs.IsCore, Runs.IsRunOf, Runs.lent_of, Runs.over_of}
+use Rattle.sim_core.specs.{declared.visit.Visit.Visit, Runs.HasBodiesWithin, Runs.IsCore, Runs.IsRunOf, Runs.lent_of}
 use Rattle.sim_core.specs.declared.visit.Visit.TheVariants.{Acted, Differs, Idle}
 use Rattle.sim_core.specs.declared.stretch.End.TheVariants.{On, Still, Short}
 
@@ -28,21 +28,21 @@ pub record IsMember (p : Plan) (m : ℕ) (ports : List Port) (most : ℕ) : Type
   pub bodies_are : HasBodiesWithin (module_at p m) most
 
 -- module m's run is this one, and it is out of what is held of the plan
-pub record IsOutOf (p : Plan) (s : Engine) (ends : List (Option Advance)) (runs : List (Option ModuleRun)) (m : ℕ) (run : ModuleRun)
+pub record IsOutOf (p : Plan) (s : Engine) (runs : List (Option ModuleRun)) (m : ℕ) (run : ModuleRun)
     : Type 0 where
-  pub core : IsCore p s ends runs
+  pub core : IsCore p s runs
   pub inside : m < length p.design.modules
   pub lent : slice_index_or (lent_of runs) m true ≡ true
-  pub run_is : IsRunOf p (core_in p s ends) m run
+  pub run_is : IsRunOf p (core_in p s) m run
 
 -- that run is there
-abbrev pub IsRunOut : Plan → Engine → List (Option Advance) → List (Option ModuleRun) → ℕ → Option ModuleRun → Type 0
-IsRunOut p s ends runs m None = ⊥
-IsRunOut p s ends runs m (Some run) = IsOutOf p s ends runs m run
+abbrev pub IsRunOut : Plan → Engine → List (Option ModuleRun) → ℕ → Option ModuleRun → Type 0
+IsRunOut p s runs m None = ⊥
+IsRunOut p s runs m (Some run) = IsOutOf p s runs m run
 
 -- what is held is the same, with other room
-abbrev pub IsHeldAlike : Engine → List (Option Advance) → Engine → List (Option Advance) → Type 0
-IsHeldAlike s ends t ends' = held_in t (over_of ends') ≡ held_in s (over_of ends)
+abbrev pub IsHeldAlike : Engine → Engine → Type 0
+IsHeldAlike s t = held_in t ≡ held_in s
 
 -- count Runs of module m lead from v to w; where that is none, nothing has changed
 pub record HasDoneRuns (v : CoreView) (m count : ℕ) (w : CoreView) : Type 0 where
@@ -54,13 +54,13 @@ pub record HasDoneRuns (v : CoreView) (m count : ℕ) (w : CoreView) : Type 0 wh
 -- ---- Assigns and Answers
 
 -- what contracts see of what is held of the plan
-abbrev pub view_in : Plan → Engine → List (Option Advance) → List (Option ModuleRun) → CoreView
-view_in p s ends runs = record { plan = p; held = held_in s (over_of ends); lent = lent_of runs }
+abbrev pub view_in : Plan → Engine → List (Option ModuleRun) → CoreView
+view_in p s runs = record { plan = p; held = held_in s; lent = lent_of runs }
 
 -- what is held is a core of the plan, which has module m and this limit
-pub record IsHeldOf (p : Plan) (s : Engine) (ends : List (Option Advance)) (runs : List (Option ModuleRun)) (m limit : ℕ)
+pub record IsHeldOf (p : Plan) (s : Engine) (runs : List (Option ModuleRun)) (m limit : ℕ)
     : Type 0 where
-  pub core : IsCore p s ends runs
+  pub core : IsCore p s runs
   pub inside : m < length p.design.modules
   pub limited : limit ≡ p.cycles
 

@@ -29,22 +29,17 @@ fn take_mark(marks: &mut List<Advance>, at: u64) -> Advance
 
 /// Emits a module's next mark. There must be room for it.
 #[inline(never)]
-pub(crate) fn record_mark(
-    engine: &mut Engine,
-    ends: &mut Vec<Option<Advance>>,
-    owner: u32,
-    mark: Advance,
-)
+pub(crate) fn record_mark(engine: &mut Engine, owner: u32, mark: Advance)
     requires owner { owner < length engine.old.graph.lanes }
     requires next { (p : PlanOf) × ((runs : Items (Maybe RunOf))
-        × IsNextMark p engine.old ends.old.items runs owner mark) }
+        × IsNextMark p engine.old runs owner mark) }
     ensures core { (p : PlanOf) (runs : Items (Maybe RunOf))
-        → IsNextMark p engine.old ends.old.items runs owner mark
-        → IsCore p engine.new ends.new.items runs }
+        → IsNextMark p engine.old runs owner mark
+        → IsCore p engine.new runs }
     ensures acts { (p : PlanOf) (runs : Items (Maybe RunOf))
-        → IsNextMark p engine.old ends.old.items runs owner mark
-        → Acts (design p) p.cycles (core_in p engine.old ends.old.items) (Run owner)
-        (core_in p engine.new ends.new.items) }
+        → IsNextMark p engine.old runs owner mark
+        → Acts (design p) p.cycles (core_in p engine.old) (Run owner)
+        (core_in p engine.new) }
     ensures log { engine.new.log ≡ engine.old.log }
     ensures credit { slice_index engine.old.credits.items owner ≤ slice_index engine.new.credits.items owner + 2 }
     ensures places { slice_index engine.old.graph.rooms owner ≤ slice_index engine.new.graph.rooms owner + 1 }
@@ -53,9 +48,7 @@ pub(crate) fn record_mark(
 {
     match mark {
         Advance::Step(step) => engine.emit_step(owner, step),
-        end => {
-            ends[owner as usize] = Some(end);
-        }
+        end => engine.emit_end(owner, end),
     }
 }
 
@@ -64,15 +57,16 @@ pub(crate) fn record_mark(
 pub(crate) fn record_few(engine: &mut Engine, owner: u32, step: &StepView<'_>)
     requires owner { owner < length engine.old.graph.lanes }
     requires few { IsFewStep (whole step.now) }
-    requires next { (p : PlanOf) × ((ends : Items (Maybe Advance)) × ((runs : Items (Maybe RunOf))
-        × IsNextMark p engine.old ends runs owner (Advance.Step (whole step.now)))) }
-    ensures core { (p : PlanOf) (ends : Items (Maybe Advance)) (runs : Items (Maybe RunOf))
-        → IsNextMark p engine.old ends runs owner (Advance.Step (whole step.now))
-        → IsCore p engine.new ends runs }
-    ensures acts { (p : PlanOf) (ends : Items (Maybe Advance)) (runs : Items (Maybe RunOf))
-        → IsNextMark p engine.old ends runs owner (Advance.Step (whole step.now))
-        → Acts (design p) p.cycles (core_in p engine.old ends) (Run owner)
-        (core_in p engine.new ends) }
+    requires next { (p : PlanOf) × ((runs : Items (Maybe RunOf))
+        × IsNextMark p engine.old runs owner (Advance.Step (whole step.now))) }
+    ensures core { (p : PlanOf) (runs : Items (Maybe RunOf))
+        → IsNextMark p engine.old runs owner (Advance.Step (whole step.now))
+        → IsCore p engine.new runs }
+    ensures acts { (p : PlanOf) (runs : Items (Maybe RunOf))
+        → IsNextMark p engine.old runs owner (Advance.Step (whole step.now))
+        → Acts (design p) p.cycles (core_in p engine.old) (Run owner)
+        (core_in p engine.new) }
+    ensures ends { engine.new.ends ≡ engine.old.ends }
 {
     engine.emit_few(owner, step);
 }
@@ -83,20 +77,18 @@ pub(crate) fn record_few(engine: &mut Engine, owner: u32, step: &StepView<'_>)
 #[inline(always)]
 pub(crate) fn emit_mark(
     engine: &mut Engine,
-    ends: &mut Vec<Option<Advance>>,
     owner: u32,
     run: &mut ModuleRun,
 ) -> Result<(), OutOfMemory>
-    requires ready { (p : PlanOf) × ((runs : Items (Maybe RunOf)) × CanGoOn p engine.old ends.old.items runs owner run.old) }
-    ensures core { (p : PlanOf) (runs : Items (Maybe RunOf)) → CanGoOn p engine.old ends.old.items runs owner run.old
-        → IsCore p engine.new ends.new.items runs }
-    ensures acts { (p : PlanOf) (runs : Items (Maybe RunOf)) → CanGoOn p engine.old ends.old.items runs owner run.old
-        → OnOk result (Acts (design p) p.cycles (core_in p engine.old ends.old.items) (Run owner)
-        (core_in p engine.new ends.new.items)) }
-    ensures run { (p : PlanOf) (runs : Items (Maybe RunOf)) → CanGoOn p engine.old ends.old.items runs owner run.old
-        → IsRunOf p (core_in p engine.new ends.new.items) owner run.new }
+    requires ready { (p : PlanOf) × ((runs : Items (Maybe RunOf)) × CanGoOn p engine.old runs owner run.old) }
+    ensures core { (p : PlanOf) (runs : Items (Maybe RunOf)) → CanGoOn p engine.old runs owner run.old
+        → IsCore p engine.new runs }
+    ensures acts { (p : PlanOf) (runs : Items (Maybe RunOf)) → CanGoOn p engine.old runs owner run.old
+        → OnOk result (Acts (design p) p.cycles (core_in p engine.old) (Run owner)
+        (core_in p engine.new)) }
+    ensures run { (p : PlanOf) (runs : Items (Maybe RunOf)) → CanGoOn p engine.old runs owner run.old
+        → IsRunOf p (core_in p engine.new) owner run.new }
     ensures unchanged { OnErr result (engine.new ≡ engine.old) }
-    ensures no_end { OnErr result (ends.new.items ≡ ends.old.items) }
 {
     if run.advance_few()? {
         let step = StepView {
@@ -108,34 +100,29 @@ pub(crate) fn emit_mark(
         return Ok(());
     }
     let mark = run.give()?;
-    record_mark(engine, ends, owner, mark);
+    record_mark(engine, owner, mark);
     Ok(())
 }
 
 /// Emits a module's next marks, in order. There must be room for them. What the list then holds does not matter.
-pub(crate) fn record_all(
-    engine: &mut Engine,
-    ends: &mut Vec<Option<Advance>>,
-    owner: u32,
-    marks: &mut List<Advance>,
-)
+pub(crate) fn record_all(engine: &mut Engine, owner: u32, marks: &mut List<Advance>)
     requires owner { owner < length engine.old.graph.lanes }
     requires returned { (p : PlanOf) × ((out : Items (Maybe RunOf)) × ((last : TaskOf)
-        × AreReturned p engine.old ends.old.items out owner marks.old last)) }
+        × AreReturned p engine.old out owner marks.old last)) }
     ensures core { (p : PlanOf) (out : Items (Maybe RunOf)) (last : TaskOf)
-        → AreReturned p engine.old ends.old.items out owner marks.old last
-        → IsCore p engine.new ends.new.items out }
+        → AreReturned p engine.old out owner marks.old last
+        → IsCore p engine.new out }
     ensures left { (p : PlanOf) (out : Items (Maybe RunOf)) (last : TaskOf)
-        → AreReturned p engine.old ends.old.items out owner marks.old last
-        → IsTaskLeft p (core_in p engine.new ends.new.items) owner last }
+        → AreReturned p engine.old out owner marks.old last
+        → IsTaskLeft p (core_in p engine.new) owner last }
     ensures acts { (p : PlanOf) (out : Items (Maybe RunOf)) (last : TaskOf)
-        → AreReturned p engine.old ends.old.items out owner marks.old last
-        → ActsAll (design p) p.cycles (core_in p engine.old ends.old.items) (runs (length marks.old) owner)
-        (core_in p engine.new ends.new.items) }
+        → AreReturned p engine.old out owner marks.old last
+        → ActsAll (design p) p.cycles (core_in p engine.old) (runs (length marks.old) owner)
+        (core_in p engine.new) }
     ensures lanes { length engine.new.graph.lanes ≡ length engine.old.graph.lanes }
 {
     for at in 0..marks.len() {
         let mark = take_mark(marks, at);
-        record_mark(engine, ends, owner, mark);
+        record_mark(engine, owner, mark);
     }
 }

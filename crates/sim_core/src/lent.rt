@@ -100,7 +100,7 @@ impl Core {
             body: body_length(&self.wiring.bodies, owner),
         };
         make_room_for_marks(&mut self.engine, &member, emitted.as_slice())?;
-        record_all(&mut self.engine, &mut self.ends, owner, &mut emitted);
+        record_all(&mut self.engine, owner, &mut emitted);
         let inlets = Inlets {
             alloc: *self.engine.credits.allocator(),
             owner,

@@ -11,7 +11,7 @@ use crate::unread::Unread;
 use crate::wiring::{Wiring, ports_of};
 use cycle_changes::Changes;
 use engine_view::Engine;
-use flow_design::{Advance, Plan, Reply};
+use flow_design::{Plan, Reply};
 use flow_word::{List, Port};
 use module_interp::ModuleRun;
 use query_resolve::CandidateList;
@@ -26,8 +26,6 @@ use std::marker::Model;
 pub struct Core {
     pub(crate) plan: Plan,
     pub(crate) engine: Engine,
-    /// The end mark of each module whose own run came to its end. `None` for any other module.
-    pub(crate) ends: Vec<Option<Advance>>,
     /// The run of each module. `None` while it is lent.
     pub(crate) runs: Vec<Option<ModuleRun>>,
     /// The ports of each module, and what else is found once for a plan.
@@ -77,7 +75,6 @@ impl Drop for Core {
         let Core {
             plan: _plan,
             engine: _engine,
-            ends: _ends,
             runs: _runs,
             wiring: _wiring,
             unread: _unread,
@@ -93,7 +90,7 @@ impl Model for Core {
     ghost use Rattle.flow_design.specs.Codes.{plan_code};
     ghost use Rattle.engine_view.specs.Engines.{held_in};
     ghost use Rattle.sim_core.specs.Views.{CoreView};
-    ghost use Rattle.sim_core.specs.Runs.{IsStoredCore, lent_of, over_of};
+    ghost use Rattle.sim_core.specs.Runs.{IsStoredCore, lent_of};
 
     ghost Value = { CoreView };
 
@@ -101,11 +98,11 @@ impl Model for Core {
 
     ghost view = { λ c. record {
       plan = c.plan;
-      held = held_in c.engine (over_of c.ends.items);
+      held = held_in c.engine;
       lent = lent_of c.runs.items;
     } };
 
-    ghost invariant = { λ c. IsStoredCore c.plan c.engine c.ends.items c.runs.items c.wiring c.unread c.due c.candidates };
+    ghost invariant = { λ c. IsStoredCore c.plan c.engine c.runs.items c.wiring c.unread c.due c.candidates };
 }
 
 impl Core {
@@ -173,7 +170,6 @@ impl Core {
         let Core {
             plan,
             engine: _engine,
-            ends: _ends,
             runs,
             wiring: _wiring,
             unread: _unread,

@@ -1,5 +1,5 @@
 //! Room for the marks with which a run comes back.
-ghost use Rattle.std.specs.Prelude.{◌+◌, ◌*◌, ◌^◌, ◌<◌, ◌≤◌, ◌⊎◌, slice_index, OnOk, List as Items, Option as Maybe};
+ghost use Rattle.std.specs.Prelude.{◌≡◌, ◌+◌, ◌*◌, ◌^◌, ◌<◌, ◌≤◌, ◌⊎◌, slice_index, OnOk, List as Items, Option as Maybe};
 ghost use Rattle.flow_design.specs.declared.plan.Plan.{Plan as PlanOf};
 ghost use Rattle.module_interp.specs.declared.run.ModuleRun.{ModuleRun as RunOf};
 ghost use Rattle.sim_core.specs.{Returned.HasPlacesForMarks, Runs.IsCore, Stretches.IsHeldAlike, Stretches.IsMember};
@@ -37,12 +37,13 @@ pub(crate) fn make_room_for_marks(
     member: &Member<'_>,
     marks: &[Advance],
 ) -> Result<(), OutOfMemory>
-    requires core { (p : PlanOf) × ((ends : Items (Maybe Advance)) × ((runs : Items (Maybe RunOf))
-        × (IsCore p engine.old ends runs × IsMember p member.now.number member.now.ports.now member.now.body))) }
-    ensures core { (p : PlanOf) (ends : Items (Maybe Advance)) (runs : Items (Maybe RunOf)) → IsCore p engine.old ends runs
-        → IsMember p member.now.number member.now.ports.now member.now.body → IsCore p engine.new ends runs }
-    ensures alike { (ends : Items (Maybe Advance)) → IsHeldAlike engine.old ends engine.new ends }
-    ensures places { OnOk result ((p : PlanOf) (ends : Items (Maybe Advance)) (runs : Items (Maybe RunOf)) → IsCore p engine.old ends runs
+    requires core { (p : PlanOf) × ((runs : Items (Maybe RunOf))
+        × (IsCore p engine.old runs × IsMember p member.now.number member.now.ports.now member.now.body)) }
+    ensures core { (p : PlanOf) (runs : Items (Maybe RunOf)) → IsCore p engine.old runs
+        → IsMember p member.now.number member.now.ports.now member.now.body → IsCore p engine.new runs }
+    ensures alike { IsHeldAlike engine.old engine.new }
+    ensures ends { engine.new.ends ≡ engine.old.ends }
+    ensures places { OnOk result ((p : PlanOf) (runs : Items (Maybe RunOf)) → IsCore p engine.old runs
         → IsMember p member.now.number member.now.ports.now member.now.body
         → HasPlacesForMarks p engine.new member.now.number marks.now) }
     ensures queries { OnOk result (member.now.body ≤ slice_index engine.new.log.rooms member.now.number) }

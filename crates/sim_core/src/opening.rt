@@ -74,6 +74,7 @@ fn begin(alloc: Global, plan: Plan, runs: Vec<Option<ModuleRun>>) -> Result<Core
         graph,
         fifos,
         log,
+        ends,
         credits,
     };
     let wiring = find_wiring(alloc, &plan)?;
@@ -83,7 +84,6 @@ fn begin(alloc: Global, plan: Plan, runs: Vec<Option<ModuleRun>>) -> Result<Core
     Ok(Core {
         plan,
         engine,
-        ends,
         runs,
         wiring,
         unread,

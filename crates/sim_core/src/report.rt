@@ -18,7 +18,7 @@ impl Core {
         requires { IsFinal (design self.now.plan) self.now.plan.cycles (theory_of self.now) }
         ensures { result ≡ lockstep.verdict self.now.plan }
     {
-        verdict_of(&self.plan, &self.engine, &self.ends)
+        verdict_of(&self.plan, &self.engine)
     }
 
     /// The end mark of each module of a final core. `None` for a module that waits for good or until the cycle limit. Together with
@@ -27,7 +27,7 @@ impl Core {
         requires { IsFinal (design self.now.plan) self.now.plan.cycles (theory_of self.now) }
         ensures { IsFinished self.now.plan self.now.held result.now }
     {
-        self.ends.as_slice()
+        self.engine.ends.as_slice()
     }
 
     /// The report of a final core: it is the lockstep machine's, with its events if they are asked for, else with none.
@@ -37,7 +37,7 @@ impl Core {
         requires { IsFinal (design self.now.plan) self.now.plan.cycles (theory_of self.now) }
         ensures { IfOk result (λ report. report ≡ report_with with_events self.now.plan) }
     {
-        report_of(alloc, &self.plan, &self.engine, &self.ends, with_events)
+        report_of(alloc, &self.plan, &self.engine, with_events)
     }
 
     /// The report of a core that is final, with its events if they are asked for, else with none. `None` where an action is

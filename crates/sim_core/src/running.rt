@@ -83,7 +83,6 @@ impl Core {
         };
         let ran = run_held(
             &mut self.engine,
-            &mut self.ends,
             &mut self.scratch.replies,
             &member,
             &mut self.runs[owner as usize],
@@ -175,6 +174,6 @@ impl Core {
         requires { owner < length self.now.plan.design.modules }
         ensures { result ≡ slice_index_or self.now.held.over owner false }
     {
-        is_over(&self.ends, owner)
+        is_over(&self.engine, owner)
     }
 }

@@ -24,6 +24,6 @@ impl Core {
         requires clock { clock ≡ clock_of (verdict self.now.plan) }
         ensures { IfOk result (AreSpans self.now.plan owner) }
     {
-        spans_of(alloc, &self.engine, &self.ends, owner, clock)
+        spans_of(alloc, &self.engine, owner, clock)
     }
 }

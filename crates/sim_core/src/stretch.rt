@@ -4,12 +4,13 @@ ghost use Rattle.flow_design.specs.declared.plan.Plan.{Plan as PlanOf};
 ghost use Rattle.module_interp.specs.{declared.run.ModuleRun.ModuleRun as RunOf, Runs.waits};
 ghost use Rattle.event_timing.specs.{Actions.Acts, Actions.ActsAll, Actions.MayRun, Actions.runs as runs_of, Actions.Action.Run};
 ghost use Rattle.timing_bridge.specs.Designs.{design};
-ghost use Rattle.sim_core.specs.{Returned.core_in, Runs.over_of};
+ghost use Rattle.engine_view.specs.Engines.{over_of};
+ghost use Rattle.sim_core.specs.Returned.{core_in};
 ghost use Rattle.sim_core.specs.Stretches.{IsMember, IsOutOf, IsRunOut, IsHeldAlike, is_short};
 
 use crate::back::emit_mark;
 use engine_view::Engine;
-use flow_design::{Advance, Reply};
+use flow_design::Reply;
 use flow_word::{List, OutOfMemory, Port};
 use module_interp::ModuleRun;
 use run_ahead::find_replies;
@@ -59,34 +60,33 @@ pub(crate) struct Stretch {
 #[inline(always)]
 pub(crate) fn run_held(
     engine: &mut Engine,
-    ends: &mut Vec<Option<Advance>>,
     replies: &mut List<Reply>,
     member: &Member<'_>,
     held: &mut Option<ModuleRun>,
     most: u32,
 ) -> Stretch
     requires out { (p : PlanOf) × ((runs : Items (Maybe RunOf))
-        × (IsRunOut p engine.old ends.old.items runs member.now.number held.old
+        × (IsRunOut p engine.old runs member.now.number held.old
         × IsMember p member.now.number member.now.ports.now member.now.body)) }
     requires some { 0 < most }
-    ensures out { (p : PlanOf) (runs : Items (Maybe RunOf)) → IsRunOut p engine.old ends.old.items runs member.now.number held.old
+    ensures out { (p : PlanOf) (runs : Items (Maybe RunOf)) → IsRunOut p engine.old runs member.now.number held.old
         → IsMember p member.now.number member.now.ports.now member.now.body
-        → IsRunOut p engine.new ends.new.items runs member.now.number held.new }
-    ensures acts { (p : PlanOf) (runs : Items (Maybe RunOf)) → IsRunOut p engine.old ends.old.items runs member.now.number held.old
+        → IsRunOut p engine.new runs member.now.number held.new }
+    ensures acts { (p : PlanOf) (runs : Items (Maybe RunOf)) → IsRunOut p engine.old runs member.now.number held.old
         → IsMember p member.now.number member.now.ports.now member.now.body
-        → ActsAll (design p) p.cycles (core_in p engine.old ends.old.items) (runs_of result.runs member.now.number)
-        (core_in p engine.new ends.new.items) }
+        → ActsAll (design p) p.cycles (core_in p engine.old) (runs_of result.runs member.now.number)
+        (core_in p engine.new) }
     ensures still { result.end ≡ End.Still → (p : PlanOf) (runs : Items (Maybe RunOf))
-        → IsRunOut p engine.old ends.old.items runs member.now.number held.old
+        → IsRunOut p engine.old runs member.now.number held.old
         → IsMember p member.now.number member.now.ports.now member.now.body
-        → MayRun (design p) (core_in p engine.new ends.new.items) member.now.number → ⊥ }
+        → MayRun (design p) (core_in p engine.new) member.now.number → ⊥ }
     ensures most { result.runs ≤ most }
     ensures on { (asks : Bool) → result.end ≡ End.On asks → 0 < result.runs }
     ensures short { result.end ≡ End.Short → result.runs < most }
-    ensures none { result.runs ≡ 0 → IsHeldAlike engine.old ends.old.items engine.new ends.new.items }
+    ensures none { result.runs ≡ 0 → IsHeldAlike engine.old engine.new }
 {
     match held {
-        Some(run) => run_many(engine, ends, replies, member, run, most),
+        Some(run) => run_many(engine, replies, member, run, most),
         None => Stretch {
             runs: 0,
             end: End::Still,
@@ -98,36 +98,35 @@ pub(crate) fn run_held(
 #[inline(always)]
 fn run_many(
     engine: &mut Engine,
-    ends: &mut Vec<Option<Advance>>,
     replies: &mut List<Reply>,
     member: &Member<'_>,
     run: &mut ModuleRun,
     most: u32,
 ) -> Stretch
     requires out { (p : PlanOf) × ((runs : Items (Maybe RunOf))
-        × (IsOutOf p engine.old ends.old.items runs member.now.number run.old
+        × (IsOutOf p engine.old runs member.now.number run.old
         × IsMember p member.now.number member.now.ports.now member.now.body)) }
     requires some { 0 < most }
-    ensures out { (p : PlanOf) (runs : Items (Maybe RunOf)) → IsOutOf p engine.old ends.old.items runs member.now.number run.old
+    ensures out { (p : PlanOf) (runs : Items (Maybe RunOf)) → IsOutOf p engine.old runs member.now.number run.old
         → IsMember p member.now.number member.now.ports.now member.now.body
-        → IsOutOf p engine.new ends.new.items runs member.now.number run.new }
-    ensures acts { (p : PlanOf) (runs : Items (Maybe RunOf)) → IsOutOf p engine.old ends.old.items runs member.now.number run.old
+        → IsOutOf p engine.new runs member.now.number run.new }
+    ensures acts { (p : PlanOf) (runs : Items (Maybe RunOf)) → IsOutOf p engine.old runs member.now.number run.old
         → IsMember p member.now.number member.now.ports.now member.now.body
-        → ActsAll (design p) p.cycles (core_in p engine.old ends.old.items) (runs_of result.runs member.now.number)
-        (core_in p engine.new ends.new.items) }
+        → ActsAll (design p) p.cycles (core_in p engine.old) (runs_of result.runs member.now.number)
+        (core_in p engine.new) }
     ensures still { result.end ≡ End.Still → (p : PlanOf) (runs : Items (Maybe RunOf))
-        → IsOutOf p engine.old ends.old.items runs member.now.number run.old
+        → IsOutOf p engine.old runs member.now.number run.old
         → IsMember p member.now.number member.now.ports.now member.now.body
-        → MayRun (design p) (core_in p engine.new ends.new.items) member.now.number → ⊥ }
+        → MayRun (design p) (core_in p engine.new) member.now.number → ⊥ }
     ensures most { result.runs ≤ most }
     ensures on { (asks : Bool) → result.end ≡ End.On asks → 0 < result.runs }
     ensures short { result.end ≡ End.Short → result.runs < most }
-    ensures none { result.runs ≡ 0 → IsHeldAlike engine.old ends.old.items engine.new ends.new.items }
+    ensures none { result.runs ≡ 0 → IsHeldAlike engine.old engine.new }
 {
     let told = engine.log.len(member.number);
     let mut runs = 0;
     while runs < most {
-        match run_once(engine, ends, replies, member, run) {
+        match run_once(engine, replies, member, run) {
             Ok(true) => runs += 1,
             Ok(false) => return Stretch {
                 runs,
@@ -167,29 +166,28 @@ fn has_asked(run: &ModuleRun, told: u64) -> bool {
 #[inline(always)]
 fn run_once(
     engine: &mut Engine,
-    ends: &mut Vec<Option<Advance>>,
     replies: &mut List<Reply>,
     member: &Member<'_>,
     run: &mut ModuleRun,
 ) -> Result<bool, OutOfMemory>
     requires out { (p : PlanOf) × ((runs : Items (Maybe RunOf))
-        × (IsOutOf p engine.old ends.old.items runs member.now.number run.old
+        × (IsOutOf p engine.old runs member.now.number run.old
         × IsMember p member.now.number member.now.ports.now member.now.body)) }
-    ensures out { (p : PlanOf) (runs : Items (Maybe RunOf)) → IsOutOf p engine.old ends.old.items runs member.now.number run.old
+    ensures out { (p : PlanOf) (runs : Items (Maybe RunOf)) → IsOutOf p engine.old runs member.now.number run.old
         → IsMember p member.now.number member.now.ports.now member.now.body
-        → IsOutOf p engine.new ends.new.items runs member.now.number run.new }
+        → IsOutOf p engine.new runs member.now.number run.new }
     ensures acts { IfOk result (λ ran. ran ≡ true → (p : PlanOf) (runs : Items (Maybe RunOf))
-        → IsOutOf p engine.old ends.old.items runs member.now.number run.old
+        → IsOutOf p engine.old runs member.now.number run.old
         → IsMember p member.now.number member.now.ports.now member.now.body
-        → Acts (design p) p.cycles (core_in p engine.old ends.old.items) (Run member.now.number)
-        (core_in p engine.new ends.new.items)) }
+        → Acts (design p) p.cycles (core_in p engine.old) (Run member.now.number)
+        (core_in p engine.new)) }
     ensures not_permitted { IfOk result (λ ran. ran ≡ false → (p : PlanOf) (runs : Items (Maybe RunOf))
-        → IsOutOf p engine.old ends.old.items runs member.now.number run.old
-        → MayRun (design p) (core_in p engine.old ends.old.items) member.now.number → ⊥) }
-    ensures unchanged { IfOk result (λ ran. ran ≡ false → IsHeldAlike engine.old ends.old.items engine.new ends.new.items) }
-    ensures no_memory { OnErr result (IsHeldAlike engine.old ends.old.items engine.new ends.new.items) }
+        → IsOutOf p engine.old runs member.now.number run.old
+        → MayRun (design p) (core_in p engine.old) member.now.number → ⊥) }
+    ensures unchanged { IfOk result (λ ran. ran ≡ false → IsHeldAlike engine.old engine.new) }
+    ensures no_memory { OnErr result (IsHeldAlike engine.old engine.new) }
 {
-    if is_over(ends, member.number) {
+    if is_over(engine, member.number) {
         return Ok(false);
     }
     let fed = feed(engine, replies, member.number, run)?;
@@ -197,17 +195,17 @@ fn run_once(
         return Ok(false);
     }
     engine.make_room(member.number, member.ports, member.body)?;
-    emit_mark(engine, ends, member.number, run)?;
+    emit_mark(engine, member.number, run)?;
     Ok(true)
 }
 
 /// Whether a module's end was emitted.
 #[inline(always)]
-pub(crate) fn is_over(ends: &Vec<Option<Advance>>, owner: u32) -> bool
-    requires { owner < length ends.now.items }
-    ensures { result ≡ slice_index_or (over_of ends.now.items) owner false }
+pub(crate) fn is_over(engine: &Engine, owner: u32) -> bool
+    requires { owner < length engine.now.ends.items }
+    ensures { result ≡ slice_index_or (over_of engine.now.ends.items) owner false }
 {
-    ends[owner as usize].is_some()
+    engine.ends[owner as usize].is_some()
 }
 
 /// Gives a module's run, if it waits, the replies to the module's newest step, if all of them are there. Returns whether the run
@@ -219,13 +217,13 @@ fn feed(
     owner: u32,
     run: &mut ModuleRun,
 ) -> Result<bool, OutOfMemory>
-    requires out { (p : PlanOf) × ((ends : Items (Maybe Advance)) × ((runs : Items (Maybe RunOf))
-        × IsOutOf p engine.now ends runs owner run.old)) }
-    ensures out { (p : PlanOf) (ends : Items (Maybe Advance)) (runs : Items (Maybe RunOf))
-        → IsOutOf p engine.now ends runs owner run.old → IsOutOf p engine.now ends runs owner run.new }
+    requires out { (p : PlanOf) × ((runs : Items (Maybe RunOf))
+        × IsOutOf p engine.now runs owner run.old) }
+    ensures out { (p : PlanOf) (runs : Items (Maybe RunOf))
+        → IsOutOf p engine.now runs owner run.old → IsOutOf p engine.now runs owner run.new }
     ensures fed { IfOk result (λ fed. fed ≡ true → waits run.new ≡ false) }
-    ensures not_fed { IfOk result (λ fed. fed ≡ false → (p : PlanOf) (ends : Items (Maybe Advance)) (runs : Items (Maybe RunOf))
-        → IsOutOf p engine.now ends runs owner run.old → MayRun (design p) (core_in p engine.now ends) owner → ⊥) }
+    ensures not_fed { IfOk result (λ fed. fed ≡ false → (p : PlanOf) (runs : Items (Maybe RunOf))
+        → IsOutOf p engine.now runs owner run.old → MayRun (design p) (core_in p engine.now) owner → ⊥) }
 {
     if !run.is_waiting() {
         return Ok(true);

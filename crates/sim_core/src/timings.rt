@@ -1,6 +1,6 @@
 //! Assigns and Answers of one module, one after the other.
 ghost use Rattle.std.specs.Prelude.{◌≡◌, ◌+◌, ◌<◌, ◌≤◌, Bool, true, length, List as Items, Option as Maybe};
-ghost use Rattle.flow_design.specs.{declared.plan.Plan.Plan as PlanOf, declared.state.Advance.Advance};
+ghost use Rattle.flow_design.specs.declared.plan.Plan.{Plan as PlanOf};
 ghost use Rattle.module_interp.specs.declared.run.ModuleRun.{ModuleRun as RunOf};
 ghost use Rattle.timing_bridge.specs.Designs.{design};
 ghost use Rattle.engine_view.specs.Turns.{IsIdle, is_progress};
@@ -34,20 +34,21 @@ pub(crate) fn time_many<L: Ledger>(
     most: u32,
     steps: &mut Steps<L>,
 ) -> Timed
-    requires held { (p : PlanOf) × ((ends : Items (Maybe Advance)) × ((runs : Items (Maybe RunOf))
-        × IsHeldOf p engine.old ends runs owner limit)) }
+    requires held { (p : PlanOf) × ((runs : Items (Maybe RunOf))
+        × IsHeldOf p engine.old runs owner limit) }
     requires some { 0 < most }
-    ensures held { (p : PlanOf) (ends : Items (Maybe Advance)) (runs : Items (Maybe RunOf))
-        → IsHeldOf p engine.old ends runs owner limit → IsHeldOf p engine.new ends runs owner limit }
-    ensures leads { (p : PlanOf) (ends : Items (Maybe Advance)) (runs : Items (Maybe RunOf))
-        → IsHeldOf p engine.old ends runs owner limit
-        → StretchLeads result.visit result.answers (view_in p engine.old ends runs) steps.old owner
-        (view_in p engine.new ends runs) steps.new }
+    ensures held { (p : PlanOf) (runs : Items (Maybe RunOf))
+        → IsHeldOf p engine.old runs owner limit → IsHeldOf p engine.new runs owner limit }
+    ensures leads { (p : PlanOf) (runs : Items (Maybe RunOf))
+        → IsHeldOf p engine.old runs owner limit
+        → StretchLeads result.visit result.answers (view_in p engine.old runs) steps.old owner
+        (view_in p engine.new runs) steps.new }
+    ensures ends { engine.new.ends ≡ engine.old.ends }
     ensures ticks { steps.new ≡ steps.old + result.cycles }
     ensures answers { result.answers ≤ result.cycles }
-    ensures idle { result.idle ≡ true → (p : PlanOf) (ends : Items (Maybe Advance)) (runs : Items (Maybe RunOf))
-        → IsHeldOf p engine.old ends runs owner limit
-        → IsIdle (design p) p.cycles (core_in p engine.new ends) owner }
+    ensures idle { result.idle ≡ true → (p : PlanOf) (runs : Items (Maybe RunOf))
+        → IsHeldOf p engine.old runs owner limit
+        → IsIdle (design p) p.cycles (core_in p engine.new) owner }
 {
     let mut cycles = 0;
     let mut answers = 0;
@@ -110,13 +111,14 @@ fn is_timed(engine: &Engine, owner: u32) -> bool
 /// Does one Assign or Answer of a module, if one is permitted. After an Answer it does the Assign of the same step too.
 #[inline(always)]
 fn time_once<L: Ledger>(engine: &mut Engine, owner: u32, limit: u64, steps: &mut Steps<L>) -> Timing
-    requires held { (p : PlanOf) × ((ends : Items (Maybe Advance)) × ((runs : Items (Maybe RunOf))
-        × IsHeldOf p engine.old ends runs owner limit)) }
-    ensures held { (p : PlanOf) (ends : Items (Maybe Advance)) (runs : Items (Maybe RunOf))
-        → IsHeldOf p engine.old ends runs owner limit → IsHeldOf p engine.new ends runs owner limit }
-    ensures done { (p : PlanOf) (ends : Items (Maybe Advance)) (runs : Items (Maybe RunOf))
-        → IsHeldOf p engine.old ends runs owner limit
-        → HasTimedOnce result (view_in p engine.old ends runs) steps.old owner (view_in p engine.new ends runs) steps.new }
+    requires held { (p : PlanOf) × ((runs : Items (Maybe RunOf))
+        × IsHeldOf p engine.old runs owner limit) }
+    ensures held { (p : PlanOf) (runs : Items (Maybe RunOf))
+        → IsHeldOf p engine.old runs owner limit → IsHeldOf p engine.new runs owner limit }
+    ensures done { (p : PlanOf) (runs : Items (Maybe RunOf))
+        → IsHeldOf p engine.old runs owner limit
+        → HasTimedOnce result (view_in p engine.old runs) steps.old owner (view_in p engine.new runs) steps.new }
+    ensures ends { engine.new.ends ≡ engine.old.ends }
     ensures ticks { is_progress result ≡ true → steps.new ≡ steps.old + 1 }
 {
     match engine.time_first(owner, limit, steps) {

@@ -24,6 +24,7 @@ returns-clause-put g c = record {
   rooms = c.put_moved.ensures.rooms;
   fifos = refl;
   log = refl;
+  ends = refl;
   credits = refl;
 }
 

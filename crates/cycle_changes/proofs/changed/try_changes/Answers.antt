@@ -67,4 +67,4 @@ returns-clause-same g c = λ no.
     ∙ depth_back old.fifos.channels c.args.edit.now.channel c.args.edit.now.depth c.requires.edit.inside))
     (c.set_depth-2.ensures.push_rooms ∙ (ap (λ (q : RoomedChannels). q.push_rooms) put.fifos ∙ c.set_depth.ensures.push_rooms))
     (c.set_depth-2.ensures.pop_rooms ∙ (ap (λ (q : RoomedChannels). q.pop_rooms) put.fifos ∙ c.set_depth.ensures.pop_rooms)) put.log
-    put.credits
+    put.ends put.credits

@@ -22,7 +22,7 @@ returns-then-not-is_step c = λ e m n l q.
 
 pub returns-in-Some : goal.returns-in-Some
 returns-in-Some c = λ e m n l q.
-    let h = held_in c.args.engine.now [] in
+    let h = held_in c.args.engine.now in
     let w = waits_so c.args.engine.now c.requires.core c.args.at c.args.access.now c.requires.access m n l q in
     let kind = (channel_at c.args.engine.now.fifos.channels c.args.access.now.channel).kind in
     let side = c.other.ensures ∙ ap other_side c.side-side.ensures in

@@ -18,7 +18,7 @@ returns-in-Some c = λ e.
     let n = c.args.ordinal in
     let taker = c.in-Some.taker in
     let there = sym c.place-taker.ensures ∙ c.in-Some.is in
-    looked_between (held_in engine []) port.side port.channel n taker.module 0 taker.step (c.are_right_in.ensures e)
+    looked_between (held_in engine) port.side port.channel n taker.module 0 taker.step (c.are_right_in.ensures e)
     (λ m k l q. (
       as_owner engine c.requires.core port.side port.channel n m k l q (n - 1) taker there,
       omega arith,
@@ -43,12 +43,12 @@ returns-after-taker-2 c = λ e.
     let before = c.in-Some-place.before in
     let there = sym c.place.ensures ∙ c.in-Some-place.is in
     let not_first = c.if-ordinal-eq1.false in
-    looked_between (held_in engine []) port.side port.channel n before.module c.saturating_add-first.result c.match-taker-2.last
+    looked_between (held_in engine) port.side port.channel n before.module c.saturating_add-first.result c.match-taker-2.last
     (c.are_right_in-in-Some-place.ensures e)
     (λ m k l q.
     let owner = as_owner engine c.requires.core port.side port.channel n m k l q (n - 2) before there in
     let low = as_before engine c.requires.core port.side port.channel n m k l q (n - 2) before there (omega arith) in
-    let l' = subst (λ (v : ℕ). k < first_of (held_in engine []) v) (sym owner) l in
+    let l' = subst (λ (v : ℕ). k < first_of (held_in engine) v) (sym owner) l in
     let high : k ≤ c.match-taker-2.last =
     elim c.match-taker-2.branch [
       | in-Some-taker w ↦

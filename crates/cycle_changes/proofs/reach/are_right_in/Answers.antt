@@ -5,7 +5,7 @@ use Rattle.cycle_changes.proofs.reach.are_right_in.Goals as goal
 
 pub loop-step-preserved : goal.loop-step-preserved
 loop-step-preserved c = λ k low l s.
-    let h = held_in c.args.engine.now [] in
+    let h = held_in c.args.engine.now in
     elim (cases_eq k c.loop-step.step) [
       | inl e ↦ subst (IsLooked h c.args.owner) (sym e)
           (c.is_right_or_elsewhere.ensures c.if-not-is_right_or_elsewhere.false

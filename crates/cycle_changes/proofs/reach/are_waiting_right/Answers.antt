@@ -15,9 +15,9 @@ parts c = c.loop-access.invariant.0 ∙ ap (λ (xs : List Access). c.loop-access
 
 -- the accesses of the step that is held
 held : (c : After-into_iter-access-iterator)
-    → (step_of (held_in c.args.engine.now []) c.args.at.module c.args.at.step).accesses ≡ c.into_iter-access-iterator.result
+    → (step_of (held_in c.args.engine.now) c.args.at.module c.args.at.step).accesses ≡ c.into_iter-access-iterator.result
 held c =
-    ap (λ (t : Step). t.accesses) (step_is (held_in c.args.engine.now []) c.args.at.module c.args.at.step (in_lane c.look-step.result)
+    ap (λ (t : Step). t.accesses) (step_is (held_in c.args.engine.now) c.args.at.module c.args.at.step (in_lane c.look-step.result)
     c.look-step.ensures.step)
     ∙ (sym c.iter-access-items.ensures ∙ sym c.into_iter-access-iterator.ensures.into_iter_gives)
 
@@ -30,7 +30,7 @@ are_enabled_right-requires-clause-access c =
 pub loop-access-preserved : goal.loop-access-preserved
 loop-access-preserved c = (
   onward c.into_iter-access-iterator.result _ _ _ (parts (goal.at.loop-access-preserved c).In-Some),
-  All-push (λ (a : Access). AreLooked (held_in c.args.engine.now [])
+  All-push (λ (a : Access). AreLooked (held_in c.args.engine.now)
       (WaitsAt c.args.engine.now.fifos.channels (other_side (side_of a.kind)) a.channel c.args.at)) c.loop-access.yielded
       c.in-Some.access c.loop-access.invariant.1 (c.are_enabled_right.ensures c.if-not-are_enabled_right.false),
 )

@@ -8,5 +8,5 @@ use Rattle.cycle_changes.proofs.reach.are_waiting_right.Given as goal
 abbrev pub invariant-loop-access : goal.invariant-loop-access
 invariant-loop-access l =
     (l.initial.access-iterator ≡ l.yielded ++ l.access-iterator)
-    × All (λ (a : Access). AreLooked (held_in l.engine []) (WaitsAt l.engine.fifos.channels (other_side (side_of a.kind)) a.channel l.at))
+    × All (λ (a : Access). AreLooked (held_in l.engine) (WaitsAt l.engine.fifos.channels (other_side (side_of a.kind)) a.channel l.at))
     l.yielded

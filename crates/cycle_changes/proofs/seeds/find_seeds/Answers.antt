@@ -21,7 +21,7 @@ frontier-step-end-requires c =
 
 pub loop-step-preserved : goal.loop-step-preserved
 loop-step-preserved c = λ k l s.
-    let h = held_in c.args.engine.now [] in
+    let h = held_in c.args.engine.now in
     elim (cases_eq k c.loop-step.step) [
       | inl e ↦
           let s' = subst (λ (n : ℕ). HasAccessAt Push c.args.channel (step_of h c.in-Some.owner n)) e s in
@@ -36,7 +36,7 @@ loop-step-preserved c = λ k l s.
 
 pub returns : goal.returns
 returns c = λ e m k l s.
-    let h = held_in c.args.engine.now [] in
+    let h = held_in c.args.engine.now in
     let (p, there, is) = first_is (places_of Push (channel_at h.channels c.args.channel)) c.in-Some.owner
     (sym c.pusher.ensures ∙ c.in-Some.is) in
     let (j, a, u, at, st) = s in

@@ -7,5 +7,5 @@ use Rattle.cycle_changes.proofs.seeds.find_seeds.Given as goal
 
 abbrev pub invariant-loop-step : goal.invariant-loop-step
 invariant-loop-step l =
-    (k : ℕ) → k < l.step → HasAccessAt Push l.channel (step_of (held_in l.engine []) l.owner k)
-    → IsLooked (held_in l.engine []) l.owner k ⊎ Contains l.seeds.items (place_of l.owner k)
+    (k : ℕ) → k < l.step → HasAccessAt Push l.channel (step_of (held_in l.engine) l.owner k)
+    → IsLooked (held_in l.engine) l.owner k ⊎ Contains l.seeds.items (place_of l.owner k)

@@ -1,5 +1,3 @@
-use Rattle.std.proofs.Common.{map}
-use Rattle.std.specs.Prelude.{is_some}
 use Rattle.timing_bridge.specs.Designs.{design}
 use Rattle.engine_view.specs.{Held.core_of, Engines.held_in}
 use Rattle.engine_report.proofs.Verdicts.{verdict_read}
@@ -9,7 +7,7 @@ pub returns : goal.returns
 returns c =
     let p = c.args.plan.now in
     let f = c.requires in
-    let h = held_in c.args.engine.now (map (λ o. is_some o) c.args.ends.now) in
+    let h = held_in c.args.engine.now in
     let x = core_of (design p) h in
-    verdict_read p h c.args.ends.now f (c.every_report.ensures.agreed p f.fits x f.agreed f.final)
+    verdict_read p h c.args.engine.now.ends.items f (c.every_report.ensures.agreed p f.fits x f.agreed f.final)
     (c.steps_in_order.ensures.history p f.fits p.cycles x f.agreed f.final) c.verdict.result c.verdict.ensures

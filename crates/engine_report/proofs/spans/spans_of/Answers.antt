@@ -1,6 +1,5 @@
-use Rattle.std.proofs.Common.{◌≡◌, ◌∙◌, ◌<◌, ◌+◌, ℕ, min, add-one, refl, subst, None, ap, arith, sym, map, Option, length}
-use Rattle.std.proofs.lemmas.List.{get_or_default}
-use Rattle.std.specs.Prelude.{is_some}
+use Rattle.std.proofs.Common.{◌≡◌, ◌∙◌, ◌<◌, ◌+◌, ℕ, min, add-one, refl, subst, None, ap, arith, sym, Option, length}
+use Rattle.std.proofs.lemmas.List.{get_or_read}
 use Rattle.flow_design.specs.declared.state.Advance.{Advance}
 use Rattle.event_graph.specs.Lanes.{lane_at}
 use Rattle.engine_view.specs.Engines.{held_in}
@@ -29,8 +28,8 @@ loop-step-preserved c =
       last = got ∙ ap (cycle_before cycles) (sym (add-one k));
       below = below_got c.cycle_of.result c.unwrap_or-cycle.result c.unwrap_or-cycle.ensures c.cycle_of.ensures.below;
       passed = λ p f e.
-          step_told p (held_in c.args.engine.now (map (λ (o : Option Advance). is_some o) c.args.ends.now))
-          c.args.ends.now c.args.owner c.args.clock (record { finished = f; inside = c.requires.owner; its_clock = e })
+          step_told p (held_in c.args.engine.now)
+          c.args.engine.now.ends.items c.args.owner c.args.clock (record { finished = f; inside = c.requires.owner; its_clock = e })
           k c.loop-step.last c.unwrap_or-cycle.result c.min.result c.min-in-loop-step.result c.loop-step.spans c.stand.new.spans
           c.go_on.new.spans less c.loop-step.invariant.last got c.min.ensures c.min-in-loop-step.ensures
           (c.loop-step.invariant.passed p f e)
@@ -41,25 +40,25 @@ loop-step-preserved c =
 pub returns : goal.returns
 returns c = λ p f e.
     let cycles = (lane_at c.args.engine.now.graph.lanes c.args.owner).cycles in
-    let h = held_in c.args.engine.now (map (λ (o : Option Advance). is_some o) c.args.ends.now) in
+    let h = held_in c.args.engine.now in
     let k = c.loop-step.step in
     let all : k ≡ length cycles = omega arith in
     let last = subst (λ (j : ℕ). c.loop-step.last ≡ cycle_before cycles j) all c.loop-step.invariant.last in
     let passed = subst (λ (j : ℕ). HasPassedSteps p c.args.owner c.args.clock cycles j c.loop-step.spans) all
     (c.loop-step.invariant.passed p f e) in
-    let r : IsRead p h c.args.ends.now c.args.owner c.args.clock = record { finished = f; inside = c.requires.owner; its_clock = e } in
+    let r : IsRead p h c.args.engine.now.ends.items c.args.owner c.args.clock = record { finished = f; inside = c.requires.owner; its_clock = e } in
     elim c.if-timed-len.branch [
       | then-timed-len+in_ok-go_on-2 w ↦
-          let few : c.args.owner < length c.args.ends.now = c.requires.ends in
-          let same : w.index-ends-owner.result ≡ end_at c.args.ends.now c.args.owner = w.index-ends-owner.is
-          ∙ get_or_default c.args.ends.now c.args.owner _ None few in
+          let few : c.args.owner < length c.args.engine.now.ends.items = c.requires.ends in
+          let same : w.index.result.now ≡ end_at c.args.engine.now.ends.items c.args.owner =
+          get_or_read c.args.engine.now.ends.items c.args.owner w.index.result.now few w.index.ensures None in
           let gap = w.gap_of.ensures ∙ ap (λ (o : Option Advance). gap_of_end o) same in
-          subst (AreSpans p c.args.owner) (sym w.spans-is) (end_told p h c.args.ends.now c.args.owner c.args.clock r c.loop-step.last
+          subst (AreSpans p c.args.owner) (sym w.spans-is) (end_told p h c.args.engine.now.ends.items c.args.owner c.args.clock r c.loop-step.last
           w.min-then-timed-len.result c.loop-step.spans w.go_on-then-timed-len.new.spans (omega arith) last
           (w.min-then-timed-len.ensures ∙ ap (λ (n : ℕ). min (c.loop-step.last + n) c.args.clock) gap) passed
           (w.in_ok-go_on-2.ensures.spans p c.args.owner) w.in_ok-go_on-2.ensures.reached)
       | else-timed-len+in_ok-stand-2 w ↦
-          subst (AreSpans p c.args.owner) (sym w.spans-is) (open_told p h c.args.ends.now c.args.owner c.args.clock r
+          subst (AreSpans p c.args.owner) (sym w.spans-is) (open_told p h c.args.engine.now.ends.items c.args.owner c.args.clock r
           c.frontier-timed.result c.loop-step.last c.loop-step.spans w.stand-else-timed-len.new.spans (omega arith) (omega arith) last
           passed (w.in_ok-stand-2.ensures.spans p c.args.owner) w.in_ok-stand-2.ensures.reached)
     ]

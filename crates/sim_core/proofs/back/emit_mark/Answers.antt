@@ -8,13 +8,12 @@ use Rattle.sim_core.proofs.back.emit_mark.Goals as goal
 
 -- the step that was listed is the next mark
 next_few : (c : After-queries) (p : Plan) (runs : List (Option ModuleRun))
-    → CanGoOn p c.args.engine.now c.args.ends.now.items runs c.args.owner c.args.run.now
-    → IsNextMark p c.args.engine.now c.args.ends.now.items runs c.args.owner
+    → CanGoOn p c.args.engine.now runs c.args.owner c.args.run.now
+    → IsNextMark p c.args.engine.now runs c.args.owner
     (Step (record { gap = c.gap.result; accesses = c.new.result; first_query = c.queries.result }))
 next_few c p runs n =
     let s = c.args.engine.now in
-    let ends = c.args.ends.now.items in
-    let rest = rest_behind p (core_in p s ends) c.args.owner ((core_in p s ends).emitted c.args.owner) in
+    let rest = rest_behind p (core_in p s) c.args.owner ((core_in p s).emitted c.args.owner) in
     let stands = emitting.stands n in
     let listed = emitting.as_listed c.advance_few.new.self c.gap.ensures (c.new.ensures ∙ c.listed.ensures) c.queries.ensures.listed in
     emitting.is_next n (listed ∙ c.in_ok-advance_few.ensures.mark c.if-branch.true p c.args.owner rest stands)
@@ -22,12 +21,11 @@ next_few c p runs n =
 
 -- and so is the one that was given
 next_given : (c : In_ok-mark) (p : Plan) (runs : List (Option ModuleRun))
-    → CanGoOn p c.args.engine.now c.args.ends.now.items runs c.args.owner c.args.run.now
-    → IsNextMark p c.args.engine.now c.args.ends.now.items runs c.args.owner c.in_ok-mark.mark
+    → CanGoOn p c.args.engine.now runs c.args.owner c.args.run.now
+    → IsNextMark p c.args.engine.now runs c.args.owner c.in_ok-mark.mark
 next_given c p runs n =
     let s = c.args.engine.now in
-    let ends = c.args.ends.now.items in
-    let rest = rest_behind p (core_in p s ends) c.args.owner ((core_in p s ends).emitted c.args.owner) in
+    let rest = rest_behind p (core_in p s) c.args.owner ((core_in p s).emitted c.args.owner) in
     let stands = c.advance_few.ensures.stands p c.args.owner rest (emitting.stands n) in
     emitting.is_next n (c.in_ok-mark.ensures.mark p c.args.owner rest stands)
     (c.in_ok-mark.ensures.sound p c.args.owner rest stands)
@@ -40,7 +38,7 @@ record_few-requires-clause-few c =
 pub record_few-requires-clause-next : goal.record_few-requires-clause-next
 record_few-requires-clause-next c =
     let (p, (runs, n)) = c.requires.ready in
-    (p, (c.args.ends.now.items, (runs, next_few (goal.at.record_few-requires-clause-next c).After-queries p runs n)))
+    (p, (runs, next_few (goal.at.record_few-requires-clause-next c).After-queries p runs n))
 
 pub record_mark-requires-clause-next : goal.record_mark-requires-clause-next
 record_mark-requires-clause-next c =
@@ -59,13 +57,12 @@ returns-in_err-mark-clause-run c p runs n =
 pub give-requires-clause-stands : goal.give-requires-clause-stands
 give-requires-clause-stands c =
     let (p, (runs, n)) = c.requires.ready in
-    let s = c.args.engine.now in
-    let ends = c.args.ends.now.items in (
+    let s = c.args.engine.now in (
       p,
       (
         c.args.owner,
         (
-          rest_behind p (core_in p s ends) c.args.owner ((core_in p s ends).emitted c.args.owner),
+          rest_behind p (core_in p s) c.args.owner ((core_in p s).emitted c.args.owner),
           c.advance_few.ensures.stands p c.args.owner _ (emitting.stands n),
         ),
       ),
@@ -73,19 +70,19 @@ give-requires-clause-stands c =
 
 pub returns-then-branch-clause-core : goal.returns-then-branch-clause-core
 returns-then-branch-clause-core c p runs n =
-    c.record_few.ensures.core p c.args.ends.now.items runs
+    c.record_few.ensures.core p runs
     (next_few (goal.at.returns-then-branch-clause-core c).After-queries p runs n)
 
 pub returns-then-branch-clause-acts : goal.returns-then-branch-clause-acts
 returns-then-branch-clause-acts c p runs n =
-    c.record_few.ensures.acts p c.args.ends.now.items runs
+    c.record_few.ensures.acts p runs
     (next_few (goal.at.returns-then-branch-clause-acts c).After-queries p runs n)
 
 pub returns-then-branch-clause-run : goal.returns-then-branch-clause-run
 returns-then-branch-clause-run c p runs n =
     let next = next_few (goal.at.returns-then-branch-clause-run c).After-queries p runs n in
     emitting.run_after n c.advance_few.ensures.stands next (c.in_ok-advance_few.ensures.waits ∙ c.if-branch.true)
-    (c.record_few.ensures.acts p c.args.ends.now.items runs next)
+    (c.record_few.ensures.acts p runs next)
 
 pub returns-clause-core : goal.returns-clause-core
 returns-clause-core c p runs n =

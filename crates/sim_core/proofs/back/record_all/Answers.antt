@@ -38,7 +38,7 @@ returns c =
     drop_all c.loop-at.at c.loop-at.marks (omega arith) in
     record {
       core = λ p out last t. (c.loop-at.invariant.on p out last t).room.core;
-      left = λ p out last t. returning.on_way_all p (core_in p c.loop-at.engine c.loop-at.ends.items) c.args.owner t.task.mail t.short last
+      left = λ p out last t. returning.on_way_all p (core_in p c.loop-at.engine) c.args.owner t.task.mail t.short last
           (rw none at (c.loop-at.invariant.on p out last t).on);
       acts = λ p out last t. returning.all_acts (rw none at (c.loop-at.invariant.on p out last t));
       lanes = c.loop-at.invariant.lanes;

@@ -11,7 +11,7 @@ invariant-loop-at l = record {
   lanes : length l.engine.graph.lanes ≡ length l.initial.engine.graph.lanes;
   count : length l.marks ≡ length l.initial.marks;
   on : (p : Plan) (out : List (Option ModuleRun)) (last : Task)
-      → (t : AreReturned p l.initial.engine l.initial.ends.items out l.owner l.initial.marks last)
-      → IsReturningOn p l.engine l.ends.items out l.owner t.task.mail t.short last
-      (drop l.at l.marks) (core_in p l.initial.engine l.initial.ends.items) (length l.initial.marks);
+      → (t : AreReturned p l.initial.engine out l.owner l.initial.marks last)
+      → IsReturningOn p l.engine out l.owner t.task.mail t.short last
+      (drop l.at l.marks) (core_in p l.initial.engine) (length l.initial.marks);
 }

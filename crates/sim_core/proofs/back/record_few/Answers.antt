@@ -4,13 +4,13 @@ use Rattle.sim_core.proofs.back.record_few.Goals as goal
 
 pub emit_few-requires-clause-step : goal.emit_few-requires-clause-step
 emit_few-requires-clause-step c =
-    let (p, (ends, (runs, n))) = c.requires.next in
+    let (p, (runs, n)) = c.requires.next in
     returning.step_fits n c.requires.owner refl
 
 pub returns-clause-core : goal.returns-clause-core
-returns-clause-core c p ends runs n =
+returns-clause-core c p runs n =
     returning.core_emitted n c.requires.owner refl c.emit_few.ensures.emitted
 
 pub returns-clause-acts : goal.returns-clause-acts
-returns-clause-acts c p ends runs n =
+returns-clause-acts c p runs n =
     returning.acts_emitted n c.requires.owner refl c.emit_few.ensures.emitted

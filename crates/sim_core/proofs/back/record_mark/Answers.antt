@@ -1,4 +1,4 @@
-use Rattle.std.proofs.Common.{refl, ap, arith}
+use Rattle.std.proofs.{Common.refl, Common.ap, Common.is_some, Common.arith, lemmas.List.length-map}
 use Rattle.engine_view.proofs.Roomy.{used_taken}
 use Rattle.sim_core.specs.Taken.{taken_at}
 use Rattle.sim_core.proofs.Emitting.{not_a_step}
@@ -29,11 +29,20 @@ returns-in-Step-clause-ports c = λ side k.
 
 pub returns-in_default : goal.returns-in_default
 returns-in_default c = record {
-  core = λ p runs n. returning.core_ended n c.requires.owner (not_a_step c.args.mark c.in_default.not-Step);
-  acts = λ p runs n. returning.acts_ended n c.requires.owner (not_a_step c.args.mark c.in_default.not-Step);
-  log = refl;
-  credit = omega arith;
-  lanes = refl;
-  places = omega arith;
-  ports = λ side k. omega arith;
+  core = λ p runs n. returning.core_ended n c.requires.owner (not_a_step c.args.mark c.in_default.not-Step) c.emit_end.ensures;
+  acts = λ p runs n. returning.acts_ended n c.requires.owner (not_a_step c.args.mark c.in_default.not-Step) c.emit_end.ensures;
+  log = c.emit_end.ensures.log;
+  credit = rw c.emit_end.ensures.credits (omega arith);
+  lanes = rw c.emit_end.ensures.graph refl;
+  places = rw c.emit_end.ensures.graph (omega arith);
+  ports = λ side k. rw c.emit_end.ensures.fifos (omega arith);
 }
+
+pub emit_end-requires : goal.emit_end-requires
+emit_end-requires c =
+    let (p, (runs, n)) = c.requires.next in
+    let overs = length-map c.args.engine.now.ends.items is_some in
+    let all = n.room.core.sound.overs in
+    let lanes = n.room.core.sound.lanes in
+    let inside = c.requires.owner in
+    omega arith

@@ -4,8 +4,8 @@ use Rattle.flow_design.specs.declared.design.Module.{Module}
 use Rattle.event_timing.specs.Agreement.{AllVerified}
 use Rattle.event_timing.proofs.ActionBound.{none_assumed}
 use Rattle.timing_bridge.specs.Designs.{design}
-use Rattle.engine_view.specs.{Held.core_of, declared.engine.Engine.Engine, Engines.held_in}
-use Rattle.sim_core.specs.{Opening.kinds_of, Opening.AreFirstRuns, Runs.over_of}
+use Rattle.engine_view.specs.{Held.core_of, declared.engine.Engine.Engine, Engines.held_in, Engines.over_of}
+use Rattle.sim_core.specs.{Opening.kinds_of, Opening.AreFirstRuns}
 use Rattle.sim_core.proofs.{Listing.listed_all, Waking.due_all}
 use Rattle.sim_core.proofs.Beginning as beginning
 use Rattle.sim_core.proofs.opening.begin.Goals as goal
@@ -28,14 +28,15 @@ invariant_of-result c =
       graph = c.in_ok-graph.graph;
       fifos = c.in_ok-fifos.fifos;
       log = c.in_ok-log.log;
+      ends = c.in_ok-ends.ends;
       credits = c.in_ok-credits.credits;
     } in
     let over : over_of c.in_ok-ends.ends.items ≡ replicate n false = ap over_of c.in_ok-ends.ensures ∙ beginning.none_over n in
-    let is = beginning.held_is n (kinds_of c.args.plan) (held_in s (over_of c.in_ok-ends.ends.items)) c.in_ok-graph.ensures
+    let is = beginning.held_is n (kinds_of c.args.plan) (held_in s) c.in_ok-graph.ensures
     (c.in_ok-fifos.ensures ∙ ap (map unused) c.in_ok-kinds.ensures) c.in_ok-log.ensures over in
     let count = ap (λ (xs : List Module). length xs) c.as_slice.ensures in
     record {
-      core = beginning.core_begun c.args.plan c.requires.fits n count s c.in_ok-ends.ends.items c.args.runs.items
+      core = beginning.core_begun c.args.plan c.requires.fits n count s c.args.runs.items
           is over (subst (AreFirstRuns c.args.plan c.args.runs.items) (sym count) c.requires.runs)
           (c.in_ok-credits.ensures.items_if_clones_equal (λ x e. e));
       wired = c.in_ok-wiring.ensures;
@@ -54,10 +55,11 @@ returns-clause-opening c =
       graph = c.in_ok-graph.graph;
       fifos = c.in_ok-fifos.fifos;
       log = c.in_ok-log.log;
+      ends = c.in_ok-ends.ends;
       credits = c.in_ok-credits.credits;
     } in
     let over : over_of c.in_ok-ends.ends.items ≡ replicate n false = ap over_of c.in_ok-ends.ensures ∙ beginning.none_over n in
-    let is = beginning.held_is n (kinds_of c.args.plan) (held_in s (over_of c.in_ok-ends.ends.items)) c.in_ok-graph.ensures
+    let is = beginning.held_is n (kinds_of c.args.plan) (held_in s) c.in_ok-graph.ensures
     (c.in_ok-fifos.ensures ∙ ap (map unused) c.in_ok-kinds.ensures) c.in_ok-log.ensures over in
     ap (core_of (design c.args.plan)) (sym is) ∙ (beginning.begins c.args.plan c.requires.fits n
     (ap (λ (xs : List Module). length xs) c.as_slice.ensures)).0

@@ -3,16 +3,16 @@ use Rattle.flow_word.specs.declared.access.Step.{Step}
 use Rattle.flow_design.specs.{declared.plan.Plan.Plan, declared.state.Advance.Advance}
 use Rattle.module_interp.specs.{declared.run.ModuleRun.ModuleRun, Runs.waits}
 use Rattle.engine_view.specs.{Held.Held, Held.step_of, Held.emitted_of, Engines.held_in}
-use Rattle.sim_core.specs.{Runs.over_of, Stretches.IsOutOf}
+use Rattle.sim_core.specs.Stretches.{IsOutOf}
 use Rattle.sim_core.proofs.{Stretching.log_inside, stretch.feed.Goals.After-waiting}
 use Rattle.sim_core.proofs.Fed as fed
 use Rattle.sim_core.proofs.stretch.feed.Goals as goal
 
 -- the step at which the run waits
-module _ (c : After-waiting) {p : Plan} {ends : List (Option Advance)} {runs : List (Option ModuleRun)}
-    (o : IsOutOf p c.args.engine.now ends runs c.args.owner c.args.run.now) where
+module _ (c : After-waiting) {p : Plan} {runs : List (Option ModuleRun)}
+    (o : IsOutOf p c.args.engine.now runs c.args.owner c.args.run.now) where
   abbrev h : Held
-  h = held_in c.args.engine.now (over_of ends)
+  h = held_in c.args.engine.now
 
   inside : c.args.owner < length h.lanes
   inside = let a = o.inside in let b = o.core.sound.lanes in omega arith
@@ -30,16 +30,16 @@ module _ (c : After-waiting) {p : Plan} {ends : List (Option Advance)} {runs : L
   queries = fed.asked_queries o.core inside o.run_is is_waiting c.queries.ensures.made
 
 pub outcomes-requires : goal.outcomes-requires
-outcomes-requires c = let (p, (ends, (runs, o))) = c.requires.out in log_inside o.core o.inside
+outcomes-requires c = let (p, (runs, o)) = c.requires.out in log_inside o.core o.inside
 
 pub find_replies-requires : goal.find_replies-requires
 find_replies-requires c =
     let at = (goal.at.find_replies-requires c).After-waiting in
-    let (p, (ends, (runs, o))) = c.requires.out in
+    let (p, (runs, o)) = c.requires.out in
     rw (accesses at o) (fed.asked_inside o.core (inside at o) o.run_is (is_waiting at o))
 
 pub returns-in_default-clause-not_fed : goal.returns-in_default-clause-not_fed
-returns-in_default-clause-not_fed c = λ e p ends runs o.
+returns-in_default-clause-not_fed c = λ e p runs o.
     let at = (goal.at.returns-in_default-clause-not_fed c).After-waiting in
     let found = rw (c.outcomes.ensures, queries at o, accesses at o) at (c.in_ok-_told.ensures.missing (rw c.in_default.is refl)) in
     fed.asked_not_fed o.core (inside at o) o.run_is (is_waiting at o) found
@@ -47,7 +47,7 @@ returns-in_default-clause-not_fed c = λ e p ends runs o.
 pub feed-requires-clause-stands : goal.feed-requires-clause-stands
 feed-requires-clause-stands c =
     let at = (goal.at.feed-requires-clause-stands c).After-waiting in
-    let (p, (ends, (runs, o))) = c.requires.out in
+    let (p, (runs, o)) = c.requires.out in
     let found = rw (c.in-Some.is, c.outcomes.ensures, queries at o, accesses at o) at c.in_ok-_told.ensures.found in (
       p,
       (
@@ -63,7 +63,7 @@ feed-requires-clause-stands c =
     )
 
 pub returns-clause-out : goal.returns-clause-out
-returns-clause-out c = λ p ends runs o.
+returns-clause-out c = λ p runs o.
     let at = (goal.at.returns-clause-out c).After-waiting in
     let found = rw (c.in-Some.is, c.outcomes.ensures, queries at o, accesses at o) at c.in_ok-_told.ensures.found in
     record {

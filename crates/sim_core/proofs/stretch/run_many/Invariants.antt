@@ -8,14 +8,14 @@ use Rattle.sim_core.proofs.stretch.run_many.Given as goal
 
 abbrev pub invariant-loop-runs : goal.invariant-loop-runs
 invariant-loop-runs l = record {
-  out : (p : Plan) (listed : List (Option ModuleRun)) → IsOutOf p l.fn.engine l.fn.ends.items listed l.member.number l.fn.run
+  out : (p : Plan) (listed : List (Option ModuleRun)) → IsOutOf p l.fn.engine listed l.member.number l.fn.run
       → IsMember p l.member.number l.member.ports.now l.member.body
-      → IsOutOf p l.engine l.ends.items listed l.member.number l.run;
-  acts : (p : Plan) (listed : List (Option ModuleRun)) → IsOutOf p l.fn.engine l.fn.ends.items listed l.member.number l.fn.run
+      → IsOutOf p l.engine listed l.member.number l.run;
+  acts : (p : Plan) (listed : List (Option ModuleRun)) → IsOutOf p l.fn.engine listed l.member.number l.fn.run
       → IsMember p l.member.number l.member.ports.now l.member.body
-      → ActsAll (design p) p.cycles (core_in p l.fn.engine l.fn.ends.items) (runs l.runs l.member.number)
-      (core_in p l.engine l.ends.items);
-  none : l.runs ≡ 0 → IsHeldAlike l.fn.engine l.fn.ends.items l.engine l.ends.items;
+      → ActsAll (design p) p.cycles (core_in p l.fn.engine) (runs l.runs l.member.number)
+      (core_in p l.engine);
+  none : l.runs ≡ 0 → IsHeldAlike l.fn.engine l.engine;
   most : l.runs ≤ l.most;
 }
 

@@ -1,11 +1,11 @@
-use Rattle.std.proofs.{Common.ℕ, Common.sym, Common.ap, Common.subst, Common.◌∙◌, Common.List, Common.Option, lemmas.Bool.both_ways}
+use Rattle.std.proofs.{Common.ℕ, Common.false, Common.get_or, Common.sym, Common.ap, Common.subst, Common.◌∙◌, Common.List, Common.Option, lemmas.Bool.both_ways}
 use Rattle.flow_design.specs.{declared.plan.Plan.Plan, declared.state.Advance.Advance, declared.state.ModuleState.ModuleState}
 use Rattle.lockstep_defs.specs.Lockstep.{module_at}
 use Rattle.module_interp.specs.declared.run.ModuleRun.{ModuleRun}
 use Rattle.event_timing.specs.{Core.Core, Actions.Acts, Actions.Action.Run}
 use Rattle.timing_bridge.specs.Designs.{design}
-use Rattle.engine_view.specs.{declared.engine.Engine.Engine, Held.core_of}
-use Rattle.sim_core.specs.{Returned.CanGoOn, Returned.core_in, Runs.IsCore, Runs.IsRunOf, Runs.over_of}
+use Rattle.engine_view.specs.{declared.engine.Engine.Engine, Held.Held, Held.core_of}
+use Rattle.sim_core.specs.{Returned.CanGoOn, Returned.core_in, Runs.IsCore, Runs.IsRunOf}
 use Rattle.sim_core.specs.Stretches.{IsHeldAlike, IsMember, IsOutOf}
 use Rattle.sim_core.proofs.{QueryRoom.bodies_within, Stretching.ends_inside, Stretching.on_err, stretch.run_once.Goals.In_ok-make_room}
 use Rattle.sim_core.proofs.Lending as lending
@@ -20,27 +20,25 @@ module _ (c : In_ok-make_room) where
   abbrev s : Engine
   s = c.args.engine.now
 
-  abbrev ends : List (Option Advance)
-  ends = c.args.ends.now.items
-
   abbrev t : Engine
   t = c.make_room.new.self
 
-  same : IsHeldAlike s ends t ends
-  same = lending.held_same s t (over_of ends) c.make_room.ensures.same.lanes c.make_room.ensures.same.channels c.make_room.ensures.same.logs
+  same : IsHeldAlike s t
+  same = lending.held_same s t c.make_room.ensures.same.lanes c.make_room.ensures.same.channels c.make_room.ensures.same.logs
+      c.make_room.ensures.same.ends
 
-  module _ {p : Plan} {runs : List (Option ModuleRun)} (o : IsOutOf p s ends runs m c.args.run.now)
+  module _ {p : Plan} {runs : List (Option ModuleRun)} (o : IsOutOf p s runs m c.args.run.now)
       (k : IsMember p m c.args.member.now.ports.now c.args.member.now.body) where
-    fed : IsOutOf p s ends runs m c.feed.new.run
-    fed = c.feed.ensures.out p ends runs o
+    fed : IsOutOf p s runs m c.feed.new.run
+    fed = c.feed.ensures.out p runs o
 
-    core : IsCore p t ends runs
+    core : IsCore p t runs
     core = roomed.core fed.core m fed.inside _ k.ports_are t c.make_room.ensures.same c.make_room.ensures.room
 
-    run_is : IsRunOf p (core_in p t ends) m c.feed.new.run
+    run_is : IsRunOf p (core_in p t) m c.feed.new.run
     run_is = subst (λ (x : Core ModuleState). IsRunOf p x m c.feed.new.run) (sym (ap (core_of (design p)) same)) fed.run_is
 
-    ready : CanGoOn p t ends runs m c.feed.new.run
+    ready : CanGoOn p t runs m c.feed.new.run
     ready = record {
       room = record {
         core = core;
@@ -51,14 +49,14 @@ module _ (c : In_ok-make_room) where
       inside = fed.inside;
       run_is = run_is;
       answered = c.in_ok-fed.ensures.fed c.if-not-fed.false;
-      lives = sym c.is_over.ensures ∙ c.if-is_over.false;
+      lives = ap (λ (h : Held). get_or h.over m false) same ∙ (sym c.is_over.ensures ∙ c.if-is_over.false);
     }
 
 pub is_over-requires : goal.is_over-requires
 is_over-requires c = let (p, (runs, (o, k))) = c.requires.out in ends_inside o.core o.inside
 
 pub feed-requires : goal.feed-requires
-feed-requires c = let (p, (runs, (o, k))) = c.requires.out in record { out = (p, (c.args.ends.now.items, (runs, o))) }
+feed-requires c = let (p, (runs, (o, k))) = c.requires.out in record { out = (p, (runs, o)) }
 
 pub make_room-requires : goal.make_room-requires
 make_room-requires c =
@@ -79,16 +77,16 @@ returns-then-is_over-clause-not_permitted c = λ e p runs o may. both_ways _ may
 
 pub returns-then-not-fed-clause-not_permitted : goal.returns-then-not-fed-clause-not_permitted
 returns-then-not-fed-clause-not_permitted c = λ e p runs o.
-    c.in_ok-fed.ensures.not_fed c.if-not-fed.true p c.args.ends.now.items runs o
+    c.in_ok-fed.ensures.not_fed c.if-not-fed.true p runs o
 
 pub returns-in_err-make_room-clause-out : goal.returns-in_err-make_room-clause-out
 returns-in_err-make_room-clause-out c = λ p runs o k.
-    let fed = c.feed.ensures.out p c.args.ends.now.items runs o in
+    let fed = c.feed.ensures.out p runs o in
     let t = c.make_room.new.self in
     let m = c.args.member.now.number in
-    let same : IsHeldAlike c.args.engine.now c.args.ends.now.items t c.args.ends.now.items = lending.held_same c.args.engine.now t
-    (over_of c.args.ends.now.items)
-    c.make_room.ensures.same.lanes c.make_room.ensures.same.channels c.make_room.ensures.same.logs in
+    let same : IsHeldAlike c.args.engine.now t = lending.held_same c.args.engine.now t
+    c.make_room.ensures.same.lanes c.make_room.ensures.same.channels c.make_room.ensures.same.logs
+    c.make_room.ensures.same.ends in
     record {
       core = roomed.core fed.core m fed.inside _ k.ports_are t c.make_room.ensures.same c.make_room.ensures.room;
       inside = fed.inside;
@@ -99,8 +97,8 @@ returns-in_err-make_room-clause-out c = λ p runs o k.
 pub returns-in_err-make_room-clause-no_memory : goal.returns-in_err-make_room-clause-no_memory
 returns-in_err-make_room-clause-no_memory c =
     on_err c.from_residual-in_err-make_room.result
-    (lending.held_same c.args.engine.now c.make_room.new.self (over_of c.args.ends.now.items) c.make_room.ensures.same.lanes
-    c.make_room.ensures.same.channels c.make_room.ensures.same.logs)
+    (lending.held_same c.args.engine.now c.make_room.new.self c.make_room.ensures.same.lanes
+    c.make_room.ensures.same.channels c.make_room.ensures.same.logs c.make_room.ensures.same.ends)
 
 pub returns-in_err-emit_mark-clause-out : goal.returns-in_err-emit_mark-clause-out
 returns-in_err-emit_mark-clause-out c = λ p runs o k.
@@ -114,8 +112,8 @@ returns-in_err-emit_mark-clause-out c = λ p runs o k.
 
 pub returns-in_err-emit_mark-clause-no_memory : goal.returns-in_err-emit_mark-clause-no_memory
 returns-in_err-emit_mark-clause-no_memory c =
-    let alike : IsHeldAlike c.args.engine.now c.args.ends.now.items c.emit_mark.new.engine c.emit_mark.new.ends.items =
-    rw (c.in_err-emit_mark.ensures.unchanged, c.in_err-emit_mark.ensures.no_end)
+    let alike : IsHeldAlike c.args.engine.now c.emit_mark.new.engine =
+    rw c.in_err-emit_mark.ensures.unchanged
     (same (goal.at.returns-in_err-emit_mark-clause-no_memory c).In_ok-make_room) in
     on_err c.from_residual-in_err-emit_mark.result alike
 
@@ -133,5 +131,5 @@ pub returns-clause-acts : goal.returns-clause-acts
 returns-clause-acts c = λ e p runs o k.
     let at = (goal.at.returns-clause-acts c).In_ok-make_room in
     subst (λ (x : Core ModuleState). Acts (design p) p.cycles x (Run c.args.member.now.number)
-    (core_in p c.emit_mark.new.engine c.emit_mark.new.ends.items)) (ap (core_of (design p)) (same at))
+    (core_in p c.emit_mark.new.engine)) (ap (core_of (design p)) (same at))
     (c.in_ok-emit_mark.ensures.acts p runs (ready at o k))

@@ -13,26 +13,26 @@ use Rattle.sim_core.proofs.timings.time_once.Goals as goal
 
 pub time_first-requires-clause-owner : goal.time_first-requires-clause-owner
 time_first-requires-clause-owner g c =
-    let (p, (ends, (runs, h))) = c.requires.held in let inside = h.inside in let lanes = h.core.sound.lanes in omega arith
+    let (p, (runs, h)) = c.requires.held in let inside = h.inside in let lanes = h.core.sound.lanes in omega arith
 
 pub time_first-requires-clause-limit : goal.time_first-requires-clause-limit
-time_first-requires-clause-limit g c = let (p, (ends, (runs, h))) = c.requires.held in rw h.limited h.core.fits.cycles
+time_first-requires-clause-limit g c = let (p, (runs, h)) = c.requires.held in rw h.limited h.core.fits.cycles
 
 pub time_first-requires-clause-core : goal.time_first-requires-clause-core
-time_first-requires-clause-core g c = let (p, (ends, (runs, h))) = c.requires.held in turning.some_core h.core
+time_first-requires-clause-core g c = let (p, (runs, h)) = c.requires.held in turning.some_core h.core
 
 -- behind the Answer
-module _ (g : Over) (c : In-Answered g) {p : Plan} {ends : List (Option Advance)} {runs : List (Option ModuleRun)}
-    (h : IsHeldOf p c.args.engine.now ends runs c.args.owner c.args.limit) where
-  held : IsHeldOf p c.time_first.new.self ends runs c.args.owner c.args.limit
+module _ (g : Over) (c : In-Answered g) {p : Plan} {runs : List (Option ModuleRun)}
+    (h : IsHeldOf p c.args.engine.now runs c.args.owner c.args.limit) where
+  held : IsHeldOf p c.time_first.new.self runs c.args.owner c.args.limit
   held = stretched.held_behind h c.time_first.new.self (Answered c.in-Answered.cycle) c.in-Answered.ensures.done c.in-Answered.ensures.room
       c.in-Answered.ensures.kinds c.in-Answered.ensures.less
 
-  may : MayAssign (design p) p.cycles (core_in p c.time_first.new.self ends) c.args.owner c.in-Answered.cycle
+  may : MayAssign (design p) p.cycles (core_in p c.time_first.new.self) c.args.owner c.in-Answered.cycle
   may = (stretched.has_turned h c.time_first.new.self (Answered c.in-Answered.cycle) c.in-Answered.ensures.done c.in-Answered.ensures.room
       c.in-Answered.ensures.kinds c.in-Answered.ensures.less).2
 
-  answered : TimesOn (view_in p c.args.engine.now ends runs) c.args.steps.now c.args.owner 1 (view_in p c.time_first.new.self ends runs)
+  answered : TimesOn (view_in p c.args.engine.now runs) c.args.steps.now c.args.owner 1 (view_in p c.time_first.new.self runs)
       c.time_first.new.steps
   answered = stretched.times_behind h c.time_first.new.self (Answered c.in-Answered.cycle) c.in-Answered.ensures.done
       c.in-Answered.ensures.room c.in-Answered.ensures.kinds c.in-Answered.ensures.less c.args.steps.now c.time_first.new.steps
@@ -41,42 +41,42 @@ module _ (g : Over) (c : In-Answered g) {p : Plan} {ends : List (Option Advance)
 pub assign_first-requires-clause-owner : goal.assign_first-requires-clause-owner
 assign_first-requires-clause-owner g c =
     let at = (goal.at.assign_first-requires-clause-owner g c).In-Answered in
-    let (p, (ends, (runs, h))) = c.requires.held in
+    let (p, (runs, h)) = c.requires.held in
     let k = held g at h in
     let inside = k.inside in let lanes = k.core.sound.lanes in omega arith
 
 pub assign_first-requires-clause-may : goal.assign_first-requires-clause-may
 assign_first-requires-clause-may g c =
     let at = (goal.at.assign_first-requires-clause-may g c).In-Answered in
-    let (p, (ends, (runs, h))) = c.requires.held in stretched.may_take (held g at h) c.in-Answered.cycle (may g at h)
+    let (p, (runs, h)) = c.requires.held in stretched.may_take (held g at h) c.in-Answered.cycle (may g at h)
 
 -- behind the Assign
-module _ (g : Over) (c : After-assign_first g) {p : Plan} {ends : List (Option Advance)} {runs : List (Option ModuleRun)}
-    (k : IsHeldOf p c.time_first.new.self ends runs c.args.owner c.args.limit)
-    (may : MayAssign (design p) p.cycles (core_in p c.time_first.new.self ends) c.args.owner c.in-Answered.cycle) where
+module _ (g : Over) (c : After-assign_first g) {p : Plan} {runs : List (Option ModuleRun)}
+    (k : IsHeldOf p c.time_first.new.self runs c.args.owner c.args.limit)
+    (may : MayAssign (design p) p.cycles (core_in p c.time_first.new.self) c.args.owner c.in-Answered.cycle) where
   timed : HasTimed (Assigned c.in-Answered.cycle) c.args.limit c.args.owner c.time_first.new.self c.assign_first.new.self
   timed = c.assign_first.ensures.done c.args.limit (rw k.limited may.determined.below)
 
   kinds : kinds_in c.assign_first.new.self.fifos.channels ≡ kinds_in c.time_first.new.self.fifos.channels
   kinds = ap (λ (e : Engine). kinds_in e.fifos.channels) c.assign_first.ensures.rest
 
-  held_then : IsHeldOf p c.assign_first.new.self ends runs c.args.owner c.args.limit
+  held_then : IsHeldOf p c.assign_first.new.self runs c.args.owner c.args.limit
   held_then = stretched.held_behind k c.assign_first.new.self (Assigned c.in-Answered.cycle) timed c.assign_first.ensures.room kinds
       (λ e. c.assign_first.ensures.less)
 
-  assigned : TimesOn (view_in p c.time_first.new.self ends runs) c.time_first.new.steps c.args.owner 0
-      (view_in p c.assign_first.new.self ends runs) c.assign_first.new.steps
+  assigned : TimesOn (view_in p c.time_first.new.self runs) c.time_first.new.steps c.args.owner 0
+      (view_in p c.assign_first.new.self runs) c.assign_first.new.steps
   assigned = stretched.times_behind k c.assign_first.new.self (Assigned c.in-Answered.cycle) timed c.assign_first.ensures.room kinds
       (λ e. c.assign_first.ensures.less) c.time_first.new.steps c.assign_first.new.steps c.assign_first.ensures.ticks
 
 pub returns-in-Answered-clause-held : goal.returns-in-Answered-clause-held
-returns-in-Answered-clause-held g c = λ p ends runs h.
+returns-in-Answered-clause-held g c = λ p runs h.
     let at = (goal.at.returns-in-Answered-clause-held g c).In-Answered in
     let behind = (goal.at.returns-in-Answered-clause-held g c).After-assign_first in
     held_then g behind (held g at h) (may g at h)
 
 pub returns-in-Answered-clause-done : goal.returns-in-Answered-clause-done
-returns-in-Answered-clause-done g c = λ p ends runs h.
+returns-in-Answered-clause-done g c = λ p runs h.
     let at = (goal.at.returns-in-Answered-clause-done g c).In-Answered in
     let behind = (goal.at.returns-in-Answered-clause-done g c).After-assign_first in
     stretched.times_join _ _ _ c.args.steps.now c.time_first.new.steps c.assign_first.new.steps c.args.owner 1 0 (answered g at h)
@@ -88,12 +88,13 @@ returns-in-Answered-clause-ticks g c = λ e.
 
 pub returns-in_default : goal.returns-in_default
 returns-in_default g c = record {
-  held = λ p ends runs h.
+  held = λ p runs h.
       stretched.held_behind h c.time_first.new.self c.time_first.result c.time_first.ensures.done c.time_first.ensures.room
       c.time_first.ensures.kinds c.time_first.ensures.less;
-  done = λ p ends runs h.
+  done = λ p runs h.
       stretched.times_behind h c.time_first.new.self c.time_first.result c.time_first.ensures.done c.time_first.ensures.room
       c.time_first.ensures.kinds c.time_first.ensures.less c.args.steps.now c.time_first.new.steps c.time_first.ensures.ticks;
+  ends = c.time_first.ensures.room.ends;
   ticks = λ e.
       let ticks = c.time_first.ensures.ticks in
       let one = stretched.one_tick c.time_first.result c.in_default.not-Answered e in omega arith;

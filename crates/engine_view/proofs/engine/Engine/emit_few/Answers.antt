@@ -16,6 +16,7 @@ returns c = record {
     ) c.take_all.ensures.channels;
     kinds = c.take_all.ensures.kinds;
     log = refl;
+    ends = refl;
     credits =
         let inside = c.requires.step.owner.credit in
         let there = get_or_read c.args.self.now.credits.items c.args.owner c.index_mut-credit.result.now (omega arith)

@@ -5,20 +5,20 @@ use Rattle.engine_view.proofs.{engine.Engine.time_first.Given.Over, engine.Engin
 use Rattle.engine_view.proofs.engine.Engine.time_first.Goals as goal
 
 pub candidate_and_queries-found-requires-clause-accesses : goal.candidate_and_queries-found-requires-clause-accesses
-candidate_and_queries-found-requires-clause-accesses g c = let (d, over, i, k, r) = c.requires.core in k.sound.inside
+candidate_and_queries-found-requires-clause-accesses g c = let (d, i, k, r) = c.requires.core in k.sound.inside
 
 pub candidate_and_queries-found-requires-clause-places : goal.candidate_and_queries-found-requires-clause-places
-candidate_and_queries-found-requires-clause-places g c = let (d, over, i, k, r) = c.requires.core in k.sound.places
+candidate_and_queries-found-requires-clause-places g c = let (d, i, k, r) = c.requires.core in k.sound.places
 
 pub returns-in_default : goal.returns-in_default
 returns-in_default g c = record {
   done = (
     refl,
-    λ d over i k.
-        turning.idle_where d (held_in c.args.self.now over) c.args.limit c.args.owner
+    λ d i k.
+        turning.idle_where d (held_in c.args.self.now) c.args.limit c.args.owner
         (λ k a b. c.in_default.not-At k ((c.candidate_and_queries-found.ensures.at k).1 (a, b))) i k,
   );
-  room = record { credits = refl; room = λ d over i k r. r };
+  room = record { ends = refl; credits = refl; room = λ d i k r. r };
   lanes = refl;
   kinds = refl;
   less = λ e. cc;
@@ -40,14 +40,13 @@ module _ (g : Over) (c : In-At g) where
 pub assign_first-requires-clause-may : goal.assign_first-requires-clause-may
 assign_first-requires-clause-may g c =
     let found = due g (goal.at.assign_first-requires-clause-may g c).In-At in
-    let (d, over, i, k, r) = c.requires.core in (
+    let (d, i, k, r) = c.requires.core in (
       d,
-      over,
       c.args.limit,
       c.requires.limit,
       i,
       k,
-      turning.may_unasked (held_in c.args.self.now over) c.args.owner found.takes
+      turning.may_unasked (held_in c.args.self.now) c.args.owner found.takes
           c.if-queries-eq0.true i k found.at found.below,
     )
 

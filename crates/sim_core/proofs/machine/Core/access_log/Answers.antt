@@ -5,13 +5,13 @@ use Rattle.event_timing.specs.Actions.{IsFinal}
 use Rattle.timing_bridge.specs.Designs.{design}
 use Rattle.engine_report.specs.{declared.events.TimedStep.TimedStep, Keys.IsTimedKey}
 use Rattle.engine_view.specs.{Held.Held, Engines.held_in}
-use Rattle.sim_core.specs.{AccessLog.logged_at, Runs.over_of, Views.CoreView, Views.theory_of}
+use Rattle.sim_core.specs.{AccessLog.logged_at, Views.CoreView, Views.theory_of}
 use Rattle.sim_core.proofs.AccessLogs as log
 use Rattle.sim_core.proofs.machine.Core.access_log.Goals as goal
 
 pub log_step-requires : goal.log_step-requires
 log_step-requires c =
-    let h : Held = held_in c.self.inside.engine (over_of c.self.inside.ends.items) in
+    let h : Held = held_in c.self.inside.engine in
     let keys = c.in_ok-keys.keys.items in
     let all = subst (λ (ks : List TimedStep). All (IsTimedKey h.lanes) ks) (sym c.as_slice-key-items.ensures.value)
     (log.keys_timed h keys c.in_ok-keys.ensures) in
@@ -21,7 +21,7 @@ pub returns : goal.returns
 returns c =
     let k = c.self.invariant.core in
     let p = c.self.inside.plan in
-    let h : Held = held_in c.self.inside.engine (over_of c.self.inside.ends.items) in
+    let h : Held = held_in c.self.inside.engine in
     let final = subst (λ (v : CoreView). IsFinal (design v.plan) v.plan.cycles (theory_of v)) (sym c.self.view_is) c.requires in
     let keys = c.in_ok-keys.keys.items in
     let same = c.as_slice-key-items.ensures.value in

@@ -2,7 +2,7 @@ use Rattle.std.proofs.Common.{◌<◌, ℕ, [], refl, length, arith}
 use Rattle.std.specs.Prelude.{slice_index_or}
 use Rattle.module_sets.specs.Sets.{Has, HasMask}
 use Rattle.engine_view.specs.Engines.{held_in}
-use Rattle.sim_core.specs.{Asking.Lacks, Runs.lent_of, Runs.over_of}
+use Rattle.sim_core.specs.{Asking.Lacks, Runs.lent_of}
 use Rattle.sim_core.proofs.{Asking.asking_least, Asking.still_room, Listing.listed_least, Waking.waking_least}
 use Rattle.sim_core.proofs.Turning as turning
 use Rattle.sim_core.proofs.machine.Core.answer_open.Goals as goal
@@ -29,7 +29,6 @@ invariant_of-self c =
     let s = c.self.inside.engine in
     let may = rw (← c.self.view_is) at c.requires in
     let t = c.answer_first.new.self in
-    let over = over_of c.self.inside.ends.items in
     let lent = lent_of c.self.inside.runs.items in
     let inside : c.args.owner < length c.self.inside.plan.design.modules =
     let u = (turning.open_unsure k may).inside in let lanes = k.sound.lanes in omega arith in
@@ -48,21 +47,21 @@ invariant_of-self c =
       due_are = record {
         asking_are =
             let before = c.self.invariant.due_are.asking_are.room in
-            asking_least (record { plan = c.self.inside.plan; held = held_in s over; lent = lent })
-            (record { plan = c.self.inside.plan; held = held_in t over; lent = lent }) k.fits c.self.inside.wiring.hints
+            asking_least (record { plan = c.self.inside.plan; held = held_in s; lent = lent })
+            (record { plan = c.self.inside.plan; held = held_in t; lent = lent }) k.fits c.self.inside.wiring.hints
             c.self.invariant.wired.beside_are c.args.owner inside c.ask_after.new.asking
             (still_room c.self.inside.plan c.self.inside.due.asking c.ask_after.new.asking c.ask_after.ensures.room before) own
             spread c.args.cycle may c.answer_first.result answered;
         running_are =
-            waking_least (record { plan = c.self.inside.plan; held = held_in s over; lent = lent })
-            (record { plan = c.self.inside.plan; held = held_in t over; lent = lent }) c.self.inside.due.running
+            waking_least (record { plan = c.self.inside.plan; held = held_in s; lent = lent })
+            (record { plan = c.self.inside.plan; held = held_in t; lent = lent }) c.self.inside.due.running
             c.self.invariant.due_are.running_are c.self.inside.wiring.hints c.self.invariant.wired.beside_are c.args.owner inside
             c.spread.new.set c.answer_first.result answered (rw c.beside-beside.ensures at c.spread.ensures);
       };
       listed_are =
           let listed = c.self.invariant.listed_are.room in
-          listed_least (record { plan = c.self.inside.plan; held = held_in s over; lent = lent })
-          (record { plan = c.self.inside.plan; held = held_in t over; lent = lent }) c.self.inside.due c.self.inside.candidates
+          listed_least (record { plan = c.self.inside.plan; held = held_in s; lent = lent })
+          (record { plan = c.self.inside.plan; held = held_in t; lent = lent }) c.self.inside.due c.self.inside.candidates
           c.self.invariant.listed_are c.self.inside.wiring.hints c.self.invariant.wired.beside_are c.args.owner inside
           (record { asking = c.ask_after.new.asking; running = c.spread.new.set; unlisted = c.ask_after.new.unlisted })
           c.ask_after.ensures.unlisted_room (λ n l (none, rest). c.ask_after.ensures.listed n (omega arith) none rest)

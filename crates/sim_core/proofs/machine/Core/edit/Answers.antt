@@ -4,7 +4,7 @@ use Rattle.event_timing.specs.Actions.{IsFinal}
 use Rattle.timing_bridge.specs.Designs.{design}
 use Rattle.retime.specs.Edits.{IsEditFrom}
 use Rattle.engine_view.specs.{Held.core_of, declared.engine.Engine.Engine, Engines.held_in}
-use Rattle.sim_core.specs.{Runs.lent_of, Runs.over_of, Views.CoreView}
+use Rattle.sim_core.specs.{Runs.lent_of, Views.CoreView}
 use Rattle.sim_core.proofs.EditedRuns.{channel_inside, fifo_there, edit_in}
 use Rattle.sim_core.proofs.{Editing.IsRetiming, Turning.some_core, machine.Core.edit.Given.Over, machine.Core.edit.Goals.After-retime}
 use Rattle.sim_core.proofs.Editing as editing
@@ -92,7 +92,7 @@ module _ (g : Over) (c : After-retime g) where
   fit = rw (← c.self.view_is) at c.requires.fits
 
   final : IsFinal (design c.self.inside.plan) c.self.inside.plan.cycles
-      (core_of (design c.self.inside.plan) (held_in before (over_of c.self.inside.ends.items)))
+      (core_of (design c.self.inside.plan) (held_in before))
   final = rw (← c.self.view_is) at c.requires.is_final
 
   from : IsEditFrom before.graph.lanes before.fifos.channels c.args.edit.now c.self.inside.plan.cycles clock

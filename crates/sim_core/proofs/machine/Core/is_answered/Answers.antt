@@ -1,13 +1,12 @@
 use Rattle.std.proofs.Common.{◌≡◌, suc, ◌<◌, sym, ap, ◌∙◌, length, is_some, not, arith}
 use Rattle.engine_view.specs.{Held.Held, Held.emitted_of, Engines.held_in}
-use Rattle.sim_core.specs.Runs.{over_of}
 use Rattle.sim_core.proofs.Fed as fed
 use Rattle.sim_core.proofs.machine.Core.is_answered.Goals.{After-step-step}
 use Rattle.sim_core.proofs.machine.Core.is_answered.Goals as goal
 
 module _ (c : After-step-step) where
   abbrev h : Held
-  h = held_in c.self.inside.engine (over_of c.self.inside.ends.items)
+  h = held_in c.self.inside.engine
 
   newest : suc c.in-Some.last ≡ emitted_of h c.args.owner
   newest = let last = c.in-Some.ensures in let count = c.len.ensures.count in omega arith

@@ -1,6 +1,6 @@
 use Rattle.std.proofs.{Common.ℕ, Common.sym, Common.ap, Common.subst, Common.◌∙◌, Common.List, Common.length, lemmas.Result.IfOk-weaker}
 use Rattle.engine_view.specs.Engines.{held_in}
-use Rattle.sim_core.specs.{Readers.AreReaders, Runs.over_of}
+use Rattle.sim_core.specs.{Readers.AreReaders}
 use Rattle.sim_core.proofs.{Marking.table_count, Leaving.unread_here}
 use Rattle.sim_core.proofs.Lends as lends
 use Rattle.sim_core.proofs.machine.Core.mail_of.Goals as goal
@@ -13,7 +13,7 @@ make_mail-requires-clause-readers c =
 pub make_mail-requires-clause-unread : goal.make_mail-requires-clause-unread
 make_mail-requires-clause-unread c =
     let k = c.self.invariant.core in
-    unread_here c.self.inside.plan (held_in c.self.inside.engine (over_of c.self.inside.ends.items)) k.sound
+    unread_here c.self.inside.plan (held_in c.self.inside.engine) k.sound
     (length c.self.inside.plan.design.channels)
     (sym (table_count c.self.inside.plan c.self.inside.engine.fifos.channels k.table)) c.self.inside.unread c.self.invariant.unread_are
 
@@ -29,7 +29,7 @@ invariant_of-self c = record {
 pub returns-clause-task : goal.returns-clause-task
 returns-clause-task c = λ may.
     let p = c.self.inside.plan in
-    let hand : lends.IsAtHand p c.self.inside.engine c.self.inside.ends.items c.self.inside.runs.items c.args.owner c.args.run.now
+    let hand : lends.IsAtHand p c.self.inside.engine c.self.inside.runs.items c.args.owner c.args.run.now
     c.deref.result.now c.queries.result c.waiting.result.now = record {
       core = c.self.invariant.core;
       inside = rw (← c.self.view_is) at c.requires.out.inside;

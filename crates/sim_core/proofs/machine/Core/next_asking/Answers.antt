@@ -1,7 +1,7 @@
 use Rattle.std.proofs.Common.{ℕ, ◌<◌, ◌≤◌, List, Option, None, Some, length, arith}
 use Rattle.std.specs.Prelude.{IfSome}
 use Rattle.engine_view.specs.Engines.{held_in}
-use Rattle.sim_core.specs.{Asking.Lacks, Asking.AreAsking, Runs.lent_of, Runs.over_of, Timings.AreUntimable}
+use Rattle.sim_core.specs.{Asking.Lacks, Asking.AreAsking, Runs.lent_of, Timings.AreUntimable}
 use Rattle.sim_core.specs.Views.{CoreView, theory_of}
 use Rattle.sim_core.proofs.machine.Core.next_asking.Goals as goal
 
@@ -15,7 +15,7 @@ pub returns-clause-before : goal.returns-clause-before
 returns-clause-before c =
     let v : CoreView = record {
       plan = c.self.inside.plan;
-      held = held_in c.self.inside.engine (over_of c.self.inside.ends.items);
+      held = held_in c.self.inside.engine;
       lent = lent_of c.self.inside.runs.items;
     } in
     rw (← c.self.view_is) (before_found v c.self.inside.due.asking c.self.invariant.due_are.asking_are c.args.from c.args.to
@@ -25,7 +25,7 @@ pub returns-clause-none : goal.returns-clause-none
 returns-clause-none c =
     let v : CoreView = record {
       plan = c.self.inside.plan;
-      held = held_in c.self.inside.engine (over_of c.self.inside.ends.items);
+      held = held_in c.self.inside.engine;
       lent = lent_of c.self.inside.runs.items;
     } in
     let most : c.args.to ≤ length v.plan.design.modules = rw (← c.self.view_is) at c.requires in

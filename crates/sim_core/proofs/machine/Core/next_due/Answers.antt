@@ -1,7 +1,7 @@
 use Rattle.std.proofs.Common.{◌≡◌, ℕ, ◌<◌, ◌≤◌, Option, None, Some, length, arith}
 use Rattle.std.specs.Prelude.{IfSome}
 use Rattle.engine_view.specs.Engines.{held_in}
-use Rattle.sim_core.specs.{declared.due.Due.Due, Runs.lent_of, Runs.over_of, Turns.IsStill, Views.CoreView, Views.theory_of}
+use Rattle.sim_core.specs.{declared.due.Due.Due, Runs.lent_of, Turns.IsStill, Views.CoreView, Views.theory_of}
 use Rattle.sim_core.specs.Waking.{AreDue, IsOutside}
 use Rattle.sim_core.proofs.Waking.{still_outside}
 use Rattle.sim_core.proofs.machine.Core.next_due.Goals as goal
@@ -16,7 +16,7 @@ pub returns-clause-before : goal.returns-clause-before
 returns-clause-before c =
     let v : CoreView = record {
       plan = c.self.inside.plan;
-      held = held_in c.self.inside.engine (over_of c.self.inside.ends.items);
+      held = held_in c.self.inside.engine;
       lent = lent_of c.self.inside.runs.items;
     } in
     rw (← c.self.view_is) (before_found v c.self.inside.due c.self.invariant.due_are c.modules-count.result c.args.from
@@ -26,7 +26,7 @@ pub returns-clause-none : goal.returns-clause-none
 returns-clause-none c =
     let v : CoreView = record {
       plan = c.self.inside.plan;
-      held = held_in c.self.inside.engine (over_of c.self.inside.ends.items);
+      held = held_in c.self.inside.engine;
       lent = lent_of c.self.inside.runs.items;
     } in
     let same : c.modules-count.result ≡ length v.plan.design.modules = rw (← c.self.view_is) at c.modules-count.ensures.count in

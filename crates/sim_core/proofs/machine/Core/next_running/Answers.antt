@@ -1,7 +1,7 @@
 use Rattle.std.proofs.Common.{◌≡◌, ℕ, ◌<◌, ◌≤◌, List, Option, None, Some, length, arith}
 use Rattle.std.specs.Prelude.{IfSome}
 use Rattle.engine_view.specs.Engines.{held_in}
-use Rattle.sim_core.specs.{Asking.Lacks, Runs.lent_of, Runs.over_of, Timings.AreUnrunnable, Waking.AreWaking}
+use Rattle.sim_core.specs.{Asking.Lacks, Runs.lent_of, Timings.AreUnrunnable, Waking.AreWaking}
 use Rattle.sim_core.specs.Views.{CoreView, theory_of}
 use Rattle.sim_core.proofs.machine.Core.next_running.Goals as goal
 
@@ -15,7 +15,7 @@ pub returns-clause-before : goal.returns-clause-before
 returns-clause-before c =
     let v : CoreView = record {
       plan = c.self.inside.plan;
-      held = held_in c.self.inside.engine (over_of c.self.inside.ends.items);
+      held = held_in c.self.inside.engine;
       lent = lent_of c.self.inside.runs.items;
     } in
     rw (← c.self.view_is) (before_found v c.self.inside.due.running c.self.invariant.due_are.running_are c.modules.result c.args.from
@@ -25,7 +25,7 @@ pub returns-clause-none : goal.returns-clause-none
 returns-clause-none c =
     let v : CoreView = record {
       plan = c.self.inside.plan;
-      held = held_in c.self.inside.engine (over_of c.self.inside.ends.items);
+      held = held_in c.self.inside.engine;
       lent = lent_of c.self.inside.runs.items;
     } in
     let same : c.modules.result ≡ length v.plan.design.modules = rw (← c.self.view_is) at c.modules.ensures.count in

@@ -9,7 +9,7 @@ pub invariant_of-self : goal.invariant_of-self
 invariant_of-self c =
     roomed.stored_lent c.self.invariant c.args.owner (rw (← c.self.view_is) at c.requires.inside) (Some c.args.run)
     (λ run e.
-    subst (λ (r : ModuleRun). IsRunOf c.self.inside.plan (core_in c.self.inside.plan c.self.inside.engine c.self.inside.ends.items)
+    subst (λ (r : ModuleRun). IsRunOf c.self.inside.plan (core_in c.self.inside.plan c.self.inside.engine)
     c.args.owner r) (lending.same_some c.args.run run e) (rw (← c.self.view_is) at c.requires.run_is))
 
 pub returns : goal.returns

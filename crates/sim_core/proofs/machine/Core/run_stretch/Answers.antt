@@ -33,12 +33,12 @@ module _ (c : After-index_mut) where
         (omega arith);
   }
 
-  out : IsRunOut c.self.inside.plan c.self.inside.engine c.self.inside.ends.items (set c.self.inside.runs.items c.args.owner None)
+  out : IsRunOut c.self.inside.plan c.self.inside.engine (set c.self.inside.runs.items c.args.owner None)
       c.args.owner c.index_mut.result.now
   out =
       let within : c.args.owner < length c.self.inside.runs.items =
       let a = inside in let b = c.self.invariant.core.sound.lanes in let n = c.self.invariant.core.count in omega arith in
-      subst (IsRunOut c.self.inside.plan c.self.inside.engine c.self.inside.ends.items (set c.self.inside.runs.items c.args.owner None)
+      subst (IsRunOut c.self.inside.plan c.self.inside.engine (set c.self.inside.runs.items c.args.owner None)
       c.args.owner)
       (sym (get_or_read c.self.inside.runs.items c.args.owner c.index_mut.result.now within c.index_mut.ensures.value None))
       (stretching.is_there c.self.invariant.core c.args.owner inside here)
@@ -53,7 +53,7 @@ invariant_of-self c =
     let at = (goal.at.invariant_of-self c).After-index_mut in
     let p = c.self.inside.plan in
     let taken = set c.self.inside.runs.items c.args.owner None in
-    stretching.stored_behind c.self.invariant c.args.owner (inside at) (here at) c.run_held-ran.new.engine c.run_held-ran.new.ends.items
+    stretching.stored_behind c.self.invariant c.args.owner (inside at) (here at) c.run_held-ran.new.engine
     c.run_held-ran.new.held (c.run_held-ran.ensures.out p taken (out at) (member at)) c.run_held-ran.result.runs
     (c.run_held-ran.ensures.acts p taken (out at) (member at)) c.run_held-ran.ensures.none c.wake_ran.new.due c.wake_ran.ensures.none
     c.wake_ran.ensures.asking (rw c.beside-beside.ensures at c.wake_ran.ensures.running) c.wake_ran.ensures.unlisted
@@ -64,7 +64,7 @@ returns-clause-ran c =
     let p = c.self.inside.plan in
     let taken = set c.self.inside.runs.items c.args.owner None in
     rw (← c.self.view_is) (stretching.has_run c.self.invariant c.args.owner (inside at) (here at) c.run_held-ran.new.engine
-    c.run_held-ran.new.ends.items c.run_held-ran.new.held (c.run_held-ran.ensures.out p taken (out at) (member at))
+    c.run_held-ran.new.held (c.run_held-ran.ensures.out p taken (out at) (member at))
     c.run_held-ran.result.runs (c.run_held-ran.ensures.acts p taken (out at) (member at)) c.run_held-ran.ensures.none)
 
 pub returns-clause-still : goal.returns-clause-still

@@ -1,24 +1,19 @@
-use Rattle.std.proofs.{Common.Option, Common.ap, Common.sym, Common.subst, Common.◌∙◌, Common.◌<◌, Common.length, lemmas.Result.IfOk-weaker}
-use Rattle.std.specs.Prelude.{List as Items, IfOk}
-use Rattle.flow_design.specs.{declared.state.Advance.Advance, Reports.clock_of}
+use Rattle.std.proofs.{Common.ap, Common.sym, Common.subst, Common.◌∙◌, Common.◌<◌, Common.length, lemmas.Result.IfOk-weaker}
+use Rattle.std.specs.Prelude.{IfOk}
+use Rattle.flow_design.specs.Reports.{clock_of}
 use Rattle.lockstep_defs.specs.Verdict.{verdict}
 use Rattle.event_timing.specs.Actions.{IsFinal}
 use Rattle.timing_bridge.specs.Designs.{design}
-use Rattle.engine_view.specs.Engines.{held_in}
-use Rattle.engine_report.specs.Finished.{IsFinished}
 use Rattle.timelines.specs.Spans.{AreSpans}
 use Rattle.engine_report.proofs.Stepping.{has_module}
-use Rattle.sim_core.specs.{Runs.over_of, Views.CoreView, Views.theory_of}
+use Rattle.sim_core.specs.{Views.CoreView, Views.theory_of}
 use Rattle.sim_core.proofs.Ending.{finished}
 use Rattle.sim_core.proofs.machine.Core.spans.Goals as goal
 
 pub spans_of-requires : goal.spans_of-requires
 spans_of-requires c =
     let final = subst (λ (v : CoreView). IsFinal (design v.plan) v.plan.cycles (theory_of v)) (sym c.self.view_is) c.requires.is_final in
-    let f = subst (λ (ends : Items (Option Advance)). IsFinished c.self.inside.plan
-    (held_in c.self.inside.engine (over_of ends)) ends)
-    (sym c.deref.ensures.value)
-    (finished c.self.inside.plan c.self.inside.engine c.self.inside.ends.items c.self.inside.runs.items c.self.invariant.core final) in
+    let f = finished c.self.inside.plan c.self.inside.engine c.self.inside.runs.items c.self.invariant.core final in
     let inside = subst (λ (v : CoreView). c.args.owner < length v.plan.design.modules) (sym c.self.view_is) c.requires.owner in
     let m = has_module _ _ _ f c.args.owner inside in
     record { owner = m.lane; accesses = f.sound.inside; places = f.sound.places; ends = m.mark; short = m.short }
@@ -26,10 +21,7 @@ spans_of-requires c =
 pub returns : goal.returns
 returns c =
     let final = subst (λ (v : CoreView). IsFinal (design v.plan) v.plan.cycles (theory_of v)) (sym c.self.view_is) c.requires.is_final in
-    let f = subst (λ (ends : Items (Option Advance)). IsFinished c.self.inside.plan
-    (held_in c.self.inside.engine (over_of ends)) ends)
-    (sym c.deref.ensures.value)
-    (finished c.self.inside.plan c.self.inside.engine c.self.inside.ends.items c.self.inside.runs.items c.self.invariant.core final) in
+    let f = finished c.self.inside.plan c.self.inside.engine c.self.inside.runs.items c.self.invariant.core final in
     let clock = c.requires.clock ∙ sym (ap (λ (v : CoreView). clock_of (verdict v.plan)) c.self.view_is) in
     subst (λ (v : CoreView). IfOk c.spans_of.result (AreSpans v.plan c.args.owner)) c.self.view_is
     (IfOk-weaker c.spans_of.result _ _ (λ spans h. h c.self.inside.plan f clock) c.spans_of.ensures)

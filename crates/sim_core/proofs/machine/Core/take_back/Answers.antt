@@ -20,9 +20,6 @@ module _ (c : In_ok-make_room_for_marks) where
   abbrev p : Plan
   p = c.self.inside.plan
 
-  abbrev ends : List (Option Advance)
-  ends = c.self.inside.ends.items
-
   abbrev runs : List (Option ModuleRun)
   runs = c.self.inside.runs.items
 
@@ -35,28 +32,28 @@ module _ (c : In_ok-make_room_for_marks) where
   member : IsMember p c.args.owner c.ports_of.result.now c.body_length.result
   member = roomed.member c.self.invariant.wired c.args.owner inside c.ports_of.ensures c.body_length.ensures
 
-  same : IsHeldAlike c.self.inside.engine ends t ends
-  same = c.make_room_for_marks.ensures.alike ends
+  same : IsHeldAlike c.self.inside.engine t
+  same = c.make_room_for_marks.ensures.alike
 
-  core : IsCore p t ends runs
-  core = c.make_room_for_marks.ensures.core p ends runs c.self.invariant.core member
+  core : IsCore p t runs
+  core = c.make_room_for_marks.ensures.core p runs c.self.invariant.core member
 
   -- the burst can come back
-  returned : AreReturned p t ends runs c.args.owner c.args.burst.emitted (task_left c.args.burst)
+  returned : AreReturned p t runs c.args.owner c.args.burst.emitted (task_left c.args.burst)
   returned =
       returning.are_returned c.self.inside.engine same core (rw (← c.self.view_is) at c.requires.lent)
       (subst (HasPlacesForMarks p t c.args.owner) c.as_slice.ensures
-      (c.in_ok-make_room_for_marks.ensures.places p ends runs c.self.invariant.core member))
+      (c.in_ok-make_room_for_marks.ensures.places p runs c.self.invariant.core member))
       (bodies_told p c.self.invariant.wired.bodies_are c.args.owner inside c.body_length.ensures
       c.in_ok-make_room_for_marks.ensures.queries)
       (rw (← c.self.view_is) at c.requires.burst)
 
   -- where an engine is behind Runs from there, it is behind them from here
-  acts_here : (u : Engine) (ends' : List (Option Advance)) (count : ℕ)
-      → ActsAll (design p) p.cycles (core_in p t ends) (actions.runs count c.args.owner) (core_in p u ends')
-      → ActsAll (design p) p.cycles (core_in p c.self.inside.engine ends) (actions.runs count c.args.owner) (core_in p u ends')
-  acts_here u ends' count acts =
-      subst (λ (h : Held). ActsAll (design p) p.cycles (core_of (design p) h) (actions.runs count c.args.owner) (core_in p u ends')) same
+  acts_here : (u : Engine) (count : ℕ)
+      → ActsAll (design p) p.cycles (core_in p t) (actions.runs count c.args.owner) (core_in p u)
+      → ActsAll (design p) p.cycles (core_in p c.self.inside.engine) (actions.runs count c.args.owner) (core_in p u)
+  acts_here u count acts =
+      subst (λ (h : Held). ActsAll (design p) p.cycles (core_of (design p) h) (actions.runs count c.args.owner) (core_in p u)) same
       acts
 
 -- ---- the calls
@@ -80,11 +77,8 @@ make_room_for_marks-requires c =
       core = (
         c.self.inside.plan,
         (
-          c.self.inside.ends.items,
-          (
-            c.self.inside.runs.items,
-            (c.self.invariant.core, roomed.member c.self.invariant.wired c.args.owner inside c.ports_of.ensures c.body_length.ensures),
-          ),
+          c.self.inside.runs.items,
+          (c.self.invariant.core, roomed.member c.self.invariant.wired c.args.owner inside c.ports_of.ensures c.body_length.ensures),
         ),
       );
     }
@@ -94,10 +88,9 @@ invariant_of-self c =
     let inside = rw (← c.self.view_is) at c.requires.owner in
     let member = roomed.member c.self.invariant.wired c.args.owner inside c.ports_of.ensures c.body_length.ensures in
     let t = c.make_room_for_marks.new.engine in
-    let core = c.make_room_for_marks.ensures.core _ _ c.self.inside.runs.items c.self.invariant.core member in
-    let k = roomed.stored_alike c.self.invariant c.args.owner inside t c.self.inside.ends.items
-    (c.make_room_for_marks.ensures.alike c.self.inside.ends.items) c.self.inside.runs.items core in
-    roomed.stored_ran k c.args.owner inside t c.self.inside.ends.items 0 refl c.self.inside.runs.items k.core c.self.inside.unread
+    let core = c.make_room_for_marks.ensures.core _ c.self.inside.runs.items c.self.invariant.core member in
+    let k = roomed.stored_alike c.self.invariant c.args.owner inside t c.make_room_for_marks.ensures.alike c.self.inside.runs.items core in
+    roomed.stored_ran k c.args.owner inside t 0 refl c.self.inside.runs.items k.core c.self.inside.unread
     k.unread_are (record { asking = c.add.new.self; running = c.spread.new.set; unlisted = c.self.inside.due.unlisted }) c.add.ensures
     (rw c.beside-beside.ensures at c.spread.ensures) refl
 
@@ -112,13 +105,12 @@ invariant_of-self-2 c =
     let back = returned there in
     let last = task_left c.args.burst in
     let u = c.record_all.new.engine in
-    let ends2 = c.record_all.new.ends.items in
     let count = length c.args.burst.emitted in
     let core2 = c.record_all.ensures.core (p there) (runs there) last back in
-    let acts = acts_here there u ends2 count (c.record_all.ensures.acts (p there) (runs there) last back) in
-    let unread = roomed.unread_ran c.self.invariant c.args.owner (inside there) u ends2 count acts in
-    roomed.stored_ran c.self.invariant c.args.owner (inside there) u ends2 count acts (runs there) core2 c.keep_unread.new.unread
-    (c.keep_unread.ensures (core_values (design (p there)) (core_in (p there) u ends2)) (length (p there).design.channels) unread
+    let acts = acts_here there u count (c.record_all.ensures.acts (p there) (runs there) last back) in
+    let unread = roomed.unread_ran c.self.invariant c.args.owner (inside there) u count acts in
+    roomed.stored_ran c.self.invariant c.args.owner (inside there) u count acts (runs there) core2 c.keep_unread.new.unread
+    (c.keep_unread.ensures (core_values (design (p there)) (core_in (p there) u)) (length (p there).design.channels) unread
     (λ channel within mine. lends.left_next core2 (inside there)
     (c.record_all.ensures.left (p there) (runs there) last back) channel))
     (record { asking = c.add.new.self; running = c.spread.new.set; unlisted = c.self.inside.due.unlisted }) c.add.ensures
@@ -141,8 +133,7 @@ returns-clause-acts c =
     let there = (goal.at.returns-clause-acts c).In_ok-make_room_for_marks in
     let n = length c.args.burst.emitted in
     let u = c.record_all.new.engine in
-    let ends2 = c.record_all.new.ends.items in
     rw c.put_back.ensures
-    (subst (λ (v : CoreView). ActsAll (design v.plan) v.plan.cycles (theory_of v) (actions.runs n c.args.owner) (core_in (p there) u ends2))
+    (subst (λ (v : CoreView). ActsAll (design v.plan) v.plan.cycles (theory_of v) (actions.runs n c.args.owner) (core_in (p there) u))
     c.self.view_is
-    (acts_here there u ends2 n (c.record_all.ensures.acts (p there) (runs there) (task_left c.args.burst) (returned there))))
+    (acts_here there u n (c.record_all.ensures.acts (p there) (runs there) (task_left c.args.burst) (returned there))))

@@ -8,5 +8,4 @@ use Rattle.sim_core.proofs.machine.Core.verdict.Goals as goal
 pub verdict_of-requires : goal.verdict_of-requires
 verdict_of-requires c =
     let final = subst (λ (v : CoreView). IsFinal (design v.plan) v.plan.cycles (theory_of v)) (sym c.self.view_is) c.requires in
-    rw c.deref.ensures.value (finished c.self.inside.plan c.self.inside.engine
-    c.self.inside.ends.items c.self.inside.runs.items c.self.invariant.core final)
+    finished c.self.inside.plan c.self.inside.engine c.self.inside.runs.items c.self.invariant.core final

@@ -1,6 +1,6 @@
 -- Lanes with other cycles, as puts leave them.
-use Rattle.std.proofs.Common.{◌≡◌, refl, sym, ap, ap₂, subst, ◌∙◌, ℕ, suc, ◌<◌, ◌≤◌, ◌⊎◌, inl, inr, List, [], ◌∷◌, length, get_or, Vec, Option}
-use Rattle.std.proofs.Common.{Global, arith}
+use Rattle.std.proofs.Common.{◌≡◌, refl, sym, ap, ap₂, subst, ◌∙◌, ℕ, suc, ◌<◌, ◌≤◌, ◌⊎◌, inl, inr, List, [], ◌∷◌, length, get_or, Vec}
+use Rattle.std.proofs.Common.{Option, Global, arith}
 use Rattle.std.proofs.{Math.ListN.set, Math.Seq.map-set_same, Math.Seq.drop-length, lemmas.Bool.Decides.eqb_tells}
 use Rattle.std.proofs.lemmas.List.{get_or-set_same, set-set, set-get_or}
 use Rattle.std.specs.Prelude.{All, Contains}

@@ -7,8 +7,8 @@ use Rattle.fifo_table.specs.Channels.{deepened_channels}
 use Rattle.event_timing.specs.Edits.{edited}
 use Rattle.cycle_changes.specs.{Records.IsRightRecord, Looks.IsLooked, Looks.cycle_held, OtherCycles.HasOtherCycles, Seeds.AreSeeds}
 use Rattle.cycle_changes.specs.Around.{IsLookedAround, NoneIsDue}
-use Rattle.engine_view.specs.{Emitted.place_of, Held.core_of, Kept.IsKept, Rooms.room_of, declared.engine.Engine.Engine}
-use Rattle.engine_view.specs.{Engines.held_in, Taking.kinds_in, Turns.IsSomeCore, Turns.OfEach}
+use Rattle.engine_view.specs.{Emitted.place_of, Held.core_of, Kept.IsKept, Rooms.room_of, declared.engine.Engine.Engine, Engines.held_in}
+use Rattle.engine_view.specs.{Taking.kinds_in, Turns.IsSomeCore, Turns.OfEach}
 use Rattle.retime.specs.{Cuts.KeepsRoomEdited, Rounds.only_steps}
 
 -- for each design of which s is a right record, t is a right record of the design with the new depth

@@ -22,10 +22,9 @@ use Rattle.event_timing.proofs.Agreement.{opening_agrees}
 use Rattle.timing_bridge.specs.Designs.{design, lockstep_run, is_source, lag_in}
 use Rattle.timing_bridge.proofs.History.{plan_is_design, run_is_history}
 use Rattle.engine_view.specs.{Held.Held, Held.emitted_of, Held.core_of, Shown.IsSound, Shown.IsKind, Opened.opening_held, Opened.AreKinds}
-use Rattle.engine_view.specs.{Rooms.HasRoom, declared.engine.Engine.Engine, Engines.held_in, Taking.kinds_in}
+use Rattle.engine_view.specs.{Rooms.HasRoom, declared.engine.Engine.Engine, Engines.held_in, Engines.over_of, Taking.kinds_in}
 use Rattle.engine_view.proofs.{Opened.opening_core_is, Opened.copy_at, Roomy.room_opening}
 use Rattle.sim_core.specs.Runs.{IsCore, IsRunOf, rest_behind, lent_of}
-use Rattle.engine_view.specs.Engines.{over_of}
 use Rattle.sim_core.specs.Opening.{kind_by, kind_in, kinds_of, source_values, AreFirstRuns, AreLeft, AreOlderRuns}
 use Rattle.sim_core.proofs.Keeping.{over_at}
 

@@ -18,8 +18,7 @@ use Rattle.timing_bridge.specs.Designs.{design, lockstep_run}
 use Rattle.timing_bridge.proofs.{Edits.edited_fits, Edits.same_design, Lending.timings_no_run}
 use Rattle.timing_bridge.proofs.History.{plan_is_design, run_is_history}
 use Rattle.engine_view.specs.{Held.core_of, Kept.IsKept, Rooms.IsRoomy, Shown.IsSound, Engines.held_in, Engines.over_of, Taking.kinds_in}
-use Rattle.engine_view.specs.Turns.{IsSomeCore}
-use Rattle.engine_view.specs.declared.engine.Engine.{Engine}
+use Rattle.engine_view.specs.{Turns.IsSomeCore, declared.engine.Engine.Engine}
 use Rattle.cycle_changes.specs.{Records.IsRightRecord, Changed.HasChanged, Moved.moved_in}
 use Rattle.cycle_changes.proofs.{Final.right_final, Marks.marks_on, Onward.final_record, Recording.right_agrees}
 use Rattle.retime.specs.{Cuts.HasRetimed, Cuts.KeepsRoomEdited, Edits.IsEditFrom, Edits.IsEditOf}
@@ -29,9 +28,9 @@ use Rattle.retime.proofs.{Counts.few_cycles, Counts.same_steps, Counts.same_leng
 use Rattle.retime.proofs.{Behind.outcomes_behind, Otherwise.other_in_history, Tallied.places_in_order}
 use Rattle.sim_core.specs.{Edits.IsEdited, Edits.IsTrueGuard, Edits.StayBelow, Runs.IsCore, Runs.IsStoredCore, Runs.IsWired}
 use Rattle.sim_core.specs.{declared.due.Due.Due, declared.unread.Unread.Unread, Waking.IsFull, declared.wiring.Wiring.Wiring}
-use Rattle.sim_core.proofs.{Asking.beside_edited, Asking.still_room, Listing.listed_all, Waking.due_all, Leaving.unread_none, Cut.final_of}
-use Rattle.sim_core.proofs.{Cut.history_of, Cut.cut_of, Keeping.kept_of, Keeping.same_end, SameSteps.marks_beside, Staying.run_stays}
-use Rattle.sim_core.proofs.Staying.{end_stays}
+use Rattle.sim_core.proofs.Asking.{beside_edited, still_room}
+use Rattle.sim_core.proofs.{Listing.listed_all, Waking.due_all, Leaving.unread_none, Cut.final_of, Cut.history_of, Cut.cut_of}
+use Rattle.sim_core.proofs.{Keeping.kept_of, Keeping.same_end, SameSteps.marks_beside, Staying.run_stays, Staying.end_stays}
 use Rattle.sim_core.proofs.EditedRuns.{run_edited, end_edited, channel_inside, fifo_there, depth_there, kinds_edited}
 use Rattle.lockstep_defs.specs.Ports.{owner}
 

@@ -15,15 +15,13 @@ use Rattle.event_timing.specs.{Actions.Action.Run, Agreement.AreOwnMarks, Growth
 use Rattle.event_timing.proofs.{Assigning.put_same, Growing.settled_all, Running.newest_own, Beside.run_grows}
 use Rattle.timing_bridge.specs.Designs.{design}
 use Rattle.timing_bridge.proofs.History.{plan_is_design}
-use Rattle.engine_view.specs.Held.{Held, held_parts, emitted_of, queries_in, core_of}
-use Rattle.engine_view.specs.{Shown.IsSound, Rooms.HasRoom, Rooms.CanEmit, Rooms.HasEmitted, declared.engine.Engine.Engine}
-use Rattle.engine_view.specs.{Rooms.HasEmittedEnd, Engines.held_in, Engines.over_of}
-use Rattle.engine_view.specs.Emitted.{IsNextStep, with_emitted, with_over}
+use Rattle.engine_view.specs.{Held.Held, Held.held_parts, Held.emitted_of, Held.queries_in, Held.core_of, Shown.IsSound, Rooms.HasRoom}
+use Rattle.engine_view.specs.{Rooms.CanEmit, Rooms.HasEmitted, Rooms.HasEmittedEnd, declared.engine.Engine.Engine, Engines.held_in}
+use Rattle.engine_view.specs.{Engines.over_of, Emitted.IsNextStep, Emitted.with_emitted, Emitted.with_over}
 use Rattle.engine_view.proofs.{Emitted.emitted_core, Ended.over_core, Assigned.IsAlike, Assigned.alike_queries}
 use Rattle.engine_view.proofs.Roomy.{IsEnoughFor, few_queries, apart_next, own_next, room_for_next, rich_next, room_emitted, room_same}
 use Rattle.engine_view.proofs.Roomy.{pending_same}
-use Rattle.sim_core.specs.{Marks.IsRestBehind, Returned.HasPlacesForMarks}
-use Rattle.sim_core.specs.Runs.{IsEndOf, IsCore, rest_behind, lent_of}
+use Rattle.sim_core.specs.{Marks.IsRestBehind, Returned.HasPlacesForMarks, Runs.IsEndOf, Runs.IsCore, Runs.rest_behind, Runs.lent_of}
 use Rattle.sim_core.proofs.{Ahead.over_of_mark, Lends.not_lent, Resting.rest_is, Staying.fed_is, Keeping.core_acted, Keeping.same_end}
 use Rattle.sim_core.proofs.Marking.{next_step, table_count}
 

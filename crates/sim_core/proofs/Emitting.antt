@@ -10,9 +10,8 @@ use Rattle.module_interp.specs.{declared.run.ModuleRun.ModuleRun, OwnRests.mark_
 use Rattle.module_interp.specs.Runs.{StandsAt, waits, is_step, listed_step, IsFew, IsSoundMark}
 use Rattle.event_timing.specs.{Machines.Design, Core.Core, Actions.Acts, Actions.MayRun, Actions.Action.Run}
 use Rattle.timing_bridge.specs.Designs.{design}
-use Rattle.engine_view.specs.{Held.Held, Held.emitted_of, Held.core_of, declared.engine.Engine.Engine, Engines.held_in}
+use Rattle.engine_view.specs.{Held.Held, Held.emitted_of, Held.core_of, declared.engine.Engine.Engine, Engines.held_in, Emitted.with_over}
 use Rattle.sim_core.specs.{Runs.IsRunOf, Runs.rest_behind, Returned.CanGoOn, Returned.IsNextMark}
-use Rattle.engine_view.specs.Emitted.{with_over}
 use Rattle.sim_core.proofs.Returning as returning
 use Rattle.sim_core.proofs.{Staying.behind_same, Emission.IsReady}
 use Rattle.sim_core.proofs.Emission as emission

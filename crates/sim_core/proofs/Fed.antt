@@ -26,8 +26,7 @@ use Rattle.engine_view.specs.Held.{Held, no_step, step_of, emitted_of, seen, que
 use Rattle.engine_view.specs.Held.{core_of}
 use Rattle.engine_view.specs.{Shown.IsSound, declared.engine.Engine.Engine, Engines.held_in}
 use Rattle.engine_view.proofs.{Reading.reply_is, Answered.among_is}
-use Rattle.sim_core.specs.{Found.replies_now, Marks.IsRestBehind}
-use Rattle.sim_core.specs.Runs.{IsRunOf, IsAnswered, IsCore, rest_behind}
+use Rattle.sim_core.specs.{Found.replies_now, Marks.IsRestBehind, Runs.IsRunOf, Runs.IsAnswered, Runs.IsCore, Runs.rest_behind}
 use Rattle.sim_core.proofs.{Marking.ordinal_is, Marking.queries_done, Resting.rest_is, Staying.tell, Staying.fed_is}
 use Rattle.sim_core.proofs.Finding.{replies_found, values_now, are_found, not_found}
 use Rattle.run_ahead.specs.Replies.{value_now, first_missing}

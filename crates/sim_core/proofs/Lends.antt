@@ -12,8 +12,8 @@ use Rattle.event_timing.specs.{Actions.MayRun, Core.Core, Core.core_tally, Core.
 use Rattle.timing_bridge.specs.Designs.{design}
 use Rattle.engine_view.specs.{Held.Held, Held.emitted_of, Held.core_of, declared.engine.Engine.Engine, Engines.held_in}
 use Rattle.run_ahead.specs.{declared.mail.Mail.Mail, declared.mail.Task.Task, Mails.values_on}
-use Rattle.sim_core.specs.{Lent.IsMade, Readers.AreReaders, Tasks.steps_committed, Tasks.IsTaskOf, Tasks.IsTaskLeft}
-use Rattle.sim_core.specs.Runs.{IsCore, IsRunOf, rest_behind, lent_of}
+use Rattle.sim_core.specs.{Lent.IsMade, Readers.AreReaders, Runs.IsCore, Runs.IsRunOf, Runs.rest_behind, Runs.lent_of}
+use Rattle.sim_core.specs.Tasks.{steps_committed, IsTaskOf, IsTaskLeft}
 use Rattle.sim_core.proofs.{Posted.going_posted, Posted.waiting_posted, Sending.popped_is}
 use Rattle.sim_core.proofs.Committed.{committed_waits, committed_goes}
 

@@ -13,8 +13,7 @@ use Rattle.event_timing.specs.Actions.{Acts, ActsAll, MayRun, after_run}
 use Rattle.event_timing.specs.Actions as actions
 use Rattle.event_timing.proofs.Running.{run_marks}
 use Rattle.timing_bridge.specs.Designs.{design}
-use Rattle.engine_view.specs.{Held.Held, Held.queries_in, Held.core_of, declared.engine.Engine.Engine, Engines.held_in}
-use Rattle.engine_view.specs.Emitted.{with_over}
+use Rattle.engine_view.specs.{Held.Held, Held.queries_in, Held.core_of, declared.engine.Engine.Engine, Engines.held_in, Emitted.with_over}
 use Rattle.engine_view.specs.Rooms.{CanEmit, HasEmitted, HasEmittedEnd, room_of}
 use Rattle.run_ahead.specs.{declared.mail.Mail.Mail, declared.mail.Task.Task, declared.mail.Burst.Burst, Working.burst_of}
 use Rattle.run_ahead.specs.Mails.{taken_after, none_taken, task_left, IsBehindStep, IsPast, RunsOn, IsBurst, IsBurstFrom}

@@ -12,9 +12,8 @@ use Rattle.timing_bridge.specs.Designs.{design}
 use Rattle.engine_view.specs.{declared.engine.Engine.Engine, Engines.held_in, Held.Held, Held.core_of}
 use Rattle.engine_view.specs.Rooms.{EngineHasModule, IsSameButRoom, IsRoomy, AreAllPorts}
 use Rattle.sim_core.specs.{declared.due.Due.Due, declared.unread.Unread.Unread, declared.wiring.Wiring.Wiring, Candidates.AreListed}
-use Rattle.sim_core.specs.{Waking.AreDue, Waking.IsSpread, Opening.ports_to, Returned.core_in, Unread.AreUnread}
-use Rattle.sim_core.specs.Stretches.{IsHeldAlike, IsMember}
-use Rattle.sim_core.specs.Runs.{IsRunOf, IsOut, IsCore, IsWired, IsStoredCore, lent_of}
+use Rattle.sim_core.specs.{Waking.AreDue, Waking.IsSpread, Opening.ports_to, Returned.core_in, Unread.AreUnread, Stretches.IsHeldAlike}
+use Rattle.sim_core.specs.{Stretches.IsMember, Runs.IsRunOf, Runs.IsOut, Runs.IsCore, Runs.IsWired, Runs.IsStoredCore, Runs.lent_of}
 use Rattle.sim_core.proofs.{Asking.asking_ran, QueryRoom.bodies_told, Listing.listed_ran, Waking.waking_ran, Marking.table_count}
 use Rattle.sim_core.proofs.Leaving as leaving
 use Rattle.sim_core.proofs.Lending as lending

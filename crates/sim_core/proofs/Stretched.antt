@@ -16,10 +16,10 @@ use Rattle.timing_bridge.proofs.RunApart.{assign_no_run, answer_no_run}
 use Rattle.engine_view.specs.{declared.engine.Engine.Engine, Taking.kinds_in, declared.turn.Timing.Timing}
 use Rattle.engine_view.specs.Turns.{HasTimed, IsIdle, KeepsRoom, MayTakeIn, is_progress, left, ticks_of}
 use Rattle.engine_view.specs.declared.turn.Timing.TheVariants as turn
-use Rattle.sim_core.specs.{Asking.Lacks, Asking.SetHasRoom, Asking.AreAsking, Candidates.AreListed, Drives.VisitLeads, Drives.has_acted}
-use Rattle.sim_core.specs.{Returned.core_in, Turns.HasTurned, Views.CoreView, Views.theory_of, Waking.AreWaking, Waking.IsSpread}
-use Rattle.sim_core.specs.{declared.due.Due.Due, declared.unread.Unread.Unread, declared.visit.Visit.Visit, declared.wiring.Wiring.Wiring}
-use Rattle.sim_core.specs.Runs.{IsCore, IsStoredCore, lent_of}
+use Rattle.sim_core.specs.Asking.{Lacks, SetHasRoom, AreAsking}
+use Rattle.sim_core.specs.{Candidates.AreListed, Drives.VisitLeads, Drives.has_acted, Returned.core_in, Turns.HasTurned, Views.CoreView}
+use Rattle.sim_core.specs.{Views.theory_of, Waking.AreWaking, Waking.IsSpread, declared.due.Due.Due, declared.unread.Unread.Unread}
+use Rattle.sim_core.specs.{declared.visit.Visit.Visit, declared.wiring.Wiring.Wiring, Runs.IsCore, Runs.IsStoredCore, Runs.lent_of}
 use Rattle.sim_core.specs.declared.visit.Visit.TheVariants.{Acted, Differs, Idle}
 use Rattle.sim_core.specs.Stretches.{AreTimingsOf, answers_among, HasTimedOnce, IsHeldOf, StretchLeads, TimesOn, view_in}
 use Rattle.sim_core.proofs.{Asking.asking_idle, Asking.still_room, Keeping.kept_of, Leaving.grown, Roomed.stored_alike}

@@ -12,9 +12,8 @@ use Rattle.timing_bridge.specs.Designs.{design, lockstep_run}
 use Rattle.timing_bridge.proofs.History.{plan_is_design, run_is_history}
 use Rattle.engine_view.specs.{Held.Held, declared.engine.Engine.Engine, Engines.held_in}
 use Rattle.sim_core.specs.{Drives.given, Drives.Goes, Drives.GoesOn, Returned.core_in, Views.CoreView, Views.theory_of}
-use Rattle.sim_core.specs.{declared.due.Due.Due, declared.unread.Unread.Unread, declared.wiring.Wiring.Wiring, Waking.IsSpread}
-use Rattle.sim_core.specs.Runs.{IsCore, IsRunOf, IsStoredCore, lent_of}
-use Rattle.sim_core.specs.Stretches.{HasDoneRuns, IsHeldAlike, IsRunOut}
+use Rattle.sim_core.specs.{declared.due.Due.Due, declared.unread.Unread.Unread, declared.wiring.Wiring.Wiring, Waking.IsSpread, Runs.IsCore}
+use Rattle.sim_core.specs.{Runs.IsRunOf, Runs.IsStoredCore, Runs.lent_of, Stretches.HasDoneRuns, Stretches.IsHeldAlike, Stretches.IsRunOut}
 use Rattle.event_graph.specs.declared.candidate.Candidate.{Candidate}
 use Rattle.module_sets.specs.Sets.{IsAdded}
 use Rattle.std.specs.Prelude.{slice_index_or, Result, Ok, Err, OnErr}

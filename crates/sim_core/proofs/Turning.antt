@@ -27,8 +27,8 @@ use Rattle.engine_view.specs.Held.{Held, no_step, emitted_of, step_of, are_among
 use Rattle.engine_view.specs.Turns.{HasTimed, HasAnswered, KeepsRoom, HasUnsure, IsSomeCore, first_of, left_of, left}
 use Rattle.engine_view.specs.declared.turn.Timing.TheVariants as turn
 use Rattle.engine_view.proofs.Bounds.{candidate_is}
-use Rattle.sim_core.specs.{Views.CoreView, Runs.AreUnreadIn, Runs.IsCore, Turns.HasTurned, Turns.HasAnsweredLeast}
-use Rattle.sim_core.specs.{declared.due.Due.Due, Asking.SetHasRoom, declared.unread.Unread.Unread}
+use Rattle.sim_core.specs.{Views.CoreView, Runs.AreUnreadIn, Runs.IsCore, Turns.HasTurned, Turns.HasAnsweredLeast, declared.due.Due.Due}
+use Rattle.sim_core.specs.{Asking.SetHasRoom, declared.unread.Unread.Unread}
 use Rattle.sim_core.specs.Candidates.{AreCandidates, AreListed, IsCandidate, IsListed}
 use Rattle.sim_core.proofs.{Keeping.core_acted, Keeping.kept_of, Keeping.same_end, Leaving.unread_acted}
 

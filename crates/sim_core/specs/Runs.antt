@@ -1,6 +1,6 @@
 -- Where the modules' runs stand, compared with the core, and what a core keeps.
-use Rattle.std.specs.Prelude.{◌≡◌, ℕ, suc, ◌<◌, ◌≤◌, Bool, true, false, List, Option, None, Some, map, is_none, slice_index_or}
-use Rattle.std.specs.Prelude.{length, slice_index, All}
+use Rattle.std.specs.Prelude.{◌≡◌, ℕ, suc, ◌<◌, ◌≤◌, Bool, true, false, List, Option, None, Some, map, is_none, slice_index_or, length}
+use Rattle.std.specs.Prelude.{slice_index, All}
 use Rattle.flow_design.specs.{StaticRules.FitsEngine, declared.design.Module.Module, declared.plan.Plan.Plan}
 use Rattle.flow_design.specs.{declared.state.Advance.Advance, declared.state.ModuleState.ModuleState}
 use Rattle.lockstep_defs.specs.{Lockstep.module_at, OwnRun.Own}

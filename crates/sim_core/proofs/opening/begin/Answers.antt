@@ -5,7 +5,7 @@ use Rattle.event_timing.specs.Agreement.{AllVerified}
 use Rattle.event_timing.proofs.ActionBound.{none_assumed}
 use Rattle.timing_bridge.specs.Designs.{design}
 use Rattle.engine_view.specs.{Held.core_of, declared.engine.Engine.Engine, Engines.held_in, Engines.over_of}
-use Rattle.sim_core.specs.{Opening.kinds_of, Opening.AreFirstRuns}
+use Rattle.sim_core.specs.Opening.{kinds_of, AreFirstRuns}
 use Rattle.sim_core.proofs.{Listing.listed_all, Waking.due_all}
 use Rattle.sim_core.proofs.Beginning as beginning
 use Rattle.sim_core.proofs.opening.begin.Goals as goal

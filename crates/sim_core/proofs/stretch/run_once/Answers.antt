@@ -1,4 +1,5 @@
-use Rattle.std.proofs.{Common.ℕ, Common.false, Common.get_or, Common.sym, Common.ap, Common.subst, Common.◌∙◌, Common.List, Common.Option, lemmas.Bool.both_ways}
+use Rattle.std.proofs.Common.{ℕ, false, get_or, sym, ap, subst, ◌∙◌, List, Option}
+use Rattle.std.proofs.lemmas.Bool.{both_ways}
 use Rattle.flow_design.specs.{declared.plan.Plan.Plan, declared.state.Advance.Advance, declared.state.ModuleState.ModuleState}
 use Rattle.lockstep_defs.specs.Lockstep.{module_at}
 use Rattle.module_interp.specs.declared.run.ModuleRun.{ModuleRun}

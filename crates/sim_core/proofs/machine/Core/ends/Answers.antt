@@ -4,7 +4,7 @@ use Rattle.event_timing.specs.Actions.{IsFinal}
 use Rattle.timing_bridge.specs.Designs.{design}
 use Rattle.engine_view.specs.Engines.{held_in}
 use Rattle.engine_report.specs.Finished.{IsFinished}
-use Rattle.sim_core.specs.{Views.CoreView, Views.theory_of}
+use Rattle.sim_core.specs.Views.{CoreView, theory_of}
 use Rattle.sim_core.proofs.Ending.{finished}
 use Rattle.sim_core.proofs.machine.Core.ends.Goals as goal
 

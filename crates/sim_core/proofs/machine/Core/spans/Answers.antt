@@ -6,7 +6,7 @@ use Rattle.event_timing.specs.Actions.{IsFinal}
 use Rattle.timing_bridge.specs.Designs.{design}
 use Rattle.timelines.specs.Spans.{AreSpans}
 use Rattle.engine_report.proofs.Stepping.{has_module}
-use Rattle.sim_core.specs.{Views.CoreView, Views.theory_of}
+use Rattle.sim_core.specs.Views.{CoreView, theory_of}
 use Rattle.sim_core.proofs.Ending.{finished}
 use Rattle.sim_core.proofs.machine.Core.spans.Goals as goal
 

@@ -11,7 +11,7 @@ use flow_design::limits::Scale;
 use flow_grammar::keeps_rules;
 use flow_text::read_session;
 use flow_word::Steps;
-use sim_core::{Core, Guard, LoggedAccess, run_alone};
+use sim_core::{Core, FinalCore, Guard, LoggedAccess, run_alone};
 use std::marker::Brand;
 use std::process::Abort;
 use std::sync::ledger::{Blank, Ledger};
@@ -119,9 +119,9 @@ fn moved_from<R: AllocGlobal + Abort>(
     assert!(rt; number < edits.len());
     let edit = edits[number];
     let mut core = run_alone(rt.alloc(), checked.plan)?;
-    let before = core.access_log(rt.alloc())?;
+    let before = FinalCore::new(&core).access_log(rt.alloc())?;
     edit_on::<Brand, R>(rt, &mut core, &edit, Blank::new(1));
-    let after = core.access_log(rt.alloc())?;
+    let after = FinalCore::new(&core).access_log(rt.alloc())?;
     let kept = accesses_before(before.as_slice(), touched);
     assert_eq!(rt; accesses_before(after.as_slice(), touched), kept);
     Ok(after.as_slice().len().saturating_sub(kept.len()))

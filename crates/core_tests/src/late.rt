@@ -1,13 +1,10 @@
 //! Depths with which a plan ends late, and what must be deeper. The ends were worked out for each choice of depths.
-ghost use Rattle.event_timing.specs.Actions.{IsFinal};
-ghost use Rattle.timing_bridge.specs.Designs.{design};
-ghost use Rattle.sim_core.specs.Views.{theory_of};
 
 use depth_cuts::{Need, find_cut};
 use flow_design::Edit;
 use flow_word::Place;
 use path_check::{Target, asks_nothing, ends_after, find_latest, late_depth, never_ends};
-use sim_core::{Core, run_alone};
+use sim_core::{FinalCore, run_alone};
 use std::process::Abort;
 use std::test::Fail;
 use worked_sessions::{TWO_LEAST_QUERIES, read_plan};
@@ -79,13 +76,11 @@ end
 /// Asserts that the cut found for these depths and a clock is the expected one.
 fn compare_cut<R: AllocGlobal + Abort>(
     rt: &R,
-    core: &Core,
+    core: &FinalCore<'_>,
     depths: &[u64],
     clock: u64,
     expected: &[Need],
-) -> Result<(), Fail>
-    requires { IsFinal (design core.now.plan) core.now.plan.cycles (theory_of core.now) }
-{
+) -> Result<(), Fail> {
     match find_cut(rt.alloc(), core.engine(), core.ends(), depths, clock)? {
         Some(cut) => assert_eq!(rt; cut.needs.as_slice(), expected),
         None => panic!(rt; "no cut is found"),
@@ -100,7 +95,8 @@ fn need(channel: u32, depth: u64) -> Need {
 
 #[test]
 fn finds_cuts(rt: HostRuntime) -> Result<(), Fail> {
-    let core = run_alone(rt.alloc(), read_plan(rt.alloc(), TWO_FIFOS)?)?;
+    let run = run_alone(rt.alloc(), read_plan(rt.alloc(), TWO_FIFOS)?)?;
+    let core = FinalCore::new(&run);
     let second = [need(0, 2), need(1, 2)];
     compare_cut(&rt, &core, &[1, 1], 27, second.as_slice())?;
     compare_cut(&rt, &core, &[1, 1], 26, [need(0, 2)].as_slice())?;
@@ -109,12 +105,19 @@ fn finds_cuts(rt: HostRuntime) -> Result<(), Fail> {
     let found = find_cut(rt.alloc(), core.engine(), core.ends(), &[2, 1], 25)?;
     assert!(&rt; found.is_none());
     let held = run_alone(rt.alloc(), read_plan(rt.alloc(), LAST_FIRST)?)?;
-    compare_cut(&rt, &held, &[1, 1], 1_000, [need(0, 4)].as_slice())
+    compare_cut(
+        &rt,
+        &FinalCore::new(&held),
+        &[1, 1],
+        1_000,
+        [need(0, 4)].as_slice(),
+    )
 }
 
 #[test]
 fn checks_paths(rt: HostRuntime) -> Result<(), Fail> {
-    let core = run_alone(rt.alloc(), read_plan(rt.alloc(), TWO_FIFOS)?)?;
+    let run = run_alone(rt.alloc(), read_plan(rt.alloc(), TWO_FIFOS)?)?;
+    let core = FinalCore::new(&run);
     let pop = Place { module: 1, step: 2 };
     let push = Place { module: 0, step: 3 };
     let depths = [DEEPEST, DEEPEST];
@@ -146,7 +149,8 @@ fn checks_paths(rt: HostRuntime) -> Result<(), Fail> {
 
 #[test]
 fn bounds_depths(rt: HostRuntime) -> Result<(), Fail> {
-    let core = run_alone(rt.alloc(), read_plan(rt.alloc(), TWO_FIFOS)?)?;
+    let run = run_alone(rt.alloc(), read_plan(rt.alloc(), TWO_FIFOS)?)?;
+    let core = FinalCore::new(&run);
     let latest = find_latest(rt.alloc(), core.engine(), core.ends(), 24)?;
     for (channel, expected) in [(0, 3), (1, 1)] {
         let target = Target { channel, clock: 24 };

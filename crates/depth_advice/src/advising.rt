@@ -2,16 +2,13 @@
 ghost use Rattle.std.specs.Prelude.{◌≡◌, ◌+◌, ◌<◌, ◌≤◌, IfOk};
 ghost use Rattle.flow_design.specs.StaticRules.{FitsEngine};
 ghost use Rattle.lockstep_defs.specs.Report as lockstep;
-ghost use Rattle.event_timing.specs.Actions.{IsFinal};
-ghost use Rattle.timing_bridge.specs.Designs.{design};
-ghost use Rattle.sim_core.specs.Views.{theory_of};
 ghost use Rattle.depth_order.specs.Depths.{with_depths, AreDepths, AsksNothing};
 ghost use Rattle.port_clocks.specs.Peaks.{peak};
 ghost use Rattle.depth_advice.specs.Advice.{depths_by, wide, advised, AreFastest};
 
 use crate::peaks::depths_above;
 use crate::widening::widen;
-use depth_session::{Core, Runner};
+use depth_session::{FinalCore, Runner};
 use flow_design::{Plan, Report, Verdict};
 use flow_word::{OutOfMemory, Words};
 use std::alloc::Global;
@@ -75,7 +72,7 @@ pub fn advise<R: Threads + Wait + Sync, U: Runner>(
 {
     widen(&mut plan);
     let core = runner.run_plan(rt, alloc, plan)?;
-    read_advice(alloc, &core)
+    read_advice(alloc, &FinalCore::new(&core))
 }
 
 /// The verdict of a plan in which no FIFO ever blocks, and depths with which none does.
@@ -105,12 +102,11 @@ pub fn advised_depths<R: Threads + Wait + Sync, U: Runner>(
 {
     widen(&mut plan);
     let core = runner.run_plan(rt, alloc, plan)?;
-    read_depths(alloc, &core)
+    read_depths(alloc, &FinalCore::new(&core))
 }
 
 /// The verdict of a final core, and for each FIFO of its plan a depth one above its peak. `OutOfMemory` where memory ran out.
-pub fn read_depths(alloc: Global, core: &Core) -> Result<DepthAdvice, OutOfMemory>
-    requires { IsFinal (design core.now.plan) core.now.plan.cycles (theory_of core.now) }
+pub fn read_depths(alloc: Global, core: &FinalCore<'_>) -> Result<DepthAdvice, OutOfMemory>
     ensures verdict { IfOk result (λ advice. advice.verdict ≡ (lockstep.report core.now.plan).verdict) }
     ensures depths { IfOk result (λ advice. advice.depths ≡ depths_by core.now.plan (λ f. peak core.now.plan f + 1)) }
 {
@@ -121,8 +117,7 @@ pub fn read_depths(alloc: Global, core: &Core) -> Result<DepthAdvice, OutOfMemor
 }
 
 /// The report of a final core, and for each FIFO of its plan a depth one above its peak. `OutOfMemory` where memory ran out.
-fn read_advice(alloc: Global, core: &Core) -> Result<Advice, OutOfMemory>
-    requires { IsFinal (design core.now.plan) core.now.plan.cycles (theory_of core.now) }
+fn read_advice(alloc: Global, core: &FinalCore<'_>) -> Result<Advice, OutOfMemory>
     ensures report { IfOk result (λ advice. advice.report ≡ lockstep.report core.now.plan) }
     ensures depths { IfOk result (λ advice. advice.depths ≡ depths_by core.now.plan (λ f. peak core.now.plan f + 1)) }
 {

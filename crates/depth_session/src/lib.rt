@@ -10,4 +10,4 @@ mod state;
 pub use laws::{logs_are_kept, records_go_on};
 pub use runner::{AloneRunner, Asked, Runner, ThreadRunner};
 pub use session::DepthSession;
-pub use sim_core::Core;
+pub use sim_core::{Core, FinalCore};

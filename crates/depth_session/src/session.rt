@@ -16,7 +16,7 @@ use crate::runner::Runner;
 use crate::state::State;
 use flow_design::{Edit, Plan, Report, Verdict};
 use flow_word::OutOfMemory;
-use sim_core::Core;
+use sim_core::FinalCore;
 use std::alloc::Global;
 use std::marker::Model;
 use std::sync::Wait;
@@ -137,13 +137,13 @@ impl DepthSession {
     }
 
     /// The final core of the present plan.
-    pub fn core(&self) -> &Core
+    pub fn core(&self) -> FinalCore<'_>
         requires { self.now.live ≡ true }
-        ensures plan { result.now.plan ≡ self.now.plan }
-        ensures is_final { IsFinal (design result.now.plan) result.now.plan.cycles (theory_of result.now) }
+        ensures plan { result.plan ≡ self.now.plan }
+        ensures is_final { IsFinal (design result.plan) result.plan.cycles (theory_of result) }
     {
         match &self.state {
-            State::Core(core) => core,
+            State::Core(core) => FinalCore::new(core),
             State::Plan(_) => unreachable!(),
         }
     }

@@ -7,7 +7,7 @@ ghost use Rattle.timelines.specs.Fills.{fifos};
 use crate::fifos::set_depths;
 use flow_design::{Plan, Verdict, copy_plan};
 use flow_word::{OutOfMemory, Words};
-use sim_core::run_alone;
+use sim_core::{FinalCore, run_alone};
 use std::alloc::Global;
 
 /// The depths of a plan's FIFOs, in order of declaration, and the verdict of the plan with these depths.
@@ -46,6 +46,6 @@ pub(crate) fn simulate(
     let core = run_alone(alloc, own)?;
     Ok(Point {
         depths,
-        verdict: core.verdict(),
+        verdict: FinalCore::new(&core).verdict(),
     })
 }

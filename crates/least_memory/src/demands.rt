@@ -3,15 +3,12 @@ ghost use Rattle.std.specs.Prelude.{◌≡◌, ◌<◌, ◌≤◌, true, length,
 ghost use Rattle.flow_design.specs.{Plans.is_fifo, Plans.kind_at, StaticRules.FitsEngine};
 ghost use Rattle.path_check.specs.Late.{IsLateBelow};
 ghost use Rattle.lockstep_defs.specs.Verdict.{verdict};
-ghost use Rattle.event_timing.specs.Actions.{IsFinal};
-ghost use Rattle.timing_bridge.specs.Designs.{design};
-ghost use Rattle.sim_core.specs.Views.{theory_of};
 ghost use Rattle.depth_order.specs.Depths.{AsksNothing, IsDoneBy};
 ghost use Rattle.depth_cuts.specs.{PlanCuts.AreDeepest, Cuts.IsCheapest};
 ghost use Rattle.least_memory.specs.{Choices.widths_of, Needed.IsFloor, Needed.AreFloorsOf, Needed.AreNeeded};
 
 use depth_cuts::{Demands, cheapest};
-use depth_session::Core;
+use depth_session::FinalCore;
 use flow_design::Channel;
 use flow_design::limits::FIFO_DEPTH;
 use flow_word::{List, OutOfMemory, Words};
@@ -22,8 +19,11 @@ use std::alloc::Global;
 /// depth that a path of steps shows to be needed, where the others are as deep as in the plan.
 ///
 /// It takes memory for a number of each step of the core, and frees it. `OutOfMemory` where memory ran out.
-pub(crate) fn first_demands(alloc: Global, core: &Core, clock: u64) -> Result<Demands, OutOfMemory>
-    requires is_final { IsFinal (design core.now.plan) core.now.plan.cycles (theory_of core.now) }
+pub(crate) fn first_demands(
+    alloc: Global,
+    core: &FinalCore<'_>,
+    clock: u64,
+) -> Result<Demands, OutOfMemory>
     requires fits { FitsEngine core.now.plan }
     requires quiet { AsksNothing core.now.plan }
     requires deepest { AreDeepest core.now.plan }
@@ -58,12 +58,11 @@ pub(crate) fn widths_of(alloc: Global, channels: &[Channel]) -> Result<Words, Ou
 /// The least depth of a FIFO that is shown to be needed; 0 for a channel of another kind. `OutOfMemory` where memory ran out.
 fn floor_of(
     alloc: Global,
-    core: &Core,
+    core: &FinalCore<'_>,
     latest: &Latest,
     channel: u32,
     clock: u64,
 ) -> Result<u64, OutOfMemory>
-    requires is_final { IsFinal (design core.now.plan) core.now.plan.cycles (theory_of core.now) }
     requires fits { FitsEngine core.now.plan }
     requires quiet { AsksNothing core.now.plan }
     requires deepest { AreDeepest core.now.plan }
@@ -79,7 +78,7 @@ fn floor_of(
 }
 
 /// Whether a channel of the core's plan is a FIFO.
-fn is_fifo(core: &Core, channel: u32) -> bool
+fn is_fifo(core: &FinalCore<'_>, channel: u32) -> bool
     requires { channel < length core.now.plan.design.channels }
     ensures { result ≡ is_fifo (kind_at core.now.plan channel) }
 {
@@ -90,8 +89,12 @@ fn is_fifo(core: &Core, channel: u32) -> bool
 
 /// A depth of a FIFO such that with any smaller one the core's plan is not done by the target's clock. It takes memory for a path
 /// of steps. `OutOfMemory` where memory ran out.
-fn late_of(alloc: Global, core: &Core, latest: &Latest, target: &Target) -> Result<u64, OutOfMemory>
-    requires is_final { IsFinal (design core.now.plan) core.now.plan.cycles (theory_of core.now) }
+fn late_of(
+    alloc: Global,
+    core: &FinalCore<'_>,
+    latest: &Latest,
+    target: &Target,
+) -> Result<u64, OutOfMemory>
     requires quiet { AsksNothing core.now.plan }
     requires fifo { is_fifo (kind_at core.now.plan target.now.channel) ≡ true }
     ensures { IfOk result (λ depth. IsLateBelow core.now.plan target.now.clock target.now.channel depth) }
@@ -109,7 +112,7 @@ fn late_of(alloc: Global, core: &Core, latest: &Latest, target: &Target) -> Resu
 /// The cheapest depths that meet demands which the plan's own depths are known to meet. `OutOfMemory` where memory ran out.
 pub(crate) fn cheapest_of(
     alloc: Global,
-    core: &Core,
+    core: &FinalCore<'_>,
     demands: &Demands,
     clock: u64,
 ) -> Result<Words, OutOfMemory>

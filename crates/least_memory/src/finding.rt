@@ -2,9 +2,6 @@
 ghost use Rattle.std.specs.Prelude.{◌≡◌, ◌≤◌, Some, IfOk};
 ghost use Rattle.flow_design.specs.StaticRules.{FitsEngine};
 ghost use Rattle.lockstep_defs.specs.Verdict.{verdict};
-ghost use Rattle.event_timing.specs.Actions.{IsFinal};
-ghost use Rattle.timing_bridge.specs.Designs.{design};
-ghost use Rattle.sim_core.specs.Views.{theory_of};
 ghost use Rattle.depth_order.specs.Depths.{with_depths, AsksNothing, IsDoneBy};
 ghost use Rattle.depth_cuts.specs.PlanCuts.{AreDeepest};
 ghost use Rattle.least_depths.specs.Least.{most_slack};
@@ -13,7 +10,7 @@ ghost use Rattle.least_memory.specs.Least.{leasts, least_by};
 use crate::demands::{cheapest_of, first_demands};
 use crate::trying::{Outcome, try_depths};
 use depth_advice::{read_depths, widen};
-use depth_session::{Core, Runner};
+use depth_session::{FinalCore, Runner};
 use flow_design::{Plan, Verdict, copy_plan};
 use flow_word::{OutOfMemory, Words};
 use std::alloc::Global;
@@ -59,7 +56,8 @@ pub fn find_least<R: Threads + Wait + Sync, U: Runner>(
 {
     let mut wide = copy_plan(alloc, plan)?;
     widen(&mut wide);
-    let core = runner.run_plan(rt, alloc, wide)?;
+    let run = runner.run_plan(rt, alloc, wide)?;
+    let core = FinalCore::new(&run);
     match core.verdict() {
         Verdict::Done(clock) => fewest_bits(rt, alloc, &core, clock + slack, runner),
         Verdict::Deadlock(_) | Verdict::Cycles(_) | Verdict::Ops(_) => {
@@ -77,11 +75,10 @@ pub fn find_least<R: Threads + Wait + Sync, U: Runner>(
 fn fewest_bits<R: Threads + Wait + Sync, U: Runner>(
     rt: &R,
     alloc: Global,
-    core: &Core,
+    core: &FinalCore<'_>,
     clock: u64,
     runner: &mut U,
 ) -> Result<Leasts, OutOfMemory>
-    requires is_final { IsFinal (design core.now.plan) core.now.plan.cycles (theory_of core.now) }
     requires fits { FitsEngine core.now.plan }
     requires quiet { AsksNothing core.now.plan }
     requires deepest { AreDeepest core.now.plan }

@@ -1,16 +1,13 @@
 //! Tries depths for the plan of a core.
 ghost use Rattle.std.specs.Prelude.{◌≡◌, IfOk};
 ghost use Rattle.flow_design.specs.StaticRules.{FitsEngine};
-ghost use Rattle.event_timing.specs.Actions.{IsFinal};
-ghost use Rattle.timing_bridge.specs.Designs.{design};
-ghost use Rattle.sim_core.specs.Views.{theory_of};
 ghost use Rattle.depth_order.specs.Depths.{AreDepths, AsksNothing};
 ghost use Rattle.depth_cuts.specs.PlanCuts.{AreDeepest};
 ghost use Rattle.least_depths.specs.Lowering.{is_done_by};
 ghost use Rattle.least_memory.specs.Needed.{IsOutcome};
 
 use depth_cuts::{Cut, deeper_ones, find_cut};
-use depth_session::{Core, Runner};
+use depth_session::{FinalCore, Runner};
 use flow_design::{Verdict, copy_plan};
 use flow_word::{List, OutOfMemory};
 use std::alloc::Global;
@@ -33,12 +30,11 @@ pub(crate) enum Outcome {
 pub(crate) fn try_depths<R: Threads + Wait + Sync, U: Runner>(
     rt: &R,
     alloc: Global,
-    core: &Core,
+    core: &FinalCore<'_>,
     depths: &[u64],
     clock: u64,
     runner: &mut U,
 ) -> Result<Outcome, OutOfMemory>
-    requires is_final { IsFinal (design core.now.plan) core.now.plan.cycles (theory_of core.now) }
     requires fits { FitsEngine core.now.plan }
     requires quiet { AsksNothing core.now.plan }
     requires deepest { AreDeepest core.now.plan }
@@ -51,7 +47,7 @@ pub(crate) fn try_depths<R: Threads + Wait + Sync, U: Runner>(
     let mut plan = copy_plan(alloc, core.plan())?;
     plan.depths = List::from_slice(alloc, depths)?;
     let run = runner.run_plan(rt, alloc, plan)?;
-    let verdict = run.verdict();
+    let verdict = FinalCore::new(&run).verdict();
     if is_done_by(verdict, clock) {
         return Ok(Outcome::Ended(verdict));
     }

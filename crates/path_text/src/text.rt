@@ -2,9 +2,7 @@
 ghost use Rattle.std.specs.Prelude.{◌≡◌, ◌++◌, ◌<◌, ◌^◌, [], IfOk, OnOk, if◌then◌else◌, length, sum_by};
 ghost use Rattle.lockstep_defs.specs.Verdict.{verdict as verdict_of};
 ghost use Rattle.flow_design.specs.Reports.{clock_of as clock_in};
-ghost use Rattle.event_timing.specs.Actions.{IsFinal};
-ghost use Rattle.timing_bridge.specs.Designs.{design as design_of};
-ghost use Rattle.sim_core.specs.{Views.theory_of, AccessLog.log_of};
+ghost use Rattle.sim_core.specs.AccessLog.{log_of};
 ghost use Rattle.path_text.specs.{Walks.HasSpans, PathText.count_lines};
 ghost use Rattle.path_text.specs.Counts.{link_clocks, clocks_waiting, AreLinksOf, ArePolledIn};
 ghost use Rattle.report_text.specs.Lines.{text_of_lines};
@@ -17,7 +15,7 @@ use crate::walk::find_path;
 use flow_design::Design;
 use flow_word::{List, OutOfMemory, Side};
 use report_text::print_verdict;
-use sim_core::{Core, LoggedAccess};
+use sim_core::{FinalCore, LoggedAccess};
 use std::alloc::Global;
 use timelines::Span;
 
@@ -30,11 +28,10 @@ use timelines::Span;
 /// `OutOfMemory` where memory ran out.
 pub fn path_text(
     alloc: Global,
-    core: &Core,
+    core: &FinalCore<'_>,
     events: bool,
     polls: bool,
 ) -> Result<List<u8>, OutOfMemory>
-    requires { IsFinal (design_of core.now.plan) core.now.plan.cycles (theory_of core.now) }
     ensures { IfOk result (λ text. text ≡ form.path_text events polls core.now.plan) }
 {
     let modules = core.modules();
@@ -56,8 +53,11 @@ pub fn path_text(
 }
 
 /// What each access of a final core's plan gave, if asked for; otherwise an empty log. `OutOfMemory` where memory ran out.
-fn log_if(alloc: Global, core: &Core, asked: bool) -> Result<List<LoggedAccess>, OutOfMemory>
-    requires { IsFinal (design_of core.now.plan) core.now.plan.cycles (theory_of core.now) }
+fn log_if(
+    alloc: Global,
+    core: &FinalCore<'_>,
+    asked: bool,
+) -> Result<List<LoggedAccess>, OutOfMemory>
     ensures { IfOk result (λ log. log ≡ (if asked then log_of core.now.plan else [])) }
 {
     if asked {
@@ -70,12 +70,11 @@ fn log_if(alloc: Global, core: &Core, asked: bool) -> Result<List<LoggedAccess>,
 /// One entry per module: its spans below the clock of the plan's verdict. `OutOfMemory` where memory ran out.
 fn all_spans(
     alloc: Global,
-    core: &Core,
+    core: &FinalCore<'_>,
     modules: u32,
     clock: u64,
 ) -> Result<List<List<Span>>, OutOfMemory>
     requires count { modules ≡ length core.now.plan.design.modules }
-    requires is_final { IsFinal (design_of core.now.plan) core.now.plan.cycles (theory_of core.now) }
     requires clock { clock ≡ clock_in (verdict_of core.now.plan) }
     ensures { IfOk result (HasSpans core.now.plan clock) }
 {

@@ -1,23 +1,19 @@
 //! The clocks of a port.
 ghost use Rattle.std.specs.Prelude.{◌≡◌, ◌≢◌, ◌<◌, [], length, IfOk};
 ghost use Rattle.lockstep_defs.specs.Ports as lockstep;
-ghost use Rattle.event_timing.specs.Actions.{IsFinal};
-ghost use Rattle.timing_bridge.specs.Designs.{design};
-ghost use Rattle.sim_core.specs.Views.{theory_of};
 ghost use Rattle.port_clocks.specs.Clocks.{ArePortClocks};
 
 use crate::reading::{cycles_at, uses};
 use flow_word::{List, OutOfMemory, Port, Words};
-use sim_core::Core;
+use sim_core::FinalCore;
 use std::alloc::Global;
 
 /// The clocks in which elements pass a port of a final core's plan, in order: one clock for each element that is popped, or pushed,
 /// there.
 ///
 /// It looks once at each step that uses the port, and takes memory for the clocks. `OutOfMemory` where memory ran out.
-pub fn clocks_at(alloc: Global, core: &Core, port: Port) -> Result<Words, OutOfMemory>
-    requires is_final { IsFinal (design core.now.plan) core.now.plan.cycles (theory_of core.now) }
-    requires channel { port.channel < length core.now.plan.design.channels }
+pub fn clocks_at(alloc: Global, core: &FinalCore<'_>, port: Port) -> Result<Words, OutOfMemory>
+    requires { port.channel < length core.now.plan.design.channels }
     ensures { IfOk result (ArePortClocks core.now.plan port) }
 {
     let _ends = core.ends();
@@ -27,9 +23,13 @@ pub fn clocks_at(alloc: Global, core: &Core, port: Port) -> Result<Words, OutOfM
 /// The clocks in which a module moves elements at a port of a final core's plan, in order; none where the port is another module's.
 ///
 /// It looks at most once at each step that uses the port, and takes memory for the clocks. `OutOfMemory` where memory ran out.
-pub fn own_clocks(alloc: Global, core: &Core, owner: u32, port: Port) -> Result<Words, OutOfMemory>
-    requires is_final { IsFinal (design core.now.plan) core.now.plan.cycles (theory_of core.now) }
-    requires channel { port.channel < length core.now.plan.design.channels }
+pub fn own_clocks(
+    alloc: Global,
+    core: &FinalCore<'_>,
+    owner: u32,
+    port: Port,
+) -> Result<Words, OutOfMemory>
+    requires { port.channel < length core.now.plan.design.channels }
     ensures own { lockstep.owner core.now.plan port ≡ owner → IfOk result (ArePortClocks core.now.plan port) }
     ensures other { lockstep.owner core.now.plan port ≢ owner → IfOk result (λ clocks. clocks ≡ []) }
 {

@@ -2,15 +2,12 @@
 ghost use Rattle.std.specs.Prelude.{◌≡◌, ℕ, ◌+◌, ◌<◌, ◌≤◌, IsTrue, length};
 ghost use Rattle.flow_word.specs.declared.access.Side.TheVariants.{Pop, Push};
 ghost use Rattle.flow_design.specs.{declared.plan.Plan.Plan, Plans.is_fifo, Plans.kind_at, StaticRules.FitsEngine};
-ghost use Rattle.event_timing.specs.Actions.{IsFinal};
-ghost use Rattle.timing_bridge.specs.Designs.{design};
-ghost use Rattle.sim_core.specs.Views.{theory_of};
 ghost use Rattle.timelines.specs.Fills.{fill, last_clock};
 ghost use Rattle.port_clocks.specs.Walks.{next_of, PassesAt, WalkStandsAt, IsFifoWalk};
 
 use crate::reading::cycle_at;
 use flow_word::{Port, Side};
-use sim_core::Core;
+use sim_core::FinalCore;
 
 /// Stands for the clock of an element that does not pass a port: it is later than each clock.
 const NEVER: u64 = u64::MAX;
@@ -36,8 +33,7 @@ pub struct FifoWalk {
 
 impl FifoWalk {
     /// A walk over the clocks of a FIFO, at clock 0. It takes no memory.
-    pub fn new(core: &Core, channel: u32) -> FifoWalk
-        requires is_final { IsFinal (design core.now.plan) core.now.plan.cycles (theory_of core.now) }
+    pub fn new(core: &FinalCore<'_>, channel: u32) -> FifoWalk
         requires channel { channel < length core.now.plan.design.channels }
         requires fifo { IsTrue (is_fifo (kind_at core.now.plan channel)) }
         ensures walk { IsFifoWalk core.now.plan result }
@@ -77,8 +73,7 @@ impl FifoWalk {
 
     /// Goes on to the clock right after the next pop or push, which must be before the verdict's clock. It looks at one step for
     /// each element that passes, and takes no memory.
-    pub fn pass(&mut self, core: &Core)
-        requires is_final { IsFinal (design core.now.plan) core.now.plan.cycles (theory_of core.now) }
+    pub fn pass(&mut self, core: &FinalCore<'_>)
         requires walk { IsFifoWalk core.now.plan self.old }
         requires more { next_of self.old < last_clock core.now.plan }
         ensures walk { IsFifoWalk core.now.plan self.new }
@@ -101,9 +96,8 @@ fn port_of(channel: u32, side: Side) -> Port
 }
 
 /// The walk of a port, at clock 0.
-fn first(core: &Core, channel: u32, side: Side) -> PortWalk
-    requires is_final { IsFinal (design core.now.plan) core.now.plan.cycles (theory_of core.now) }
-    requires channel { channel < length core.now.plan.design.channels }
+fn first(core: &FinalCore<'_>, channel: u32, side: Side) -> PortWalk
+    requires { channel < length core.now.plan.design.channels }
     ensures { WalkStandsAt core.now.plan (record { side = side; channel = channel }) 0 result }
 {
     PortWalk {
@@ -113,8 +107,7 @@ fn first(core: &Core, channel: u32, side: Side) -> PortWalk
 }
 
 /// The walk of a port right after a clock, from the walk at that clock.
-fn pass_port(core: &Core, port: Port, walk: PortWalk, clock: u64) -> PortWalk
-    requires is_final { IsFinal (design core.now.plan) core.now.plan.cycles (theory_of core.now) }
+fn pass_port(core: &FinalCore<'_>, port: Port, walk: PortWalk, clock: u64) -> PortWalk
     requires channel { port.channel < length core.now.plan.design.channels }
     requires stands { WalkStandsAt core.now.plan port clock walk }
     requires early { clock ≤ walk.next }
@@ -133,9 +126,8 @@ fn pass_port(core: &Core, port: Port, walk: PortWalk, clock: u64) -> PortWalk
 }
 
 /// The clock in which the element with this number, counted from 0, passes a port. `NEVER` where it does not.
-fn clock_of(core: &Core, port: Port, number: u64) -> u64
-    requires is_final { IsFinal (design core.now.plan) core.now.plan.cycles (theory_of core.now) }
-    requires channel { port.channel < length core.now.plan.design.channels }
+fn clock_of(core: &FinalCore<'_>, port: Port, number: u64) -> u64
+    requires { port.channel < length core.now.plan.design.channels }
     ensures { PassesAt core.now.plan port number result }
 {
     let _ends = core.ends();

@@ -2,12 +2,10 @@
 ghost use Rattle.std.specs.Prelude.{◌≡◌, ◌++◌, ◌≤◌, [], length, map, slice_get, IfOk, OnOk};
 ghost use Rattle.flow_word.specs.Kinds.{side_of};
 ghost use Rattle.lockstep_defs.specs.{Channels.moved_value, Machine.is_yes, Machine.value_in, OwnRun.paired};
-ghost use Rattle.event_timing.specs.Actions.{IsFinal};
-ghost use Rattle.timing_bridge.specs.Designs.{design};
 ghost use Rattle.engine_report.specs.Keys.{IsTimedKey};
 ghost use Rattle.sim_core.specs.AccessLog.{exchange_of, log_of, logged, logged_at, access_request, step_doing};
-ghost use Rattle.sim_core.specs.Views.{theory_of};
 
+use crate::final_core::FinalCore;
 use crate::machine::Core;
 use engine_report::{TimedStep, sorted_steps};
 use event_graph::{Access, Kind, Place};
@@ -29,25 +27,42 @@ pub struct LoggedAccess {
     pub value: Option<u64>,
 }
 
-impl Core {
+impl<'a> FinalCore<'a> {
     /// What each access of a final core's plan gave, in the order of the report's events.
     ///
     /// It takes memory for the answer, for one key for each step, which are sorted, and for the replies to a step. `OutOfMemory` where
     /// memory ran out.
     pub fn access_log(&self, alloc: Global) -> Result<List<LoggedAccess>, OutOfMemory>
-        requires { IsFinal (design self.now.plan) self.now.plan.cycles (theory_of self.now) }
         ensures { IfOk result (λ log. log ≡ log_of self.now.plan) }
     {
         steps_in_order();
-        let keys = sorted_steps(alloc, &self.engine.graph)?;
+        let core = self.core();
+        let keys = sorted_steps(alloc, &core.engine.graph)?;
         let mut replies = List::new(alloc);
         let mut log = List::new(alloc);
         for key in keys.as_slice() {
-            self.log_step(key, &mut replies, &mut log)?;
+            core.log_step(key, &mut replies, &mut log)?;
         }
         Ok(log)
     }
 
+    /// Adds what each access of a step with a cycle gave, in order, as `Core::log_step` does.
+    ///
+    /// It takes memory for what it adds, and for the replies to the step. After `OutOfMemory` both lists may have a part of that.
+    pub fn log_step(
+        &self,
+        key: &TimedStep,
+        replies: &mut List<Reply>,
+        log: &mut List<LoggedAccess>,
+    ) -> Result<(), OutOfMemory>
+        requires { IsTimedKey self.now.held.lanes key.now }
+        ensures { OnOk result (log.new ≡ log.old ++ logged_at self.now.held key.now) }
+    {
+        self.core().log_step(key, replies, log)
+    }
+}
+
+impl Core {
     /// Adds what each access of a step with a cycle gave, in order. The list of replies is only memory that a caller may use for
     /// many steps: what it held before does not matter.
     ///

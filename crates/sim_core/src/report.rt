@@ -6,40 +6,43 @@ ghost use Rattle.timing_bridge.specs.Designs.{design};
 ghost use Rattle.engine_report.specs.Finished.{IsFinished, report_with};
 ghost use Rattle.sim_core.specs.Views.{theory_of};
 
+use crate::final_core::FinalCore;
 use crate::machine::Core;
 use engine_report::{report_of, verdict_of};
 use flow_design::{Advance, Report, Verdict};
 use flow_word::OutOfMemory;
 use std::alloc::Global;
 
-impl Core {
+impl<'a> FinalCore<'a> {
     /// The verdict of a final core: it is the lockstep machine's. It takes no memory.
     pub fn verdict(&self) -> Verdict
-        requires { IsFinal (design self.now.plan) self.now.plan.cycles (theory_of self.now) }
         ensures { result ≡ lockstep.verdict self.now.plan }
     {
-        verdict_of(&self.plan, &self.engine)
+        let core = self.core();
+        verdict_of(&core.plan, &core.engine)
     }
 
     /// The end mark of each module of a final core. `None` for a module that waits for good or until the cycle limit. Together with
     /// what the engine holds these are the end of the plan's simulation.
-    pub fn ends(&self) -> &[Option<Advance>]
-        requires { IsFinal (design self.now.plan) self.now.plan.cycles (theory_of self.now) }
+    pub fn ends(&self) -> &'a [Option<Advance>]
         ensures { IsFinished self.now.plan self.now.held result.now }
     {
-        self.engine.ends.as_slice()
+        let core = self.core();
+        core.engine.ends.as_slice()
     }
 
     /// The report of a final core: it is the lockstep machine's, with its events if they are asked for, else with none.
     ///
     /// It takes memory for the report and, where events are asked for, for one key for each step. `OutOfMemory` where memory ran out.
     pub fn report(&self, alloc: Global, with_events: bool) -> Result<Report, OutOfMemory>
-        requires { IsFinal (design self.now.plan) self.now.plan.cycles (theory_of self.now) }
         ensures { IfOk result (λ report. report ≡ report_with with_events self.now.plan) }
     {
-        report_of(alloc, &self.plan, &self.engine, with_events)
+        let core = self.core();
+        report_of(alloc, &core.plan, &core.engine, with_events)
     }
+}
 
+impl Core {
     /// The report of a core that is final, with its events if they are asked for, else with none. `None` where an action is
     /// permitted.
     ///
@@ -57,7 +60,7 @@ impl Core {
         if !self.is_final() {
             return Ok(None);
         }
-        let report = self.report(alloc, with_events)?;
+        let report = FinalCore::new(self).report(alloc, with_events)?;
         Ok(Some(report))
     }
 }

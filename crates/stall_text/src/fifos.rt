@@ -1,12 +1,9 @@
 //! The lines that tell how full each FIFO is.
 ghost use Rattle.std.specs.Prelude.{◌≡◌, ◌<◌, ◌≤◌, ◌++◌, [], true, if◌then◌else◌, length, map, slice_index, All, IfOk, OnOk};
-ghost use Rattle.event_timing.specs.Actions.{IsFinal};
-ghost use Rattle.timing_bridge.specs.Designs.{design};
 ghost use Rattle.flow_design.specs.declared.limits.TheConstants.{CYCLES, FIFO_DELAY, FIFO_DEPTH};
 ghost use Rattle.flow_design.specs.Plans.{delay_at, is_fifo, kind_at};
 ghost use Rattle.report_text.specs.Lines.{line, text_of_lines};
 ghost use Rattle.timelines.specs.Fills.{fifos, last_clock};
-ghost use Rattle.sim_core.specs.Views.{theory_of};
 ghost use Rattle.port_clocks.specs.Leads as counts;
 ghost use Rattle.port_clocks.specs.Leads.{AreClocks};
 ghost use Rattle.stall_text.specs.{StallText.fifo_line, StallText.fifo_tokens, Filling.IsFilling, Filling.shifted, Filling.empty_by};
@@ -15,7 +12,7 @@ use flow_design::ChannelKind;
 use flow_word::{List, OutOfMemory, Port, Side, Words};
 use port_clocks::{ahead_clocks, clocks_at, most_ahead};
 use report_text::{channel_name, push_token, push_value};
-use sim_core::Core;
+use sim_core::FinalCore;
 use std::alloc::Global;
 
 /// How full a FIFO is in a simulation.
@@ -33,11 +30,10 @@ struct Filling {
 pub(crate) fn print_fifos(
     alloc: Global,
     text: &mut List<u8>,
-    core: &Core,
+    core: &FinalCore<'_>,
     clock: u64,
 ) -> Result<(), OutOfMemory>
-    requires is_final { IsFinal (design core.now.plan) core.now.plan.cycles (theory_of core.now) }
-    requires clock { clock ≡ last_clock core.now.plan }
+    requires { clock ≡ last_clock core.now.plan }
     ensures { OnOk result (text.new ≡ text.old ++ text_of_lines (map (fifo_line core.now.plan) (fifos core.now.plan))) }
 {
     core.agrees();
@@ -52,11 +48,10 @@ pub(crate) fn print_fifos(
 fn print_fifo(
     alloc: Global,
     text: &mut List<u8>,
-    core: &Core,
+    core: &FinalCore<'_>,
     channel: u32,
     clock: u64,
 ) -> Result<(), OutOfMemory>
-    requires is_final { IsFinal (design core.now.plan) core.now.plan.cycles (theory_of core.now) }
     requires channel { channel < length core.now.plan.design.channels }
     requires clock { clock ≡ last_clock core.now.plan }
     ensures { OnOk result (text.new
@@ -75,12 +70,11 @@ fn print_fifo(
 /// How full a FIFO with this delay is in a final core's plan.
 fn filling_at(
     alloc: Global,
-    core: &Core,
+    core: &FinalCore<'_>,
     channel: u32,
     delay: u64,
     clock: u64,
 ) -> Result<Filling, OutOfMemory>
-    requires is_final { IsFinal (design core.now.plan) core.now.plan.cycles (theory_of core.now) }
     requires channel { channel < length core.now.plan.design.channels }
     requires fifo { is_fifo (kind_at core.now.plan channel) ≡ true }
     requires delay { delay ≡ delay_at core.now.plan channel }

@@ -1,9 +1,6 @@
 //! How modules poll.
 ghost use Rattle.std.specs.Prelude.{◌≡◌, ◌<◌, ◌^◌, ◌++◌, length, replicate, slice_index_or, slice_set, All, IfOk, IfSome, OnOk, is_some};
-ghost use Rattle.event_timing.specs.Actions.{IsFinal};
-ghost use Rattle.timing_bridge.specs.Designs.{design as design_of};
 ghost use Rattle.report_text.specs.Lines.{text_of_lines};
-ghost use Rattle.sim_core.specs.Views.{theory_of};
 ghost use Rattle.stall_text.specs.{Polls.polls_lines, Polling.ArePollings, Polling.ArePollsOf, Polling.HavePolls, Polling.kept_lines};
 ghost use Rattle.stall_text.specs.{Polling.polling_lines, Polling.unpolled, Polling.polled_so_far as polled, Polling.polling_with};
 
@@ -11,7 +8,7 @@ use crate::queries::{AllQueries, all_queries, is_missed, print_queries};
 use flow_design::Design;
 use flow_word::{List, OutOfMemory};
 use report_text::{module_name, push_token, push_value};
-use sim_core::{Core, LoggedAccess};
+use sim_core::{FinalCore, LoggedAccess};
 use std::alloc::Global;
 
 /// What is known of a module that may poll, after some of its accesses.
@@ -39,9 +36,8 @@ pub(crate) struct Polls {
 pub(crate) fn polls_if(
     alloc: Global,
     asked: bool,
-    core: &Core,
+    core: &FinalCore<'_>,
 ) -> Result<Option<Polls>, OutOfMemory>
-    requires { IsFinal (design_of core.now.plan) core.now.plan.cycles (theory_of core.now) }
     ensures asked { IfOk result (λ polls. is_some polls ≡ asked) }
     ensures polls { IfOk result (ArePollsOf core.now.plan) }
 {

@@ -1,27 +1,23 @@
 //! The lines of the elements that pass each port.
 ghost use Rattle.std.specs.Prelude.{◌≡◌, ◌<◌, ◌++◌, length, IfOk, OnOk};
-ghost use Rattle.event_timing.specs.Actions.{IsFinal};
-ghost use Rattle.timing_bridge.specs.Designs.{design};
 ghost use Rattle.report_text.specs.Lines.{text_of_lines};
-ghost use Rattle.sim_core.specs.Views.{theory_of};
 ghost use Rattle.stall_text.specs.Stalls.{port_clocks};
 ghost use Rattle.stall_text.specs.StallText.{port_lines, ports_of, at_each_side, port_word};
 
 use flow_word::{List, OutOfMemory, Port, Side, Words};
 use port_clocks::own_clocks;
 use report_text::{channel_name, module_name, push_token, push_value};
-use sim_core::Core;
+use sim_core::FinalCore;
 use std::alloc::Global;
 
 /// Adds the lines of a module's ports.
 pub(crate) fn print_ports(
     alloc: Global,
     text: &mut List<u8>,
-    core: &Core,
+    core: &FinalCore<'_>,
     owner: u32,
 ) -> Result<(), OutOfMemory>
-    requires is_final { IsFinal (design core.now.plan) core.now.plan.cycles (theory_of core.now) }
-    requires owner { owner < length core.now.plan.design.modules }
+    requires { owner < length core.now.plan.design.modules }
     ensures { OnOk result (text.new
         ≡ text.old ++ text_of_lines (at_each_side (length core.now.plan.design.channels) (ports_of core.now.plan owner))) }
 {
@@ -46,11 +42,10 @@ pub(crate) fn print_ports(
 fn print_own(
     alloc: Global,
     text: &mut List<u8>,
-    core: &Core,
+    core: &FinalCore<'_>,
     owner: u32,
     port: Port,
 ) -> Result<(), OutOfMemory>
-    requires is_final { IsFinal (design core.now.plan) core.now.plan.cycles (theory_of core.now) }
     requires owner { owner < length core.now.plan.design.modules }
     requires channel { port.channel < length core.now.plan.design.channels }
     ensures { OnOk result (text.new ≡ text.old ++ text_of_lines (ports_of core.now.plan owner port.channel port.side)) }
@@ -63,9 +58,13 @@ fn print_own(
 }
 
 /// The clocks in which a module moves elements at a port.
-fn clocks_of(alloc: Global, core: &Core, owner: u32, port: Port) -> Result<Words, OutOfMemory>
-    requires is_final { IsFinal (design core.now.plan) core.now.plan.cycles (theory_of core.now) }
-    requires channel { port.channel < length core.now.plan.design.channels }
+fn clocks_of(
+    alloc: Global,
+    core: &FinalCore<'_>,
+    owner: u32,
+    port: Port,
+) -> Result<Words, OutOfMemory>
+    requires { port.channel < length core.now.plan.design.channels }
     ensures { IfOk result (λ clocks. clocks ≡ port_clocks core.now.plan owner port) }
 {
     core.agrees();

@@ -1,9 +1,6 @@
 //! The text of `stalls`.
 ghost use Rattle.std.specs.Prelude.{◌≡◌, ◌++◌, ◌<◌, is_some, length, IfOk, OnOk};
 ghost use Rattle.std.specs.List.{flat_map, range_with_len};
-ghost use Rattle.event_timing.specs.Actions.{IsFinal};
-ghost use Rattle.timing_bridge.specs.Designs.{design as design_of};
-ghost use Rattle.sim_core.specs.Views.{theory_of};
 ghost use Rattle.timelines.specs.Fills.{last_clock};
 ghost use Rattle.report_text.specs.Lines.{text_of_lines};
 ghost use Rattle.stall_text.specs.{StallText.module_lines, Polling.ArePollsOf};
@@ -15,7 +12,7 @@ use crate::polls::{Polls, polls_if, print_polling};
 use crate::ports::print_ports;
 use flow_word::{List, OutOfMemory, Side};
 use report_text::{module_name, print_verdict};
-use sim_core::Core;
+use sim_core::FinalCore;
 use std::alloc::Global;
 
 /// The text of `stalls` for a final core's plan: in how many clocks each module moves and stalls, the causes of its stalls, the
@@ -24,8 +21,11 @@ use std::alloc::Global;
 /// It takes memory for the spans of one module at a time, for the clocks of one FIFO's pushes and pops at a time, for two numbers for
 /// each channel, and for the text; with `polls` also for what each access gave, and for a few numbers for each module and each channel.
 /// `OutOfMemory` where memory ran out.
-pub fn stalls_text(alloc: Global, core: &Core, polls: bool) -> Result<List<u8>, OutOfMemory>
-    requires { IsFinal (design_of core.now.plan) core.now.plan.cycles (theory_of core.now) }
+pub fn stalls_text(
+    alloc: Global,
+    core: &FinalCore<'_>,
+    polls: bool,
+) -> Result<List<u8>, OutOfMemory>
     ensures { IfOk result (λ text. text ≡ form.stalls_text polls core.now.plan) }
 {
     let polled = polls_if(alloc, polls, core)?;
@@ -42,11 +42,10 @@ pub fn stalls_text(alloc: Global, core: &Core, polls: bool) -> Result<List<u8>, 
 fn print_modules(
     alloc: Global,
     text: &mut List<u8>,
-    core: &Core,
+    core: &FinalCore<'_>,
     clock: u64,
     polls: &Option<Polls>,
 ) -> Result<(), OutOfMemory>
-    requires is_final { IsFinal (design_of core.now.plan) core.now.plan.cycles (theory_of core.now) }
     requires clock { clock ≡ last_clock core.now.plan }
     requires polls { ArePollsOf core.now.plan polls.now }
     ensures { OnOk result (text.new
@@ -65,11 +64,10 @@ fn print_modules(
 fn print_module(
     alloc: Global,
     text: &mut List<u8>,
-    core: &Core,
+    core: &FinalCore<'_>,
     owner: u32,
     clock: u64,
 ) -> Result<(), OutOfMemory>
-    requires is_final { IsFinal (design_of core.now.plan) core.now.plan.cycles (theory_of core.now) }
     requires owner { owner < length core.now.plan.design.modules }
     requires clock { clock ≡ last_clock core.now.plan }
     ensures { OnOk result (text.new ≡ text.old ++ text_of_lines (form.clock_lines core.now.plan owner)) }

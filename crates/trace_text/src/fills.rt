@@ -3,9 +3,6 @@ ghost use Rattle.std.specs.Prelude.{◌≡◌, ◌<◌, ◌≤◌, ◌++◌, [],
 ghost use Rattle.std.specs.List.{flat_map};
 ghost use Rattle.sim_io.specs.{Causes.AppendsPrefix, Causes.Rose, Telling.IsTold};
 ghost use Rattle.flow_design.specs.Plans.{is_fifo, kind_at};
-ghost use Rattle.event_timing.specs.Actions.{IsFinal};
-ghost use Rattle.timing_bridge.specs.Designs.{design as design_of};
-ghost use Rattle.sim_core.specs.Views.{theory_of};
 ghost use Rattle.timelines.specs.Fills.{fifos, last_clock};
 ghost use Rattle.trace_text.specs.{Events.fill_events, TraceText.further};
 
@@ -13,16 +10,15 @@ use crate::events::{write_change, write_fill};
 use flow_word::List;
 use port_clocks::FifoWalk;
 use report_text::channel_name;
-use sim_core::Core;
+use sim_core::FinalCore;
 use sim_io::{Sink, TellFault};
 
 /// Adds the events of each FIFO up to the verdict's clock to the pending text, in order of declaration, and writes it in pieces.
 pub(crate) fn write_counters<K: Sink>(
     pending: &mut List<u8>,
-    core: &Core,
+    core: &FinalCore<'_>,
     sink: &mut K,
 ) -> Result<(), TellFault>
-    requires { IsFinal (design_of core.now.plan) core.now.plan.cycles (theory_of core.now) }
     ensures ok { OnOk result (IsTold (K.held sink.old) (K.held sink.new) pending.new
         (pending.old ++ further (flat_map (λ f. fill_events core.now.plan f (last_clock core.now.plan)) (fifos core.now.plan)))) }
     ensures err { OnErr result (AppendsPrefix (K.held sink.old) (K.held sink.new)
@@ -42,12 +38,11 @@ pub(crate) fn write_counters<K: Sink>(
 /// Adds the events of a channel up to the verdict's clock to the pending text, if it is a FIFO, and writes it in pieces.
 fn write_channel<K: Sink>(
     pending: &mut List<u8>,
-    core: &Core,
+    core: &FinalCore<'_>,
     channel: u32,
     last: u64,
     sink: &mut K,
 ) -> Result<(), TellFault>
-    requires is_final { IsFinal (design_of core.now.plan) core.now.plan.cycles (theory_of core.now) }
     requires channel { channel < length core.now.plan.design.channels }
     requires last { last ≡ last_clock core.now.plan }
     ensures ok { OnOk result (IsTold (K.held sink.old) (K.held sink.new) pending.new
@@ -68,12 +63,11 @@ fn write_channel<K: Sink>(
 /// each clock in which the FIFO holds another number of elements than in the clock before.
 fn write_fifo<K: Sink>(
     pending: &mut List<u8>,
-    core: &Core,
+    core: &FinalCore<'_>,
     channel: u32,
     last: u64,
     sink: &mut K,
 ) -> Result<(), TellFault>
-    requires is_final { IsFinal (design_of core.now.plan) core.now.plan.cycles (theory_of core.now) }
     requires channel { channel < length core.now.plan.design.channels }
     requires fifo { IsTrue (is_fifo (kind_at core.now.plan channel)) }
     requires last { last ≡ last_clock core.now.plan }

@@ -2,10 +2,8 @@
 ghost use Rattle.std.specs.Prelude.{◌≡◌, ◌≤◌, ◌++◌, ◌∷◌, [], map, All, IfOk, IsErrOf, OnErr, OnOk};
 ghost use Rattle.std.specs.List.{flat_map};
 ghost use Rattle.sim_io.specs.{Causes.AppendsPrefix, Causes.Rose, Telling.IsTold};
-ghost use Rattle.event_timing.specs.Actions.{IsFinal};
-ghost use Rattle.timing_bridge.specs.Designs.{design as design_of};
 ghost use Rattle.report_text.specs.Lines.{line, text_of_lines};
-ghost use Rattle.sim_core.specs.{Views.theory_of, AccessLog.log_of};
+ghost use Rattle.sim_core.specs.AccessLog.{log_of};
 ghost use Rattle.trace_text.specs.LogText.{access_tokens, value_tokens, IsOfDesign};
 ghost use Rattle.trace_text.specs.LogText as form;
 
@@ -14,7 +12,7 @@ use flow_design::Design;
 use flow_word::{List, OutOfMemory};
 use lockstep_defs::reports_name_their_plans;
 use report_text::{channel_name, kind_word, module_name, print_verdict, push_token, push_value};
-use sim_core::{Core, LoggedAccess};
+use sim_core::{FinalCore, LoggedAccess};
 use sim_io::{Sink, TellFault, write_full};
 use std::alloc::Global;
 
@@ -24,8 +22,11 @@ use std::alloc::Global;
 /// It takes memory for two numbers for each module, for what the accesses of one step gave, and for a piece of the text. After a
 /// fault a prefix of the text is written.
 #[tactic(auto, using(sim_io::proofs::Pending::prefix_none))]
-pub fn log_text<K: Sink>(alloc: Global, core: &Core, sink: &mut K) -> Result<List<u8>, TellFault>
-    requires { IsFinal (design_of core.now.plan) core.now.plan.cycles (theory_of core.now) }
+pub fn log_text<K: Sink>(
+    alloc: Global,
+    core: &FinalCore<'_>,
+    sink: &mut K,
+) -> Result<List<u8>, TellFault>
     ensures rest { IfOk result (λ rest. IsTold (K.held sink.old) (K.held sink.new) rest (form.log_text core.now.plan)) }
     ensures prefix { OnErr result (AppendsPrefix (K.held sink.old) (K.held sink.new) (form.log_text core.now.plan)) }
     ensures write_fault { IsErrOf result TellFault.WriteFault → Rose (K.faults sink.old) (K.faults sink.new) }
@@ -41,10 +42,9 @@ pub fn log_text<K: Sink>(alloc: Global, core: &Core, sink: &mut K) -> Result<Lis
 fn write_steps<K: Sink>(
     alloc: Global,
     pending: &mut List<u8>,
-    core: &Core,
+    core: &FinalCore<'_>,
     sink: &mut K,
 ) -> Result<(), TellFault>
-    requires { IsFinal (design_of core.now.plan) core.now.plan.cycles (theory_of core.now) }
     ensures ok { OnOk result (IsTold (K.held sink.old) (K.held sink.new) pending.new
         (pending.old ++ text_of_lines (map (access_tokens core.now.plan.design) (log_of core.now.plan)))) }
     ensures err { OnErr result (AppendsPrefix (K.held sink.old) (K.held sink.new)

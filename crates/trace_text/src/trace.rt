@@ -2,9 +2,6 @@
 ghost use Rattle.std.specs.Prelude.{◌≡◌, ◌++◌, ◌<◌, ◌≤◌, ◌^◌, map, length, IfOk, IsErrOf, OnErr, OnOk};
 ghost use Rattle.std.specs.List.{flat_map, range_with_len};
 ghost use Rattle.sim_io.specs.{Causes.AppendsPrefix, Causes.Rose, Telling.IsTold};
-ghost use Rattle.event_timing.specs.Actions.{IsFinal};
-ghost use Rattle.timing_bridge.specs.Designs.{design as design_of};
-ghost use Rattle.sim_core.specs.Views.{theory_of};
 ghost use Rattle.trace_text.specs.{Events.names_of, Events.span_events, TraceText.further, TraceText.joined_lines};
 ghost use Rattle.trace_text.specs.TraceText as form;
 
@@ -13,7 +10,7 @@ use crate::fills::write_counters;
 use flow_design::Design;
 use flow_word::{List, OutOfMemory};
 use report_text::module_name;
-use sim_core::Core;
+use sim_core::FinalCore;
 use sim_io::{Sink, TellFault, write_full};
 use std::alloc::Global;
 
@@ -22,8 +19,11 @@ use std::alloc::Global;
 ///
 /// It takes memory for the spans of one module at a time, and for a piece of the text. After a fault a prefix of the text is
 /// written.
-pub fn trace_text<K: Sink>(alloc: Global, core: &Core, sink: &mut K) -> Result<List<u8>, TellFault>
-    requires { IsFinal (design_of core.now.plan) core.now.plan.cycles (theory_of core.now) }
+pub fn trace_text<K: Sink>(
+    alloc: Global,
+    core: &FinalCore<'_>,
+    sink: &mut K,
+) -> Result<List<u8>, TellFault>
     ensures rest { IfOk result (λ rest. IsTold (K.held sink.old) (K.held sink.new) rest (form.trace_text core.now.plan)) }
     ensures prefix { OnErr result (AppendsPrefix (K.held sink.old) (K.held sink.new) (form.trace_text core.now.plan)) }
     ensures write_fault { IsErrOf result TellFault.WriteFault → Rose (K.faults sink.old) (K.faults sink.new) }
@@ -58,10 +58,9 @@ fn print_names(text: &mut List<u8>, design: &Design) -> Result<(), OutOfMemory>
 fn write_tracks<K: Sink>(
     alloc: Global,
     pending: &mut List<u8>,
-    core: &Core,
+    core: &FinalCore<'_>,
     sink: &mut K,
 ) -> Result<(), TellFault>
-    requires { IsFinal (design_of core.now.plan) core.now.plan.cycles (theory_of core.now) }
     ensures ok { OnOk result (IsTold (K.held sink.old) (K.held sink.new) pending.new
         (pending.old ++ further (flat_map (span_events core.now.plan) (range_with_len 0 (length core.now.plan.design.modules))))) }
     ensures err { OnErr result (AppendsPrefix (K.held sink.old) (K.held sink.new)

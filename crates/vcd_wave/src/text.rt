@@ -2,9 +2,6 @@
 ghost use Rattle.std.specs.Prelude.{◌≡◌, ◌≤◌, ◌++◌, IfOk, IsErrOf, OnErr, OnOk};
 ghost use Rattle.std.specs.List.{flat_map};
 ghost use Rattle.sim_io.specs.{Causes.AppendsPrefix, Causes.Rose, Telling.IsTold};
-ghost use Rattle.event_timing.specs.Actions.{IsFinal};
-ghost use Rattle.timing_bridge.specs.Designs.{design as design_of};
-ghost use Rattle.sim_core.specs.Views.{theory_of};
 ghost use Rattle.report_text.specs.Lines.{text_of_lines};
 ghost use Rattle.timelines.specs.Fills.{last_clock};
 ghost use Rattle.vcd_wave.specs.Wave.{wave_of, instants_to, closing_instant};
@@ -14,7 +11,7 @@ use crate::lines::{print_header, print_opening, print_time, write_instant};
 use crate::walk::{fifo_walks, next_clock, pass_clock};
 use flow_design::Design;
 use flow_word::List;
-use sim_core::Core;
+use sim_core::FinalCore;
 use sim_io::{Sink, TellFault};
 use std::alloc::Global;
 
@@ -26,11 +23,10 @@ use std::alloc::Global;
 pub fn wave_text<K: Sink>(
     alloc: Global,
     design: &Design,
-    core: &Core,
+    core: &FinalCore<'_>,
     sink: &mut K,
 ) -> Result<List<u8>, TellFault>
-    requires is_final { IsFinal (design_of core.now.plan) core.now.plan.cycles (theory_of core.now) }
-    requires design { design.now ≡ core.now.plan.design }
+    requires { design.now ≡ core.now.plan.design }
     ensures rest { IfOk result (λ rest. IsTold (K.held sink.old) (K.held sink.new) rest (form.wave_text (wave_of core.now.plan))) }
     ensures prefix { OnErr result (AppendsPrefix (K.held sink.old) (K.held sink.new) (form.wave_text (wave_of core.now.plan))) }
     ensures write_fault { IsErrOf result TellFault.WriteFault → Rose (K.faults sink.old) (K.faults sink.new) }
@@ -49,10 +45,9 @@ pub fn wave_text<K: Sink>(
 fn write_later<K: Sink>(
     alloc: Global,
     pending: &mut List<u8>,
-    core: &Core,
+    core: &FinalCore<'_>,
     sink: &mut K,
 ) -> Result<(), TellFault>
-    requires { IsFinal (design_of core.now.plan) core.now.plan.cycles (theory_of core.now) }
     ensures ok { OnOk result (IsTold (K.held sink.old) (K.held sink.new) pending.new
         (pending.old ++ text_of_lines (flat_map form.instant_lines (wave_of core.now.plan).later))) }
     ensures err { OnErr result (AppendsPrefix (K.held sink.old) (K.held sink.new)

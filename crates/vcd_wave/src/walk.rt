@@ -1,15 +1,12 @@
 //! A walk over the clocks of all FIFOs.
 ghost use Rattle.std.specs.Prelude.{◌≡◌, ◌+◌, ◌<◌, ◌≤◌, ◌++◌, [], IfOk, OnOk, length, map, slice_set};
-ghost use Rattle.event_timing.specs.Actions.{IsFinal};
-ghost use Rattle.timing_bridge.specs.Designs.{design};
-ghost use Rattle.sim_core.specs.Views.{theory_of};
 ghost use Rattle.timelines.specs.Fills.{fill, fills, last_clock};
 ghost use Rattle.vcd_wave.specs.Wave.{changes_between};
 ghost use Rattle.vcd_wave.specs.Walks.{AreWalks, StandsBy, least_next, change_if, change_of, other_fill};
 
 use flow_word::{List, OutOfMemory};
 use port_clocks::FifoWalk;
-use sim_core::Core;
+use sim_core::FinalCore;
 use std::alloc::Global;
 
 /// A change: how many elements a FIFO holds from a clock on.
@@ -22,8 +19,7 @@ pub(crate) struct FillChange {
 }
 
 /// A walk over the clocks of each FIFO of a final core's plan, in order of declaration. All are at clock 0.
-pub(crate) fn fifo_walks(alloc: Global, core: &Core) -> Result<List<FifoWalk>, OutOfMemory>
-    requires { IsFinal (design core.now.plan) core.now.plan.cycles (theory_of core.now) }
+pub(crate) fn fifo_walks(alloc: Global, core: &FinalCore<'_>) -> Result<List<FifoWalk>, OutOfMemory>
     ensures { IfOk result (AreWalks core.now.plan 0) }
 {
     core.agrees();
@@ -51,12 +47,11 @@ pub(crate) fn next_clock(walks: &[FifoWalk]) -> u64
 /// Lets all walks go on to the clock right after this one. Nothing may be popped or pushed before this clock. `changes` then has
 /// those FIFOs that hold another number of elements than in this clock, in place of what it had.
 pub(crate) fn pass_clock(
-    core: &Core,
+    core: &FinalCore<'_>,
     walks: &mut List<FifoWalk>,
     clock: u64,
     changes: &mut List<FillChange>,
 ) -> Result<(), OutOfMemory>
-    requires is_final { IsFinal (design core.now.plan) core.now.plan.cycles (theory_of core.now) }
     requires walks { AreWalks core.now.plan clock walks.old }
     requires within { clock < last_clock core.now.plan }
     ensures walks { OnOk result (AreWalks core.now.plan (clock + 1) walks.new) }
@@ -98,8 +93,7 @@ fn put(walks: &mut List<FifoWalk>, fifo: u64, walk: FifoWalk)
 
 /// Lets a walk go on to the clock right after this one. Nothing may be popped or pushed before this clock. The answer is how many
 /// elements the FIFO then holds. `None` where it holds as many as before.
-fn pass_fifo(core: &Core, walk: &mut FifoWalk, clock: u64) -> Option<u64>
-    requires is_final { IsFinal (design core.now.plan) core.now.plan.cycles (theory_of core.now) }
+fn pass_fifo(core: &FinalCore<'_>, walk: &mut FifoWalk, clock: u64) -> Option<u64>
     requires walk { StandsBy core.now.plan clock walk.old }
     requires within { clock < last_clock core.now.plan }
     ensures walk { StandsBy core.now.plan (clock + 1) walk.new }

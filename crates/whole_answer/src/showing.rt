@@ -2,9 +2,6 @@
 ghost use Rattle.std.specs.Prelude.{◌≤◌, IfOk, IsErrOf, OnErr};
 ghost use Rattle.sim_io.specs.{Causes.AppendsPrefix, Causes.Rose, Telling.IsTold};
 ghost use Rattle.flow_design.specs.StaticRules.{FitsEngine};
-ghost use Rattle.event_timing.specs.Actions.{IsFinal};
-ghost use Rattle.timing_bridge.specs.Designs.{design};
-ghost use Rattle.sim_core.specs.Views.{theory_of};
 ghost use Rattle.whole_answer.specs.{Answer.IsRest, Views.shown, Views.view_text};
 
 use crate::answer::Answer;
@@ -16,7 +13,7 @@ use flow_design::Plan;
 use flow_word::List;
 use path_text::path_text;
 use run_threads::Gate;
-use sim_core::Core;
+use sim_core::FinalCore;
 use sim_io::{Sink, TellFault};
 use stall_text::stalls_text;
 use std::alloc::Global;
@@ -41,7 +38,8 @@ pub(crate) fn show<R: Threads + Wait + Sync, G: Gate + Sync, K: Sink>(
     ensures write_fault { IsErrOf result TellFault.WriteFault → Rose (K.faults sink.old) (K.faults sink.new) }
     ensures faults { K.faults sink.old ≤ K.faults sink.new }
 {
-    let core = ThreadRunner::new(host.gate).run_plan(host.rt, host.alloc, plan)?;
+    let run = ThreadRunner::new(host.gate).run_plan(host.rt, host.alloc, plan)?;
+    let core = FinalCore::new(&run);
     let ending = Ending::of(core.verdict());
     let text = view_text(host.alloc, view, options, &core, sink)?;
     Ok(Answer { text, ending })
@@ -53,10 +51,9 @@ fn view_text<K: Sink>(
     alloc: Global,
     view: View,
     options: &Options,
-    core: &Core,
+    core: &FinalCore<'_>,
     sink: &mut K,
 ) -> Result<List<u8>, TellFault>
-    requires { IsFinal (design core.now.plan) core.now.plan.cycles (theory_of core.now) }
     ensures rest { IfOk result (λ rest. IsTold (K.held sink.old) (K.held sink.new) rest (view_text view options.now core.now.plan)) }
     ensures prefix { OnErr result (AppendsPrefix (K.held sink.old) (K.held sink.new) (view_text view options.now core.now.plan)) }
     ensures write_fault { IsErrOf result TellFault.WriteFault → Rose (K.faults sink.old) (K.faults sink.new) }

@@ -1,6 +1,7 @@
 use Rattle.std.proofs.{Common.◌∙◌, Common.ap, Common.sym, Common.subst, lemmas.Result.IfOk-weaker}
 use Rattle.flow_design.specs.{declared.plan.Plan.Plan, StaticRules.FitsEngine}
 use Rattle.lockstep_defs.specs.Report.{report}
+use Rattle.sim_core.specs.Views.{CoreView}
 use Rattle.depth_advice.proofs.{Depths.wide_fits, Finding.advised_by}
 use Rattle.depth_advice.proofs.advising.advised_depths.Goals as goal
 
@@ -9,11 +10,12 @@ run_plan-requires-after_bounds g c κs within = subst FitsEngine (sym c.widen.en
 
 pub returns-clause-verdict : goal.returns-clause-verdict
 returns-clause-verdict g c =
-    IfOk-weaker c.read_depths.result _ _ (λ a told. told ∙ ap (λ (q : Plan). (report q).verdict) (c.in_ok-core.ensures.plan ∙ c.widen.ensures))
+    let same = ap (λ (v : CoreView). v.plan) c.new.ensures ∙ (c.in_ok-core.ensures.plan ∙ c.widen.ensures) in
+    IfOk-weaker c.read_depths.result _ _ (λ a told. told ∙ ap (λ (q : Plan). (report q).verdict) same)
     c.read_depths.ensures.verdict
 
 pub returns-clause-depths : goal.returns-clause-depths
 returns-clause-depths g c =
-    IfOk-weaker c.read_depths.result _ _
-    (λ a found. advised_by c.args.plan c.in_ok-core.core.plan a.depths (c.in_ok-core.ensures.plan ∙ c.widen.ensures) found)
+    let same = ap (λ (v : CoreView). v.plan) c.new.ensures ∙ (c.in_ok-core.ensures.plan ∙ c.widen.ensures) in
+    IfOk-weaker c.read_depths.result _ _ (λ a found. advised_by c.args.plan c.new.result.plan a.depths same found)
     c.read_depths.ensures.depths

@@ -1,6 +1,7 @@
 use Rattle.std.proofs.Common.{◌≡◌, ◌+◌, Some, sym, ◌∙◌, ap, arith}
 use Rattle.lockstep_defs.specs.Verdict.{verdict}
 use Rattle.depth_order.specs.Depths.{with_depths}
+use Rattle.sim_core.specs.Views.{CoreView}
 use Rattle.depth_advice.specs.Advice.{wide}
 use Rattle.depth_advice.proofs.Finding.{advised_by, follows_ok, verdict_told}
 use Rattle.least_depths.proofs.Sized.{clock_within, other_end}
@@ -15,22 +16,24 @@ run_plan-requires-after_bounds g c κs within =
 pub overflow_add-clock : goal.overflow_add-clock
 overflow_add-clock g c =
     let p = c.args.plan.now in
-    let is_wide : c.in_ok-core.core.plan ≡ wide p = c.in_ok-core.ensures.plan ∙ (c.widen.ensures ∙ ap wide c.in_ok-wide.ensures) in
-    let told = advised_verdict p c.in_ok-core.core.plan c.requires.fits is_wide c.verdict.result c.verdict.ensures in
+    let is_wide : c.new-core.result.plan ≡ wide p
+    = ap (λ (v : CoreView). v.plan) c.new-core.ensures ∙ (c.in_ok-run.ensures.plan ∙ (c.widen.ensures ∙ ap wide c.in_ok-wide.ensures)) in
+    let told = advised_verdict p c.new-core.result.plan c.requires.fits is_wide c.verdict.result c.verdict.ensures in
     let few = clock_within p c.requires.fits c.in-Done.clock (told ∙ c.in-Done.is) in
     let slack = c.requires.slack in
     omega arith
 
 pub fewest_bits-requires-clause-deepest : goal.fewest_bits-requires-clause-deepest
 fewest_bits-requires-clause-deepest g c = λ κs outlives.
-    wide_deepest c.args.plan.now c.in_ok-core.core.plan
-    (c.in_ok-core.ensures.plan ∙ (c.widen.ensures ∙ ap wide c.in_ok-wide.ensures))
+    wide_deepest c.args.plan.now c.new-core.result.plan
+    (ap (λ (v : CoreView). v.plan) c.new-core.ensures ∙ (c.in_ok-run.ensures.plan ∙ (c.widen.ensures ∙ ap wide c.in_ok-wide.ensures)))
 
 pub returns-in-Done : goal.returns-in-Done
 returns-in-Done g c =
     let p = c.args.plan.now in
-    let q = c.in_ok-core.core.plan in
-    let is_wide : q ≡ wide p = c.in_ok-core.ensures.plan ∙ (c.widen.ensures ∙ ap wide c.in_ok-wide.ensures) in
+    let q = c.new-core.result.plan in
+    let is_wide : q ≡ wide p
+    = ap (λ (v : CoreView). v.plan) c.new-core.ensures ∙ (c.in_ok-run.ensures.plan ∙ (c.widen.ensures ∙ ap wide c.in_ok-wide.ensures)) in
     let told = advised_verdict p q c.requires.fits is_wide c.verdict.result c.verdict.ensures in
     follows_ok c.fewest_bits.result (λ (x : Leasts). least_by q (c.in-Done.clock + c.args.slack) ≡ Some x.depths)
     (λ (x : Leasts). x.verdict ≡ verdict (with_depths q x.depths)) (λ (x : Leasts). x ≡ leasts c.args.slack p)
@@ -40,10 +43,11 @@ returns-in-Done g c =
 pub returns : goal.returns
 returns g c =
     let p = c.args.plan.now in
-    let q = c.in_ok-core.core.plan in
+    let q = c.new-core.result.plan in
     let advice = c.in_ok-advice-in-Deadlock.advice in
     let found = c.in_ok-advice-in-Deadlock.ensures in
-    let is_wide : q ≡ wide p = c.in_ok-core.ensures.plan ∙ (c.widen.ensures ∙ ap wide c.in_ok-wide.ensures) in
+    let is_wide : q ≡ wide p
+    = ap (λ (v : CoreView). v.plan) c.new-core.ensures ∙ (c.in_ok-run.ensures.plan ∙ (c.widen.ensures ∙ ap wide c.in_ok-wide.ensures)) in
     let same : c.verdict.result ≡ advice.verdict = c.verdict.ensures ∙ (verdict_told q ∙ sym found.verdict) in
     left_leasts c.args.slack p advice.depths advice.verdict
     (λ clock ends. other_end c.verdict.result c.in-Deadlock.is clock (same ∙ ends))

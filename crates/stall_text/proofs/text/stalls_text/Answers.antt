@@ -9,8 +9,8 @@ use Rattle.stall_text.proofs.text.stalls_text.Goals as goal
 pub print_modules-requires-clause-clock : goal.print_modules-requires-clause-clock
 print_modules-requires-clause-clock c = c.clock-clock.ensures ∙ ap clock_of c.verdict-verdict.ensures
 
-pub print_fifos-requires-clause-clock : goal.print_fifos-requires-clause-clock
-print_fifos-requires-clause-clock c = c.clock-clock.ensures ∙ ap clock_of c.verdict-verdict.ensures
+pub print_fifos-requires : goal.print_fifos-requires
+print_fifos-requires c = c.clock-clock.ensures ∙ ap clock_of c.verdict-verdict.ensures
 
 pub returns : goal.returns
 returns c =

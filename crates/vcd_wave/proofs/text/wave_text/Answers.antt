@@ -30,12 +30,12 @@ pub returns-in_err-write_later-clause-prefix : goal.returns-in_err-write_later-c
 returns-in_err-write_later-clause-prefix g c =
     on_err _ (prefix_as _ _ _ _ c.in_err-write_later.ensures.err
     (whole c.args.core.now.plan c.as_slice.result.now c.in_ok-fifos.fifos c.new-pending.result _ _
-    (c.as_slice.ensures ∙ ap (λ (d : Design). d.channels) c.requires.design) c.new-pending.ensures c.in_ok-fifos.ensures.text
+    (c.as_slice.ensures ∙ ap (λ (d : Design). d.channels) c.requires) c.new-pending.ensures c.in_ok-fifos.ensures.text
     c.in_ok-fifos.ensures.count c.in_ok-print_opening.ensures))
 
 pub returns-clause-rest : goal.returns-clause-rest
 returns-clause-rest g c =
     told_as _ _ _ _ _ c.in_ok-write_later.ensures.ok
     (whole c.args.core.now.plan c.as_slice.result.now c.in_ok-fifos.fifos c.new-pending.result _ _
-    (c.as_slice.ensures ∙ ap (λ (d : Design). d.channels) c.requires.design) c.new-pending.ensures c.in_ok-fifos.ensures.text
+    (c.as_slice.ensures ∙ ap (λ (d : Design). d.channels) c.requires) c.new-pending.ensures c.in_ok-fifos.ensures.text
     c.in_ok-fifos.ensures.count c.in_ok-print_opening.ensures)

@@ -1,6 +1,6 @@
 //! What a module asks of the channels.
 ghost use Rattle.std.specs.Prelude.{◌≡◌, ◌<◌, ◌≤◌, ◌^◌, IfOk, OnOk, true, length, slice_index_or};
-ghost use Rattle.flow_design.specs.{StaticRules.FitsEngine, Module.block_of};
+ghost use Rattle.flow_design.specs.Module.{block_of};
 ghost use Rattle.lockstep_defs.specs.{Machine.is_over, Machine.nobody, Machine.requests, Channels.all_ready};
 ghost use Rattle.lockstep_defs.specs.Lockstep.{module_at, moves, state_at};
 ghost use Rattle.module_code.specs.{declared.code.BlockCode.BlockCode as CodeOf, Codes.IsBlockCodeOf, Sound.AreNotesOf, Sound.IsStateSound};
@@ -9,17 +9,25 @@ ghost use Rattle.clock_machine.specs.{Parts.AreCodes, Seats.code_of_block, Seats
 use crate::channels::any_stalls_ever;
 use crate::seat::Seat;
 use crate::standing::{Compiled, Standing};
-use flow_design::{ClockState, Module, ModuleState, Plan, Request};
+use flow_design::{CheckedPlan, ClockState, Module, ModuleState, Request};
 use flow_word::{List, OutOfMemory, Words};
-use module_code::{BlockCode, Notes, is_over, note};
+use module_code::{self, BlockCode, Notes, note};
 
 /// Module i of a plan.
 #[inline(always)]
-pub fn module_at(plan: &Plan, i: usize) -> &Module
+pub fn module_at(plan: &CheckedPlan, i: usize) -> &Module
     requires { i < length plan.now.design.modules }
     ensures { result.now ≡ module_at plan.now i }
 {
-    &plan.design.modules.as_slice()[i]
+    &plan.modules()[i]
+}
+
+/// Whether a module in this state is over, under the plan's operation limit.
+#[inline(always)]
+pub fn is_over(plan: &CheckedPlan, state: &ModuleState) -> bool
+    ensures { result ≡ is_over plan.now.ops state.now }
+{
+    module_code::is_over(plan.ops(), state)
 }
 
 /// The state of module i.
@@ -56,7 +64,6 @@ pub fn note_one(
     notes: &mut Notes,
     asked: &mut List<Request>,
 ) -> Result<(), OutOfMemory>
-    requires fits { FitsEngine of.now.plan.now }
     requires codes { AreCodes of.now.plan.now of.now.codes.now }
     requires within { i < length of.now.plan.now.design.modules }
     requires sound { IsStateSound (module_at of.now.plan.now i) state.now }
@@ -65,6 +72,7 @@ pub fn note_one(
         → AreNotesOf (module_at of.now.plan.now i) state.now (code_of_block of.now.codes.now (i, state.now) d) notes.new) }
     ensures asked { OnOk result (asked.new ≡ requests of.now.plan.now.design.channels (module_at of.now.plan.now i) state.now) }
 {
+    of.plan.fits();
     note(
         module_at(of.plan, i),
         code_at(of, i, state),
@@ -86,7 +94,6 @@ pub fn note_seat(
     words: &mut Words,
     seat: &mut Seat,
 ) -> Result<(), OutOfMemory>
-    requires fits { FitsEngine of.now.plan.now }
     requires codes { AreCodes of.now.plan.now of.now.codes.now }
     requires within { i < length of.now.plan.now.design.modules }
     requires sound { IsStateSound (module_at of.now.plan.now i) state.now }
@@ -121,7 +128,7 @@ pub fn would_move(
     if at.clock < seat.wakes {
         return Ok(true);
     }
-    if is_over(at.of.plan.ops, state) {
+    if is_over(at.of.plan, state) {
         return Ok(false);
     }
     note_seat(at.of, i, state, words, seat)?;

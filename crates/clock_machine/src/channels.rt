@@ -9,7 +9,7 @@ ghost use Rattle.clock_machine.specs.Parts.{outcomes_in, popped, pushed};
 
 use crate::seat::{Pushed, Traffic};
 use crate::standing::Standing;
-use flow_design::{ChannelKind, Element, Plan, Reply, Request};
+use flow_design::{ChannelKind, CheckedPlan, Element, Reply, Request};
 use flow_word::{Flags, Kind, List, OutOfMemory, Queue, Side};
 
 /// How many elements a channel holds.
@@ -60,10 +60,10 @@ fn ready(clock: u64, contents: &[Queue<Element>], channel: u32) -> Option<u64>
 
 /// The delay of a channel, in clocks: 1 where it is no FIFO, or there is no such channel.
 #[inline(always)]
-pub fn delay(plan: &Plan, channel: u32) -> u64
+pub fn delay(plan: &CheckedPlan, channel: u32) -> u64
     ensures { result ≡ delay_at plan.now channel }
 {
-    let channels = plan.design.channels.as_slice();
+    let channels = plan.channels();
     let channel = channel as usize;
     if channel < channels.len() {
         match channels[channel].kind {
@@ -77,20 +77,20 @@ pub fn delay(plan: &Plan, channel: u32) -> u64
 
 /// Whether a channel is a FIFO.
 #[inline(always)]
-fn is_fifo(plan: &Plan, channel: u32) -> bool
+fn is_fifo(plan: &CheckedPlan, channel: u32) -> bool
     ensures { result ≡ is_fifo (kind_at plan.now channel) }
 {
-    let channels = plan.design.channels.as_slice();
+    let channels = plan.channels();
     let channel = channel as usize;
     channel < channels.len() && channels[channel].kind.is_fifo()
 }
 
 /// The depth of a channel, or 0 where there is no such channel.
 #[inline(always)]
-fn depth(plan: &Plan, channel: u32) -> u64
+fn depth(plan: &CheckedPlan, channel: u32) -> u64
     ensures { result ≡ slice_index plan.now.depths channel }
 {
-    let depths = plan.depths.as_slice();
+    let depths = plan.depths();
     let channel = channel as usize;
     if channel < depths.len() {
         depths[channel]
@@ -101,7 +101,7 @@ fn depth(plan: &Plan, channel: u32) -> u64
 
 /// Whether a channel is a FIFO that holds at least as many elements as its depth.
 #[inline(always)]
-fn is_full(plan: &Plan, contents: &[Queue<Element>], channel: u32) -> bool
+fn is_full(plan: &CheckedPlan, contents: &[Queue<Element>], channel: u32) -> bool
     ensures { result ≡ is_full plan.now channel (contents_of contents.now channel) }
 {
     depth(plan, channel) <= held(contents, channel) && is_fifo(plan, channel)
@@ -129,7 +129,12 @@ pub fn stalls(at: &Standing<'_>, request: &Request) -> bool
 
 /// Whether a channel would have an element to pop, or a place for a push, if every element could be popped. No clock matters for
 /// this.
-fn is_possible_ever(plan: &Plan, contents: &[Queue<Element>], side: Side, channel: u32) -> bool
+fn is_possible_ever(
+    plan: &CheckedPlan,
+    contents: &[Queue<Element>],
+    side: Side,
+    channel: u32,
+) -> bool
     ensures { result ≡ can_take plan.now 0 (all_ready contents.now) side channel }
 {
     match side {
@@ -139,7 +144,7 @@ fn is_possible_ever(plan: &Plan, contents: &[Queue<Element>], side: Side, channe
 }
 
 /// Whether an operation blocks and could not be done even if every element could be popped.
-pub fn stalls_ever(plan: &Plan, contents: &[Queue<Element>], request: &Request) -> bool
+pub fn stalls_ever(plan: &CheckedPlan, contents: &[Queue<Element>], request: &Request) -> bool
     ensures { result ≡ stalls plan.now 0 (all_ready contents.now) request.now }
 {
     let kind = request.kind;
@@ -147,7 +152,11 @@ pub fn stalls_ever(plan: &Plan, contents: &[Queue<Element>], request: &Request) 
 }
 
 /// Whether one of these operations blocks and could not be done even if every element could be popped.
-pub fn any_stalls_ever(plan: &Plan, contents: &[Queue<Element>], requests: &[Request]) -> bool
+pub fn any_stalls_ever(
+    plan: &CheckedPlan,
+    contents: &[Queue<Element>],
+    requests: &[Request],
+) -> bool
     ensures { result ≡ list_any (stalls plan.now 0 (all_ready contents.now)) requests.now }
 {
     requests

@@ -1,12 +1,11 @@
 //! The contents of the channels after a clock.
 ghost use Rattle.std.specs.Prelude.{◌≡◌, ◌==◌, if◌then◌else◌, [], ◌∷◌, ◌++◌, map, drop, length, OnOk, ◌≤◌};
 ghost use Rattle.std.specs.List.{enumerate_from};
-ghost use Rattle.flow_design.specs.StaticRules.{FitsEngine};
 ghost use Rattle.clock_machine.specs.Parts.{after_pops, after_pushes};
 
 use crate::channels::delay;
 use crate::seat::Pushed;
-use flow_design::{Element, Plan};
+use flow_design::{CheckedPlan, Element};
 use flow_word::{OutOfMemory, Queue};
 
 /// Takes the element at a channel's front off.
@@ -47,15 +46,15 @@ pub fn pop_all(contents: &mut [Queue<Element>], pops: &[u32])
 
 /// Puts into the channels what is pushed in a clock. After `OutOfMemory` some of it may be missing.
 pub fn push_all(
-    plan: &Plan,
+    plan: &CheckedPlan,
     clock: u64,
     contents: &mut [Queue<Element>],
     pushes: &[Pushed],
 ) -> Result<(), OutOfMemory>
-    requires fits { FitsEngine plan.now }
     requires early { clock ≤ plan.now.cycles }
     ensures { OnOk result (contents.new ≡ map (after_pushes plan.now clock pushes.now) (enumerate_from 0 contents.old)) }
 {
+    plan.fits();
     for pushed in pushes {
         let since = clock + delay(plan, pushed.channel);
         let element = Element {

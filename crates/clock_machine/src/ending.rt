@@ -1,21 +1,22 @@
 //! The verdict of a settled clock, and the report.
 ghost use Rattle.std.specs.Prelude.{◌≡◌, ℕ, ◌<◌, ◌≤◌, [], ◌∷◌, ◌++◌, map, find, filter, filter_map, length, slice_index_or, IfOk, OnOk};
 ghost use Rattle.std.specs.List.{list_any, list_all};
-ghost use Rattle.flow_design.specs.{StaticRules.FitsEngine, Plans.kind_at, Plans.is_sink, declared.report.Verdict.TheVariants.Cycles};
+ghost use Rattle.flow_design.specs.{Plans.kind_at, Plans.is_sink, declared.report.Verdict.TheVariants.Cycles};
 ghost use Rattle.flow_design.specs.declared.state.ClockState.{ClockState as StateOf};
 ghost use Rattle.lockstep_defs.specs.{Machine.is_spent, Machine.nobody, Report.sinks, Report.outputs_in};
 ghost use Rattle.lockstep_defs.specs.Channels.{stalls, all_ready, values, contents_of};
 ghost use Rattle.lockstep_defs.specs.Verdict.{settled_verdict, held_at, held_by, held_modules, held};
 ghost use Rattle.clock_machine.specs.{Parts.AreFitInTime, Parts.AreCodes, Parts.report_from, Clocks.MachineStands};
 
-use crate::asking::{note_one, state_at};
+use crate::asking::{is_over, note_one, state_at};
 use crate::channels::stalls_ever;
 use crate::standing::Compiled;
 use flow_design::{
-    ChannelKind, ClockState, Element, EventLine, Held, ModuleState, Plan, Report, Request, Verdict,
+    ChannelKind, CheckedPlan, ClockState, Element, EventLine, Held, ModuleState, Report, Request,
+    Verdict,
 };
 use flow_word::{Flags, List, OutOfMemory, Queue, Side, Words};
-use module_code::{Notes, is_over, is_spent};
+use module_code::{Notes, is_spent};
 use std::alloc::Global;
 
 /// What a run collected on its way, for the report.
@@ -64,12 +65,12 @@ fn any_spent(ops: u64, states: &[ModuleState]) -> bool
 }
 
 /// The verdict of a settled clock: done where all modules are ended, else ops where one is spent, else deadlock.
-fn settled_verdict(plan: &Plan, clock: u64, state: &ClockState) -> Verdict
+fn settled_verdict(plan: &CheckedPlan, clock: u64, state: &ClockState) -> Verdict
     ensures { result ≡ settled_verdict plan.now clock state.now }
 {
     if all_ended(state.modules.as_slice()) {
         Verdict::Done(clock)
-    } else if any_spent(plan.ops, state.modules.as_slice()) {
+    } else if any_spent(plan.ops(), state.modules.as_slice()) {
         Verdict::Ops(clock)
     } else {
         Verdict::Deadlock(clock)
@@ -77,7 +78,11 @@ fn settled_verdict(plan: &Plan, clock: u64, state: &ClockState) -> Verdict
 }
 
 /// The first of these operations that blocks and could not be done even if every element could be popped.
-fn first_stall(plan: &Plan, contents: &[Queue<Element>], requests: &[Request]) -> Option<Request>
+fn first_stall(
+    plan: &CheckedPlan,
+    contents: &[Queue<Element>],
+    requests: &[Request],
+) -> Option<Request>
     ensures { result ≡ find (stalls plan.now 0 (all_ready contents.now)) requests.now }
 {
     requests
@@ -109,7 +114,6 @@ fn hold_one(
     room: &mut Room,
     held: &mut List<Held>,
 ) -> Result<(), OutOfMemory>
-    requires fits { FitsEngine of.now.plan.now }
     requires codes { AreCodes of.now.plan.now of.now.codes.now }
     requires fit { AreFitInTime of.now.plan.now state.now.modules }
     requires within { i < length state.now.modules }
@@ -117,8 +121,9 @@ fn hold_one(
         ≡ held.old ++ filter_map (held_by of.now.plan.now 0 (all_ready state.now.contents))
         ((i, slice_index_or state.now.modules i nobody) ∷ [])) }
 {
+    of.plan.fits();
     let module = state_at(state, i);
-    if is_over(of.plan.ops, module) {
+    if is_over(of.plan, module) {
         return Ok(());
     }
     note_one(
@@ -138,7 +143,6 @@ fn hold_one(
 
 /// The modules that are held in this state, in order, each with what holds it.
 fn hold_all(alloc: Global, of: &Compiled<'_>, state: &ClockState) -> Result<List<Held>, OutOfMemory>
-    requires fits { FitsEngine of.now.plan.now }
     requires codes { AreCodes of.now.plan.now of.now.codes.now }
     requires fit { AreFitInTime of.now.plan.now state.now.modules }
     ensures { IfOk result (λ list. (clock : ℕ) → list ≡ held_modules of.now.plan.now clock state.now) }
@@ -201,7 +205,7 @@ fn drain_channel(
 /// Adds the values of channel i to the outputs, if it is a sink. The other channels keep their values.
 fn output_one(
     alloc: Global,
-    plan: &Plan,
+    plan: &CheckedPlan,
     contents: &mut [Queue<Element>],
     i: usize,
     outputs: &mut List<Words>,
@@ -219,23 +223,23 @@ fn output_one(
 }
 
 /// The kind of channel i.
-fn kind_of(plan: &Plan, i: usize) -> ChannelKind
+fn kind_of(plan: &CheckedPlan, i: usize) -> ChannelKind
     requires { i < length plan.now.design.channels }
     ensures { result ≡ kind_at plan.now i }
 {
-    plan.design.channels.as_slice()[i].kind
+    plan.channels()[i].kind
 }
 
 /// The values of all sinks, in order.
 fn outputs(
     alloc: Global,
-    plan: &Plan,
+    plan: &CheckedPlan,
     contents: &mut [Queue<Element>],
 ) -> Result<List<Words>, OutOfMemory>
     ensures { IfOk result (λ outputs. outputs ≡ map (λ f. values (contents_of contents.old f)) (sinks plan.now)) }
 {
     let mut outputs = List::new(alloc);
-    let count = plan.design.channels.as_slice().len();
+    let count = plan.channels().len();
     for i in 0..count {
         output_one(alloc, plan, contents, i, &mut outputs)?;
     }
@@ -245,7 +249,7 @@ fn outputs(
 /// The report of a run, from its verdict, its outputs, its held modules, and what it collected.
 fn report_of(
     alloc: Global,
-    plan: &Plan,
+    plan: &CheckedPlan,
     verdict: Verdict,
     held: List<Held>,
     contents: &mut [Queue<Element>],
@@ -293,14 +297,14 @@ pub fn settled_report(
 /// ran out.
 pub fn limit_report(
     alloc: Global,
-    plan: &Plan,
+    plan: &CheckedPlan,
     contents: &mut [Queue<Element>],
     told: Told,
 ) -> Result<Report, OutOfMemory>
     ensures { IfOk result (λ report. (st : StateOf) → st.contents ≡ contents.old
         → report ≡ report_from plan.now (Cycles plan.now.cycles) st told.events told.answers) }
 {
-    let verdict = Verdict::Cycles(plan.cycles);
+    let verdict = Verdict::Cycles(plan.cycles());
     let report = report_of(alloc, plan, verdict, List::new(alloc), contents, told)?;
     Ok(report)
 }

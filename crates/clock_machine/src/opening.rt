@@ -1,34 +1,33 @@
 //! The state at clock 0.
 ghost use Rattle.std.specs.Prelude.{◌≡◌, ◌<◌, ◌++◌, ℕ, [], map, length, replicate, IfOk};
 ghost use Rattle.std.specs.List.{range_with_len};
-ghost use Rattle.flow_design.specs.{StaticRules.FitsEngine, Words.cut_to};
+ghost use Rattle.flow_design.specs.Words.{cut_to};
 ghost use Rattle.lockstep_defs.specs.{Machine.opened, Channels.element_from, Lockstep.module_at, Lockstep.inputs_of, Lockstep.opening};
 ghost use Rattle.clock_machine.specs.Parts.{IsFit, AreFit, AreCodes};
 
 use crate::asking::module_at;
-use flow_design::{ClockState, Element, ModuleState, Plan};
+use flow_design::{CheckedPlan, ClockState, Element, ModuleState};
 use flow_word::{Flags, List, OutOfMemory, Queue, Width, cut};
 use module_code::{BlockCode, codes_of, open};
 use std::alloc::Global;
 
 /// The first state of module i.
-fn open_one(alloc: Global, plan: &Plan, i: usize) -> Result<ModuleState, OutOfMemory>
-    requires fits { FitsEngine plan.now }
+fn open_one(alloc: Global, plan: &CheckedPlan, i: usize) -> Result<ModuleState, OutOfMemory>
     requires within { i < length plan.now.design.modules }
     ensures state { IfOk result (λ state. state ≡ opened (module_at plan.now i)) }
     ensures fit { IfOk result (λ state. IsFit plan.now 0 (i, state)) }
 {
+    plan.fits();
     let state = open(alloc, module_at(plan, i))?;
     Ok(state)
 }
 
 /// The first states of all modules.
-fn open_modules(alloc: Global, plan: &Plan) -> Result<List<ModuleState>, OutOfMemory>
-    requires fits { FitsEngine plan.now }
+fn open_modules(alloc: Global, plan: &CheckedPlan) -> Result<List<ModuleState>, OutOfMemory>
     ensures states { IfOk result (λ states. states ≡ map opened plan.now.design.modules) }
     ensures fit { IfOk result (λ states. AreFit plan.now 0 states) }
 {
-    let count = plan.design.modules.as_slice().len();
+    let count = plan.modules().len();
     let mut states = List::with_room(alloc, count as u64)?;
     for i in 0..count {
         states.push(open_one(alloc, plan, i)?)?;
@@ -51,22 +50,21 @@ fn queue_of(alloc: Global, width: Width, values: &[u64]) -> Result<Queue<Element
 }
 
 /// What channel i holds at clock 0: a source its inputs, and any other channel nothing.
-fn fill_one(alloc: Global, plan: &Plan, i: usize) -> Result<Queue<Element>, OutOfMemory>
-    requires fits { FitsEngine plan.now }
+fn fill_one(alloc: Global, plan: &CheckedPlan, i: usize) -> Result<Queue<Element>, OutOfMemory>
     requires within { i < length plan.now.design.channels }
     ensures { IfOk result (λ queue. queue ≡ inputs_of plan.now i) }
 {
-    let width = plan.design.channels.as_slice()[i].width;
-    let values = plan.inputs.as_slice()[i].as_slice();
+    plan.fits();
+    let width = plan.channels()[i].width;
+    let values = plan.inputs()[i].as_slice();
     queue_of(alloc, width, values)
 }
 
 /// What the channels hold at clock 0.
-fn fill_channels(alloc: Global, plan: &Plan) -> Result<List<Queue<Element>>, OutOfMemory>
-    requires fits { FitsEngine plan.now }
+fn fill_channels(alloc: Global, plan: &CheckedPlan) -> Result<List<Queue<Element>>, OutOfMemory>
     ensures { IfOk result (λ contents. contents ≡ map (inputs_of plan.now) (range_with_len 0 (length plan.now.design.channels))) }
 {
-    let count = plan.design.channels.as_slice().len();
+    let count = plan.channels().len();
     let mut contents = List::with_room(alloc, count as u64)?;
     for i in 0..count {
         contents.push(fill_one(alloc, plan, i)?)?;
@@ -75,12 +73,12 @@ fn fill_channels(alloc: Global, plan: &Plan) -> Result<List<Queue<Element>>, Out
 }
 
 /// The code of all blocks, module by module. It is the same after an edit of a depth. `OutOfMemory` where memory ran out.
-pub fn codes_of_all(alloc: Global, plan: &Plan) -> Result<List<List<BlockCode>>, OutOfMemory>
-    requires fits { FitsEngine plan.now }
+pub fn codes_of_all(alloc: Global, plan: &CheckedPlan) -> Result<List<List<BlockCode>>, OutOfMemory>
     ensures { IfOk result (AreCodes plan.now) }
 {
-    let count = plan.design.modules.as_slice().len();
-    let channels = plan.design.channels.as_slice();
+    plan.fits();
+    let count = plan.modules().len();
+    let channels = plan.channels();
     let mut codes = List::with_room(alloc, count as u64)?;
     for i in 0..count {
         codes.push(codes_of(alloc, channels, module_at(plan, i))?)?;
@@ -89,8 +87,7 @@ pub fn codes_of_all(alloc: Global, plan: &Plan) -> Result<List<List<BlockCode>>,
 }
 
 /// The state at clock 0. `OutOfMemory` where memory ran out.
-pub fn open_all(alloc: Global, plan: &Plan) -> Result<ClockState, OutOfMemory>
-    requires fits { FitsEngine plan.now }
+pub fn open_all(alloc: Global, plan: &CheckedPlan) -> Result<ClockState, OutOfMemory>
     ensures state { IfOk result (λ state. state ≡ opening plan.now) }
     ensures fit { IfOk result (λ state. AreFit plan.now 0 state.modules) }
 {

@@ -1,7 +1,6 @@
 //! The whole run, clock by clock.
 ghost use Rattle.std.specs.Prelude.{◌≡◌, ◌+◌, ◌<◌, ◌≤◌, List as Items, Bool, IfOk, OnOk};
-ghost use Rattle.flow_design.specs.{StaticRules.FitsEngine, declared.report.Verdict.TheVariants.Cycles};
-ghost use Rattle.flow_design.specs.declared.state.ClockState.{ClockState as StateOf};
+ghost use Rattle.flow_design.specs.{declared.report.Verdict.TheVariants.Cycles, declared.state.ClockState.ClockState as StateOf};
 ghost use Rattle.lockstep_defs.specs.{Lockstep.state, Verdict.some_moves, Verdict.is_settled, Verdict.settled_verdict, Report.report};
 ghost use Rattle.module_code.specs.declared.code.BlockCode.{BlockCode as CodeOf};
 ghost use Rattle.clock_machine.specs.{Parts.events_kept, Parts.report_from, Parts.AreCodes, Clocks.MachineStands, Runs.HasCome};
@@ -12,7 +11,7 @@ use crate::opening::{codes_of_all, no_answers, open_all};
 use crate::seat::{Round, Seat, seats_for};
 use crate::standing::{Compiled, Standing};
 use crate::turns::{is_settled, take_turns};
-use flow_design::{ClockState, Plan, Report};
+use flow_design::{CheckedPlan, ClockState, Report};
 use flow_word::{Flags, List, OutOfMemory};
 use module_code::BlockCode;
 use std::alloc::Global;
@@ -31,11 +30,10 @@ pub struct Run {
 }
 
 /// A run at clock 0.
-fn open_run(alloc: Global, plan: &Plan) -> Result<Run, OutOfMemory>
-    requires { FitsEngine plan.now }
+fn open_run(alloc: Global, plan: &CheckedPlan) -> Result<Run, OutOfMemory>
     ensures { (codes : Items (Items CodeOf)) (keep : Bool) → IfOk result (HasCome plan.now codes keep 0) }
 {
-    let modules = plan.design.modules.len();
+    let modules = plan.modules().len() as u64;
     Ok(Run {
         state: open_all(alloc, plan)?,
         seats: seats_for(alloc, modules)?,
@@ -53,7 +51,6 @@ fn step(
     clock: u64,
     run: &mut Run,
 ) -> Result<bool, OutOfMemory>
-    requires fits { FitsEngine of.now.plan.now }
     requires codes { AreCodes of.now.plan.now of.now.codes.now }
     requires early { clock < of.now.plan.now.cycles }
     requires come { HasCome of.now.plan.now of.now.codes.now keep clock run.old }
@@ -61,6 +58,7 @@ fn step(
         ≡ some_moves of.now.plan.now clock (state of.now.plan.now clock).contents (state of.now.plan.now clock)) }
     ensures come { OnOk result (HasCome of.now.plan.now of.now.codes.now keep (clock + 1) run.new) }
 {
+    of.plan.fits();
     let at = Standing {
         alloc,
         of: &*of,
@@ -97,13 +95,13 @@ fn settles(
     clock: u64,
     run: &mut Run,
 ) -> Result<bool, OutOfMemory>
-    requires fits { FitsEngine of.now.plan.now }
     requires codes { AreCodes of.now.plan.now of.now.codes.now }
     requires early { clock ≤ of.now.plan.now.cycles }
     requires come { HasCome of.now.plan.now of.now.codes.now keep clock run.old }
     ensures settled { IfOk result (λ settled. settled ≡ is_settled of.now.plan.now clock (state of.now.plan.now clock)) }
     ensures come { OnOk result (HasCome of.now.plan.now of.now.codes.now keep clock run.new) }
 {
+    of.plan.fits();
     let at = Standing {
         alloc,
         of: &*of,
@@ -126,13 +124,13 @@ fn go_on(
     clock: u64,
     run: &mut Run,
 ) -> Result<bool, OutOfMemory>
-    requires fits { FitsEngine of.now.plan.now }
     requires codes { AreCodes of.now.plan.now of.now.codes.now }
     requires early { clock < of.now.plan.now.cycles }
     requires come { HasCome of.now.plan.now of.now.codes.now keep clock run.old }
     ensures settled { IfOk result (λ settled. settled ≡ is_settled of.now.plan.now clock (state of.now.plan.now clock)) }
     ensures come { OnOk result (HasCome of.now.plan.now of.now.codes.now keep (clock + 1) run.new) }
 {
+    of.plan.fits();
     if step(alloc, of, keep, clock, run)? {
         return Ok(false);
     }
@@ -161,7 +159,7 @@ fn settle(alloc: Global, of: &Compiled<'_>, clock: u64, run: Run) -> Result<Repo
 }
 
 /// The report of a run that has come to the cycle limit without a settled clock.
-fn give_up(alloc: Global, plan: &Plan, run: Run) -> Result<Report, OutOfMemory>
+fn give_up(alloc: Global, plan: &CheckedPlan, run: Run) -> Result<Report, OutOfMemory>
     ensures { IfOk result (λ r. (st : StateOf) → st.contents ≡ run.state.contents
         → r ≡ report_from plan.now (Cycles plan.now.cycles) st run.round.events run.answers) }
 {
@@ -183,24 +181,25 @@ fn give_up(alloc: Global, plan: &Plan, run: Run) -> Result<Report, OutOfMemory>
 /// With `keep` the report has its events. Else it has none: the events take most of the memory. `OutOfMemory` where memory ran out.
 pub fn clock_run_by(
     alloc: Global,
-    plan: &Plan,
+    plan: &CheckedPlan,
     codes: &[List<BlockCode>],
     keep: bool,
 ) -> Result<Report, OutOfMemory>
-    requires fits { FitsEngine plan.now }
     requires codes { AreCodes plan.now codes.now }
     ensures { IfOk result (λ r. r ≡ record (report plan.now) { events = events_kept keep (report plan.now).events }) }
 {
+    plan.fits();
     let of = Compiled { plan, codes };
     let mut run = open_run(alloc, plan)?;
-    for clock in 0..plan.cycles {
+    let cycles = plan.cycles();
+    for clock in 0..cycles {
         if go_on(alloc, &of, keep, clock, &mut run)? {
             let report = settle(alloc, &of, clock, run)?;
             return Ok(report);
         }
     }
-    if settles(alloc, &of, keep, plan.cycles, &mut run)? {
-        let report = settle(alloc, &of, plan.cycles, run)?;
+    if settles(alloc, &of, keep, cycles, &mut run)? {
+        let report = settle(alloc, &of, cycles, run)?;
         return Ok(report);
     }
     let report = give_up(alloc, plan, run)?;
@@ -211,8 +210,7 @@ pub fn clock_run_by(
 ///
 /// It goes through as many clocks as its verdict says. A clock takes time for each module and for what is done in it. `OutOfMemory`
 /// where memory ran out.
-pub fn clock_run(alloc: Global, plan: &Plan) -> Result<Report, OutOfMemory>
-    requires fits { FitsEngine plan.now }
+pub fn clock_run(alloc: Global, plan: &CheckedPlan) -> Result<Report, OutOfMemory>
     ensures { IfOk result (λ r. r ≡ report plan.now) }
 {
     let codes = codes_of_all(alloc, plan)?;

@@ -1,5 +1,5 @@
 //! What all modules are given in a clock.
-use flow_design::{Element, Plan};
+use flow_design::{CheckedPlan, Element};
 use flow_word::{List, Queue};
 use module_code::BlockCode;
 use std::alloc::Global;
@@ -7,7 +7,7 @@ use std::alloc::Global;
 /// A plan with the code of its blocks, module by module.
 #[derive(Clone, Copy)]
 pub struct Compiled<'a> {
-    pub plan: &'a Plan,
+    pub plan: &'a CheckedPlan,
     pub codes: &'a [List<BlockCode>],
 }
 

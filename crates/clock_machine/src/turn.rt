@@ -5,14 +5,14 @@ ghost use Rattle.lockstep_defs.specs.{Machine.is_over, Channels.stalls, Channels
 ghost use Rattle.clock_machine.specs.{Parts.outcomes_in, Parts.popped, Parts.pushed, Seats.IsSeated, Seats.FallsAsleep};
 ghost use Rattle.clock_machine.specs.Clocks.{Runs, HasDone, does_move, step_at};
 
-use crate::asking::{code_at, module_at, note_seat};
+use crate::asking::{code_at, is_over, module_at, note_seat};
 use crate::channels::{answer_one, stalls};
 use crate::seat::{Round, Seat, Traffic};
 use crate::standing::Standing;
 use crate::telling::tell_kept_events;
 use flow_design::{ModuleState, Reply, Request};
 use flow_word::{Flags, List, OutOfMemory};
-use module_code::{go_on, is_over, make_move, tick_to};
+use module_code::{go_on, make_move, tick_to};
 
 /// Whether the module is known to stall on the same request as before.
 #[inline(always)]
@@ -123,7 +123,7 @@ fn surely_stays(at: &Standing<'_>, i: usize, state: &ModuleState, seat: &Seat) -
     ensures stays { result ≡ true → does_move at.now.of.now.plan.now at.now.clock i ≡ false }
     ensures running { result ≡ false → is_over at.now.of.now.plan.now.ops state.now ≡ false }
 {
-    if is_over(at.of.plan.ops, state) {
+    if is_over(at.of.plan, state) {
         return true;
     }
     still_stalls(at, seat)

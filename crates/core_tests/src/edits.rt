@@ -6,8 +6,8 @@ ghost use Rattle.timing_bridge.specs.Designs.{design};
 ghost use Rattle.sim_core.specs.{Views.theory_of, Drives.AreOwn};
 
 use flow_check::check;
-use flow_design::Edit;
 use flow_design::limits::Scale;
+use flow_design::{CheckedPlan, Edit};
 use flow_grammar::keeps_rules;
 use flow_text::read_session;
 use flow_word::Steps;
@@ -118,7 +118,7 @@ fn moved_from<R: AllocGlobal + Abort>(
     let edits = checked.edits.as_slice();
     assert!(rt; number < edits.len());
     let edit = edits[number];
-    let mut core = run_alone(rt.alloc(), checked.plan)?;
+    let mut core = run_alone(rt.alloc(), CheckedPlan::new(checked.plan))?;
     let before = FinalCore::new(&core).access_log(rt.alloc())?;
     edit_on::<Brand, R>(rt, &mut core, &edit, Blank::new(1));
     let after = FinalCore::new(&core).access_log(rt.alloc())?;

@@ -170,8 +170,8 @@ fn bounds_depths(rt: HostRuntime) -> Result<(), Fail> {
 #[test]
 fn finds_queries(rt: HostRuntime) -> Result<(), Fail> {
     let plain = read_plan(rt.alloc(), TWO_FIFOS)?;
-    assert!(&rt; asks_nothing(&plain));
+    assert!(&rt; asks_nothing(plain.plan()));
     let asking = read_plan(rt.alloc(), TWO_LEAST_QUERIES)?;
-    assert!(&rt; !asks_nothing(&asking));
+    assert!(&rt; !asks_nothing(asking.plan()));
     Ok(())
 }

@@ -1,13 +1,12 @@
 //! Whole simulations by single actions, with the modules in several orders.
 ghost use Rattle.std.specs.Prelude.{◌≡◌, ◌<◌, length, IfSome};
-ghost use Rattle.flow_design.specs.StaticRules.{FitsEngine};
 ghost use Rattle.core_actions.specs.Causes.{acting_module};
 ghost use Rattle.sim_core.specs.Drives.{AreOwn};
 
 use crate::actions::{act_same, owner_of};
 use clock_machine::clock_run;
 use core_actions::{ActFault, Action, act, permits};
-use flow_design::{Plan, Report};
+use flow_design::{CheckedPlan, Report};
 use flow_word::Steps;
 use sim_core::Core;
 use std::marker::Brand;
@@ -136,10 +135,8 @@ fn act_all<L: Ledger, R: Abort>(rt: &R, core: &mut Core, order: Order, blank: Bl
 fn report_in<R: AllocGlobal + Abort>(
     rt: &R,
     order: Order,
-    plan: Plan,
-) -> Result<Option<Report>, Fail>
-    requires { FitsEngine plan }
-{
+    plan: CheckedPlan,
+) -> Result<Option<Report>, Fail> {
     let mut core = Core::new(rt.alloc(), plan)?;
     act_all::<Brand, R>(rt, &mut core, order, Blank::new(1));
     Ok(core.final_report(rt.alloc(), true)?)

@@ -9,8 +9,8 @@ ghost use Rattle.sim_core.specs.Views.{theory_of};
 ghost use Rattle.core_tests.specs.Ticks.{others_of, HasTicked};
 
 use flow_check::check;
-use flow_design::Edit;
 use flow_design::limits::Scale;
+use flow_design::{CheckedPlan, Edit};
 use flow_grammar::keeps_rules;
 use flow_text::read_session;
 use flow_word::{OutOfMemory, Steps};
@@ -115,7 +115,7 @@ fn moved_by<R: AllocGlobal + Abort>(rt: &R, text: &[u8], number: usize) -> Resul
     let edits = checked.edits.as_slice();
     assert!(rt; number < edits.len());
     let edit = edits[number];
-    let mut core = run_alone(rt.alloc(), checked.plan)?;
+    let mut core = run_alone(rt.alloc(), CheckedPlan::new(checked.plan))?;
     let moved = count_edit::<Brand, R>(rt, &mut core, &edit, Blank::new(1))?;
     Ok(moved)
 }

@@ -1,7 +1,7 @@
 -- Lines of depths.
-use Rattle.std.proofs.Common.{◌≡◌, refl, sym, ◌∙◌, ap, arith, ℕ, ◌+◌, ◌<◌, Bool, true, false, cond, List, ◌∷◌, [], ◌++◌, length, drop}
-use Rattle.std.proofs.Common.{get_or, add-one, append_assoc}
-use Rattle.std.proofs.{lemmas.Grind.common_steps, Math.Seq.drop-cons}
+use Rattle.std.proofs.Common.{◌≡◌, refl, sym, ◌∙◌, ap, arith, ℕ, ◌+◌, ◌<◌, Bool, true, false, cond, List, ◌∷◌, ◌++◌, length, drop, get_or}
+use Rattle.std.proofs.Common.{add-one, append_assoc}
+use Rattle.std.proofs.Math.Seq.{drop-cons}
 use Rattle.flow_design.specs.{declared.design.Channel.Channel, Plans.is_fifo, Plans.no_channel, Names.Token}
 use Rattle.report_text.specs.Lines.{line, text_of_lines}
 use Rattle.depth_advice.specs.DepthLines.{depth_tokens, depth_lines}

@@ -1,6 +1,5 @@
 //! The advice on the depths of a plan's FIFOs.
 ghost use Rattle.std.specs.Prelude.{◌≡◌, ◌+◌, ◌<◌, ◌≤◌, IfOk};
-ghost use Rattle.flow_design.specs.StaticRules.{FitsEngine};
 ghost use Rattle.lockstep_defs.specs.Report as lockstep;
 ghost use Rattle.depth_order.specs.Depths.{with_depths, AreDepths, AsksNothing};
 ghost use Rattle.port_clocks.specs.Peaks.{peak};
@@ -9,7 +8,7 @@ ghost use Rattle.depth_advice.specs.Advice.{depths_by, wide, advised, AreFastest
 use crate::peaks::depths_above;
 use crate::widening::widen;
 use depth_session::{FinalCore, Runner};
-use flow_design::{Plan, Report, Verdict};
+use flow_design::{CheckedPlan, Report, Verdict};
 use flow_word::{OutOfMemory, Words};
 use std::alloc::Global;
 use std::sync::Wait;
@@ -58,10 +57,9 @@ impl Advice {
 pub fn advise<R: Threads + Wait + Sync, U: Runner>(
     rt: &R,
     alloc: Global,
-    mut plan: Plan,
+    plan: CheckedPlan,
     runner: &mut U,
 ) -> Result<Advice, OutOfMemory>
-    requires { FitsEngine plan }
     ensures report { IfOk result (λ advice. advice.report ≡ lockstep.report (wide plan)) }
     ensures depths { IfOk result (λ advice. advice.depths ≡ advised plan) }
     ensures within { IfOk result (λ advice. AreDepths plan advice.depths) }
@@ -70,8 +68,8 @@ pub fn advise<R: Threads + Wait + Sync, U: Runner>(
     ensures counted { U.made runner.old < u64.MAX → U.made runner.new ≡ U.made runner.old + 1 }
     ensures stays { u64.MAX ≤ U.made runner.old → U.made runner.new ≡ U.made runner.old }
 {
-    widen(&mut plan);
-    let core = runner.run_plan(rt, alloc, plan)?;
+    plan.fits();
+    let core = runner.run_plan(rt, alloc, widen(plan))?;
     read_advice(alloc, &FinalCore::new(&core))
 }
 
@@ -91,17 +89,15 @@ pub struct DepthAdvice {
 pub fn advised_depths<R: Threads + Wait + Sync, U: Runner>(
     rt: &R,
     alloc: Global,
-    mut plan: Plan,
+    plan: CheckedPlan,
     runner: &mut U,
 ) -> Result<DepthAdvice, OutOfMemory>
-    requires { FitsEngine plan }
     ensures verdict { IfOk result (λ advice. advice.verdict ≡ (lockstep.report (wide plan)).verdict) }
     ensures depths { IfOk result (λ advice. advice.depths ≡ advised plan) }
     ensures counted { U.made runner.old < u64.MAX → U.made runner.new ≡ U.made runner.old + 1 }
     ensures stays { u64.MAX ≤ U.made runner.old → U.made runner.new ≡ U.made runner.old }
 {
-    widen(&mut plan);
-    let core = runner.run_plan(rt, alloc, plan)?;
+    let core = runner.run_plan(rt, alloc, widen(plan))?;
     read_depths(alloc, &FinalCore::new(&core))
 }
 

@@ -1,6 +1,6 @@
 //! A core after an edit: it goes on where outcomes are the recorded ones, and is else simulated again.
 ghost use Rattle.std.specs.Prelude.{◌≡◌, ◌+◌, ◌<◌, ◌≤◌, IsOk, IfOk, OnOk, OnErr};
-ghost use Rattle.flow_design.specs.{Plans.EditFits, Plans.with_depth, StaticRules.FitsEngine};
+ghost use Rattle.flow_design.specs.Plans.{EditFits, with_depth};
 ghost use Rattle.lockstep_defs.specs.Report.{report};
 ghost use Rattle.event_timing.specs.{Agreement.AllVerified, Core.opening_core};
 ghost use Rattle.timing_bridge.specs.Designs.{design};
@@ -13,7 +13,7 @@ ghost use Rattle.depth_session.specs.Settled.{IsStateSettled};
 
 use crate::runner::Runner;
 use crate::state::State;
-use flow_design::{Edit, Plan, copy_plan};
+use flow_design::{CheckedPlan, Edit, copy_plan};
 use flow_word::{OutOfMemory, Steps};
 use sim_core::{Core, Guard, records_are_answers};
 use std::alloc::Global;
@@ -108,8 +108,7 @@ fn run_again<R: Threads + Wait + Sync, U: Runner>(
     state: &mut State,
     runner: &mut U,
 ) -> Result<(), OutOfMemory>
-    requires core { HasCore state.old }
-    requires fits { FitsEngine (plan_in state.old) }
+    requires { HasCore state.old }
     ensures plan { plan_in state.new ≡ plan_in state.old }
     ensures settled { OnOk result (IsStateSettled state.new) }
     ensures answers { OnOk result (recorded_by state.new ≡ (report (plan_in state.new)).answers) }
@@ -152,10 +151,9 @@ fn second_core<R: Threads + Wait + Sync, U: Runner>(
 pub(crate) fn first_core<R: Threads + Wait + Sync, U: Runner>(
     rt: &R,
     alloc: Global,
-    plan: Plan,
+    plan: CheckedPlan,
     runner: &mut U,
 ) -> Result<Core, OutOfMemory>
-    requires { FitsEngine plan }
     ensures plan { IfOk result (λ core. core.plan ≡ plan) }
     ensures settled { IfOk result (λ core. IsCoreSettled core) }
     ensures answers { IfOk result (λ core. recorded_in core.held.logs ≡ (report plan).answers) }

@@ -1,11 +1,10 @@
 //! What simulates a plan for a session.
 ghost use Rattle.std.specs.Prelude.{◌≡◌, ℕ, ◌+◌, ◌<◌, ◌≤◌, Option, Some, None, option_copied, IfOk};
-ghost use Rattle.flow_design.specs.StaticRules.{FitsEngine};
 ghost use Rattle.event_timing.specs.{Actions.IsFinal, Core.opening_core, Agreement.AllVerified};
 ghost use Rattle.timing_bridge.specs.Designs.{design};
 ghost use Rattle.sim_core.specs.{Views.theory_of, Drives.AreOwn};
 
-use flow_design::Plan;
+use flow_design::CheckedPlan;
 use flow_word::OutOfMemory;
 use run_threads::{FreeGate, Gate, Light, run_core};
 use sim_core::{Core, finish_alone};
@@ -61,9 +60,8 @@ pub trait Runner {
         &mut self,
         rt: &R,
         alloc: Global,
-        plan: Plan,
+        plan: CheckedPlan,
     ) -> Result<Core, OutOfMemory>
-        requires { FitsEngine plan }
         ensures plan { IfOk result (λ core. core.plan ≡ plan) }
         ensures done { IfOk result (λ core. IsFinal (design core.plan) core.plan.cycles (theory_of core)) }
         ensures verified { IfOk result (λ core. AllVerified (theory_of core)) }

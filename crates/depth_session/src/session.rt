@@ -1,6 +1,6 @@
 //! Sessions of depth edits.
 ghost use Rattle.std.specs.Prelude.{◌≡◌, ◌+◌, ◌<◌, ◌≤◌, true, IsOk, IfOk, OnOk, OnErr};
-ghost use Rattle.flow_design.specs.{Plans.EditFits, StaticRules.FitsEngine};
+ghost use Rattle.flow_design.specs.Plans.{EditFits};
 ghost use Rattle.lockstep_defs.specs.Report.{report};
 ghost use Rattle.lockstep_defs.specs.Verdict as lockstep;
 ghost use Rattle.event_timing.specs.Actions.{IsFinal};
@@ -14,7 +14,7 @@ ghost use Rattle.depth_session.specs.Sessions.{opening_session, plan_behind, wit
 use crate::following::{first_core, follow};
 use crate::runner::Runner;
 use crate::state::State;
-use flow_design::{Edit, Plan, Report, Verdict};
+use flow_design::{CheckedPlan, Edit, Plan, Report, Verdict};
 use flow_word::OutOfMemory;
 use sim_core::FinalCore;
 use std::alloc::Global;
@@ -66,10 +66,9 @@ impl DepthSession {
     pub fn new<R: Threads + Wait + Sync, U: Runner>(
         rt: &R,
         alloc: Global,
-        plan: Plan,
+        plan: CheckedPlan,
         runner: &mut U,
     ) -> Result<DepthSession, OutOfMemory>
-        requires { FitsEngine plan }
         ensures opened { IfOk result (λ session. session ≡ opening_session plan) }
         ensures counted { U.made runner.old < u64.MAX → U.made runner.new ≡ U.made runner.old + 1 }
         ensures stays { u64.MAX ≤ U.made runner.old → U.made runner.new ≡ U.made runner.old }

@@ -18,6 +18,8 @@ use Rattle.flow_design.proofs.expr.Expr.TheLaws.TheKnot as expr
 use Rattle.flow_design.specs.contracts.design.Module as unit
 use Rattle.flow_design.specs.contracts.design.Design as design
 use Rattle.flow_design.specs.contracts.plan.Plan as plan
+use Rattle.flow_design.specs.contracts.checked.CheckedPlan as checked
+use Rattle.flow_design.specs.contracts.checked.CheckedPlan.TheInside as inside
 
 module_field : IsSync (unit.the_field).row
 module_field =
@@ -56,5 +58,8 @@ plan_field =
       (search (list.the_sync, words_sync, sendable) depth 30 fits 5000, (search sendable, (search sendable, (words_sync, tt)))),
     )
 
-pub plan_sync : IsSync plan.the_row
-plan_sync = recorded_sync (plan.the_field).row _ _ (plan.the_type).to_one plan_field
+checked_field : IsSync (inside.the_field).row
+checked_field = struct_sync (shape inside.the_type) (plan_field, tt)
+
+pub plan_sync : IsSync checked.the_row
+plan_sync = search (checked_field, sendable) depth 30 fits 5000

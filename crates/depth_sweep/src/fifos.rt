@@ -1,29 +1,28 @@
 //! The FIFOs of a plan, and how to give them other depths.
 ghost use Rattle.std.specs.Prelude.{◌≡◌, ◌<◌, ◌≤◌, length, All, IfOk};
-ghost use Rattle.flow_design.specs.{Plans.is_fifo, Plans.kind_at, declared.limits.TheConstants.FIFO_DEPTH, StaticRules.FitsEngine};
+ghost use Rattle.flow_design.specs.{Plans.is_fifo, Plans.kind_at, declared.limits.TheConstants.FIFO_DEPTH};
 ghost use Rattle.depth_sweep.specs.Grid.{with_fifo_depths};
 ghost use Rattle.timelines.specs.Fills.{fifos};
 
-use flow_design::{Edit, Plan, edit_plan};
+use flow_design::{CheckedPlan, Edit};
 use flow_word::OutOfMemory;
 use outcome_guard::edits_in_order;
 use std::alloc::Global;
-use timing_bridge::edited_plans_agree;
 
 /// Whether a channel is a FIFO.
-fn is_fifo(plan: &Plan, channel: usize) -> bool
+fn is_fifo(plan: &CheckedPlan, channel: usize) -> bool
     requires { channel < length plan.now.design.channels }
     ensures { result ≡ is_fifo (kind_at plan.now channel) }
 {
-    plan.design.channels.as_slice()[channel].kind.is_fifo()
+    plan.channels()[channel].kind.is_fifo()
 }
 
 /// How many FIFOs a plan has.
-pub(crate) fn fifo_count(plan: &Plan) -> u64
+pub(crate) fn fifo_count(plan: &CheckedPlan) -> u64
     ensures { result ≡ length (fifos plan.now) }
 {
     let mut count = 0;
-    for channel in 0..plan.design.channels.as_slice().len() {
+    for channel in 0..plan.channels().len() {
         if is_fifo(plan, channel) {
             count += 1;
         }
@@ -32,12 +31,12 @@ pub(crate) fn fifo_count(plan: &Plan) -> u64
 }
 
 /// The numbers of a plan's FIFOs, in order of declaration. `OutOfMemory` where memory ran out.
-pub(crate) fn fifos(alloc: Global, plan: &Plan) -> Result<Vec<u32>, OutOfMemory>
-    requires { FitsEngine plan.now }
+pub(crate) fn fifos(alloc: Global, plan: &CheckedPlan) -> Result<Vec<u32>, OutOfMemory>
     ensures { IfOk result (λ channels. channels.items ≡ fifos plan.now) }
 {
+    plan.fits();
     let mut channels = Vec::new(alloc);
-    for channel in 0..plan.design.channels.as_slice().len() {
+    for channel in 0..plan.channels().len() {
         if is_fifo(plan, channel) {
             channels.push(channel as u32)?;
         }
@@ -46,21 +45,19 @@ pub(crate) fn fifos(alloc: Global, plan: &Plan) -> Result<Vec<u32>, OutOfMemory>
 }
 
 /// Sets the depths of the FIFOs, whose channel numbers are `channels`.
-pub(crate) fn set_depths(plan: &mut Plan, channels: &[u32], depths: &[u64])
-    requires fits { FitsEngine plan.old }
+pub(crate) fn set_depths(plan: &mut CheckedPlan, channels: &[u32], depths: &[u64])
     requires channels { channels.now ≡ fifos plan.old }
     requires count { length depths.now ≡ length channels.now }
     requires limits { All (λ depth. (1 ≤ depth) × (depth ≤ FIFO_DEPTH)) depths.now }
-    ensures depths { plan.new ≡ with_fifo_depths plan.old depths.now }
-    ensures fits { FitsEngine plan.new }
+    ensures { plan.new ≡ with_fifo_depths plan.old depths.now }
 {
     edits_in_order();
-    edited_plans_agree();
+    plan.fits();
     for at in 0..channels.len() {
         let edit = Edit {
             channel: channels[at],
             depth: depths[at],
         };
-        edit_plan(plan, &edit);
+        plan.edit(&edit);
     }
 }

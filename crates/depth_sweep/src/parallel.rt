@@ -1,13 +1,12 @@
 //! The sweep over a grid of depths, on several threads.
 ghost use Rattle.std.specs.Prelude.{◌≡◌, ◌≤◌, ◌<◌, ◌↔◌, [], Err, length, map, slice_index_or, IfOk};
-ghost use Rattle.flow_design.specs.StaticRules.{FitsEngine};
 ghost use Rattle.depth_sweep.specs.{Grid.grid, Grid.grid_of, Grid.most_points, Grid.point, Shapes.IsShape};
 ghost use Rattle.timelines.specs.Fills.{fifos};
 
 use crate::fifos::{fifo_count, fifos};
 use crate::point::{Point, simulate};
 use crate::shape::{Shape, depths_at, shape_of};
-use flow_design::Plan;
+use flow_design::CheckedPlan;
 use flow_word::{List, OutOfMemory};
 use rayon::prelude::*;
 use std::alloc::{AllocError, Global};
@@ -43,11 +42,10 @@ impl From<OutOfMemory> for SweepFault {
 pub fn sweep<R: Threads + Sync>(
     rt: &R,
     alloc: Global,
-    plan: &Plan,
+    plan: &CheckedPlan,
     lo: u64,
     hi: u64,
 ) -> Result<List<Point>, SweepFault>
-    requires fits { FitsEngine plan.now }
     requires least { 1 ≤ lo }
     requires ordered { lo ≤ hi }
     requires most { hi ≤ 64 }
@@ -64,10 +62,9 @@ pub fn sweep<R: Threads + Sync>(
 fn simulate_all<R: Threads + Sync>(
     rt: &R,
     alloc: Global,
-    plan: &Plan,
+    plan: &CheckedPlan,
     shape: Shape,
 ) -> Result<List<Point>, OutOfMemory>
-    requires fits { FitsEngine plan.now }
     requires shape { IsShape shape }
     requires fifos { shape.fifos ≡ length (fifos plan.now) }
     ensures { IfOk result (λ points. points ≡ map (point plan.now) (grid shape.lo shape.hi shape.fifos)) }
@@ -81,11 +78,10 @@ fn simulate_all<R: Threads + Sync>(
 fn map_numbers<R: Threads + Sync>(
     rt: &R,
     alloc: Global,
-    plan: &Plan,
+    plan: &CheckedPlan,
     channels: &[u32],
     shape: Shape,
 ) -> Result<Result<Vec<Point>, OutOfMemory>, AllocError>
-    requires fits { FitsEngine plan.now }
     requires channels { channels.now ≡ fifos plan.now }
     requires shape { IsShape shape }
     requires fifos { shape.fifos ≡ length (fifos plan.now) }
@@ -96,7 +92,7 @@ fn map_numbers<R: Threads + Sync>(
         .with_min_len(1)
         .map(
             move |number: u64| -> Result<Point, OutOfMemory>
-                requires { FitsEngine plan.now × (channels.now ≡ fifos plan.now) × IsShape shape
+                requires { (channels.now ≡ fifos plan.now) × IsShape shape
                     × (shape.fifos ≡ length (fifos plan.now)) × (number < shape.lists) }
                 ensures { IfOk result (λ found. found
                     ≡ point plan.entry.now (slice_index_or (grid shape.lo shape.hi shape.fifos) number [])) }
@@ -108,12 +104,11 @@ fn map_numbers<R: Threads + Sync>(
 /// The point of a grid with this number, counted from 0. `OutOfMemory` where memory ran out.
 fn point_numbered(
     alloc: Global,
-    plan: &Plan,
+    plan: &CheckedPlan,
     channels: &[u32],
     shape: &Shape,
     number: u64,
 ) -> Result<Point, OutOfMemory>
-    requires fits { FitsEngine plan.now }
     requires channels { channels.now ≡ fifos plan.now }
     requires shape { IsShape shape.now }
     requires fifos { shape.now.fifos ≡ length (fifos plan.now) }

@@ -1,12 +1,12 @@
 //! One point of a grid of depths.
 ghost use Rattle.std.specs.Prelude.{◌≡◌, ◌≤◌, ◌<◌, length, All, IfOk};
-ghost use Rattle.flow_design.specs.{declared.limits.TheConstants.FIFO_DEPTH, StaticRules.FitsEngine};
+ghost use Rattle.flow_design.specs.declared.limits.TheConstants.{FIFO_DEPTH};
 ghost use Rattle.depth_sweep.specs.Grid.{point};
 ghost use Rattle.timelines.specs.Fills.{fifos};
 
 use crate::fifos::set_depths;
-use flow_design::{Plan, Verdict, copy_plan};
-use flow_word::{OutOfMemory, Words};
+use flow_design::{CheckedPlan, Verdict};
+use flow_word::{OutOfMemory, TryCopy, Words};
 use sim_core::{FinalCore, run_alone};
 use std::alloc::Global;
 
@@ -31,17 +31,16 @@ impl Drop for Point {
 #[tactic(auto, unfolding(crate::specs::Grid::point, lockstep_defs::specs::Report::report))]
 pub(crate) fn simulate(
     alloc: Global,
-    plan: &Plan,
+    plan: &CheckedPlan,
     channels: &[u32],
     depths: Words,
 ) -> Result<Point, OutOfMemory>
-    requires fits { FitsEngine plan.now }
     requires channels { channels.now ≡ fifos plan.now }
     requires count { length depths ≡ length channels.now }
     requires limits { All (λ depth. (1 ≤ depth) × (depth ≤ FIFO_DEPTH)) depths }
     ensures { IfOk result (λ found. found ≡ point plan.now depths) }
 {
-    let mut own = copy_plan(alloc, plan)?;
+    let mut own = plan.try_copy(alloc)?;
     set_depths(&mut own, channels, depths.as_slice());
     let core = run_alone(alloc, own)?;
     Ok(Point {

@@ -4,18 +4,12 @@ use Rattle.std.proofs.lemmas.Bool.{cases_Bool}
 use Rattle.flow_design.specs.{declared.limits.TheConstants.FIFO_DEPTH, declared.plan.Plan.Plan, Plans.with_depth, StaticRules.FitsEngine}
 use Rattle.lockstep_defs.specs.Verdict.{verdict}
 use Rattle.depth_order.specs.Depths.{AsksNothing}
-use Rattle.depth_order.proofs.Plans.{depths_fit}
 use Rattle.path_check.specs.Late.{IsLateBelow}
 use Rattle.path_check.proofs.Depths.{own_depths}
 use Rattle.least_depths.specs.{Known.AreKnown, Lowering.HasDepth, Lowering.is_in_time, Lowering.lowered}
 use Rattle.least_depths.proofs.{Depths.test_done_by, Least.in_time_more, Least.lowered_first}
 
 -- ---- the plan with the first channels lowered
-
-pub lowered_fits : (p : Plan) → FitsEngine p → (clock n : ℕ) (q : Plan) → q ≡ (lowered p clock n).plan → FitsEngine q
-lowered_fits p h clock n q e =
-    let x = (lowered_first p h clock n).lower in
-    subst FitsEngine (sym (e ∙ x.same)) (depths_fit p h (lowered p clock n).plan.depths x.depths)
 
 pub quiet_lowered : (p : Plan) → FitsEngine p → (clock n : ℕ) (q : Plan) → q ≡ (lowered p clock n).plan → AsksNothing p → AsksNothing q
 quiet_lowered p h clock n q e none = subst AsksNothing (sym (e ∙ (lowered_first p h clock n).lower.same)) none

@@ -1,6 +1,6 @@
 //! Lowers depths in a session of edits, by halving.
 ghost use Rattle.std.specs.Prelude.{◌≡◌, ◌+◌, ◌<◌, ◌≤◌, true, false, length, IsSome, IfOk, OnOk};
-ghost use Rattle.flow_design.specs.{declared.limits.TheConstants.FIFO_DEPTH, StaticRules.FitsEngine};
+ghost use Rattle.flow_design.specs.declared.limits.TheConstants.{FIFO_DEPTH};
 ghost use Rattle.flow_design.specs.Plans.{EditFits, is_fifo, kind_at, with_depth};
 ghost use Rattle.depth_order.specs.Depths.{AsksNothing};
 ghost use Rattle.path_check.specs.Late.{IsLateBelow};
@@ -32,7 +32,6 @@ pub(crate) fn lower_all<R: Threads + Wait + Sync, U: Runner>(
 ) -> Result<u64, OutOfMemory>
     requires live { session.old.live ≡ true }
     requires few { session.old.count.runs ≤ 1 }
-    requires fits { FitsEngine session.old.plan }
     requires latest { IsSome latest.now → AsksNothing session.old.plan }
     ensures live { OnOk result (session.new.live ≡ true) }
     ensures plan { OnOk result (session.new.plan ≡ (lowered session.old.plan clock (length session.old.plan.design.channels)).plan) }
@@ -41,6 +40,7 @@ pub(crate) fn lower_all<R: Threads + Wait + Sync, U: Runner>(
         + (lowered session.old.plan clock (length session.old.plan.design.channels)).tries + length session.old.plan.design.channels }
     ensures quiet { AsksNothing session.old.plan → U.made runner.new ≡ U.made runner.old }
 {
+    session.core().agrees();
     let channels = session.plan().design.channels.len();
     let mut tries = 0;
     for channel in 0..channels {
@@ -88,7 +88,6 @@ fn lower<R: Threads + Wait + Sync, U: Runner>(
 ) -> Result<u64, OutOfMemory>
     requires live { session.old.live ≡ true }
     requires runs { session.old.count.runs + FIFO_DEPTH + 1 < u64.MAX }
-    requires fits { FitsEngine session.old.plan }
     requires depth { HasDepth session.old.plan target.now.channel }
     requires latest { IsSome latest.now → AsksNothing session.old.plan }
     ensures live { OnOk result (session.new.live ≡ true) }
@@ -101,6 +100,7 @@ fn lower<R: Threads + Wait + Sync, U: Runner>(
         ≤ U.made runner.old + (least_for session.old.plan target.now.clock target.now.channel).tries + 1 }
     ensures quiet { AsksNothing session.old.plan → U.made runner.new ≡ U.made runner.old }
 {
+    session.core().agrees();
     let mut least = 1;
     let mut most = session.plan().depths.as_slice()[target.channel as usize];
     let mut tries = 0;
@@ -140,7 +140,6 @@ fn try_bound<R: Threads + Wait + Sync, U: Runner>(
 ) -> Result<Known, OutOfMemory>
     requires live { session.old.live ≡ true }
     requires runs { session.old.count.runs < u64.MAX }
-    requires fits { FitsEngine session.old.plan }
     requires depth { HasDepth session.old.plan target.now.channel }
     requires late { IsLateBelow session.old.plan target.now.clock target.now.channel late_below }
     requires quiet { 1 < late_below → AsksNothing session.old.plan }
@@ -151,6 +150,7 @@ fn try_bound<R: Threads + Wait + Sync, U: Runner>(
     ensures known { IfOk result (λ known. AreKnown session.old.plan target.now.channel known) }
     ensures quiet { U.made runner.new ≡ U.made runner.old }
 {
+    session.core().agrees();
     let stands = session.plan().depths.as_slice()[target.channel as usize];
     if late_below <= 1 || late_below >= stands {
         return Ok(Known {

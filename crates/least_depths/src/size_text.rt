@@ -1,13 +1,12 @@
 //! The text of the sizes.
 ghost use Rattle.std.specs.Prelude.{◌≡◌, ◌+◌, ◌≤◌, length, IfOk, OnOk};
-ghost use Rattle.flow_design.specs.StaticRules.{FitsEngine};
 ghost use Rattle.depth_order.specs.Depths.{AsksNothing};
 ghost use Rattle.least_depths.specs.{Least.sizes, Least.first_runs, Least.most_slack, SizeText.size_text};
 
 use crate::sizing::find_sizes;
 use depth_advice::print_depths;
 use depth_session::Runner;
-use flow_design::{Plan, Verdict};
+use flow_design::{CheckedPlan, Verdict};
 use flow_word::{List, OutOfMemory};
 use report_text::print_verdict;
 use std::alloc::Global;
@@ -44,26 +43,22 @@ impl SizeText {
 pub fn tell_sizes<R: Threads + Wait + Sync, U: Runner>(
     rt: &R,
     alloc: Global,
-    plan: &Plan,
+    plan: &CheckedPlan,
     slack: u64,
     runner: &mut U,
 ) -> Result<SizeText, OutOfMemory>
-    requires fits { FitsEngine plan.now }
-    requires slack { slack ≤ most_slack }
+    requires { slack ≤ most_slack }
     ensures text { IfOk result (λ told. told.text ≡ size_text slack plan.now) }
     ensures verdict { IfOk result (λ told. told.verdict ≡ (sizes slack plan.now).verdict) }
     ensures made { U.made runner.new ≤ U.made runner.old + 2 + (sizes slack plan.now).tries + length plan.now.design.channels }
     ensures quiet { AsksNothing plan.now → U.made runner.old + 2 ≤ u64.MAX
         → OnOk result (U.made runner.new ≡ U.made runner.old + first_runs (sizes slack plan.now).verdict) }
 {
+    plan.fits();
     let found = find_sizes(rt, alloc, plan, slack, runner)?;
     let mut text = List::from_slice(alloc, b"size\n")?;
     print_verdict(&mut text, found.verdict)?;
-    print_depths(
-        &mut text,
-        plan.design.channels.as_slice(),
-        found.depths.as_slice(),
-    )?;
+    print_depths(&mut text, plan.channels(), found.depths.as_slice())?;
     Ok(SizeText {
         text,
         verdict: found.verdict,

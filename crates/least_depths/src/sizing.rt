@@ -9,8 +9,8 @@ use crate::bounds::latest_clocks;
 use crate::halving::lower_all;
 use depth_advice::advised_depths;
 use depth_session::{DepthSession, Runner};
-use flow_design::{Plan, Verdict, copy_plan};
-use flow_word::{List, OutOfMemory, Words};
+use flow_design::{CheckedPlan, Plan, Verdict};
+use flow_word::{List, OutOfMemory, TryCopy, Words};
 use std::alloc::Global;
 use std::sync::Wait;
 use std::thread::Threads;
@@ -46,18 +46,18 @@ impl Drop for Sizes {
 pub fn find_sizes<R: Threads + Wait + Sync, U: Runner>(
     rt: &R,
     alloc: Global,
-    plan: &Plan,
+    plan: &CheckedPlan,
     slack: u64,
     runner: &mut U,
 ) -> Result<Sizes, OutOfMemory>
-    requires fits { FitsEngine plan.now }
-    requires slack { slack ≤ most_slack }
+    requires { slack ≤ most_slack }
     ensures found { IfOk result (λ found. found ≡ sizes slack plan.now) }
     ensures made { U.made runner.new ≤ U.made runner.old + 2 + (sizes slack plan.now).tries + length plan.now.design.channels }
     ensures quiet { AsksNothing plan.now → U.made runner.old + 2 ≤ u64.MAX
         → OnOk result (U.made runner.new ≡ U.made runner.old + first_runs (sizes slack plan.now).verdict) }
 {
-    let own = copy_plan(alloc, plan)?;
+    plan.fits();
+    let own = plan.try_copy(alloc)?;
     let advice = advised_depths(rt, alloc, own, runner)?;
     match advice.verdict {
         Verdict::Done(clock) => lower_depths(rt, alloc, plan, advice.depths, clock + slack, runner),
@@ -75,7 +75,7 @@ pub fn find_sizes<R: Threads + Wait + Sync, U: Runner>(
 fn lower_depths<R: Threads + Wait + Sync, U: Runner>(
     rt: &R,
     alloc: Global,
-    plan: &Plan,
+    plan: &CheckedPlan,
     depths: Words,
     clock: u64,
     runner: &mut U,
@@ -88,10 +88,12 @@ fn lower_depths<R: Threads + Wait + Sync, U: Runner>(
         + (lowered (with_depths plan.now depths) clock (length plan.now.design.channels)).tries + length plan.now.design.channels }
     ensures quiet { AsksNothing plan.now → U.made runner.old < u64.MAX → OnOk result (U.made runner.new ≡ U.made runner.old + 1) }
 {
-    let mut own = copy_plan(alloc, plan)?;
+    let copy = plan.try_copy(alloc)?;
+    let mut own = copy.into_plan();
     own.depths = depths;
     limit_cycles(&mut own, clock);
-    let mut session = DepthSession::new(rt, alloc, own, runner)?;
+    let limited = CheckedPlan::new(own);
+    let mut session = DepthSession::new(rt, alloc, limited, runner)?;
     let latest = latest_clocks(alloc, &session, clock);
     let tries = lower_all(rt, alloc, &mut session, &latest, clock, runner)?;
     Ok(Sizes {

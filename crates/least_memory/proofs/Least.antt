@@ -9,7 +9,7 @@ use Rattle.lockstep_defs.specs.{Report.report, Verdict.verdict}
 use Rattle.depth_order.specs.Depths.{with_depths, AreDepths, IsDoneBy}
 use Rattle.depth_order.proofs.Plans.{fifo_inside}
 use Rattle.depth_advice.specs.Advice.{advised, wide}
-use Rattle.depth_advice.proofs.{Depths.advised_depths, Depths.wide_fits, Depths.never_blocks, Depths.fifo_entry, Finding.verdict_told}
+use Rattle.depth_advice.proofs.{Depths.advised_depths, Depths.never_blocks, Depths.fifo_entry, Finding.verdict_told}
 use Rattle.least_depths.specs.Least.{IsNoLater}
 use Rattle.least_depths.proofs.{Depths.test_done_by, Depths.done_by_test, Sessions.report_told}
 use Rattle.depth_cuts.specs.{declared.cuts.Demands.Demands, Cuts.IsNoWorse, Cuts.IsCheapest, PlanCuts.AreDeepest}
@@ -168,9 +168,6 @@ left_leasts slack p ds v other e told =
 
 pub wide_deepest : (p q : Plan) → q ≡ wide p → AreDeepest q
 wide_deepest p q e = subst AreDeepest (sym e) (λ f fifo. fifo_entry p (λ g. FIFO_DEPTH) f fifo)
-
-pub wide_fit : (p q : Plan) → FitsEngine p → q ≡ wide p → FitsEngine q
-wide_fit p q fits e = subst FitsEngine (sym e) (wide_fits p fits)
 
 -- ---- numbers
 

@@ -1,6 +1,6 @@
 //! Demands that all depths with which a plan ends by a clock meet.
 ghost use Rattle.std.specs.Prelude.{◌≡◌, ◌<◌, ◌≤◌, true, length, All, IfOk};
-ghost use Rattle.flow_design.specs.{Plans.is_fifo, Plans.kind_at, StaticRules.FitsEngine};
+ghost use Rattle.flow_design.specs.Plans.{is_fifo, kind_at};
 ghost use Rattle.path_check.specs.Late.{IsLateBelow};
 ghost use Rattle.lockstep_defs.specs.Verdict.{verdict};
 ghost use Rattle.depth_order.specs.Depths.{AsksNothing, IsDoneBy};
@@ -24,11 +24,11 @@ pub(crate) fn first_demands(
     core: &FinalCore<'_>,
     clock: u64,
 ) -> Result<Demands, OutOfMemory>
-    requires fits { FitsEngine core.now.plan }
     requires quiet { AsksNothing core.now.plan }
     requires deepest { AreDeepest core.now.plan }
     ensures { IfOk result (λ demands. AreNeeded core.now.plan clock demands) }
 {
+    core.agrees();
     let latest = find_latest(alloc, core.engine(), core.ends(), clock)?;
     let channels = core.plan().design.channels.as_slice();
     let widths = widths_of(alloc, channels)?;
@@ -63,12 +63,12 @@ fn floor_of(
     channel: u32,
     clock: u64,
 ) -> Result<u64, OutOfMemory>
-    requires fits { FitsEngine core.now.plan }
     requires quiet { AsksNothing core.now.plan }
     requires deepest { AreDeepest core.now.plan }
     requires channel { channel < length core.now.plan.design.channels }
     ensures { IfOk result (λ floor. IsFloor core.now.plan clock channel floor) }
 {
+    core.agrees();
     if !is_fifo(core, channel) {
         return Ok(0);
     }
@@ -116,11 +116,11 @@ pub(crate) fn cheapest_of(
     demands: &Demands,
     clock: u64,
 ) -> Result<Words, OutOfMemory>
-    requires fits { FitsEngine core.now.plan }
     requires needed { AreNeeded core.now.plan clock demands.now }
     requires done { IsDoneBy clock (verdict core.now.plan) }
     ensures { IfOk result (λ depths. IsCheapest demands.now depths) }
 {
+    core.agrees();
     match cheapest(alloc, demands)? {
         Some(depths) => Ok(depths),
         None => unreachable!("the plan's own depths meet the demands"),

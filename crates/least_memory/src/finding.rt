@@ -1,6 +1,5 @@
 //! Finds the depths with the fewest bits.
 ghost use Rattle.std.specs.Prelude.{◌≡◌, ◌≤◌, Some, IfOk};
-ghost use Rattle.flow_design.specs.StaticRules.{FitsEngine};
 ghost use Rattle.lockstep_defs.specs.Verdict.{verdict};
 ghost use Rattle.depth_order.specs.Depths.{with_depths, AsksNothing, IsDoneBy};
 ghost use Rattle.depth_cuts.specs.PlanCuts.{AreDeepest};
@@ -11,8 +10,8 @@ use crate::demands::{cheapest_of, first_demands};
 use crate::trying::{Outcome, try_depths};
 use depth_advice::{read_depths, widen};
 use depth_session::{FinalCore, Runner};
-use flow_design::{Plan, Verdict, copy_plan};
-use flow_word::{OutOfMemory, Words};
+use flow_design::{CheckedPlan, Verdict};
+use flow_word::{OutOfMemory, TryCopy, Words};
 use std::alloc::Global;
 use std::sync::Wait;
 use std::thread::Threads;
@@ -45,18 +44,17 @@ impl Drop for Leasts {
 pub fn find_least<R: Threads + Wait + Sync, U: Runner>(
     rt: &R,
     alloc: Global,
-    plan: &Plan,
+    plan: &CheckedPlan,
     slack: u64,
     runner: &mut U,
 ) -> Result<Leasts, OutOfMemory>
-    requires fits { FitsEngine plan.now }
     requires slack { slack ≤ most_slack }
     requires quiet { AsksNothing plan.now }
     ensures { IfOk result (λ found. found ≡ leasts slack plan.now) }
 {
-    let mut wide = copy_plan(alloc, plan)?;
-    widen(&mut wide);
-    let run = runner.run_plan(rt, alloc, wide)?;
+    plan.fits();
+    let own = plan.try_copy(alloc)?;
+    let run = runner.run_plan(rt, alloc, widen(own))?;
     let core = FinalCore::new(&run);
     match core.verdict() {
         Verdict::Done(clock) => fewest_bits(rt, alloc, &core, clock + slack, runner),
@@ -79,13 +77,13 @@ fn fewest_bits<R: Threads + Wait + Sync, U: Runner>(
     clock: u64,
     runner: &mut U,
 ) -> Result<Leasts, OutOfMemory>
-    requires fits { FitsEngine core.now.plan }
     requires quiet { AsksNothing core.now.plan }
     requires deepest { AreDeepest core.now.plan }
     requires done { IsDoneBy clock (verdict core.now.plan) }
     ensures least { IfOk result (λ found. least_by core.now.plan clock ≡ Some found.depths) }
     ensures told { IfOk result (λ found. found.verdict ≡ verdict (with_depths core.now.plan found.depths)) }
 {
+    core.agrees();
     let mut demands = first_demands(alloc, core, clock)?;
     loop {
         let _cuts = demands.cuts.len();

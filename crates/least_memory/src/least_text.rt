@@ -1,7 +1,6 @@
 //! The text of the least memory.
 ghost use Rattle.std.specs.Prelude.{◌≡◌, ◌≤◌, ◌++◌, ◌∷◌, [], codes, decimal, IfOk, OnOk};
 ghost use Rattle.report_text.specs.Lines.{line};
-ghost use Rattle.flow_design.specs.StaticRules.{FitsEngine};
 ghost use Rattle.depth_order.specs.Depths.{AsksNothing};
 ghost use Rattle.least_depths.specs.Least.{most_slack};
 ghost use Rattle.least_memory.specs.{Least.leasts, LeastText.least_text};
@@ -11,7 +10,7 @@ use crate::finding::find_least;
 use depth_advice::print_depths;
 use depth_cuts::bits_of;
 use depth_session::Runner;
-use flow_design::{Plan, Verdict};
+use flow_design::{CheckedPlan, Verdict};
 use flow_word::{List, OutOfMemory};
 use report_text::{print_verdict, push_value};
 use std::alloc::Global;
@@ -48,18 +47,18 @@ impl LeastText {
 pub fn tell_least<R: Threads + Wait + Sync, U: Runner>(
     rt: &R,
     alloc: Global,
-    plan: &Plan,
+    plan: &CheckedPlan,
     slack: u64,
     runner: &mut U,
 ) -> Result<LeastText, OutOfMemory>
-    requires fits { FitsEngine plan.now }
     requires slack { slack ≤ most_slack }
     requires quiet { AsksNothing plan.now }
     ensures text { IfOk result (λ told. told.text ≡ least_text slack plan.now) }
     ensures verdict { IfOk result (λ told. told.verdict ≡ (leasts slack plan.now).verdict) }
 {
+    plan.fits();
     let found = find_least(rt, alloc, plan, slack, runner)?;
-    let channels = plan.design.channels.as_slice();
+    let channels = plan.channels();
     let widths = widths_of(alloc, channels)?;
     let mut text = List::from_slice(alloc, b"least\n")?;
     print_verdict(&mut text, found.verdict)?;

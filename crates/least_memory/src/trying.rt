@@ -1,6 +1,5 @@
 //! Tries depths for the plan of a core.
 ghost use Rattle.std.specs.Prelude.{◌≡◌, IfOk};
-ghost use Rattle.flow_design.specs.StaticRules.{FitsEngine};
 ghost use Rattle.depth_order.specs.Depths.{AreDepths, AsksNothing};
 ghost use Rattle.depth_cuts.specs.PlanCuts.{AreDeepest};
 ghost use Rattle.least_depths.specs.Lowering.{is_done_by};
@@ -8,7 +7,7 @@ ghost use Rattle.least_memory.specs.Needed.{IsOutcome};
 
 use depth_cuts::{Cut, deeper_ones, find_cut};
 use depth_session::{FinalCore, Runner};
-use flow_design::{Verdict, copy_plan};
+use flow_design::{CheckedPlan, Verdict, copy_plan};
 use flow_word::{List, OutOfMemory};
 use std::alloc::Global;
 use std::sync::Wait;
@@ -35,18 +34,19 @@ pub(crate) fn try_depths<R: Threads + Wait + Sync, U: Runner>(
     clock: u64,
     runner: &mut U,
 ) -> Result<Outcome, OutOfMemory>
-    requires fits { FitsEngine core.now.plan }
     requires quiet { AsksNothing core.now.plan }
     requires deepest { AreDeepest core.now.plan }
     requires depths { AreDepths core.now.plan depths.now }
     ensures { IfOk result (λ outcome. IsOutcome core.now.plan clock depths.now outcome) }
 {
+    core.agrees();
     if let Some(cut) = find_cut(alloc, core.engine(), core.ends(), depths, clock)? {
         return Ok(Outcome::Late(cut));
     }
     let mut plan = copy_plan(alloc, core.plan())?;
     plan.depths = List::from_slice(alloc, depths)?;
-    let run = runner.run_plan(rt, alloc, plan)?;
+    let own = CheckedPlan::new(plan);
+    let run = runner.run_plan(rt, alloc, own)?;
     let verdict = FinalCore::new(&run).verdict();
     if is_done_by(verdict, clock) {
         return Ok(Outcome::Ended(verdict));

@@ -1,29 +1,29 @@
 //! How a run begins.
 ghost use Rattle.std.specs.Prelude.{◌≡◌, ℕ, ◌<◌, length, IfOk, OnOk};
-ghost use Rattle.flow_design.specs.{StaticRules.FitsEngine, declared.plan.Plan.Plan as PlanOf};
+ghost use Rattle.flow_design.specs.declared.plan.Plan.{Plan as PlanOf};
 ghost use Rattle.module_interp.specs.{declared.path.Stage.TheVariants.Begun, OwnRests.first_rest};
 ghost use Rattle.module_interp.specs.Paths.{IsPath, IsPathOf, LeadsTo};
 
 use crate::path::{Path, Stage};
-use flow_design::Plan;
+use flow_design::CheckedPlan;
 use flow_word::{List, OutOfMemory, TryCopy};
 use module_code::{Notes, codes_of, open};
 use std::alloc::Global;
 
 /// The path of a module of a plan, at local clock 0 of the module's first block. `OutOfMemory` where memory ran out.
-pub fn first_path(alloc: Global, plan: &Plan, number: u32) -> Result<Path, OutOfMemory>
-    requires fits { FitsEngine plan.now }
-    requires owner { number < length plan.now.design.modules }
+pub fn first_path(alloc: Global, plan: &CheckedPlan, number: u32) -> Result<Path, OutOfMemory>
+    requires { number < length plan.now.design.modules }
     ensures leads { IfOk result (λ path. LeadsTo plan.now number (first_rest plan.now number) path) }
     ensures begun { IfOk result (λ path. path.stage ≡ Begun) }
 {
-    let of = plan.design.modules.as_slice()[number as usize].try_copy(alloc)?;
+    plan.fits();
+    let of = plan.modules()[number as usize].try_copy(alloc)?;
     let state = open(alloc, &of)?;
-    let codes = codes_of(alloc, plan.design.channels.as_slice(), &of)?;
+    let codes = codes_of(alloc, plan.channels(), &of)?;
     Ok(Path {
         alloc,
         of,
-        limit: plan.ops,
+        limit: plan.ops(),
         codes,
         state,
         stage: Stage::Begun,

@@ -2,7 +2,7 @@
 ghost use Rattle.std.specs.Prelude.{◌≡◌, ℕ, ◌<◌, ◌^◌, true, false, if◌then◌else◌, [], map, List as Items, length, IsFalse, ◌≤◌, ◌↔◌, ◌⊎◌};
 ghost use Rattle.std.specs.Prelude.{IfOk, OnErr, OnOk};
 ghost use Rattle.flow_word.specs.declared.access.Side.TheVariants.{Pop};
-ghost use Rattle.flow_design.specs.{StaticRules.FitsEngine, declared.plan.Plan.Plan as PlanOf};
+ghost use Rattle.flow_design.specs.declared.plan.Plan.{Plan as PlanOf};
 ghost use Rattle.lockstep_defs.specs.Channels.{Exchange, moved_by};
 ghost use Rattle.lockstep_defs.specs.{Report.queries, OwnRun.Own, OwnRun.access_of, Machine.is_over as over_by};
 ghost use Rattle.module_interp.specs.OwnRests.{done_in, first_rest, next_rest, accesses_at, mark_at, all_fit};
@@ -13,7 +13,7 @@ use crate::making::{first_path, go_to_start};
 use crate::own_channels::OwnChannels;
 use crate::path::{Path, Stage};
 use crate::tally::Tally;
-use flow_design::{Advance, Plan, Reply, Request};
+use flow_design::{Advance, CheckedPlan, Reply, Request};
 use flow_word::{Access, Accesses, List, OutOfMemory, Step};
 use module_code::is_over;
 use std::alloc::Global;
@@ -48,9 +48,8 @@ impl Drop for ModuleRun {
 
 impl ModuleRun {
     /// The run of a module of a plan, at the module's first rest. It owns a copy of the module. `OutOfMemory` where memory ran out.
-    pub fn new(alloc: Global, plan: &Plan, number: u32) -> Result<ModuleRun, OutOfMemory>
-        requires fits { FitsEngine plan.now }
-        requires owner { number < length plan.now.design.modules }
+    pub fn new(alloc: Global, plan: &CheckedPlan, number: u32) -> Result<ModuleRun, OutOfMemory>
+        requires { number < length plan.now.design.modules }
         ensures stands { IfOk result (λ run. StandsAt plan.now number (first_rest plan.now number) run) }
         ensures waits { IfOk result (λ run. waits run ≡ false) }
     {

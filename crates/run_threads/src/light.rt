@@ -1,11 +1,12 @@
 //! The modules that the caller drives from the start of a run.
 ghost use Rattle.std.specs.Prelude.{◌≡◌, ◌⊎◌, ◌↔◌, ℕ, ◌<◌, ◌≤◌, IsTrue, length};
-ghost use Rattle.flow_design.specs.{declared.limits.TheConstants.MODULES, StaticRules.FitsEngine};
+ghost use Rattle.flow_design.specs.declared.limits.TheConstants.{MODULES};
 ghost use Rattle.run_threads.specs.Lights.{IsNamed};
 
+use flow_design::Module;
 use flow_design::limits::MODULES;
-use flow_design::{Module, Plan};
 use flow_word::OutOfMemory;
+use sim_core::Core;
 use std::alloc::Global;
 
 /// The most modules that have a thread.
@@ -59,17 +60,16 @@ impl Light {
 
     /// Adds the modules with the fewest operations, where a plan has more modules than may have threads, so that the others all get
     /// one. It takes memory for the counts. After `OutOfMemory` perhaps only some are added.
-    pub(crate) fn add_small(&mut self, alloc: Global, plan: &Plan) -> Result<(), OutOfMemory>
-        requires { FitsEngine plan.now }
+    pub(crate) fn add_small(&mut self, alloc: Global, core: &Core) -> Result<(), OutOfMemory>
         ensures kept { (m : ℕ) → IsNamed self.old m → IsNamed self.new m }
-        ensures few { length plan.now.design.modules ≤ 64 → self.new ≡ self.old }
+        ensures few { length core.now.plan.design.modules ≤ 64 → self.new ≡ self.old }
     {
-        let count = plan.design.modules.len();
-        if count <= THREADS as u64 {
+        let count = core.modules() as usize;
+        if count <= THREADS {
             return Ok(());
         }
-        let sizes = sizes_of(alloc, plan)?;
-        for size in sizes.as_slice().iter().take(count as usize - THREADS) {
+        let sizes = sizes_of(alloc, core)?;
+        for size in sizes.as_slice().iter().take(count - THREADS) {
             self.add(size.which);
         }
         Ok(())
@@ -83,11 +83,10 @@ struct Size {
     which: u32,
 }
 
-/// The modules of a plan by how many operations they have, in rising order.
-fn sizes_of(alloc: Global, plan: &Plan) -> Result<Vec<Size>, OutOfMemory>
-    requires { FitsEngine plan.now }
-{
-    let modules = plan.design.modules.as_slice();
+/// The modules of a core by how many operations they have, in rising order.
+fn sizes_of(alloc: Global, core: &Core) -> Result<Vec<Size>, OutOfMemory> {
+    core.agrees();
+    let modules = core.plan().design.modules.as_slice();
     let mut sizes = Vec::with_capacity(alloc, modules.len())?;
     for which in 0..modules.len() {
         let operations = count_operations(&modules[which]);

@@ -1,6 +1,5 @@
 //! Whole simulations with threads.
 ghost use Rattle.std.specs.Prelude.{◌≡◌, ◌≤◌, [], length, IfOk, vec_capacity};
-ghost use Rattle.flow_design.specs.StaticRules.{FitsEngine};
 ghost use Rattle.event_timing.specs.Core.{opening_core};
 ghost use Rattle.timing_bridge.specs.Designs.{design};
 ghost use Rattle.sim_core.specs.{Views.theory_of, Drives.AreOwn};
@@ -16,7 +15,7 @@ use crate::light::Light;
 use crate::room::Room;
 use crate::start::{seat_all, start_all};
 use crossbeam_utils::sync::Parker;
-use flow_design::Plan;
+use flow_design::CheckedPlan;
 use flow_word::OutOfMemory;
 use sim_core::Core;
 use sim_hub::{Closed, Hub, ModulePass, PerfPass, Threaded};
@@ -92,7 +91,7 @@ pub fn run_core<G: Gate + Sync, R: Threads + Wait + Sync>(
 {
     core.agrees();
     let mut driven = *light;
-    driven.add_small(alloc, core.plan())?;
+    driven.add_small(alloc, &core)?;
     let room = Room::new(alloc, core.modules())?;
     let (mut bells, parker) = Bells::new(alloc, &core)?;
     let (hub, perf, modules) = Hub::new(alloc, core)?;
@@ -122,10 +121,9 @@ pub fn run_core<G: Gate + Sync, R: Threads + Wait + Sync>(
 pub fn run_threads<G: Gate + Sync, R: Threads + Wait + Sync>(
     rt: &R,
     alloc: Global,
-    plan: Plan,
+    plan: CheckedPlan,
     gate: &G,
 ) -> Result<Threaded, OutOfMemory>
-    requires fits { FitsEngine plan }
     ensures run { IfOk result (λ threaded. IsWholeRun plan threaded) }
 {
     let core = Core::new(alloc, plan)?;

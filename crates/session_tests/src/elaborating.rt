@@ -36,7 +36,7 @@ fn names_become_numbers(rt: HostRuntime) -> Result<(), Fail> {
 
 #[test]
 fn a_plan_is_copied(rt: HostRuntime) -> Result<(), Fail> {
-    let plan = read_plan(rt.alloc(), REALISTIC_LINE)?;
+    let plan = read_plan(rt.alloc(), REALISTIC_LINE)?.into_plan();
     let copy = copy_plan(rt.alloc(), &plan)?;
     assert_eq!(rt; copy, plan);
     Ok(())

@@ -238,7 +238,7 @@ fn first_run<R: AllocGlobal + Abort>(rt: &R, text: &[u8]) -> Result<ModuleRun, F
     ensures fed { IfOk result (λ run. waits run ≡ false) }
 {
     let plan = read_plan(rt.alloc(), text)?;
-    assert!(rt; plan.design.modules.len() > 0);
+    assert!(rt; plan.modules().len() > 0);
     let run = ModuleRun::new(rt.alloc(), &plan, 0)?;
     Ok(run)
 }

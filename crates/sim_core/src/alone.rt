@@ -1,12 +1,11 @@
 //! A whole simulation on one thread.
 ghost use Rattle.std.specs.Prelude.{◌≡◌, ◌<◌, IfOk, OnOk};
-ghost use Rattle.flow_design.specs.StaticRules.{FitsEngine};
 ghost use Rattle.event_timing.specs.{Actions.IsFinal, Agreement.AllVerified};
 ghost use Rattle.timing_bridge.specs.Designs.{design};
 ghost use Rattle.sim_core.specs.{Views.theory_of, Drives.AreOwn};
 
 use crate::machine::Core;
-use flow_design::Plan;
+use flow_design::CheckedPlan;
 use flow_word::{OutOfMemory, Steps};
 use std::alloc::Global;
 use std::marker::Brand;
@@ -15,8 +14,7 @@ use std::sync::ledger::{Blank, Ledger};
 /// Simulates a plan on one thread: the answer is a final core of the plan, with all outcomes verified.
 ///
 /// After `OutOfMemory` the plan is lost.
-pub fn run_alone(alloc: Global, plan: Plan) -> Result<Core, OutOfMemory>
-    requires { FitsEngine plan }
+pub fn run_alone(alloc: Global, plan: CheckedPlan) -> Result<Core, OutOfMemory>
     ensures plan { IfOk result (λ core. core.plan ≡ plan) }
     ensures done { IfOk result (λ core. IsFinal (design core.plan) core.plan.cycles (theory_of core)) }
     ensures verified { IfOk result (λ core. AllVerified (theory_of core)) }

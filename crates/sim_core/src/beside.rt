@@ -1,6 +1,5 @@
 //! Which modules may be given a cycle or an answer, and which modules share a channel.
 ghost use Rattle.std.specs.Prelude.{◌≡◌, ◌≢◌, ◌<◌, ℕ, All, true, false, length, IfOk};
-ghost use Rattle.flow_design.specs.StaticRules.{FitsEngine};
 ghost use Rattle.flow_word.specs.{Kinds.other_side, declared.access.Side.TheVariants.Push};
 ghost use Rattle.module_sets.specs.Sets.{Has, HasMask, IsAdded, IsRemoved, capacity};
 ghost use Rattle.timing_bridge.specs.Designs.{design};
@@ -13,13 +12,13 @@ use crate::timings::Timed;
 use crate::visit::Visit;
 use crate::wiring::ports_of;
 use engine_view::Timing;
-use flow_design::Plan;
+use flow_design::CheckedPlan;
 use flow_word::{List, OutOfMemory, Port, Side};
 use module_sets::{Mask, ModuleSet};
 use std::alloc::Global;
 
 /// The module at the other side of a port's channel, or the number of modules where there is none.
-fn across(plan: &Plan, port: Port, readers: &[u32], writers: &[u32]) -> u32
+fn across(plan: &CheckedPlan, port: Port, readers: &[u32], writers: &[u32]) -> u32
     requires within { port.channel < length plan.now.design.channels }
     requires readers { AreReaders plan.now readers.now }
     requires writers { AreUsers plan.now Push writers.now }
@@ -33,7 +32,13 @@ fn across(plan: &Plan, port: Port, readers: &[u32], writers: &[u32]) -> u32
 }
 
 /// Adds the modules at the other sides of these ports' channels to a set.
-fn add_across(plan: &Plan, ports: &[Port], readers: &[u32], writers: &[u32], set: &mut ModuleSet)
+fn add_across(
+    plan: &CheckedPlan,
+    ports: &[Port],
+    readers: &[u32],
+    writers: &[u32],
+    set: &mut ModuleSet,
+)
     requires within { All (λ port. port.channel < length plan.now.design.channels) ports.now }
     requires readers { AreReaders plan.now readers.now }
     requires writers { AreUsers plan.now Push writers.now }
@@ -49,17 +54,17 @@ fn add_across(plan: &Plan, ports: &[Port], readers: &[u32], writers: &[u32], set
 /// For each module the masks of the modules at the other sides of its channels.
 pub(crate) fn find_beside(
     alloc: Global,
-    plan: &Plan,
+    plan: &CheckedPlan,
     ports: &List<List<Port>>,
     readers: &[u32],
     writers: &[u32],
 ) -> Result<List<List<Mask>>, OutOfMemory>
-    requires fits { FitsEngine plan.now }
     requires ports { AreOwnPorts plan.now (length plan.now.design.modules) ports.now }
     requires readers { AreReaders plan.now readers.now }
     requires writers { AreUsers plan.now Push writers.now }
     ensures { IfOk result (λ beside. AreBeside plan.now beside) }
 {
+    plan.fits();
     let mut set = ModuleSet::new(alloc, ports.len() as u32)?;
     let mut beside = List::with_room(alloc, ports.len())?;
     for owner in 0..ports.len() as u32 {

@@ -2,16 +2,16 @@
 ghost use Rattle.std.specs.Prelude.{◌≡◌, ◌<◌, length, slice_index, IfOk};
 ghost use Rattle.sim_core.specs.Runs.{IsLongestBody, AreBodyLengths};
 
-use flow_design::{Module, Plan};
+use flow_design::{CheckedPlan, Module};
 use flow_word::{OutOfMemory, Words};
 use std::alloc::Global;
 
 /// For each module of a plan the most operations that one of its bodies has.
-pub(crate) fn find_body_lengths(alloc: Global, plan: &Plan) -> Result<Words, OutOfMemory>
+pub(crate) fn find_body_lengths(alloc: Global, plan: &CheckedPlan) -> Result<Words, OutOfMemory>
     ensures { IfOk result (λ lengths. AreBodyLengths plan.now (length plan.now.design.modules) lengths) }
 {
     let mut lengths = Words::new(alloc);
-    for of in plan.design.modules.as_slice() {
+    for of in plan.modules() {
         lengths.push(longest_body(of))?;
     }
     Ok(lengths)

@@ -11,7 +11,7 @@ use crate::unread::Unread;
 use crate::wiring::{Wiring, ports_of};
 use cycle_changes::Changes;
 use engine_view::Engine;
-use flow_design::{Plan, Reply};
+use flow_design::{CheckedPlan, Plan, Reply};
 use flow_word::{List, Port};
 use module_interp::ModuleRun;
 use query_resolve::CandidateList;
@@ -162,9 +162,8 @@ impl Core {
     }
 
     /// The plan and the runs of the modules that are not lent. All else is dropped.
-    pub(crate) fn into_plan_and_runs(self) -> (Plan, Vec<Option<ModuleRun>>)
+    pub(crate) fn into_plan_and_runs(self) -> (CheckedPlan, Vec<Option<ModuleRun>>)
         ensures plan { result.0 ≡ self.plan }
-        ensures fits { FitsEngine result.0 }
         ensures older { AreOlderRuns result.0 result.1.items }
     {
         let Core {
@@ -177,6 +176,6 @@ impl Core {
             candidates: _candidates,
             scratch: _scratch,
         } = self;
-        (plan, runs)
+        (CheckedPlan::new(plan), runs)
     }
 }

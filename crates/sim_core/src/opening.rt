@@ -1,6 +1,6 @@
 //! A core at the beginning.
 ghost use Rattle.std.specs.Prelude.{◌≡◌, ℕ, ◌<◌, true, false, None, map, length, replicate, IfOk, IfSome, slice_index_or, slice_set};
-ghost use Rattle.flow_design.specs.{StaticRules.FitsEngine, Words.cut_to};
+ghost use Rattle.flow_design.specs.Words.{cut_to};
 ghost use Rattle.event_timing.specs.{Core.opening_core, Agreement.AllVerified};
 ghost use Rattle.timing_bridge.specs.Designs.{design};
 ghost use Rattle.lockstep_defs.specs.OwnRun.{Own};
@@ -14,7 +14,7 @@ use crate::wiring::find_wiring;
 use engine_view::Engine;
 use event_graph::Graph;
 use fifo_table::{FifoTable, TableChannel};
-use flow_design::{Advance, ChannelKind, Plan};
+use flow_design::{Advance, ChannelKind, CheckedPlan};
 use flow_word::{List, OutOfMemory, Width, Words, cut};
 use module_interp::ModuleRun;
 use query_log::QueryLog;
@@ -26,8 +26,7 @@ impl Core {
     /// finds none that differs.
     ///
     /// After `OutOfMemory` the plan is lost.
-    pub fn new(alloc: Global, plan: Plan) -> Result<Core, OutOfMemory>
-        requires { FitsEngine plan }
+    pub fn new(alloc: Global, plan: CheckedPlan) -> Result<Core, OutOfMemory>
         ensures plan { IfOk result (λ core. core.plan ≡ plan) }
         ensures opening { IfOk result (λ core. theory_of core ≡ opening_core (design plan)) }
         ensures verified { IfOk result (λ core. AllVerified (theory_of core)) }
@@ -55,15 +54,19 @@ impl Core {
 }
 
 /// A core of a plan in which nothing is emitted yet, with the runs of all modules at their first rests.
-fn begin(alloc: Global, plan: Plan, runs: Vec<Option<ModuleRun>>) -> Result<Core, OutOfMemory>
-    requires fits { FitsEngine plan }
-    requires runs { AreFirstRuns plan runs.items (length plan.design.modules) }
+fn begin(
+    alloc: Global,
+    plan: CheckedPlan,
+    runs: Vec<Option<ModuleRun>>,
+) -> Result<Core, OutOfMemory>
+    requires { AreFirstRuns plan runs.items (length plan.design.modules) }
     ensures plan { IfOk result (λ core. core.plan ≡ plan) }
     ensures opening { IfOk result (λ core. theory_of core ≡ opening_core (design plan)) }
     ensures verified { IfOk result (λ core. AllVerified (theory_of core)) }
     ensures own { IfOk result (λ core. (m : ℕ) → m < length plan.design.modules → slice_index_or core.lent m true ≡ false) }
 {
-    let modules = plan.design.modules.as_slice().len() as u32;
+    plan.fits();
+    let modules = plan.modules().len() as u32;
     let kinds = make_kinds(alloc, &plan)?;
     let fifos = FifoTable::new(alloc, kinds)?;
     let graph = Graph::new(alloc, modules)?;
@@ -78,11 +81,11 @@ fn begin(alloc: Global, plan: Plan, runs: Vec<Option<ModuleRun>>) -> Result<Core
         credits,
     };
     let wiring = find_wiring(alloc, &plan)?;
-    let unread = nothing_unread(alloc, plan.design.channels.len())?;
+    let unread = nothing_unread(alloc, plan.channels().len() as u64)?;
     let due = Due::all(alloc, modules)?;
     let candidates = CandidateList::new(alloc, modules)?;
     Ok(Core {
-        plan,
+        plan: plan.into_plan(),
         engine,
         runs,
         wiring,
@@ -96,14 +99,14 @@ fn begin(alloc: Global, plan: Plan, runs: Vec<Option<ModuleRun>>) -> Result<Core
 /// The runs of all modules, each at its first rest. The runs of an older core are used again, as far as they are there.
 fn first_runs(
     alloc: Global,
-    plan: &Plan,
+    plan: &CheckedPlan,
     older: Vec<Option<ModuleRun>>,
 ) -> Result<Vec<Option<ModuleRun>>, OutOfMemory>
-    requires fits { FitsEngine plan.now }
-    requires older { AreOlderRuns plan.now older.items }
+    requires { AreOlderRuns plan.now older.items }
     ensures { IfOk result (λ runs. AreFirstRuns plan.now runs.items (length plan.now.design.modules)) }
 {
-    let modules = plan.design.modules.len() as u32;
+    plan.fits();
+    let modules = plan.modules().len() as u32;
     let mut runs = Vec::with_capacity(alloc, modules as usize)?;
     let mut older = older;
     for number in 0..modules {
@@ -116,11 +119,10 @@ fn first_runs(
 /// A module's run at its first rest: the older run, put back, if there is one, else a new one.
 fn first_run(
     alloc: Global,
-    plan: &Plan,
+    plan: &CheckedPlan,
     number: u32,
     older: Option<ModuleRun>,
 ) -> Result<ModuleRun, OutOfMemory>
-    requires fits { FitsEngine plan.now }
     requires owner { number < length plan.now.design.modules }
     requires older { IfSome older (λ run. (o : Own) × StandsAt plan.now number o run) }
     ensures stands { IfOk result (λ run. StandsAt plan.now number (first_rest plan.now number) run) }
@@ -156,11 +158,10 @@ fn no_ends(alloc: Global, modules: u32) -> Result<Vec<Option<Advance>>, OutOfMem
 }
 
 /// The plan's channels as the table has them.
-fn make_kinds(alloc: Global, plan: &Plan) -> Result<Vec<TableChannel>, OutOfMemory>
-    requires fits { FitsEngine plan.now }
+fn make_kinds(alloc: Global, plan: &CheckedPlan) -> Result<Vec<TableChannel>, OutOfMemory>
     ensures { IfOk result (λ kinds. kinds.items ≡ kinds_of plan.now) }
 {
-    let count = plan.design.channels.as_slice().len();
+    let count = plan.channels().len();
     let mut kinds = Vec::with_capacity(alloc, count)?;
     for i in 0..count {
         kinds.push(make_kind(alloc, plan, i)?)?;
@@ -169,21 +170,21 @@ fn make_kinds(alloc: Global, plan: &Plan) -> Result<Vec<TableChannel>, OutOfMemo
 }
 
 /// The kind of the plan's channel i, in the form that the table needs.
-fn make_kind(alloc: Global, plan: &Plan, i: usize) -> Result<TableChannel, OutOfMemory>
-    requires fits { FitsEngine plan.now }
-    requires within { i < length plan.now.design.channels }
+fn make_kind(alloc: Global, plan: &CheckedPlan, i: usize) -> Result<TableChannel, OutOfMemory>
+    requires { i < length plan.now.design.channels }
     ensures { IfOk result (λ kind. kind ≡ kind_in plan.now i) }
 {
-    let channel = &plan.design.channels.as_slice()[i];
+    plan.fits();
+    let channel = &plan.channels()[i];
     match channel.kind {
         ChannelKind::Source => Ok(TableChannel::Source(cut_values(
             alloc,
             channel.width,
-            plan.inputs.as_slice()[i].as_slice(),
+            plan.inputs()[i].as_slice(),
         )?)),
         ChannelKind::Sink => Ok(TableChannel::Sink),
         ChannelKind::Fifo { delay, .. } => Ok(TableChannel::Fifo {
-            depth: plan.depths.as_slice()[i],
+            depth: plan.depths()[i],
             delay,
         }),
     }

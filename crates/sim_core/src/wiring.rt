@@ -1,14 +1,13 @@
 //! What is found once for a plan: the modules at each channel, and the channels of each module.
 ghost use Rattle.std.specs.Prelude.{◌≡◌, ◌++◌, ◌<◌, ℕ, eqb, [], length, replicate, slice_index_or, IfOk, OnOk};
 ghost use Rattle.flow_word.specs.declared.access.Side.TheVariants.{Push};
-ghost use Rattle.flow_design.specs.StaticRules.{FitsEngine};
 ghost use Rattle.sim_core.specs.{Opening.port_where, Opening.AreOwnPorts, Readers.AreReaders, Readers.AreUsers, Runs.IsWired};
 
 use crate::beside::find_beside;
 use crate::bodies::find_body_lengths;
 use crate::readers::find_users;
 use engine_view::Hints;
-use flow_design::Plan;
+use flow_design::CheckedPlan;
 use flow_word::{List, OutOfMemory, Port, Side, Words};
 use module_sets::ModuleSet;
 use std::alloc::Global;
@@ -37,15 +36,14 @@ impl Drop for Wiring {
 }
 
 /// Finds the modules at each channel of a plan, and the channels of each module.
-pub(crate) fn find_wiring(alloc: Global, plan: &Plan) -> Result<Wiring, OutOfMemory>
-    requires { FitsEngine plan.now }
+pub(crate) fn find_wiring(alloc: Global, plan: &CheckedPlan) -> Result<Wiring, OutOfMemory>
     ensures { IfOk result (λ wiring. IsWired plan.now wiring) }
 {
-    let readers = find_users(alloc, plan, Side::Pop)?;
-    let writers = find_users(alloc, plan, Side::Push)?;
+    let readers = find_users(alloc, plan.plan(), Side::Pop)?;
+    let writers = find_users(alloc, plan.plan(), Side::Push)?;
     let ports = make_ports(alloc, plan, readers.as_slice(), writers.as_slice())?;
     let beside = find_beside(alloc, plan, &ports, readers.as_slice(), writers.as_slice())?;
-    let room = ModuleSet::new(alloc, plan.design.modules.len() as u32)?;
+    let room = ModuleSet::new(alloc, plan.modules().len() as u32)?;
     Ok(Wiring {
         ports,
         readers,
@@ -87,17 +85,17 @@ fn add_port(
 /// The ports of each module, where the module that pops and the one that pushes each channel are known.
 fn make_ports(
     alloc: Global,
-    plan: &Plan,
+    plan: &CheckedPlan,
     readers: &[u32],
     writers: &[u32],
 ) -> Result<List<List<Port>>, OutOfMemory>
-    requires fits { FitsEngine plan.now }
     requires readers { AreReaders plan.now readers.now }
     requires writers { AreUsers plan.now Push writers.now }
     ensures { IfOk result (λ ports. AreOwnPorts plan.now (length plan.now.design.modules) ports) }
 {
-    let mut ports = no_ports(alloc, plan.design.modules.len())?;
-    for channel in 0..plan.design.channels.len() as u32 {
+    let mut ports = no_ports(alloc, plan.modules().len() as u64)?;
+    plan.fits();
+    for channel in 0..plan.channels().len() as u32 {
         let at = channel as usize;
         add_port(&mut ports, readers[at], Side::Pop, channel)?;
         add_port(&mut ports, writers[at], Side::Push, channel)?;

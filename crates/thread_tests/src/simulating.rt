@@ -192,7 +192,8 @@ fn is_reported<R: Threads + Wait + Sync + AllocGlobal + Abort>(
     expected: &Report,
 ) -> Result<(), Fail> {
     let plan = read_plan(rt.alloc(), text)?;
-    let modules = plan.design.modules.len() as u32;
+    plan.fits();
+    let modules = plan.modules().len() as u32;
     let mut light = Light::from_module(started);
     let core = Core::new(rt.alloc(), plan)?;
     let threaded = run_core(rt, rt.alloc(), core, &FreeGate, &mut light)?;

@@ -20,6 +20,14 @@ use Rattle.whole_answer.specs.{Job.endings_of, Job.job, Going.Told, Going.told_o
 use Rattle.whole_answer.specs.declared.ending.Ending.TheVariants.{Done, Words, Text, Deadlock, Cycles, Ops}
 use Rattle.flow_word.proofs.Ranges.{range_more}
 
+-- ---- what was written of a report, or of its beginning
+
+abbrev pub report_in : Option (List ℕ) → Option (List ℕ) → ℕ → Bool → Plan → Type 0
+report_in old new k events q = Appends old new (report_text_of q.design (report q) k events)
+
+abbrev pub part_in : Option (List ℕ) → Option (List ℕ) → ℕ → Bool → Plan → Type 0
+part_in old new k events q = AppendsPrefix old new (report_text_of q.design (report q) k events)
+
 -- ---- lists that grow at their end
 
 counts_more : (c : RunCount) (all : List (List (List Bool))) (found : List (List Bool))

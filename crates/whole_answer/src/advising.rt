@@ -1,14 +1,13 @@
 //! The answer to `advise`.
 ghost use Rattle.std.specs.Prelude.{◌≡◌, IfOk};
-ghost use Rattle.flow_design.specs.StaticRules.{FitsEngine};
 ghost use Rattle.whole_answer.specs.Further.{advice};
 
 use crate::answer::Answer;
 use crate::ending::Ending;
 use depth_advice::{advised_depths, advised_depths_never_block, print_depths};
 use depth_session::ThreadRunner;
-use flow_design::{Plan, copy_plan};
-use flow_word::{List, OutOfMemory};
+use flow_design::CheckedPlan;
+use flow_word::{List, OutOfMemory, TryCopy};
 use report_text::print_verdict;
 use run_threads::Gate;
 use std::alloc::Global;
@@ -21,22 +20,18 @@ use std::thread::Threads;
 pub(crate) fn advise_depths<R: Threads + Wait + Sync, G: Gate + Sync>(
     rt: &R,
     alloc: Global,
-    plan: Plan,
+    plan: CheckedPlan,
     gate: &G,
 ) -> Result<Answer, OutOfMemory>
-    requires { FitsEngine plan }
     ensures { IfOk result (λ whole. whole ≡ advice plan) }
 {
     advised_depths_never_block();
-    let own = copy_plan(alloc, &plan)?;
+    plan.fits();
+    let own = plan.try_copy(alloc)?;
     let found = advised_depths(rt, alloc, own, &mut ThreadRunner::new(gate))?;
     let mut text = List::from_slice(alloc, b"advise\n")?;
     print_verdict(&mut text, found.verdict)?;
-    print_depths(
-        &mut text,
-        plan.design.channels.as_slice(),
-        found.depths.as_slice(),
-    )?;
+    print_depths(&mut text, plan.channels(), found.depths.as_slice())?;
     Ok(Answer {
         text,
         ending: Ending::of(found.verdict),

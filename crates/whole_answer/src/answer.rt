@@ -11,9 +11,9 @@ use crate::host::Host;
 use crate::laws::{one_answer, one_text_answer};
 use crate::making::{make, summarize};
 use cli_words::{Asked, Command, WordFault, read_words};
-use flow_check::check;
-use flow_design::Session;
+use flow_check::{Checked, check};
 use flow_design::limits::Scale;
+use flow_design::{CheckedPlan, Session};
 use flow_gen::{generate_session, generated_sessions_are_checked};
 use flow_grammar::{Code, ReadFail, TextFault, keeps_rules};
 use flow_text::read_session;
@@ -176,7 +176,7 @@ fn answer_generated<R: Threads + Wait + Sync, G: Gate + Sync>(
     generated_sessions_are_checked();
     let session = generate_session(alloc, seed, modules)?;
     let plan = elaborate(alloc, Scale::Standard, session.statements.as_slice())?.plan;
-    summarize(rt, alloc, seed, modules, plan, gate)
+    summarize(rt, alloc, seed, modules, CheckedPlan::new(plan), gate)
 }
 
 /// Begins the answer to a text. It reads the text to a session and checks the session, at the scale that is asked for, and the task
@@ -202,7 +202,10 @@ fn answer_text<R: Threads + Wait + Sync, G: Gate + Sync, K: Sink>(
         Err(ReadFail::OutOfMemory) => return Err(TellFault::OutOfMemory),
     };
     match check(alloc, asked.scale, &session, &lines) {
-        Ok(checked) => make(&Host { rt, alloc, gate }, asked, session, checked, sink),
+        Ok(Checked { plan, edits }) => {
+            let host = Host { rt, alloc, gate };
+            make(&host, asked, session, CheckedPlan::new(plan), edits, sink)
+        }
         Err(ReadFail::Text(fault)) => Ok(refuse(alloc, fault)?),
         Err(ReadFail::OutOfMemory) => Err(TellFault::OutOfMemory),
     }

@@ -16,8 +16,7 @@ use crate::simulator::clock_report;
 use cli_words::Simulator;
 use clock_machine::codes_of_all;
 use depth_session::{AloneRunner, DepthSession, Runner, ThreadRunner};
-use flow_check::Checked;
-use flow_design::{Edit, Plan, Report, edit_plan};
+use flow_design::{CheckedPlan, Edit, Plan, Report};
 use flow_word::{List, OutOfMemory};
 use outcome_guard::{RunCount, edits_in_order};
 use report_text::{print_report, print_runs};
@@ -34,18 +33,16 @@ pub(crate) fn job<R: Threads + Wait + Sync, G: Gate + Sync, K: Sink>(
     host: &Host<'_, R, G>,
     by: Simulator,
     events: bool,
-    checked: Checked,
+    plan: CheckedPlan,
+    edits: &[Edit],
     sink: &mut K,
 ) -> Result<Answer, TellFault>
-    requires fits { FitsEngine checked.plan }
-    requires edits_fit { All (EditFits checked.plan) checked.edits }
-    ensures rest { IfOk result (λ rest. IsRest (job events checked.plan checked.edits) (K.held sink.old) (K.held sink.new) rest) }
-    ensures prefix { OnErr result (AppendsPrefix (K.held sink.old) (K.held sink.new) (job events checked.plan checked.edits).text) }
+    requires { All (EditFits plan) edits.now }
+    ensures rest { IfOk result (λ rest. IsRest (job events plan edits.now) (K.held sink.old) (K.held sink.new) rest) }
+    ensures prefix { OnErr result (AppendsPrefix (K.held sink.old) (K.held sink.new) (job events plan edits.now).text) }
     ensures write_fault { IsErrOf result TellFault.WriteFault → Rose (K.faults sink.old) (K.faults sink.new) }
     ensures faults { K.faults sink.old ≤ K.faults sink.new }
 {
-    let Checked { plan, edits } = checked;
-    let edits = edits.as_slice();
     match by {
         Simulator::Threads => {
             let mut runner = ThreadRunner::new(host.gate);
@@ -61,13 +58,12 @@ pub(crate) fn job<R: Threads + Wait + Sync, G: Gate + Sync, K: Sink>(
 fn engine_job<R: Threads + Wait + Sync, G: Gate + Sync, U: Runner, K: Sink>(
     host: &Host<'_, R, G>,
     events: bool,
-    plan: Plan,
+    plan: CheckedPlan,
     edits: &[Edit],
     runner: &mut U,
     sink: &mut K,
 ) -> Result<Answer, TellFault>
-    requires fits { FitsEngine plan }
-    requires edits_fit { All (EditFits plan) edits.now }
+    requires { All (EditFits plan) edits.now }
     ensures rest { IfOk result (λ rest. IsRest (job events plan edits.now) (K.held sink.old) (K.held sink.new) rest) }
     ensures prefix { OnErr result (AppendsPrefix (K.held sink.old) (K.held sink.new) (job events plan edits.now).text) }
     ensures write_fault { IsErrOf result TellFault.WriteFault → Rose (K.faults sink.old) (K.faults sink.new) }
@@ -76,6 +72,7 @@ fn engine_job<R: Threads + Wait + Sync, G: Gate + Sync, U: Runner, K: Sink>(
     edits_in_order();
     edited_plans_agree();
     reports_without_events();
+    plan.fits();
     let Host { rt, alloc, .. } = *host;
     let mut session = DepthSession::new(rt, alloc, plan, runner)?;
     let outcome = session.report(alloc, events)?;
@@ -97,12 +94,11 @@ fn engine_job<R: Threads + Wait + Sync, G: Gate + Sync, U: Runner, K: Sink>(
 fn clock_job<K: Sink>(
     alloc: Global,
     events: bool,
-    mut plan: Plan,
+    mut plan: CheckedPlan,
     edits: &[Edit],
     sink: &mut K,
 ) -> Result<Answer, TellFault>
-    requires fits { FitsEngine plan }
-    requires edits_fit { All (EditFits plan) edits.now }
+    requires { All (EditFits plan) edits.now }
     ensures rest { IfOk result (λ rest. IsRest (job events plan edits.now) (K.held sink.old) (K.held sink.new) rest) }
     ensures prefix { OnErr result (AppendsPrefix (K.held sink.old) (K.held sink.new) (job events plan edits.now).text) }
     ensures write_fault { IsErrOf result TellFault.WriteFault → Rose (K.faults sink.old) (K.faults sink.new) }
@@ -111,18 +107,19 @@ fn clock_job<K: Sink>(
     edits_in_order();
     edited_plans_agree();
     reports_without_events();
+    plan.fits();
     let codes = codes_of_all(alloc, &plan)?;
     let codes = codes.as_slice();
     let outcome = clock_report(alloc, &plan, codes, events)?;
-    write_report(alloc, &plan, &outcome, 0, events, sink)?;
+    write_report(alloc, plan.plan(), &outcome, 0, events, sink)?;
     let mut ending = Ending::of(outcome.verdict);
     let mut count = RunCount::new(outcome.answers);
     let mut number = 0;
     for edit in edits {
-        edit_plan(&mut plan, edit);
+        plan.edit(edit);
         number += 1;
         let outcome = clock_report(alloc, &plan, codes, events)?;
-        write_report(alloc, &plan, &outcome, number, events, sink)?;
+        write_report(alloc, plan.plan(), &outcome, number, events, sink)?;
         ending = ending.unless_done(Ending::of(outcome.verdict));
         count.add(outcome.answers);
     }

@@ -20,8 +20,7 @@ use crate::sizing::{least_fifos, size_fifos};
 use crate::sweeping::sweep_depths;
 use cli_words::{Asked, Options, Simulator, Task};
 use depth_session::{DepthSession, ThreadRunner};
-use flow_check::Checked;
-use flow_design::{Plan, Report, Session};
+use flow_design::{CheckedPlan, Edit, Plan, Report, Session};
 use flow_print::print_session;
 use flow_word::{List, OutOfMemory};
 use report_text::{print_numbers, print_runs, print_verdict};
@@ -38,15 +37,15 @@ pub(crate) fn make<R: Threads + Wait + Sync, G: Gate + Sync, K: Sink>(
     host: &Host<'_, R, G>,
     asked: &Asked,
     session: Session,
-    checked: Checked,
+    plan: CheckedPlan,
+    edits: List<Edit>,
     sink: &mut K,
 ) -> Result<Answer, TellFault>
     requires sound { IsWithinBounds asked.now.scale asked.now.task }
-    requires plan { checked.plan ≡ plan_of asked.now.scale session.statements }
-    requires edits { checked.edits ≡ edits_of session.statements }
-    requires fits { FitsEngine checked.plan }
-    requires keeps { KeepsScale asked.now.scale checked.plan }
-    requires edits_fit { All (EditFits checked.plan) checked.edits }
+    requires plan { plan ≡ plan_of asked.now.scale session.statements }
+    requires edits { edits ≡ edits_of session.statements }
+    requires keeps { KeepsScale asked.now.scale plan }
+    requires edits_fit { All (EditFits plan) edits }
     ensures rest { IfOk result (λ rest. IsRest (made asked.now.scale asked.now.task session.statements)
         (K.held sink.old) (K.held sink.new) rest) }
     ensures prefix { OnErr result (AppendsPrefix (K.held sink.old) (K.held sink.new)
@@ -54,27 +53,31 @@ pub(crate) fn make<R: Threads + Wait + Sync, G: Gate + Sync, K: Sink>(
     ensures write_fault { IsErrOf result TellFault.WriteFault → Rose (K.faults sink.old) (K.faults sink.new) }
     ensures faults { K.faults sink.old ≤ K.faults sink.new }
 {
+    plan.fits();
     let Host { rt, alloc, gate } = *host;
     match &asked.task {
-        Task::Simulate(by, options) => simulate(host, *by, options, session, checked, sink),
+        Task::Simulate(by, options) => {
+            drop(session);
+            simulate(host, *by, options, plan, edits.as_slice(), sink)
+        }
         Task::Check => unwritten(print(alloc, &session)),
         Task::Advise(options) => {
-            unwritten(advise_depths(rt, alloc, limited(session, checked, options), gate))
+            unwritten(advise_depths(rt, alloc, limited(session, edits, plan, options), gate))
         }
         Task::Show(view, options) => {
-            let plan = limited(session, checked, options);
+            let plan = limited(session, edits, plan, options);
             show(host, *view, options, plan, sink)
         }
-        Task::Order => unwritten(order_modules(alloc, &checked.plan)),
+        Task::Order => unwritten(order_modules(alloc, &plan)),
         Task::Sweep { lo, hi, options } => {
-            unwritten(sweep_depths(rt, alloc, *lo, *hi, limited(session, checked, options)))
+            unwritten(sweep_depths(rt, alloc, *lo, *hi, limited(session, edits, plan, options)))
         }
         Task::Size { slack, options } => {
-            let plan = limited(session, checked, options);
+            let plan = limited(session, edits, plan, options);
             unwritten(size_fifos(rt, alloc, &plan, *slack, gate))
         }
         Task::Least { slack, options } => {
-            let plan = limited(session, checked, options);
+            let plan = limited(session, edits, plan, options);
             unwritten(least_fifos(rt, alloc, &plan, *slack, gate))
         }
     }
@@ -100,40 +103,46 @@ fn print(alloc: Global, session: &Session) -> Result<Answer, OutOfMemory>
     })
 }
 
-/// Runs the job of a session under the limits of the options. The session is freed before the first clock.
+/// Runs the job of a plan and its edits under the limits of the options.
 fn simulate<R: Threads + Wait + Sync, G: Gate + Sync, K: Sink>(
     host: &Host<'_, R, G>,
     by: Simulator,
     options: &Options,
-    session: Session,
-    checked: Checked,
+    plan: CheckedPlan,
+    edits: &[Edit],
     sink: &mut K,
 ) -> Result<Answer, TellFault>
-    requires fits { FitsEngine (with_limits options.now checked.plan) }
-    requires edits_fit { All (EditFits checked.plan) checked.edits }
-    ensures rest { IfOk result (λ rest. IsRest (job options.now.events (with_limits options.now checked.plan) checked.edits)
+    requires fits { FitsEngine (with_limits options.now plan) }
+    requires edits_fit { All (EditFits plan) edits.now }
+    ensures rest { IfOk result (λ rest. IsRest (job options.now.events (with_limits options.now plan) edits.now)
         (K.held sink.old) (K.held sink.new) rest) }
     ensures prefix { OnErr result (AppendsPrefix (K.held sink.old) (K.held sink.new)
-        (job options.now.events (with_limits options.now checked.plan) checked.edits).text) }
+        (job options.now.events (with_limits options.now plan) edits.now).text) }
     ensures write_fault { IsErrOf result TellFault.WriteFault → Rose (K.faults sink.old) (K.faults sink.new) }
     ensures faults { K.faults sink.old ≤ K.faults sink.new }
 {
-    drop(session);
-    let Checked { mut plan, edits } = checked;
-    set_limits(&mut plan, options);
-    job(host, by, options.events, Checked { plan, edits }, sink)
+    let plan = under_limits(plan, options);
+    job(host, by, options.events, plan, edits, sink)
 }
 
 /// The plan of a session under the limits of the options. It frees the session and the edits.
-fn limited(session: Session, checked: Checked, options: &Options) -> Plan
-    requires fits { FitsEngine (with_limits options.now checked.plan) }
-    ensures plan { result ≡ with_limits options.now checked.plan }
-    ensures fits { FitsEngine result }
+fn limited(session: Session, edits: List<Edit>, plan: CheckedPlan, options: &Options) -> CheckedPlan
+    requires { FitsEngine (with_limits options.now plan) }
+    ensures { result ≡ with_limits options.now plan }
 {
     drop(session);
-    let mut plan = checked.plan;
+    drop(edits);
+    under_limits(plan, options)
+}
+
+/// The plan under the limits of the options.
+fn under_limits(plan: CheckedPlan, options: &Options) -> CheckedPlan
+    requires { FitsEngine (with_limits options.now plan) }
+    ensures { result ≡ with_limits options.now plan }
+{
+    let mut plan = plan.into_plan();
     set_limits(&mut plan, options);
-    plan
+    CheckedPlan::new(plan)
 }
 
 /// Replaces the limits of the plan by those of the options that are given.
@@ -151,10 +160,9 @@ pub(crate) fn summarize<R: Threads + Wait + Sync, G: Gate + Sync>(
     alloc: Global,
     seed: u64,
     modules: u64,
-    plan: Plan,
+    plan: CheckedPlan,
     gate: &G,
 ) -> Result<Answer, OutOfMemory>
-    requires fits { FitsEngine plan }
     ensures { IfOk result (λ whole. whole ≡ summary seed modules plan) }
 {
     let session = DepthSession::new(rt, alloc, plan, &mut ThreadRunner::new(gate))?;

@@ -1,26 +1,26 @@
 //! The answer to `order`.
 ghost use Rattle.std.specs.Prelude.{◌≡◌, ◌<◌, ◌∷◌, ◌++◌, [], decimal, flat_map, length, IfOk, OnOk};
-ghost use Rattle.flow_design.specs.StaticRules.{FitsEngine};
 ghost use Rattle.report_text.specs.Lines.{line};
 ghost use Rattle.serial_order.specs.Orders.{DesignHasModule};
 ghost use Rattle.whole_answer.specs.Further.{order_tokens, order_words, ordered, used_words};
 
 use crate::answer::Answer;
 use crate::ending::Ending;
-use flow_design::{Design, Plan};
+use flow_design::{CheckedPlan, Design};
 use flow_word::{List, OutOfMemory};
 use report_text::{module_name, push_token, push_value};
 use serial_order::{Order, Used, check_order};
 use std::alloc::Global;
 
 /// The answer to `order`: a line for each module of a plan. Nothing is simulated. `OutOfMemory` where memory ran out.
-pub(crate) fn order_modules(alloc: Global, plan: &Plan) -> Result<Answer, OutOfMemory>
-    requires { FitsEngine plan.now }
+pub(crate) fn order_modules(alloc: Global, plan: &CheckedPlan) -> Result<Answer, OutOfMemory>
     ensures { IfOk result (λ whole. whole ≡ ordered plan.now.design) }
 {
+    plan.fits();
+    let design = plan.design();
     let mut text = List::new(alloc);
-    for module in 0..plan.design.modules.as_slice().len() {
-        print_order(&mut text, &plan.design, module as u32)?;
+    for module in 0..design.modules.as_slice().len() {
+        print_order(&mut text, design, module as u32)?;
     }
     Ok(Answer {
         text,

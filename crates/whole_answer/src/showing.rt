@@ -1,7 +1,6 @@
 //! The answers to the commands that show a simulation.
 ghost use Rattle.std.specs.Prelude.{◌≤◌, IfOk, IsErrOf, OnErr};
 ghost use Rattle.sim_io.specs.{Causes.AppendsPrefix, Causes.Rose, Telling.IsTold};
-ghost use Rattle.flow_design.specs.StaticRules.{FitsEngine};
 ghost use Rattle.whole_answer.specs.{Answer.IsRest, Views.shown, Views.view_text};
 
 use crate::answer::Answer;
@@ -9,7 +8,7 @@ use crate::ending::Ending;
 use crate::host::Host;
 use cli_words::{Options, View};
 use depth_session::{Runner, ThreadRunner};
-use flow_design::Plan;
+use flow_design::CheckedPlan;
 use flow_word::List;
 use path_text::path_text;
 use run_threads::Gate;
@@ -29,10 +28,9 @@ pub(crate) fn show<R: Threads + Wait + Sync, G: Gate + Sync, K: Sink>(
     host: &Host<'_, R, G>,
     view: View,
     options: &Options,
-    plan: Plan,
+    plan: CheckedPlan,
     sink: &mut K,
 ) -> Result<Answer, TellFault>
-    requires { FitsEngine plan }
     ensures rest { IfOk result (λ rest. IsRest (shown view options.now plan) (K.held sink.old) (K.held sink.new) rest) }
     ensures prefix { OnErr result (AppendsPrefix (K.held sink.old) (K.held sink.new) (shown view options.now plan).text) }
     ensures write_fault { IsErrOf result TellFault.WriteFault → Rose (K.faults sink.old) (K.faults sink.new) }

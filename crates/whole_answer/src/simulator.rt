@@ -1,11 +1,10 @@
 //! The lockstep machine as a simulator.
 ghost use Rattle.std.specs.Prelude.{◌≡◌, IfOk};
-ghost use Rattle.flow_design.specs.StaticRules.{FitsEngine};
 ghost use Rattle.clock_machine.specs.Parts.{AreCodes};
 ghost use Rattle.engine_report.specs.Finished.{report_with};
 
 use clock_machine::{BlockCode, clock_run_by};
-use flow_design::{Plan, Report};
+use flow_design::{CheckedPlan, Report};
 use flow_word::{List, OutOfMemory};
 use std::alloc::Global;
 
@@ -13,12 +12,11 @@ use std::alloc::Global;
 /// otherwise. `OutOfMemory` where memory ran out.
 pub(crate) fn clock_report(
     alloc: Global,
-    plan: &Plan,
+    plan: &CheckedPlan,
     codes: &[List<BlockCode>],
     events: bool,
 ) -> Result<Report, OutOfMemory>
-    requires fits { FitsEngine plan.now }
-    requires codes { AreCodes plan.now codes.now }
+    requires { AreCodes plan.now codes.now }
     ensures { IfOk result (λ outcome. outcome ≡ report_with events plan.now) }
 {
     if events {

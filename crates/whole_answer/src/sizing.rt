@@ -1,6 +1,5 @@
 //! The answers to `size` and `least`.
 ghost use Rattle.std.specs.Prelude.{◌≡◌, ◌≤◌, IfOk};
-ghost use Rattle.flow_design.specs.StaticRules.{FitsEngine};
 ghost use Rattle.depth_order.specs.Depths.{AsksNothing};
 ghost use Rattle.least_depths.specs.Least.{most_slack};
 ghost use Rattle.whole_answer.specs.Further.{sized, fewest_bits, least_told};
@@ -9,7 +8,7 @@ use crate::answer::Answer;
 use crate::ending::Ending;
 use crate::refusing::{HAS_QUERY, refuse};
 use depth_session::ThreadRunner;
-use flow_design::Plan;
+use flow_design::CheckedPlan;
 use flow_word::OutOfMemory;
 use least_depths::tell_sizes;
 use least_memory::tell_least;
@@ -25,12 +24,11 @@ use std::thread::Threads;
 pub(crate) fn size_fifos<R: Threads + Wait + Sync, G: Gate + Sync>(
     rt: &R,
     alloc: Global,
-    plan: &Plan,
+    plan: &CheckedPlan,
     slack: u64,
     gate: &G,
 ) -> Result<Answer, OutOfMemory>
-    requires fits { FitsEngine plan.now }
-    requires slack { slack ≤ most_slack }
+    requires { slack ≤ most_slack }
     ensures { IfOk result (λ whole. whole ≡ sized slack plan.now) }
 {
     let told = tell_sizes(rt, alloc, plan, slack, &mut ThreadRunner::new(gate))?;
@@ -46,15 +44,14 @@ pub(crate) fn size_fifos<R: Threads + Wait + Sync, G: Gate + Sync>(
 pub(crate) fn least_fifos<R: Threads + Wait + Sync, G: Gate + Sync>(
     rt: &R,
     alloc: Global,
-    plan: &Plan,
+    plan: &CheckedPlan,
     slack: u64,
     gate: &G,
 ) -> Result<Answer, OutOfMemory>
-    requires fits { FitsEngine plan.now }
-    requires slack { slack ≤ most_slack }
+    requires { slack ≤ most_slack }
     ensures { IfOk result (λ whole. whole ≡ least_told slack plan.now) }
 {
-    if asks_nothing(plan) {
+    if asks_nothing(plan.plan()) {
         fewest_bits(rt, alloc, plan, slack, gate)
     } else {
         refuse(alloc, HAS_QUERY)
@@ -67,11 +64,10 @@ pub(crate) fn least_fifos<R: Threads + Wait + Sync, G: Gate + Sync>(
 fn fewest_bits<R: Threads + Wait + Sync, G: Gate + Sync>(
     rt: &R,
     alloc: Global,
-    plan: &Plan,
+    plan: &CheckedPlan,
     slack: u64,
     gate: &G,
 ) -> Result<Answer, OutOfMemory>
-    requires fits { FitsEngine plan.now }
     requires slack { slack ≤ most_slack }
     requires quiet { AsksNothing plan.now }
     ensures { IfOk result (λ whole. whole ≡ fewest_bits slack plan.now) }

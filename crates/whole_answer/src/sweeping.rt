@@ -1,6 +1,5 @@
 //! The answer to `sweep`.
 ghost use Rattle.std.specs.{Prelude.◌≡◌, Prelude.◌≤◌, Prelude.◌++◌, Prelude.[], Prelude.map, Prelude.IfOk, Prelude.OnOk, List.list_any};
-ghost use Rattle.flow_design.specs.StaticRules.{FitsEngine};
 ghost use Rattle.report_text.specs.Lines.{line, text_of_lines};
 ghost use Rattle.whole_answer.specs.Further.{best_of, best_tokens, first_ending, is_done_at, not_taken, point_tokens, points_ending, swept};
 ghost use Rattle.whole_answer.specs.Further.{told_points};
@@ -9,7 +8,7 @@ use crate::answer::Answer;
 use crate::ending::Ending;
 use crate::refusing::{TOO_MANY_POINTS, refuse};
 use depth_sweep::{Point, SweepFault, best, sweep};
-use flow_design::{Plan, Verdict};
+use flow_design::{CheckedPlan, Verdict};
 use flow_word::{List, OutOfMemory};
 use report_text::{print_numbers, push_token, push_value, push_values, verdict_words};
 use std::alloc::Global;
@@ -22,12 +21,11 @@ pub(crate) fn sweep_depths<R: Threads + Sync>(
     alloc: Global,
     lo: u64,
     hi: u64,
-    plan: Plan,
+    plan: CheckedPlan,
 ) -> Result<Answer, OutOfMemory>
     requires least { 1 ≤ lo }
     requires ordered { lo ≤ hi }
     requires most { hi ≤ 64 }
-    requires fits { FitsEngine plan }
     ensures { IfOk result (λ whole. whole ≡ swept lo hi plan) }
 {
     match sweep(rt, alloc, &plan, lo, hi) {

@@ -1,20 +1,15 @@
 //! The plan of a session text.
-ghost use Rattle.std.specs.Prelude.{IfOk};
-ghost use Rattle.flow_design.specs.StaticRules.{FitsEngine};
-
 use flow_check::check;
-use flow_design::Plan;
+use flow_design::CheckedPlan;
 use flow_design::limits::Scale;
 use flow_grammar::{ReadFail, keeps_rules};
 use flow_text::read_session;
 use std::alloc::Global;
 
 /// The plan of a session text, without its edits. The error tells why the text is refused, or that memory ran out.
-pub fn read_plan(alloc: Global, text: &[u8]) -> Result<Plan, ReadFail>
-    ensures fits { IfOk result (λ plan. FitsEngine plan) }
-{
+pub fn read_plan(alloc: Global, text: &[u8]) -> Result<CheckedPlan, ReadFail> {
     keeps_rules();
     let (session, lines) = read_session(alloc, Scale::Standard, text)?;
     let checked = check(alloc, Scale::Standard, &session, &lines)?;
-    Ok(checked.plan)
+    Ok(CheckedPlan::new(checked.plan))
 }

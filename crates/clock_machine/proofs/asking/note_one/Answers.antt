@@ -9,7 +9,7 @@ note-requires-clause-code c =
     let p = c.args.of.now.plan.now in (
       p.design.channels,
       subst (λ (m : Module). HasCode p.design.channels m c.args.state.now c.code_at.result.now) (sym c.module_at.ensures)
-          (record { of = c.requires.fits.modules c.args.i no_module c.requires.within; code_is = c.code_at.ensures.own }),
+          (record { of = c.fits.ensures.modules c.args.i no_module c.requires.within; code_is = c.code_at.ensures.own }),
     )
 
 pub returns-clause-asked : goal.returns-clause-asked

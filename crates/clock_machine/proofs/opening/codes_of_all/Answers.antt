@@ -15,7 +15,7 @@ codes_of-requires c =
     let i = c.loop-i.i in
     subst (λ (m : Module). All KeepsLimits m.blocks) (sym c.module_at.ensures)
     (blocks_keep_limits (length p.design.channels) (module_at p i)
-    (c.requires.fits.modules i no_module (omega (arith, ap length c.as_slice-count.ensures))))
+    (c.fits.ensures.modules i no_module (omega (arith, ap length c.modules-count.ensures))))
 
 pub loop-i-preserved : goal.loop-i-preserved
 loop-i-preserved c =
@@ -25,7 +25,7 @@ loop-i-preserved c =
     let added : c.push.new.self ≡ c.loop-i.codes ++ own ∷ [] = c.in_ok-push.ensures.ok in
     let is : AreCodesOf p.design.channels (module_at p i) own =
     subst (λ (m : Module). AreCodesOf p.design.channels m own) c.module_at.ensures
-    (subst (λ (cs : List Channel). AreCodesOf cs c.module_at.result.now own) c.as_slice-channels.ensures c.in_ok-codes_of.ensures) in
+    (subst (λ (cs : List Channel). AreCodesOf cs c.module_at.result.now own) c.channels-channels.ensures c.in_ok-codes_of.ensures) in
     record {
       count = ap (λ (xs : List (List BlockCode)). length xs) added
           ∙ (length_push c.loop-i.codes own ∙ ap (λ (n : ℕ). n + 1) c.loop-i.invariant.count);

@@ -1,11 +1,11 @@
-use Rattle.std.proofs.Common.{◌≡◌, ◌+◌, ◌≤◌, ℕ, List, Bool, true, sym, ap, subst, refl, ◌∙◌, arith}
+use Rattle.std.proofs.Common.{◌≡◌, ◌+◌, ◌≤◌, ℕ, List, Bool, true, false, sym, ap, subst, refl, ◌∙◌, arith}
 use Rattle.flow_design.specs.{declared.plan.Plan.Plan, declared.report.EventLine.EventLine, declared.report.Report.Report}
 use Rattle.flow_design.specs.{declared.report.Verdict.Verdict, declared.state.ClockState.ClockState}
 use Rattle.flow_design.specs.declared.report.Verdict.TheVariants.{Cycles}
 use Rattle.lockstep_defs.specs.{Channels.HistoryStep, Laws.NoneBefore, Lockstep.state, Lockstep.history, Report.events_of, Report.report}
 use Rattle.lockstep_defs.specs.Verdict.{settled_verdict, is_settled}
 use Rattle.lockstep_defs.proofs.Exits.{IsAt, settled_exit, cycles_exit}
-use Rattle.clock_machine.specs.{declared.run.Run.Run, Parts.events_kept, Parts.report_from}
+use Rattle.clock_machine.specs.{declared.run.Run.Run, Parts.events_kept, Parts.report_from, Runs.HasCome}
 use Rattle.clock_machine.proofs.Kept.{kept_report}
 use Rattle.clock_machine.proofs.Coming.{come_at, none_next, settled_state, settled_fit, same_later, told_at}
 use Rattle.clock_machine.proofs.run.clock_run_by.Goals as goal
@@ -45,9 +45,9 @@ settle-requires c =
     let clock = c.loop-clock.clock in
     let same = same_later p clock (sym c.in_ok-go_on.ensures.settled ∙ c.if-branch.true) in
     record {
-      fits = c.requires.fits;
+      fits = c.fits.ensures;
       made = c.requires.codes;
-      fit = settled_fit p c.requires.fits c.args.keep (clock + 1) c.go_on.new.run c.in_ok-go_on.ensures.come (omega arith) same.settled;
+      fit = settled_fit p c.fits.ensures c.args.keep (clock + 1) c.go_on.new.run c.in_ok-go_on.ensures.come (omega arith) same.settled;
     }
 
 pub returns-then-branch : goal.returns-then-branch
@@ -67,33 +67,35 @@ settle-requires-then-branch-2 c =
     let p = c.args.plan.now in
     let settled = sym c.in_ok-settles.ensures.settled ∙ c.if-branch-2.true in
     record {
-      fits = c.requires.fits;
+      fits = c.fits.ensures;
       made = c.requires.codes;
-      fit = settled_fit p c.requires.fits c.args.keep p.cycles c.settles.new.run c.in_ok-settles.ensures.come (omega arith) settled;
+      fit = settled_fit p c.fits.ensures c.args.keep c.cycles-cycles.result c.settles.new.run c.in_ok-settles.ensures.come (omega arith) settled;
     }
 
 -- the loop is over at the cycle limit
-at_limit : (p : Plan) (clock : ℕ) → clock ≡ p.cycles → NoneBefore p clock → NoneBefore p p.cycles
-at_limit p clock e none = subst (NoneBefore p) e none
+at_limit : (p : Plan) (clock limit : ℕ) → clock ≡ limit → NoneBefore p clock → NoneBefore p limit
+at_limit p clock limit e none = subst (NoneBefore p) e none
 
 pub returns-then-branch-2 : goal.returns-then-branch-2
 returns-then-branch-2 c =
     let p = c.args.plan.now in
+    let limit = c.cycles-cycles.result in
     let run = c.settles.new.run in
     let come = c.in_ok-settles.ensures.come in
     let settled = sym c.in_ok-settles.ensures.settled ∙ c.if-branch-2.true in
-    let none = at_limit p c.loop-clock.clock (omega arith) c.loop-clock.invariant.none in
-    settled_end p c.args.keep p.cycles run _ (come_at p c.args.keep p.cycles run come none) (omega arith) settled
-    (settled_state p c.args.keep p.cycles run come settled) come.events c.in_ok-report-2.ensures
+    let none = at_limit p c.loop-clock.clock limit (omega arith) c.loop-clock.invariant.none in
+    settled_end p c.args.keep limit run _ (come_at p c.args.keep limit run come none) (omega arith) settled
+    (settled_state p c.args.keep limit run come settled) come.events c.in_ok-report-2.ensures
 
 pub returns : goal.returns
 returns c =
     let p = c.args.plan.now in
+    let limit = c.cycles-cycles.ensures in
     let st = state p p.cycles in
     let run = c.settles.new.run in
-    let come = c.in_ok-settles.ensures.come in
-    let none = at_limit p c.loop-clock.clock (omega arith) c.loop-clock.invariant.none in
+    let come = subst (λ (n : ℕ). HasCome p c.args.codes.now c.args.keep n run) limit c.in_ok-settles.ensures.come in
+    let none = at_limit p c.loop-clock.clock p.cycles (omega arith) c.loop-clock.invariant.none in
     kept_exit c.args.keep p (Cycles p.cycles) st (events_of (history p p.cycles)) run.round.events run.answers _
     (c.in_ok-report-3.ensures st (sym come.holding)) come.events
     (cycles_exit p st (events_of (history p p.cycles)) run.answers (come_at p c.args.keep p.cycles run come none)
-    (sym c.in_ok-settles.ensures.settled ∙ c.if-branch-2.false))
+    (subst (λ (n : ℕ). is_settled p n (state p n) ≡ false) limit (sym c.in_ok-settles.ensures.settled ∙ c.if-branch-2.false)))

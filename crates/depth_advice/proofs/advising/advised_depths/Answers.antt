@@ -1,12 +1,9 @@
-use Rattle.std.proofs.{Common.◌∙◌, Common.ap, Common.sym, Common.subst, lemmas.Result.IfOk-weaker}
-use Rattle.flow_design.specs.{declared.plan.Plan.Plan, StaticRules.FitsEngine}
+use Rattle.std.proofs.{Common.◌∙◌, Common.ap, lemmas.Result.IfOk-weaker}
+use Rattle.flow_design.specs.declared.plan.Plan.{Plan}
 use Rattle.lockstep_defs.specs.Report.{report}
 use Rattle.sim_core.specs.Views.{CoreView}
-use Rattle.depth_advice.proofs.{Depths.wide_fits, Finding.advised_by}
+use Rattle.depth_advice.proofs.Finding.{advised_by}
 use Rattle.depth_advice.proofs.advising.advised_depths.Goals as goal
-
-pub run_plan-requires-after_bounds : goal.run_plan-requires-after_bounds
-run_plan-requires-after_bounds g c κs within = subst FitsEngine (sym c.widen.ensures) (wide_fits c.args.plan c.requires)
 
 pub returns-clause-verdict : goal.returns-clause-verdict
 returns-clause-verdict g c =

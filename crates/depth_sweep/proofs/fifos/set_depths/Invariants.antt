@@ -1,11 +1,7 @@
 use Rattle.std.proofs.Common.{◌≡◌, take}
-use Rattle.flow_design.specs.StaticRules.{FitsEngine}
 use Rattle.outcome_guard.specs.Edits.{plan_after}
 use Rattle.depth_sweep.specs.Grid.{depth_edits}
 use Rattle.depth_sweep.proofs.fifos.set_depths.Given as goal
 
 abbrev pub invariant-loop-at : goal.invariant-loop-at
-invariant-loop-at l = record {
-  plan : l.plan ≡ plan_after l.fn.plan (take l.at (depth_edits l.channels l.depths));
-  fits : FitsEngine l.plan;
-}
+invariant-loop-at l = l.plan ≡ plan_after l.fn.plan (take l.at (depth_edits l.channels l.depths))

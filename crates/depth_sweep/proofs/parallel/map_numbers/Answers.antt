@@ -26,7 +26,7 @@ collect-requires-clause-ready g c κs within =
     rw (c.map.ensures.base, c.map.ensures.f, c.with_min_len.ensures.base, ends.0, ends.1) (λ k d inside.
     let short : k < lists - 0 = omega (arith, inside, length-range_with_len 0 (lists - 0)) in
     let number = get_or-range_with_len 0 (lists - 0) k d short in
-    ((all.fits, all.channels, all.shape, all.fifos, omega (arith, number, short)), λ y p. tt))
+    ((all.channels, all.shape, all.fifos, omega (arith, number, short)), λ y p. tt))
 
 pub returns : goal.returns
 returns g c =

@@ -1,11 +1,10 @@
 use Rattle.std.proofs.Common.{◌∙◌, sym, ap, subst, arith, refl, ℕ, ◌+◌, ◌*◌, ◌≤◌, length}
-use Rattle.flow_design.specs.{declared.plan.Plan.Plan, declared.limits.TheConstants.FIFO_DEPTH}
+use Rattle.flow_design.specs.{declared.plan.Plan.Plan, declared.limits.TheConstants.FIFO_DEPTH, StaticRules.FitsEngine}
 use Rattle.depth_session.specs.Sessions.{Session}
 use Rattle.depth_order.specs.Depths.{AsksNothing}
 use Rattle.least_depths.specs.Lowering.{Lowered, least_for, lowered}
 use Rattle.least_depths.proofs.Channels.{same_channels, next_depth, fifo_plan, fifo_tries, tries_within, other_lowered}
-use Rattle.least_depths.proofs.Known.{lowered_fits, quiet_lowered}
-use Rattle.least_depths.proofs.halving.lower_all.Goals.{then-is_fifo+in_ok-tries, else-is_fifo}
+use Rattle.least_depths.proofs.{Known.quiet_lowered, halving.lower_all.Goals.then-is_fifo+in_ok-tries, halving.lower_all.Goals.else-is_fifo}
 use Rattle.least_depths.proofs.halving.lower_all.Goals as goal
 
 pub loop-channel-init : goal.loop-channel-init
@@ -22,28 +21,29 @@ loop-channel-init g c = record {
 
 pub is_fifo-requires : goal.is_fifo-requires
 is_fifo-requires g c =
-    let channels = same_channels c.args.session.now.plan c.requires.fits c.args.clock c.loop-channel.channel c.loop-channel.session.plan
+    let fits = subst FitsEngine c.core.ensures.plan c.agrees.ensures.fits in
+    let channels = same_channels c.args.session.now.plan fits c.args.clock c.loop-channel.channel c.loop-channel.session.plan
     c.loop-channel.invariant.plan in
     let count = c.len-channels.ensures ∙ ap (λ (p : Plan). length p.design.channels) c.plan.ensures in
     omega (arith, c.loop-channel-test.true)
 
 pub lower-requires-clause-depth : goal.lower-requires-clause-depth
-lower-requires-clause-depth g c = λ κs outlives. next_depth c.args.session.now.plan c.requires.fits c.args.clock c.loop-channel.channel
-    c.loop-channel.session.plan c.loop-channel.invariant.plan
+lower-requires-clause-depth g c = λ κs outlives.
+    let fits = subst FitsEngine c.core.ensures.plan c.agrees.ensures.fits in
+    next_depth c.args.session.now.plan fits c.args.clock c.loop-channel.channel c.loop-channel.session.plan c.loop-channel.invariant.plan
     (let count = c.len-channels.ensures ∙ ap (λ (p : Plan). length p.design.channels) c.plan.ensures in
     omega (arith, c.loop-channel-test.true)) (sym c.is_fifo.ensures ∙ c.if-is_fifo.true)
 
-pub lower-requires-clause-fits : goal.lower-requires-clause-fits
-lower-requires-clause-fits g c = λ κs outlives. lowered_fits c.args.session.now.plan c.requires.fits c.args.clock c.loop-channel.channel
-    c.loop-channel.session.plan c.loop-channel.invariant.plan
-
 pub lower-requires-clause-latest : goal.lower-requires-clause-latest
-lower-requires-clause-latest g c = λ κs outlives some. quiet_lowered c.args.session.now.plan c.requires.fits c.args.clock
-    c.loop-channel.channel c.loop-channel.session.plan c.loop-channel.invariant.plan (c.requires.latest some)
+lower-requires-clause-latest g c = λ κs outlives some.
+    let fits = subst FitsEngine c.core.ensures.plan c.agrees.ensures.fits in
+    quiet_lowered c.args.session.now.plan fits c.args.clock c.loop-channel.channel c.loop-channel.session.plan
+    c.loop-channel.invariant.plan (c.requires.latest some)
 
 pub loop-channel-preserved : goal.loop-channel-preserved
 loop-channel-preserved g c =
     let p = c.args.session.now.plan in
+    let fits = subst FitsEngine c.core.ensures.plan c.agrees.ensures.fits in
     let clock = c.args.clock in
     let n = c.loop-channel.channel in
     let x = c.loop-channel.invariant in
@@ -70,13 +70,13 @@ loop-channel-preserved g c =
                   subst (λ (s : Session). AsksNothing s.plan) (sym w.session-is) (subst AsksNothing (sym ok.plan) still),
                 );
             plan = ap (λ (s : Session). s.plan) w.session-is
-                ∙ fifo_plan p c.requires.fits clock n q w.lower.new.session.plan x.plan fifo ok.plan;
+                ∙ fifo_plan p fits clock n q w.lower.new.session.plan x.plan fifo ok.plan;
             tries = w.tries-is
-                ∙ fifo_tries p c.requires.fits clock n q c.loop-channel.tries w.in_ok-tries.field-0 x.plan fifo x.tries ok.tries;
+                ∙ fifo_tries p fits clock n q c.loop-channel.tries w.in_ok-tries.field-0 x.plan fifo x.tries ok.tries;
           }
       | else-is_fifo w ↦
           let other = sym c.is_fifo.ensures ∙ w.if-is_fifo.false in
-          let same = other_lowered p c.requires.fits clock n q x.plan other in
+          let same = other_lowered p fits clock n q x.plan other in
           record {
             live = ap (λ (s : Session). s.live) w.session-is ∙ x.live;
             runs = subst (λ (s : Session). s.count.runs ≤ 1 + (n + 1) * (FIFO_DEPTH + 1)) (sym w.session-is) (omega (arith, x.runs));
@@ -99,8 +99,10 @@ returns-in_err-tries-clause-made g c =
     let n = c.loop-channel.channel in
     let count = c.len-channels.ensures ∙ ap (λ (p : Plan). length p.design.channels) c.plan.ensures in
     let inside = c.loop-channel-test.true in
-    let tries = tries_within c.args.session.now.plan c.requires.fits c.args.clock n (length c.args.session.now.plan.design.channels)
-    c.loop-channel.session.plan c.loop-channel.tries (least_for c.loop-channel.session.plan c.args.clock n).tries (omega arith) x.plan
+    let p = c.args.session.now.plan in
+    let fits = subst FitsEngine c.core.ensures.plan c.agrees.ensures.fits in
+    let tries = tries_within p fits c.args.clock n (length p.design.channels) c.loop-channel.session.plan c.loop-channel.tries
+    (least_for c.loop-channel.session.plan c.args.clock n).tries (omega arith) x.plan
     (sym c.is_fifo.ensures ∙ c.if-is_fifo.true) x.tries refl in
     let more = c.lower.ensures.made in
     omega (arith, x.made)

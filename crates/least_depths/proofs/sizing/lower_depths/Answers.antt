@@ -11,8 +11,8 @@ returns-clause-found g c =
     let p = c.args.plan.now in
     let q = with_depths p c.args.depths in
     let start : c.in_ok-session.session.plan ≡ limited c.args.clock q =
-    ap (λ (s : Session). s.plan) c.in_ok-session.ensures.opened ∙ (c.limit_cycles.ensures
-    ∙ ap (λ (r : Plan). limited c.args.clock (with_depths r c.args.depths)) c.in_ok-own.ensures) in
+    ap (λ (s : Session). s.plan) c.in_ok-session.ensures.opened ∙ (c.new-limited.ensures ∙ (c.limit_cycles.ensures
+    ∙ ap (λ (r : Plan). limited c.args.clock (with_depths r c.args.depths)) (c.into_plan-own.ensures.plan ∙ c.in_ok-copy.ensures))) in
     let last = c.lower_all.new.session.plan in
     lowered_of (limited c.args.clock q) c.args.clock c.in_ok-session.session.plan last c.verdict.result c.in_ok-from_slice.field-0
     c.in_ok-tries.tries (length p.design.channels) start c.in_ok-tries.ensures.plan c.in_ok-tries.ensures.tries refl
@@ -25,8 +25,8 @@ returns-in_err-from_slice-clause-made g c =
     let p = c.args.plan.now in
     let q = with_depths p c.args.depths in
     let start : c.in_ok-session.session.plan ≡ limited c.args.clock q =
-    ap (λ (s : Session). s.plan) c.in_ok-session.ensures.opened ∙ (c.limit_cycles.ensures
-    ∙ ap (λ (r : Plan). limited c.args.clock (with_depths r c.args.depths)) c.in_ok-own.ensures) in
+    ap (λ (s : Session). s.plan) c.in_ok-session.ensures.opened ∙ (c.new-limited.ensures ∙ (c.limit_cycles.ensures
+    ∙ ap (λ (r : Plan). limited c.args.clock (with_depths r c.args.depths)) (c.into_plan-own.ensures.plan ∙ c.in_ok-copy.ensures))) in
     let tries = ap (λ (r : Plan). (lowered r c.args.clock (length r.design.channels)).tries) start
     ∙ same_tries q c.args.clock (length p.design.channels) in
     let count = ap (λ (r : Plan). length r.design.channels) start in
@@ -39,8 +39,8 @@ returns-in_err-tries-clause-made g c =
     let p = c.args.plan.now in
     let q = with_depths p c.args.depths in
     let start : c.in_ok-session.session.plan ≡ limited c.args.clock q =
-    ap (λ (s : Session). s.plan) c.in_ok-session.ensures.opened ∙ (c.limit_cycles.ensures
-    ∙ ap (λ (r : Plan). limited c.args.clock (with_depths r c.args.depths)) c.in_ok-own.ensures) in
+    ap (λ (s : Session). s.plan) c.in_ok-session.ensures.opened ∙ (c.new-limited.ensures ∙ (c.limit_cycles.ensures
+    ∙ ap (λ (r : Plan). limited c.args.clock (with_depths r c.args.depths)) (c.into_plan-own.ensures.plan ∙ c.in_ok-copy.ensures))) in
     let tries = ap (λ (r : Plan). (lowered r c.args.clock (length r.design.channels)).tries) start
     ∙ same_tries q c.args.clock (length p.design.channels) in
     let count = ap (λ (r : Plan). length r.design.channels) start in
@@ -53,8 +53,8 @@ returns-clause-made g c =
     let p = c.args.plan.now in
     let q = with_depths p c.args.depths in
     let start : c.in_ok-session.session.plan ≡ limited c.args.clock q =
-    ap (λ (s : Session). s.plan) c.in_ok-session.ensures.opened ∙ (c.limit_cycles.ensures
-    ∙ ap (λ (r : Plan). limited c.args.clock (with_depths r c.args.depths)) c.in_ok-own.ensures) in
+    ap (λ (s : Session). s.plan) c.in_ok-session.ensures.opened ∙ (c.new-limited.ensures ∙ (c.limit_cycles.ensures
+    ∙ ap (λ (r : Plan). limited c.args.clock (with_depths r c.args.depths)) (c.into_plan-own.ensures.plan ∙ c.in_ok-copy.ensures))) in
     let tries = ap (λ (r : Plan). (lowered r c.args.clock (length r.design.channels)).tries) start
     ∙ same_tries q c.args.clock (length p.design.channels) in
     let count = ap (λ (r : Plan). length r.design.channels) start in

@@ -10,7 +10,7 @@ pub try_depths-requires-clause-depths : goal.try_depths-requires-clause-depths
 try_depths-requires-clause-depths g c = λ κs outlives.
     let p = c.args.core.now.plan in
     subst (AreDepths p) (sym c.as_slice.ensures)
-    (cheapest_depths p c.requires.fits c.args.clock c.loop-demands.demands c.loop-demands.invariant c.in_ok-depths.depths
+    (cheapest_depths p c.agrees.ensures.fits c.args.clock c.loop-demands.demands c.loop-demands.invariant c.in_ok-depths.depths
     c.in_ok-depths.ensures)
 
 pub returns-in-Ended-clause-least : goal.returns-in-Ended-clause-least
@@ -20,7 +20,8 @@ returns-in-Ended-clause-least g c =
     let timely : IsTimely p clock c.as_slice.result.now c.in-Ended.verdict =
     subst (IsOutcome p clock c.as_slice.result.now) c.in-Ended.is c.in_ok-cut.ensures in
     let done : IsDoneBy clock (verdict (with_depths p c.as_slice.result.now)) = subst (IsDoneBy clock) timely.told timely.done in
-    cheapest_least p c.requires.fits clock c.loop-demands.demands c.loop-demands.invariant c.in_ok-depths.depths c.in_ok-depths.ensures
+    cheapest_least p c.agrees.ensures.fits clock c.loop-demands.demands c.loop-demands.invariant c.in_ok-depths.depths
+    c.in_ok-depths.ensures
     (subst (λ (ds : List ℕ). IsDoneBy clock (verdict (with_depths p ds))) c.as_slice.ensures done)
 
 pub loop-demands-preserved : goal.loop-demands-preserved

@@ -6,15 +6,15 @@ pub codes_of-requires : goal.codes_of-requires
 codes_of-requires c =
     let p = c.args.plan.now in
     let of =
-    module_is p c.args.number c.as_slice.result.now c.index-as_slice-number.result c.in_ok-of.of c.requires.owner c.as_slice.ensures
-    c.index-as_slice-number.is c.in_ok-of.ensures in
-    blocks_keep p c.requires.fits c.args.number c.requires.owner c.in_ok-of.of of
+    module_is p c.args.number c.modules.result.now c.index-modules-number.result c.in_ok-of.of c.requires c.modules.ensures
+    c.index-modules-number.is c.in_ok-of.ensures in
+    blocks_keep p c.fits.ensures c.args.number c.requires c.in_ok-of.of of
 
 pub returns-clause-leads : goal.returns-clause-leads
 returns-clause-leads c =
     let p = c.args.plan.now in
     let of =
-    module_is p c.args.number c.as_slice.result.now c.index-as_slice-number.result c.in_ok-of.of c.requires.owner c.as_slice.ensures
-    c.index-as_slice-number.is c.in_ok-of.ensures in
-    opened_leads p c.requires.fits c.args.number c.requires.owner _ of refl (rw c.as_slice-2.ensures at c.in_ok-codes.ensures)
-    c.in_ok-state.ensures.state refl refl
+    module_is p c.args.number c.modules.result.now c.index-modules-number.result c.in_ok-of.of c.requires c.modules.ensures
+    c.index-modules-number.is c.in_ok-of.ensures in
+    rw c.ops.ensures (opened_leads p c.fits.ensures c.args.number c.requires _ of refl (rw c.channels.ensures at c.in_ok-codes.ensures)
+    c.in_ok-state.ensures.state refl refl)

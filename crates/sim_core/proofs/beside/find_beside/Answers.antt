@@ -17,7 +17,7 @@ loop-owner-preserved c =
     let within : c.loop-owner.owner < length c.args.plan.now.design.modules =
     (let a = c.loop-owner-test.true in let b = c.loop-owner.auto.owner-end in let e = c.len-owner-end.ensures in
     let n = c.requires.ports.count in omega arith) in (
-      beside_more c.args.plan.now c.requires.fits c.loop-owner.owner within c.loop-owner.beside c.push.new.self
+      beside_more c.args.plan.now c.fits.ensures c.loop-owner.owner within c.loop-owner.beside c.push.new.self
           c.in_ok-masks.masks c.loop-owner.invariant.0 c.in_ok-push.ensures.ok c.ports_of.result.now
           (c.ports_of.ensures ∙ c.requires.ports.each c.loop-owner.owner within) c.add_across.new.set c.add_across.ensures.across
           c.in_ok-masks.ensures,

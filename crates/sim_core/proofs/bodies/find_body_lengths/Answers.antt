@@ -29,10 +29,10 @@ pub loop-of-preserved : goal.loop-of-preserved
 loop-of-preserved c =
     let all = c.args.plan.now.design.modules in
     let i = c.loop-of.of-index in
-    let count = ap (λ (xs : List Module). length xs) c.as_slice-of-items.ensures in
+    let count = ap (λ (xs : List Module). length xs) c.modules-of-items.ensures in
     let inside : i < length all = omega (arith, c.loop-of-test.true) in
     let is : c.of-item.result ≡ module_at c.args.plan.now i =
-    c.of-item.is ∙ ap (λ (xs : List Module). get_or xs i c.of-item.result) c.as_slice-of-items.ensures
+    c.of-item.is ∙ ap (λ (xs : List Module). get_or xs i c.of-item.result) c.modules-of-items.ensures
     ∙ get_or_default all i c.of-item.result no_module inside in
     told_more c.args.plan.now i c.loop-of.lengths c.push.new.self c.longest_body.result c.loop-of.invariant c.in_ok-push.ensures.ok
     (subst (λ (of : Module). IsLongestBody of c.longest_body.result) is c.longest_body.ensures)

@@ -23,7 +23,7 @@ loop-channel-preserved c =
     let n = c.loop-channel.channel in
     let p = c.args.plan.now in
     let within : n < length p.design.channels =
-    let a = c.loop-channel-test.true in let b = c.loop-channel.auto.channel-end in let e = c.len-channel-end.ensures in omega arith in
+    let a = c.loop-channel-test.true in let b = c.loop-channel.auto.channel-end in let e = ap length c.channels.ensures in omega arith in
     let pop : slice_index c.args.readers.now n ≡ (design p).owner Pop n =
     c.requires.readers.each n (let k = c.requires.readers.count in omega arith) in
     let push : slice_index c.args.writers.now n ≡ (design p).owner Push n =

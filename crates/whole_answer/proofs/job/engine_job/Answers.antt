@@ -1,24 +1,16 @@
-use Rattle.std.proofs.Common.{◌≡◌, ◌∙◌, sym, subst, refl, ap, arith, ℕ, ◌+◌, ◌≤◌, List}
-use Rattle.std.specs.{Prelude.Bool, Prelude.if◌then◌else◌, declared.option.Option.Option, Io.KnownBytes.Appends}
-use Rattle.flow_design.specs.{declared.plan.Plan.Plan, declared.report.Report.Report, StaticRules.FitsEngine}
+use Rattle.std.proofs.Common.{◌≡◌, ◌∙◌, sym, subst, refl, ap, arith, ℕ, ◌+◌}
+use Rattle.std.specs.Prelude.{if◌then◌else◌}
+use Rattle.flow_design.specs.{declared.plan.Plan.Plan, StaticRules.FitsEngine}
 use Rattle.lockstep_defs.specs.Report.{report}
 use Rattle.outcome_guard.specs.Runs.{next_counts}
 use Rattle.depth_session.specs.Sessions.{Session, opening_session, with_edit}
-use Rattle.report_text.specs.{Lines.line, Lines.runs_tokens, ReportText.report_text_of}
-use Rattle.sim_io.specs.Causes.{AppendsPrefix}
+use Rattle.report_text.specs.Lines.{line, runs_tokens}
 use Rattle.sim_io.proofs.Pending.{prefix_none}
 use Rattle.whole_answer.specs.{Going.Told, Going.IsGoing, Going.told_of, Job.ending_of, Job.is_done, declared.ending.Ending.Ending}
 use Rattle.whole_answer.proofs.Reports.{begins, goes_on, still_fits, next_plan, ends, edit_at, fits_there, first_is, more_is, first_plan}
-use Rattle.whole_answer.proofs.Reports.{stops, stops_first, stops_inside, same_verdict}
+use Rattle.whole_answer.proofs.Reports.{stops, stops_first, stops_inside, same_verdict, report_in, part_in}
 use Rattle.flow_design.proofs.Failing.{on_err}
 use Rattle.whole_answer.proofs.job.engine_job.Goals as goal
-
--- a report of the plan that stands is one of this plan
-abbrev report_in : Option (List ℕ) → Option (List ℕ) → ℕ → Bool → Plan → Type 0
-report_in old new k events q = Appends old new (report_text_of q.design (report q) k events)
-
-abbrev part_in : Option (List ℕ) → Option (List ℕ) → ℕ → Bool → Plan → Type 0
-part_in old new k events q = AppendsPrefix old new (report_text_of q.design (report q) k events)
 
 pub loop-edit-init : goal.loop-edit-init
 loop-edit-init g c =
@@ -33,7 +25,7 @@ loop-edit-init g c =
     ∙ same_verdict events p s.plan c.in_ok-outcome.outcome c.reports_without_events.ensures.verdict c.in_ok-outcome.ensures plan in
     let told = first_is p c.of-ending.result s.count ending (ap (λ (v : Session). v.count) begun) in
     let written = subst (report_in first held 0 events) (c.plan.ensures ∙ plan) c.in_ok-write_report.ensures.ok in
-    let going = begins events p c.args.edits.now c.edits_in_order.ensures.none c.requires.fits
+    let going = begins events p c.args.edits.now c.edits_in_order.ensures.none c.fits.ensures
     first held written in
     record {
       going = subst (λ (q : Plan). IsGoing events p c.args.edits.now 0 q (told_of c.of-ending.result s.count) first held) (sym plan)
@@ -47,7 +39,7 @@ pub edit-requires-clause-fits : goal.edit-requires-clause-fits
 edit-requires-clause-fits g c = λ κs outlives.
     let edits = c.args.edits.now in
     let i = c.loop-edit.edit-index in
-    let fit = fits_there c.args.plan edits i c.loop-edit-test.true c.requires.edits_fit in
+    let fit = fits_there c.args.plan edits i c.loop-edit-test.true c.requires in
     still_fits c.args.events c.args.plan edits i c.loop-edit.session.plan (edit_at edits i) c.loop-edit.invariant.going.plan fit
 
 pub write_report-requires-in-loop-edit-clause-fits : goal.write_report-requires-in-loop-edit-clause-fits
@@ -55,7 +47,7 @@ write_report-requires-in-loop-edit-clause-fits g c =
     let edits = c.args.edits.now in
     let i = c.loop-edit.edit-index in
     let s = c.loop-edit.session in
-    let fit = fits_there c.args.plan edits i c.loop-edit-test.true c.requires.edits_fit in
+    let fit = fits_there c.args.plan edits i c.loop-edit-test.true c.requires in
     let before = still_fits c.args.events c.args.plan edits i s.plan (edit_at edits i) c.loop-edit.invariant.going.plan fit in
     let edited : c.edit.new.self ≡ with_edit s (edit_at edits i) = c.in_ok-edit.ensures.edited in
     subst FitsEngine (sym (c.plan-in-loop-edit.ensures ∙ ap (λ (v : Session). v.plan) edited))
@@ -72,7 +64,7 @@ loop-edit-preserved g c =
     let going = c.loop-edit.invariant.going in
     let edited : t ≡ with_edit s (edit_at edits i) = c.in_ok-edit.ensures.edited in
     let plan = ap (λ (v : Session). v.plan) edited in
-    let fit = fits_there p edits i c.loop-edit-test.true c.requires.edits_fit in
+    let fit = fits_there p edits i c.loop-edit-test.true c.requires in
     let is = plan ∙ next_plan events p edits c.edits_in_order.ensures.one_more i s.plan (edit_at edits i)
     (record { channel = 0; depth = 0 }) going.plan c.loop-edit-test.true refl fit.entry in
     let number : c.loop-edit.number + 1 ≡ i + 1 = ap (λ n. n + 1) c.loop-edit.invariant.number in
@@ -109,7 +101,8 @@ returns-in_err-write_report-clause-prefix g c =
     let p = c.args.plan in
     let plan : c.in_ok-session.session.plan ≡ p = ap (λ (v : Session). v.plan) c.in_ok-session.ensures.opened in
     on_err _ (stops_first c.args.events p c.args.edits.now _ _
-    (subst (part_in (g.K.Sink.held c.args.sink.now) (g.K.Sink.held c.write_report.new.sink) 0 c.args.events) (c.plan.ensures ∙ plan) c.in_err-write_report.ensures.err)
+    (subst (part_in (g.K.Sink.held c.args.sink.now) (g.K.Sink.held c.write_report.new.sink) 0 c.args.events) (c.plan.ensures ∙ plan)
+    c.in_err-write_report.ensures.err)
     (first_plan c.args.events p c.args.edits.now c.edits_in_order.ensures.none))
 
 pub returns-in_err-edit-clause-prefix : goal.returns-in_err-edit-clause-prefix
@@ -132,13 +125,14 @@ returns-in_err-write_report-2-clause-prefix g c =
     let t = c.edit.new.self in
     let going = c.loop-edit.invariant.going in
     let edited : t ≡ with_edit s (edit_at edits i) = c.in_ok-edit.ensures.edited in
-    let fit = fits_there p edits i c.loop-edit-test.true c.requires.edits_fit in
+    let fit = fits_there p edits i c.loop-edit-test.true c.requires in
     let is = ap (λ (v : Session). v.plan) edited ∙ next_plan events p edits c.edits_in_order.ensures.one_more i s.plan (edit_at edits i)
     (record { channel = 0; depth = 0 }) going.plan c.loop-edit-test.true refl fit.entry in
     let number : c.loop-edit.number + 1 ≡ i + 1 = ap (λ n. n + 1) c.loop-edit.invariant.number in
     on_err _ (stops_inside events p edits i s.plan t.plan _ _ _ _ going c.loop-edit-test.true is
     (subst (λ (k : ℕ). part_in (g.K.Sink.held c.loop-edit.sink) (g.K.Sink.held c.write_report-in-loop-edit.new.sink) k events t.plan) number
-    (subst (part_in (g.K.Sink.held c.loop-edit.sink) (g.K.Sink.held c.write_report-in-loop-edit.new.sink) (c.loop-edit.number + 1) events) c.plan-in-loop-edit.ensures c.in_err-write_report-2.ensures.err)))
+    (subst (part_in (g.K.Sink.held c.loop-edit.sink) (g.K.Sink.held c.write_report-in-loop-edit.new.sink) (c.loop-edit.number + 1) events)
+    c.plan-in-loop-edit.ensures c.in_err-write_report-2.ensures.err)))
 
 pub returns-in_err-last_line-clause-prefix : goal.returns-in_err-last_line-clause-prefix
 returns-in_err-last_line-clause-prefix g c =

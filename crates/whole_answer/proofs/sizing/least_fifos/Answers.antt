@@ -1,4 +1,4 @@
-use Rattle.std.proofs.Common.{◌≡◌, subst, IfOk}
+use Rattle.std.proofs.Common.{◌≡◌, sym, subst, IfOk}
 use Rattle.depth_order.specs.Depths.{AsksNothing}
 use Rattle.whole_answer.specs.declared.answer.Answer.{Answer}
 use Rattle.whole_answer.proofs.Queries.{answered, refused}
@@ -6,11 +6,12 @@ use Rattle.whole_answer.proofs.sizing.least_fifos.Goals as goal
 
 pub returns-then-asks_nothing : goal.returns-then-asks_nothing
 returns-then-asks_nothing g c =
-    let quiet : AsksNothing c.args.plan.now = c.asks_nothing.ensures.quiet c.if-asks_nothing.true in
+    let quiet = subst AsksNothing c.plan.ensures.plan (c.asks_nothing.ensures.quiet c.if-asks_nothing.true) in
     subst (λ (a : Answer). IfOk c.fewest_bits.result (λ whole. whole ≡ a)) (answered c.args.slack c.args.plan.now quiet)
     c.fewest_bits.ensures
 
 pub returns-else-asks_nothing : goal.returns-else-asks_nothing
 returns-else-asks_nothing g c =
     subst (λ (a : Answer). IfOk c.refuse.result (λ whole. whole ≡ a))
-    (refused c.args.slack c.args.plan.now (c.asks_nothing.ensures.asks c.if-asks_nothing.false)) c.refuse.ensures
+    (refused c.args.slack c.args.plan.now (λ quiet. c.asks_nothing.ensures.asks c.if-asks_nothing.false
+    (subst AsksNothing (sym c.plan.ensures.plan) quiet))) c.refuse.ensures

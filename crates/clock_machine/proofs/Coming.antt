@@ -13,10 +13,10 @@ use Rattle.lockstep_defs.proofs.{Agrees.all_modules, Agrees.steps_of-suc, Exits.
 use Rattle.lockstep_defs.proofs.Settled.{state-suc, history-zero, history-suc, still_step, settled_at, settled_none, settled_stays}
 use Rattle.lockstep_defs.proofs.Settled.{history_stays}
 use Rattle.module_code.specs.declared.code.BlockCode.{BlockCode}
-use Rattle.clock_machine.specs.{declared.run.Run.Run, declared.seat.Seat.Seat, declared.seat.Traffic.Traffic, Clocks.step_at}
-use Rattle.clock_machine.specs.{Clocks.does_move, Runs.HasCome, Seats.IsSeated, Seats.no_seat}
+use Rattle.clock_machine.specs.{declared.run.Run.Run, declared.memo.Memo.Memo, declared.memo.Traffic.Traffic, Clocks.step_at}
+use Rattle.clock_machine.specs.{Clocks.does_move, Runs.HasCome, Memos.IsRemembered, Memos.no_memo}
 use Rattle.clock_machine.specs.Parts.{events_kept, AreFit, AreFitInTime}
-use Rattle.clock_machine.proofs.{Fronts.some_at, Kept.kept-append, Sleeping.awake, Sleeping.sleeping, Sleeping.seated_state}
+use Rattle.clock_machine.proofs.{Fronts.some_at, Kept.kept-append, Sleeping.awake, Sleeping.sleeping, Sleeping.remembered_state}
 
 -- ---- the next clock
 
@@ -87,12 +87,12 @@ none_next p clock none e b l = below_more (λ n. is_settled p n (state p n) ≡ 
 -- no module sleeps
 all_awake : (p : Plan) {codes : List (List BlockCode)} (keep : Bool) (clock : ℕ) (run : Run) → HasCome p codes keep clock run
     → is_settled p clock (state p clock) ≡ true
-    → (i : ℕ) → i < length p.design.modules → (get_or run.seats i no_seat).wakes ≤ clock
-all_awake p keep clock run h settled i l = elim (cases_lt clock (get_or run.seats i no_seat).wakes) [
+    → (i : ℕ) → i < length p.design.modules → (get_or run.memos i no_memo).wakes ≤ clock
+all_awake p keep clock run h settled i l = elim (cases_lt clock (get_or run.memos i no_memo).wakes) [
   | inl sleeps ↦
       let st = state p clock in
       let moving : does_move p clock i ≡ true =
-      (sleeping p clock i (get_or run.state.modules i nobody) (get_or run.seats i no_seat) l (h.seated.each i l) sleeps).moving in
+      (sleeping p clock i (get_or run.state.modules i nobody) (get_or run.memos i no_memo) l (h.remembered.each i l) sleeps).moving in
       let some : some_moves p clock st.contents st ≡ true =
       some_at (moves p clock st.contents) st.modules i nobody (omega (arith, all_modules p clock)) moving in
       absurd (false≢true (sym (settled_none p clock st settled) ∙ some))
@@ -105,10 +105,10 @@ pub settled_state : (p : Plan) {codes : List (List BlockCode)} (keep : Bool) (cl
     → run.state ≡ state p clock
 settled_state p keep clock run h settled =
     let modules : run.state.modules ≡ (state p clock).modules =
-    ext_get_or nobody run.state.modules (state p clock).modules (h.seated.state_count ∙ sym (all_modules p clock))
-    (λ i l. awake p clock i (get_or run.state.modules i nobody) (get_or run.seats i no_seat)
-    (h.seated.each i (omega (arith, h.seated.state_count)))
-    (all_awake p keep clock run h settled i (omega (arith, h.seated.state_count)))) in
+    ext_get_or nobody run.state.modules (state p clock).modules (h.remembered.state_count ∙ sym (all_modules p clock))
+    (λ i l. awake p clock i (get_or run.state.modules i nobody) (get_or run.memos i no_memo)
+    (h.remembered.each i (omega (arith, h.remembered.state_count)))
+    (all_awake p keep clock run h settled i (omega (arith, h.remembered.state_count)))) in
     λ i. record { modules = modules i; contents = h.holding i }
 
 pub settled_fit : (p : Plan) {codes : List (List BlockCode)} → FitsEngine p → (keep : Bool) (clock : ℕ) (run : Run)
@@ -118,14 +118,14 @@ settled_fit p f keep clock run h early settled = record {
   clock = clock;
   early = early;
   fit = record {
-    count = h.seated.state_count;
+    count = h.remembered.state_count;
     each = λ i l.
-        let inside : i < length p.design.modules = omega (arith, h.seated.state_count) in
-        let seat = get_or run.seats i no_seat in
-        let is = h.seated.each i inside in
+        let inside : i < length p.design.modules = omega (arith, h.remembered.state_count) in
+        let memo = get_or run.memos i no_memo in
+        let is = h.remembered.each i inside in
         let up = all_awake p keep clock run h settled i inside in
         let young = is.young in record {
-          runnable = λ e. record { state = seated_state p f clock i (get_or run.state.modules i nobody) seat inside is; running = e };
+          runnable = λ e. record { state = remembered_state p f clock i (get_or run.state.modules i nobody) memo inside is; running = e };
           young = omega arith;
         };
   };
@@ -174,16 +174,16 @@ no_events true p = ap events_of (sym (history-zero p))
 no_events false p = refl
 
 pub first_come : (p : Plan) {codes : List (List BlockCode)} (keep : Bool) (run : Run) → run.state ≡ opening p → AreFit p 0 run.state.modules
-    → run.seats ≡ replicate (length p.design.modules) no_seat → run.answers ≡ replicate (length p.design.modules) []
+    → run.memos ≡ replicate (length p.design.modules) no_memo → run.answers ≡ replicate (length p.design.modules) []
     → run.round.traffic ≡ record { pops = []; pushes = [] } → run.round.events ≡ [] → HasCome p codes keep 0 run
-first_come p {codes} keep run is fit seats answers none quiet =
+first_come p {codes} keep run is fit memos answers none quiet =
     let st : run.state ≡ state p 0 = is ∙ sym (first_state p) in
     let count = length p.design.modules in record {
-      seated = record {
+      remembered = record {
         state_count = fit.count;
-        seat_count = ap length seats ∙ length-replicate count no_seat;
-        each = λ i l. subst (IsSeated p codes 0 i (get_or run.state.modules i nobody))
-            (sym (ap (λ (all : List Seat). get_or all i no_seat) seats ∙ get_or-replicate count i no_seat no_seat l)) (record {
+        memo_count = ap length memos ∙ length-replicate count no_memo;
+        each = λ i l. subst (IsRemembered p codes 0 i (get_or run.state.modules i nobody))
+            (sym (ap (λ (all : List Memo). get_or all i no_memo) memos ∙ get_or-replicate count i no_memo no_memo l)) (record {
               standing = ap (λ (s : ClockState). get_or s.modules i nobody) st;
               quiet = λ n less. absurd (omega arith);
               young = (fit.each i (omega (arith, fit.count))).young;

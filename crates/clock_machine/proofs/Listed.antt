@@ -5,7 +5,7 @@ use Rattle.std.proofs.{lemmas.List.Concat.flat_map-append, lemmas.List.Elements.
 use Rattle.std.specs.List.{filter}
 use Rattle.flow_word.specs.declared.access.Side.TheVariants.{Pop, Push}
 use Rattle.lockstep_defs.specs.{Machine.is_yes, Channels.Exchange, Channels.moved_by, Channels.moved_value, Report.queries}
-use Rattle.clock_machine.specs.{declared.seat.Pushed.Pushed, Parts.outcomes_in, Parts.popped, Parts.pushed}
+use Rattle.clock_machine.specs.{declared.memo.Pushed.Pushed, Parts.outcomes_in, Parts.popped, Parts.pushed}
 
 -- what some operations give, and then others, is what all of them give
 abbrev pub Adds : {Y : Type 0} → (List Exchange → List Y) → Type 0

@@ -9,7 +9,7 @@ use Rattle.std.proofs.lemmas.Bool.{eqb-true, eq-eqb}
 use Rattle.std.proofs.lemmas.List.{map-append, append-nil, length-append, drop-drop, take_more, get_or_default}
 use Rattle.std.specs.List.{enumerate_from, filter}
 use Rattle.lockstep_defs.specs.Channels.{element_from}
-use Rattle.clock_machine.specs.{declared.seat.Pushed.Pushed, Parts.after_pops, Parts.after_pushes}
+use Rattle.clock_machine.specs.{declared.memo.Pushed.Pushed, Parts.after_pops, Parts.after_pushes}
 
 -- ---- a change of one channel
 

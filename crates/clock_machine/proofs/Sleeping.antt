@@ -1,4 +1,4 @@
--- A module in its seat, from one clock to the next.
+-- A module in its memo, from one clock to the next.
 use Rattle.std.proofs.Common.{◌≡◌, ℕ, zero, suc, ◌+◌, ◌-◌, ◌<◌, ◌≤◌, List, [], ◌∷◌, Bool, true, false, ◌&&◌, not, refl, sym, ◌∙◌, ap, subst}
 use Rattle.std.proofs.Common.{arith, map, inl, inr, add-one, nat_lt, ◌||◌, ◌^◌, length}
 use Rattle.std.proofs.lemmas.Bool.{or_parts, and_parts, ltb-true, cases_lt}
@@ -13,8 +13,8 @@ use Rattle.lockstep_defs.proofs.{Agrees.state_at-suc, Agrees.not_ended, Resting.
 use Rattle.block_schedule.specs.{Schedules.KeepsLimits, Work.StandsIn, Work.IsNextDue}
 use Rattle.module_code.specs.{Moves.ticked_to, Moves.gone_on, Sound.IsStateSound, declared.code.BlockCode.BlockCode}
 use Rattle.module_interp.proofs.Idle.{IsIdle, skip_on, never_rests}
-use Rattle.clock_machine.specs.{declared.seat.Seat.Seat, Clocks.does_move}
-use Rattle.clock_machine.specs.Seats.{asleep, IsKnown, IsSeated, MovesQuietly, FallsAsleep}
+use Rattle.clock_machine.specs.{declared.memo.Memo.Memo, Clocks.does_move}
+use Rattle.clock_machine.specs.Memos.{asleep, IsKnown, IsRemembered, MovesQuietly, FallsAsleep}
 use Rattle.clock_machine.proofs.Moving.{moves_by_stalls}
 
 -- ---- what a module does in a clock
@@ -55,27 +55,27 @@ quiet_move p clock i h e =
 -- ---- asleep
 
 -- a module that is awake is in its state
-pub awake : (p : Plan) {codes : List (List BlockCode)} (clock i : ℕ) (s : ModuleState) (seat : Seat) → IsSeated p codes clock i s seat
-    → seat.wakes ≤ clock
+pub awake : (p : Plan) {codes : List (List BlockCode)} (clock i : ℕ) (s : ModuleState) (memo : Memo) → IsRemembered p codes clock i s memo
+    → memo.wakes ≤ clock
     → s ≡ state_at p clock i
-awake p clock i s seat h l =
-    let none : asleep clock seat ≡ 0 = omega arith in
+awake p clock i s memo h l =
+    let none : asleep clock memo ≡ 0 = omega arith in
     h.standing ∙ ap (λ (n : ℕ). skip p i n (state_at p clock i)) none
 
 -- a module that sleeps moves, and does nothing
-pub sleeping : (p : Plan) {codes : List (List BlockCode)} (clock i : ℕ) (s : ModuleState) (seat : Seat) → i < length p.design.modules
-    → IsSeated p codes clock i s seat
-    → clock < seat.wakes → MovesQuietly p clock i
-sleeping p clock i s seat h is l = quiet_move p clock i h (is.quiet 0 (omega arith))
+pub sleeping : (p : Plan) {codes : List (List BlockCode)} (clock i : ℕ) (s : ModuleState) (memo : Memo) → i < length p.design.modules
+    → IsRemembered p codes clock i s memo
+    → clock < memo.wakes → MovesQuietly p clock i
+sleeping p clock i s memo h is l = quiet_move p clock i h (is.quiet 0 (omega arith))
 
 -- and sleeps on
-pub sleeps_on : (p : Plan) {codes : List (List BlockCode)} (clock i : ℕ) (s : ModuleState) (seat : Seat) → i < length p.design.modules
-    → IsSeated p codes clock i s seat
-    → clock < seat.wakes → IsSeated p codes (clock + 1) i s seat
-sleeps_on p clock i s seat h is l =
-    let n = asleep (clock + 1) seat in
-    let one : asleep clock seat ≡ suc n = omega arith in
-    let next = (sleeping p clock i s seat h is l).state in
+pub sleeps_on : (p : Plan) {codes : List (List BlockCode)} (clock i : ℕ) (s : ModuleState) (memo : Memo) → i < length p.design.modules
+    → IsRemembered p codes clock i s memo
+    → clock < memo.wakes → IsRemembered p codes (clock + 1) i s memo
+sleeps_on p clock i s memo h is l =
+    let n = asleep (clock + 1) memo in
+    let one : asleep clock memo ≡ suc n = omega arith in
+    let next = (sleeping p clock i s memo h is l).state in
     record {
       standing = is.standing
           ∙ (ap (λ (k : ℕ). skip p i k (state_at p clock i)) one
@@ -89,12 +89,12 @@ sleeps_on p clock i s seat h is l =
 -- ---- awake
 
 -- a module that stays
-pub stays : (p : Plan) {codes : List (List BlockCode)} (clock i : ℕ) (s : ModuleState) (seat : Seat) → i < length p.design.modules
-    → IsSeated p codes clock i s seat
-    → seat.wakes ≤ clock → does_move p clock i ≡ false → IsSeated p codes (clock + 1) i s seat
-stays p clock i s seat h is l still =
-    let none : asleep (clock + 1) seat ≡ 0 = omega arith in record {
-      standing = awake p clock i s seat is l
+pub stays : (p : Plan) {codes : List (List BlockCode)} (clock i : ℕ) (s : ModuleState) (memo : Memo) → i < length p.design.modules
+    → IsRemembered p codes clock i s memo
+    → memo.wakes ≤ clock → does_move p clock i ≡ false → IsRemembered p codes (clock + 1) i s memo
+stays p clock i s memo h is l still =
+    let none : asleep (clock + 1) memo ≡ 0 = omega arith in record {
+      standing = awake p clock i s memo is l
           ∙ (sym (still_state p clock i h still) ∙ ap (λ (n : ℕ). skip p i n (state_at p (clock + 1) i)) (sym none));
       quiet = λ j less. absurd (omega arith);
       young = let y = is.young in omega arith;
@@ -102,27 +102,27 @@ stays p clock i s seat h is l still =
     }
 
 -- where nothing is known
-nothing_known : (p : Plan) {codes : List (List BlockCode)} (m : ℕ × ModuleState) (seat : Seat) → seat.known ≡ false → IsKnown p codes m seat
-nothing_known p m seat e = record { noted = λ k d. cc; requests = λ k. cc }
+nothing_known : (p : Plan) {codes : List (List BlockCode)} (m : ℕ × ModuleState) (memo : Memo) → memo.known ≡ false → IsKnown p codes m memo
+nothing_known p m memo e = record { noted = λ k d. cc; requests = λ k. cc }
 
 -- a module that moved
-pub has_moved : (p : Plan) {codes : List (List BlockCode)} (clock i : ℕ) (s : ModuleState) (seat : Seat) → seat.wakes ≤ clock
-    → seat.known ≡ false
-    → s ≡ state_at p (clock + 1) i → s.control.clock ≤ clock + 1 → IsSeated p codes (clock + 1) i s seat
-has_moved p clock i s seat l unknown is young =
-    let none : asleep (clock + 1) seat ≡ 0 = omega arith in record {
+pub has_moved : (p : Plan) {codes : List (List BlockCode)} (clock i : ℕ) (s : ModuleState) (memo : Memo) → memo.wakes ≤ clock
+    → memo.known ≡ false
+    → s ≡ state_at p (clock + 1) i → s.control.clock ≤ clock + 1 → IsRemembered p codes (clock + 1) i s memo
+has_moved p clock i s memo l unknown is young =
+    let none : asleep (clock + 1) memo ≡ 0 = omega arith in record {
       standing = is ∙ ap (λ (n : ℕ). skip p i n (state_at p (clock + 1) i)) (sym none);
       quiet = λ j less. absurd (omega arith);
       young = omega arith;
-      known = nothing_known p (i, s) seat unknown;
+      known = nothing_known p (i, s) memo unknown;
     }
 
 -- what is known of a module may change
-pub reseated : (p : Plan) {codes : List (List BlockCode)} (clock i : ℕ) (s : ModuleState) (seat next : Seat)
-    → IsSeated p codes clock i s seat → next.wakes ≡ seat.wakes
-    → IsKnown p codes (i, s) next → IsSeated p codes clock i s next
-reseated p clock i s seat next is same known =
-    let left : asleep clock next ≡ asleep clock seat = ap (λ (n : ℕ). n - clock) same in record {
+pub remembered_anew : (p : Plan) {codes : List (List BlockCode)} (clock i : ℕ) (s : ModuleState) (memo next : Memo)
+    → IsRemembered p codes clock i s memo → next.wakes ≡ memo.wakes
+    → IsKnown p codes (i, s) next → IsRemembered p codes clock i s next
+remembered_anew p clock i s memo next is same known =
+    let left : asleep clock next ≡ asleep clock memo = ap (λ (n : ℕ). n - clock) same in record {
       standing = is.standing ∙ ap (λ (n : ℕ). skip p i n (state_at p clock i)) (sym left);
       quiet = λ j less. is.quiet j (omega arith);
       young = let y = is.young in omega arith;
@@ -141,39 +141,39 @@ moves_by_requests p clock i contents asked goes holding is running e =
     ∙ sym (moves_by_stalls p clock (state p clock).contents (i, state_at p clock i) running)))
 
 -- what a module that is awake asks, and whether it is over
-pub asked_in : (p : Plan) {codes : List (List BlockCode)} (clock i : ℕ) (s : ModuleState) (seat : Seat)
-    → IsSeated p codes clock i s seat → seat.wakes ≤ clock
-    → seat.known ≡ true → seat.requests ≡ requests_of p (i, state_at p clock i)
-asked_in p clock i s seat is l known =
-    is.known.requests known ∙ ap (λ (z : ModuleState). requests_of p (i, z)) (awake p clock i s seat is l)
+pub asked_in : (p : Plan) {codes : List (List BlockCode)} (clock i : ℕ) (s : ModuleState) (memo : Memo)
+    → IsRemembered p codes clock i s memo → memo.wakes ≤ clock
+    → memo.known ≡ true → memo.requests ≡ requests_of p (i, state_at p clock i)
+asked_in p clock i s memo is l known =
+    is.known.requests known ∙ ap (λ (z : ModuleState). requests_of p (i, z)) (awake p clock i s memo is l)
 
-pub runs_in : (p : Plan) {codes : List (List BlockCode)} (clock i : ℕ) (s : ModuleState) (seat : Seat) (b : Bool)
-    → IsSeated p codes clock i s seat → seat.wakes ≤ clock
+pub runs_in : (p : Plan) {codes : List (List BlockCode)} (clock i : ℕ) (s : ModuleState) (memo : Memo) (b : Bool)
+    → IsRemembered p codes clock i s memo → memo.wakes ≤ clock
     → is_over p.ops s ≡ b → is_over p.ops (state_at p clock i) ≡ b
-runs_in p clock i s seat b is l e = ap (is_over p.ops) (sym (awake p clock i s seat is l)) ∙ e
+runs_in p clock i s memo b is l e = ap (is_over p.ops) (sym (awake p clock i s memo is l)) ∙ e
 
 -- ---- falling asleep
 
 -- a module that goes on to the next clock with work
-pub falls_asleep : (p : Plan) {codes : List (List BlockCode)} (clock i n : ℕ) (s t : ModuleState) (seat : Seat)
+pub falls_asleep : (p : Plan) {codes : List (List BlockCode)} (clock i n : ℕ) (s t : ModuleState) (memo : Memo)
     → i < length p.design.modules
     → s ≡ state_at p clock i → is_over p.ops s ≡ false → IsIdle (module_at p i) s (suc n)
-    → t ≡ gone_on (module_at p i) (ticked_to (module_at p i) (s.control.clock + suc n) s) → seat.wakes ≡ clock + suc n
-    → seat.known ≡ false → t.control.clock ≤ clock + suc n → FallsAsleep p codes clock i t seat
-falls_asleep p clock i n s t seat h is running idle at wakes unknown young =
+    → t ≡ gone_on (module_at p i) (ticked_to (module_at p i) (s.control.clock + suc n) s) → memo.wakes ≡ clock + suc n
+    → memo.known ≡ false → t.control.clock ≤ clock + suc n → FallsAsleep p codes clock i t memo
+falls_asleep p clock i n s t memo h is running idle at wakes unknown young =
     let goes = never_rests p i s n idle running in
     let quiet = quiet_move p clock i h (ap (rests p i) (sym is) ∙ goes 0 (omega arith)) in
-    let left : asleep (clock + 1) seat ≡ n = omega arith in
+    let left : asleep (clock + 1) memo ≡ n = omega arith in
     let next : state_at p (clock + 1) i ≡ move (module_at p i) s [] =
     quiet.state ∙ ap (λ (z : ModuleState). move (module_at p i) z []) (sym is) in record {
       quiet = quiet;
-      seated = record {
+      remembered = record {
         standing = at ∙ (sym (skip_on p i s n idle) ∙ (skip_front p i n s ∙ (ap (skip p i n) (sym next)
             ∙ ap (λ (k : ℕ). skip p i k (state_at p (clock + 1) i)) (sym left))));
         quiet = λ j less. ap (λ (z : ModuleState). rests p i (skip p i j z)) next
             ∙ (ap (rests p i) (sym (skip_front p i j s)) ∙ goes (suc j) (omega arith));
         young = omega arith;
-        known = nothing_known p (i, t) seat unknown;
+        known = nothing_known p (i, t) memo unknown;
       };
     }
 
@@ -189,18 +189,18 @@ skip_state p f i h s is (suc n) goes =
     move_state (length p.design.channels) (module_at p i) (f.modules i no_module h) t []
     (skip_state p f i h s is n (λ j l. goes j (omega arith))) (not_ended p.ops t alive)
 
-pub seated_state : (p : Plan) {codes : List (List BlockCode)} → FitsEngine p → (clock i : ℕ) (s : ModuleState) (seat : Seat)
+pub remembered_state : (p : Plan) {codes : List (List BlockCode)} → FitsEngine p → (clock i : ℕ) (s : ModuleState) (memo : Memo)
     → i < length p.design.modules
-    → IsSeated p codes clock i s seat → IsStateOf (module_at p i) s
-seated_state p f clock i s seat h is =
+    → IsRemembered p codes clock i s memo → IsStateOf (module_at p i) s
+remembered_state p f clock i s memo h is =
     subst (IsStateOf (module_at p i)) (sym is.standing)
-    (skip_state p f i h (state_at p clock i) (history_state p f clock i h) (asleep clock seat) is.quiet)
+    (skip_state p f i h (state_at p clock i) (history_state p f clock i h) (asleep clock memo) is.quiet)
 
-pub seated_sound : (p : Plan) {codes : List (List BlockCode)} → FitsEngine p → (clock i : ℕ) (s : ModuleState) (seat : Seat)
+pub remembered_sound : (p : Plan) {codes : List (List BlockCode)} → FitsEngine p → (clock i : ℕ) (s : ModuleState) (memo : Memo)
     → i < length p.design.modules
-    → IsSeated p codes clock i s seat → is_over p.ops s ≡ false → IsStateSound (module_at p i) s
-seated_sound p f clock i s seat h is running =
-    record { state = seated_state p f clock i s seat h is; running = not_ended p.ops s running }
+    → IsRemembered p codes clock i s memo → is_over p.ops s ≡ false → IsStateSound (module_at p i) s
+remembered_sound p f clock i s memo h is running =
+    record { state = remembered_state p f clock i s memo h is; running = not_ended p.ops s running }
 
 -- where a module stands in its block
 pub stands_in : (p : Plan) (i : ℕ) (s : ModuleState) → IsStateSound (module_at p i) s → s.control.clock < 10 ^ 18
@@ -219,14 +219,14 @@ stands_in p i s sound small = record {
         let less = ltb-true clock (newest + ii) (and_parts (nat_lt 0 ii) (nat_lt clock (newest + ii)) g).1 in omega arith
     near false ii clock newest e g = cc
 
-pub seated_stands : (p : Plan) {codes : List (List BlockCode)} → FitsEngine p → (clock i : ℕ) (s : ModuleState) (seat : Seat)
+pub remembered_stands : (p : Plan) {codes : List (List BlockCode)} → FitsEngine p → (clock i : ℕ) (s : ModuleState) (memo : Memo)
     → i < length p.design.modules
-    → IsSeated p codes clock i s seat → is_over p.ops s ≡ false → seat.wakes ≤ clock → clock ≤ p.cycles
+    → IsRemembered p codes clock i s memo → is_over p.ops s ≡ false → memo.wakes ≤ clock → clock ≤ p.cycles
     → StandsIn (block_of (module_at p i) s) s.control
-seated_stands p f clock i s seat h is running l early =
+remembered_stands p f clock i s memo h is running l early =
     let young = is.young in
     let cycles = f.cycles in
-    stands_in p i s (seated_sound p f clock i s seat h is running) (omega arith)
+    stands_in p i s (remembered_sound p f clock i s memo h is running) (omega arith)
 
 -- the next clock with work is not behind the block's end
 next_near : (b : Block) (k : Control) (next : ℕ) → KeepsLimits b → StandsIn b k → IsNextDue b k next → next ≤ k.newest + b.len
@@ -244,12 +244,12 @@ next_near b k next limits stands due = by_test k.looping refl
       | inr most ↦ most
     ]
 
-pub next_small : (p : Plan) {codes : List (List BlockCode)} → FitsEngine p → (clock i : ℕ) (s : ModuleState) (seat : Seat) (next : ℕ)
+pub next_small : (p : Plan) {codes : List (List BlockCode)} → FitsEngine p → (clock i : ℕ) (s : ModuleState) (memo : Memo) (next : ℕ)
     → i < length p.design.modules
-    → IsSeated p codes clock i s seat → is_over p.ops s ≡ false → seat.wakes ≤ clock → clock ≤ p.cycles
+    → IsRemembered p codes clock i s memo → is_over p.ops s ≡ false → memo.wakes ≤ clock → clock ≤ p.cycles
     → KeepsLimits (block_of (module_at p i) s) → IsNextDue (block_of (module_at p i) s) s.control next → clock + next ≤ 10 ^ 16
-next_small p f clock i s seat next h is running l early limits due =
-    let stands = seated_stands p f clock i s seat h is running l early in
+next_small p f clock i s memo next h is running l early limits due =
+    let stands = remembered_stands p f clock i s memo h is running l early in
     let near = next_near (block_of (module_at p i) s) s.control next limits stands due in
     let started = stands.has_started in
     let most = limits.most in

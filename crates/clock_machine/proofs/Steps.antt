@@ -10,7 +10,7 @@ use Rattle.lockstep_defs.proofs.Queue.{moved_by-append}
 use Rattle.lockstep_defs.specs.Channels.{HistoryStep, Exchange, element_from, moved_by, moved}
 use Rattle.lockstep_defs.specs.Lockstep.{requests_of, answered, step_with, contents_after, state, state_at}
 use Rattle.lockstep_defs.specs.Report.{outcomes, event_of, events_of}
-use Rattle.clock_machine.specs.{declared.seat.Pushed.Pushed, declared.seat.Round.Round, declared.seat.Traffic.Traffic}
+use Rattle.clock_machine.specs.{declared.memo.Pushed.Pushed, declared.memo.Round.Round, declared.memo.Traffic.Traffic}
 use Rattle.clock_machine.specs.Clocks.{does_move, step_at, HasMoved, HasDone}
 use Rattle.clock_machine.specs.Parts.{exchanges_in, event_by, events_kept, outcomes_in, popped, pushed, after_pops, after_pushes}
 use Rattle.clock_machine.proofs.{Kept.kept-append, Listed.popped_adds, Listed.pushed_adds, Listed.popped_at, Listed.pushed_at, Queues.twice}

@@ -5,7 +5,7 @@ use Rattle.flow_design.specs.declared.state.ModuleState.{ModuleState}
 use Rattle.lockstep_defs.specs.{Channels.HistoryStep, Report.events_of}
 use Rattle.lockstep_defs.specs.Lockstep.{state, state_at, moves, module_step}
 use Rattle.module_code.specs.declared.code.BlockCode.{BlockCode}
-use Rattle.clock_machine.specs.{declared.seat.Round.Round, declared.seat.Traffic.Traffic}
+use Rattle.clock_machine.specs.{declared.memo.Round.Round, declared.memo.Traffic.Traffic}
 use Rattle.clock_machine.specs.Parts.{exchanges_in, popped, pushed, events_kept, AreFitInTime, AreCodes}
 
 -- the engine takes the plan, this is the plan's code, and its modules can come to these states

@@ -8,7 +8,7 @@ use Rattle.lockstep_defs.specs.{Machine.is_yes, Machine.nobody, Lockstep.module_
 use Rattle.lockstep_defs.specs.Channels.{element_from, HistoryStep, Exchange, moved_value}
 use Rattle.flow_word.specs.declared.access.Side.TheVariants.{Pop, Push}
 use Rattle.module_code.specs.{Sound.IsRunnable, declared.code.BlockCode.BlockCode, Codes.AreCodesOf}
-use Rattle.clock_machine.specs.declared.seat.Pushed.{Pushed}
+use Rattle.clock_machine.specs.declared.memo.Pushed.{Pushed}
 
 -- ---- what a clock adds
 

@@ -3,12 +3,12 @@ use Rattle.std.specs.Prelude.{◌≡◌, ◌<◌, ℕ, Bool, List, [], length, s
 use Rattle.flow_design.specs.declared.plan.Plan.{Plan}
 use Rattle.module_code.specs.declared.code.BlockCode.{BlockCode}
 use Rattle.lockstep_defs.specs.{Lockstep.state, Lockstep.history, Report.steps_of, Report.outcomes, Report.events_of}
-use Rattle.clock_machine.specs.{declared.run.Run.Run, Parts.events_kept, Seats.AreSeated}
+use Rattle.clock_machine.specs.{declared.run.Run.Run, Parts.events_kept, Memos.AreRemembered}
 
 -- a run is at a clock: its modules are kept as of that clock, the channels hold what they hold then, and all that was done before
 -- is collected
 pub record HasCome (p : Plan) (codes : List (List BlockCode)) (keep : Bool) (clock : ℕ) (run : Run) : Type 0 where
-  pub seated : AreSeated p codes clock run.state.modules run.seats
+  pub remembered : AreRemembered p codes clock run.state.modules run.memos
   pub holding : run.state.contents ≡ (state p clock).contents
   pub no_pops : run.round.traffic.pops ≡ []
   pub no_pushes : run.round.traffic.pushes ≡ []

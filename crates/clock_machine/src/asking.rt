@@ -4,10 +4,10 @@ ghost use Rattle.flow_design.specs.Module.{block_of};
 ghost use Rattle.lockstep_defs.specs.{Machine.is_over, Machine.nobody, Machine.requests, Channels.all_ready};
 ghost use Rattle.lockstep_defs.specs.Lockstep.{module_at, moves, state_at};
 ghost use Rattle.module_code.specs.{declared.code.BlockCode.BlockCode as CodeOf, Codes.IsBlockCodeOf, Sound.AreNotesOf, Sound.IsStateSound};
-ghost use Rattle.clock_machine.specs.{Parts.AreCodes, Seats.code_of_block, Seats.IsKnown, Seats.IsSeated, Clocks.Runs};
+ghost use Rattle.clock_machine.specs.{Parts.AreCodes, Memos.code_of_block, Memos.IsKnown, Memos.IsRemembered, Clocks.Runs};
 
 use crate::channels::any_stalls_ever;
-use crate::seat::Seat;
+use crate::memo::Memo;
 use crate::standing::{Compiled, Standing};
 use flow_design::{CheckedPlan, ClockState, Module, ModuleState, Request};
 use flow_word::{List, OutOfMemory, Words};
@@ -84,28 +84,28 @@ pub fn note_one(
     Ok(())
 }
 
-/// Fills the seat of module i with the notes and requests of what is due, unless it has them already. After `OutOfMemory` the seat may
+/// Fills the memo of module i with the notes and requests of what is due, unless it has them already. After `OutOfMemory` the memo may
 /// have only some of these.
 #[inline(always)]
-pub fn note_seat(
+pub fn fill_memo(
     of: &Compiled<'_>,
     i: usize,
     state: &ModuleState,
     words: &mut Words,
-    seat: &mut Seat,
+    memo: &mut Memo,
 ) -> Result<(), OutOfMemory>
     requires codes { AreCodes of.now.plan.now of.now.codes.now }
     requires within { i < length of.now.plan.now.design.modules }
     requires sound { IsStateSound (module_at of.now.plan.now i) state.now }
     requires small { state.now.control.clock < 2 ^ 60 }
-    requires known { IsKnown of.now.plan.now of.now.codes.now (i, state.now) seat.old }
-    ensures all { OnOk result (seat.new.known ≡ true) }
-    ensures known { OnOk result (IsKnown of.now.plan.now of.now.codes.now (i, state.now) seat.new) }
-    ensures wakes { seat.new.wakes ≡ seat.old.wakes }
+    requires known { IsKnown of.now.plan.now of.now.codes.now (i, state.now) memo.old }
+    ensures all { OnOk result (memo.new.known ≡ true) }
+    ensures known { OnOk result (IsKnown of.now.plan.now of.now.codes.now (i, state.now) memo.new) }
+    ensures wakes { memo.new.wakes ≡ memo.old.wakes }
 {
-    if !seat.known {
-        note_one(of, i, state, words, &mut seat.notes, &mut seat.requests)?;
-        seat.known = true;
+    if !memo.known {
+        note_one(of, i, state, words, &mut memo.notes, &mut memo.requests)?;
+        memo.known = true;
     }
     Ok(())
 }
@@ -115,22 +115,22 @@ pub fn would_move(
     at: &Standing<'_>,
     i: usize,
     state: &ModuleState,
-    seat: &mut Seat,
+    memo: &mut Memo,
     words: &mut Words,
 ) -> Result<bool, OutOfMemory>
     requires runs { Runs at.now.of.now.plan.now at.now.of.now.codes.now at.now.clock at.now.contents.now }
     requires within { i < length at.now.of.now.plan.now.design.modules }
-    requires seated { IsSeated at.now.of.now.plan.now at.now.of.now.codes.now at.now.clock i state.now seat.old }
+    requires remembered { IsRemembered at.now.of.now.plan.now at.now.of.now.codes.now at.now.clock i state.now memo.old }
     ensures moving { IfOk result (λ moving. moving ≡ moves at.now.of.now.plan.now 0 (all_ready at.now.contents.now)
         (i, state_at at.now.of.now.plan.now at.now.clock i)) }
-    ensures seated { OnOk result (IsSeated at.now.of.now.plan.now at.now.of.now.codes.now at.now.clock i state.now seat.new) }
+    ensures remembered { OnOk result (IsRemembered at.now.of.now.plan.now at.now.of.now.codes.now at.now.clock i state.now memo.new) }
 {
-    if at.clock < seat.wakes {
+    if at.clock < memo.wakes {
         return Ok(true);
     }
     if is_over(at.of.plan, state) {
         return Ok(false);
     }
-    note_seat(at.of, i, state, words, seat)?;
-    Ok(!any_stalls_ever(at.of.plan, at.contents, seat.requests.as_slice()))
+    fill_memo(at.of, i, state, words, memo)?;
+    Ok(!any_stalls_ever(at.of.plan, at.contents, memo.requests.as_slice()))
 }

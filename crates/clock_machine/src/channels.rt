@@ -7,7 +7,7 @@ ghost use Rattle.lockstep_defs.specs.Channels.{contents_of, front, is_empty, all
 ghost use Rattle.lockstep_defs.specs.Lockstep.{answered};
 ghost use Rattle.clock_machine.specs.Parts.{outcomes_in, popped, pushed};
 
-use crate::seat::{Pushed, Traffic};
+use crate::memo::{Pushed, Traffic};
 use crate::standing::Standing;
 use flow_design::{ChannelKind, CheckedPlan, Element, Reply, Request};
 use flow_word::{Flags, Kind, List, OutOfMemory, Queue, Side};
@@ -66,10 +66,7 @@ pub fn delay(plan: &CheckedPlan, channel: u32) -> u64
     let channels = plan.channels();
     let channel = channel as usize;
     if channel < channels.len() {
-        match channels[channel].kind {
-            ChannelKind::Fifo { delay, .. } => delay,
-            ChannelKind::Source | ChannelKind::Sink => 1,
-        }
+        channels[channel].kind.delay()
     } else {
         1
     }

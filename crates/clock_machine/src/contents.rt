@@ -4,7 +4,7 @@ ghost use Rattle.std.specs.List.{enumerate_from};
 ghost use Rattle.clock_machine.specs.Parts.{after_pops, after_pushes};
 
 use crate::channels::delay;
-use crate::seat::Pushed;
+use crate::memo::Pushed;
 use flow_design::{CheckedPlan, Element};
 use flow_word::{OutOfMemory, Queue};
 

@@ -7,8 +7,8 @@ ghost use Rattle.clock_machine.specs.{Parts.events_kept, Parts.report_from, Part
 
 use crate::contents::{pop_all, push_all};
 use crate::ending::{Told, limit_report, settled_report};
+use crate::memo::{Memo, Round, memos_for};
 use crate::opening::{codes_of_all, no_answers, open_all};
-use crate::seat::{Round, Seat, seats_for};
 use crate::standing::{Compiled, Standing};
 use crate::turns::{is_settled, take_turns};
 use flow_design::{CheckedPlan, ClockState, Report};
@@ -22,7 +22,7 @@ pub struct Run {
     /// What the channels hold, and the state of each module. Of a module that sleeps it is the state in which it wakes.
     pub state: ClockState,
     /// What is kept of each module from clock to clock.
-    pub seats: List<Seat>,
+    pub memos: List<Memo>,
     /// The outcomes of each module's queries.
     pub answers: List<Flags>,
     /// The lists that the modules share, and the events.
@@ -36,7 +36,7 @@ fn open_run(alloc: Global, plan: &CheckedPlan) -> Result<Run, OutOfMemory>
     let modules = plan.modules().len() as u64;
     Ok(Run {
         state: open_all(alloc, plan)?,
-        seats: seats_for(alloc, modules)?,
+        memos: memos_for(alloc, modules)?,
         answers: no_answers(alloc, modules)?,
         round: Round::new(alloc),
     })
@@ -69,7 +69,7 @@ fn step(
     let moving = take_turns(
         &at,
         run.state.modules.as_mut_slice(),
-        run.seats.as_mut_slice(),
+        run.memos.as_mut_slice(),
         &mut run.round,
         run.answers.as_mut_slice(),
     )?;
@@ -110,8 +110,8 @@ fn settles(
         contents: run.state.contents.as_slice(),
     };
     let states = run.state.modules.as_slice();
-    let seats = run.seats.as_mut_slice();
-    let settled = is_settled(&at, states, seats, &mut run.round.words)?;
+    let memos = run.memos.as_mut_slice();
+    let settled = is_settled(&at, states, memos, &mut run.round.words)?;
     Ok(settled)
 }
 
@@ -146,7 +146,7 @@ fn settle(alloc: Global, of: &Compiled<'_>, clock: u64, run: Run) -> Result<Repo
 {
     let Run {
         state,
-        seats: _seats,
+        memos: _memos,
         answers,
         round,
     } = run;
@@ -165,7 +165,7 @@ fn give_up(alloc: Global, plan: &CheckedPlan, run: Run) -> Result<Report, OutOfM
 {
     let Run {
         mut state,
-        seats: _seats,
+        memos: _memos,
         answers,
         round,
     } = run;

@@ -2,12 +2,12 @@
 ghost use Rattle.std.specs.Prelude.{◌≡◌, ◌+◌, ◌<◌, ◌≤◌, IfOk, OnOk, not, true, false, [], ◌++◌, if◌then◌else◌, length, map};
 ghost use Rattle.std.specs.List.{list_any};
 ghost use Rattle.lockstep_defs.specs.{Machine.is_over, Channels.stalls, Channels.reply, Lockstep.answered, Report.outcomes};
-ghost use Rattle.clock_machine.specs.{Parts.outcomes_in, Parts.popped, Parts.pushed, Seats.IsSeated, Seats.FallsAsleep};
+ghost use Rattle.clock_machine.specs.{Parts.outcomes_in, Parts.popped, Parts.pushed, Memos.IsRemembered, Memos.FallsAsleep};
 ghost use Rattle.clock_machine.specs.Clocks.{Runs, HasDone, does_move, step_at};
 
-use crate::asking::{code_at, is_over, module_at, note_seat};
+use crate::asking::{code_at, fill_memo, is_over, module_at};
 use crate::channels::{answer_one, stalls};
-use crate::seat::{Round, Seat, Traffic};
+use crate::memo::{Memo, Round, Traffic};
 use crate::standing::Standing;
 use crate::telling::tell_kept_events;
 use flow_design::{ModuleState, Reply, Request};
@@ -16,14 +16,14 @@ use module_code::{go_on, make_move, tick_to};
 
 /// Whether the module is known to stall on the same request as before.
 #[inline(always)]
-fn still_stalls(at: &Standing<'_>, seat: &Seat) -> bool
-    ensures known { result ≡ true → seat.now.known ≡ true }
+fn still_stalls(at: &Standing<'_>, memo: &Memo) -> bool
+    ensures known { result ≡ true → memo.now.known ≡ true }
     ensures stalls { result ≡ true
-        → list_any (stalls at.now.of.now.plan.now at.now.clock at.now.contents.now) seat.now.requests ≡ true }
+        → list_any (stalls at.now.of.now.plan.now at.now.clock at.now.contents.now) memo.now.requests ≡ true }
 {
-    let requests = seat.requests.as_slice();
-    let place = seat.place as usize;
-    seat.known && place < requests.len() && stalls(at, &requests[place])
+    let requests = memo.requests.as_slice();
+    let place = memo.place as usize;
+    memo.known && place < requests.len() && stalls(at, &requests[place])
 }
 
 /// Answers these operations, unless one of them blocks and cannot be done. Returns whether all are answered: then their replies are
@@ -73,22 +73,22 @@ fn act(
     at: &Standing<'_>,
     i: usize,
     state: &mut ModuleState,
-    seat: &mut Seat,
+    memo: &mut Memo,
     round: &mut Round,
     answers: &mut Flags,
 ) -> Result<bool, OutOfMemory>
     requires runs { Runs at.now.of.now.plan.now at.now.of.now.codes.now at.now.clock at.now.contents.now }
     requires within { i < length at.now.of.now.plan.now.design.modules }
-    requires seated { IsSeated at.now.of.now.plan.now at.now.of.now.codes.now at.now.clock i state.old seat.old }
-    requires awake { seat.old.wakes ≤ at.now.clock }
+    requires remembered { IsRemembered at.now.of.now.plan.now at.now.of.now.codes.now at.now.clock i state.old memo.old }
+    requires awake { memo.old.wakes ≤ at.now.clock }
     requires running { is_over at.now.of.now.plan.now.ops state.old ≡ false }
-    requires known { seat.old.known ≡ true }
+    requires known { memo.old.known ≡ true }
     ensures moving { IfOk result (λ moving. moving ≡ does_move at.now.of.now.plan.now at.now.clock i) }
-    ensures seated { OnOk result (IsSeated at.now.of.now.plan.now at.now.of.now.codes.now (at.now.clock + 1) i state.new seat.new) }
+    ensures remembered { OnOk result (IsRemembered at.now.of.now.plan.now at.now.of.now.codes.now (at.now.clock + 1) i state.new memo.new) }
     ensures done { OnOk result (HasDone at.now.keep round.old round.new (step_at at.now.of.now.plan.now at.now.clock i)) }
     ensures answers { OnOk result (answers.new ≡ answers.old ++ outcomes (step_at at.now.of.now.plan.now at.now.clock i)) }
 {
-    let requests = seat.requests.as_slice();
+    let requests = memo.requests.as_slice();
     if !answer(
         at,
         requests,
@@ -96,7 +96,7 @@ fn act(
         answers,
         &mut round.traffic,
     )? {
-        seat.place = round.replies.len();
+        memo.place = round.replies.len();
         return Ok(false);
     }
     tell_kept_events(at, i, requests, &mut round.events)?;
@@ -107,26 +107,26 @@ fn act(
         module_at(at.of.plan, i),
         code,
         state,
-        &seat.notes,
+        &memo.notes,
         replies,
     )?;
-    seat.known = false;
+    memo.known = false;
     Ok(true)
 }
 
 /// Whether a module that is awake is seen at once not to move: it is over, or stalls on the same request as before.
 #[inline(always)]
-fn surely_stays(at: &Standing<'_>, i: usize, state: &ModuleState, seat: &Seat) -> bool
+fn surely_stays(at: &Standing<'_>, i: usize, state: &ModuleState, memo: &Memo) -> bool
     requires runs { Runs at.now.of.now.plan.now at.now.of.now.codes.now at.now.clock at.now.contents.now }
-    requires seated { IsSeated at.now.of.now.plan.now at.now.of.now.codes.now at.now.clock i state.now seat.now }
-    requires awake { seat.now.wakes ≤ at.now.clock }
+    requires remembered { IsRemembered at.now.of.now.plan.now at.now.of.now.codes.now at.now.clock i state.now memo.now }
+    requires awake { memo.now.wakes ≤ at.now.clock }
     ensures stays { result ≡ true → does_move at.now.of.now.plan.now at.now.clock i ≡ false }
     ensures running { result ≡ false → is_over at.now.of.now.plan.now.ops state.now ≡ false }
 {
     if is_over(at.of.plan, state) {
         return true;
     }
-    still_stalls(at, seat)
+    still_stalls(at, memo)
 }
 
 /// Whether a module that is awake has nothing to do in this clock. Its state is then that of the next clock in which it has.
@@ -135,19 +135,19 @@ fn fall_asleep(
     at: &Standing<'_>,
     i: usize,
     state: &mut ModuleState,
-    seat: &mut Seat,
+    memo: &mut Memo,
 ) -> Result<bool, OutOfMemory>
     requires runs { Runs at.now.of.now.plan.now at.now.of.now.codes.now at.now.clock at.now.contents.now }
     requires within { i < length at.now.of.now.plan.now.design.modules }
-    requires seated { IsSeated at.now.of.now.plan.now at.now.of.now.codes.now at.now.clock i state.old seat.old }
-    requires awake { seat.old.wakes ≤ at.now.clock }
+    requires remembered { IsRemembered at.now.of.now.plan.now at.now.of.now.codes.now at.now.clock i state.old memo.old }
+    requires awake { memo.old.wakes ≤ at.now.clock }
     requires running { is_over at.now.of.now.plan.now.ops state.old ≡ false }
     ensures asleep { IfOk result (λ asleep. asleep ≡ true
-        → FallsAsleep at.now.of.now.plan.now at.now.of.now.codes.now at.now.clock i state.new seat.new) }
+        → FallsAsleep at.now.of.now.plan.now at.now.of.now.codes.now at.now.clock i state.new memo.new) }
     ensures state { IfOk result (λ asleep. asleep ≡ false → state.new ≡ state.old) }
-    ensures seat { IfOk result (λ asleep. asleep ≡ false → seat.new ≡ seat.old) }
+    ensures memo { IfOk result (λ asleep. asleep ≡ false → memo.new ≡ memo.old) }
 {
-    if seat.notes.count > 0 {
+    if memo.notes.count > 0 {
         return Ok(false);
     }
     let now = state.control.clock;
@@ -158,8 +158,8 @@ fn fall_asleep(
     let module = module_at(at.of.plan, i);
     tick_to(module, state, next);
     go_on(at.alloc, module, state)?;
-    seat.wakes = at.clock + (next - now);
-    seat.known = false;
+    memo.wakes = at.clock + (next - now);
+    memo.known = false;
     Ok(true)
 }
 
@@ -169,27 +169,27 @@ pub fn take_turn(
     at: &Standing<'_>,
     i: usize,
     state: &mut ModuleState,
-    seat: &mut Seat,
+    memo: &mut Memo,
     round: &mut Round,
     answers: &mut Flags,
 ) -> Result<bool, OutOfMemory>
     requires runs { Runs at.now.of.now.plan.now at.now.of.now.codes.now at.now.clock at.now.contents.now }
     requires within { i < length at.now.of.now.plan.now.design.modules }
-    requires seated { IsSeated at.now.of.now.plan.now at.now.of.now.codes.now at.now.clock i state.old seat.old }
+    requires remembered { IsRemembered at.now.of.now.plan.now at.now.of.now.codes.now at.now.clock i state.old memo.old }
     ensures moving { IfOk result (λ moving. moving ≡ does_move at.now.of.now.plan.now at.now.clock i) }
-    ensures seated { OnOk result (IsSeated at.now.of.now.plan.now at.now.of.now.codes.now (at.now.clock + 1) i state.new seat.new) }
+    ensures remembered { OnOk result (IsRemembered at.now.of.now.plan.now at.now.of.now.codes.now (at.now.clock + 1) i state.new memo.new) }
     ensures done { OnOk result (HasDone at.now.keep round.old round.new (step_at at.now.of.now.plan.now at.now.clock i)) }
     ensures answers { OnOk result (answers.new ≡ answers.old ++ outcomes (step_at at.now.of.now.plan.now at.now.clock i)) }
 {
-    if at.clock < seat.wakes {
+    if at.clock < memo.wakes {
         return Ok(true);
     }
-    if surely_stays(at, i, state, seat) {
+    if surely_stays(at, i, state, memo) {
         return Ok(false);
     }
-    note_seat(at.of, i, state, &mut round.words, seat)?;
-    if fall_asleep(at, i, state, seat)? {
+    fill_memo(at.of, i, state, &mut round.words, memo)?;
+    if fall_asleep(at, i, state, memo)? {
         return Ok(true);
     }
-    act(at, i, state, seat, round, answers)
+    act(at, i, state, memo, round, answers)
 }

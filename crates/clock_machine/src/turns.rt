@@ -1,10 +1,10 @@
 //! The turns of all modules in a clock.
 ghost use Rattle.std.specs.Prelude.{◌≡◌, ℕ, ◌+◌, ◌<◌, [], ◌++◌, IfOk, OnOk, length, slice_index_or};
 ghost use Rattle.lockstep_defs.specs.{Lockstep.state, Lockstep.steps_in, Report.outcomes, Verdict.some_moves, Verdict.is_settled};
-ghost use Rattle.clock_machine.specs.{Seats.AreSeated, Clocks.Runs, Clocks.HasDone, Clocks.step_at};
+ghost use Rattle.clock_machine.specs.{Memos.AreRemembered, Clocks.Runs, Clocks.HasDone, Clocks.step_at};
 
 use crate::asking::would_move;
-use crate::seat::{Round, Seat};
+use crate::memo::{Memo, Round};
 use crate::standing::Standing;
 use crate::turn::take_turn;
 use flow_design::ModuleState;
@@ -15,16 +15,17 @@ use flow_word::{Flags, OutOfMemory, Words};
 pub fn take_turns(
     at: &Standing<'_>,
     states: &mut [ModuleState],
-    seats: &mut [Seat],
+    memos: &mut [Memo],
     round: &mut Round,
     answers: &mut [Flags],
 ) -> Result<bool, OutOfMemory>
     requires runs { Runs at.now.of.now.plan.now at.now.of.now.codes.now at.now.clock at.now.contents.now }
-    requires seated { AreSeated at.now.of.now.plan.now at.now.of.now.codes.now at.now.clock states.old seats.old }
+    requires remembered { AreRemembered at.now.of.now.plan.now at.now.of.now.codes.now at.now.clock states.old memos.old }
     requires answers { length answers.old ≡ length at.now.of.now.plan.now.design.modules }
     ensures moving { IfOk result (λ moving. moving
         ≡ some_moves at.now.of.now.plan.now at.now.clock at.now.contents.now (state at.now.of.now.plan.now at.now.clock)) }
-    ensures seated { OnOk result (AreSeated at.now.of.now.plan.now at.now.of.now.codes.now (at.now.clock + 1) states.new seats.new) }
+    ensures remembered { OnOk result
+        (AreRemembered at.now.of.now.plan.now at.now.of.now.codes.now (at.now.clock + 1) states.new memos.new) }
     ensures done { OnOk result (HasDone at.now.keep round.old round.new
         (steps_in at.now.of.now.plan.now at.now.clock (state at.now.of.now.plan.now at.now.clock))) }
     ensures answers { OnOk result ((i : ℕ) → i < length at.now.of.now.plan.now.design.modules
@@ -34,7 +35,7 @@ pub fn take_turns(
 {
     let mut moving = false;
     for (i, state) in states.iter_mut().enumerate() {
-        let moves = take_turn(at, i, state, &mut seats[i], round, &mut answers[i])?;
+        let moves = take_turn(at, i, state, &mut memos[i], round, &mut answers[i])?;
         moving = moving || moves;
     }
     Ok(moving)
@@ -44,17 +45,17 @@ pub fn take_turns(
 pub fn is_settled(
     at: &Standing<'_>,
     states: &[ModuleState],
-    seats: &mut [Seat],
+    memos: &mut [Memo],
     words: &mut Words,
 ) -> Result<bool, OutOfMemory>
     requires runs { Runs at.now.of.now.plan.now at.now.of.now.codes.now at.now.clock at.now.contents.now }
-    requires seated { AreSeated at.now.of.now.plan.now at.now.of.now.codes.now at.now.clock states.now seats.old }
+    requires remembered { AreRemembered at.now.of.now.plan.now at.now.of.now.codes.now at.now.clock states.now memos.old }
     ensures settled { IfOk result (λ settled. settled
         ≡ is_settled at.now.of.now.plan.now at.now.clock (state at.now.of.now.plan.now at.now.clock)) }
-    ensures seated { OnOk result (AreSeated at.now.of.now.plan.now at.now.of.now.codes.now at.now.clock states.now seats.new) }
+    ensures remembered { OnOk result (AreRemembered at.now.of.now.plan.now at.now.of.now.codes.now at.now.clock states.now memos.new) }
 {
     for (i, state) in states.iter().enumerate() {
-        if would_move(at, i, state, &mut seats[i], words)? {
+        if would_move(at, i, state, &mut memos[i], words)? {
             return Ok(false);
         }
     }

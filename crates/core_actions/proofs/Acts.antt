@@ -2,7 +2,7 @@
 use Rattle.std.proofs.{Common.◌≡◌, Common.refl, Common.ℕ, Common.Bool, Common.true, Common.false, Common.arith, lemmas.Bool.both_ways}
 use Rattle.std.specs.{Prelude.Result, Prelude.is_ok, Result.result_err}
 use Rattle.outcome_guard.specs.declared.guard.Guard.TheVariants as guard
-use Rattle.event_timing.specs.Actions.{Acts, MayRun, MayAssign, MayAnswer, MayEarliest, IsDetermined}
+use Rattle.event_timing.specs.Actions.{Acts, MayRun, MayAssign, MayEarliest, IsDetermined}
 use Rattle.event_timing.specs.Permitted.{is_open}
 use Rattle.event_timing.specs.Actions as theory
 use Rattle.timing_bridge.specs.Designs.{design}

@@ -74,5 +74,6 @@ edit_ticks old new e guard before after edited same moved is =
     ]
 
 -- the cycles of all lanes
-pub all_cycles : (lanes : List Lane) (n : ℕ) → length lanes ≤ n → map (λ (l : Lane). l.cycles) (take n lanes) ≡ map (λ (l : Lane). l.cycles) lanes
+pub all_cycles : (lanes : List Lane) (n : ℕ) → length lanes ≤ n → map (λ (l : Lane). l.cycles) (take n lanes) ≡ map (λ (l : Lane).
+    l.cycles) lanes
 all_cycles lanes n enough = ap (map (λ (l : Lane). l.cycles)) (take_all n lanes enough)

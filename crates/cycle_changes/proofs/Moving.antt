@@ -1,6 +1,6 @@
 -- How many steps have another cycle, and puts of a draft.
-use Rattle.std.proofs.Common.{◌≡◌, ◌≢◌, refl, sym, ap, ap₂, subst, ◌∙◌, ℕ, zero, suc, ◌+◌, ◌<◌, ◌≤◌, ◌⊎◌, inl, inr, List, [], ◌∷◌, ◌++◌}
-use Rattle.std.proofs.Common.{length, get_or, map, Some, arith}
+use Rattle.std.proofs.Common.{◌≡◌, ◌≢◌, refl, sym, ap, ap₂, subst, ◌∙◌, ℕ, zero, suc, ◌+◌, ◌<◌, inl, inr, List, [], ◌∷◌, ◌++◌, length}
+use Rattle.std.proofs.Common.{get_or, Some, arith}
 use Rattle.std.proofs.{Math.ListN.set, Math.ListN.get_or-map, lemmas.List.Elements.All-push}
 use Rattle.std.proofs.lemmas.List.{get_or-set_same, length-append, length-map}
 use Rattle.std.specs.Prelude.{All}
@@ -8,7 +8,7 @@ use Rattle.flow_word.specs.declared.access.Place.{Place}
 use Rattle.event_graph.specs.Lanes.{Lane, IsSoundLane, lane_at, no_lane, put_in, with_put}
 use Rattle.engine_view.specs.Emitted.{place_of}
 use Rattle.cycle_changes.specs.{declared.changes.Put.Put, declared.draft.Draft.Draft, Moved.others_in, Moved.moved_in}
-use Rattle.cycle_changes.specs.Puts.{HasCycle, ArePut, AreDrafted, drafted}
+use Rattle.cycle_changes.specs.Puts.{HasCycle, AreDrafted, drafted}
 use Rattle.cycle_changes.proofs.{Putting.no_puts, Putting.put_apart, Putting.put_more, Changing.puts_are_other}
 
 -- ---- another cycle of one step
@@ -53,7 +53,8 @@ moved_more old new p c o n same other =
 -- the step has it then
 put_here : (lanes : List Lane) (p : Place) (c : ℕ) → HasCycle lanes p → get_or (lane_at (with_put lanes p c) p.module).cycles p.step 0 ≡ c
 put_here lanes p c has =
-    ap (λ (l : Lane). get_or l.cycles p.step 0) (get_or-set_same lanes p.module (put_in (lane_at lanes p.module) p.step c) no_lane has.owner)
+    ap (λ (l : Lane). get_or l.cycles p.step 0) (get_or-set_same lanes p.module (put_in (lane_at lanes p.module) p.step c) no_lane
+    has.owner)
     ∙ get_or-set_same (lane_at lanes p.module).cycles p.step c 0 has.there
 
 same_place : (p q : Place) → p.module ≡ q.module → p.step ≡ q.step → p ≡ q

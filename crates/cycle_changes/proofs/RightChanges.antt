@@ -12,7 +12,7 @@ use Rattle.event_timing.specs.Machines as theory
 use Rattle.event_timing.specs.Machines.{Design, IsDesign, Each}
 use Rattle.event_timing.specs.{Core.Core, Core.core_accesses, Core.view, Enablers.candidate, Edits.edited}
 use Rattle.event_timing.proofs.{Editing.edit_design, OwnRuns.same_side_is}
-use Rattle.cycle_changes.specs.Records.{IsRightRecord, IsRight, IsUnmoved, IsBeside, IsChecked, IsAmong, IsSaidAround, with_cycles, partner}
+use Rattle.cycle_changes.specs.Records.{IsRightRecord, IsRight, IsUnmoved, IsChecked, IsAmong, IsSaidAround, with_cycles, partner}
 use Rattle.cycle_changes.specs.{Looks.IsLooked, Looks.cycle_held, Changed.AreRightChanges}
 use Rattle.cycle_changes.specs.Around.{IsLookedAround, IsAccessAt, WaitsForStep}
 use Rattle.cycle_changes.specs.Records as records

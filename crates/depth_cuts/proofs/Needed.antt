@@ -1,15 +1,15 @@
 -- The next depths above those with which a plan is late are a cut.
-use Rattle.std.proofs.Common.{◌≡◌, ℕ, ◌<◌, ◌≤◌, true, false, List, length, refl, ◌∙◌, arith, inl, inr, Option}
+use Rattle.std.proofs.Common.{◌≡◌, ℕ, ◌<◌, ◌≤◌, true, false, List, length, ◌∙◌, arith, inl, inr}
 use Rattle.std.proofs.{lemmas.Bool.cases_Bool, lemmas.Bool.cases_lt, lemmas.List.get_or_past}
 use Rattle.std.specs.Prelude.{slice_index, slice_index_or, All}
 use Rattle.flow_design.specs.{declared.limits.TheConstants.FIFO_DEPTH, declared.plan.Plan.Plan, declared.report.Verdict.Verdict}
-use Rattle.flow_design.specs.{Plans.is_fifo, Plans.kind_at, StaticRules.FitsEngine, declared.state.Advance.Advance}
+use Rattle.flow_design.specs.{Plans.is_fifo, Plans.kind_at, StaticRules.FitsEngine}
 use Rattle.flow_design.specs.declared.report.Verdict.TheVariants.{Done, Deadlock, Cycles, Ops}
 use Rattle.lockstep_defs.specs.Verdict.{verdict}
 use Rattle.depth_order.specs.Depths.{with_depths, AreDepths, AreDeeper, AsksNothing, IsDoneBy}
 use Rattle.depth_order.proofs.{Order.never_slower, Plans.fifo_inside}
-use Rattle.engine_view.specs.Held.{Held}
-use Rattle.engine_report.specs.Finished.{IsFinished}
+use Rattle.engine_view.specs.declared.engine.Engine.{Engine}
+use Rattle.engine_report.specs.Finished.{HoldsEnd}
 use Rattle.path_check.specs.Waits.{IsTried}
 use Rattle.path_check.proofs.Shown.{done_form}
 use Rattle.depth_cuts.specs.{declared.cuts.Need.Need, declared.cuts.Cut.Cut, Met.IsUnmet, Raised.AreRaised, Raised.IsNextNeed}
@@ -109,9 +109,9 @@ module _ (p : Plan) (ds zs : List ℕ) (a : AreDepths p ds) (r : AreRaised ds zs
 
 -- ---- what a path shows
 
-pub cut_shown : (p : Plan) (h : Held) (ends : List (Option Advance)) → IsFinished p h ends → AsksNothing p → AreDeepest p
+pub cut_shown : (p : Plan) (e : Engine) → HoldsEnd p e → AsksNothing p → AreDeepest p
     → (ds zs : List ℕ) → AreDepths p ds → AreRaised ds zs → (cut : Cut) → AreNext zs (length zs) cut.needs → (clock : ℕ)
-    → (IsTried p h ends zs → IsDoneBy clock (verdict (with_depths p zs)) → ⊥) → IsCutFor p clock ds cut
-cut_shown p h ends f quiet deepest ds zs a r cut n clock late =
+    → (IsTried p e zs → IsDoneBy clock (verdict (with_depths p zs)) → ⊥) → IsCutFor p clock ds cut
+cut_shown p e f quiet deepest ds zs a r cut n clock late =
     cut_of p ds zs a r cut n f.fits quiet clock
     (late (record { finished = f; quiet = quiet; fit = raised_depths p ds zs a r; lower = raised_lower p ds zs a r deepest }))

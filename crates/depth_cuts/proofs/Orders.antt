@@ -1,5 +1,5 @@
 -- Which depths come first: an order of all lists of so many depths, in which deeper ones come later.
-use Rattle.std.proofs.Common.{◌≡◌, ℕ, zero, suc, ◌<◌, ◌⊎◌, inl, inr, List, length, refl, sym, ◌∙◌, subst, arith}
+use Rattle.std.proofs.Common.{◌≡◌, ℕ, zero, suc, ◌<◌, ◌⊎◌, inl, inr, List, length, sym, ◌∙◌, subst, arith}
 use Rattle.std.proofs.{lemmas.Bool.cases_lt, lemmas.List.ext_get_or}
 use Rattle.std.specs.Prelude.{slice_index}
 use Rattle.depth_cuts.specs.Cuts.{AreAbove, bits_of, IsEarlier, ComesBefore, IsNoWorse}

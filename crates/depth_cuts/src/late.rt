@@ -4,20 +4,19 @@ ghost use Rattle.flow_design.specs.declared.plan.Plan.{Plan};
 ghost use Rattle.lockstep_defs.specs.Verdict.{verdict};
 ghost use Rattle.time_engine.specs.Conditions.{HasAccesses};
 ghost use Rattle.depth_order.specs.Depths.{with_depths, IsDoneBy};
-ghost use Rattle.path_check.specs.Waits.{IsTried, held_with};
+ghost use Rattle.path_check.specs.Waits.{IsTried};
 
 use crate::trails::Trail;
 use engine_view::Engine;
-use flow_design::Advance;
 use path_check::{ends_after, never_ends};
 
 /// Whether a path shows that the plan, with the depths of the path, ends after a clock or never.
-pub(crate) fn is_late(engine: &Engine, ends: &[Option<Advance>], trail: &Trail, clock: u64) -> bool
+pub(crate) fn is_late(engine: &Engine, trail: &Trail, clock: u64) -> bool
     requires { HasAccesses engine.now.graph.lanes engine.now.fifos.channels }
-    ensures { result ≡ true → (p : Plan) → IsTried p (held_with engine.now ends.now) ends.now trail.now.depths
+    ensures { result ≡ true → (p : Plan) → IsTried p engine.now trail.now.depths
         → IsDoneBy clock (verdict (with_depths p trail.now.depths)) → ⊥ }
 {
     let depths = trail.depths.as_slice();
     let path = trail.path.as_slice();
-    ends_after(engine, ends, depths, None, path, clock) || never_ends(engine, depths, None, path)
+    ends_after(engine, depths, None, path, clock) || never_ends(engine, depths, None, path)
 }

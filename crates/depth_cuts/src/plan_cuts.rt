@@ -3,8 +3,7 @@ ghost use Rattle.std.specs.Prelude.{IfOk, IfSome};
 ghost use Rattle.flow_design.specs.declared.plan.Plan.{Plan};
 ghost use Rattle.time_engine.specs.Conditions.{HasAccesses};
 ghost use Rattle.depth_order.specs.Depths.{AreDepths, AsksNothing};
-ghost use Rattle.engine_report.specs.Finished.{IsFinished};
-ghost use Rattle.path_check.specs.Waits.{held_with};
+ghost use Rattle.engine_report.specs.Finished.{HoldsEnd};
 ghost use Rattle.depth_cuts.specs.PlanCuts.{AreDeepest, IsCutFor};
 
 use crate::cuts::Cut;
@@ -13,7 +12,6 @@ use crate::raised::{are_raised, deeper_ones};
 use crate::raising::raise_all;
 use crate::trails::find_trail;
 use engine_view::Engine;
-use flow_design::Advance;
 use flow_word::OutOfMemory;
 use std::alloc::Global;
 
@@ -25,20 +23,19 @@ use std::alloc::Global;
 pub fn find_cut(
     alloc: Global,
     engine: &Engine,
-    ends: &[Option<Advance>],
     depths: &[u64],
     clock: u64,
 ) -> Result<Option<Cut>, OutOfMemory>
     requires { HasAccesses engine.now.graph.lanes engine.now.fifos.channels }
     ensures { IfOk result (λ found. IfSome found (λ cut. (p : Plan)
-        → IsFinished p (held_with engine.now ends.now) ends.now → AsksNothing p → AreDeepest p → AreDepths p depths.now
+        → HoldsEnd p engine.now → AsksNothing p → AreDeepest p → AreDepths p depths.now
         → IsCutFor p clock depths.now cut)) }
 {
-    let Some(mut trail) = find_trail(alloc, engine, ends, depths, clock)? else {
+    let Some(mut trail) = find_trail(alloc, engine, depths, clock)? else {
         return Ok(None);
     };
-    raise_all(alloc, engine, ends, &mut trail, clock)?;
-    if !are_raised(depths, trail.depths.as_slice()) || !is_late(engine, ends, &trail, clock) {
+    raise_all(alloc, engine, &mut trail, clock)?;
+    if !are_raised(depths, trail.depths.as_slice()) || !is_late(engine, &trail, clock) {
         return Ok(None);
     }
     let cut = deeper_ones(alloc, trail.depths.as_slice())?;

@@ -7,7 +7,6 @@ use crate::cuts::Need;
 use crate::late::is_late;
 use crate::trails::{Trail, find_trail};
 use engine_view::Engine;
-use flow_design::Advance;
 use flow_design::limits::FIFO_DEPTH;
 use flow_word::{List, OutOfMemory};
 use std::alloc::Global;
@@ -20,7 +19,6 @@ use std::alloc::Global;
 pub(crate) fn raise_all(
     alloc: Global,
     engine: &Engine,
-    ends: &[Option<Advance>],
     trail: &mut Trail,
     clock: u64,
 ) -> Result<(), OutOfMemory>
@@ -28,7 +26,7 @@ pub(crate) fn raise_all(
 {
     let mut channel = 0u32;
     for _ in 0..trail.depths.len() {
-        raise_one(alloc, engine, ends, trail, channel, clock)?;
+        raise_one(alloc, engine, trail, channel, clock)?;
         channel = channel.saturating_add(1);
     }
     Ok(())
@@ -39,7 +37,6 @@ pub(crate) fn raise_all(
 fn raise_one(
     alloc: Global,
     engine: &Engine,
-    ends: &[Option<Advance>],
     trail: &mut Trail,
     channel: u32,
     clock: u64,
@@ -52,7 +49,7 @@ fn raise_one(
             break;
         };
         let raised = Need { channel, depth };
-        if try_depth(alloc, engine, ends, trail, raised, clock)? {
+        if try_depth(alloc, engine, trail, raised, clock)? {
             bounds.is_late(item(trail.depths.as_slice(), channel as u64));
         } else {
             bounds.is_not_late(depth);
@@ -66,7 +63,6 @@ fn raise_one(
 fn try_depth(
     alloc: Global,
     engine: &Engine,
-    ends: &[Option<Advance>],
     trail: &mut Trail,
     raised: Need,
     clock: u64,
@@ -75,8 +71,8 @@ fn try_depth(
 {
     let mut depths = List::from_slice(alloc, trail.depths.as_slice())?;
     put(depths.as_mut_slice(), raised.channel as u64, raised.depth);
-    match find_trail(alloc, engine, ends, depths.as_slice(), clock)? {
-        Some(found) if is_late(engine, ends, &found, clock) => {
+    match find_trail(alloc, engine, depths.as_slice(), clock)? {
+        Some(found) if is_late(engine, &found, clock) => {
             *trail = found;
             Ok(true)
         }

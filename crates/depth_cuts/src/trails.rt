@@ -58,7 +58,6 @@ impl Trail {
 pub(crate) fn find_trail(
     alloc: Global,
     engine: &Engine,
-    ends: &[Option<Advance>],
     depths: &[u64],
     clock: u64,
 ) -> Result<Option<Trail>, OutOfMemory>
@@ -70,7 +69,7 @@ pub(crate) fn find_trail(
             Some(first) => find_round(alloc, engine, depths, &clocks, first),
             None => Ok(None),
         },
-        None => match last_end(engine, ends, &clocks) {
+        None => match last_end(engine, &clocks) {
             Some(last) if clock <= last.clock => {
                 let trail = find_way(alloc, engine, depths, &clocks, last.place)?;
                 Ok(Some(trail))
@@ -99,7 +98,7 @@ struct End {
 
 /// Of the module that moves longest, the last step and the last clock in which it moves. `None` where no module has a step. Each
 /// step has its clock.
-fn last_end(engine: &Engine, ends: &[Option<Advance>], clocks: &Clocks) -> Option<End> {
+fn last_end(engine: &Engine, clocks: &Clocks) -> Option<End> {
     let mut last: Option<End> = None;
     for owner in 0..engine.graph.modules() {
         if let Some(step) = engine.graph.frontier(owner).checked_sub(1) {
@@ -107,7 +106,9 @@ fn last_end(engine: &Engine, ends: &[Option<Advance>], clocks: &Clocks) -> Optio
                 module: owner,
                 step,
             };
-            let clock = clocks.at(place).saturating_add(clocks_behind(ends, owner));
+            let clock = clocks
+                .at(place)
+                .saturating_add(clocks_behind(engine, owner));
             if last.is_none_or(|last| last.clock < clock) {
                 last = Some(End { place, clock });
             }
@@ -117,8 +118,8 @@ fn last_end(engine: &Engine, ends: &[Option<Advance>], clocks: &Clocks) -> Optio
 }
 
 /// How many clocks after its last step a module still moves.
-fn clocks_behind(ends: &[Option<Advance>], owner: u32) -> u64 {
-    match ends.get(owner as usize) {
+fn clocks_behind(engine: &Engine, owner: u32) -> u64 {
+    match engine.ends.get(owner as usize) {
         Some(Some(Advance::Ended(gap))) | Some(Some(Advance::Spent(gap))) => gap.saturating_sub(1),
         Some(_) | None => 0,
     }

@@ -6,7 +6,7 @@ ghost use Rattle.sim_core.specs.{Views.theory_of, Drives.AreOwn};
 
 use flow_design::CheckedPlan;
 use flow_word::OutOfMemory;
-use run_threads::{FreeGate, Gate, Light, run_core};
+use run_threads::{FreeGate, Gate, Threadless, run_core};
 use sim_core::{Core, finish_alone};
 use std::alloc::Global;
 use std::sync::Wait;
@@ -46,11 +46,11 @@ pub trait Runner {
     fn gate(&self) -> Option<&Self::Gate>
         ensures { option_copied result ≡ gate_of self.now };
 
-    /// The modules whose bursts the last run found to be light: they have no thread when a plan is simulated again.
-    fn light(&self) -> Light;
+    /// The modules whose bursts the last run found to be short: they have no thread when a plan is simulated again.
+    fn threadless(&self) -> Threadless;
 
-    /// Keeps the modules whose bursts a run found to be light.
-    fn set_light(&mut self, light: Light)
+    /// Keeps the modules whose bursts a run found to be short.
+    fn set_threadless(&mut self, threadless: Threadless)
         ensures made { made self.new ≡ made self.old }
         ensures gate { gate_of self.new ≡ gate_of self.old };
 
@@ -72,13 +72,13 @@ pub trait Runner {
     {
         self.count_run(Asked { of: () });
         let core = Core::new(alloc, plan)?;
-        let (core, light) = simulate(rt, alloc, core, self.gate(), Light::none())?;
-        self.set_light(light);
+        let (core, threadless) = simulate(rt, alloc, core, self.gate(), Threadless::none())?;
+        self.set_threadless(threadless);
         Ok(core)
     }
 
     /// Simulates a plan once more, from a core of it in which nothing is emitted yet. The modules whose bursts the last run found
-    /// to be light have no thread. The run is counted, after `OutOfMemory` too.
+    /// to be short have no thread. The run is counted, after `OutOfMemory` too.
     final fn run_again<R: Threads + Wait + Sync>(
         &mut self,
         rt: &R,
@@ -97,21 +97,21 @@ pub trait Runner {
         ensures gate { gate_of self.new ≡ gate_of self.old }
     {
         self.count_run(Asked { of: () });
-        let (core, light) = simulate(rt, alloc, core, self.gate(), self.light())?;
-        self.set_light(light);
+        let (core, threadless) = simulate(rt, alloc, core, self.gate(), self.threadless())?;
+        self.set_threadless(threadless);
         Ok(core)
     }
 }
 
-/// Simulates from a core in which nothing is emitted yet: with a thread for each module that is not known to be light, or on the
-/// calling thread where there is no gate. The second answer has the modules that are then known to be light.
+/// Simulates from a core in which nothing is emitted yet: with a thread for each module whose bursts are not known to be short, or on the
+/// calling thread where there is no gate. The second answer has the modules whose bursts are then known to be short.
 fn simulate<R: Threads + Wait + Sync, G: Gate + Sync>(
     rt: &R,
     alloc: Global,
     core: Core,
     gate: Option<&G>,
-    light: Light,
-) -> Result<(Core, Light), OutOfMemory>
+    threadless: Threadless,
+) -> Result<(Core, Threadless), OutOfMemory>
     requires opening { theory_of core ≡ opening_core (design core.plan) }
     requires verified { AllVerified (theory_of core) }
     requires own { AreOwn core }
@@ -121,8 +121,8 @@ fn simulate<R: Threads + Wait + Sync, G: Gate + Sync>(
     ensures own { IfOk result (λ r. AreOwn r.0) }
 {
     match gate {
-        Some(gate) => run_by_threads(rt, alloc, core, gate, light),
-        None => Ok((finish_alone(core)?, light)),
+        Some(gate) => run_by_threads(rt, alloc, core, gate, threadless),
+        None => Ok((finish_alone(core)?, threadless)),
     }
 }
 
@@ -132,8 +132,8 @@ fn run_by_threads<R: Threads + Wait + Sync, G: Gate + Sync>(
     alloc: Global,
     core: Core,
     gate: &G,
-    light: Light,
-) -> Result<(Core, Light), OutOfMemory>
+    threadless: Threadless,
+) -> Result<(Core, Threadless), OutOfMemory>
     requires opening { theory_of core ≡ opening_core (design core.plan) }
     requires own { AreOwn core }
     ensures plan { IfOk result (λ r. r.0.plan ≡ core.plan) }
@@ -144,9 +144,9 @@ fn run_by_threads<R: Threads + Wait + Sync, G: Gate + Sync>(
     histories_are_legal();
     // This brings in what a core always keeps: the engine takes its plan.
     core.agrees();
-    let mut light = light;
-    let threaded = run_core(rt, alloc, core, gate, &mut light)?;
-    Ok((threaded.core, light))
+    let mut threadless = threadless;
+    let threaded = run_core(rt, alloc, core, gate, &mut threadless)?;
+    Ok((threaded.core, threadless))
 }
 
 /// A runner that simulates on the calling thread.
@@ -181,11 +181,11 @@ impl Runner for AloneRunner {
         None
     }
 
-    fn light(&self) -> Light {
-        Light::none()
+    fn threadless(&self) -> Threadless {
+        Threadless::none()
     }
 
-    fn set_light(&mut self, _light: Light) {}
+    fn set_threadless(&mut self, _threadless: Threadless) {}
 }
 
 /// A runner that simulates with a thread for each module.
@@ -195,8 +195,8 @@ pub struct ThreadRunner<'g, G> {
     gate: &'g G,
     /// How many runs the runner was asked for.
     runs: u64,
-    /// The modules whose bursts the last run found to be light.
-    light: Light,
+    /// The modules whose bursts the last run found to be short.
+    threadless: Threadless,
 }
 
 impl<'g, G: Gate + Sync> ThreadRunner<'g, G> {
@@ -208,7 +208,7 @@ impl<'g, G: Gate + Sync> ThreadRunner<'g, G> {
         ThreadRunner {
             gate,
             runs: 0,
-            light: Light::none(),
+            threadless: Threadless::none(),
         }
     }
 }
@@ -228,11 +228,11 @@ impl<'g, G: Gate + Sync> Runner for ThreadRunner<'g, G> {
         Some(self.gate)
     }
 
-    fn light(&self) -> Light {
-        self.light
+    fn threadless(&self) -> Threadless {
+        self.threadless
     }
 
-    fn set_light(&mut self, light: Light) {
-        self.light = light;
+    fn set_threadless(&mut self, threadless: Threadless) {
+        self.threadless = threadless;
     }
 }

@@ -95,7 +95,8 @@ walk_new lanes walk g n c m t = (
         ap (λ (xs : List ℕ). get_or xs i 0) n
         ∙ (at_first i l ∙ ap (next_cycle lanes i) (sym none));
     within = λ i l.
-        let none : get_or walk.given i 0 ≡ 0 = ap (λ (xs : List ℕ). get_or xs i 0) g ∙ get_or-replicate (length lanes) i 0 0 l in omega arith;
+        let none : get_or walk.given i 0 ≡ 0 = ap (λ (xs : List ℕ). get_or xs i 0) g ∙ get_or-replicate (length lanes) i 0 0 l in omega
+        arith;
     later = omega arith;
     bound = omega arith;
     early = λ i l. absurd (omega arith);

@@ -13,7 +13,7 @@ use Rattle.event_graph.specs.Lanes.{lane_at}
 use Rattle.query_log.specs.Logs.{no_log, log_at}
 use Rattle.event_timing.specs.Core.{core_values, core_tally, replies_of, pops_now}
 use Rattle.event_timing.specs.Machines as theory
-use Rattle.timing_bridge.specs.{Designs.design, Designs.told, Designs.told_all, CoreReports.core_step, CoreReports.core_steps}
+use Rattle.timing_bridge.specs.{Designs.design, Designs.told_all, CoreReports.core_step, CoreReports.core_steps}
 use Rattle.timing_bridge.specs.Designs as bridge
 use Rattle.engine_view.specs.Held.{Held, step_of, no_step, emitted_of, seen, queries_in, possible_by, flags_by, are_among, core_of}
 use Rattle.engine_view.specs.Shown.{IsSound, queries_before}

@@ -50,7 +50,8 @@ walk_begins p x n = record {
 
 -- ---- one step more
 
-module _ (p : Plan) (x : Core ModuleState) (done : List HistoryStep) (passed : List ℕ) (clock next i : ℕ) (w : IsWalked p x done passed clock next)
+module _ (p : Plan) (x : Core ModuleState) (done : List HistoryStep) (passed : List ℕ) (clock next i : ℕ) (w : IsWalked p x done passed
+    clock next)
     (inside : i < length passed) (l : next ≤ i) (e : x.cycle i (slice_index passed i) ≡ clock) where
   abbrev step : HistoryStep
   step = core_step p x i (slice_index passed i)
@@ -63,14 +64,17 @@ module _ (p : Plan) (x : Core ModuleState) (done : List HistoryStep) (passed : L
   earlier s (inl less) = inl less
   earlier s (inr (same, less)) = inr (same, omega arith)
 
-  each_now : (j : ℕ) → steps_of j (done ++ step ∷ []) ≡ map (core_step p x j) (range_with_len 0 (slice_index (slice_set passed i (slice_index passed i + 1)) j))
+  each_now : (j : ℕ) → steps_of j (done ++ step ∷ []) ≡ map (core_step p x j) (range_with_len 0 (slice_index (slice_set passed i
+      (slice_index passed i + 1)) j))
   each_now j = filter-append (λ (s : HistoryStep). s.«module» == j) done (step ∷ []) ∙ by_module (cases_eq j i)
     where
       by_module : (j ≡ i) ⊎ (j ≢ i)
-          → steps_of j done ++ steps_of j (step ∷ []) ≡ map (core_step p x j) (range_with_len 0 (slice_index (slice_set passed i (slice_index passed i + 1)) j))
+          → steps_of j done ++ steps_of j (step ∷ []) ≡ map (core_step p x j) (range_with_len 0 (slice_index (slice_set passed i
+          (slice_index passed i + 1)) j))
       by_module (inl same) =
           let now : slice_index (slice_set passed i (slice_index passed i + 1)) j ≡ slice_index passed i + 1 =
-          ap (slice_index (slice_set passed i (slice_index passed i + 1))) same ∙ get_or-set_same passed i (slice_index passed i + 1) 0 inside in
+          ap (slice_index (slice_set passed i (slice_index passed i + 1))) same ∙ get_or-set_same passed i (slice_index passed i + 1) 0
+          inside in
           let one : steps_of j (step ∷ []) ≡ step ∷ [] = grind (arith, nat_tests) in
           let so_far : steps_of j done ≡ map (core_step p x i) (range_with_len 0 (slice_index passed i)) =
           ap (λ (k : ℕ). steps_of k done) same ∙ w.each i in

@@ -8,7 +8,7 @@ use Rattle.lockstep_defs.specs.{Quiet.quiet, Report.report}
 use Rattle.event_graph.specs.Lanes.{gap_bound}
 use Rattle.event_timing.specs.{Machines.ready, Views.own, Core.Core, Core.core_reply, Actions.IsFinal, Agreement.IsAgreed}
 use Rattle.timing_bridge.specs.{Designs.design, Designs.lockstep_run, OwnRuns.clocks_of_steps}
-use Rattle.engine_view.specs.{Held.Held, Held.core_of, Shown.IsSound}
+use Rattle.engine_view.specs.{declared.engine.Engine.Engine, Engines.held_in, Held.Held, Held.core_of, Shown.IsSound}
 use Rattle.engine_report.specs.Standings.{end_at, gap_of_end}
 
 -- ---- end marks
@@ -43,6 +43,10 @@ pub record IsFinished (p : Plan) (h : Held) (ends : List (Option Advance)) : Typ
   pub agreed : IsAgreed (design p) (lockstep_run p) p.cycles (core_of (design p) h)
   pub final : IsFinal (design p) p.cycles (core_of (design p) h)
   pub marks : AreEndMarks p h ends
+
+-- the engine holds the end of the plan's simulation, with the end marks of the modules that are over
+abbrev pub HoldsEnd : Plan → Engine → Type 0
+HoldsEnd p e = IsFinished p (held_in e) e.ends.items
 
 -- the plan's report, with its events or without any
 abbrev pub report_with : Bool → Plan → Report

@@ -1,8 +1,7 @@
 //! The report.
 ghost use Rattle.std.specs.Prelude.{◌≡◌, true, false, [], IfOk};
 ghost use Rattle.lockstep_defs.specs.Verdict as lockstep;
-ghost use Rattle.engine_view.specs.Engines.{held_in};
-ghost use Rattle.engine_report.specs.{Finished.IsFinished, Finished.report_with, Read.AreEvents};
+ghost use Rattle.engine_report.specs.{Finished.HoldsEnd, Finished.report_with, Read.AreEvents};
 
 use crate::answers::answers;
 use crate::events::events;
@@ -28,7 +27,7 @@ pub fn report_of(
     engine: &Engine,
     with_events: bool,
 ) -> Result<Report, OutOfMemory>
-    requires { IsFinished plan.now (held_in engine.now) engine.now.ends.items }
+    requires { HoldsEnd plan.now engine.now }
     ensures { IfOk result (λ report. report ≡ report_with with_events plan.now) }
 {
     every_report();
@@ -46,7 +45,7 @@ pub fn report_of(
 /// The verdict of a plan, read off what an engine holds at the end of its simulation. It is the lockstep machine's. It takes no
 /// memory.
 pub fn verdict_of(plan: &Plan, engine: &Engine) -> Verdict
-    requires { IsFinished plan.now (held_in engine.now) engine.now.ends.items }
+    requires { HoldsEnd plan.now engine.now }
     ensures { result ≡ lockstep.verdict plan.now }
 {
     every_report();

@@ -4,8 +4,7 @@ ghost use Rattle.time_engine.specs.{Conditions.IsAccess, Conditions.HasAccesses,
 ghost use Rattle.flow_design.specs.{declared.plan.Plan.Plan, Reports.clock_of};
 ghost use Rattle.lockstep_defs.specs.Verdict.{verdict};
 ghost use Rattle.event_graph.specs.Lanes.{HasStep, cycle_bound, gap_bound};
-ghost use Rattle.engine_view.specs.Engines.{held_in};
-ghost use Rattle.engine_report.specs.{Finished.IsFinished, Standings.end_at, Standings.gap_of_end};
+ghost use Rattle.engine_report.specs.{Finished.HoldsEnd, Standings.end_at, Standings.gap_of_end};
 ghost use Rattle.engine_report.specs.Reading.{known_until, lane_step, StandsBetween, HasWaited, HasPassed};
 ghost use Rattle.timelines.specs.{declared.span.Doing.TheVariants.Moves, Spans.AreSpans, Coming.reached, Coming.Comes, Coming.Does};
 
@@ -35,7 +34,7 @@ pub fn spans_of(
     requires ends { owner < length engine.now.ends.items }
     requires short { gap_of_end (end_at engine.now.ends.items owner) < gap_bound }
     ensures { IfOk result (λ spans. (p : Plan)
-        → IsFinished p (held_in engine.now) engine.now.ends.items → clock ≡ clock_of (verdict p)
+        → HoldsEnd p engine.now → clock ≡ clock_of (verdict p)
         → AreSpans p owner spans) }
 {
     let mut spans = List::new(alloc);

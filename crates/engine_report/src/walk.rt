@@ -61,7 +61,7 @@ impl StepWalk {
             → (p : Plan) (held : Held) (ends : Items (Option Advance)) → IsFinished p held ends → held.lanes ≡ graph.now.lanes
             → steps_at p (core_of (design p) held) (map step_place steps) ≡ history p (clock_of (verdict p)) }
     {
-        let _modules = graph.modules();
+        graph.stays_sound();
         let mut found = self.find(graph);
         while found.is_none() && self.later < NEVER {
             self.begin_round();
@@ -96,7 +96,8 @@ impl StepWalk {
         ensures clock { self.new.clock ≡ self.old.clock }
         ensures found { FoundIn graph.now.lanes self.old (Some result) self.new }
     {
-        let _modules = graph.modules();
+        graph.stays_sound();
+        // A lane has fewer than 2^32 cycles, so the next number fits its type.
         let _timed = graph.frontier(owner);
         let step = self.given.as_slice()[owner as usize];
         let next = cycle_at(graph, owner, step + 1);

@@ -14,7 +14,7 @@ use Rattle.fifo_table.specs.{declared.channel.TableChannel.TheVariants.Source, C
 use Rattle.query_log.specs.Logs.{IsSoundLog, Log, all_answered, log_at, no_log}
 use Rattle.time_engine.specs.Conditions.{IsAccess, HasAccesses}
 use Rattle.event_timing.specs.Machines as theory
-use Rattle.event_timing.specs.Machines.{Design, IsDesign, Each, Reply, ready, takes_in, values_in, Access as Asked, takers, takes_at}
+use Rattle.event_timing.specs.Machines.{Design, IsDesign, Each, takes_in, values_in, takers}
 use Rattle.event_timing.specs.{Views.pushed_in, Agreement.AreOwnMarks, Enablers.Known, Enablers.known_of, Enablers.flags_at}
 use Rattle.event_timing.specs.Core.{Core, core_accesses, core_tally, core_values, bare_replies, view}
 use Rattle.event_timing.specs.Actions.{put_at, after_answer, new_flags}

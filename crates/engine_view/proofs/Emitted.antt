@@ -15,7 +15,7 @@ use Rattle.fifo_table.specs.{declared.channel.TableChannel.TheVariants.Source, C
 use Rattle.query_log.specs.Logs.{log_at}
 use Rattle.time_engine.specs.Conditions.{IsAccess, HasAccesses}
 use Rattle.event_timing.specs.Machines as theory
-use Rattle.event_timing.specs.Machines.{Design, IsDesign, Each, Reply, ready, takes_in, values_in}
+use Rattle.event_timing.specs.Machines.{Design, IsDesign, Each, ready, takes_in, values_in}
 use Rattle.event_timing.specs.{Views.pushed_in, Agreement.AreOwnMarks}
 use Rattle.event_timing.specs.Core.{Core, core_accesses, core_tally, core_values, bare_replies, has_query, no_outcomes}
 use Rattle.event_timing.specs.Actions.{put, put_at, newest, emit_step, after_run, MayRun}

@@ -8,7 +8,7 @@ use Rattle.event_graph.specs.Lanes.{lane_at}
 use Rattle.fifo_table.specs.Channels.{Channel}
 use Rattle.query_log.specs.Logs.{log_at}
 use Rattle.event_timing.specs.Machines as theory
-use Rattle.event_timing.specs.{Machines.Design, Machines.Reply, Machines.ready, Views.own, Agreement.AreOwnMarks}
+use Rattle.event_timing.specs.{Machines.Design, Machines.Reply, Views.own, Agreement.AreOwnMarks}
 use Rattle.event_timing.specs.Core.{Core, core_tally, core_values, core_reply, replies_of, pops_now}
 use Rattle.event_timing.proofs.OwnRuns.{own_0, own_more, same_side_is}
 use Rattle.engine_view.specs.Held.{Held, step_of, emitted_of, seen, flags_of, has_all, values_at, replies_by, replies_at, waited, core_of}

@@ -9,8 +9,7 @@ use Rattle.event_graph.specs.Lanes.{lane_at, no_lane}
 use Rattle.query_log.specs.Logs.{Log, log_at, no_log, with_outcomes}
 use Rattle.time_engine.specs.Conditions.{IsAccess}
 use Rattle.event_timing.specs.Machines as theory
-use Rattle.event_timing.specs.Machines.{Design, IsDesign, Each, takers}
-use Rattle.event_timing.specs.{Core.Core, Actions.after_answer, Actions.new_flags}
+use Rattle.event_timing.specs.{Machines.Design, Machines.Each, Machines.takers, Core.Core, Actions.after_answer, Actions.new_flags}
 use Rattle.event_timing.proofs.Assigning.{put_at_same, put_at_other}
 use Rattle.engine_view.specs.Held.{Held, held_parts, step_of, no_step, emitted_of, seen, queries_in, core_of}
 use Rattle.engine_view.specs.{Shown.IsSound, Shown.queries_before, Known.found_flags, Emitted.place_of, Taking.taken_all, Turns.first_of}

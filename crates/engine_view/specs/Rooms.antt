@@ -2,10 +2,10 @@
 use Rattle.std.specs.Prelude.{◌≡◌, ◌≢◌, ℕ, ◌+◌, ◌-◌, ◌*◌, ◌^◌, ◌<◌, ◌≤◌, Bool, true, cond, not, eqb, ◌&&◌, ◌||◌, List, [], ◌∷◌, length}
 use Rattle.std.specs.Prelude.{drop, slice_get, slice_index, slice_set, All, Some}
 use Rattle.flow_design.specs.declared.state.Advance.{Advance}
-use Rattle.flow_word.specs.Kinds.{side_of, is_blocking, is_taking}
-use Rattle.flow_word.specs.{declared.access.Access.Access, declared.access.Port.Port, declared.access.Side.Side, declared.access.Step.Step}
+use Rattle.flow_word.specs.{Kinds.side_of, Kinds.is_blocking, Kinds.is_taking, Room.UsesPlace, declared.access.Access.Access}
+use Rattle.flow_word.specs.{declared.access.Port.Port, declared.access.Side.Side, declared.access.Step.Step}
 use Rattle.flow_word.specs.declared.access.Side.TheVariants.{Pop, Push}
-use Rattle.event_graph.specs.{Lanes.lane_at, Lanes.with_step, Lanes.IsSoundStep, Lanes.IsSoundLane, Roomed.UsesPlace}
+use Rattle.event_graph.specs.Lanes.{lane_at, with_step, IsSoundStep, IsSoundLane}
 use Rattle.fifo_table.specs.{Channels.Channel, Channels.AreAllOf, Channels.channel_at, Channels.places_of, Roomed.RoomedChannels}
 use Rattle.query_log.specs.Logs.{log_at}
 use Rattle.time_engine.specs.Conditions.{IsAccess}

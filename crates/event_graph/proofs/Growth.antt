@@ -1,13 +1,12 @@
 -- A lane stays sound with a step more, and a cut at a bound keeps what is below the bound.
-use Rattle.std.proofs.Common.{◌≡◌, refl, ℕ, ◌+◌, ◌<◌, ◌≤◌, Bool, true, false, List, [], ◌∷◌, ◌++◌, length, get_or, take, drop, map, arith}
+use Rattle.std.proofs.Common.{◌≡◌, refl, ℕ, ◌+◌, ◌<◌, ◌≤◌, Bool, true, false, List, [], ◌∷◌, ◌++◌, length, take, drop, map, arith}
 use Rattle.std.proofs.{Math.ListN.set, lemmas.List.Kept.AllPairs-from_increasing, lemmas.Grind.common_steps}
 use Rattle.std.proofs.lemmas.List.{take-append-drop, length-append, map-set}
 use Rattle.std.proofs.lemmas.List.Elements.{All-nil, All-head, All-tail, All-push, All-set, filter-append}
 use Rattle.std.specs.Prelude.{All, filter}
 use Rattle.std.specs.List.Sorted.{IsPartitionPoint, IsStrictlyIncreasing, IsNonDecreasingBy}
 use Rattle.flow_word.specs.declared.access.Step.{Step}
-use Rattle.event_graph.specs.{Lanes.Lane, Lanes.IsSoundStep, Lanes.IsSoundLane, Roomed.RoomedLane, Roomed.rooms_of, Roomed.UsesPlace}
-use Rattle.flow_word.proofs.Changed.{shown_old, shown_new, shown_other}
+use Rattle.event_graph.specs.{Lanes.Lane, Lanes.IsSoundStep, Lanes.IsSoundLane, Roomed.RoomedLane}
 
 -- what holds of each but the first holds so with one more at the end
 rest_push : {X : Type 0} (P : X → Type 0) (xs : List X) (x : X) → All P (drop 1 xs) → (0 < length xs → P x) → All P (drop 1 (xs ++ x ∷ []))
@@ -56,13 +55,3 @@ pub all_sound : (xs : List RoomedLane) (i : ℕ) (new : RoomedLane) → All IsSo
     → All IsSoundLane (map (λ (l : RoomedLane). l.lane) (set xs i new))
 all_sound xs i new sound here = rw (map-set (λ (l : RoomedLane). l.lane) xs i new)
     (All-set IsSoundLane (map (λ (l : RoomedLane). l.lane) xs) i new.lane here sound)
-
--- the rooms of the lanes where one became another, which used a place at most
-pub used_place : (xs : List RoomedLane) (i : ℕ) (old new : RoomedLane) → i < length xs → old ≡ get_or xs i old → old.room ≤ new.room + 1
-    → UsesPlace i (rooms_of xs) (rooms_of (set xs i new))
-used_place xs i old new h at less =
-    let room : RoomedLane → ℕ = λ l. l.room in
-    record {
-      own = rw (shown_old room xs i old h at, shown_new room xs i new h) less;
-      others = λ k apart. omega (arith, shown_other room xs i k new apart);
-    }

@@ -1,5 +1,5 @@
 -- Lanes with the room that was reserved for further steps, as contracts see them.
-use Rattle.std.specs.Prelude.{◌≢◌, ℕ, ◌+◌, ◌≤◌, List, map, slice_index}
+use Rattle.std.specs.Prelude.{ℕ, List, map}
 use Rattle.event_graph.specs.Lanes.{Lane}
 
 -- a lane, and how many further steps, with their cycles, it takes without asking for memory
@@ -19,8 +19,3 @@ lanes_of lanes = map (λ l. l.lane) lanes
 -- the rooms without their lanes
 abbrev pub rooms_of : List RoomedLane → List ℕ
 rooms_of lanes = map (λ l. l.room) lanes
-
--- one lane uses at most one place of its room, and no other lane uses any
-pub record UsesPlace (owner : ℕ) (rooms rooms_left : List ℕ) : Type 0 where
-  pub own : slice_index rooms owner ≤ slice_index rooms_left owner + 1
-  pub others : (k : ℕ) → k ≢ owner → slice_index rooms k ≤ slice_index rooms_left k

@@ -4,8 +4,8 @@ ghost use Rattle.std.specs.Prelude.{IfOk, OnOk, OnErr, slice_set};
 ghost use Rattle.std.specs.{Option.ForSome, List.Sorted.IsStrictlyIncreasing};
 ghost use Rattle.event_graph.specs.Lanes.{no_lane, lane_at, last_cycle, cycle_bound, HasStep, IsSoundStep, IsSoundLane, with_step};
 ghost use Rattle.event_graph.specs.Lanes.{with_cycle, with_put, timed_below, if_below, cycle_of as cycle_at};
-ghost use Rattle.event_graph.specs.{Packed.whole, Packed.in_lane, Packed.IsFewStep, Roomed.UsesPlace};
-ghost use Rattle.flow_word.specs.declared.access.Place.{Place};
+ghost use Rattle.event_graph.specs.Packed.{whole, in_lane, IsFewStep};
+ghost use Rattle.flow_word.specs.{Room.UsesPlace, declared.access.Place.Place};
 
 use crate::lane::RoomyLane;
 use crate::view::{LaneStep, StepView};
@@ -105,6 +105,14 @@ impl Graph {
         ensures sound { All IsSoundLane self.now.lanes }
     {
         self.lanes.len() as u32
+    }
+
+    /// Tells what a graph always keeps: each lane is sound. It does nothing.
+    #[inline(always)]
+    pub fn stays_sound(&self)
+        ensures { All IsSoundLane self.now.lanes }
+    {
+        let _lanes = &self.lanes;
     }
 
     /// How many steps a module made.

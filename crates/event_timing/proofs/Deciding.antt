@@ -99,7 +99,8 @@ module _ {S : Type 0} (d : Design S) (limit : ℕ) (x : Core S) (inside : IsInsi
       → passes_no_module (is_open_before d limit x (candidate d (view d x) m)) d.modules ≡ true → (n e : ℕ) → IsOpen d limit x n e → c ≤ e
   unfolding is_open_before
   least_there m c at p n e o =
-      let f = none_passes (is_open_before d limit x (candidate d (view d x) m)) d.modules p n (determined_inside d x inside n e o.determined.at) in
+      let f = none_passes (is_open_before d limit x (candidate d (view d x) m)) d.modules p n (determined_inside d x inside n e
+      o.determined.at) in
       grind (arith, nat_tests, o.determined.at, (open_decided d limit x n).1 (e, o))
 
   least_back : (m c : ℕ) → candidate d (view d x) m ≡ Some c → ((n e : ℕ) → IsOpen d limit x n e → c ≤ e)

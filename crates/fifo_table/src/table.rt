@@ -1,6 +1,7 @@
 //! The table of all channels.
 ghost use Rattle.std.specs.Prelude.{◌≡◌, ◌≢◌, ◌↔◌, true, ℕ, ◌+◌, ◌<◌, ◌≤◌, ◌^◌, length, map, slice_get, slice_index, All, IsOk, IfOk, OnOk};
 ghost use Rattle.std.specs.Prelude.{OnErr};
+ghost use Rattle.flow_word.specs.Room.{UsesPlace};
 ghost use Rattle.flow_design.specs.declared.limits.TheConstants.{FIFO_DEPTH, FIFO_DELAY};
 ghost use Rattle.fifo_table.specs.Channels.{IsSoundKind, IsSource, IsSink, IsFifo, HasSide, depth_of, lag_of, free_of, unused, channel_at};
 ghost use Rattle.fifo_table.specs.Channels.{nth, places_of, first_module, AreAllOf, values_of, with_push, with_pop, deepened_channels};
@@ -85,8 +86,7 @@ impl FifoTable {
         ensures ok { OnOk result (self.new.channels ≡ with_push self.old.channels channel at value) }
         ensures err { OnErr result (self.new.channels ≡ self.old.channels) }
         ensures succeeds { 0 < slice_index self.old.push_rooms channel → IsOk result }
-        ensures own_room { slice_index self.old.push_rooms channel ≤ slice_index self.new.push_rooms channel + 1 }
-        ensures other_rooms { (k : ℕ) → k ≢ channel → slice_index self.old.push_rooms k ≤ slice_index self.new.push_rooms k }
+        ensures push_rooms { UsesPlace channel self.old.push_rooms self.new.push_rooms }
         ensures pop_rooms { self.new.pop_rooms ≡ self.old.pop_rooms }
     {
         self.channels[channel as usize].pushes.push(at, value)
@@ -104,8 +104,7 @@ impl FifoTable {
         ensures ok { OnOk result (self.new.channels ≡ with_pop self.old.channels channel at) }
         ensures err { OnErr result (self.new.channels ≡ self.old.channels) }
         ensures succeeds { 0 < slice_index self.old.pop_rooms channel → IsOk result }
-        ensures own_room { slice_index self.old.pop_rooms channel ≤ slice_index self.new.pop_rooms channel + 1 }
-        ensures other_rooms { (k : ℕ) → k ≢ channel → slice_index self.old.pop_rooms k ≤ slice_index self.new.pop_rooms k }
+        ensures pop_rooms { UsesPlace channel self.old.pop_rooms self.new.pop_rooms }
         ensures push_rooms { self.new.push_rooms ≡ self.old.push_rooms }
     {
         self.channels[channel as usize].pops.push(at)

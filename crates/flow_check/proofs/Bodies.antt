@@ -11,7 +11,7 @@ use Rattle.flow_design.specs.{declared.session.Statement.Statement, declared.lim
 use Rattle.flow_design.specs.{Limits.limits_at, declared.expr.Expr.Expr, declared.expr.Expr.TheVariants.Unary, declared.expr.UnOp.UnOp}
 use Rattle.flow_design.specs.{declared.expr.UnOp.TheVariants.Not, declared.expr.Op.Op, Words.reach, Words.nodes, Words.depth}
 use Rattle.flow_design.specs.{StaticRules.IsExpressionSound, declared.design.Timed.Timed, declared.design.Next.Next, Names.Name}
-use Rattle.flow_design.specs.declared.session.Statement.TheVariants.{Module, Block, Loop}
+use Rattle.flow_design.specs.declared.session.Statement.TheVariants.{Loop}
 use Rattle.flow_design.specs.Operations.{places_written, expressions_of, memory_used, port_of}
 use Rattle.flow_grammar.specs.{Parts.parts, Parts.Part, Parts.expr_parts, Parts.op_parts, Places.may_follow}
 use Rattle.flow_grammar.specs.Before.{is_among, is_no_module, is_no_block, channels, registers, memories, temps, declared_channel}

@@ -84,7 +84,7 @@ impl CheckedPlan {
         self.plan.design.channels.as_slice()
     }
 
-    /// The inputs of each channel.
+    /// One entry for each channel: the values of a source, and none for the other channels.
     #[inline(always)]
     pub fn inputs(&self) -> &[Words]
         ensures { result.now ≡ self.now.inputs }
@@ -92,7 +92,7 @@ impl CheckedPlan {
         self.plan.inputs.as_slice()
     }
 
-    /// The depth of each channel.
+    /// One entry for each channel: the depth of a FIFO, in elements, and 0 for any other channel.
     #[inline(always)]
     pub fn depths(&self) -> &[u64]
         ensures { result.now ≡ self.now.depths }
@@ -108,7 +108,7 @@ impl CheckedPlan {
         self.plan.cycles
     }
 
-    /// The operation limit of each module.
+    /// How many operations each module may do.
     #[inline(always)]
     pub fn ops(&self) -> u64
         ensures { result ≡ self.now.ops }

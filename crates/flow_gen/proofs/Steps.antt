@@ -1,6 +1,6 @@
 -- One module more, and one value more.
-use Rattle.std.proofs.Common.{◌≡◌, ◌∙◌, ◌<◌, ◌≤◌, ℕ, ◌+◌, ◌*◌, List, ◌++◌, ◌∷◌, [], refl, sym, ap, ap₂, add-one, append-nil, append_assoc}
-use Rattle.std.proofs.Common.{arith, suc, map}
+use Rattle.std.proofs.Common.{◌≡◌, ◌∙◌, ◌<◌, ℕ, ◌+◌, ◌*◌, List, ◌++◌, ◌∷◌, [], refl, sym, ap, add-one, append-nil, append_assoc, arith, suc}
+use Rattle.std.proofs.Common.{map}
 use Rattle.std.proofs.lemmas.List.FromFn.{map-range_with_len_more}
 use Rattle.std.specs.List.{range_with_len}
 use Rattle.flow_design.specs.declared.session.Statement.{Statement}

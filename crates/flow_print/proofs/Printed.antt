@@ -1,6 +1,5 @@
 -- Texts that grow by the parts of a statement, each with a space before it.
-use Rattle.std.proofs.Common.{◌≡◌, ◌∙◌, ℕ, ◌+◌, ◌<◌, length, take, get_or, List, [], ◌∷◌, ◌++◌, map, ap, sym, refl, append-nil}
-use Rattle.std.proofs.Common.{append_assoc}
+use Rattle.std.proofs.Common.{◌≡◌, ℕ, ◌+◌, ◌<◌, length, take, get_or, List, [], ◌∷◌, ◌++◌, map, ap, sym, refl, append-nil, append_assoc}
 use Rattle.std.proofs.lemmas.Grind.{flat_map-append}
 use Rattle.std.specs.{Prelude.codes, Fmt.decimal, List.join_with_byte}
 use Rattle.flow_design.specs.{declared.session.Statement.Statement, declared.session.Statement.TheVariants.Input}

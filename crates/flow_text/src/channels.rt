@@ -12,45 +12,47 @@ use flow_design::{Name, Statement};
 use flow_grammar::{Code, LineFail, is_identifier, is_numeral, number_in, width_of};
 use std::alloc::Global;
 
-/// `source N W`, after its keyword.
+/// The name and the width of a new source or sink, after its keyword.
 #[tactic(auto, unfolding(crate::specs::TableTests::fault_by))]
+fn new_stream<'a>(tables: &Tables<'a>, tokens: &[&'a [u8]]) -> Parsed<(&'a [u8], Width)>
+    ensures source { LineGives (λ s. Source s.0.now s.1) result
+        (reading_by tables.now (name_width Source (map (λ t. t.now) tokens.now))) }
+    ensures sink { LineGives (λ s. Sink s.0.now s.1) result
+        (reading_by tables.now (name_width Sink (map (λ t. t.now) tokens.now))) }
+    ensures new { IfOk result (λ s. is_among tables.now.channels s.0.now ≡ false) }
+{
+    let [name, width] = tokens else {
+        return Err(LineFail::Fault(Code::Syntax));
+    };
+    syntax(tables.place.takes_channels() && is_identifier(name) && is_numeral(width))?;
+    let width = width_of(width).ok_or(LineFail::Fault(Code::BadNumber))?;
+    ensure(!tables.channels.has(name), Code::DoubleName)?;
+    ensure(
+        tables.channels.has_room(tables.limits.channels),
+        Code::TooMany,
+    )?;
+    Ok((*name, width))
+}
+
+/// `source N W`, after its keyword.
 pub fn source<'a>(alloc: Global, tables: &mut Tables<'a>, tokens: &[&'a [u8]]) -> Parsed<Statement>
     requires { IsOfStatements tables.old }
     ensures given { LineGives (λ s. s) result (reading_by tables.old (name_width Source (map (λ t. t.now) tokens.now))) }
     ensures kept { IfOk result (λ s. tables.new ≡ tables_with tables.old s) }
 {
-    let [name, width] = tokens else {
-        return Err(LineFail::Fault(Code::Syntax));
-    };
-    syntax(tables.place.takes_channels() && is_identifier(name) && is_numeral(width))?;
-    let width = width_of(width).ok_or(LineFail::Fault(Code::BadNumber))?;
-    ensure(!tables.channels.has(name), Code::DoubleName)?;
-    ensure(
-        tables.channels.has_room(tables.limits.channels),
-        Code::TooMany,
-    )?;
-    tables.add_source(*name)?;
-    Ok(Statement::Source(Name::new(alloc, *name)?, width))
+    let (name, width) = new_stream(tables, tokens)?;
+    tables.add_source(name)?;
+    Ok(Statement::Source(Name::new(alloc, name)?, width))
 }
 
 /// `sink N W`, after its keyword.
-#[tactic(auto, unfolding(crate::specs::TableTests::fault_by))]
 pub fn sink<'a>(alloc: Global, tables: &mut Tables<'a>, tokens: &[&'a [u8]]) -> Parsed<Statement>
     ensures given { LineGives (λ s. s) result (reading_by tables.old (name_width Sink (map (λ t. t.now) tokens.now))) }
     ensures kept { IfOk result (λ s. tables.new ≡ tables_with tables.old s) }
 {
-    let [name, width] = tokens else {
-        return Err(LineFail::Fault(Code::Syntax));
-    };
-    syntax(tables.place.takes_channels() && is_identifier(name) && is_numeral(width))?;
-    let width = width_of(width).ok_or(LineFail::Fault(Code::BadNumber))?;
-    ensure(!tables.channels.has(name), Code::DoubleName)?;
-    ensure(
-        tables.channels.has_room(tables.limits.channels),
-        Code::TooMany,
-    )?;
-    tables.add_sink(*name)?;
-    Ok(Statement::Sink(Name::new(alloc, *name)?, width))
+    let (name, width) = new_stream(tables, tokens)?;
+    tables.add_sink(name)?;
+    Ok(Statement::Sink(Name::new(alloc, name)?, width))
 }
 
 /// A FIFO with this name, width, depth and delay.

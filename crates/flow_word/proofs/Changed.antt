@@ -1,7 +1,8 @@
 -- A list in which one item is changed, seen through a function of its items.
-use Rattle.std.proofs.Common.{◌≡◌, ◌≢◌, refl, ℕ, ◌<◌, ◌≤◌, List, length, map, get_or, arith}
+use Rattle.std.proofs.Common.{◌≡◌, ◌≢◌, refl, ℕ, ◌+◌, ◌<◌, ◌≤◌, List, length, map, get_or, arith}
 use Rattle.std.proofs.Math.ListN.{set}
 use Rattle.std.proofs.lemmas.List.{map-set, get_or-map, get_or-set_same, get_or-set_other, length-map}
+use Rattle.flow_word.specs.Room.{UsesPlace}
 
 -- where the item becomes what is shown as g of what was shown
 pub shown_set : {X Y : Type 0} (f : X → Y) (g : Y → Y) (xs : List X) (i : ℕ) (old new : X) (d : Y) → i < length xs → old ≡ get_or xs i old
@@ -31,3 +32,11 @@ shown_kept f xs i old new h at le k =
     let b = shown_new f xs i new h in
     let other = shown_other f xs i k new in
     grind (arith, a, b, other)
+
+-- where the number that is shown falls by one at most
+pub used_place : {X : Type 0} (f : X → ℕ) (xs : List X) (i : ℕ) (old new : X) → i < length xs → old ≡ get_or xs i old → f old ≤ f new + 1
+    → UsesPlace i (map f xs) (map f (set xs i new))
+used_place f xs i old new h at less = record {
+  own = rw (shown_old f xs i old h at, shown_new f xs i new h) less;
+  others = λ k apart. omega (arith, shown_other f xs i k new apart);
+}

@@ -1,10 +1,10 @@
 -- A plan that stops at a clock has each end by that clock, and no other.
 use Rattle.std.proofs.Common.{◌≡◌, ℕ, zero, suc, ◌+◌, ◌++◌, ◌<◌, ◌≤◌, Bool, true, false, true≢false, cond, max, [], refl, sym, ◌∙◌, ap}
-use Rattle.std.proofs.Common.{subst, arith, inl, inr}
+use Rattle.std.proofs.Common.{arith, inl, inr}
 use Rattle.std.proofs.lemmas.Bool.{cases_Bool, cases_lt, lt-ltb, le-ltb, leb-true, false_from_ne_true}
-use Rattle.std.specs.{Prelude.nat_lt, Prelude.nat_le, List.list_all, List.list_any}
-use Rattle.flow_design.specs.{declared.plan.Plan.Plan, declared.report.Verdict.Verdict, declared.state.ClockState.ClockState}
-use Rattle.flow_design.specs.declared.report.Verdict.TheVariants.{Done, Deadlock, Cycles, Ops}
+use Rattle.std.specs.{Prelude.nat_le, List.list_all, List.list_any}
+use Rattle.flow_design.specs.{declared.plan.Plan.Plan, declared.state.ClockState.ClockState}
+use Rattle.flow_design.specs.declared.report.Verdict.TheVariants.{Done, Deadlock, Ops}
 use Rattle.lockstep_defs.specs.{Channels.reply, Machine.is_spent, Laws.NoneBefore}
 use Rattle.lockstep_defs.specs.Lockstep.{Moment, moves, steps_in, clock_step, opening, moment, next_moment, state}
 use Rattle.lockstep_defs.specs.Verdict.{is_settled, settled_verdict, verdict}

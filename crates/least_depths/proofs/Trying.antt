@@ -1,5 +1,5 @@
 -- One FIFO lowered by edits, try after try.
-use Rattle.std.proofs.Common.{◌≡◌, ℕ, suc, ◌+◌, ◌-◌, ◌<◌, ◌≤◌, true, false, List, length, refl, sym, ◌∙◌, ap, subst, arith}
+use Rattle.std.proofs.Common.{◌≡◌, ℕ, suc, ◌+◌, ◌-◌, ◌<◌, ◌≤◌, true, false, List, length, sym, ◌∙◌, ap, subst, arith}
 use Rattle.std.proofs.{lemmas.List.length-set, Math.Seq.set-set}
 use Rattle.std.specs.Prelude.{slice_index}
 use Rattle.flow_design.specs.{declared.design.Design.Design, declared.plan.Plan.Plan, declared.limits.TheConstants.FIFO_DEPTH}

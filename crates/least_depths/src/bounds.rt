@@ -20,7 +20,7 @@ pub(crate) fn latest_clocks(alloc: Global, session: &DepthSession, clock: u64) -
     if !asks_nothing(core.plan()) {
         return None;
     }
-    find_latest(alloc, core.engine(), core.ends(), clock).ok()
+    find_latest(alloc, core.engine(), clock).ok()
 }
 
 /// A depth of a FIFO such that with any smaller one the session's plan is not done by the target's clock. 1 where no such depth is
@@ -45,7 +45,6 @@ pub(crate) fn late_below(
             let found = late_depth(
                 alloc,
                 core.engine(),
-                core.ends(),
                 core.plan().depths.as_slice(),
                 latest,
                 target,

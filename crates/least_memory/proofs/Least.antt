@@ -45,7 +45,8 @@ among_depths p ds m =
 pub record IsLeastBy (p : Plan) (clock : ℕ) (found : List ℕ) : Type 0 where
   pub depths : AreDepths p found
   pub done : IsDoneBy clock (verdict (with_depths p found))
-  pub first : (es : List ℕ) → AreDepths p es → IsDoneBy clock (verdict (with_depths p es)) → IsNoWorse (widths_of p.design.channels) found es
+  pub first : (es : List ℕ) → AreDepths p es → IsDoneBy clock (verdict (with_depths p es)) → IsNoWorse (widths_of p.design.channels) found
+      es
 
 -- where some are in time
 pub least_is : (p : Plan) (clock : ℕ) (ds : List ℕ) → AreDepths p ds → IsDoneBy clock (verdict (with_depths p ds))

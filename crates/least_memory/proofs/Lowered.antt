@@ -56,7 +56,8 @@ module _ (demands : Demands) (ds : List ℕ) (h : IsCheapest demands ds) (f top 
     above = record {
       count = length-set ds f top ∙ h.covers.above.count;
       least = λ g. elim (cases_eq g f) [
-        | inl e ↦ let here = (at_lower g).0 e in let least = subst (λ (k : ℕ). slice_index demands.floors k ≤ top) (sym e) floor in omega arith
+        | inl e ↦ let here = (at_lower g).0 e in let least = subst (λ (k : ℕ). slice_index demands.floors k ≤ top) (sym e) floor in omega
+            arith
         | inr other ↦ let there = (at_lower g).1 other in let least = h.covers.above.least g in omega arith
       ];
     };

@@ -63,7 +63,8 @@ module _ (p : Plan) (fits : FitsEngine p) (clock : ℕ) (demands : Demands) (h :
         let floor = (h.floors.each f (fifo_inside p f e)).least e in
         let above = c.covers.above.least f in
         omega arith;
-    most = λ f e. cheapest_within demands ds c f FIFO_DEPTH (floor_most f) (λ k cut l j need m same. ((h.cuts k cut l).needs j need m).most);
+    most = λ f e. cheapest_within demands ds c f FIFO_DEPTH (floor_most f) (λ k cut l j need m same. ((h.cuts k cut l).needs j need
+        m).most);
     others = others;
   }
     where

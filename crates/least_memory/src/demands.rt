@@ -29,7 +29,7 @@ pub(crate) fn first_demands(
     ensures { IfOk result (λ demands. AreNeeded core.now.plan clock demands) }
 {
     core.agrees();
-    let latest = find_latest(alloc, core.engine(), core.ends(), clock)?;
+    let latest = find_latest(alloc, core.engine(), clock)?;
     let channels = core.plan().design.channels.as_slice();
     let widths = widths_of(alloc, channels)?;
     let mut floors = List::with_room(alloc, channels.len() as u64)?;
@@ -102,7 +102,6 @@ fn late_of(
     late_depth(
         alloc,
         core.engine(),
-        core.ends(),
         core.plan().depths.as_slice(),
         latest,
         target,

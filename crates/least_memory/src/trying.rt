@@ -40,7 +40,7 @@ pub(crate) fn try_depths<R: Threads + Wait + Sync, U: Runner>(
     ensures { IfOk result (λ outcome. IsOutcome core.now.plan clock depths.now outcome) }
 {
     core.agrees();
-    if let Some(cut) = find_cut(alloc, core.engine(), core.ends(), depths, clock)? {
+    if let Some(cut) = find_cut(alloc, core.engine(), depths, clock)? {
         return Ok(Outcome::Late(cut));
     }
     let mut plan = copy_plan(alloc, core.plan())?;

@@ -44,8 +44,8 @@ pub fn fifos()
         ∷ event 1 Kind.Read 0 3 ∷ event 0 Kind.Write 0 4 ∷ event 1 Kind.Read 0 5 ∷ [] }
 {}
 
-/// FIFOs with a delay of more than one clock, and edits of their depths.
-pub fn delays()
+/// FIFOs with a delay of more than one clock, at two depths.
+pub fn delayed_fifos()
     ensures five_clocks_later { Shows Examples.five_clocks_later (Done 8) ((5 ∷ []) ∷ []) [] }
     ensures later_events { (report Examples.five_clocks_later).events
         ≡ event 0 Kind.Read 0 0 ∷ event 0 Kind.Write 1 1 ∷ event 1 Kind.Read 1 6 ∷ event 1 Kind.Write 2 7 ∷ [] }
@@ -57,6 +57,10 @@ pub fn delays()
     ensures late_events_through_depth_three { (report (Examples.three_values_late 3)).events
         ≡ event 0 Kind.Write 0 0 ∷ event 0 Kind.Write 0 1 ∷ event 0 Kind.Write 0 2
         ∷ event 1 Kind.Read 0 5 ∷ event 1 Kind.Read 0 6 ∷ event 1 Kind.Read 0 7 ∷ [] }
+{}
+
+/// FIFOs with a delay of more than one clock: queries of them, and modules that wait for one another through them.
+pub fn delayed_queries_and_deadlocks()
     ensures there_in_time { Shows (Examples.tried_pop_late 1) (Done 8) ((1 ∷ []) ∷ []) [] }
     ensures not_there_yet { Shows (Examples.tried_pop_late 2) (Done 8) ((0 ∷ []) ∷ []) [] }
     ensures slow_deadlock { Shows Examples.slow_deadlock (Deadlock 0) [] (held_by_channel 0 false 1 ∷ held_by_channel 1 false 0 ∷ []) }

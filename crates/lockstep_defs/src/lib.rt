@@ -6,7 +6,8 @@ mod examples;
 mod laws;
 
 pub use examples::{
-    blocks_and_loops, deadlocks, delays, fifos, limits, own_runs, queries, sources_and_sinks,
+    blocks_and_loops, deadlocks, delayed_fifos, delayed_queries_and_deadlocks, fifos, limits,
+    own_runs, queries, sources_and_sinks,
 };
 pub use laws::{
     channels_are_queues, histories_are_own_runs, last_write_wins, live_iterations,

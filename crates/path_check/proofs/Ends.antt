@@ -11,11 +11,11 @@ use Rattle.timing_bridge.specs.Designs.{design, lockstep_run, start_in}
 use Rattle.timing_bridge.proofs.History.{plan_is_design, run_is_history, moves_same}
 use Rattle.timelines.proofs.Waits.{cycle_moves}
 use Rattle.depth_order.specs.Depths.{with_depths}
-use Rattle.engine_view.specs.{declared.engine.Engine.Engine, Held.Held, Held.core_of, Held.emitted_of}
+use Rattle.engine_view.specs.{declared.engine.Engine.Engine, Engines.held_in, Held.Held, Held.core_of, Held.emitted_of}
 use Rattle.engine_view.proofs.Knowing.{timed_within}
 use Rattle.engine_report.specs.{Finished.IsFinished, Finished.IsEndMark, Standings.end_at, Standings.gap_of_end}
 use Rattle.path_check.specs.Paths.{Same}
-use Rattle.path_check.specs.Waits.{IsTried, held_with, cycle_at, IsTimedAt, ComesAfter, ComesLater, IsAlong, nth_place, moves_behind}
+use Rattle.path_check.specs.Waits.{IsTried, cycle_at, IsTimedAt, ComesAfter, ComesLater, IsAlong, nth_place, moves_behind}
 use Rattle.path_check.proofs.{Late.ends_later, Late.never_ends, Steps.moves_on, Steps.moves_last}
 
 -- ---- behind the last step
@@ -46,44 +46,46 @@ behind_quiet p h ends f last timed =
 
 -- ---- the end
 
-module _ (p : Plan) (h : Held) (ends : List (Option Advance)) (depths : List ℕ) (t : IsTried p h ends depths) (from last : Place)
-    (clocks : ℕ) (timed : IsTimedAt h.lanes last) (c : ComesAfter p h depths from last clocks) where
+module _ (p : Plan) (e : Engine) (depths : List ℕ) (t : IsTried p e depths) (from last : Place)
+    (clocks : ℕ) (timed : IsTimedAt e.graph.lanes last) (c : ComesAfter p (held_in e) depths from last clocks) where
   -- the module of the last step moves so many clocks after it, and is not ended before
   late_by : (j : ℕ)
-      → j ≤ (design p).quiet last.module (own (design p) last.module (core_reply (design p) (core_of (design p) h) last.module)
+      → j ≤ (design p).quiet last.module (own (design p) last.module (core_reply (design p) (core_of (design p) (held_in e)) last.module)
       (suc last.step))
-      → (end : ℕ) → verdict (with_depths p depths) ≡ Done end → suc (cycle_at h.lanes from + (c.path + j)) ≤ end
+      → (end : ℕ) → verdict (with_depths p depths) ≡ Done end → suc (cycle_at e.graph.lanes from + (c.path + j)) ≤ end
   late_by zero q end done =
       let f = t.finished in
       let d = design p in
       let w = lockstep_run p in
-      let x = core_of d h in
-      let cycle = cycle_at h.lanes last in
+      let x = core_of d (held_in e) in
+      let cycle = cycle_at e.graph.lanes last in
       let move = cycle_moves d w p.cycles x f.agreed last.module last.step timed.timed in
-      let late = ends_later p f.fits t.quiet depths t.fit t.lower from.module (cycle_at h.lanes from) last.module cycle
+      let late = ends_later p f.fits t.quiet depths t.fit t.lower from.module (cycle_at e.graph.lanes from) last.module cycle
       c.path c.after (sym (moves_same p f.fits cycle last.module) ∙ move) end done in
       omega arith
   late_by (suc j) q end done =
       let f = t.finished in
       let d = design p in
       let w = lockstep_run p in
-      let x = core_of d h in
+      let x = core_of d (held_in e) in
       let i = plan_is_design p f.fits in
       let y = run_is_history p f.fits in
       let start = start_in (with_depths p depths) in
-      let cycle = cycle_at h.lanes last in
-      let after = moves_on d start w i y p.cycles x f.agreed from.module (cycle_at h.lanes from) last.module last.step j c.path timed.timed
+      let cycle = cycle_at e.graph.lanes last in
+      let after = moves_on d start w i y p.cycles x f.agreed from.module (cycle_at e.graph.lanes from) last.module last.step j c.path
+      timed.timed
       (omega arith) c.after in
-      let move = moves_last d start w i y p.cycles x f.agreed from.module (cycle_at h.lanes from) last.module last.step j timed.timed
+      let move = moves_last d start w i y p.cycles x f.agreed from.module (cycle_at e.graph.lanes from) last.module last.step j timed.timed
       (omega arith) in
-      let late = ends_later p f.fits t.quiet depths t.fit t.lower from.module (cycle_at h.lanes from) last.module
+      let late = ends_later p f.fits t.quiet depths t.fit t.lower from.module (cycle_at e.graph.lanes from) last.module
       (j + suc cycle) (j + suc c.path) after (sym (moves_same p f.fits (j + suc cycle) last.module) ∙ move) end done in
       omega arith
 
-  pub late_end : (clock : ℕ) → clock ≤ cycle_at h.lanes from + clocks + moves_behind h.lanes ends last → (end : ℕ)
+  pub late_end : (clock : ℕ) → clock ≤ cycle_at e.graph.lanes from + clocks + moves_behind e.graph.lanes e.ends.items last → (end : ℕ)
       → verdict (with_depths p depths) ≡ Done end → clock < end
   late_end clock l end done =
-      let late = late_by (moves_behind h.lanes ends last) (behind_quiet p h ends t.finished last timed) end done in
+      let late = late_by (moves_behind e.graph.lanes e.ends.items last) (behind_quiet p (held_in e) e.ends.items t.finished last timed)
+      end done in
       let long = c.long in
       omega arith
 
@@ -92,8 +94,8 @@ module _ (p : Plan) (h : Held) (ends : List (Option Advance)) (depths : List ℕ
       let f = t.finished in
       let d = design p in
       let w = lockstep_run p in
-      let x = core_of d h in
-      let cycle = cycle_at h.lanes last in
+      let x = core_of d (held_in e) in
+      let cycle = cycle_at e.graph.lanes last in
       let long = c.long in
       let more : suc (c.path - 1) ≡ c.path = omega arith in
       let move = cycle_moves d w p.cycles x f.agreed last.module last.step timed.timed in
@@ -117,13 +119,13 @@ along_first e depths path l timed = record {
   within = omega arith;
   first = timed;
   last = timed;
-  along = λ p ends t. comes_first p (held_with e ends) depths (nth_place path 0);
+  along = λ p t. comes_first p (held_in e) depths (nth_place path 0);
 }
 
 pub along_more : (e : Engine) (depths : List ℕ) (path : List Place) (n clocks more all : ℕ) → n < length path → all ≤ clocks + more
     → IsTimedAt e.graph.lanes (nth_place path n)
-    → ((p : Plan) (ends : List (Option Advance)) → IsTried p (held_with e ends) ends depths
-    → ComesLater p (held_with e ends) depths (nth_place path (n - 1)) (nth_place path n) more)
+    → ((p : Plan) → IsTried p e depths
+    → ComesLater p (held_in e) depths (nth_place path (n - 1)) (nth_place path n) more)
     → IsAlong e depths path n clocks → IsAlong e depths path (n + 1) all
 along_more e depths path n clocks more all l few timed adds a =
     let at : (n + 1) - 1 ≡ n = omega arith in
@@ -132,26 +134,27 @@ along_more e depths path n clocks more all l few timed adds a =
       within = omega arith;
       first = a.first;
       last = rw at timed;
-      along = λ p ends t. rw at
-          (fewer_clocks p (held_with e ends) depths (nth_place path 0) (nth_place path n) all (clocks + more)
-          few (adds p ends t (nth_place path 0) clocks (a.along p ends t)));
+      along = λ p t. rw at
+          (fewer_clocks p (held_in e) depths (nth_place path 0) (nth_place path n) all (clocks + more)
+          few (adds p t (nth_place path 0) clocks (a.along p t)));
     }
 
 -- ---- what is answered
 
 pub path_ends_late : (e : Engine) (depths : List ℕ) (path : List Place) (clocks : ℕ) → IsAlong e depths path (length path) clocks
-    → (ends : List (Option Advance)) (clock : ℕ)
-    → clock ≤ cycle_at e.graph.lanes (nth_place path 0) + clocks + moves_behind e.graph.lanes ends (nth_place path (length path - 1))
-    → (p : Plan) → IsTried p (held_with e ends) ends depths → (end : ℕ) → verdict (with_depths p depths) ≡ Done end
+    → (clock : ℕ)
+    → clock ≤ cycle_at e.graph.lanes (nth_place path 0) + clocks + moves_behind e.graph.lanes e.ends.items (nth_place path (length path -
+    1))
+    → (p : Plan) → IsTried p e depths → (end : ℕ) → verdict (with_depths p depths) ≡ Done end
     → clock < end
-path_ends_late e depths path clocks a ends clock l p t end done =
-    late_end p (held_with e ends) ends depths t (nth_place path 0) (nth_place path (length path - 1)) clocks a.last
-    (a.along p ends t) clock l end done
+path_ends_late e depths path clocks a clock l p t end done =
+    late_end p e depths t (nth_place path 0) (nth_place path (length path - 1)) clocks a.last
+    (a.along p t) clock l end done
 
 pub path_never_ends : (e : Engine) (depths : List ℕ) (path : List Place) (clocks : ℕ) → IsAlong e depths path (length path) clocks
-    → 0 < clocks → nth_place path 0 ≡ nth_place path (length path - 1) → (p : Plan) (ends : List (Option Advance))
-    → IsTried p (held_with e ends) ends depths → (end : ℕ) → verdict (with_depths p depths) ≡ Done end → ⊥
-path_never_ends e depths path clocks a some round p ends t end done =
-    no_end p (held_with e ends) ends depths t (nth_place path 0) (nth_place path (length path - 1)) clocks a.last
-    (a.along p ends t)
+    → 0 < clocks → nth_place path 0 ≡ nth_place path (length path - 1) → (p : Plan)
+    → IsTried p e depths → (end : ℕ) → verdict (with_depths p depths) ≡ Done end → ⊥
+path_never_ends e depths path clocks a some round p t end done =
+    no_end p e depths t (nth_place path 0) (nth_place path (length path - 1)) clocks a.last
+    (a.along p t)
     some round end done

@@ -18,13 +18,13 @@ use Rattle.timing_bridge.specs.Designs.{design, lockstep_run, start_in}
 use Rattle.timing_bridge.proofs.History.{plan_is_design, run_is_history}
 use Rattle.depth_order.specs.Depths.{with_depths}
 use Rattle.depth_order.proofs.Order.{same_elements}
-use Rattle.engine_view.specs.{declared.engine.Engine.Engine, Shown.IsKind, Shown.IsTakenAt}
+use Rattle.engine_view.specs.{declared.engine.Engine.Engine, Engines.held_in, Shown.IsKind, Shown.IsTakenAt}
 use Rattle.engine_view.specs.Held.{Held, core_of, step_of, no_step, emitted_of, seen, waited}
 use Rattle.engine_view.proofs.Knowing.{shown_inside}
 use Rattle.engine_report.specs.Finished.{IsFinished}
 use Rattle.engine_report.proofs.Ending.{apart_at}
 use Rattle.path_check.specs.Paths.{blocks_at, can_wait_at}
-use Rattle.path_check.specs.Waits.{IsTried, held_with, free_with, OneWaits, cycle_at, IsTimedAt, ComesLater}
+use Rattle.path_check.specs.Waits.{IsTried, free_with, OneWaits, cycle_at, IsTimedAt, ComesLater}
 use Rattle.path_check.proofs.Steps.{comes_next, comes_after, gap_behind}
 
 -- ---- accesses
@@ -90,57 +90,59 @@ gap_is p h ends f n k inside less =
     f.agreed.marks.own_wait n (suc k) less in
     omega arith
 
-pub next_adds : (p : Plan) (h : Held) (ends : List (Option Advance)) (depths : List ℕ) → IsTried p h ends depths → (before next : Place)
-    → IsTimedAt h.lanes next → next.module ≡ before.module → next.step ≡ suc before.step
-    → ComesLater p h depths before next (step_of h next.module next.step).gap
-next_adds p h ends depths t before next timed same step from clocks c =
+pub next_adds : (p : Plan) (e : Engine) (depths : List ℕ) → IsTried p e depths → (before next : Place)
+    → IsTimedAt e.graph.lanes next → next.module ≡ before.module → next.step ≡ suc before.step
+    → ComesLater p (held_in e) depths before next (step_of (held_in e) next.module next.step).gap
+next_adds p e depths t before next timed same step from clocks c =
     let f = t.finished in
     let inside = timed.owner in
     let made = timed.step in
     let its = timed.timed in
-    let less : suc before.step < emitted_of h next.module = omega arith in
-    let gap = gap_is p h ends f next.module before.step inside less in
-    let same_gap = ap (λ (k : ℕ). (step_of h next.module k).gap) step in
-    let there : suc before.step < length (lane_at h.lanes next.module).cycles = omega arith in
+    let less : suc before.step < emitted_of (held_in e) next.module = omega arith in
+    let gap = gap_is p (held_in e) e.ends.items f next.module before.step inside less in
+    let same_gap = ap (λ (k : ℕ). (step_of (held_in e) next.module k).gap) step in
+    let there : suc before.step < length (lane_at e.graph.lanes next.module).cycles = omega arith in
     let after = comes_next (design p) (start_in (with_depths p depths)) (lockstep_run p) (plan_is_design p f.fits)
-    (run_is_history p f.fits) p.cycles (core_of (design p) h) f.agreed from.module (cycle_at h.lanes from) next.module before.step c.path
+    (run_is_history p f.fits) p.cycles (core_of (design p) (held_in e)) f.agreed from.module (cycle_at e.graph.lanes from) next.module
+    before.step c.path
     there (rw (← same) at c.after) in
     let long = c.long in
     record {
-      path = c.path + gap_behind (design p) (core_of (design p) h) next.module before.step;
+      path = c.path + gap_behind (design p) (core_of (design p) (held_in e)) next.module before.step;
       long = omega arith;
       after = rw step after;
     }
 
 -- ---- a step that waits for another
 
-pub waits_adds : (p : Plan) (h : Held) (ends : List (Option Advance)) (depths : List ℕ) → IsTried p h ends depths
+pub waits_adds : (p : Plan) (e : Engine) (depths : List ℕ) → IsTried p e depths
     → (before next : Place) (lag : ℕ)
-    → IsTimedAt h.lanes before → IsTimedAt h.lanes next
-    → OneWaits h.channels depths (step_of h next.module next.step).accesses before lag → ComesLater p h depths before next lag
-waits_adds p h ends depths t before next lag first timed one from clocks c =
+    → IsTimedAt e.graph.lanes before → IsTimedAt e.graph.lanes next
+    → OneWaits e.fifos.channels depths (step_of (held_in e) next.module next.step).accesses before lag → ComesLater p (held_in e) depths
+    before next lag
+waits_adds p e depths t before next lag first timed one from clocks c =
     let f = t.finished in
     let d = design p in
-    let x = core_of d h in
+    let x = core_of d (held_in e) in
     let i = plan_is_design p f.fits in
     let a = one.access in
     let w = one.waits in
     let side = side_of a.kind in
-    let less : next.step < emitted_of h next.module = timed.step in
-    let accesses = (step_of h next.module next.step).accesses in
+    let less : next.step < emitted_of (held_in e) next.module = timed.step in
+    let accesses = (step_of (held_in e) next.module next.step).accesses in
     let number = slice_get_within accesses one.number a one.among in
     let at = get_or_from_slice_get accesses one.number a a one.among in
-    let inside = rw at at (shown_inside d h x f.sound next.module next.step less one.number a number) in
+    let inside = rw at at (shown_inside d (held_in e) x f.sound next.module next.step less one.number a number) in
     let ordinal = rw at at (f.sound.ordinals next.module next.step less one.number a number) in
-    let places = places_of (other_side side) (channel_at h.channels a.channel) in
-    let j = a.ordinal - suc (free_with h.channels depths side a.channel) in
+    let places = places_of (other_side side) (channel_at e.fifos.channels a.channel) in
+    let j = a.ordinal - suc (free_with e.fifos.channels depths side a.channel) in
     let event = w.event in
     let few = slice_get_within places j event w.enabler in
     let here = get_or_from_slice_get places j event event w.enabler in
     let taken : IsTakenAt d x (other_side side) a.channel j event =
     rw here at ((f.sound.taken (other_side side) a.channel inside.channel).each j event few) in
     let owner : d.owner (other_side side) a.channel ≡ before.module = sym taken.owner ∙ w.same_module in
-    let start = start_with p h ends depths f side a.channel inside.channel w.fifo in
+    let start = start_with p (held_in e) e.ends.items depths f side a.channel inside.channel w.fifo in
     let not_free = w.not_free in
     let then : core_tally d x before.module (other_side side) a.channel event.step ≤ j = rw owner at taken.from in
     let earlier = tally_mono (core_accesses d x before.module) (λ (k : ℕ). bare_replies (x.flags before.module k)) (other_side side)
@@ -148,9 +150,10 @@ waits_adds p h ends depths t before next lag first timed one from clocks c =
     let waits : can_wait_at side a.channel (core_accesses d x next.module next.step) ≡ true =
     ap (can_wait_at side a.channel) (f.sound.accesses next.module next.step less) ∙ waits_among accesses one.number a one.among w.blocks in
     let after = comes_after d (start_in (with_depths p depths)) (lockstep_run p) i
-    (run_is_history p f.fits) p.cycles x f.agreed from.module (cycle_at h.lanes from) before.module before.step next.module next.step c.path
+    (run_is_history p f.fits) p.cycles x f.agreed from.module (cycle_at e.graph.lanes from) before.module before.step next.module
+    next.step c.path
     a.channel side first.timed timed.timed owner waits
-    (limited_is d i (channel_at h.channels a.channel).kind side a.channel w.fifo (f.sound.kinds a.channel inside.channel))
+    (limited_is d i (channel_at e.fifos.channels a.channel).kind side a.channel w.fifo (f.sound.kinds a.channel inside.channel))
     (omega arith) c.after in
     let lags = f.sound.lags side a.channel inside.channel in
     let same = w.its_lag in
@@ -163,16 +166,16 @@ pub lags_add : (e : Engine) (depths : List ℕ) (before next : Place) (found : O
     → IsTimedAt e.graph.lanes next
     → IfSome found (λ lag. OneWaits e.fifos.channels depths
     (slice_index_or (lane_at e.graph.lanes next.module).steps next.step no_step).accesses before lag)
-    → IfSome found (λ clocks. (p : Plan) (ends : List (Option Advance)) → IsTried p (held_with e ends) ends depths
-    → ComesLater p (held_with e ends) depths before next clocks)
+    → IfSome found (λ clocks. (p : Plan) → IsTried p e depths
+    → ComesLater p (held_in e) depths before next clocks)
 lags_add e depths before next None first timed w = tt
 lags_add e depths before next (Some lag) first timed w =
-    λ p ends t. waits_adds p (held_with e ends) ends depths t before next lag first timed w
+    λ p t. waits_adds p e depths t before next lag first timed w
 
 pub gaps_add : (e : Engine) (depths : List ℕ) (before next : Place) (gap : ℕ)
     → gap ≡ (slice_index_or (lane_at e.graph.lanes next.module).steps next.step no_step).gap → IsTimedAt e.graph.lanes next
     → next.module ≡ before.module → next.step ≡ suc before.step
-    → (p : Plan) (ends : List (Option Advance)) → IsTried p (held_with e ends) ends depths
-    → ComesLater p (held_with e ends) depths before next gap
-gaps_add e depths before next gap is timed same step p ends t =
-    rw is (next_adds p (held_with e ends) ends depths t before next timed same step)
+    → (p : Plan) → IsTried p e depths
+    → ComesLater p (held_in e) depths before next gap
+gaps_add e depths before next gap is timed same step p t =
+    rw is (next_adds p e depths t before next timed same step)

@@ -1,8 +1,7 @@
 -- Depths that paths show to be too small.
-use Rattle.std.proofs.Common.{◌≡◌, ℕ, ◌+◌, ◌<◌, ◌≤◌, true, List, length, refl, arith, Option}
+use Rattle.std.proofs.Common.{◌≡◌, ℕ, ◌+◌, ◌<◌, ◌≤◌, true, List, length, refl, arith}
 use Rattle.std.specs.Prelude.{slice_index, slice_set}
-use Rattle.flow_design.specs.{declared.plan.Plan.Plan, declared.state.Advance.Advance, Plans.is_fifo, Plans.kind_at}
-use Rattle.flow_design.specs.declared.report.Verdict.{Verdict}
+use Rattle.flow_design.specs.{declared.plan.Plan.Plan, Plans.is_fifo, Plans.kind_at, declared.report.Verdict.Verdict}
 use Rattle.flow_design.specs.declared.report.Verdict.TheVariants.{Done, Deadlock, Cycles, Ops}
 use Rattle.lockstep_defs.specs.Verdict.{verdict}
 use Rattle.fifo_table.specs.{declared.channel.TableChannel.TableChannel, Channels.IsFifo, Channels.depth_of, Channels.channel_at}
@@ -10,8 +9,8 @@ use Rattle.fifo_table.specs.declared.channel.TableChannel.TheVariants as table
 use Rattle.timing_bridge.specs.Designs.{design}
 use Rattle.depth_order.specs.Depths.{with_depths, AsksNothing, IsDoneBy}
 use Rattle.depth_order.proofs.Order.{never_slower}
-use Rattle.engine_view.specs.{Held.Held, Shown.IsKind}
-use Rattle.engine_report.specs.Finished.{IsFinished}
+use Rattle.engine_view.specs.{declared.engine.Engine.Engine, Shown.IsKind}
+use Rattle.engine_report.specs.Finished.{HoldsEnd}
 use Rattle.path_check.specs.{Waits.IsTried, Late.IsLateBelow}
 use Rattle.path_check.proofs.Depths.{set_depths, set_deeper, set_lower, own_depths}
 
@@ -28,23 +27,23 @@ done_form clock (Deadlock c) l = absurd l
 done_form clock (Cycles c) l = absurd l
 done_form clock (Ops c) l = absurd l
 
-pub late_shown : (p : Plan) (h : Held) (ends : List (Option Advance)) → IsFinished p h ends → AsksNothing p → (c n clock : ℕ)
-    → is_fifo (kind_at p c) ≡ true → c < length h.channels → IsFifo (channel_at h.channels c).kind → 1 ≤ n
-    → n < depth_of (channel_at h.channels c).kind
+pub late_shown : (p : Plan) (e : Engine) → HoldsEnd p e → AsksNothing p → (c n clock : ℕ)
+    → is_fifo (kind_at p c) ≡ true → c < length e.fifos.channels → IsFifo (channel_at e.fifos.channels c).kind → 1 ≤ n
+    → n < depth_of (channel_at e.fifos.channels c).kind
     → (ds : List ℕ) → ds ≡ p.depths
-    → (IsTried p h ends (slice_set ds c n) → (end : ℕ) → verdict (with_depths p (slice_set ds c n)) ≡ Done end → clock < end)
+    → (IsTried p e (slice_set ds c n) → (end : ℕ) → verdict (with_depths p (slice_set ds c n)) ≡ Done end → clock < end)
     → IsLateBelow p clock c (n + 1)
-late_shown p h ends f quiet c n clock fifo inside kind low less ds same late_with d some allowed below done =
+late_shown p e f quiet c n clock fifo inside kind low less ds same late_with d some allowed below done =
     let shown = rw same at late_with in
     let own = own_depths p f.fits in
-    let is = depth_is p c (channel_at h.channels c).kind kind (f.sound.kinds c inside) in
+    let is = depth_is p c (channel_at e.fifos.channels c).kind kind (f.sound.kinds c inside) in
     let most = own.most c fifo in
     let fewer = set_depths p p.depths c d own fifo some (omega arith) in
     let tried = set_depths p p.depths c n own fifo low (omega arith) in
     let lower = set_lower p p.depths c n own fifo (omega arith) in
     let (first, its, early) = done_form clock (verdict (with_depths p (slice_set p.depths c d))) done in
     let then = never_slower p f.fits quiet (slice_set p.depths c d) (slice_set p.depths c n) fewer tried
-    (set_deeper p p.depths p.depths c d n own own fifo (λ g e. omega arith) (omega arith)) first its in
+    (set_deeper p p.depths p.depths c d n own own fifo (λ g at. omega arith) (omega arith)) first its in
     let (end, is_end, no_later) = done_form first (verdict (with_depths p (slice_set p.depths c n))) then in
     let late = shown (record { finished = f; quiet = quiet; fit = tried; lower = lower }) end is_end in
     absurd (omega arith)

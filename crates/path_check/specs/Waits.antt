@@ -1,6 +1,6 @@
 -- What a path of steps shows about a plan with other depths.
-use Rattle.std.specs.Prelude.{◌≡◌, ℕ, suc, ◌+◌, ◌-◌, ◌<◌, ◌≤◌, nat_lt, true, if◌then◌else◌, is_some, List, length, map, slice_get}
-use Rattle.std.specs.Prelude.{slice_index, slice_index_or, slice_set, Option, None, Some}
+use Rattle.std.specs.Prelude.{◌≡◌, ℕ, suc, ◌+◌, ◌-◌, ◌<◌, ◌≤◌, nat_lt, true, if◌then◌else◌, List, length, slice_get, slice_index}
+use Rattle.std.specs.Prelude.{slice_index_or, slice_set, Option, None, Some}
 use Rattle.flow_word.specs.{declared.access.Access.Access, declared.access.Place.Place, declared.access.Side.Side}
 use Rattle.flow_word.specs.{declared.access.Side.TheVariants.Push, Kinds.side_of, Kinds.other_side, Kinds.same_side, Kinds.is_blocking}
 use Rattle.flow_design.specs.{declared.plan.Edit.Edit, declared.plan.Plan.Plan, declared.state.Advance.Advance}
@@ -8,8 +8,8 @@ use Rattle.event_graph.specs.Lanes.{Lane, lane_at}
 use Rattle.fifo_table.specs.Channels.{Channel, IsFifo, channel_at, places_of, free_of, lag_of}
 use Rattle.timing_bridge.specs.Designs.{design, lockstep_run, start_in}
 use Rattle.depth_order.specs.Depths.{with_depths, AreDepths, AreDeeper, AsksNothing}
-use Rattle.engine_view.specs.{declared.engine.Engine.Engine, Held.Held, Held.held_parts}
-use Rattle.engine_report.specs.{Finished.IsFinished, Standings.end_at, Standings.gap_of_end}
+use Rattle.engine_view.specs.{declared.engine.Engine.Engine, Engines.held_in, Held.Held}
+use Rattle.engine_report.specs.{Finished.HoldsEnd, Standings.end_at, Standings.gap_of_end}
 use Rattle.path_check.specs.Paths.{IsAfter}
 
 -- ---- the depths
@@ -19,13 +19,9 @@ abbrev pub depths_with : List ℕ → Option Edit → List ℕ
 depths_with depths None = depths
 depths_with depths (Some edit) = slice_set depths edit.channel edit.depth
 
--- what an engine holds, with these end marks
-abbrev pub held_with : Engine → List (Option Advance) → Held
-held_with engine ends = held_parts engine.graph.lanes engine.fifos.channels engine.log.logs (map is_some ends)
-
--- the held run is the end of the plan's run, the plan asks nothing, and the depths fit its FIFOs and are no greater than their own
-pub record IsTried (p : Plan) (h : Held) (ends : List (Option Advance)) (depths : List ℕ) : Type 0 where
-  pub finished : IsFinished p h ends
+-- the engine holds the end of the plan's run, the plan asks nothing, and the depths fit its FIFOs and are no greater than their own
+pub record IsTried (p : Plan) (engine : Engine) (depths : List ℕ) : Type 0 where
+  pub finished : HoldsEnd p engine
   pub quiet : AsksNothing p
   pub fit : AreDepths p depths
   pub lower : AreDeeper p depths p.depths
@@ -91,8 +87,8 @@ pub record IsAlong (engine : Engine) (depths : List ℕ) (path : List Place) (n 
   pub within : n ≤ length path
   pub first : IsTimedAt engine.graph.lanes (nth_place path 0)
   pub last : IsTimedAt engine.graph.lanes (nth_place path (n - 1))
-  pub along : (p : Plan) (ends : List (Option Advance)) → IsTried p (held_with engine ends) ends depths
-      → ComesAfter p (held_with engine ends) depths (nth_place path 0) (nth_place path (n - 1)) clocks
+  pub along : (p : Plan) → IsTried p engine depths
+      → ComesAfter p (held_in engine) depths (nth_place path 0) (nth_place path (n - 1)) clocks
 
 -- how many clocks after a step its module still moves, up to its end; 0 where the module has a next step
 abbrev pub moves_behind : List Lane → List (Option Advance) → Place → ℕ

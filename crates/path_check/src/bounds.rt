@@ -3,15 +3,15 @@ ghost use Rattle.std.specs.Prelude.{◌≡◌, ◌<◌, ◌≤◌, true, length,
 ghost use Rattle.flow_design.specs.{declared.plan.Plan.Plan, Plans.is_fifo, Plans.kind_at};
 ghost use Rattle.time_engine.specs.Conditions.{HasAccesses};
 ghost use Rattle.depth_order.specs.Depths.{AsksNothing};
-ghost use Rattle.engine_report.specs.Finished.{IsFinished};
-ghost use Rattle.path_check.specs.{Late.IsLateBelow, Waits.held_with};
+ghost use Rattle.engine_report.specs.Finished.{HoldsEnd};
+ghost use Rattle.path_check.specs.Late.{IsLateBelow};
 
 use crate::events::is_timed;
 use crate::latest::Latest;
 use crate::paths::ends_after;
 use crate::trails::find_trail;
 use engine_view::Engine;
-use flow_design::{Advance, Edit};
+use flow_design::Edit;
 use flow_word::{OutOfMemory, Place, Side};
 use std::alloc::Global;
 
@@ -31,13 +31,12 @@ pub struct Target {
 pub fn late_depth(
     alloc: Global,
     engine: &Engine,
-    ends: &[Option<Advance>],
     depths: &[u64],
     latest: &Latest,
     target: &Target,
 ) -> Result<u64, OutOfMemory>
     requires { HasAccesses engine.now.graph.lanes engine.now.fifos.channels }
-    ensures { IfOk result (λ depth. (p : Plan) → IsFinished p (held_with engine.now ends.now) ends.now → AsksNothing p
+    ensures { IfOk result (λ depth. (p : Plan) → HoldsEnd p engine.now → AsksNothing p
         → depths.now ≡ p.depths → is_fifo (kind_at p target.now.channel) ≡ true
         → IsLateBelow p target.now.clock target.now.channel depth) }
 {
@@ -55,8 +54,8 @@ pub fn late_depth(
         channel,
         depth: few.depth,
     };
-    let path = find_trail(alloc, engine, ends, clock, latest, &few)?;
-    if ends_after(engine, ends, depths, Some(edit), path.as_slice(), clock) {
+    let path = find_trail(alloc, engine, clock, latest, &few)?;
+    if ends_after(engine, depths, Some(edit), path.as_slice(), clock) {
         return Ok(few.depth + 1);
     }
     Ok(1)

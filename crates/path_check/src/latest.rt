@@ -97,17 +97,12 @@ fn put(items: &mut [u64], number: u64, item: u64) {
 ///
 /// The search goes backwards over the modules in turn, over each as far as what comes after its steps is found, and takes memory
 /// for one number per step. `OutOfMemory` where memory ran out.
-pub fn find_latest(
-    alloc: Global,
-    engine: &Engine,
-    ends: &[Option<Advance>],
-    clock: u64,
-) -> Result<Latest, OutOfMemory>
+pub fn find_latest(alloc: Global, engine: &Engine, clock: u64) -> Result<Latest, OutOfMemory>
     requires { HasAccesses engine.now.graph.lanes engine.now.fifos.channels }
 {
     let mut latest = Latest::new(alloc, engine)?;
     for _ in 0..u64::MAX {
-        if !go_back(engine, ends, clock, &mut latest) {
+        if !go_back(engine, clock, &mut latest) {
             break;
         }
     }
@@ -115,14 +110,14 @@ pub fn find_latest(
 }
 
 /// One round over the modules, from the last to the first. Returns whether it found a clock.
-fn go_back(engine: &Engine, ends: &[Option<Advance>], clock: u64, latest: &mut Latest) -> bool
+fn go_back(engine: &Engine, clock: u64, latest: &mut Latest) -> bool
     requires { HasAccesses engine.now.graph.lanes engine.now.fifos.channels }
 {
     let mut found = false;
     let modules = engine.graph.modules();
     for behind in 0..modules {
         let owner = modules - 1 - behind;
-        if find_lane(engine, ends, clock, owner, latest) {
+        if find_lane(engine, clock, owner, latest) {
             found = true;
         }
     }
@@ -131,13 +126,7 @@ fn go_back(engine: &Engine, ends: &[Option<Advance>], clock: u64, latest: &mut L
 
 /// Finds the latest clocks of a module's last steps without one, as far as what comes after them is found. Returns whether it found
 /// one.
-fn find_lane(
-    engine: &Engine,
-    ends: &[Option<Advance>],
-    clock: u64,
-    owner: u32,
-    latest: &mut Latest,
-) -> bool
+fn find_lane(engine: &Engine, clock: u64, owner: u32, latest: &mut Latest) -> bool
     requires { HasAccesses engine.now.graph.lanes engine.now.fifos.channels }
 {
     let all = latest.left(owner);
@@ -146,7 +135,7 @@ fn find_lane(
             module: owner,
             step: all - behind - 1,
         };
-        match latest_of(engine, ends, clock, latest, place) {
+        match latest_of(engine, clock, latest, place) {
             Some(successor) => latest.set(place, successor.latest),
             None => return 0 < behind,
         }
@@ -158,7 +147,6 @@ fn find_lane(
 /// clock of one of these is not found yet.
 pub(crate) fn latest_of(
     engine: &Engine,
-    ends: &[Option<Advance>],
     clock: u64,
     latest: &Latest,
     place: Place,
@@ -168,7 +156,7 @@ pub(crate) fn latest_of(
     if !has_step(engine, place) {
         return None;
     }
-    let next = after_step(engine, ends, clock, latest, place)?;
+    let next = after_step(engine, clock, latest, place)?;
     let step = engine.graph.step(place);
     let waiting = first_waiting(engine, latest, step.accesses.as_slice())?;
     if waiting.latest < next.latest {
@@ -186,13 +174,7 @@ fn has_step(engine: &Engine, place: Place) -> bool
 
 /// What comes after a step in its own module, the next step or the end, and the latest clock that follows. `None` where the clock
 /// of the next step is not found yet.
-fn after_step(
-    engine: &Engine,
-    ends: &[Option<Advance>],
-    clock: u64,
-    latest: &Latest,
-    place: Place,
-) -> Option<Successor>
+fn after_step(engine: &Engine, clock: u64, latest: &Latest, place: Place) -> Option<Successor>
     requires { HasStep engine.now.graph.lanes place }
 {
     if 1 < engine.graph.len(place.module).saturating_sub(place.step) {
@@ -203,7 +185,7 @@ fn after_step(
         let gap = engine.graph.step(next).gap;
         return found_at(latest, next, gap);
     }
-    let gap = match ends.get(place.module as usize) {
+    let gap = match engine.ends.get(place.module as usize) {
         Some(Some(Advance::Ended(gap))) => *gap,
         Some(_) | None => 0,
     };

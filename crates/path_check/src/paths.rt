@@ -1,11 +1,11 @@
 //! What a path of steps shows of the end of a plan.
-ghost use Rattle.std.specs.Prelude.{◌≡◌, ◌≢◌, ℕ, ◌<◌, true, length, Option, IfSome, List as Items};
-ghost use Rattle.flow_design.specs.{declared.plan.Plan.Plan, declared.report.Verdict.TheVariants.Done, declared.state.Advance.Advance};
+ghost use Rattle.std.specs.Prelude.{◌≡◌, ◌≢◌, ℕ, ◌<◌, true, length, IfSome};
+ghost use Rattle.flow_design.specs.{declared.plan.Plan.Plan, declared.report.Verdict.TheVariants.Done};
 ghost use Rattle.lockstep_defs.specs.Verdict.{verdict};
 ghost use Rattle.depth_order.specs.Depths.{with_depths};
 ghost use Rattle.time_engine.specs.Conditions.{HasAccesses};
 ghost use Rattle.engine_report.specs.Standings.{gap_of_end};
-ghost use Rattle.path_check.specs.Waits.{IsTried, held_with, depths_with, IsTimedAt, IsAlong, cycle_at, nth_place, moves_behind};
+ghost use Rattle.path_check.specs.Waits.{IsTried, depths_with, IsTimedAt, IsAlong, cycle_at, nth_place, moves_behind};
 
 use crate::waits::{clocks_between, is_timed};
 use engine_view::Engine;
@@ -20,20 +20,19 @@ use flow_word::Place;
 /// is a query. The check looks at the accesses of each step once, and takes no memory.
 pub fn ends_after(
     engine: &Engine,
-    ends: &[Option<Advance>],
     depths: &[u64],
     edit: Option<Edit>,
     path: &[Place],
     clock: u64,
 ) -> bool
     requires { HasAccesses engine.now.graph.lanes engine.now.fifos.channels }
-    ensures { result ≡ true → (p : Plan) → IsTried p (held_with engine.now ends.now) ends.now (depths_with depths.now edit)
+    ensures { result ≡ true → (p : Plan) → IsTried p engine.now (depths_with depths.now edit)
         → (end : ℕ) → verdict (with_depths p (depths_with depths.now edit)) ≡ Done end → clock < end }
 {
     match clocks_along(engine, depths, edit, path) {
         Some(clocks) => {
             let first = cycle_of(engine, nth_place(path, 0));
-            let behind = clocks_behind(engine, ends, nth_place(path, path.len() - 1));
+            let behind = clocks_behind(engine, nth_place(path, path.len() - 1));
             clock <= first.saturating_add(clocks).saturating_add(behind)
         }
         None => false,
@@ -47,8 +46,7 @@ pub fn ends_after(
 /// is a query. The check looks at the accesses of each step once, and takes no memory.
 pub fn never_ends(engine: &Engine, depths: &[u64], edit: Option<Edit>, path: &[Place]) -> bool
     requires { HasAccesses engine.now.graph.lanes engine.now.fifos.channels }
-    ensures { result ≡ true → (p : Plan) (ends : Items (Option Advance))
-        → IsTried p (held_with engine.now ends) ends (depths_with depths.now edit)
+    ensures { result ≡ true → (p : Plan) → IsTried p engine.now (depths_with depths.now edit)
         → (end : ℕ) → verdict (with_depths p (depths_with depths.now edit)) ≢ Done end }
 {
     match clocks_along(engine, depths, edit, path) {
@@ -107,14 +105,14 @@ fn cycle_of(engine: &Engine, place: Place) -> u64
 }
 
 /// How many clocks after a step its module still moves, up to its end; 0 where the module has a next step.
-fn clocks_behind(engine: &Engine, ends: &[Option<Advance>], last: Place) -> u64
+fn clocks_behind(engine: &Engine, last: Place) -> u64
     requires { IsTimedAt engine.now.graph.lanes last }
-    ensures { result ≡ moves_behind engine.now.graph.lanes ends.now last }
+    ensures { result ≡ moves_behind engine.now.graph.lanes engine.now.ends.items last }
 {
     if 1 < engine.graph.len(last.module).saturating_sub(last.step) {
         return 0;
     }
-    match ends.get(last.module as usize) {
+    match engine.ends.get(last.module as usize) {
         Some(end) => gap_of(end).saturating_sub(1),
         None => 0,
     }

@@ -5,7 +5,6 @@ ghost use Rattle.time_engine.specs.Conditions.{HasAccesses};
 use crate::bounds::TooFew;
 use crate::latest::{Latest, latest_of};
 use engine_view::Engine;
-use flow_design::Advance;
 use flow_word::{List, OutOfMemory, Place};
 use std::alloc::Global;
 
@@ -15,7 +14,6 @@ use std::alloc::Global;
 pub(crate) fn find_trail(
     alloc: Global,
     engine: &Engine,
-    ends: &[Option<Advance>],
     clock: u64,
     latest: &Latest,
     few: &TooFew,
@@ -26,7 +24,7 @@ pub(crate) fn find_trail(
     let mut at = few.push;
     for _ in 0..u64::MAX {
         path.push(at)?;
-        match latest_of(engine, ends, clock, latest, at) {
+        match latest_of(engine, clock, latest, at) {
             Some(after) => match after.place {
                 Some(next) => at = next,
                 None => break,

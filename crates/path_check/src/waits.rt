@@ -1,8 +1,9 @@
 //! Whether a step waits for another.
-ghost use Rattle.std.specs.Prelude.{◌≡◌, ◌<◌, true, length, slice_index, All, Option, IfSome, List as Items};
-ghost use Rattle.flow_design.specs.{declared.plan.Plan.Plan, declared.state.Advance.Advance};
+ghost use Rattle.std.specs.Prelude.{◌≡◌, ◌<◌, true, length, slice_index, All, IfSome};
+ghost use Rattle.flow_design.specs.declared.plan.Plan.{Plan};
 ghost use Rattle.time_engine.specs.Conditions.{IsAccess, HasAccesses};
-ghost use Rattle.path_check.specs.Waits.{IsTried, held_with, depths_with, free_with, WaitsFor, OneWaits, IsTimedAt, ComesLater};
+ghost use Rattle.engine_view.specs.Engines.{held_in};
+ghost use Rattle.path_check.specs.Waits.{IsTried, depths_with, free_with, WaitsFor, OneWaits, IsTimedAt, ComesLater};
 
 use engine_view::Engine;
 use flow_design::Edit;
@@ -30,9 +31,8 @@ pub(crate) fn clocks_between(
     requires accesses { HasAccesses engine.now.graph.lanes engine.now.fifos.channels }
     requires before { IsTimedAt engine.now.graph.lanes before }
     requires next { IsTimedAt engine.now.graph.lanes next }
-    ensures { IfSome result (λ clocks. (p : Plan) (ends : Items (Option Advance))
-        → IsTried p (held_with engine.now ends) ends (depths_with depths.now edit)
-        → ComesLater p (held_with engine.now ends) (depths_with depths.now edit) before next clocks) }
+    ensures { IfSome result (λ clocks. (p : Plan) → IsTried p engine.now (depths_with depths.now edit)
+        → ComesLater p (held_in engine.now) (depths_with depths.now edit) before next clocks) }
 {
     let step = engine.graph.step(next);
     if next.module == before.module && before.step < next.step && next.step - before.step == 1 {

@@ -91,7 +91,8 @@ pub polled_inside : (p : Plan) → FitsEngine p → (log : List LoggedAccess) �
     → IfSome (polled_link p log l).polled (λ q. q.channel < length p.design.channels)
 polled_inside p fits log ac l = by_poll (last_poll p log l) refl
   where
-    by_poll : (o : Option LoggedAccess) → last_poll p log l ≡ o → IfSome (link_by log l o).polled (λ q. q.channel < length p.design.channels)
+    by_poll : (o : Option LoggedAccess) → last_poll p log l ≡ o → IfSome (link_by log l o).polled (λ q. q.channel < length
+        p.design.channels)
     by_poll None e = tt
     by_poll (Some a) e = (poll_is p fits log ac l a e).told.inside
 

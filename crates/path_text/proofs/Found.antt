@@ -13,13 +13,12 @@ use Rattle.flow_design.specs.{declared.plan.Plan.Plan, StaticRules.FitsEngine}
 use Rattle.sim_core.specs.declared.access_log.LoggedAccess.{LoggedAccess}
 use Rattle.port_clocks.specs.Leads.{before}
 use Rattle.stall_text.specs.Polls.{is_of}
-use Rattle.stall_text.proofs.Accesses.{on, log_inside}
+use Rattle.stall_text.proofs.Accesses.{log_inside}
 use Rattle.depth_order.specs.declared.link.Link.{Link}
 use Rattle.path_text.specs.{declared.finds.Find.Find, declared.finds.LastMissed.LastMissed, declared.link.PolledLink.PolledLink}
 use Rattle.path_text.specs.Polls.{AreAccesses, access_clock, ends_poll, from_query, front_pushed, if_some, is_hit, last_poll, latest_one}
 use Rattle.path_text.specs.Polls.{link_by, missed_before, passing_clocks, polled_link, seeks}
-use Rattle.path_text.specs.Finds.{AreFinds, AreChronological, AreMissed, by_find, find_clock, found_by, lies_in, last_missed, missed_of}
-use Rattle.path_text.specs.Finds.{unmissed}
+use Rattle.path_text.specs.Finds.{AreFinds, AreMissed, by_find, find_clock, found_by, lies_in, last_missed, missed_of, unmissed}
 use Rattle.path_text.proofs.{Logged.IsTold, Logged.Orderly, Logged.log_orderly, Fronts.accesses_told, Fronts.clocks_rise, Fronts.front_is}
 use Rattle.path_text.proofs.{Fronts.hit_parts, Missed.UpTo, Missed.is_from, Missed.last_bounded, Missed.missed_is}
 use Rattle.path_text.proofs.Latest.{all_filter, in_turn, mapped, of_all, InTurn}
@@ -123,7 +122,8 @@ one_find l true (Some v) a e = by_test (within_by (is_of l.«module» a) l.first
     by_test true = refl
     by_test false = refl
 
-module _ (p : Plan) (fits : FitsEngine p) (log : List LoggedAccess) (ac : AreAccesses p log) (k : ℕ) (d : LoggedAccess) (l : k < length log) where
+module _ (p : Plan) (fits : FitsEngine p) (log : List LoggedAccess) (ac : AreAccesses p log) (k : ℕ) (d : LoggedAccess) (l : k < length
+    log) where
   abbrev a : LoggedAccess
   a = get_or log k d
 
@@ -185,11 +185,13 @@ module _ (p : Plan) (fits : FitsEngine p) (log : List LoggedAccess) (ac : AreAcc
   kept_rises true (Some v) e = (tt, tt)
 
   before_all : (finds more : List Find) → AllByRecursion (λ f. find_clock f ≤ a.event.cycle) finds
-      → AllByRecursion (λ g. a.event.cycle ≤ find_clock g) more → AllByRecursion (λ f. AllByRecursion (λ g. find_clock f ≤ find_clock g) more) finds
+      → AllByRecursion (λ g. a.event.cycle ≤ find_clock g) more → AllByRecursion (λ f. AllByRecursion (λ g. find_clock f ≤ find_clock g)
+      more) finds
   before_all [] more h m = tt
   before_all (f ∷ finds) more h m = (each more m, before_all finds more h.1 m)
     where
-      each : (more : List Find) → AllByRecursion (λ g. a.event.cycle ≤ find_clock g) more → AllByRecursion (λ g. find_clock f ≤ find_clock g) more
+      each : (more : List Find) → AllByRecursion (λ g. a.event.cycle ≤ find_clock g) more → AllByRecursion (λ g. find_clock f ≤ find_clock
+          g) more
       each [] m = tt
       each (g ∷ more) m = (let x = h.0 in let y = m.0 in omega arith, each more m.1)
 
@@ -248,7 +250,8 @@ finds_all p log finds k e h =
       in_order = in_turn (λ f g. f.access.event.cycle ≤ g.access.event.cycle) finds h.in_order;
       pushed = All-from_recursion (λ f. f.pushed ≡ front_pushed log f.access.event.channel f.access.event.cycle) finds h.pushed;
       each = λ l. h.each l
-          ∙ ap (λ (xs : List LoggedAccess). filter (ends_poll p (filter (is_of l.«module») log) l.first l.last) (filter (is_of l.«module») xs)) all;
+          ∙ ap (λ (xs : List LoggedAccess). filter (ends_poll p (filter (is_of l.«module») log) l.first l.last) (filter (is_of l.«module»)
+          xs)) all;
     }
 
 -- ---- the link that a walk takes

@@ -53,8 +53,10 @@ movers : (p : Plan) (port : Port) (log : List LoggedAccess) → AllByRecursion (
 movers p port [] h = tt
 movers p port (a ∷ log) h = by_test (moved_at port a) refl (movers p port log h.1)
   where
-    by_test : (b : Bool) → moved_at port a ≡ b → AllByRecursion (λ c. moves_at p c (owner p port) ≡ true) (access_clocks (filter (moved_at port) log))
-        → AllByRecursion (λ c. moves_at p c (owner p port) ≡ true) (access_clocks (cond b (a ∷ filter (moved_at port) log) (filter (moved_at port) log)))
+    by_test : (b : Bool) → moved_at port a ≡ b → AllByRecursion (λ c. moves_at p c (owner p port) ≡ true) (access_clocks (filter (moved_at
+        port) log))
+        → AllByRecursion (λ c. moves_at p c (owner p port) ≡ true) (access_clocks (cond b (a ∷ filter (moved_at port) log) (filter
+        (moved_at port) log)))
     by_test true e rest =
         (subst (λ (m : ℕ). moves_at p a.event.cycle m ≡ true) (moved_owner p port a (h.0).owned e) (h.0).moves, rest)
     by_test false e rest = rest
@@ -83,7 +85,8 @@ empty_here : (p : Plan) → FitsEngine p → (f : ℕ) → f < length p.design.c
     → is_empty c (contents_of (state p c).contents f)
     ≡ not (is_ahead 1 (shifted (delay_at p f - 1) (passing_clocks (log_of p) Push f)) (passing_clocks (log_of p) Pop f) c)
 empty_here p fits f l fifo c m =
-    empty_is p fits f l fifo (passing_clocks (log_of p) Pop f) (passing_clocks (log_of p) Push f) (told_clocks p Pop f) (told_clocks p Push f) c m
+    empty_is p fits f l fifo (passing_clocks (log_of p) Pop f) (passing_clocks (log_of p) Push f) (told_clocks p Pop f) (told_clocks p
+    Push f) c m
 
 front_here : (p : Plan) → FitsEngine p → (a : LoggedAccess) → IsTold p a → IsHit p a → IsFront p (log_of p) a.event.channel a.event.cycle
 front_here p fits a told hit =

@@ -15,7 +15,8 @@ module _ {X : Type 0} (clock : X → ℕ) where
   sooner x (Some y) h = rw (lt-ltb (clock x) (clock y) h) refl
 
   -- items before the latest do not count
-  pub ahead : (test : X → Bool) (xs ys : List X) → AllByRecursion (λ x. test x ≡ true → IsSooner (clock x) (latest_one clock (filter test ys))) xs
+  pub ahead : (test : X → Bool) (xs ys : List X) → AllByRecursion (λ x. test x ≡ true → IsSooner (clock x) (latest_one clock (filter test
+      ys))) xs
       → latest_one clock (filter test (xs ++ ys)) ≡ latest_one clock (filter test ys)
   ahead test [] ys h = refl
   ahead test (x ∷ xs) ys h = by_test (test x) refl (ahead test xs ys h.1)

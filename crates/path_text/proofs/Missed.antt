@@ -106,7 +106,8 @@ any_none {X} P Q (x ∷ xs) h = by_test (Q x) (any_none P Q xs h.1)
     by_test true e = rw h.0 e
     by_test false e = e
 
-any_same : {X : Type 0} (P Q R : X → Bool) (xs : List X) → AllByRecursion (λ x. (Q x && P x) ≡ R x) xs → list_any P (filter Q xs) ≡ list_any R xs
+any_same : {X : Type 0} (P Q R : X → Bool) (xs : List X) → AllByRecursion (λ x. (Q x && P x) ≡ R x) xs → list_any P (filter Q xs) ≡
+    list_any R xs
 any_same P Q R [] h = refl
 any_same {X} P Q R (x ∷ xs) h = by_test (Q x) h.0 (any_same P Q R xs h.1)
   where
@@ -207,7 +208,8 @@ same_channel kind a o = rw (eq-eqb a.event.channel a.event.channel refl) (keep (
     keep false t = refl
 
 -- what is kept of the channel of an access
-with_tryread : (b : Bool) (kind : Kind) (c : ℕ) (m : LastMissed) → (missed_by b kind c m).tryread ≡ cond (same_query TryRead kind && b) (Some c) m.tryread
+with_tryread : (b : Bool) (kind : Kind) (c : ℕ) (m : LastMissed) → (missed_by b kind c m).tryread ≡ cond (same_query TryRead kind && b)
+    (Some c) m.tryread
 with_tryread false TryRead c m = refl
 with_tryread false Read c m = refl
 with_tryread false Write c m = refl
@@ -221,7 +223,8 @@ with_tryread true TryWrite c m = refl
 with_tryread true Empty c m = refl
 with_tryread true Full c m = refl
 
-with_empty : (b : Bool) (kind : Kind) (c : ℕ) (m : LastMissed) → (missed_by b kind c m).empty ≡ cond (same_query Empty kind && b) (Some c) m.empty
+with_empty : (b : Bool) (kind : Kind) (c : ℕ) (m : LastMissed) → (missed_by b kind c m).empty ≡ cond (same_query Empty kind && b) (Some c)
+    m.empty
 with_empty false TryRead c m = refl
 with_empty false Read c m = refl
 with_empty false Write c m = refl
@@ -239,8 +242,10 @@ pub missed_none : (channels : ℕ) (missed : List LastMissed) → missed ≡ rep
 unfolding last_missed
 missed_none channels missed e = record {
   count = ap length e ∙ length-replicate channels unmissed;
-  tryread = λ f l. ap (λ (m : LastMissed). m.tryread) (ap (λ (ms : List LastMissed). get_or ms f unmissed) e ∙ get_or-replicate channels f unmissed unmissed l);
-  empty = λ f l. ap (λ (m : LastMissed). m.empty) (ap (λ (ms : List LastMissed). get_or ms f unmissed) e ∙ get_or-replicate channels f unmissed unmissed l);
+  tryread = λ f l. ap (λ (m : LastMissed). m.tryread) (ap (λ (ms : List LastMissed). get_or ms f unmissed) e ∙ get_or-replicate channels f
+      unmissed unmissed l);
+  empty = λ f l. ap (λ (m : LastMissed). m.empty) (ap (λ (ms : List LastMissed). get_or ms f unmissed) e ∙ get_or-replicate channels f
+      unmissed unmissed l);
 }
 
 pub missed_next : (channels : ℕ) (log : List LoggedAccess) (k : ℕ) (d : LoggedAccess) (missed new : List LastMissed) → k < length log

@@ -87,5 +87,6 @@ seeks_nothing Empty e = absurd cc
 pub quiet_path : (p : Plan) → FitsEngine p → AsksNothing p → NothingPolled p (log_of p)
 quiet_path p h none =
     nothing_sought p (log_of p)
-    (all_logged p (λ c m r. is_blocking r.kind ≡ true) (λ c m. blocking (requests_of p (m, state_at p c m)) (no_queries p h none m (state_at p c m)))
+    (all_logged p (λ c m r. is_blocking r.kind ≡ true) (λ c m. blocking (requests_of p (m, state_at p c m)) (no_queries p h none m
+    (state_at p c m)))
     (λ a. seeks a.event.kind ≡ false) (λ a done. seeks_nothing a.1.request.kind done.asked))

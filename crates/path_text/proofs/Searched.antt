@@ -134,7 +134,8 @@ ahead_is finds h l n e found m is rest =
     finds (suc n) (λ k d a b. earlier k d (at_most finds h n e m k d (omega arith)))))
     ∙ ap (λ (fs : List Find). latest_one find_clock (filter (lies_in l) fs)) (take-append-drop (suc n) finds))
   where
-    by_found : (c : ℕ) → c ≤ find_clock (get_or finds n e) → (o : Option Find) → precedes (get_or finds n e) o ≡ true → IsSooner find_clock c o
+    by_found : (c : ℕ) → c ≤ find_clock (get_or finds n e) → (o : Option Find) → precedes (get_or finds n e) o ≡ true → IsSooner
+        find_clock c o
     by_found c w None t = absurd cc
     by_found c w (Some g) t =
         let less = ltb-true (find_clock (get_or finds n e)) (find_clock g) t in

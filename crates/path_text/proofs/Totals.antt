@@ -39,7 +39,8 @@ rest_sum p h m t move =
 link_sum : (p : Plan) → FitsEngine p → (m t : ℕ) → moves_at p t m ≡ true
     → (suc t - span_start p m t) + clocks_across p (stood_at p (span_start p m t) m) + left (before_link p (link_at p m t)) ≡ suc t
 link_sum p h m t move =
-    let whole = ap (λ (ls : List Link). spent ls + under_way p ls) (sym (chain_more p t m t)) ∙ adds_up p h (suc t) m t (omega arith) move in
+    let whole = ap (λ (ls : List Link). spent ls + under_way p ls) (sym (chain_more p t m t)) ∙ adds_up p h (suc t) m t (omega arith) move
+    in
     let rest = rest_sum p h m t move in
     omega arith
 

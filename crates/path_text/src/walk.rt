@@ -164,21 +164,11 @@ fn before_link(plan: &Plan, poppers: &[u32], pushers: &[u32], link: &Link) -> Op
     Some(match port.side {
         Side::Pop => At {
             module: pushers[channel],
-            clock: link.first - delay_of(plan.design.channels.as_slice()[channel].kind),
+            clock: link.first - plan.design.channels.as_slice()[channel].kind.delay(),
         },
         Side::Push => At {
             module: poppers[channel],
             clock: link.first - 1,
         },
     })
-}
-
-/// How many clocks after its push an element can be popped.
-fn delay_of(kind: ChannelKind) -> u64
-    ensures { result ≡ delay_of kind }
-{
-    match kind {
-        ChannelKind::Fifo { delay, .. } => delay,
-        ChannelKind::Source | ChannelKind::Sink => 1,
-    }
 }

@@ -65,16 +65,18 @@ all_before end xs h = by_count (length xs) (omega arith)
         let last = before_above xs h.rise n end (omega arith) early in
         omega (arith, most)
 
-module _ (end : ℕ) (xs ys : List ℕ) (h : AreClocks end xs) (k : AreClocks end ys) (same : (c : ℕ) → c ≤ end → before xs c ≡ before ys c) where
-  no_earlier : (n : ℕ) → n < length xs → n < length ys → get_or xs n 0 < get_or ys n 0 → ⊥
-  no_earlier n l m less =
-      let c = suc (get_or xs n 0) in
-      let early : get_or xs n 0 < end = h.below n 0 l in
-      let many = before_above xs h.rise n c l (omega arith) in
-      let few = before_below ys k.rise n c m less in
-      absurd (omega (arith, same c early))
+module _ (end : ℕ) (xs ys : List ℕ) (h : AreClocks end xs) (k : AreClocks end ys) (same : (c : ℕ) → c ≤ end → before xs c ≡ before ys c)
+  where
+    no_earlier : (n : ℕ) → n < length xs → n < length ys → get_or xs n 0 < get_or ys n 0 → ⊥
+    no_earlier n l m less =
+        let c = suc (get_or xs n 0) in
+        let early : get_or xs n 0 < end = h.below n 0 l in
+        let many = before_above xs h.rise n c l (omega arith) in
+        let few = before_below ys k.rise n c m less in
+        absurd (omega (arith, same c early))
 
-pub same_clocks : (end : ℕ) (xs ys : List ℕ) → AreClocks end xs → AreClocks end ys → ((c : ℕ) → c ≤ end → before xs c ≡ before ys c) → xs ≡ ys
+pub same_clocks : (end : ℕ) (xs ys : List ℕ) → AreClocks end xs → AreClocks end ys → ((c : ℕ) → c ≤ end → before xs c ≡ before ys c) → xs
+    ≡ ys
 same_clocks end xs ys h k same =
     let many : length xs ≡ length ys = sym (all_before end xs h) ∙ (same end (omega arith) ∙ all_before end ys k) in
     same_number_lists xs ys many (λ n l. elim (cases_lt (get_or xs n 0) (get_or ys n 0)) [

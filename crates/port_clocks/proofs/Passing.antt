@@ -178,7 +178,8 @@ module _ (p : Plan) (h : Held) (ends : List (Option Advance)) (f : IsFinished p 
 -- ---- as it is read off an engine
 
 module _ (p : Plan) (h : Held) (ends : List (Option Advance)) (f : IsFinished p h ends) (lanes : List Lane) (channels : List Channel)
-    (same_lanes : lanes ≡ h.lanes) (same_channels : channels ≡ h.channels) (port : Port) (inside : port.channel < length p.design.channels) where
+    (same_lanes : lanes ≡ h.lanes) (same_channels : channels ≡ h.channels) (port : Port) (inside : port.channel < length
+    p.design.channels) where
   within : port.channel < length h.channels
   within = let n = f.channels in omega arith
 
@@ -206,7 +207,8 @@ module _ (p : Plan) (h : Held) (ends : List (Option Advance)) (f : IsFinished p 
   tells_user b o = b ≡ unwrap_or (option_map (λ (m : ℕ). m == o) (first_module read_places)) false
 
   user_is : (at : Place) → slice_get read_places 0 ≡ Some at → at.module ≡ owner p port
-  user_is at there = first_own p h ends f port.side port.channel within at (ap (λ (ps : List Place). slice_get ps 0) (sym places_same) ∙ there)
+  user_is at there = first_own p h ends f port.side port.channel within at (ap (λ (ps : List Place). slice_get ps 0) (sym places_same) ∙
+      there)
 
   -- a module that uses the port is its owner
   pub user_owns : (o : ℕ) → tells_user true o → owner p port ≡ o
@@ -218,7 +220,8 @@ module _ (p : Plan) (h : Held) (ends : List (Option Advance)) (f : IsFinished p 
           (option_map (λ (q : Place). q.module) a)) false) none in cc
       by_first (Some at) there =
           sym (user_is at there) ∙ eqb-true at.module o
-          (sym (told ∙ ap (λ (a : Option Place). unwrap_or (option_map (λ (m : ℕ). m == o) (option_map (λ (q : Place). q.module) a)) false) there))
+          (sym (told ∙ ap (λ (a : Option Place). unwrap_or (option_map (λ (m : ℕ). m == o) (option_map (λ (q : Place). q.module) a))
+          false) there))
 
   -- where its owner does not use it, nothing passes it
   pub none_pass : (o : ℕ) → tells_user false o → owner p port ≡ o → ArePortClocks p port []
@@ -232,5 +235,6 @@ module _ (p : Plan) (h : Held) (ends : List (Option Advance)) (f : IsFinished p 
       by_first (Some at) there =
           let own = eq-eqb at.module o (user_is at there ∙ owned) in
           let wrong : false ≡ true = told
-          ∙ (ap (λ (a : Option Place). unwrap_or (option_map (λ (m : ℕ). m == o) (option_map (λ (q : Place). q.module) a)) false) there ∙ own) in
+          ∙ (ap (λ (a : Option Place). unwrap_or (option_map (λ (m : ℕ). m == o) (option_map (λ (q : Place). q.module) a)) false) there ∙
+          own) in
           absurd cc

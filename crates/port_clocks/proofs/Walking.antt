@@ -1,5 +1,5 @@
 -- Where a walk over the clocks of a FIFO's ports stands, as it goes on.
-use Rattle.std.proofs.Common.{◌≡◌, ◌≢◌, ℕ, zero, suc, ◌+◌, ◌-◌, ◌<◌, ◌≤◌, List, length, arith, length-append, sym, ◌∙◌, ap, subst, inl, inr}
+use Rattle.std.proofs.Common.{◌≡◌, ◌≢◌, ℕ, zero, suc, ◌+◌, ◌-◌, ◌<◌, ◌≤◌, List, length, arith, length-append, sym, ◌∙◌, ap, inl, inr}
 use Rattle.std.proofs.lemmas.Bool.{cases_lt, lt-ltb, ltb-true}
 use Rattle.flow_word.specs.{declared.access.Port.Port, declared.access.Side.Side}
 use Rattle.flow_word.specs.declared.access.Side.TheVariants.{Pop, Push}
@@ -110,7 +110,8 @@ walk_fill p fits walk w clock from until within =
     omega (arith, counted p fits walk.channel clock w.inside w.fifo)
 
 -- at the clock of the next pop or push, before that
-pub pops_stand : (p : Plan) → FitsEngine p → (walk : FifoWalk) → IsFifoWalk p walk → (clock : ℕ) → clock ≡ next_of walk → clock < last_clock p
+pub pops_stand : (p : Plan) → FitsEngine p → (walk : FifoWalk) → IsFifoWalk p walk → (clock : ℕ) → clock ≡ next_of walk → clock <
+    last_clock p
     → WalkStandsAt p (record { side = Pop; channel = walk.channel }) clock walk.pops
 pops_stand p fits walk w clock is within =
     let pop : Port = record { side = Pop; channel = walk.channel } in
@@ -119,7 +120,8 @@ pops_stand p fits walk w clock is within =
     let before_too = stands_before p fits push walk.pushes walk.clock w.pushes w.within in
     stands_still p fits pop walk.pops walk.clock clock w.pops (omega arith) (omega arith) (omega arith)
 
-pub pushes_stand : (p : Plan) → FitsEngine p → (walk : FifoWalk) → IsFifoWalk p walk → (clock : ℕ) → clock ≡ next_of walk → clock < last_clock p
+pub pushes_stand : (p : Plan) → FitsEngine p → (walk : FifoWalk) → IsFifoWalk p walk → (clock : ℕ) → clock ≡ next_of walk → clock <
+    last_clock p
     → WalkStandsAt p (record { side = Push; channel = walk.channel }) clock walk.pushes
 pushes_stand p fits walk w clock is within =
     let pop : Port = record { side = Pop; channel = walk.channel } in

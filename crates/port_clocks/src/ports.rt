@@ -16,7 +16,6 @@ pub fn clocks_at(alloc: Global, core: &FinalCore<'_>, port: Port) -> Result<Word
     requires { port.channel < length core.now.plan.design.channels }
     ensures { IfOk result (ArePortClocks core.now.plan port) }
 {
-    let _ends = core.ends();
     cycles_at(alloc, core.engine(), port)
 }
 
@@ -33,7 +32,6 @@ pub fn own_clocks(
     ensures own { lockstep.owner core.now.plan port ≡ owner → IfOk result (ArePortClocks core.now.plan port) }
     ensures other { lockstep.owner core.now.plan port ≢ owner → IfOk result (λ clocks. clocks ≡ []) }
 {
-    let _ends = core.ends();
     if !uses(core.engine(), owner, port) {
         return Ok(List::new(alloc));
     }

@@ -130,6 +130,5 @@ fn clock_of(core: &FinalCore<'_>, port: Port, number: u64) -> u64
     requires { port.channel < length core.now.plan.design.channels }
     ensures { PassesAt core.now.plan port number result }
 {
-    let _ends = core.ends();
     cycle_at(core.engine(), port, number).unwrap_or(NEVER)
 }

@@ -1,5 +1,6 @@
 //! The log of all modules.
-ghost use Rattle.std.specs.Prelude.{◌≡◌, ◌≢◌, ℕ, ◌+◌, ◌<◌, ◌≤◌, length, min, max, replicate, slice_index, All, IfOk, OnOk};
+ghost use Rattle.std.specs.Prelude.{◌≡◌, ℕ, ◌+◌, ◌<◌, ◌≤◌, length, min, max, replicate, slice_index, All, IfOk, OnOk};
+ghost use Rattle.flow_word.specs.Room.{UsesPlace};
 ghost use Rattle.query_log.specs.Logs.{no_log, log_at, outcome_of, IsSoundLog, with_outcome, with_verified};
 
 use crate::roomy::RoomyLog;
@@ -61,8 +62,7 @@ impl QueryLog {
         requires room { 0 < slice_index self.old.rooms owner }
         requires verified { (log_at self.old.logs owner).verified ≡ length (log_at self.old.logs owner).outcomes }
         ensures logs { self.new.logs ≡ with_outcome self.old.logs owner yes }
-        ensures own_room { slice_index self.old.rooms owner ≤ slice_index self.new.rooms owner + 1 }
-        ensures other_rooms { (k : ℕ) → k ≢ owner → slice_index self.old.rooms k ≤ slice_index self.new.rooms k }
+        ensures rooms { UsesPlace owner self.old.rooms self.new.rooms }
     {
         self.logs[owner as usize].add(yes);
     }

@@ -7,7 +7,7 @@ use Rattle.std.specs.Prelude.{slice_get}
 use Rattle.event_graph.specs.declared.candidate.Candidate.{Candidate}
 use Rattle.event_graph.specs.declared.candidate.Candidate.TheVariants.{At, Waits, Beyond, Nothing}
 use Rattle.query_resolve.specs.{Earliest.determined_cycle, Earliest.IsEarliest, declared.rounds.First.First}
-use Rattle.query_resolve.specs.Firsts.{first_by, ComesFirst, IsBeaten, IsWinner, at_place, IsWonAt, AreWonBut, HasWinners}
+use Rattle.query_resolve.specs.Firsts.{first_by, ComesFirst, IsBeaten, IsWinner, at_place, AreWonBut, HasWinners}
 
 trans : (a b c : First) → ComesFirst a b → ComesFirst b c → ComesFirst a c
 trans a b c (inl u) (inl v) = inl (omega arith)
@@ -110,7 +110,8 @@ module _ (candidates : List Candidate) (places : List (Option First)) (h : HasWi
         | inl first ↦ (b, (ap (at_place places) (sym first) ∙ e, inr (refl, omega arith)))
         | inr later ↦
             let (c, (there, less)) = above (omega (arith, low, later)) in
-            let (a, (top, more)) = beaten most (j / 2) (omega (arith, l, low, later)) (omega (arith, low, later)) (omega (arith, high)) c there in
+            let (a, (top, more)) = beaten most (j / 2) (omega (arith, l, low, later)) (omega (arith, low, later)) (omega (arith, high)) c
+            there in
             (a, (top, trans a c b more less))
       ]
     where

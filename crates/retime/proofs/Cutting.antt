@@ -1,5 +1,5 @@
 -- The cut from which a retiming begins is the theory's core after the edit, with room as before.
-use Rattle.std.proofs.Common.{◌≡◌, refl, sym, ap, subst, ◌∙◌, ℕ, ◌≤◌, min, inl, inr, Bool, List, [], length, map, get_or, arith}
+use Rattle.std.proofs.Common.{◌≡◌, refl, sym, ap, subst, ◌∙◌, ℕ, ◌≤◌, min, inl, inr, Bool, List, length, map, get_or, arith}
 use Rattle.std.proofs.{lemmas.Bool.cases_lt, Math.ListN.get_or-map}
 use Rattle.std.proofs.lemmas.List.{get_or_past, get_or_default, length-map}
 use Rattle.std.specs.Prelude.{All}

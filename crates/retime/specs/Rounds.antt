@@ -1,10 +1,9 @@
 -- Rounds over the modules, in which steps get their cycles and queries their answers.
-use Rattle.std.specs.{Prelude.ℕ, Prelude.List, Prelude.[], Prelude.◌∷◌, Prelude.length, Prelude.map, List.sum_by}
+use Rattle.std.specs.{Prelude.ℕ, Prelude.List, Prelude.length, Prelude.map, List.sum_by}
 use Rattle.flow_word.specs.declared.access.Step.{Step}
 use Rattle.event_graph.specs.Lanes.{Lane}
 use Rattle.outcome_guard.specs.{declared.guard.Guard.Guard, declared.guard.Guard.TheVariants.Same, declared.guard.Guard.TheVariants.Differs}
 use Rattle.event_timing.specs.{Machines.Design, Core.Core, Actions.Action, Actions.ActsAll, Actions.AreTimings}
-use Rattle.event_timing.specs.Actions.Action.{Run, Assign, Answer, Earliest}
 use Rattle.engine_view.specs.{Held.Held, Held.core_of, declared.engine.Engine.Engine, Engines.held_in, Kept.IsKept}
 use Rattle.engine_view.specs.Turns.{IsDifferent, IsIdle, OfEach}
 

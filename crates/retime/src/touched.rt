@@ -28,8 +28,7 @@ pub fn first_touched(graph: &Graph, fifos: &FifoTable, edit: &Edit) -> Option<u6
         return None;
     }
     let full = edit.depth.min(stands);
-    // This brings in what a graph always keeps: its lanes are sound.
-    let _modules = graph.modules();
+    graph.stays_sound();
     for before in full - 1..fifos.pushes(edit.channel) {
         // The cycle of the push that comes after `before` others. The pop of its element waits for it.
         let Some(push) = event_cycle(graph, fifos, edit.channel, Side::Pop, before + 1) else {

@@ -41,15 +41,15 @@ use Rattle.timing_bridge.specs.Entries.{bearer}
 use Rattle.turn_lock.proofs.pass.TurnLock.TheSendSync as lock
 use Rattle.turn_lock.proofs.pass.Pass.TheSendSync as pass
 use Rattle.sim_hub.specs.Ledgers.{entries_under}
-use Rattle.sim_hub.specs.contracts.kept.Books as books
-use Rattle.sim_hub.specs.contracts.ledger.Ledger as ledger
+use Rattle.sim_hub.specs.contracts.kept.BoxedLedger as locked
+use Rattle.sim_hub.specs.contracts.ledger.HubLedger as ledger
 use Rattle.sim_hub.specs.contracts.hub.Hub as hub
 use Rattle.sim_hub.specs.contracts.pass.Place as place
 use Rattle.sim_hub.specs.contracts.pass.ModulePass as module_pass
 use Rattle.crossbeam_utils.proofs.sync.parker.RuledParker.TheSendSync as parker
 use Rattle.run_threads.proofs.drive.End.TheSendSync as end
 use Rattle.run_threads.specs.contracts.drive.Answered as answered
-use Rattle.run_threads.specs.contracts.drive.Seat as seat
+use Rattle.run_threads.specs.contracts.drive.Driver as driver
 
 module_field : IsSend (unit.the_field).row
 module_field =
@@ -157,16 +157,16 @@ ledger_field =
 ledger_send : IsSend ledger.the_row
 ledger_send = recorded_send (ledger.the_field).row _ _ (ledger.the_type).to_one ledger_field
 
-books_field : IsSend (books.the_field).row
-books_field = struct_send (shape books.the_type) ((search (ledger_send, crosses, sendable) depth 30 fits 5000), tt)
+locked_field : IsSend (locked.the_field).row
+locked_field = struct_send (shape locked.the_type) ((search (ledger_send, crosses, sendable) depth 30 fits 5000), tt)
 
-books_send : IsSend books.the_row
-books_send = recorded_send (books.the_field).row _ _ (books.the_type).to_one books_field
+locked_send : IsSend locked.the_row
+locked_send = recorded_send (locked.the_field).row _ _ (locked.the_type).to_one locked_field
 
 hub_field : IsSync (hub.the_field).row
 hub_field =
     struct_sync (shape hub.the_type)
-    (lock.the_field_sync books.the_row entry.the_row (record { history = entries_under; bearer = bearer }) books_send, tt)
+    (lock.the_field_sync locked.the_row entry.the_row (record { history = entries_under; bearer = bearer }) locked_send, tt)
 
 pub hub_sync : IsSync hub.the_row
 hub_sync = recorded_sync (hub.the_field).row _ _ (hub.the_type).to_one hub_field
@@ -174,7 +174,7 @@ hub_sync = recorded_sync (hub.the_field).row _ _ (hub.the_type).to_one hub_field
 place_field : IsSend (place.the_field).row
 place_field =
     struct_send (shape place.the_type) (
-      pass.the_field_send books.the_row entry.the_row (record { history = entries_under; bearer = bearer }) books_send,
+      pass.the_field_send locked.the_row entry.the_row (record { history = entries_under; bearer = bearer }) locked_send,
       (plain_send _ _ _ _ _, tt),
     )
 
@@ -187,9 +187,9 @@ answered_field = struct_send (shape answered.the_type) (module_pass_field, (end.
 pub answered_send : IsSend answered.the_row
 answered_send = recorded_send (answered.the_field).row _ _ (answered.the_type).to_one answered_field
 
-seat_field : IsSend (seat.the_field).row
-seat_field = struct_send (shape seat.the_type)
+driver_field : IsSend (driver.the_field).row
+driver_field = struct_send (shape driver.the_type)
     (module_pass_field, ((search (parker.the_field_send, crosses, sendable) depth 60 fits 20000), tt))
 
-pub seat_send : IsSend seat.the_row
-seat_send = recorded_send (seat.the_field).row _ _ (seat.the_type).to_one seat_field
+pub driver_send : IsSend driver.the_row
+driver_send = recorded_send (driver.the_field).row _ _ (driver.the_type).to_one driver_field

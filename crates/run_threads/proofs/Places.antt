@@ -5,7 +5,7 @@ use Rattle.sim_hub.specs.{declared.hub.Hub.Hub, declared.pass.ModulePass.ModuleP
 use Rattle.sim_hub.specs.Hubs.{hub_id, module_of, module_view, perf_view}
 use Rattle.sim_hub.specs.Closings.{AreNew, AreOfHub, AllHome, HasEachModule}
 use Rattle.sim_hub.proofs.{Lists.there, Openings.new_home}
-use Rattle.run_threads.specs.{declared.drive.Seat.Seat, Driving.IsHere, Slots.AreHere, Slots.passes_in}
+use Rattle.run_threads.specs.{declared.drive.Driver.Driver, Driving.IsHere, Slots.AreHere, Slots.passes_in}
 
 pub home_at : (h : Hub) (k : ℕ) (p : ModulePass) → IsHere h k p → HasNoDeskOut (module_of p) (module_view p)
 home_at h k p is = subst (λ n. HasNoDeskOut n (module_view p)) (sym is.1) is.2
@@ -29,7 +29,7 @@ here_each h perf passes made here m inside =
     let (p, at) = there passes m (omega arith) in
     (m, p, at, (here m p at).1)
 
--- the pass of the seat behind these
-pub seat_here : (ys : List Seat) (s : Seat) (rest : List Seat) → slice_get (passes_in (ys ++ s ∷ rest)) (length ys) ≡ Some s.pass
-seat_here [] s rest = refl
-seat_here (y ∷ ys) s rest = seat_here ys s rest
+-- the pass of the driver behind these
+pub driver_here : (ys : List Driver) (s : Driver) (rest : List Driver) → slice_get (passes_in (ys ++ s ∷ rest)) (length ys) ≡ Some s.pass
+driver_here [] s rest = refl
+driver_here (y ∷ ys) s rest = driver_here ys s rest

@@ -1,4 +1,4 @@
 pub mod Driving
 pub mod Slots
 pub mod Leading
-pub mod Lights
+pub mod Threadless

@@ -1,16 +1,16 @@
 -- Where the passes of the modules are.
 use Rattle.std.specs.Prelude.{◌≡◌, ◌≤◌, ℕ, List, [], map, Some, slice_get, vec_capacity}
 use Rattle.sim_hub.specs.{declared.hub.Hub.Hub, declared.pass.ModulePass.ModulePass}
-use Rattle.run_threads.specs.{Driving.IsHere, declared.drive.Seat.Seat, declared.room.Room.Room, declared.start.Slot.Slot}
+use Rattle.run_threads.specs.{Driving.IsHere, declared.drive.Driver.Driver, declared.room.Room.Room, declared.start.Slot.Slot}
 use Rattle.run_threads.specs.declared.start.Slot.TheVariants as slot
 
 -- these are the passes of this hub's modules, in order, with no desk out
 abbrev pub AreHere : Hub → List ModulePass → Type 0
 AreHere hub passes = (k : ℕ) (p : ModulePass) → slice_get passes k ≡ Some p → IsHere hub k p
 
--- the passes of the seats, in order
-abbrev pub passes_in : List Seat → List ModulePass
-passes_in seats = map (λ (s : Seat). s.pass) seats
+-- the passes of the drivers, in order
+abbrev pub passes_in : List Driver → List ModulePass
+passes_in drivers = map (λ (s : Driver). s.pass) drivers
 
 -- module m's pass is here, with no desk out, or comes back from its thread so
 abbrev pub SlotIs : Hub → ℕ → Slot → Type 0

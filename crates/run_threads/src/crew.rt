@@ -1,5 +1,5 @@
 //! What modules are driven with.
-use crate::bells::Bells;
+use crate::wakers::Wakers;
 use sim_hub::Hub;
 use std::alloc::Global;
 
@@ -10,5 +10,5 @@ pub struct Crew<'e, G, R> {
     pub alloc: Global,
     pub hub: &'e Hub,
     pub gate: &'e G,
-    pub bells: &'e Bells,
+    pub wakers: &'e Wakers,
 }

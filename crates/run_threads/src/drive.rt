@@ -3,24 +3,24 @@ ghost use Rattle.std.specs.Prelude.{◌≡◌};
 ghost use Rattle.sim_hub.specs.{Places.HasNoDeskOut, Hubs.IsOfHub, Hubs.module_of, Hubs.module_view};
 ghost use Rattle.run_threads.specs.Driving.{WentIs, EndIs};
 
-use crate::bells::Bells;
 use crate::concern::{Concern, News, concern_behind};
 use crate::gate::Gate;
+use crate::wakers::Wakers;
 use crossbeam_utils::sync::Parker;
 use sim_hub::{Desk, Hub, ModulePass};
 use std::alloc::Global;
 use std::sync::Wait;
 
-/// A burst with fewer operations is light: it takes less time than waking a thread.
-const LIGHT_OPERATIONS: u64 = 1_000;
+/// A burst with fewer operations is short: it takes less time than waking a thread.
+const SHORT_BURST: u64 = 1_000;
 
-/// How many light bursts in a row, each after a wait, a thread makes before it hands its module over to the caller.
-const LIGHT_BURSTS: u64 = 3;
+/// How many short bursts in a row, each after a wait, a thread makes before it hands its module over to the caller.
+const SHORT_BURSTS: u64 = 3;
 
-/// How many light bursts in a row, each after a wait, a thread has made once it has made one more burst, which had `operations`
+/// How many short bursts in a row, each after a wait, a thread has made once it has made one more burst, which had `operations`
 /// operations.
-fn light_bursts(before: u64, waited: bool, operations: u64) -> u64 {
-    if waited && operations < LIGHT_OPERATIONS {
+fn short_bursts(before: u64, waited: bool, operations: u64) -> u64 {
+    if waited && operations < SHORT_BURST {
         before.saturating_add(1)
     } else {
         0
@@ -60,7 +60,7 @@ pub struct Answered {
 
 /// A module's pass, and the parker on which its thread sleeps.
 #[derive(Drop)]
-pub struct Seat {
+pub struct Driver {
     pub pass: ModulePass,
     pub parker: Parker,
 }
@@ -96,47 +96,47 @@ pub fn drive_once<G: Gate, R: Wait>(
     }
 }
 
-/// Drives a module in a thread of its own, until all is over. If its bursts turn out to be light, the thread ends, and the caller
+/// Drives a module in a thread of its own, until all is over. If its bursts turn out to be short, the thread ends, and the caller
 /// drives the module from then on.
 pub fn drive<G: Gate, R: Wait>(
     rt: &R,
     alloc: Global,
     hub: &Hub,
     gate: &G,
-    bells: &Bells,
-    seat: Seat,
+    wakers: &Wakers,
+    driver: Driver,
 ) -> Answered
-    requires own { IsOfHub hub.now seat.pass }
-    requires home { HasNoDeskOut (module_of seat.pass) (module_view seat.pass) }
-    ensures own { IsOfHub hub.now result.pass × (module_of result.pass ≡ module_of seat.pass) }
-    ensures home { HasNoDeskOut (module_of seat.pass) (module_view result.pass) }
+    requires own { IsOfHub hub.now driver.pass }
+    requires home { HasNoDeskOut (module_of driver.pass) (module_view driver.pass) }
+    ensures own { IsOfHub hub.now result.pass × (module_of result.pass ≡ module_of driver.pass) }
+    ensures home { HasNoDeskOut (module_of driver.pass) (module_view result.pass) }
     ensures end { EndIs (module_view result.pass) result.end }
 {
-    let Seat { pass, parker } = seat;
+    let Driver { pass, parker } = driver;
     let which = pass.which();
-    if bells.is_forbidden(which) {
+    if wakers.is_forbidden(which) {
         return undriven(pass);
     }
     let mut pass = pass;
     let mut waited = false;
-    let mut light = 0u64;
+    let mut short = 0u64;
     for _ in rt.forever() {
-        bells.clear(which);
+        wakers.clear(which);
         let (next, went) = drive_once(rt, alloc, hub, gate, pass);
         match went {
             Went::Ran(concern, operations) => {
-                bells.want(which, concern);
-                bells.tell_readers(which);
-                light = light_bursts(light, waited, operations);
-                if light >= LIGHT_BURSTS {
-                    return handed_over(bells, next);
+                wakers.want(which, concern);
+                wakers.tell_readers(which);
+                short = short_bursts(short, waited, operations);
+                if short >= SHORT_BURSTS {
+                    return handed_over(wakers, next);
                 }
-                bells.tell_caller(News::Returned);
-                waited = bells.wait(rt, &parker, which);
+                wakers.tell_caller(News::Returned);
+                waited = wakers.wait(rt, &parker, which);
             }
-            Went::Held => waited = bells.wait(rt, &parker, which),
-            Went::Over => return ended(bells, next, End::Over),
-            Went::Short => return ended(bells, next, End::Short),
+            Went::Held => waited = wakers.wait(rt, &parker, which),
+            Went::Over => return ended(wakers, next, End::Over),
+            Went::Short => return ended(wakers, next, End::Short),
         }
         pass = next;
     }
@@ -154,17 +154,17 @@ fn undriven(pass: ModulePass) -> Answered
 }
 
 /// Hands a module over to the caller, and tells the caller.
-fn handed_over(bells: &Bells, pass: ModulePass) -> Answered
+fn handed_over(wakers: &Wakers, pass: ModulePass) -> Answered
     ensures { (result.pass ≡ pass) × (result.end ≡ End.Undriven) }
 {
-    bells.hand_over(pass.which());
+    wakers.hand_over(pass.which());
     undriven(pass)
 }
 
 /// Gives back the pass of a module for which all is over, and tells the caller, who tells the other threads.
-fn ended(bells: &Bells, pass: ModulePass, end: End) -> Answered
+fn ended(wakers: &Wakers, pass: ModulePass, end: End) -> Answered
     ensures { (result.pass ≡ pass) × (result.end ≡ end) }
 {
-    bells.tell_caller(News::Over);
+    wakers.tell_caller(News::Over);
     Answered { pass, end }
 }

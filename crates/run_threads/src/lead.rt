@@ -3,12 +3,12 @@ ghost use Rattle.std.specs.Prelude.{◌≡◌, ◌≤◌, [], length, vec_capaci
 ghost use Rattle.sim_hub.specs.Hubs.{IsOverAt, IsPerfOf, perf_view};
 ghost use Rattle.run_threads.specs.{Driving.IsHere, Leading.HasMoreTurns, Slots.SlotIs, Slots.AreSlots, Slots.AreHere};
 
-use crate::bells::Bells;
 use crate::concern::News;
 use crate::crew::Crew;
 use crate::drive::{Went, drive_once};
 use crate::gate::Gate;
 use crate::start::Slot;
+use crate::wakers::Wakers;
 use crossbeam_utils::sync::Parker;
 use module_sets::ModuleSet;
 use sim_hub::{Hub, ModulePass, PerfAnswer, PerfPass};
@@ -31,12 +31,12 @@ fn try_one<G: Gate, R: Threads + Wait>(
 {
     let pass = take_one(crew.rt, crew.hub, slot, which);
     let owner = pass.which();
-    crew.bells.clear(owner);
+    crew.wakers.clear(owner);
     let (pass, went) = drive_once(crew.rt, crew.alloc, crew.hub, crew.gate, pass);
     match went {
         Went::Ran(concern, _) => {
-            crew.bells.want(owner, concern);
-            crew.bells.tell_readers(owner);
+            crew.wakers.want(owner, concern);
+            crew.wakers.tell_readers(owner);
             (Slot::Here(pass), true)
         }
         Went::Held | Went::Over | Went::Short => (Slot::Here(pass), false),
@@ -54,13 +54,13 @@ fn try_all<G: Gate, R: Threads + Wait>(
 {
     let mut slots = slots;
     let mut any = false;
-    crew.bells.take_notes(noted);
+    crew.wakers.take_notes(noted);
     for _ in 0..slots.len() {
         let Some(first) = take_first(noted) else {
             return (slots, any);
         };
         let which = first as usize;
-        if which < slots.len() && crew.bells.calls(which) {
+        if which < slots.len() && crew.wakers.is_due(which) {
             let slot = mem::replace(&mut slots[which], Slot::Gone);
             let (back, ran) = try_one(crew, which, slot);
             slots[which] = back;
@@ -93,11 +93,11 @@ fn try_rounds<G: Gate, R: Threads + Wait>(
     (slots, ran)
 }
 
-/// Rings the bells of the modules in the set, and empties it: after the last turn a Run of them is permitted.
-fn tell_ready(bells: &Bells, ready: &mut ModuleSet) {
-    for _ in 0..bells.count() {
+/// Tells the wakers of the modules in the set, and empties it: after the last turn a Run of them is permitted.
+fn tell_ready(wakers: &Wakers, ready: &mut ModuleSet) {
+    for _ in 0..wakers.count() {
         match take_first(ready) {
-            Some(which) => bells.tell(which, News::Timed),
+            Some(which) => wakers.tell(which, News::Timed),
             None => return,
         }
     }
@@ -130,33 +130,33 @@ pub fn lead<G: Gate, R: Threads + Wait>(
     let mut slots = slots;
     let mut noted = noted;
     for _ in crew.rt.forever() {
-        crew.bells.clear_for_caller();
+        crew.wakers.clear_for_caller();
         let (next, answer) = crew.hub.perf_turn_telling(crew.rt, perf, &mut noted);
         perf = next;
         let idle = match answer {
             PerfAnswer::Did(_) => false,
             PerfAnswer::Idle(_) => true,
             PerfAnswer::Over | PerfAnswer::Short => {
-                crew.bells.tell_end();
+                crew.wakers.tell_end();
                 return (perf, slots);
             }
         };
-        tell_ready(crew.bells, &mut noted);
+        tell_ready(crew.wakers, &mut noted);
         let (back, ran) = try_rounds(crew, slots, &mut noted);
         slots = back;
         if idle && !ran {
-            rest(crew.rt, crew.bells, parker);
+            rest(crew.rt, crew.wakers, parker);
         }
     }
     unreachable!()
 }
 
 /// Waits for news; or, where some module's thread was not started, lets other threads go first.
-fn rest<R: Wait>(rt: &R, bells: &Bells, parker: &Parker) {
-    if bells.has_unstarted() {
+fn rest<R: Wait>(rt: &R, wakers: &Wakers, parker: &Parker) {
+    if wakers.has_unstarted() {
         yield_now();
     } else {
-        bells.wait_as_caller(rt, parker);
+        wakers.wait_as_caller(rt, parker);
     }
 }
 

@@ -6,14 +6,14 @@ ghost use Rattle.sim_core.specs.{Views.theory_of, Drives.AreOwn};
 ghost use Rattle.sim_hub.specs.{Hubs.IsOverAt, Hubs.IsPerfOf, Hubs.perf_view, Closings.IsWholeRun};
 ghost use Rattle.run_threads.specs.{Leading.HasMoreTurns, Slots.passes_in, Slots.AreHere, Slots.IsRoomFor};
 
-use crate::bells::Bells;
 use crate::crew::Crew;
-use crate::drive::Seat;
+use crate::drive::Driver;
 use crate::gate::Gate;
 use crate::lead::{gather, lead};
-use crate::light::Light;
 use crate::room::Room;
-use crate::start::{seat_all, start_all};
+use crate::start::{drivers_of, start_all};
+use crate::threadless::Threadless;
+use crate::wakers::Wakers;
 use crossbeam_utils::sync::Parker;
 use flow_design::CheckedPlan;
 use flow_word::OutOfMemory;
@@ -30,17 +30,17 @@ fn run_all<G: Gate + Sync, R: Threads + Wait + Sync>(
     crew: &Crew<'_, G, R>,
     parker: Parker,
     perf: PerfPass,
-    seats: Vec<Seat>,
-    light: Light,
+    drivers: Vec<Driver>,
+    threadless: Threadless,
     room: Room,
 ) -> (PerfPass, Vec<ModulePass>)
     requires perf { IsPerfOf crew.now.hub.now perf }
-    requires here { AreHere crew.now.hub.now (passes_in seats.items) }
-    requires room { IsRoomFor (length seats.items) room }
+    requires here { AreHere crew.now.hub.now (passes_in drivers.items) }
+    requires room { IsRoomFor (length drivers.items) room }
     ensures perf { IsPerfOf crew.now.hub.now result.0 }
     ensures later { HasMoreTurns (perf_view perf) (perf_view result.0) }
     ensures over { IsOverAt (perf_view result.0).seen }
-    ensures count { length result.1.items ≡ length seats.items }
+    ensures count { length result.1.items ≡ length drivers.items }
     ensures here { AreHere crew.now.hub.now result.1.items }
 {
     let Room {
@@ -49,24 +49,25 @@ fn run_all<G: Gate + Sync, R: Threads + Wait + Sync>(
         noted,
     } = room;
     let (rt, alloc, hub) = (crew.rt, crew.alloc, crew.hub);
-    let (gate, bells) = (crew.gate, crew.bells);
+    let (gate, wakers) = (crew.gate, crew.wakers);
     thread::scope(
         thread::scope_env(),
         rt,
         move |scope| -> (PerfPass, Vec<ModulePass>)
-            requires { IsPerfOf hub.now perf × AreHere hub.now (passes_in seats.items) × (slots.items ≡ []) × (passes.items ≡ [])
-                × (length seats.items ≤ vec_capacity slots) × (length seats.items ≤ vec_capacity passes) }
+            requires { IsPerfOf hub.now perf × AreHere hub.now (passes_in drivers.items) × (slots.items ≡ []) × (passes.items ≡ [])
+                × (length drivers.items ≤ vec_capacity slots) × (length drivers.items ≤ vec_capacity passes) }
             ensures { IsPerfOf hub.entry.now result.0 × HasMoreTurns (perf_view perf) (perf_view result.0)
-                × IsOverAt (perf_view result.0).seen × (length result.1.items ≡ length seats.items) × AreHere hub.entry.now result.1.items }
+                × IsOverAt (perf_view result.0).seen × (length result.1.items ≡ length drivers.items)
+                × AreHere hub.entry.now result.1.items }
         {
             let crew = Crew {
                 rt,
                 alloc,
                 hub,
                 gate,
-                bells,
+                wakers,
             };
-            let slots = start_all(scope, &crew, seats, &light, slots);
+            let slots = start_all(scope, &crew, drivers, &threadless, slots);
             let (perf, slots) = lead(&crew, &parker, perf, slots, noted);
             (perf, gather(rt, hub, slots, passes))
         },
@@ -74,39 +75,39 @@ fn run_all<G: Gate + Sync, R: Threads + Wait + Sync>(
 }
 
 /// Simulates from a core in which nothing is emitted yet, with a thread for each module, as `run_threads` does. The caller drives
-/// the modules in `light`, whose bursts are known to be light, and, where there are more than 64 modules, those with few
-/// operations. Afterwards `light` has the modules that it drove at the end.
+/// the modules in `threadless`, whose bursts are known to be short, and, where there are more than 64 modules, those with few
+/// operations. Afterwards `threadless` has the modules that it drove at the end.
 ///
-/// After `OutOfMemory` the core is lost, and `light` is as it was.
+/// After `OutOfMemory` the core is lost, and `threadless` is as it was.
 pub fn run_core<G: Gate + Sync, R: Threads + Wait + Sync>(
     rt: &R,
     alloc: Global,
     core: Core,
     gate: &G,
-    light: &mut Light,
+    threadless: &mut Threadless,
 ) -> Result<Threaded, OutOfMemory>
     requires opening { theory_of core ≡ opening_core (design core.plan) }
     requires own { AreOwn core }
     ensures run { IfOk result (λ threaded. IsWholeRun core.plan threaded) }
 {
     core.agrees();
-    let mut driven = *light;
+    let mut driven = *threadless;
     driven.add_small(alloc, &core)?;
     let room = Room::new(alloc, core.modules())?;
-    let (mut bells, parker) = Bells::new(alloc, &core)?;
+    let (mut wakers, parker) = Wakers::new(alloc, &core)?;
     let (hub, perf, modules) = Hub::new(alloc, core)?;
-    let seats = seat_all(alloc, &mut bells, modules)?;
+    let drivers = drivers_of(alloc, &mut wakers, modules)?;
     let crew = Crew {
         rt,
         alloc,
         hub: &hub,
         gate,
-        bells: &bells,
+        wakers: &wakers,
     };
-    let (perf, modules) = run_all(&crew, parker, perf, seats, driven, room);
+    let (perf, modules) = run_all(&crew, parker, perf, drivers, driven, room);
     match hub.close(perf, modules) {
         Closed::Final(threaded) => {
-            *light = bells.light();
+            *threadless = wakers.threadless();
             Ok(threaded)
         }
         Closed::Short => Err(OutOfMemory),
@@ -127,5 +128,5 @@ pub fn run_threads<G: Gate + Sync, R: Threads + Wait + Sync>(
     ensures run { IfOk result (λ threaded. IsWholeRun plan threaded) }
 {
     let core = Core::new(alloc, plan)?;
-    run_core(rt, alloc, core, gate, &mut Light::none())
+    run_core(rt, alloc, core, gate, &mut Threadless::none())
 }

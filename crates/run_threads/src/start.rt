@@ -1,14 +1,14 @@
 //! Starting the modules' threads, or keeping modules with the caller.
 ghost use Rattle.std.specs.Prelude.{◌≡◌, ◌≤◌, [], length, IfOk, vec_capacity};
 ghost use Rattle.sim_hub.specs.{Places.HasNoDeskOut, Hubs.IsOfHub, Hubs.module_of, Hubs.module_view};
-ghost use Rattle.run_threads.specs.{Driving.IsBack, Lights.IsNamed};
+ghost use Rattle.run_threads.specs.{Driving.IsBack, Threadless.IsNamed};
 ghost use Rattle.run_threads.specs.Slots.{SlotIs, KeepsPass, AreSlots, AreHere, passes_in};
 
-use crate::bells::Bells;
 use crate::crew::Crew;
-use crate::drive::{Answered, Seat, drive};
+use crate::drive::{Answered, Driver, drive};
 use crate::gate::Gate;
-use crate::light::Light;
+use crate::threadless::Threadless;
+use crate::wakers::Wakers;
 use flow_word::OutOfMemory;
 use sim_hub::{Hub, ModulePass};
 use std::alloc::Global;
@@ -38,50 +38,51 @@ pub enum Slot {
     Gone,
 }
 
-/// Makes a bell and a seat for each module. `OutOfMemory` where memory ran out.
-pub fn seat_all(
+/// Makes a waker for each module, and joins the module's pass with the parker on which its thread sleeps. `OutOfMemory` where
+/// memory ran out.
+pub fn drivers_of(
     alloc: Global,
-    bells: &mut Bells,
+    wakers: &mut Wakers,
     modules: Vec<ModulePass>,
-) -> Result<Vec<Seat>, OutOfMemory>
-    ensures { IfOk result (λ seats. passes_in seats.items ≡ modules.items) }
+) -> Result<Vec<Driver>, OutOfMemory>
+    ensures { IfOk result (λ drivers. passes_in drivers.items ≡ modules.items) }
 {
-    let mut seats = Vec::new(alloc);
+    let mut drivers = Vec::new(alloc);
     for pass in modules {
-        let parker = bells.add(alloc)?;
-        if seats.push(Seat { pass, parker }).is_err() {
+        let parker = wakers.add(alloc)?;
+        if drivers.push(Driver { pass, parker }).is_err() {
             return Err(OutOfMemory);
         }
     }
-    Ok(seats)
+    Ok(drivers)
 }
 
 /// Starts a module's thread. Where the thread cannot be started, the caller keeps the pass.
 fn start_one<'s, 'e, G: Gate + Sync, R: Threads + Wait + Sync>(
     scope: &'s Scope<'s, &'e ()>,
     crew: &Crew<'e, G, R>,
-    seat: Seat,
+    driver: Driver,
 ) -> Slot
-    requires own { IsOfHub crew.now.hub.now seat.pass }
-    requires home { HasNoDeskOut (module_of seat.pass) (module_view seat.pass) }
-    ensures { SlotIs crew.now.hub.now (module_of seat.pass) result }
+    requires own { IsOfHub crew.now.hub.now driver.pass }
+    requires home { HasNoDeskOut (module_of driver.pass) (module_view driver.pass) }
+    ensures { SlotIs crew.now.hub.now (module_of driver.pass) result }
 {
     let (rt, alloc, hub) = (crew.rt, crew.alloc, crew.hub);
-    let (gate, bells) = (crew.gate, crew.bells);
-    let which = seat.pass.which();
+    let (gate, wakers) = (crew.gate, crew.wakers);
+    let which = driver.pass.which();
     let promise = Comes {
         hub: Snapshot::of(hub),
         which,
     };
     let job = move || -> Answered
-        requires { IsOfHub hub.now seat.pass × HasNoDeskOut (module_of seat.pass) (module_view seat.pass) }
-        ensures { IsBack hub.entry.now (module_of seat.pass) result }
-    { drive(rt, alloc, hub, gate, bells, seat) };
+        requires { IsOfHub hub.now driver.pass × HasNoDeskOut (module_of driver.pass) (module_view driver.pass) }
+        ensures { IsBack hub.entry.now (module_of driver.pass) result }
+    { drive(rt, alloc, hub, gate, wakers, driver) };
     match scope.spawn_with(promise, job) {
         Ok(child) => Slot::There(child),
         Err(refused) => {
-            bells.forbid(which);
-            bells.keep(which);
+            wakers.forbid(which);
+            wakers.keep(which);
             Slot::Here((refused.value)().pass)
         }
     }
@@ -91,20 +92,20 @@ fn start_one<'s, 'e, G: Gate + Sync, R: Threads + Wait + Sync>(
 fn place_one<'s, 'e, G: Gate + Sync, R: Threads + Wait + Sync>(
     scope: &'s Scope<'s, &'e ()>,
     crew: &Crew<'e, G, R>,
-    seat: Seat,
-    light: &Light,
+    driver: Driver,
+    threadless: &Threadless,
 ) -> Slot
-    requires own { IsOfHub crew.now.hub.now seat.pass }
-    requires home { HasNoDeskOut (module_of seat.pass) (module_view seat.pass) }
-    ensures slot { SlotIs crew.now.hub.now (module_of seat.pass) result }
-    ensures kept { IsNamed light.now (module_of seat.pass) → KeepsPass result }
+    requires own { IsOfHub crew.now.hub.now driver.pass }
+    requires home { HasNoDeskOut (module_of driver.pass) (module_view driver.pass) }
+    ensures slot { SlotIs crew.now.hub.now (module_of driver.pass) result }
+    ensures kept { IsNamed threadless.now (module_of driver.pass) → KeepsPass result }
 {
-    let which = seat.pass.which();
-    if light.has(which) {
-        crew.bells.leave(which);
-        Slot::Here(seat.pass)
+    let which = driver.pass.which();
+    if threadless.has(which) {
+        crew.wakers.leave(which);
+        Slot::Here(driver.pass)
     } else {
-        start_one(scope, crew, seat)
+        start_one(scope, crew, driver)
     }
 }
 
@@ -112,18 +113,18 @@ fn place_one<'s, 'e, G: Gate + Sync, R: Threads + Wait + Sync>(
 pub fn start_all<'s, 'e, G: Gate + Sync, R: Threads + Wait + Sync>(
     scope: &'s Scope<'s, &'e ()>,
     crew: &Crew<'e, G, R>,
-    seats: Vec<Seat>,
-    light: &Light,
+    drivers: Vec<Driver>,
+    threadless: &Threadless,
     slots: Vec<Slot>,
 ) -> Vec<Slot>
-    requires here { AreHere crew.now.hub.now (passes_in seats.items) }
+    requires here { AreHere crew.now.hub.now (passes_in drivers.items) }
     requires empty { slots.items ≡ [] }
-    requires room { length seats.items ≤ vec_capacity slots }
-    ensures { (length result.items ≡ length seats.items) × AreSlots crew.now.hub.now result.items }
+    requires room { length drivers.items ≤ vec_capacity slots }
+    ensures { (length result.items ≡ length drivers.items) × AreSlots crew.now.hub.now result.items }
 {
     let mut slots = slots;
-    for seat in seats {
-        slots.push_reserved(place_one(scope, crew, seat, light));
+    for driver in drivers {
+        slots.push_reserved(place_one(scope, crew, driver, threadless));
     }
     slots
 }

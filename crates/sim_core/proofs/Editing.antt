@@ -5,8 +5,8 @@ use Rattle.std.proofs.{lemmas.Bool.cases_eq, lemmas.List.length-map, lemmas.List
 use Rattle.std.proofs.lemmas.Option.{get_or_from_slice_get, slice_get-get_or, slice_get_within}
 use Rattle.std.specs.Prelude.{IfSome, IsNone}
 use Rattle.flow_word.specs.declared.access.Side.{Side}
-use Rattle.flow_design.specs.{declared.plan.Edit.Edit, declared.plan.Plan.Plan, declared.state.Advance.Advance}
-use Rattle.flow_design.specs.{declared.state.ModuleState.ModuleState, Plans.with_depth, Plans.EditFits, StaticRules.FitsEngine}
+use Rattle.flow_design.specs.{declared.plan.Edit.Edit, declared.plan.Plan.Plan, Plans.with_depth, Plans.EditFits, StaticRules.FitsEngine}
+use Rattle.flow_design.specs.declared.state.ModuleState.{ModuleState}
 use Rattle.module_interp.specs.declared.run.ModuleRun.{ModuleRun}
 use Rattle.event_graph.specs.{Lanes.Lane, Lanes.lane_at, Lanes.timed_below, declared.candidate.Candidate.Candidate}
 use Rattle.fifo_table.specs.Channels.{channel_at, depth_of, places_of, deepened_channels}
@@ -132,7 +132,8 @@ module _ {p : Plan} {s : Engine} {runs : List (Option ModuleRun)} (k : IsCore p 
           (run_edited p k.fits e fit m x cut.timed cut.cycle cut.verified run (k.runs_are m run there));
       ends_are = λ m mark there.
           end_stays q cut y cut_now.marks m (beside m) mark
-          (end_edited p k.fits e fit m x cut.timed cut.cycle cut.verified mark (k.ends_are m mark (same_end s t anew.room.ends m mark there)));
+          (end_edited p k.fits e fit m x cut.timed cut.cycle cut.verified mark (k.ends_are m mark (same_end s t anew.room.ends m mark
+          there)));
     }
 
     pub true_guard : (lent : List Bool) → IsTrueGuard guard (record { plan = q; held = held_in t; lent = lent })

@@ -1,5 +1,5 @@
 -- A Run's next mark, emitted.
-use Rattle.std.proofs.Common.{◌≡◌, refl, sym, subst, ◌∙◌, ℕ, inl, false, List, length, set, Option, Some, arith}
+use Rattle.std.proofs.Common.{◌≡◌, refl, sym, subst, ◌∙◌, ℕ, inl, false, List, length, Option, arith}
 use Rattle.std.proofs.lemmas.Bool.{both_ways}
 use Rattle.flow_word.specs.{declared.access.Access.Access, declared.access.Step.Step as StepOf}
 use Rattle.flow_design.specs.{declared.plan.Plan.Plan, declared.state.ModuleState.ModuleState, declared.state.Advance.Advance}

@@ -47,7 +47,8 @@ module _ (p : Plan) (s : Engine) (runs : List (Option ModuleRun))
         | inr l ↦ let z = sym (get_or_past s.ends.items m None l) ∙ there in cc
       ]
 
-  behind : (m : ℕ) (mark : Advance) → get_or s.ends.items m None ≡ Some mark → IsRestBehind p x m (x.emitted m) (rest_behind p x m (x.emitted m))
+  behind : (m : ℕ) (mark : Advance) → get_or s.ends.items m None ≡ Some mark → IsRestBehind p x m (x.emitted m) (rest_behind p x m
+      (x.emitted m))
   behind m mark there = rest_is p k.fits x k.agreed.marks m (inside m mark there) (x.emitted m) (x.emitted m) (omega arith) (omega arith)
 
   pub finished : IsFinal (design p) p.cycles x → IsFinished p (held_in s) s.ends.items

@@ -8,15 +8,15 @@ use Rattle.std.specs.Prelude.{All, Option, Some, None, slice_get}
 use Rattle.flow_word.specs.{declared.access.Step.Step, declared.access.Access.Access, declared.access.Kind.Kind, declared.access.Side.Side}
 use Rattle.flow_word.specs.Kinds.{side_of, is_blocking, is_taking, same_side}
 use Rattle.flow_word.specs.declared.access.Side.TheVariants.{Pop, Push}
-use Rattle.flow_design.specs.{declared.plan.Plan.Plan, declared.state.Advance.Advance, declared.state.ModuleState.ModuleState}
-use Rattle.flow_design.specs.{declared.state.Reply.Reply, declared.state.Request.Request}
+use Rattle.flow_design.specs.{declared.plan.Plan.Plan, declared.state.Reply.Reply, declared.state.Request.Request}
+use Rattle.flow_design.specs.declared.state.ModuleState.{ModuleState}
 use Rattle.fifo_table.specs.Channels.{Channel}
 use Rattle.query_log.specs.Logs.{log_at}
 use Rattle.lockstep_defs.specs.{Channels.Exchange, Channels.reply_by, Lockstep.requests_of, OwnRun.Own, OwnRun.access_of, Report.queries}
 use Rattle.module_interp.specs.{declared.run.ModuleRun.ModuleRun, Runs.StandsAt, Runs.waits}
 use Rattle.module_interp.specs.OwnRests.{done_in, next_rest, accesses_at, all_fit}
 use Rattle.event_timing.specs.Machines as theory
-use Rattle.event_timing.specs.{Machines.is_some_access, Actions.MayRun, Agreement.AreOwnMarks, Agreement.FlagsFit}
+use Rattle.event_timing.specs.{Actions.MayRun, Agreement.AreOwnMarks, Agreement.FlagsFit}
 use Rattle.event_timing.specs.Core.{Core, core_values, core_tally, values_there, all_below}
 use Rattle.timing_bridge.specs.Designs as bridge
 use Rattle.timing_bridge.specs.Designs.{design, told_all}

@@ -3,7 +3,7 @@ use Rattle.std.proofs.Common.{◌≡◌, refl, ap, subst, ℕ, zero, suc, ◌+�
 use Rattle.std.proofs.Common.{arith, sym, Option, ◌∙◌}
 use Rattle.std.proofs.{lemmas.Bool.cases_lt, lemmas.Bool.Decides.eqb_tells}
 use Rattle.std.proofs.lemmas.List.{get_or-set_same, get_or-set_other, get_or_past, length-set}
-use Rattle.flow_design.specs.{declared.plan.Plan.Plan, declared.state.Advance.Advance, declared.state.ModuleState.ModuleState}
+use Rattle.flow_design.specs.{declared.plan.Plan.Plan, declared.state.ModuleState.ModuleState}
 use Rattle.std.specs.List.Sorted.{IsStrictlyIncreasing}
 use Rattle.module_interp.specs.{OwnChannels.place_in, declared.run.ModuleRun.ModuleRun}
 use Rattle.module_interp.proofs.Places.{position_at}

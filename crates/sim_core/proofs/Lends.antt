@@ -3,7 +3,7 @@ use Rattle.std.proofs.Common.{◌≡◌, refl, sym, ap, subst, ◌∙◌, ℕ, z
 use Rattle.std.proofs.Common.{drop, length, get_or, set, Option, Some, None, is_none}
 use Rattle.std.proofs.{lemmas.Bool.cases_Bool, lemmas.Bool.cond-true, lemmas.Bool.cond-false, lemmas.List.map-set}
 use Rattle.flow_word.specs.{declared.access.Access.Access, declared.access.Side.TheVariants.Pop}
-use Rattle.flow_design.specs.{declared.plan.Plan.Plan, declared.state.Advance.Advance, declared.state.ModuleState.ModuleState}
+use Rattle.flow_design.specs.{declared.plan.Plan.Plan, declared.state.ModuleState.ModuleState}
 use Rattle.lockstep_defs.specs.{OwnRun.Own, Report.queries}
 use Rattle.module_interp.specs.{declared.run.ModuleRun.ModuleRun, OwnRests.done_in, OwnRests.accesses_at}
 use Rattle.module_interp.specs.Runs.{StandsAt, popped_in, waits}

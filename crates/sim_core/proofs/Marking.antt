@@ -85,7 +85,8 @@ queries_done p h s i (suc n) l =
 
 -- ---- the step
 
-pub step_of_mark : (a b : Bool) (n : ℕ) (s t : StepOf) → cond a (Ended n) (cond b (Spent n) (Step s)) ≡ Step t → ((a || b) ≡ false) × (s ≡ t)
+pub step_of_mark : (a b : Bool) (n : ℕ) (s t : StepOf) → cond a (Ended n) (cond b (Spent n) (Step s)) ≡ Step t → ((a || b) ≡ false) × (s ≡
+    t)
 step_of_mark a b n s t e = (grind arith, grind arith)
 
 gap_waited : (k q : ℕ) → waited k (clocks_of_steps k + q) ≡ q

@@ -1,6 +1,6 @@
 -- Marks that come back, one after the other.
 use Rattle.std.proofs.Common.{◌≡◌, refl, sym, ap, subst, ◌∙◌, ℕ, suc, ◌+◌, ◌^◌, ◌<◌, ◌≤◌, ◌⊎◌, inl, inr, Bool, true, false, List, [], ◌∷◌}
-use Rattle.std.proofs.Common.{length, drop, drop-set-lt, get_or, set, Option, Some, arith}
+use Rattle.std.proofs.Common.{length, drop, drop-set-lt, get_or, set, Option, arith}
 use Rattle.std.proofs.{lemmas.Bool.cases_Bool, lemmas.List.Sums.sum_by-cons}
 use Rattle.flow_word.specs.{declared.access.Side.Side, declared.access.Step.Step as StepOf}
 use Rattle.flow_design.specs.{declared.plan.Plan.Plan, declared.state.ModuleState.ModuleState, declared.state.Advance.Advance}

@@ -1,8 +1,8 @@
 -- A core as it is stored: a module's run is taken out or put back; room is made for a module's marks, and Runs of that module follow.
-use Rattle.std.proofs.Common.{◌≡◌, sym, subst, ◌∙◌, ℕ, ◌<◌, List, [], length, get_or, set, Bool, Option, None, Some, arith}
+use Rattle.std.proofs.Common.{◌≡◌, sym, subst, ◌∙◌, ℕ, ◌<◌, List, [], length, get_or, set, Option, None, Some, arith}
 use Rattle.std.specs.Prelude.{All, IfSome, slice_index_or}
 use Rattle.flow_word.specs.declared.access.Port.{Port}
-use Rattle.flow_design.specs.{declared.plan.Plan.Plan, declared.state.Advance.Advance, declared.state.ModuleState.ModuleState}
+use Rattle.flow_design.specs.{declared.plan.Plan.Plan, declared.state.ModuleState.ModuleState}
 use Rattle.module_interp.specs.declared.run.ModuleRun.{ModuleRun}
 use Rattle.module_sets.specs.Sets.{IsAdded}
 use Rattle.event_graph.specs.declared.candidate.Candidate.{Candidate}

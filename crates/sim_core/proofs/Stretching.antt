@@ -2,8 +2,7 @@
 use Rattle.std.proofs.Common.{◌≡◌, refl, sym, ap, subst, ℕ, zero, suc, ◌+◌, ◌<◌, Bool, true, false, List, [], ◌∷◌, inl, inr, length, get_or}
 use Rattle.std.proofs.Common.{set, Option, None, Some, is_some, is_none, arith}
 use Rattle.std.proofs.{lemmas.List.length-map, lemmas.Bool.cases_lt}
-use Rattle.flow_design.specs.{declared.plan.Plan.Plan, declared.state.Advance.Advance, StaticRules.FitsEngine}
-use Rattle.flow_design.specs.declared.state.ModuleState.{ModuleState}
+use Rattle.flow_design.specs.{declared.plan.Plan.Plan, StaticRules.FitsEngine, declared.state.ModuleState.ModuleState}
 use Rattle.module_interp.specs.declared.run.ModuleRun.{ModuleRun}
 use Rattle.event_timing.specs.{Machines.Design, Core.Core, Actions.Action.Run, Agreement.IsAgreed, Work.work}
 use Rattle.event_timing.specs.Actions.{Acts, ActsAll, runs}

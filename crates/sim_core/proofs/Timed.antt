@@ -1,7 +1,7 @@
 -- What a turn at a module leaves of all that a core keeps.
 use Rattle.std.proofs.Common.{◌≡◌, ◌≢◌, sym, ap, ◌∙◌, ℕ, ◌<◌, true, List, [], Option, length, arith}
 use Rattle.std.specs.Prelude.{slice_index_or}
-use Rattle.flow_design.specs.{declared.plan.Plan.Plan, declared.state.Advance.Advance}
+use Rattle.flow_design.specs.declared.plan.Plan.{Plan}
 use Rattle.module_interp.specs.declared.run.ModuleRun.{ModuleRun}
 use Rattle.module_sets.specs.Sets.{Has, HasMask, capacity}
 use Rattle.event_graph.specs.declared.candidate.Candidate.{Candidate}

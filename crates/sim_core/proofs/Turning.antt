@@ -1,11 +1,11 @@
 -- What the calls of an engine do to a core: cycles and answers.
 use Rattle.std.proofs.Common.{◌≡◌, refl, sym, ap, ap₂, subst, ◌∙◌, ℕ, zero, suc, ◌+◌, ◌-◌, ◌*◌, ◌<◌, inl, inr, Bool, true, false, cond, ltb}
-use Rattle.std.proofs.Common.{◌&&◌, List, [], length, get_or, Option, None, Some, arith}
+use Rattle.std.proofs.Common.{◌&&◌, List, length, get_or, Option, None, Some, arith}
 use Rattle.std.proofs.lemmas.Bool.{cases_Bool, both_ways, lt-ltb}
 use Rattle.std.proofs.{lemmas.List.get_or_past, lemmas.Bool.Decides.nat_tests}
 use Rattle.std.proofs.lemmas.Option.{get_or_from_slice_get, slice_get-get_or, slice_get_within}
 use Rattle.std.specs.Prelude.{slice_get}
-use Rattle.flow_design.specs.{declared.plan.Plan.Plan, declared.state.Advance.Advance, declared.state.ModuleState.ModuleState}
+use Rattle.flow_design.specs.{declared.plan.Plan.Plan, declared.state.ModuleState.ModuleState}
 use Rattle.module_interp.specs.declared.run.ModuleRun.{ModuleRun}
 use Rattle.event_graph.specs.{Lanes.lane_at, declared.candidate.Candidate.Candidate}
 use Rattle.event_graph.specs.declared.candidate.Candidate.TheVariants.{At, Nothing}

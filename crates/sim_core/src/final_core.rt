@@ -3,6 +3,7 @@ ghost use Rattle.std.specs.Prelude.{◌≡◌, ℕ, ◌<◌, length};
 ghost use Rattle.flow_design.specs.StaticRules.{FitsEngine};
 ghost use Rattle.event_timing.specs.{Actions.IsFinal, Agreement.IsAgreed};
 ghost use Rattle.timing_bridge.specs.Designs.{design, lockstep_run};
+ghost use Rattle.engine_report.specs.Finished.{IsFinished};
 ghost use Rattle.engine_view.specs.{Held.emitted_of, Rooms.query_bound, Shown.IsSound, Shown.queries_before};
 ghost use Rattle.sim_core.specs.Views.{theory_of};
 
@@ -82,15 +83,15 @@ impl<'a> FinalCore<'a> {
         self.core().modules()
     }
 
-    /// What the core holds. Each module's number of queries fits 64 bits.
+    /// What the core holds: the end of the plan's simulation. Each module's number of queries fits 64 bits.
     pub fn engine(&self) -> &'a Engine
         ensures lanes { result.now.graph.lanes ≡ self.now.held.lanes }
         ensures channels { result.now.fifos.channels ≡ self.now.held.channels }
         ensures logs { result.now.log.logs ≡ self.now.held.logs }
         ensures few { (m : ℕ) → queries_before self.now.held m (emitted_of self.now.held m) < query_bound }
-        ensures fits { FitsEngine self.now.plan }
-        ensures sound { IsSound (design self.now.plan) self.now.held }
+        ensures finished { IsFinished self.now.plan self.now.held result.now.ends.items }
     {
-        self.core().engine()
+        let core = self.core();
+        &core.engine
     }
 }

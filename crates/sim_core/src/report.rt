@@ -3,13 +3,13 @@ ghost use Rattle.std.specs.Prelude.{◌≡◌, IfOk, IfSome, IsNone, OnErr, OnSo
 ghost use Rattle.event_timing.specs.Actions.{IsFinal};
 ghost use Rattle.lockstep_defs.specs.Verdict as lockstep;
 ghost use Rattle.timing_bridge.specs.Designs.{design};
-ghost use Rattle.engine_report.specs.Finished.{IsFinished, report_with};
+ghost use Rattle.engine_report.specs.Finished.{report_with};
 ghost use Rattle.sim_core.specs.Views.{theory_of};
 
 use crate::final_core::FinalCore;
 use crate::machine::Core;
 use engine_report::{report_of, verdict_of};
-use flow_design::{Advance, Report, Verdict};
+use flow_design::{Report, Verdict};
 use flow_word::OutOfMemory;
 use std::alloc::Global;
 
@@ -20,15 +20,6 @@ impl<'a> FinalCore<'a> {
     {
         let core = self.core();
         verdict_of(&core.plan, &core.engine)
-    }
-
-    /// The end mark of each module of a final core. `None` for a module that waits for good or until the cycle limit. Together with
-    /// what the engine holds these are the end of the plan's simulation.
-    pub fn ends(&self) -> &'a [Option<Advance>]
-        ensures { IsFinished self.now.plan self.now.held result.now }
-    {
-        let core = self.core();
-        core.engine.ends.as_slice()
     }
 
     /// The report of a final core: it is the lockstep machine's, with its events if they are asked for, else with none.

@@ -7,4 +7,4 @@ pub mod Ledgers
 pub mod Timing
 pub mod Closing
 pub mod Openings
-pub mod Books
+pub mod Boxed

@@ -1,5 +1,5 @@
 //! A core that passes share.
-use crate::kept::Books;
+use crate::kept::BoxedLedger;
 use turn_lock::TurnLock;
 
 mod ends;
@@ -9,5 +9,5 @@ mod work;
 /// A core that passes change in turns. Its entries are one legal history, and replaying that gives the core.
 #[derive(Drop)]
 pub struct Hub {
-    lock: TurnLock<Books>,
+    lock: TurnLock<BoxedLedger>,
 }

@@ -3,17 +3,17 @@ ghost use Rattle.std.specs.Prelude.{◌≡◌, length};
 ghost use Rattle.timing_bridge.specs.Entries.{bearer};
 ghost use Rattle.sim_hub.specs.Ledgers.{entries_in, entries_under};
 
-use crate::ledger::Ledger;
+use crate::ledger::HubLedger;
 use timing_bridge::HubEntry;
 use turn_lock::Kept;
 
 /// A ledger on the heap, so that a turn moves its address only, and not its core.
 #[derive(Drop)]
-pub struct Books {
-    pub(crate) ledger: Box<Ledger>,
+pub struct BoxedLedger {
+    pub(crate) ledger: Box<HubLedger>,
 }
 
-impl Kept for Books {
+impl Kept for BoxedLedger {
     type Entry = HubEntry;
 
     ghost history = { entries_under };
@@ -25,7 +25,7 @@ impl Kept for Books {
     }
 }
 
-impl Ledger {
+impl HubLedger {
     /// How many entries the history has: one more than there were turns.
     pub(crate) fn count(&self) -> u64
         ensures { result ≡ length (entries_in self.now) }

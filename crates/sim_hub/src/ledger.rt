@@ -12,7 +12,7 @@ mod timing;
 /// A core with the turns that led to it. There is room for a turn for each desk that is out, and for one more unless memory ran out
 /// before.
 #[derive(Drop)]
-pub struct Ledger {
+pub struct HubLedger {
     pub(crate) core: Core,
     pub(crate) turns: Vec<HubTurn>,
     /// A bound for how many desks are out.

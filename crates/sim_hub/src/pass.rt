@@ -3,13 +3,13 @@ ghost use Rattle.std.specs.Prelude.{◌≡◌, ◌+◌, []};
 ghost use Rattle.turn_lock.specs.Passes.{view_of};
 ghost use Rattle.sim_hub.specs.Places.{IsPlace, HasMadeAll, HasModule};
 
-use crate::kept::Books;
+use crate::kept::BoxedLedger;
 use turn_lock::Pass;
 
 /// A pass of the turn lock, with its number. What it has seen is a legal history.
 #[derive(Drop)]
 pub struct Place {
-    pub(crate) pass: Pass<Books>,
+    pub(crate) pass: Pass<BoxedLedger>,
     pub(crate) number: u32,
     ghost numbered: { (view_of pass).number ≡ number },
     ghost good: { ∥ IsPlace number (view_of pass) ∥₁ },

@@ -1,15 +1,12 @@
 -- How full a FIFO is, by the clocks in which elements were pushed on it and popped off it.
-use Rattle.std.proofs.Common.{◌≡◌, ℕ, zero, suc, ◌+◌, ◌-◌, ◌<◌, ◌≤◌, ◌^◌, List, [], ◌∷◌, map, length, Bool, true, false, ◌&&◌, not, cond}
-use Rattle.std.proofs.Common.{refl, sym, ◌∙◌, ap, ap₂, arith, get_or, ltb, leb, inl, inr, length-append}
+use Rattle.std.proofs.Common.{◌≡◌, ℕ, zero, suc, ◌+◌, ◌-◌, ◌<◌, ◌≤◌, ◌^◌, List, [], ◌∷◌, length, Bool, true, false, ◌&&◌, not, cond, refl}
+use Rattle.std.proofs.Common.{sym, ◌∙◌, ap, ap₂, arith, get_or, ltb, leb, inl, inr, length-append}
 use Rattle.std.proofs.lemmas.Bool.{cases_lt, lt-ltb, le-ltb, le-leb, lt-leb}
 use Rattle.std.proofs.{lemmas.List.length-map, lemmas.List.get_or-map, lemmas.List.Sums.sum_by-cons}
 use Rattle.std.specs.{Prelude.All, Prelude.AllPairs, List.range_with_len, List.count_by}
 use Rattle.flow_word.specs.declared.access.Side.TheVariants.{Pop, Push}
-use Rattle.flow_design.specs.{declared.design.ChannelKind.ChannelKind, declared.plan.Plan.Plan, declared.state.Element.Element}
-use Rattle.flow_design.specs.declared.design.ChannelKind.TheVariants.{Source, Sink, Fifo}
-use Rattle.flow_design.specs.declared.limits.TheConstants.{CYCLES, FIFO_DELAY, FIFO_DEPTH}
-use Rattle.flow_design.specs.Plans.{is_fifo, kind_at, delay_at, delay_of}
-use Rattle.flow_design.specs.StaticRules.{AreEntriesSound, FitsEngine}
+use Rattle.flow_design.specs.{declared.plan.Plan.Plan, declared.state.Element.Element, declared.limits.TheConstants.CYCLES}
+use Rattle.flow_design.specs.{declared.limits.TheConstants.FIFO_DELAY, Plans.is_fifo, Plans.kind_at, Plans.delay_at, StaticRules.FitsEngine}
 use Rattle.lockstep_defs.specs.Channels.{moved, values, contents_of, is_empty, is_full}
 use Rattle.lockstep_defs.specs.{Lockstep.state, Lockstep.history, Laws.all_in}
 use Rattle.lockstep_defs.proofs.Counts.{is_counted, delay_positive, fifo_opens_empty}

@@ -6,11 +6,9 @@ use Rattle.std.specs.List.{flat_map, range_with_len}
 use Rattle.flow_word.specs.{declared.access.Side.Side, declared.access.Kind.Kind, Kinds.is_blocking}
 use Rattle.flow_word.specs.declared.access.Side.TheVariants.{Pop, Push}
 use Rattle.flow_word.specs.declared.access.Kind.TheVariants.{Read, Write, TryRead, TryWrite, Empty, Full}
-use Rattle.flow_design.specs.{declared.design.ChannelKind.ChannelKind, declared.design.ChannelKind.TheVariants.Fifo}
 use Rattle.flow_design.specs.{declared.limits.TheConstants.CYCLES, declared.plan.Plan.Plan, declared.report.Verdict.Verdict, Plans.delay_at}
-use Rattle.flow_design.specs.{Plans.delay_of, Plans.is_fifo, Plans.kind_at, StaticRules.FitsEngine, Names.Token}
+use Rattle.flow_design.specs.{Plans.is_fifo, Plans.kind_at, StaticRules.FitsEngine, Names.Token}
 use Rattle.lockstep_defs.specs.Verdict.{verdict}
-use Rattle.sim_core.specs.{AccessLog.log_of, declared.access_log.LoggedAccess.LoggedAccess}
 use Rattle.report_text.specs.{Lines.line, Lines.text_of_lines, Lines.verdict_tokens, ReportText.module_name, ReportText.channel_name}
 use Rattle.report_text.proofs.LineLemmas.{text-append, numbers_more}
 use Rattle.timelines.specs.{Fills.fifos, Fills.last_clock, Totals.moved_clocks, Totals.still_clocks, Totals.still_clocks_at}
@@ -19,9 +17,9 @@ use Rattle.port_clocks.specs.{Leads.most_ahead, Leads.ahead_clocks, Clocks.ArePo
 use Rattle.port_clocks.proofs.Filled.{peak_told}
 use Rattle.stall_text.specs.{declared.fifos.Filling.Filling, declared.polls.Polls.Polls, Causes.causes_by, Filling.empty_by}
 use Rattle.stall_text.specs.{Filling.IsFilling, Polls.poll_lines, Polls.polls_lines, Polls.tries_of}
-use Rattle.stall_text.specs.StallText.{module_tokens, cause_lines, at_each_side, causes_of, ports_of, clock_lines, module_lines}
-use Rattle.stall_text.specs.StallText.{fifo_tokens, fifo_line, stalls_text}
-use Rattle.stall_text.specs.Polling.{ArePollings, ArePollsOf, AreQueries, HavePolls, all_queries, polled_so_far, polling_lines}
+use Rattle.stall_text.specs.StallText.{module_tokens, cause_lines, at_each_side, causes_of, ports_of, clock_lines, module_lines, fifo_line}
+use Rattle.stall_text.specs.StallText.{stalls_text}
+use Rattle.stall_text.specs.Polling.{ArePollsOf, HavePolls, all_queries, polled_so_far, polling_lines}
 use Rattle.stall_text.proofs.Lines.{same_sides, same_queries, two_more}
 use Rattle.stall_text.proofs.{Asked.own_tries, Polled.polled_is, Fills.empty_clocks_are, Fills.full_clocks_are}
 

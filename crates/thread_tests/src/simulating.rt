@@ -3,7 +3,7 @@ use crate::gates::{Gathering, Meeting, Notes, Pairing, Slow};
 use clock_machine::clock_run;
 use flow_design::Report;
 use flow_gen::generate;
-use run_threads::{FreeGate, Gate, HubTurn, Light, Threaded, run_core, run_threads};
+use run_threads::{FreeGate, Gate, HubTurn, Threaded, Threadless, run_core, run_threads};
 use sim_core::Core;
 use std::alloc::Global;
 use std::process::Abort;
@@ -194,10 +194,10 @@ fn is_reported<R: Threads + Wait + Sync + AllocGlobal + Abort>(
     let plan = read_plan(rt.alloc(), text)?;
     plan.fits();
     let modules = plan.modules().len() as u32;
-    let mut light = Light::from_module(started);
+    let mut threadless = Threadless::from_module(started);
     let core = Core::new(rt.alloc(), plan)?;
-    let threaded = run_core(rt, rt.alloc(), core, &FreeGate, &mut light)?;
-    assert!(rt; (started..modules).all(|which| light.has(which)));
+    let threaded = run_core(rt, rt.alloc(), core, &FreeGate, &mut threadless)?;
+    assert!(rt; (started..modules).all(|which| threadless.has(which)));
     let report = threaded.core.final_report(rt.alloc(), true)?;
     assert!(rt; report.is_some_and(|found| found == *expected));
     Ok(())
@@ -275,7 +275,7 @@ end
 ";
 
 #[test]
-fn light_bursts_are_handed_over(rt: HostRuntime) -> Result<(), Fail> {
+fn modules_with_short_bursts_are_handed_over(rt: HostRuntime) -> Result<(), Fail> {
     let gate = Pairing {
         wanted: 3,
         begun: [AtomicU64::new(0), AtomicU64::new(0)],
@@ -283,12 +283,12 @@ fn light_bursts_are_handed_over(rt: HostRuntime) -> Result<(), Fail> {
     };
     let expected = clock_run(rt.alloc(), &read_plan(rt.alloc(), POLLING)?)?;
     // the caller drives all modules but the first
-    let mut light = Light::from_module(1);
+    let mut threadless = Threadless::from_module(1);
     let core = Core::new(rt.alloc(), read_plan(rt.alloc(), POLLING)?)?;
-    let threaded = run_core(&rt, rt.alloc(), core, &gate, &mut light)?;
+    let threaded = run_core(&rt, rt.alloc(), core, &gate, &mut threadless)?;
     // during each of the first three bursts of the first module the caller made a burst of the second
     assert!(rt; !gate.missed.load(Ordering::SeqCst));
-    assert!(rt; light.has(0));
+    assert!(rt; threadless.has(0));
     let report = threaded.core.final_report(rt.alloc(), true)?;
     assert!(rt; report.is_some_and(|found| found == expected));
     Ok(())

@@ -89,7 +89,8 @@ covered p i end ss a c l some = by_doing (doing p c i) refl some
 -- ---- neighbours
 
 -- the span at a place
-at : (p : Plan) (i end : ℕ) (ss : List Span) → AreSpansBelow p i end ss → (k : ℕ) (d : Span) → k < length ss → IsSpan p i end (get_or ss k d)
+at : (p : Plan) (i end : ℕ) (ss : List Span) → AreSpansBelow p i end ss → (k : ℕ) (d : Span) → k < length ss → IsSpan p i end (get_or ss k
+    d)
 at p i end ss a k d l = (a.all (get_or ss k d)).0 (k, l, get_or_default ss k _ _ l)
 
 -- something is done in each clock before one in which something is done

@@ -127,7 +127,8 @@ module _ {S : Type 0} (d : Design S) (x : Core S) (m : ℕ) where
 module _ {S : Type 0} (d : Design S) (x : Core S) (m n : ℕ) (other : n ≡ m → ⊥) (apart : AreApart d m n) where
   opposite : (y : Core S) → ((w : ℕ) → (w ≡ m → ⊥) → SameMarks d x y w) → (k : ℕ)
       → Each (λ a. SameMarks d x y (d.owner (other_side a.side) a.channel)) (d.accesses n (x.state n k))
-  opposite y same k = each_map _ _ (d.accesses n (x.state n k)) (λ a o. same (d.owner (other_side a.side) a.channel) o) (apart (x.state n k))
+  opposite y same k = each_map _ _ (d.accesses n (x.state n k)) (λ a o. same (d.owner (other_side a.side) a.channel) o) (apart (x.state n
+      k))
 
   run_no_run : MayRun d (after_run d x m) n → MayRun d x n
   run_no_run = may_same d x (after_run d x m) n (run_marks d x m n other) (opposite (after_run d x m) (run_marks d x m))

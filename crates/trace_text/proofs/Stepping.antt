@@ -67,7 +67,8 @@ pub text_more : (p q : Plan) (h : Held) (first : List ℕ) (keys : List TimedSte
     → (first ++ step_lines p (steps_by p h keys)) ++ text_of_lines (map (access_tokens q.design) read)
     ≡ first ++ step_lines p (steps_by p h (keys ++ key ∷ []))
 text_more p q h first keys key log read is same plan =
-    ap₂ (λ (x : Plan) (xs : List LoggedAccess). (first ++ step_lines p (steps_by p h keys)) ++ text_of_lines (map (access_tokens x.design) xs))
+    ap₂ (λ (x : Plan) (xs : List LoggedAccess). (first ++ step_lines p (steps_by p h keys)) ++ text_of_lines (map (access_tokens x.design)
+    xs))
     plan (same ∙ is)
     ∙ (steps_more p first (steps_by p h keys) (steps_by p h (key ∷ []))
     ∙ ap (λ (steps : List HistoryStep). first ++ step_lines p steps) (sym (steps_both p h keys key)))

@@ -53,9 +53,8 @@ fn write_steps<K: Sink>(
     ensures faults { K.faults sink.old ≤ K.faults sink.new }
 {
     reports_name_their_plans();
-    let _ends = core.ends();
     let graph = &core.engine().graph;
-    let _modules = graph.modules();
+    graph.stays_sound();
     let mut walk = StepWalk::new(alloc, graph)?;
     let mut replies = List::new(alloc);
     let mut log = List::new(alloc);

@@ -8,8 +8,7 @@ use Rattle.flow_design.specs.{declared.design.Channel.Channel, Plans.is_fifo, Na
 use Rattle.report_text.specs.Lines.{line, text_of_lines}
 use Rattle.vcd_wave.specs.{declared.walk.FillChange.FillChange, Walks.change_of}
 use Rattle.vcd_wave.specs.Wave.{Change, Instant, fifo_names, differs, changes_between, instant_of, has_some}
-use Rattle.vcd_wave.specs.WaveText.{fifo_code, var_tokens, time_tokens, change_tokens, instant_lines, opening_instant, header_lines}
-use Rattle.vcd_wave.specs.WaveText.{wave_text}
+use Rattle.vcd_wave.specs.WaveText.{fifo_code, var_tokens, change_tokens, instant_lines, opening_instant, header_lines, wave_text}
 use Rattle.report_text.proofs.LineLemmas.{line_of_four, text-append}
 use Rattle.module_code.proofs.Readiness.{fewer_pass}
 

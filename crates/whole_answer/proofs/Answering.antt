@@ -1,13 +1,13 @@
 -- That each text has an answer, and what holds of what was read.
-use Rattle.std.proofs.Common.{◌≡◌, ◌∙◌, ap, subst, sym, refl, arith, ℕ, ◌≤◌, Bool, List, ◌++◌, [], length, None, Some, IfSome, Result, Ok}
-use Rattle.std.proofs.Common.{Err, length-append, append-nil}
+use Rattle.std.proofs.Common.{◌≡◌, ◌∙◌, ap, subst, sym, refl, arith, ℕ, ◌≤◌, List, ◌++◌, length, None, Some, IfSome, Result, Ok, Err}
+use Rattle.std.proofs.Common.{length-append, append-nil}
 use Rattle.std.proofs.lemmas.Result.{IfOk-from_err}
 use Rattle.std.specs.{declared.option.Option.Option, Prelude.IfOk, Prelude.IsErr, Io.KnownBytes.Consumes, Io.KnownBytes.IsAtEnd}
 use Rattle.flow_design.proofs.Failing.{on_err}
-use Rattle.sim_io.specs.{Causes.AppendsPrefix, Causes.LosesCount, Telling.IsTold}
+use Rattle.sim_io.specs.{Causes.LosesCount, Telling.IsTold}
 use Rattle.sim_io.proofs.Pending.{prefix_none, told_none}
 use Rattle.flow_design.specs.declared.session.Statement.{Statement}
-use Rattle.flow_grammar.specs.{declared.fault.TextFault.TextFault, Text.Said, Text.StandsFor, Text.HasFault}
+use Rattle.flow_grammar.specs.{declared.fault.TextFault.TextFault, Text.Said, Text.StandsFor}
 use Rattle.flow_check.specs.Checked.{fault_of}
 use Rattle.cli_words.specs.{declared.Command.Command, declared.Asked.Asked}
 use Rattle.cli_words.specs.declared.Command.TheVariants.{Of, Gen}

@@ -1,6 +1,6 @@
 -- A job, report after report.
-use Rattle.std.proofs.Common.{◌≡◌, refl, sym, ◌∙◌, ap, ap₂, subst, arith, ℕ, suc, ◌+◌, ◌-◌, ◌<◌, ◌≤◌, Bool, true, false, cond, List, []}
-use Rattle.std.proofs.Common.{◌∷◌, ◌++◌, length, map, take, get_or, All, add-one, append-nil, append_assoc}
+use Rattle.std.proofs.Common.{◌≡◌, refl, sym, ◌∙◌, ap, ap₂, subst, arith, ℕ, ◌+◌, ◌-◌, ◌<◌, ◌≤◌, Bool, true, false, cond, List, [], ◌∷◌}
+use Rattle.std.proofs.Common.{◌++◌, length, map, take, get_or, All, add-one, append-nil, append_assoc}
 use Rattle.std.proofs.lemmas.List.{map-append, take_more, flat_map_more, length-map}
 use Rattle.std.proofs.{lemmas.List.Concat.flat_map-append, lemmas.List.FromFn.length-enumerate_from, lemmas.List.Elements.All-get_or}
 use Rattle.std.specs.{Prelude.if◌then◌else◌, Prelude.flat_map, declared.option.Option.Option, Io.KnownBytes.Appends}
@@ -237,7 +237,8 @@ module _ (events : Bool) (p : Plan) (edits : List Edit) where
 -- ---- what a report told
 
 -- with its events or without them, the report of a plan tells its verdict
-pub same_verdict : (events : Bool) (p q : Plan) (r : Report) → ((events : Bool) (p : Plan) → (report_with events p).verdict ≡ (report p).verdict)
+pub same_verdict : (events : Bool) (p q : Plan) (r : Report) → ((events : Bool) (p : Plan) → (report_with events p).verdict ≡ (report
+    p).verdict)
     → r ≡ report_with events q → q ≡ p → ending_of r.verdict ≡ ending_of (report p).verdict
 same_verdict events p q r without is same =
     ap (λ (x : Report). ending_of x.verdict) is ∙ (ap ending_of (without events q) ∙ ap (λ (x : Plan). ending_of (report x).verdict) same)

@@ -3,7 +3,6 @@ use Rattle.std.specs.Prelude.{ℕ, ◌==◌, ◌&&◌, ◌||◌, not, Bool, nat_
 use Rattle.std.specs.Prelude.{decimal, find, length, map, sum}
 use Rattle.std.specs.List.{list_any, range_with_len}
 use Rattle.flow_design.specs.{declared.design.Design.Design, declared.plan.Plan.Plan, Reports.clock_of, Names.Token}
-use Rattle.flow_design.specs.declared.report.Verdict.{Verdict}
 use Rattle.lockstep_defs.specs.{Laws.is_query, Report.report}
 use Rattle.serial_order.specs.{declared.order.Used.Used, declared.order.Order.Order, Orders.order_of}
 use Rattle.serial_order.specs.declared.order.Used.TheVariants as used

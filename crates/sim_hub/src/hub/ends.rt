@@ -11,8 +11,8 @@ ghost use Rattle.sim_hub.specs.Closings.{AreFrom, AreNew, AreOfHub, AllHome, Has
 
 use super::Hub;
 use crate::answer::{Closed, Threaded};
-use crate::kept::Books;
-use crate::ledger::Ledger;
+use crate::kept::BoxedLedger;
+use crate::ledger::HubLedger;
 use crate::pass::{ModulePass, PerfPass, Place};
 use flow_word::OutOfMemory;
 use sim_core::Core;
@@ -34,9 +34,9 @@ impl Hub {
         ensures modules { IfOk result (λ r. AreNew (hub_id r.0) core.plan r.2.items) }
     {
         let count = core.modules();
-        let opening = Ledger::new(alloc, core)?;
+        let opening = HubLedger::new(alloc, core)?;
         let ledger = Box::new(alloc, opening)?;
-        let (lock, first) = TurnLock::new(alloc, Books { ledger }, count + 1)?;
+        let (lock, first) = TurnLock::new(alloc, BoxedLedger { ledger }, count + 1)?;
         let (first, modules) = split_all(alloc, &lock, first, count)?;
         Ok((Hub { lock }, perf_pass(first, count), modules))
     }
@@ -64,7 +64,7 @@ impl Hub {
             } = place;
             pass = lock.join(pass, next);
         }
-        let Books { ledger } = lock.close(pass);
+        let BoxedLedger { ledger } = lock.close(pass);
         settle(Box::into_inner(ledger))
     }
 }
@@ -72,10 +72,10 @@ impl Hub {
 /// Makes one pass for each of `count` modules, in order, out of the first pass.
 fn split_all(
     alloc: Global,
-    lock: &TurnLock<Books>,
-    first: Pass<Books>,
+    lock: &TurnLock<BoxedLedger>,
+    first: Pass<BoxedLedger>,
     count: u32,
-) -> Result<(Pass<Books>, Vec<ModulePass>), OutOfMemory>
+) -> Result<(Pass<BoxedLedger>, Vec<ModulePass>), OutOfMemory>
     requires own { pass_lock first ≡ lock_id lock.now }
     requires first { IsFirstPass 0 (view_of first).seen (view_of first) }
     requires room { count < (view_of first).passes }
@@ -97,7 +97,7 @@ fn split_all(
 }
 
 /// The pass of a module, from a pass that was just made.
-fn module_pass(pass: Pass<Books>, which: u32) -> ModulePass
+fn module_pass(pass: Pass<BoxedLedger>, which: u32) -> ModulePass
     requires room { which + 1 < 2 ^ 32 }
     requires number { (view_of pass).number ≡ which + 1 }
     requires own { (view_of pass).own ≡ entries_of bearer (which + 1) (view_of pass).seen }
@@ -112,7 +112,7 @@ fn module_pass(pass: Pass<Books>, which: u32) -> ModulePass
 }
 
 /// The performance pass, made from the first pass after that has made a pass for each of `count` modules.
-fn perf_pass(pass: Pass<Books>, count: u32) -> PerfPass
+fn perf_pass(pass: Pass<BoxedLedger>, count: u32) -> PerfPass
     requires first { IsFirstPass count (view_of pass).seen (view_of pass) }
     requires modules { HasModules count (view_of pass).seen }
     requires fresh { entries_of bearer 0 (view_of pass).seen ≡ [] }
@@ -124,13 +124,13 @@ fn perf_pass(pass: Pass<Books>, count: u32) -> PerfPass
 }
 
 /// What a ledger leaves, once no desk is out, and the core is final or memory ran out.
-fn settle(ledger: Ledger) -> Closed
+fn settle(ledger: HubLedger) -> Closed
     requires over { (seen : List HubEntry) × IsPrefix seen (entries_in ledger) × IsOverAt seen }
     requires home { (m : ℕ) → m < length ledger.core.plan.design.modules → ∥ ComesHome m (entries_in ledger) ∥₁ }
     ensures { EndsAt (entries_in ledger) result }
 {
     ledger.core.agrees();
-    let Ledger {
+    let HubLedger {
         core,
         turns,
         out: _,

@@ -6,14 +6,14 @@ ghost use Rattle.timing_bridge.specs.Entries.{bearer};
 ghost use Rattle.sim_hub.specs.{Hubs.hub_id, Ledgers.entries_under, Steps.MayAdd, Steps.IsTurnEnd};
 
 use super::Hub;
-use crate::kept::Books;
+use crate::kept::BoxedLedger;
 use crate::pass::Place;
 use std::sync::Wait;
 use turn_lock::Turn;
 
 impl Hub {
     /// Takes the turn for a pass. It waits until the turn is free.
-    pub(super) fn begin<R: Wait>(&self, rt: &R, place: Place) -> Turn<Books>
+    pub(super) fn begin<R: Wait>(&self, rt: &R, place: Place) -> Turn<BoxedLedger>
         requires own { pass_lock place.pass ≡ hub_id self.now }
         ensures lock { turn_lock_of result ≡ hub_id self.now }
         ensures turn { (tries : ℕ) × BeginsTurn bearer tries (entries_under result.value) (view_of place.pass) (turn_view result) }
@@ -23,7 +23,7 @@ impl Hub {
     }
 
     /// Hands the turn back. `added` tells whether the pass, which has this number, added an entry of its own.
-    pub(super) fn end(&self, turn: Turn<Books>, number: u32, added: bool) -> Place
+    pub(super) fn end(&self, turn: Turn<BoxedLedger>, number: u32, added: bool) -> Place
         requires own { turn_lock_of turn ≡ hub_id self.now }
         requires number { (turn_view turn).number ≡ number }
         requires adds { MayAdd number added (begun_at turn) (entries_under turn.value) }

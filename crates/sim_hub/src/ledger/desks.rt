@@ -6,23 +6,23 @@ ghost use Rattle.sim_core.specs.{Drives.AreOwn, Views.theory_of};
 ghost use Rattle.sim_hub.specs.{Places.HasDesk, Places.HasNoDesk, Hubs.OutAt, Ledgers.entries_in};
 ghost use Rattle.sim_hub.specs.Steps.{Adds, BackIs, ComesBack, ComesHome, LendingIs};
 
-use super::Ledger;
+use super::HubLedger;
 use crate::answer::Desk;
 use flow_word::OutOfMemory;
 use sim_core::{Burst, Core};
 use std::alloc::Global;
 use timing_bridge::HubTurn;
 
-impl Ledger {
+impl HubLedger {
     /// A ledger of a core in which nothing is emitted yet and no run is lent. After `OutOfMemory` the core is lost.
-    pub(crate) fn new(alloc: Global, core: Core) -> Result<Ledger, OutOfMemory>
+    pub(crate) fn new(alloc: Global, core: Core) -> Result<HubLedger, OutOfMemory>
         requires opening { theory_of core ≡ opening_core (design core.plan) }
         requires own { AreOwn core }
         ensures { IfOk result (λ ledger. entries_in ledger ≡ history_of core.plan []) }
     {
         core.agrees();
         let turns = Vec::with_capacity(alloc, 1)?;
-        Ok(Ledger {
+        Ok(HubLedger {
             core,
             turns,
             out: 0,

@@ -7,7 +7,7 @@ ghost use Rattle.timing_bridge.specs.declared.turn.HubTurn.TheVariants.{Timed};
 ghost use Rattle.sim_core.specs.Views.{theory_of};
 ghost use Rattle.sim_hub.specs.{Hubs.TellsReady, Ledgers.entries_in, Steps.TimingIs};
 
-use super::Ledger;
+use super::HubLedger;
 use crate::answer::PerfAnswer;
 use flow_word::Steps;
 use module_sets::ModuleSet;
@@ -16,7 +16,7 @@ use std::marker::Brand;
 use std::sync::ledger::{Blank, Ledger as Ticks};
 use timing_bridge::HubTurn;
 
-impl Ledger {
+impl HubLedger {
     /// Takes a turn of the performance pass, as `time` does. Then it adds to `ready` the modules of which a Run is permitted and whose
     /// desk is not out.
     pub(crate) fn time_telling(&mut self, ready: &mut ModuleSet) -> (PerfAnswer, bool)

@@ -69,7 +69,8 @@ settle-requires-then-branch-2 c =
     record {
       fits = c.fits.ensures;
       made = c.requires.codes;
-      fit = settled_fit p c.fits.ensures c.args.keep c.cycles-cycles.result c.settles.new.run c.in_ok-settles.ensures.come (omega arith) settled;
+      fit = settled_fit p c.fits.ensures c.args.keep c.cycles-cycles.result c.settles.new.run c.in_ok-settles.ensures.come (omega arith)
+          settled;
     }
 
 -- the loop is over at the cycle limit

@@ -2,7 +2,7 @@ use Rattle.std.proofs.Common.{ℕ, ◌+◌, ◌++◌, ◌∙◌, List, [], Bool,
 use Rattle.std.specs.List.{refill, enumerate_from}
 use Rattle.flow_design.specs.{declared.state.Element.Element, declared.state.ModuleState.ModuleState}
 use Rattle.lockstep_defs.specs.{Lockstep.steps_in, Lockstep.contents_after, Lockstep.state, Report.outcomes}
-use Rattle.clock_machine.specs.{declared.seat.Seat.Seat, Clocks.step_at, Seats.AreSeated}
+use Rattle.clock_machine.specs.{declared.memo.Memo.Memo, Clocks.step_at, Memos.AreRemembered}
 use Rattle.clock_machine.specs.Parts.{exchanges_in, popped, pushed, after_pops, after_pushes}
 use Rattle.clock_machine.proofs.Coming.{events_next, answers_next, contents_come}
 use Rattle.clock_machine.proofs.{Fronts.refilled, Fronts.written_through, Steps.contents_next}
@@ -16,17 +16,17 @@ returns-clause-come c =
     let come = c.requires.come in
     let turned = c.in_ok-moving.ensures in
     let steps = steps_in p clock (state p clock) in
-    let states = refilled run.state.modules c.take_turns.new.states (turned.seated.state_count ∙ sym come.seated.state_count) in
-    let seats = refilled run.seats c.take_turns.new.seats (turned.seated.seat_count ∙ sym come.seated.seat_count) in
+    let states = refilled run.state.modules c.take_turns.new.states (turned.remembered.state_count ∙ sym come.remembered.state_count) in
+    let memos = refilled run.memos c.take_turns.new.memos (turned.remembered.memo_count ∙ sym come.remembered.memo_count) in
     let answers = refilled run.answers c.take_turns.new.answers (turned.count ∙ ap length c.as_mut_slice-3.ensures.value) in
     let pops = c.as_slice-2.ensures ∙ (turned.done.traffic.pops ∙ ap (λ (l : List ℕ). l ++ popped (exchanges_in steps)) come.no_pops) in
     let pushes = c.as_slice-3.ensures ∙ (turned.done.traffic.pushes ∙ ap (λ l. l ++ pushed (exchanges_in steps)) come.no_pushes) in
     record {
-      seated = subst (λ (xs : List ModuleState). AreSeated p c.args.of.now.codes.now (clock + 1) xs (refill (length run.seats)
-          run.seats c.take_turns.new.seats))
+      remembered = subst (λ (xs : List ModuleState). AreRemembered p c.args.of.now.codes.now (clock + 1) xs (refill (length run.memos)
+          run.memos c.take_turns.new.memos))
           (sym states)
-          (subst (λ (ys : List Seat). AreSeated p c.args.of.now.codes.now (clock + 1) c.take_turns.new.states ys) (sym seats)
-          turned.seated);
+          (subst (λ (ys : List Memo). AreRemembered p c.args.of.now.codes.now (clock + 1) c.take_turns.new.states ys) (sym memos)
+          turned.remembered);
       holding = contents_next p clock steps c.as_slice-2.result.now c.as_slice-3.result.now run.state.contents _ _ pops pushes
           (written_through (after_pops c.as_slice-2.result.now) run.state.contents c.as_mut_slice-4.result.now c.pop_all.new.contents
           c.as_mut_slice-4.ensures.value c.pop_all.ensures)

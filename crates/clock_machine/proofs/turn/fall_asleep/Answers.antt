@@ -3,7 +3,7 @@ use Rattle.flow_design.specs.{declared.design.Module.Module, declared.state.Modu
 use Rattle.lockstep_defs.specs.Lockstep.{module_at}
 use Rattle.lockstep_defs.proofs.Agrees.{below_limit}
 use Rattle.module_code.specs.Moves.{ticked_to, gone_on}
-use Rattle.clock_machine.proofs.Sleeping.{awake, falls_asleep, seated_sound, seated_stands, next_small, idle_till}
+use Rattle.clock_machine.proofs.Sleeping.{awake, falls_asleep, remembered_sound, remembered_stands, next_small, idle_till}
 use Rattle.clock_machine.proofs.turn.fall_asleep.Goals as goal
 
 pub code_at-requires-clause-block : goal.code_at-requires-clause-block
@@ -13,7 +13,7 @@ code_at-requires-clause-block c =
     let i = c.args.i in
     let s = c.args.state.now in
     let r = c.requires in
-    (seated_sound p r.runs.fits clock i s c.args.seat.now r.within r.seated r.running).state.block
+    (remembered_sound p r.runs.fits clock i s c.args.memo.now r.within r.remembered r.running).state.block
 
 pub next_due-next-requires : goal.next_due-next-requires
 next_due-next-requires c =
@@ -22,7 +22,7 @@ next_due-next-requires c =
     let i = c.args.i in
     let s = c.args.state.now in
     let r = c.requires in
-    let stands = seated_stands p r.runs.fits clock i s c.args.seat.now r.within r.seated r.running r.awake r.runs.early in
+    let stands = remembered_stands p r.runs.fits clock i s c.args.memo.now r.within r.remembered r.running r.awake r.runs.early in
     (block_of (module_at p i) s, (c.code_at.ensures.own.schedule, stands))
 
 pub tick_to-requires-clause-started : goal.tick_to-requires-clause-started
@@ -32,7 +32,7 @@ tick_to-requires-clause-started c =
     let i = c.args.i in
     let s = c.args.state.now in
     let r = c.requires in
-    (seated_sound p r.runs.fits clock i s c.args.seat.now r.within r.seated r.running).state.control.has_started
+    (remembered_sound p r.runs.fits clock i s c.args.memo.now r.within r.remembered r.running).state.control.has_started
 
 pub tick_to-requires-clause-later : goal.tick_to-requires-clause-later
 tick_to-requires-clause-later c =
@@ -41,7 +41,7 @@ tick_to-requires-clause-later c =
     let i = c.args.i in
     let s = c.args.state.now in
     let r = c.requires in
-    let stands = seated_stands p r.runs.fits clock i s c.args.seat.now r.within r.seated r.running r.awake r.runs.early in
+    let stands = remembered_stands p r.runs.fits clock i s c.args.memo.now r.within r.remembered r.running r.awake r.runs.early in
     (c.next_due-next.ensures (block_of (module_at p i) s) c.code_at.ensures.own.schedule stands).from
 
 pub tick_to-requires-clause-small : goal.tick_to-requires-clause-small
@@ -51,9 +51,10 @@ tick_to-requires-clause-small c =
     let i = c.args.i in
     let s = c.args.state.now in
     let r = c.requires in
-    let stands = seated_stands p r.runs.fits clock i s c.args.seat.now r.within r.seated r.running r.awake r.runs.early in
+    let stands = remembered_stands p r.runs.fits clock i s c.args.memo.now r.within r.remembered r.running r.awake r.runs.early in
     let due = c.next_due-next.ensures (block_of (module_at p i) s) c.code_at.ensures.own.schedule stands in
-    let small = next_small p r.runs.fits clock i s c.args.seat.now c.next_due-next.result r.within r.seated r.running r.awake r.runs.early
+    let small = next_small p r.runs.fits clock i s c.args.memo.now c.next_due-next.result r.within r.remembered r.running r.awake
+    r.runs.early
     c.code_at.ensures.own.schedule.limits due in
     omega arith
 
@@ -64,7 +65,7 @@ go_on-requires-clause-started c =
     let i = c.args.i in
     let s = c.args.state.now in
     let r = c.requires in
-    let stands = seated_stands p r.runs.fits clock i s c.args.seat.now r.within r.seated r.running r.awake r.runs.early in
+    let stands = remembered_stands p r.runs.fits clock i s c.args.memo.now r.within r.remembered r.running r.awake r.runs.early in
     let due = c.next_due-next.ensures (block_of (module_at p i) s) c.code_at.ensures.own.schedule stands in
     let from = due.from in
     let started = stands.has_started in
@@ -80,26 +81,27 @@ go_on-requires-clause-few c =
     let same = ap (λ (z : ModuleState). z.count) c.tick_to.ensures.ticked in
     omega arith
 
-pub overflow_sub-seat : goal.overflow_sub-seat
-overflow_sub-seat c =
+pub overflow_sub-memo : goal.overflow_sub-memo
+overflow_sub-memo c =
     let p = c.args.at.now.of.now.plan.now in
     let clock = c.args.at.now.clock in
     let i = c.args.i in
     let s = c.args.state.now in
     let r = c.requires in
-    let stands = seated_stands p r.runs.fits clock i s c.args.seat.now r.within r.seated r.running r.awake r.runs.early in
+    let stands = remembered_stands p r.runs.fits clock i s c.args.memo.now r.within r.remembered r.running r.awake r.runs.early in
     (c.next_due-next.ensures (block_of (module_at p i) s) c.code_at.ensures.own.schedule stands).from
 
-pub overflow_add-seat : goal.overflow_add-seat
-overflow_add-seat c =
+pub overflow_add-memo : goal.overflow_add-memo
+overflow_add-memo c =
     let p = c.args.at.now.of.now.plan.now in
     let clock = c.args.at.now.clock in
     let i = c.args.i in
     let s = c.args.state.now in
     let r = c.requires in
-    let stands = seated_stands p r.runs.fits clock i s c.args.seat.now r.within r.seated r.running r.awake r.runs.early in
+    let stands = remembered_stands p r.runs.fits clock i s c.args.memo.now r.within r.remembered r.running r.awake r.runs.early in
     let due = c.next_due-next.ensures (block_of (module_at p i) s) c.code_at.ensures.own.schedule stands in
-    let small = next_small p r.runs.fits clock i s c.args.seat.now c.next_due-next.result r.within r.seated r.running r.awake r.runs.early
+    let small = next_small p r.runs.fits clock i s c.args.memo.now c.next_due-next.result r.within r.remembered r.running r.awake
+    r.runs.early
     c.code_at.ensures.own.schedule.limits due in
     omega arith
 
@@ -110,10 +112,10 @@ returns-clause-asleep c e =
     let i = c.args.i in
     let s = c.args.state.now in
     let r = c.requires in
-    let stands = seated_stands p r.runs.fits clock i s c.args.seat.now r.within r.seated r.running r.awake r.runs.early in
+    let stands = remembered_stands p r.runs.fits clock i s c.args.memo.now r.within r.remembered r.running r.awake r.runs.early in
     let due = c.next_due-next.ensures (block_of (module_at p i) s) c.code_at.ensures.own.schedule stands in
     let next = c.next_due-next.result in
-    let young = r.seated.young in
+    let young = r.remembered.young in
     let l = r.awake in
     let from = due.from in
     let not_now = c.if-next-now.false in
@@ -122,8 +124,8 @@ returns-clause-asleep c e =
     let wakes : clock + (next - s.control.clock) ≡ clock + suc n = omega arith in
     let now : c.tick_to.new.state.control.clock ≡ next = ap (λ (z : ModuleState). z.control.clock) c.tick_to.ensures.ticked in
     let most = c.in_ok-go_on.ensures.clock in
-    let sound = seated_sound p r.runs.fits clock i s c.args.seat.now r.within r.seated r.running in
-    falls_asleep p clock i n s c.go_on.new.state _ r.within (awake p clock i s c.args.seat.now r.seated r.awake) r.running
+    let sound = remembered_sound p r.runs.fits clock i s c.args.memo.now r.within r.remembered r.running in
+    falls_asleep p clock i n s c.go_on.new.state _ r.within (awake p clock i s c.args.memo.now r.remembered r.awake) r.running
     (idle_till p i n s next c.code_at.ensures.own.schedule.limits sound due far)
     (c.in_ok-go_on.ensures.gone
     ∙ (ap (λ (m : Module). gone_on m c.tick_to.new.state) c.module_at-module.ensures

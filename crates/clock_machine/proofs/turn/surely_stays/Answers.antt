@@ -9,7 +9,8 @@ returns-then-is_over-clause-stays c e =
     let clock = c.args.at.now.clock in
     let i = c.args.i in
     over_stays p clock (state p clock).contents (i, state_at p clock i)
-    (runs_in p clock i c.args.state.now c.args.seat.now true c.requires.seated c.requires.awake (sym c.is_over.ensures ∙ c.if-is_over.true))
+    (runs_in p clock i c.args.state.now c.args.memo.now true c.requires.remembered c.requires.awake (sym c.is_over.ensures ∙
+    c.if-is_over.true))
 
 pub returns-clause-stays : goal.returns-clause-stays
 returns-clause-stays c e =
@@ -19,9 +20,9 @@ returns-clause-stays c e =
     let s = c.args.state.now in
     let r = c.requires in
     let known = c.still_stalls.ensures.known e in
-    sym (moves_by_requests p clock i c.args.at.now.contents.now c.args.seat.now.requests false r.runs.holding
-    (asked_in p clock i s c.args.seat.now r.seated r.awake known)
-    (runs_in p clock i s c.args.seat.now false r.seated r.awake (sym c.is_over.ensures ∙ c.if-is_over.false))
+    sym (moves_by_requests p clock i c.args.at.now.contents.now c.args.memo.now.requests false r.runs.holding
+    (asked_in p clock i s c.args.memo.now r.remembered r.awake known)
+    (runs_in p clock i s c.args.memo.now false r.remembered r.awake (sym c.is_over.ensures ∙ c.if-is_over.false))
     (ap not (sym (c.still_stalls.ensures.stalls e))))
 
 pub returns-clause-running : goal.returns-clause-running

@@ -6,7 +6,7 @@ use Rattle.flow_design.specs.declared.state.ModuleState.{ModuleState}
 use Rattle.lockstep_defs.specs.{Channels.all_ready, Machine.nobody, Verdict.some_moves, Verdict.is_settled}
 use Rattle.lockstep_defs.specs.Lockstep.{moves, state, state_at}
 use Rattle.lockstep_defs.proofs.{Agrees.all_modules, Settled.settled_from, Settled.same_stalls, Settled.some_alike}
-use Rattle.clock_machine.specs.{declared.seat.Seat.Seat, Seats.IsSeated, Seats.no_seat}
+use Rattle.clock_machine.specs.{declared.memo.Memo.Memo, Memos.IsRemembered, Memos.no_memo}
 use Rattle.clock_machine.proofs.Fronts.{none_more, some_at, numbered_all, all_known}
 use Rattle.clock_machine.proofs.turns.is_settled.Goals as goal
 
@@ -24,20 +24,20 @@ unsettled p clock st e = rw (ever p clock st true e) (by_test (some_moves p cloc
     by_test true = refl
     by_test false = refl
 
-pub would_move-requires-clause-seated : goal.would_move-requires-clause-seated
-would_move-requires-clause-seated c =
+pub would_move-requires-clause-remembered : goal.would_move-requires-clause-remembered
+would_move-requires-clause-remembered c =
     let p = c.args.at.now.of.now.plan.now in
     let clock = c.args.at.now.clock in
     let i = c.loop-i.i in
-    let counts = c.requires.seated in
+    let counts = c.requires.remembered in
     let here = counts.state_count in
-    let seats = counts.seat_count in
+    let memos = counts.memo_count in
     let s = get_or_default c.args.states.now i c.index-states-i.result nobody (omega arith) in
-    let seat = get_or_default c.loop-i.seats i c.index-seats-i.result no_seat (omega arith) in
-    subst (λ (z : ModuleState). IsSeated p c.args.at.now.of.now.codes.now clock i z (get_or c.loop-i.seats i c.index-seats-i.result))
+    let memo = get_or_default c.loop-i.memos i c.index-memos-i.result no_memo (omega arith) in
+    subst (λ (z : ModuleState). IsRemembered p c.args.at.now.of.now.codes.now clock i z (get_or c.loop-i.memos i c.index-memos-i.result))
     (sym (c.index-states-i.is ∙ s))
-    (subst (IsSeated p c.args.at.now.of.now.codes.now clock i (get_or c.args.states.now i nobody)) (sym seat)
-    (c.loop-i.invariant.seated i (omega arith)))
+    (subst (IsRemembered p c.args.at.now.of.now.codes.now clock i (get_or c.args.states.now i nobody)) (sym memo)
+    (c.loop-i.invariant.remembered i (omega arith)))
 
 -- whether a module would move, by what the plan's run holds
 by_run : (p : Plan) (clock i : ℕ) (contents : List (List Element)) (b moving : Bool) → contents ≡ (state p clock).contents
@@ -51,7 +51,7 @@ returns-then-branch-clause-settled c =
     let p = c.args.at.now.of.now.plan.now in
     let clock = c.args.at.now.clock in
     let st = state p clock in
-    let count = c.requires.seated.state_count in
+    let count = c.requires.remembered.state_count in
     let all = all_modules p clock in
     sym (unsettled p clock st (some_at (moves p 0 (all_ready st.contents)) st.modules c.loop-i.i nobody (omega arith)
     (by_run p clock c.loop-i.i c.args.at.now.contents.now true c.in_ok-would_move.field-0 c.requires.runs.holding
@@ -63,20 +63,20 @@ loop-i-preserved c =
     let clock = c.args.at.now.clock in
     let st = state p clock in
     let i = c.loop-i.i in
-    let counts = c.requires.seated in
+    let counts = c.requires.remembered in
     let states = counts.state_count in
-    let seats = counts.seat_count in
+    let memos = counts.memo_count in
     let all = all_modules p clock in
     let s : c.index-states-i.result ≡ get_or c.args.states.now i nobody =
     c.index-states-i.is ∙ get_or_default c.args.states.now i c.index-states-i.result nobody (omega arith) in record {
       none = none_more (moves p 0 (all_ready st.contents)) st.modules i nobody (omega arith) c.loop-i.invariant.none
           (by_run p clock i c.args.at.now.contents.now false c.in_ok-would_move.field-0 c.requires.runs.holding
           c.in_ok-would_move.ensures.moving c.if-branch.false);
-      seated = all_known (λ (k : ℕ) (seat : Seat). IsSeated p c.args.at.now.of.now.codes.now clock k (get_or c.args.states.now k
-          nobody) seat) c.loop-i.seats i
-          (length p.design.modules) c.would_move.new.seat no_seat (omega arith) c.loop-i.invariant.seated
-          (subst (λ (z : ModuleState). IsSeated p c.args.at.now.of.now.codes.now clock i z c.would_move.new.seat) s
-          c.in_ok-would_move.ensures.seated);
+      remembered = all_known (λ (k : ℕ) (memo : Memo). IsRemembered p c.args.at.now.of.now.codes.now clock k (get_or c.args.states.now k
+          nobody) memo) c.loop-i.memos i
+          (length p.design.modules) c.would_move.new.memo no_memo (omega arith) c.loop-i.invariant.remembered
+          (subst (λ (z : ModuleState). IsRemembered p c.args.at.now.of.now.codes.now clock i z c.would_move.new.memo) s
+          c.in_ok-would_move.ensures.remembered);
     }
 
 pub returns-clause-settled : goal.returns-clause-settled
@@ -84,25 +84,25 @@ returns-clause-settled c =
     let p = c.args.at.now.of.now.plan.now in
     let clock = c.args.at.now.clock in
     let st = state p clock in
-    let count = c.requires.seated.state_count in
+    let count = c.requires.remembered.state_count in
     let all = all_modules p clock in
     sym (settled_from p clock st (ever p clock st false
     (ap (list_any (moves p 0 (all_ready st.contents))) (sym (numbered_all st.modules c.loop-i.i (omega arith))) ∙ c.loop-i.invariant.none)))
 
-pub returns-then-branch-clause-seated : goal.returns-then-branch-clause-seated
-returns-then-branch-clause-seated c =
+pub returns-then-branch-clause-remembered : goal.returns-then-branch-clause-remembered
+returns-then-branch-clause-remembered c =
     let p = c.args.at.now.of.now.plan.now in
     let codes = c.args.at.now.of.now.codes.now in
     let clock = c.args.at.now.clock in
     let i = c.loop-i.i in
-    let counts = c.requires.seated in
+    let counts = c.requires.remembered in
     let states = counts.state_count in
-    let seats = counts.seat_count in
+    let memos = counts.memo_count in
     let s : c.index-states-i.result ≡ get_or c.args.states.now i nobody =
     c.index-states-i.is ∙ get_or_default c.args.states.now i c.index-states-i.result nobody (omega arith) in record {
       state_count = counts.state_count;
-      seat_count = length-set c.loop-i.seats i c.would_move.new.seat ∙ (c.loop-i.auto.seats ∙ counts.seat_count);
-      each = all_known (λ (k : ℕ) (seat : Seat). IsSeated p codes clock k (get_or c.args.states.now k nobody) seat) c.loop-i.seats i
-          (length p.design.modules) c.would_move.new.seat no_seat (omega arith) c.loop-i.invariant.seated
-          (subst (λ (z : ModuleState). IsSeated p codes clock i z c.would_move.new.seat) s c.in_ok-would_move.ensures.seated);
+      memo_count = length-set c.loop-i.memos i c.would_move.new.memo ∙ (c.loop-i.auto.memos ∙ counts.memo_count);
+      each = all_known (λ (k : ℕ) (memo : Memo). IsRemembered p codes clock k (get_or c.args.states.now k nobody) memo) c.loop-i.memos i
+          (length p.design.modules) c.would_move.new.memo no_memo (omega arith) c.loop-i.invariant.remembered
+          (subst (λ (z : ModuleState). IsRemembered p codes clock i z c.would_move.new.memo) s c.in_ok-would_move.ensures.remembered);
     }

@@ -1,7 +1,7 @@
 use Rattle.std.proofs.Common.{◌≡◌, ℕ, ◌<◌, false, length, take, get_or}
 use Rattle.std.specs.List.{list_any}
 use Rattle.lockstep_defs.specs.{Channels.all_ready, Machine.nobody, Lockstep.numbered, Lockstep.moves, Lockstep.state}
-use Rattle.clock_machine.specs.Seats.{IsSeated, no_seat}
+use Rattle.clock_machine.specs.Memos.{IsRemembered, no_memo}
 use Rattle.clock_machine.proofs.turns.is_settled.Given as goal
 
 -- none of the modules so far
@@ -11,6 +11,7 @@ invariant-loop-i l =
     let st = state p l.at.clock in
     record {
       none : list_any (moves p 0 (all_ready st.contents)) (take l.i (numbered st)) ≡ false;
-      seated : (k : ℕ) → k < length p.design.modules → IsSeated p l.at.of.now.codes.now l.at.clock k (get_or l.states k nobody) (get_or
-          l.seats k no_seat);
+      remembered : (k : ℕ) → k < length p.design.modules → IsRemembered p l.at.of.now.codes.now l.at.clock k (get_or l.states k nobody)
+          (get_or
+          l.memos k no_memo);
     }

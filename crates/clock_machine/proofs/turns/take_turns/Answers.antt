@@ -7,7 +7,7 @@ use Rattle.flow_design.specs.{declared.plan.Plan.Plan, declared.state.Element.El
 use Rattle.lockstep_defs.specs.{Machine.nobody, Report.outcomes}
 use Rattle.lockstep_defs.specs.Lockstep.{numbered, moves, state, state_at, module_step, steps_in}
 use Rattle.lockstep_defs.proofs.Agrees.{all_modules}
-use Rattle.clock_machine.specs.{Clocks.HasDone, Clocks.step_at, Clocks.does_move, Seats.IsSeated, Seats.no_seat}
+use Rattle.clock_machine.specs.{Clocks.HasDone, Clocks.step_at, Clocks.does_move, Memos.IsRemembered, Memos.no_memo}
 use Rattle.clock_machine.proofs.{Fronts.numbered_more, Fronts.numbered_all, Fronts.below_or_at, Steps.done_more}
 use Rattle.clock_machine.proofs.turns.take_turns.Goals.{then-moving, else-moving}
 use Rattle.clock_machine.proofs.turns.take_turns.Goals as goal
@@ -75,9 +75,9 @@ loop-i-preserved c =
     let clock = c.args.at.now.clock in
     let st = state p clock in
     let i = c.loop-i.i in
-    let counts = c.requires.seated in
+    let counts = c.requires.remembered in
     let states = counts.state_count in
-    let seats = counts.seat_count in
+    let memos = counts.memo_count in
     let answers = c.requires.answers in
     let all = all_modules p clock in
     let turn = c.in_ok-moves.ensures in
@@ -90,12 +90,13 @@ loop-i-preserved c =
           (or_else c.loop-i.moving c.in_ok-moves.moves c.if-moving.moving w.if-moving.false w.moving-is)
     ] in record {
       moving = next;
-      seated = both_more (IsSeated p c.args.at.now.of.now.codes.now (clock + 1)) c.loop-i.states c.loop-i.seats i c.take_turn.new.state
-          nobody c.take_turn.new.seat no_seat
-          (omega arith) (omega arith) c.loop-i.invariant.seated turn.seated;
-      rest = both_later (IsSeated p c.args.at.now.of.now.codes.now clock) c.loop-i.states c.loop-i.seats i (length p.design.modules)
+      remembered = both_more (IsRemembered p c.args.at.now.of.now.codes.now (clock + 1)) c.loop-i.states c.loop-i.memos i
+          c.take_turn.new.state
+          nobody c.take_turn.new.memo no_memo
+          (omega arith) (omega arith) c.loop-i.invariant.remembered turn.remembered;
+      rest = both_later (IsRemembered p c.args.at.now.of.now.codes.now clock) c.loop-i.states c.loop-i.memos i (length p.design.modules)
           c.take_turn.new.state nobody
-          c.take_turn.new.seat no_seat c.loop-i.invariant.rest;
+          c.take_turn.new.memo no_memo c.loop-i.invariant.rest;
       done = subst (HasDone c.args.at.now.keep c.args.round.now c.take_turn.new.round) (steps_more p clock i (omega arith))
           (done_more c.args.at.now.keep c.args.round.now c.loop-i.round c.take_turn.new.round _ (step_at p clock i) c.loop-i.invariant.done
           turn.done);
@@ -117,7 +118,7 @@ pub returns-clause-moving : goal.returns-clause-moving
 returns-clause-moving c =
     let p = c.args.at.now.of.now.plan.now in
     let clock = c.args.at.now.clock in
-    let count = c.requires.seated.state_count in
+    let count = c.requires.remembered.state_count in
     let all = all_modules p clock in
     c.loop-i.invariant.moving
     ∙ (ap (list_any (moves p clock (state p clock).contents)) (numbered_all (state p clock).modules c.loop-i.i (omega arith))
@@ -128,20 +129,21 @@ unfolding steps_in
 returns-clause-done c =
     let p = c.args.at.now.of.now.plan.now in
     let clock = c.args.at.now.clock in
-    let count = c.requires.seated.state_count in
+    let count = c.requires.remembered.state_count in
     let all = all_modules p clock in
     subst (λ ms. HasDone c.args.at.now.keep c.args.round.now c.loop-i.round (flat_map (module_step p clock (state p clock).contents) ms))
     (numbered_all (state p clock).modules c.loop-i.i (omega arith)) c.loop-i.invariant.done
 
-pub take_turn-requires-clause-seated : goal.take_turn-requires-clause-seated
-take_turn-requires-clause-seated c =
+pub take_turn-requires-clause-remembered : goal.take_turn-requires-clause-remembered
+take_turn-requires-clause-remembered c =
     let p = c.args.at.now.of.now.plan.now in
     let codes = c.args.at.now.of.now.codes.now in
     let clock = c.args.at.now.clock in
     let i = c.loop-i.i in
-    let states = c.requires.seated.state_count in
-    let seats = c.requires.seated.seat_count in
+    let states = c.requires.remembered.state_count in
+    let memos = c.requires.remembered.memo_count in
     let s = get_or_default c.loop-i.states i c.index-states-i.result nobody (omega arith) in
-    let seat = get_or_default c.loop-i.seats i c.index-seats-i.result no_seat (omega arith) in
-    subst (λ (z : ModuleState). IsSeated p codes clock i z (get_or c.loop-i.seats i c.index-seats-i.result)) (sym s)
-    (subst (IsSeated p codes clock i (get_or c.loop-i.states i nobody)) (sym seat) (c.loop-i.invariant.rest i (omega arith) (omega arith)))
+    let memo = get_or_default c.loop-i.memos i c.index-memos-i.result no_memo (omega arith) in
+    subst (λ (z : ModuleState). IsRemembered p codes clock i z (get_or c.loop-i.memos i c.index-memos-i.result)) (sym s)
+    (subst (IsRemembered p codes clock i (get_or c.loop-i.states i nobody)) (sym memo) (c.loop-i.invariant.rest i (omega arith) (omega
+    arith)))

@@ -1,7 +1,7 @@
 use Rattle.std.proofs.Common.{◌≡◌, ℕ, ◌+◌, ◌<◌, ◌≤◌, ◌++◌, [], length, take, get_or}
 use Rattle.std.specs.List.{list_any, flat_map}
 use Rattle.lockstep_defs.specs.{Machine.nobody, Lockstep.numbered, Lockstep.moves, Lockstep.state, Lockstep.module_step, Report.outcomes}
-use Rattle.clock_machine.specs.{Clocks.HasDone, Clocks.step_at, Seats.IsSeated, Seats.no_seat}
+use Rattle.clock_machine.specs.{Clocks.HasDone, Clocks.step_at, Memos.IsRemembered, Memos.no_memo}
 use Rattle.clock_machine.proofs.turns.take_turns.Given as goal
 
 -- the modules so far have had their turns
@@ -11,10 +11,10 @@ invariant-loop-i l =
     let st = state p l.at.clock in
     record {
       moving : l.moving ≡ list_any (moves p l.at.clock st.contents) (take l.i (numbered st));
-      seated : (k : ℕ) → k < l.i → IsSeated p l.at.of.now.codes.now (l.at.clock + 1) k (get_or l.states k nobody) (get_or l.seats k
-          no_seat);
+      remembered : (k : ℕ) → k < l.i → IsRemembered p l.at.of.now.codes.now (l.at.clock + 1) k (get_or l.states k nobody) (get_or l.memos k
+          no_memo);
       rest : (k : ℕ) → l.i ≤ k → k < length p.design.modules
-          → IsSeated p l.at.of.now.codes.now l.at.clock k (get_or l.states k nobody) (get_or l.seats k no_seat);
+          → IsRemembered p l.at.of.now.codes.now l.at.clock k (get_or l.states k nobody) (get_or l.memos k no_memo);
       done : HasDone l.at.keep l.initial.round l.round (flat_map (module_step p l.at.clock st.contents) (take l.i (numbered st)));
       told : (k : ℕ) → k < l.i → get_or l.answers k [] ≡ get_or l.initial.answers k [] ++ outcomes (step_at p l.at.clock k);
       untold : (k : ℕ) → l.i ≤ k → get_or l.answers k [] ≡ get_or l.initial.answers k [];

@@ -13,7 +13,8 @@ loop-k-preserved g c =
     let counts2 = length-map c.args.new.now (λ v. v.items) in
     let more = others_more old new k (omega arith) (omega arith) in
     let here : others_in (get_or old k []) (get_or new k []) ≡ c.count_others-others.result =
-    ap₂ others_in (list_at (λ v. v.items) c.args.old.now k c.index-old-k.result (omega arith) c.index-old-k.is ∙ sym c.as_slice.ensures.value)
+    ap₂ others_in (list_at (λ v. v.items) c.args.old.now k c.index-old-k.result (omega arith) c.index-old-k.is ∙ sym
+    c.as_slice.ensures.value)
     (list_at (λ v. v.items) c.args.new.now k c.index-new-k.result (omega arith) c.index-new-k.is ∙ sym c.as_slice-in-loop-k.ensures.value)
     ∙ sym c.count_others-others.ensures in
     let so_far = c.loop-k.invariant in

@@ -1,4 +1,4 @@
-use Rattle.std.proofs.Common.{[], take}
+use Rattle.std.proofs.Common.{take}
 use Rattle.std.specs.Prelude.{All}
 use Rattle.engine_view.specs.Engines.{held_in}
 use Rattle.cycle_changes.specs.{declared.changes.Put.Put, Around.IsLookedAround}

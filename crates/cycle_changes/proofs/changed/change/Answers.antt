@@ -10,7 +10,8 @@ pub put_found-requires-clause-sound : goal.put_found-requires-clause-sound
 put_found-requires-clause-sound g c = sound_lanes_of c.args.engine.now c.requires.core
 
 pub returns-then-not-find_seeds-clause-put : goal.returns-then-not-find_seeds-clause-put
-returns-then-not-find_seeds-clause-put g c = rw c.clear.ensures.items (none_put c.args.engine.now (sound_lanes_of c.args.engine.now c.requires.core))
+returns-then-not-find_seeds-clause-put g c = rw c.clear.ensures.items (none_put c.args.engine.now (sound_lanes_of c.args.engine.now
+    c.requires.core))
 
 pub returns-then-not-find_seeds-clause-moved : goal.returns-then-not-find_seeds-clause-moved
 returns-then-not-find_seeds-clause-moved g c = rw c.clear.ensures.items (moved_same _)

@@ -1,4 +1,4 @@
-use Rattle.std.proofs.Common.{[], arith}
+use Rattle.std.proofs.Common.{arith}
 use Rattle.flow_word.specs.declared.access.Place.{Place}
 use Rattle.engine_view.specs.Engines.{held_in}
 use Rattle.cycle_changes.specs.Looks.{IsLooked}

@@ -1,4 +1,4 @@
-use Rattle.std.proofs.Common.{[], take}
+use Rattle.std.proofs.Common.{take}
 use Rattle.std.specs.Prelude.{All}
 use Rattle.flow_word.specs.declared.access.Place.{Place}
 use Rattle.engine_view.specs.Engines.{held_in}

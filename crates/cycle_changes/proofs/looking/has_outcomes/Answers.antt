@@ -1,4 +1,4 @@
-use Rattle.std.proofs.Common.{refl, ap, List, [], Bool}
+use Rattle.std.proofs.Common.{refl, ap, List, Bool}
 use Rattle.std.specs.Prelude.{slice_get}
 use Rattle.event_graph.specs.Packed.{in_lane}
 use Rattle.engine_view.specs.Engines.{held_in}

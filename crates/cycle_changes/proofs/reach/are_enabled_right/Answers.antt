@@ -1,4 +1,4 @@
-use Rattle.std.proofs.Common.{[], sym, ap, subst, ◌∙◌, ℕ, ◌+◌, ◌-◌, slice_get}
+use Rattle.std.proofs.Common.{sym, ap, subst, ◌∙◌, ℕ, ◌+◌, ◌-◌, slice_get}
 use Rattle.std.proofs.lemmas.Bool.{both_ways}
 use Rattle.flow_word.specs.{Kinds.side_of, Kinds.other_side, declared.access.Side.Side}
 use Rattle.fifo_table.specs.Channels.{channel_at, free_of, places_of}

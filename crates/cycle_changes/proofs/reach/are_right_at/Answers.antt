@@ -1,4 +1,4 @@
-use Rattle.std.proofs.Common.{sym, subst, ◌∙◌, ℕ, ◌-◌, ◌<◌, ◌≤◌, [], arith}
+use Rattle.std.proofs.Common.{sym, subst, ◌∙◌, ℕ, ◌-◌, ◌<◌, ◌≤◌, arith}
 use Rattle.std.proofs.lemmas.Option.{slice_get-get_or}
 use Rattle.fifo_table.specs.Channels.{channel_at, places_of}
 use Rattle.engine_view.specs.{Emitted.place_of, Engines.held_in, Turns.first_of}

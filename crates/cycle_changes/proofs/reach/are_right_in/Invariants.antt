@@ -1,4 +1,4 @@
-use Rattle.std.proofs.Common.{ℕ, ◌<◌, ◌≤◌, []}
+use Rattle.std.proofs.Common.{ℕ, ◌<◌, ◌≤◌}
 use Rattle.engine_view.specs.{Held.step_of, Engines.held_in}
 use Rattle.cycle_changes.specs.{Looks.IsLooked, Around.HasAccessAt}
 use Rattle.cycle_changes.proofs.reach.are_right_in.Given as goal

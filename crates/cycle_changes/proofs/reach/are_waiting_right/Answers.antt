@@ -1,4 +1,4 @@
-use Rattle.std.proofs.Common.{◌≡◌, sym, ap, ◌∙◌, List, [], ◌∷◌, ◌++◌, length, append-nil}
+use Rattle.std.proofs.Common.{◌≡◌, sym, ap, ◌∙◌, List, ◌∷◌, ◌++◌, length, append-nil}
 use Rattle.std.proofs.lemmas.List.Elements.{All-push}
 use Rattle.flow_word.specs.{Kinds.side_of, Kinds.other_side, declared.access.Access.Access, declared.access.Step.Step}
 use Rattle.event_graph.specs.Packed.{in_lane}
@@ -25,7 +25,8 @@ pub are_enabled_right-requires-clause-access : goal.are_enabled_right-requires-c
 are_enabled_right-requires-clause-access c =
     let is = parts (goal.at.are_enabled_right-requires-clause-access c).In-Some in
     let xs = c.into_iter-access-iterator.result in
-    rw (held (goal.at.are_enabled_right-requires-clause-access c).After-into_iter-access-iterator) (length c.loop-access.yielded, within xs _ _ _ is, here xs _ _ _ is c.in-Some.access)
+    rw (held (goal.at.are_enabled_right-requires-clause-access c).After-into_iter-access-iterator) (length c.loop-access.yielded, within
+    xs _ _ _ is, here xs _ _ _ is c.in-Some.access)
 
 pub loop-access-preserved : goal.loop-access-preserved
 loop-access-preserved c = (

@@ -1,4 +1,4 @@
-use Rattle.std.proofs.Common.{◌≡◌, ◌++◌, []}
+use Rattle.std.proofs.Common.{◌≡◌, ◌++◌}
 use Rattle.std.specs.Prelude.{All}
 use Rattle.flow_word.specs.{Kinds.side_of, Kinds.other_side, declared.access.Access.Access}
 use Rattle.engine_view.specs.Engines.{held_in}

@@ -1,4 +1,4 @@
-use Rattle.std.proofs.Common.{[], sym, ap, ◌∙◌, List, length, ◌<◌, subst, get_or}
+use Rattle.std.proofs.Common.{sym, ap, ◌∙◌, List, length, ◌<◌, subst, get_or}
 use Rattle.flow_word.specs.{declared.access.Access.Access, declared.access.Step.Step}
 use Rattle.engine_view.specs.Engines.{held_in}
 use Rattle.cycle_changes.specs.Around.{IsAccessAt}

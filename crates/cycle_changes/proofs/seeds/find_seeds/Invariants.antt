@@ -1,4 +1,4 @@
-use Rattle.std.proofs.Common.{ℕ, ◌<◌, ◌⊎◌, []}
+use Rattle.std.proofs.Common.{ℕ, ◌<◌, ◌⊎◌}
 use Rattle.std.specs.Prelude.{Contains}
 use Rattle.flow_word.specs.declared.access.Side.TheVariants.{Push}
 use Rattle.engine_view.specs.{Emitted.place_of, Held.step_of, Engines.held_in}

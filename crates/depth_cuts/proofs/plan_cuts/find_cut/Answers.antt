@@ -1,5 +1,4 @@
 use Rattle.std.proofs.Common.{List, length, subst, ℕ}
-use Rattle.path_check.specs.Waits.{held_with}
 use Rattle.depth_cuts.specs.Raised.{AreRaised, AreNext}
 use Rattle.depth_cuts.proofs.Needed.{cut_shown}
 use Rattle.depth_cuts.proofs.plan_cuts.find_cut.Goals as goal
@@ -9,5 +8,5 @@ returns c = λ p f quiet deepest fit.
     let trail = c.raise_all.new.trail in
     let raised = subst (AreRaised c.args.depths.now) c.as_slice.ensures (c.are_raised.ensures c.if-not-are_raised.false) in
     let next = subst (λ (zs : List ℕ). AreNext zs (length zs) c.in_ok-cut.cut.needs) c.as_slice-2.ensures c.in_ok-cut.ensures in
-    cut_shown p (held_with c.args.engine.now c.args.ends.now) c.args.ends.now f quiet deepest
+    cut_shown p c.args.engine.now f quiet deepest
     c.args.depths.now trail.depths fit raised c.in_ok-cut.cut next c.args.clock (λ t. c.is_late.ensures c.if-not-is_late.false p t)

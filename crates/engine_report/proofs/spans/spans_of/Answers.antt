@@ -46,14 +46,19 @@ returns c = λ p f e.
     let last = subst (λ (j : ℕ). c.loop-step.last ≡ cycle_before cycles j) all c.loop-step.invariant.last in
     let passed = subst (λ (j : ℕ). HasPassedSteps p c.args.owner c.args.clock cycles j c.loop-step.spans) all
     (c.loop-step.invariant.passed p f e) in
-    let r : IsRead p h c.args.engine.now.ends.items c.args.owner c.args.clock = record { finished = f; inside = c.requires.owner; its_clock = e } in
+    let r : IsRead p h c.args.engine.now.ends.items c.args.owner c.args.clock = record {
+      finished = f;
+      inside = c.requires.owner;
+      its_clock = e;
+    } in
     elim c.if-timed-len.branch [
       | then-timed-len+in_ok-go_on-2 w ↦
           let few : c.args.owner < length c.args.engine.now.ends.items = c.requires.ends in
           let same : w.index.result.now ≡ end_at c.args.engine.now.ends.items c.args.owner =
           get_or_read c.args.engine.now.ends.items c.args.owner w.index.result.now few w.index.ensures None in
           let gap = w.gap_of.ensures ∙ ap (λ (o : Option Advance). gap_of_end o) same in
-          subst (AreSpans p c.args.owner) (sym w.spans-is) (end_told p h c.args.engine.now.ends.items c.args.owner c.args.clock r c.loop-step.last
+          subst (AreSpans p c.args.owner) (sym w.spans-is) (end_told p h c.args.engine.now.ends.items c.args.owner c.args.clock r
+          c.loop-step.last
           w.min-then-timed-len.result c.loop-step.spans w.go_on-then-timed-len.new.spans (omega arith) last
           (w.min-then-timed-len.ensures ∙ ap (λ (n : ℕ). min (c.loop-step.last + n) c.args.clock) gap) passed
           (w.in_ok-go_on-2.ensures.spans p c.args.owner) w.in_ok-go_on-2.ensures.reached)

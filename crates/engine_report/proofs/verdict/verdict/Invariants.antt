@@ -4,4 +4,5 @@ use Rattle.engine_report.specs.Standings.{standing_at, together}
 use Rattle.engine_report.proofs.verdict.verdict.Given as goal
 
 abbrev pub invariant-loop-owner : goal.invariant-loop-owner
-invariant-loop-owner l = l.all ≡ together (map (standing_at l.engine.graph.lanes l.engine.fifos.channels l.engine.ends.items) (range_with_len 0 l.owner))
+invariant-loop-owner l = l.all ≡ together (map (standing_at l.engine.graph.lanes l.engine.fifos.channels l.engine.ends.items)
+    (range_with_len 0 l.owner))

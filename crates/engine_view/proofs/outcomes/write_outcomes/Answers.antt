@@ -24,7 +24,7 @@ loop-access-preserved-then-not-is_blocking c =
           c.args.log.now c.loop-access.log (length c.loop-access.yielded) no_access c.loop-access.invariant.1
           (within c.args.accesses.now _ _ _ (parts some)) c.add.new.self c.outcome_in-outcome.result
           (rw (same some) (sym c.is_blocking.ensures ∙ c.if-not-is_blocking.true)) (rw (same some) c.outcome_in-outcome.ensures)
-          c.add.ensures.logs c.add.ensures.own_room c.add.ensures.other_rooms),
+          c.add.ensures.logs c.add.ensures.rooms.own c.add.ensures.rooms.others),
     )
 
 pub loop-access-preserved : goal.loop-access-preserved

@@ -1,4 +1,4 @@
-use Rattle.std.proofs.Common.{◌≡◌, ◌∙◌, refl, sym, ap, subst, arith, ℕ, ◌+◌, List}
+use Rattle.std.proofs.Common.{◌≡◌, ◌∙◌, sym, ap, subst, arith, ℕ, ◌+◌, List}
 use Rattle.flow_design.specs.{declared.plan.Plan.Plan, Plans.with_depth}
 use Rattle.std.specs.Prelude.{slice_index}
 use Rattle.least_depths.specs.{Halving.middle, Lowering.is_in_time}
@@ -38,7 +38,8 @@ is_timely-requires-clause-fits g c = λ κs outlives.
     let low = x.low in
     let high = x.high in
     let most = c.requires.depth.most in
-    alike_fits c.args.session.now.plan c.args.target.now.channel c.loop-least.session.plan (middle c.loop-least.least c.loop-least.most) x.alike
+    alike_fits c.args.session.now.plan c.args.target.now.channel c.loop-least.session.plan (middle c.loop-least.least c.loop-least.most)
+    x.alike
     c.requires.depth.fifo c.requires.depth.entry (omega (arith, c.loop-least-test.true)) (omega (arith, c.loop-least-test.true))
 
 -- what is known of the middle
@@ -106,7 +107,8 @@ edit-requires-clause-fits g c = λ κs outlives.
     let ordered = x.ordered in
     let high = x.high in
     let most = c.requires.depth.most in
-    alike_fits c.args.session.now.plan c.args.target.now.channel c.loop-least.session.plan c.loop-least.least x.alike c.requires.depth.fifo c.requires.depth.entry
+    alike_fits c.args.session.now.plan c.args.target.now.channel c.loop-least.session.plan c.loop-least.least x.alike
+    c.requires.depth.fifo c.requires.depth.entry
     x.low (omega arith)
 
 pub returns-clause-plan : goal.returns-clause-plan
@@ -115,13 +117,15 @@ returns-clause-plan g c =
     let f = c.args.target.now.channel in
     let s = c.loop-least.session in
     let x = c.loop-least.invariant.halving in
-    let ends = halving_ends p f c.args.target.now.clock s.plan c.loop-least.least c.loop-least.most c.loop-least.tries c.loop-least-test.false x in
+    let ends = halving_ends p f c.args.target.now.clock s.plan c.loop-least.least c.loop-least.most c.loop-least.tries
+    c.loop-least-test.false x in
     edited_plan s c.edit.new.self (record { channel = f; depth = c.loop-least.least }) c.in_ok-edit.ensures.edited
     ∙ (x.alike c.loop-least.least ∙ ap (with_depth p f) ends.0)
 
 pub returns-clause-tries : goal.returns-clause-tries
 returns-clause-tries g c =
-    (halving_ends c.args.session.now.plan c.args.target.now.channel c.args.target.now.clock c.loop-least.session.plan c.loop-least.least c.loop-least.most
+    (halving_ends c.args.session.now.plan c.args.target.now.channel c.args.target.now.clock c.loop-least.session.plan c.loop-least.least
+    c.loop-least.most
     c.loop-least.tries c.loop-least-test.false c.loop-least.invariant.halving).1
 
 pub returns-clause-runs : goal.returns-clause-runs
@@ -138,7 +142,8 @@ returns-clause-runs g c =
 pub returns-in_err-is_timely-clause-made : goal.returns-in_err-is_timely-clause-made
 returns-in_err-is_timely-clause-made g c =
     let x = c.loop-least.invariant.halving in
-    let tries = tries_so_far c.args.session.now.plan c.args.target.now.channel c.args.target.now.clock c.loop-least.session.plan c.loop-least.least
+    let tries = tries_so_far c.args.session.now.plan c.args.target.now.channel c.args.target.now.clock c.loop-least.session.plan
+    c.loop-least.least
     c.loop-least.most c.loop-least.tries x in
     let before = c.loop-least.invariant.made in
     let more = c.is_timely.ensures.made in
@@ -147,7 +152,8 @@ returns-in_err-is_timely-clause-made g c =
 pub returns-clause-made : goal.returns-clause-made
 returns-clause-made g c =
     let x = c.loop-least.invariant.halving in
-    let tries = tries_so_far c.args.session.now.plan c.args.target.now.channel c.args.target.now.clock c.loop-least.session.plan c.loop-least.least
+    let tries = tries_so_far c.args.session.now.plan c.args.target.now.channel c.args.target.now.clock c.loop-least.session.plan
+    c.loop-least.least
     c.loop-least.most c.loop-least.tries x in
     let before = c.loop-least.invariant.made in
     let more = c.edit.ensures.few in

@@ -17,7 +17,8 @@ bits_of-bits-requires-clause-count g c =
 pub bits_of-bits-requires-clause-few : goal.bits_of-bits-requires-clause-few
 bits_of-bits-requires-clause-few g c =
     let within = leasts_within c.args.slack c.args.plan.now c.fits.ensures in
-    let count = ap (λ (ds : List ℕ). length ds) (c.as_slice-2.ensures ∙ ap (λ (x : Leasts). x.depths) c.in_ok-found.ensures) ∙ within.count in
+    let count = ap (λ (ds : List ℕ). length ds) (c.as_slice-2.ensures ∙ ap (λ (x : Leasts). x.depths) c.in_ok-found.ensures) ∙
+    within.count in
     let few = c.fits.ensures.channel_count in
     omega arith
 

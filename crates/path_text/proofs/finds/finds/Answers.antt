@@ -55,12 +55,14 @@ bounds-as_slice-channel-in-loop-access-2 c =
 
 pub find_of-requires-clause-channel : goal.find_of-requires-clause-channel
 find_of-requires-clause-channel c =
-    channels_inside c.args.plan.now c.requires.fits c.args.log.now c.requires.log c.loop-access.access-index no_access c.loop-access-test.true
+    channels_inside c.args.plan.now c.requires.fits c.args.log.now c.requires.log c.loop-access.access-index no_access
+    c.loop-access-test.true
 
 pub find_of-requires-clause-in_order : goal.find_of-requires-clause-in_order
 find_of-requires-clause-in_order c =
     let log = c.args.log.now in
-    let inside = channels_inside c.args.plan.now c.requires.fits log c.requires.log c.loop-access.access-index no_access c.loop-access-test.true in
+    let inside = channels_inside c.args.plan.now c.requires.fits log c.requires.log c.loop-access.access-index no_access
+    c.loop-access-test.true in
     let channels = ap length c.as_slice-channels.ensures in
     let f = (get_or log c.loop-access.access-index no_access).event.channel in
     let pops = kept_at log Pop c.in_ok-pops.pops c.as_slice.result.now f c.index-as_slice-channel.result c.index-as_slice-channel.is
@@ -70,7 +72,8 @@ find_of-requires-clause-in_order c =
 pub find_of-requires-clause-front : goal.find_of-requires-clause-front
 find_of-requires-clause-front c hit =
     let log = c.args.log.now in
-    let inside = channels_inside c.args.plan.now c.requires.fits log c.requires.log c.loop-access.access-index no_access c.loop-access-test.true in
+    let inside = channels_inside c.args.plan.now c.requires.fits log c.requires.log c.loop-access.access-index no_access
+    c.loop-access-test.true in
     let channels = ap length c.as_slice-channels.ensures in
     let f = (get_or log c.loop-access.access-index no_access).event.channel in
     let pops = kept_at log Pop c.in_ok-pops.pops c.as_slice.result.now f c.index-as_slice-channel.result c.index-as_slice-channel.is
@@ -78,7 +81,8 @@ find_of-requires-clause-front c hit =
     let pushes = kept_at log Push c.in_ok-pushes.pushes c.as_slice-in-loop-access.result.now f
     c.index-as_slice-channel-in-loop-access.result c.index-as_slice-channel-in-loop-access.is c.as_slice-in-loop-access.ensures
     (omega (arith, c.in_ok-pushes.ensures.count)) (c.in_ok-pushes.ensures.each f (omega arith)) in
-    let there = front_there c.args.plan.now c.requires.fits log c.requires.log c.loop-access.access-index no_access c.loop-access-test.true hit in
+    let there = front_there c.args.plan.now c.requires.fits log c.requires.log c.loop-access.access-index no_access
+    c.loop-access-test.true hit in
     omega (arith, ap (λ (xs : List ℕ). before xs (get_or log c.loop-access.access-index no_access).event.cycle) pops, ap length pushes)
 
 pub note-requires : goal.note-requires

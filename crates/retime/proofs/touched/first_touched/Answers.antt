@@ -14,7 +14,7 @@ pub loop-before-init : goal.loop-before-init
 loop-before-init c =
     let some : 1 ≤ c.min-full.result = omega (arith, c.min-full.ensures, c.requires.edit.least, c.depth-stands.ensures.least) in
     none_yet c.args.graph.now.lanes (channel_at c.args.fifos.now.channels c.args.edit.now.channel) c.min-full.result _
-    c.modules-modules.ensures.sound c.requires.in_order some (omega arith)
+    c.stays_sound.ensures c.requires.in_order some (omega arith)
 
 pub returns-in_default-clause-none : goal.returns-in_default-clause-none
 returns-in_default-clause-none c = λ e.

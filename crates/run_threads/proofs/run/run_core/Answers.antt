@@ -2,14 +2,14 @@ use Rattle.std.proofs.{Common.◌≡◌, Common.[], Common.length, Common.ap, Co
 use mathlib.Core.List.{IsPrefix}
 use Rattle.timing_bridge.specs.Entries.{history_of}
 use Rattle.sim_hub.specs.{Hubs.perf_view, Closings.IsWholeRun, Closings.ClosedIs}
-use Rattle.run_threads.specs.{declared.drive.Seat.Seat, Slots.AreHere}
+use Rattle.run_threads.specs.{declared.drive.Driver.Driver, Slots.AreHere}
 use Rattle.run_threads.proofs.Openings.{prefix_trans, one_plan}
 use Rattle.run_threads.proofs.Places.{new_here, here_own, here_home, here_each}
 use Rattle.run_threads.proofs.run.run_core.Goals as goal
 
 pub run_all-perf-requires-clause-here : goal.run_all-perf-requires-clause-here
 run_all-perf-requires-clause-here g c κs within =
-    subst (AreHere c.in_ok-hub.hub) (sym c.in_ok-seats.ensures)
+    subst (AreHere c.in_ok-hub.hub) (sym c.in_ok-drivers.ensures)
     (new_here c.in_ok-hub.hub c.args.core.plan c.in_ok-hub.modules.items c.in_ok-hub.ensures.modules)
 
 pub close-requires-clause-own : goal.close-requires-clause-own
@@ -19,10 +19,10 @@ close-requires-clause-own g c =
 pub close-requires-clause-each : goal.close-requires-clause-each
 close-requires-clause-each g c =
     let out = c.run_all-perf.ensures in
-    let seats : length c.in_ok-seats.seats.items ≡ length c.in_ok-hub.modules.items =
-    sym (length-map c.in_ok-seats.seats.items (λ (s : Seat). s.pass)) ∙ ap length c.in_ok-seats.ensures in
+    let drivers : length c.in_ok-drivers.drivers.items ≡ length c.in_ok-hub.modules.items =
+    sym (length-map c.in_ok-drivers.drivers.items (λ (s : Driver). s.pass)) ∙ ap length c.in_ok-drivers.ensures in
     here_each c.in_ok-hub.hub c.run_all-perf.result.0 c.run_all-perf.result.1.items
-    (out.later.made ∙ (c.in_ok-hub.ensures.made ∙ (sym seats ∙ sym out.count))) out.here
+    (out.later.made ∙ (c.in_ok-hub.ensures.made ∙ (sym drivers ∙ sym out.count))) out.here
 
 pub close-requires-clause-home : goal.close-requires-clause-home
 close-requires-clause-home g c = here_home c.in_ok-hub.hub c.run_all-perf.result.1.items c.run_all-perf.ensures.here

@@ -62,7 +62,8 @@ returns-clause-opening c =
     let over : over_of c.in_ok-ends.ends.items ≡ replicate n false = ap over_of c.in_ok-ends.ensures ∙ beginning.none_over n in
     let is = beginning.held_is n (kinds_of c.args.plan) (held_in s) c.in_ok-graph.ensures
     (c.in_ok-fifos.ensures ∙ ap (map unused) c.in_ok-kinds.ensures) c.in_ok-log.ensures over in
-    ap (λ (p : Plan). core_of (design p) (held_in s)) c.into_plan.ensures.plan ∙ ap (core_of (design c.args.plan)) (sym is) ∙ (beginning.begins c.args.plan c.fits.ensures n
+    ap (λ (p : Plan). core_of (design p) (held_in s)) c.into_plan.ensures.plan ∙ ap (core_of (design c.args.plan)) (sym is) ∙
+    (beginning.begins c.args.plan c.fits.ensures n
     (ap (λ (xs : List Module). length xs) c.modules.ensures)).0
 
 pub returns-clause-own : goal.returns-clause-own

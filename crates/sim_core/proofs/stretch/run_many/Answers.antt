@@ -46,7 +46,8 @@ returns-in-Ok-false-clause-out c = λ p listed o k.
 pub returns-in-Ok-false-clause-acts : goal.returns-in-Ok-false-clause-acts
 returns-in-Ok-false-clause-acts c = λ p listed o k.
     subst (ActsAll (design p) p.cycles (core_in p c.args.engine.now)
-    (runs c.loop-runs.runs c.args.member.now.number)) (sym (ap (core_of (design p)) (c.in-Ok-false.ensures.unchanged c.in-Ok-false.field-0-test)))
+    (runs c.loop-runs.runs c.args.member.now.number)) (sym (ap (core_of (design p)) (c.in-Ok-false.ensures.unchanged
+    c.in-Ok-false.field-0-test)))
     (c.loop-runs.invariant.acts p listed o k)
 
 pub returns-in-Ok-false-clause-still : goal.returns-in-Ok-false-clause-still

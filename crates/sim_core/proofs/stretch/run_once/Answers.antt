@@ -1,6 +1,6 @@
 use Rattle.std.proofs.Common.{ℕ, false, get_or, sym, ap, subst, ◌∙◌, List, Option}
 use Rattle.std.proofs.lemmas.Bool.{both_ways}
-use Rattle.flow_design.specs.{declared.plan.Plan.Plan, declared.state.Advance.Advance, declared.state.ModuleState.ModuleState}
+use Rattle.flow_design.specs.{declared.plan.Plan.Plan, declared.state.ModuleState.ModuleState}
 use Rattle.lockstep_defs.specs.Lockstep.{module_at}
 use Rattle.module_interp.specs.declared.run.ModuleRun.{ModuleRun}
 use Rattle.event_timing.specs.{Core.Core, Actions.Acts, Actions.Action.Run}

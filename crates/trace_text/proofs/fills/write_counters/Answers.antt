@@ -10,7 +10,8 @@ use Rattle.trace_text.proofs.fills.write_counters.Goals as goal
 
 -- the lines of one channel more, up to the last clock
 channel_more : (p : Plan) (f last : ℕ) (first : List ℕ) → last ≡ last_clock p
-    → (first ++ further (flat_map (channel_events p) (range_with_len 0 f))) ++ further (cond (is_fifo (kind_at p f)) (fill_events p f last) [])
+    → (first ++ further (flat_map (channel_events p) (range_with_len 0 f))) ++ further (cond (is_fifo (kind_at p f)) (fill_events p f
+    last) [])
     ≡ first ++ further (flat_map (channel_events p) (range_with_len 0 (f + 1)))
 channel_more p f last first is =
     numbers_more (channel_events p) f first _ _ refl

@@ -16,7 +16,8 @@ TellsFill w told = (p : Plan) → FitsEngine p → IsFifoWalk p w → (clock : �
     → told ≡ fill p w.channel clock
 
 -- at its own clock
-fill_here : (p : Plan) → FitsEngine p → (w : FifoWalk) → IsFifoWalk p w → w.clock ≤ next_of w → (f told : ℕ) → w.channel ≡ f → TellsFill w told
+fill_here : (p : Plan) → FitsEngine p → (w : FifoWalk) → IsFifoWalk p w → w.clock ≤ next_of w → (f told : ℕ) → w.channel ≡ f → TellsFill w
+    told
     → told ≡ fill p f w.clock
 fill_here p fits w h early f told same tells =
     tells p fits h w.clock (omega arith) early h.within ∙ ap (λ (g : ℕ). fill p g w.clock) same
@@ -83,7 +84,8 @@ went_on : (p q : Plan) → FitsEngine p → (w new : FifoWalk) → IsFifoWalk p 
     → w.channel ≡ f → new.channel ≡ w.channel → new.clock ≡ next_of w + 1 → next_of w < last_clock p → read ≡ new.clock
     → held ≡ fill p f w.clock → TellsFill new now → name ≡ channel_name q.design f → q ≡ p
     → (now ≡ fill p f new.clock)
-    × (filled_to p f first w.clock ++ further (cond (not (eqb now held)) (fill_event name read now ∷ []) []) ≡ filled_to p f first new.clock)
+    × (filled_to p f first w.clock ++ further (cond (not (eqb now held)) (fill_event name read now ∷ []) []) ≡ filled_to p f first
+    new.clock)
 went_on p q fits w new h after f read held now first name own channel at within is was tells named same =
     let told = fill_here p fits new after (walk_early p fits new after) f now (channel ∙ own) tells in (
       told,
@@ -117,7 +119,11 @@ returns-in_err-write_change-clause-err g c =
     c.pass.ensures.channel c.pass.ensures.clock (omega (arith, c.next.ensures, c.requires.last)) c.clock.ensures keeps.held
     c.fill-fill.ensures c.channel_name-name.ensures c.plan.ensures in
     let after = c.pass.ensures.walk in
-    let whole = filled_rest p c.args.channel c.args.pending.now c.pass.new.self.clock c.args.last (omega (arith, after.within, c.requires.last)) in
+    let whole = filled_rest p c.args.channel c.args.pending.now c.pass.new.self.clock c.args.last (omega (
+      arith,
+      after.within,
+      c.requires.last,
+    )) in
     on_err _ (prefix_as _ _ _ _ (told_prefix_more _ _ _ _ _ _ whole.0 keeps.told c.in_err-write_change.ensures.err)
     (ap (λ (t : List ℕ). t ++ whole.0) on.1 ∙ whole.1))
 

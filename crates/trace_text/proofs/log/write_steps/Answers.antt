@@ -45,9 +45,10 @@ pub returns-in_err-log_step-clause-err : goal.returns-in_err-log_step-clause-err
 returns-in_err-log_step-clause-err g c =
     let p = c.args.core.now.plan in
     let h = c.args.core.now.held in
-    let sound = subst (All IsSoundLane) c.engine.ensures.lanes c.modules-modules.ensures.sound in
+    let sound = subst (All IsSoundLane) c.engine.ensures.lanes c.stays_sound.ensures in
     let telling = c.loop-step.invariant.telling in
-    let whole = rest_of p h c.ends-ends.result.now c.ends-ends.ensures sound c.loop-step.walk c.loop-step.invariant.walk c.args.pending.now
+    let whole = rest_of p h c.engine.result.now.ends.items c.engine.ensures.finished sound c.loop-step.walk c.loop-step.invariant.walk
+    c.args.pending.now
     telling.keys telling.given in
     on_err _ (prefix_as _ _ _ _ (told_prefix _ _ _ _ whole.0 telling.text) whole.1)
 
@@ -56,17 +57,17 @@ write_log-requires g c =
     let p = c.args.core.now.plan in
     let h = c.args.core.now.held in
     let same = c.engine.ensures.lanes in
-    let sound = subst (All IsSoundLane) same c.modules-modules.ensures.sound in
+    let sound = subst (All IsSoundLane) same c.stays_sound.ensures in
     let telling = c.loop-step.invariant.telling in
     let key = c.in-Some.step in
     let timed = subst (λ (ls : List Lane). IsTimedKey ls key) same c.in-Some.ensures.timed in
     let walk = subst (λ (ls : List Lane). IsWalk ls c.advance.new.self) same c.in-Some.ensures.walk in
     let given = given_more c.engine.result.now.graph.lanes h.lanes same c.loop-step.walk c.advance.new.self key c.in-Some.ensures.some
     telling.keys telling.given in
-    let read = step_read p h c.ends-ends.result.now c.ends-ends.ensures key timed c.log_step.new.log
+    let read = step_read p h c.engine.result.now.ends.items c.engine.ensures.finished key timed c.log_step.new.log
     (c.in_ok-log_step.ensures ∙ ap (λ (xs : List LoggedAccess). xs ++ logged_at h key) c.truncate.ensures) in
-    let named = step_named p h c.ends-ends.result.now c.ends-ends.ensures sound
-    (c.reports_name_their_plans.ensures p c.ends-ends.ensures.fits) c.advance.new.self walk telling.keys key given in
+    let named = step_named p h c.engine.result.now.ends.items c.engine.ensures.finished sound
+    (c.reports_name_their_plans.ensures p c.engine.ensures.finished.fits) c.advance.new.self walk telling.keys key given in
     subst (λ (q : Plan). All (IsOfDesign q.design) c.as_slice.result.now) (sym c.plan.ensures)
     (subst (All (IsOfDesign p.design)) (sym (c.as_slice.ensures ∙ read)) named)
 
@@ -78,7 +79,7 @@ loop-step-preserved g c =
     let telling = c.loop-step.invariant.telling in
     let key = c.in-Some.step in
     let timed = subst (λ (ls : List Lane). IsTimedKey ls key) same c.in-Some.ensures.timed in
-    let read = step_read p h c.ends-ends.result.now c.ends-ends.ensures key timed c.log_step.new.log
+    let read = step_read p h c.engine.result.now.ends.items c.engine.ensures.finished key timed c.log_step.new.log
     (c.in_ok-log_step.ensures ∙ ap (λ (xs : List LoggedAccess). xs ++ logged_at h key) c.truncate.ensures) in
     record {
       walk = subst (λ (ls : List Lane). IsWalk ls c.advance.new.self) same c.in-Some.ensures.walk;
@@ -98,16 +99,16 @@ returns-in_err-write_log-clause-err g c =
     let p = c.args.core.now.plan in
     let h = c.args.core.now.held in
     let same = c.engine.ensures.lanes in
-    let sound = subst (All IsSoundLane) same c.modules-modules.ensures.sound in
+    let sound = subst (All IsSoundLane) same c.stays_sound.ensures in
     let telling = c.loop-step.invariant.telling in
     let key = c.in-Some.step in
     let timed = subst (λ (ls : List Lane). IsTimedKey ls key) same c.in-Some.ensures.timed in
     let walk = subst (λ (ls : List Lane). IsWalk ls c.advance.new.self) same c.in-Some.ensures.walk in
     let given = given_more c.engine.result.now.graph.lanes h.lanes same c.loop-step.walk c.advance.new.self key c.in-Some.ensures.some
     telling.keys telling.given in
-    let read = step_read p h c.ends-ends.result.now c.ends-ends.ensures key timed c.log_step.new.log
+    let read = step_read p h c.engine.result.now.ends.items c.engine.ensures.finished key timed c.log_step.new.log
     (c.in_ok-log_step.ensures ∙ ap (λ (xs : List LoggedAccess). xs ++ logged_at h key) c.truncate.ensures) in
-    let whole = rest_of p h c.ends-ends.result.now c.ends-ends.ensures sound c.advance.new.self walk c.args.pending.now
+    let whole = rest_of p h c.engine.result.now.ends.items c.engine.ensures.finished sound c.advance.new.self walk c.args.pending.now
     (telling.keys ++ key ∷ []) given in
     on_err _ (prefix_as _ _ _ _ (told_prefix_more _ _ _ _ _ _ whole.0 telling.text c.in_err-write_log.ensures.err)
     (ap (λ (t : List ℕ). t ++ whole.0)
@@ -122,8 +123,8 @@ returns-clause-ok g c =
     let same = c.engine.ensures.lanes in
     let telling = c.loop-step.invariant.telling in
     let all = c.in_default.ensures.none refl telling.keys
-    (subst (λ (ls : List Lane). HasGiven ls c.loop-step.walk telling.keys) (sym same) telling.given) p h c.ends-ends.result.now
-    c.ends-ends.ensures (sym same) in
+    (subst (λ (ls : List Lane). HasGiven ls c.loop-step.walk telling.keys) (sym same) telling.given) p h c.engine.result.now.ends.items
+    c.engine.ensures.finished (sym same) in
     told_as _ _ _ _ _ telling.text
     (ap (λ (steps : List HistoryStep). c.args.pending.now ++ step_lines p steps) all
     ∙ ap (λ (t : List ℕ). c.args.pending.now ++ t) (history_lines p))

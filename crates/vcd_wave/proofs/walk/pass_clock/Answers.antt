@@ -7,7 +7,8 @@ use Rattle.vcd_wave.proofs.Walking.{ArePassed, passed_first, passed_next, passed
 use Rattle.vcd_wave.proofs.walk.pass_clock.Goals as goal
 
 -- as many walks as at the start
-same_count : (p : Plan) (clock k : ℕ) (old ws : List FifoWalk) (changes : List FillChange) → AreWalks p clock old → ArePassed p clock k ws changes
+same_count : (p : Plan) (clock k : ℕ) (old ws : List FifoWalk) (changes : List FillChange) → AreWalks p clock old → ArePassed p clock k ws
+    changes
     → length ws ≡ length old
 same_count p clock k old ws changes h passed =
     sym (length-map ws (λ (w : FifoWalk). w.channel))

@@ -9,13 +9,15 @@ pub returns-in_ok-refuse_words-in-Err-Refused-clause-answers : goal.returns-in_o
 returns-in_ok-refuse_words-in-Err-Refused-clause-answers g c =
     of_each _ (g.S.Source.left c.args.source.now) (λ bytes.
     begins_whole (Answers (map string_bytes c.args.words.now) bytes) refused_words _ (Ok c.in_ok-refuse_words-in-Err-Refused.field-0)
-    (subst (λ (o : Option Command). AnswersCommand o bytes refused_words) (sym (c.in-Err-Refused.ensures.refused (ap Err c.in-Err-Refused.field-0-is))) refl)
+    (subst (λ (o : Option Command). AnswersCommand o bytes refused_words) (sym (c.in-Err-Refused.ensures.refused (ap Err
+    c.in-Err-Refused.field-0-is))) refl)
     c.in_ok-refuse_words-in-Err-Refused.ensures)
 
 pub returns-in_ok-refuse_words-in-Err-Refused-clause-without_input : goal.returns-in_ok-refuse_words-in-Err-Refused-clause-without_input
 returns-in_ok-refuse_words-in-Err-Refused-clause-without_input g c = λ none.
     begins_whole (Answers (map string_bytes c.args.words.now) []) refused_words _ (Ok c.in_ok-refuse_words-in-Err-Refused.field-0)
-    (subst (λ (o : Option Command). AnswersCommand o [] refused_words) (sym (c.in-Err-Refused.ensures.refused (ap Err c.in-Err-Refused.field-0-is))) refl)
+    (subst (λ (o : Option Command). AnswersCommand o [] refused_words) (sym (c.in-Err-Refused.ensures.refused (ap Err
+    c.in-Err-Refused.field-0-is))) refl)
     c.in_ok-refuse_words-in-Err-Refused.ensures
 
 pub returns-in_err-refuse_words-in-Err-Refused-clause-answers : goal.returns-in_err-refuse_words-in-Err-Refused-clause-answers

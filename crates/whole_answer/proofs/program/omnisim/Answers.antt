@@ -1,4 +1,4 @@
-use Rattle.std.specs.Prelude.{map, string_bytes, [], IfSome}
+use Rattle.std.specs.Prelude.{map, string_bytes, []}
 use Rattle.whole_answer.proofs.{Answering.in_each, Told.told_rest, Told.told_fault}
 use Rattle.whole_answer.proofs.program.omnisim.Goals as goal
 

@@ -8,7 +8,8 @@ overflow_add-step c =
     let o = c.args.owner in
     let within = c.requires.walk.within o c.requires.inside in
     let timed = c.frontier-timed.ensures in
-    let same : get_or c.as_slice.result.now o 0 ≡ get_or c.args.self.now.given o 0 = ap (λ (xs : List ℕ). get_or xs o 0) c.as_slice.ensures in
+    let same : get_or c.as_slice.result.now o 0 ≡ get_or c.args.self.now.given o 0 = ap (λ (xs : List ℕ). get_or xs o 0)
+    c.as_slice.ensures in
     omega (arith, within, timed.count, timed.few, same)
 
 pub returns-clause-walk : goal.returns-clause-walk
@@ -18,7 +19,7 @@ returns-clause-walk c =
     let o = c.args.owner in
     let same : get_or c.as_slice.result.now o 0 ≡ get_or old.given o 0 = ap (λ (xs : List ℕ). get_or xs o 0) c.as_slice.ensures in
     let next = c.cycle_at-next.ensures ∙ ap (λ (k : ℕ). next_cycle lanes o (k + 1)) same in
-    walk_given lanes c.modules-modules.ensures.sound old _ c.requires.walk o c.requires.inside c.requires.turn c.requires.due
+    walk_given lanes c.stays_sound.ensures old _ c.requires.walk o c.requires.inside c.requires.turn c.requires.due
     (c.put.ensures ∙ ap (λ (k : ℕ). set old.given o (k + 1)) same) (c.put-2.ensures ∙ ap (set old.next o) next) refl
     (c.min-self.ensures ∙ ap (min old.later) next) refl
 
@@ -29,6 +30,6 @@ returns-clause-found c =
     let o = c.args.owner in
     let same : get_or c.as_slice.result.now o 0 ≡ get_or old.given o 0 = ap (λ (xs : List ℕ). get_or xs o 0) c.as_slice.ensures in
     let next = c.cycle_at-next.ensures ∙ ap (λ (k : ℕ). next_cycle lanes o (k + 1)) same in
-    given_found lanes c.modules-modules.ensures.sound old _ c.requires.walk o c.requires.inside c.requires.turn c.requires.due
+    given_found lanes c.stays_sound.ensures old _ c.requires.walk o c.requires.inside c.requires.turn c.requires.due
     (c.put.ensures ∙ ap (λ (k : ℕ). set old.given o (k + 1)) same) (c.put-2.ensures ∙ ap (set old.next o) next) refl
     (c.min-self.ensures ∙ ap (min old.later) next) refl (get_or c.as_slice.result.now o 0) same

@@ -1,5 +1,4 @@
-use Rattle.std.proofs.Common.{◌≡◌, refl, sym, ◌∙◌, Bool, true, List, [], Some}
-use Rattle.std.proofs.lemmas.Bool.{and_parts}
+use Rattle.std.proofs.{Common.◌≡◌, Common.refl, Common.sym, Common.◌∙◌, Common.true, Common.Some, lemmas.Bool.and_parts}
 use Rattle.query_log.specs.Logs.{log_at}
 use Rattle.time_engine.specs.Cycles.{MayTake, determined}
 use Rattle.time_engine.proofs.Candidates.{determined_takes}

@@ -1,4 +1,4 @@
-use Rattle.std.proofs.Common.{◌≡◌, refl, sym, ap, ◌∙◌, Bool, List, [], arith}
+use Rattle.std.proofs.Common.{◌≡◌, refl, sym, ap, ◌∙◌, List, arith}
 use Rattle.std.proofs.{lemmas.Bool.both_ways, lemmas.List.get_or-set_other}
 use Rattle.flow_design.specs.declared.state.ModuleState.{ModuleState}
 use Rattle.flow_word.specs.{declared.access.Access.Access, declared.access.Step.Step}

@@ -1,4 +1,4 @@
-use Rattle.std.proofs.Common.{refl, sym, ap, Bool, List, [], inl, arith}
+use Rattle.std.proofs.Common.{refl, sym, ap, inl, arith}
 use Rattle.flow_word.specs.declared.access.Step.{Step}
 use Rattle.event_graph.specs.{Lanes.no_lane, Packed.in_lane}
 use Rattle.engine_view.specs.{Held.no_step, Engines.held_in, Turns.first_of}
@@ -47,7 +47,8 @@ all_decided-requires-clause-inside g c =
     let (d, i, k, r) = c.requires.core in
     let at = first g (goal.at.all_decided-requires-clause-inside g c).After-look-first in
     rw (ap (λ (t : Step). t.accesses) (sym at.is))
-    (k.sound.inside c.args.owner no_lane (c.requires.due.1).takes.may.inside (first_of (held_in c.args.self.now) c.args.owner) no_step at.there)
+    (k.sound.inside c.args.owner no_lane (c.requires.due.1).takes.may.inside (first_of (held_in c.args.self.now) c.args.owner) no_step
+    at.there)
 
 pub all_decided-requires-clause-places : goal.all_decided-requires-clause-places
 all_decided-requires-clause-places g c = let (d, i, k, r) = c.requires.core in k.sound.places

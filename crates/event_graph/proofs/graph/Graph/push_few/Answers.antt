@@ -1,8 +1,8 @@
 use Rattle.std.proofs.{Common.◌<◌, Common.length, Math.Seq.map-set_same, lemmas.List.length-set, lemmas.List.length-map}
 use Rattle.std.proofs.lemmas.Result.{on_ok_weaker, on_err_weaker}
 use Rattle.event_graph.specs.{Lanes.Lane, Lanes.no_lane, Lanes.lane_with_step, Packed.whole, Roomed.RoomedLane}
-use Rattle.flow_word.proofs.Changed.{shown_set}
-use Rattle.event_graph.proofs.Growth.{all_sound, used_place}
+use Rattle.flow_word.proofs.Changed.{shown_set, used_place}
+use Rattle.event_graph.proofs.Growth.{all_sound}
 use Rattle.event_graph.proofs.graph.Graph.push_few.Goals as goal
 
 pub invariant_of-self : goal.invariant_of-self
@@ -27,7 +27,8 @@ returns-clause-err c =
 
 pub returns-clause-rooms : goal.returns-clause-rooms
 returns-clause-rooms c =
-    rw (← c.self.view_is) (used_place c.self.inside.lanes.items c.args.owner c.index_mut.result.now c.push_few.new.self
+    rw (← c.self.view_is) (used_place (λ (l : RoomedLane). l.room) c.self.inside.lanes.items c.args.owner c.index_mut.result.now
+    c.push_few.new.self
     (rw (← c.self.view_is, length-map) at c.requires.owner) c.index_mut.ensures.value c.push_few.ensures.room)
 
 pub returns-clause-sound : goal.returns-clause-sound

@@ -11,7 +11,8 @@ kept : (c : goal.After-self-1) → IsStepKept c.self.inside.words.items c.self.i
     c.self.inside.others.items (whole c.args.step.now) (head_of c)
 kept c =
     few_kept c.self.inside.words.items c.push_accesses.new.words.items c.self.inside.others.items c.args.step.now.accesses (head_of c)
-    (rw c.as_slice.ensures at c.push_accesses.ensures.items) c.push_accesses.ensures.at c.requires.few.some c.requires.few.few c.requires.few.fits
+    (rw c.as_slice.ensures at c.push_accesses.ensures.items) c.push_accesses.ensures.at c.requires.few.some c.requires.few.few
+    c.requires.few.fits
 
 pub returns-clause-ok : goal.returns-clause-ok
 returns-clause-ok c =

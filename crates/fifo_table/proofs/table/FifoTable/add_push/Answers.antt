@@ -1,8 +1,8 @@
-use Rattle.std.proofs.Common.{refl, ap, List, ◌++◌, [], ◌∷◌, ◌<◌, length, arith}
+use Rattle.std.proofs.Common.{refl, ap, List, ◌++◌, [], ◌∷◌, ◌<◌, length}
 use Rattle.std.proofs.{Math.Seq.map-set_same, lemmas.List.length-map, lemmas.Result.on_ok_weaker, lemmas.Result.on_err_weaker}
 use Rattle.fifo_table.specs.{declared.channel.RoomyChannel.RoomyChannel, Channels.Channel, Channels.unused, Channels.push_of}
 use Rattle.fifo_table.specs.{declared.channel.TableChannel.TheVariants.Sink, Roomed.channel_of, declared.channel.Pushed.Pushed}
-use Rattle.flow_word.proofs.Changed.{shown_set, shown_old, shown_new, shown_other}
+use Rattle.flow_word.proofs.Changed.{shown_set, used_place}
 use Rattle.fifo_table.proofs.SoundKinds.{replaced, read_kind}
 use Rattle.fifo_table.proofs.table.FifoTable.add_push.Goals as goal
 
@@ -25,24 +25,12 @@ returns-clause-err c =
     rw (← c.self.view_is) (on_err_weaker c.push.result (λ same. map-set_same channel_of c.self.inside.channels.items c.args.channel _
     c.index_mut.result.now (rw (← c.index_mut.ensures.value, same) refl)) c.push.ensures.err)
 
-pub returns-clause-own_room : goal.returns-clause-own_room
-returns-clause-own_room c =
+pub returns-clause-push_rooms : goal.returns-clause-push_rooms
+returns-clause-push_rooms c =
     let there : c.args.channel < length c.self.inside.channels.items = rw (← c.self.view_is, length-map) at c.requires.channel in
-    rw (
-      ← c.self.view_is,
-      shown_old (λ (a : RoomyChannel). a.pushes.room) c.self.inside.channels.items c.args.channel c.index_mut.result.now
-          there c.index_mut.ensures.value,
-      shown_new (λ (a : RoomyChannel). a.pushes.room) c.self.inside.channels.items c.args.channel _
-          there,
-    ) c.push.ensures.room
-
-pub returns-clause-other_rooms : goal.returns-clause-other_rooms
-returns-clause-other_rooms c =
-    rw (← c.self.view_is) (λ k apart. omega (
-      arith,
-      shown_other (λ (a : RoomyChannel). a.pushes.room) c.self.inside.channels.items
-          c.args.channel k (record c.index_mut.result.now { pushes = c.push.new.self }) apart,
-    ))
+    rw (← c.self.view_is) (used_place (λ (a : RoomyChannel). a.pushes.room) c.self.inside.channels.items c.args.channel
+    c.index_mut.result.now (record c.index_mut.result.now { pushes = c.push.new.self }) there c.index_mut.ensures.value
+    c.push.ensures.room)
 
 pub returns-clause-pop_rooms : goal.returns-clause-pop_rooms
 returns-clause-pop_rooms c =

@@ -1,6 +1,6 @@
-use Rattle.std.proofs.{Common.◌<◌, Common.length, Common.arith, lemmas.List.length-map}
+use Rattle.std.proofs.{Common.◌<◌, Common.length, lemmas.List.length-map}
 use Rattle.query_log.specs.{declared.roomy.RoomyLog.RoomyLog, Logs.Log, Logs.no_log, Logs.verified_more, Logs.bare_log}
-use Rattle.flow_word.proofs.Changed.{shown_set, shown_old, shown_new, shown_other}
+use Rattle.flow_word.proofs.Changed.{shown_set, shown_old, used_place}
 use Rattle.query_log.proofs.SoundLogs.{replaced, read_sound, read_log, answered_sound}
 use Rattle.query_log.proofs.log.QueryLog.add.Goals as goal
 
@@ -32,21 +32,8 @@ returns-clause-logs c =
     rw (← c.self.view_is) (shown_set bare_log (λ (l : Log). verified_more l c.args.yes) c.self.inside.logs.items c.args.owner
     c.index_mut.result.now c.add.new.self no_log there c.index_mut.ensures.value c.add.ensures.log)
 
-pub returns-clause-own_room : goal.returns-clause-own_room
-returns-clause-own_room c =
+pub returns-clause-rooms : goal.returns-clause-rooms
+returns-clause-rooms c =
     let there : c.args.owner < length c.self.inside.logs.items = rw (← c.self.view_is, length-map) at c.requires.owner in
-    rw (
-      ← c.self.view_is,
-      shown_old (λ (l : RoomyLog). l.outcomes.room) c.self.inside.logs.items c.args.owner c.index_mut.result.now there
-          c.index_mut.ensures.value,
-      shown_new (λ (l : RoomyLog). l.outcomes.room) c.self.inside.logs.items c.args.owner c.add.new.self there,
-    )
-    c.add.ensures.room
-
-pub returns-clause-other_rooms : goal.returns-clause-other_rooms
-returns-clause-other_rooms c =
-    rw (← c.self.view_is) (λ k apart. omega (
-      arith,
-      shown_other (λ (l : RoomyLog). l.outcomes.room) c.self.inside.logs.items c.args.owner k
-          c.add.new.self apart,
-    ))
+    rw (← c.self.view_is) (used_place (λ (l : RoomyLog). l.outcomes.room) c.self.inside.logs.items c.args.owner
+    c.index_mut.result.now c.add.new.self there c.index_mut.ensures.value c.add.ensures.room)

@@ -22,7 +22,8 @@ returns c =
     let k = c.core.invariant.core in
     let p = c.core.inside.plan in
     let h : Held = held_in c.core.inside.engine in
-    let final = subst (λ (v : CoreView). IsFinal (design v.plan) v.plan.cycles (theory_of v)) (sym c.core.view_is) c.core-core.ensures.is_final in
+    let final = subst (λ (v : CoreView). IsFinal (design v.plan) v.plan.cycles (theory_of v)) (sym c.core.view_is)
+    c.core-core.ensures.is_final in
     let keys = c.in_ok-keys.keys.items in
     let same = c.as_slice-key-items.ensures.value in
     let items = c.as_slice-key-items.result.now in

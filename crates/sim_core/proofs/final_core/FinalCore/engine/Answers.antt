@@ -1,8 +1,13 @@
-use Rattle.std.proofs.Common.{subst}
+use Rattle.std.proofs.Common.{sym, subst}
+use Rattle.event_timing.specs.Actions.{IsFinal}
 use Rattle.timing_bridge.specs.Designs.{design}
-use Rattle.engine_view.specs.Shown.{IsSound}
-use Rattle.sim_core.specs.Views.{CoreView}
+use Rattle.sim_core.specs.Views.{CoreView, theory_of}
+use Rattle.sim_core.proofs.Ending.{finished}
 use Rattle.sim_core.proofs.final_core.FinalCore.engine.Goals as goal
 
-pub returns-clause-sound : goal.returns-clause-sound
-returns-clause-sound c = subst (λ (v : CoreView). IsSound (design v.plan) v.held) c.core.ensures.core c.engine.ensures.sound
+pub returns-clause-finished : goal.returns-clause-finished
+returns-clause-finished c =
+    let final = subst (λ (v : CoreView). IsFinal (design v.plan) v.plan.cycles (theory_of v)) (sym c.core.view_is)
+    c.core-core.ensures.is_final in
+    rw (← c.core-core.ensures.core, ← c.core.view_is)
+    (finished c.core.inside.plan c.core.inside.engine c.core.inside.runs.items c.core.invariant.core final)

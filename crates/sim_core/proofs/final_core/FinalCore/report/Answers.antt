@@ -7,5 +7,6 @@ use Rattle.sim_core.proofs.final_core.FinalCore.report.Goals as goal
 
 pub report_of-requires : goal.report_of-requires
 report_of-requires c =
-    let final = subst (λ (v : CoreView). IsFinal (design v.plan) v.plan.cycles (theory_of v)) (sym c.core.view_is) c.core-core.ensures.is_final in
+    let final = subst (λ (v : CoreView). IsFinal (design v.plan) v.plan.cycles (theory_of v)) (sym c.core.view_is)
+    c.core-core.ensures.is_final in
     finished c.core.inside.plan c.core.inside.engine c.core.inside.runs.items c.core.invariant.core final

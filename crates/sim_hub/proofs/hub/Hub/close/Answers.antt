@@ -4,7 +4,7 @@ use Rattle.turn_lock.specs.{declared.view.View.View, Passes.view_of, Turns.AllJo
 use Rattle.turn_lock.proofs.Joins.{after_joins, after_joins-snoc, joins_keep, all_joined}
 use Rattle.timing_bridge.specs.declared.entry.HubEntry.{HubEntry}
 use Rattle.sim_hub.specs.{declared.pass.ModulePass.ModulePass, Ledgers.entries_in, Hubs.module_view, Kept.behind}
-use Rattle.sim_hub.proofs.{Lists.get_mapped, Books.shown_ledger, Keeping.kept_legal, Keeping.kept_stands}
+use Rattle.sim_hub.proofs.{Lists.get_mapped, Boxed.shown_ledger, Keeping.kept_legal, Keeping.kept_stands}
 use Rattle.sim_hub.proofs.Closing.{all_made, comes_home, joined_all, made_count, shown_each, whole}
 use Rattle.sim_hub.proofs.hub.Hub.close.Goals as goal
 

@@ -1,9 +1,9 @@
 use Rattle.std.proofs.Common.{◌+◌, ℕ, true, List, length, sym, subst, ◌∙◌}
 use Rattle.turn_lock.specs.Passes.{view_of, turn_view}
 use Rattle.timing_bridge.specs.declared.entry.HubEntry.{HubEntry}
-use Rattle.sim_hub.specs.{declared.ledger.Ledger.Ledger, Ledgers.entries_in, Places.HasNoDesk, Places.IsLegal}
+use Rattle.sim_hub.specs.{declared.ledger.HubLedger.HubLedger, Ledgers.entries_in, Places.HasNoDesk, Places.IsLegal}
 use Rattle.sim_hub.specs.Steps.{BackIs, ComesBack, MayAdd, IsTurnEnd}
-use Rattle.sim_hub.proofs.{Books.of_borrowed, Books.of_books, Keeping.kept_legal}
+use Rattle.sim_hub.proofs.{Boxed.of_borrowed, Boxed.of_boxed, Keeping.kept_legal}
 use Rattle.sim_hub.proofs.Answering.{back_adds, is_later, back_answer, end_seen, module_later}
 use Rattle.sim_hub.proofs.hub.Hub.return_desk.Goals as goal
 
@@ -13,7 +13,7 @@ take_back-made-requires-clause-pass g c = c.args.pass.is
 pub take_back-made-requires-clause-back : goal.take_back-made-requires-clause-back
 take_back-made-requires-clause-back g c =
     let p = c.args.pass in
-    let d : Ledger = c.begin-turn.result.value.ledger.value in
+    let d : HubLedger = c.begin-turn.result.value.ledger.value in
     let back : ComesBack p.which c.args.burst (entries_in d) = record {
       before = view_of p.place.pass;
       number = p.place.numbered ∙ p.is;
@@ -28,11 +28,11 @@ end-place-requires-clause-number g c = c.begin-turn.ensures.turn.1.same.number �
 pub end-place-requires-clause-adds : goal.end-place-requires-clause-adds
 end-place-requires-clause-adds g c =
     let p = c.args.pass in
-    let d : Ledger = c.begin-turn.result.value.ledger.value in
+    let d : HubLedger = c.begin-turn.result.value.ledger.value in
     let more = entries_in c.take_back-made.new.self in
     let made = c.take_back-made.result in
     let n = length c.args.burst.emitted in
-    let back = of_books (λ log. BackIs p.which n log more made) c.deref_mut.ensures.value c.value_mut.ensures.value
+    let back = of_boxed (λ log. BackIs p.which n log more made) c.deref_mut.ensures.value c.value_mut.ensures.value
     c.take_back-made.ensures.back in
     subst (λ (b : List HubEntry). MayAdd p.place.number true b more) (sym c.begin-turn.ensures.turn.1.history)
     (subst (λ (q : ℕ). MayAdd q true (entries_in d) more) (sym p.is) (back_adds p.which n (entries_in d) more made back))
@@ -40,8 +40,8 @@ end-place-requires-clause-adds g c =
 pub invariant_of-pass : goal.invariant_of-pass
 invariant_of-pass g c =
     let p = c.args.pass in
-    let d : Ledger = c.begin-turn.result.value.ledger.value in
-    let l : Ledger = c.take_back-made.new.self in
+    let d : HubLedger = c.begin-turn.result.value.ledger.value in
+    let l : HubLedger = c.take_back-made.new.self in
     let more = entries_in l in
     let made = c.take_back-made.result in
     let n = length c.args.burst.emitted in
@@ -49,7 +49,7 @@ invariant_of-pass g c =
     let v = view_of p.place.pass in
     let t = turn_view c.begin-turn.result in
     let w = view_of c.end-place.result.pass in
-    let back = of_books (λ log. BackIs p.which n log more made) c.deref_mut.ensures.value c.value_mut.ensures.value
+    let back = of_boxed (λ log. BackIs p.which n log more made) c.deref_mut.ensures.value c.value_mut.ensures.value
     c.take_back-made.ensures.back in
     let may = back_adds p.which n (entries_in d) more made back in
     let over = subst (λ (x : List HubEntry). IsTurnEnd true x more t w) turn.1.history c.end-place.ensures.end in
@@ -64,14 +64,14 @@ invariant_of-pass g c =
 pub returns-clause-later : goal.returns-clause-later
 returns-clause-later g c =
     let p = c.args.pass in
-    let d : Ledger = c.begin-turn.result.value.ledger.value in
+    let d : HubLedger = c.begin-turn.result.value.ledger.value in
     let more = entries_in c.take_back-made.new.self in
     let made = c.take_back-made.result in
     let n = length c.args.burst.emitted in
     let turn = c.begin-turn.ensures.turn in
     let t = turn_view c.begin-turn.result in
     let w = view_of c.end-place.result.pass in
-    let back = of_books (λ log. BackIs p.which n log more made) c.deref_mut.ensures.value c.value_mut.ensures.value
+    let back = of_boxed (λ log. BackIs p.which n log more made) c.deref_mut.ensures.value c.value_mut.ensures.value
     c.take_back-made.ensures.back in
     is_later (p.which + 1) turn.0 true (entries_in d) more (view_of p.place.pass) t w turn.1
     (back_adds p.which n (entries_in d) more made back)
@@ -80,14 +80,14 @@ returns-clause-later g c =
 pub returns-clause-turn : goal.returns-clause-turn
 returns-clause-turn g c =
     let p = c.args.pass in
-    let d : Ledger = c.begin-turn.result.value.ledger.value in
+    let d : HubLedger = c.begin-turn.result.value.ledger.value in
     let more = entries_in c.take_back-made.new.self in
     let made = c.take_back-made.result in
     let n = length c.args.burst.emitted in
     let turn = c.begin-turn.ensures.turn in
     let t = turn_view c.begin-turn.result in
     let w = view_of c.end-place.result.pass in
-    let back = of_books (λ log. BackIs p.which n log more made) c.deref_mut.ensures.value c.value_mut.ensures.value
+    let back = of_boxed (λ log. BackIs p.which n log more made) c.deref_mut.ensures.value c.value_mut.ensures.value
     c.take_back-made.ensures.back in
     back_answer turn.0 (entries_in d) more (view_of p.place.pass) t w turn.1 p.which n made back
     (subst (λ (x : List HubEntry). IsTurnEnd true x more t w) turn.1.history c.end-place.ensures.end)
@@ -95,14 +95,14 @@ returns-clause-turn g c =
 pub returns-clause-home : goal.returns-clause-home
 returns-clause-home g c =
     let p = c.args.pass in
-    let d : Ledger = c.begin-turn.result.value.ledger.value in
+    let d : HubLedger = c.begin-turn.result.value.ledger.value in
     let more = entries_in c.take_back-made.new.self in
     let made = c.take_back-made.result in
     let n = length c.args.burst.emitted in
     let turn = c.begin-turn.ensures.turn in
     let t = turn_view c.begin-turn.result in
     let w = view_of c.end-place.result.pass in
-    let back = of_books (λ log. BackIs p.which n log more made) c.deref_mut.ensures.value c.value_mut.ensures.value
+    let back = of_boxed (λ log. BackIs p.which n log more made) c.deref_mut.ensures.value c.value_mut.ensures.value
     c.take_back-made.ensures.back in
     let seen = end_seen (p.which + 1) true (entries_in d) more t w (back_adds p.which n (entries_in d) more made back)
     (subst (λ (x : List HubEntry). IsTurnEnd true x more t w) turn.1.history c.end-place.ensures.end) in

@@ -1,8 +1,0 @@
-use Rattle.std.proofs.Common.{ℕ, ◌<◌, ◌≤◌}
-use Rattle.std.specs.Prelude.{◌↔◌}
-use Rattle.flow_design.specs.declared.limits.TheConstants.{MODULES}
-use Rattle.run_threads.specs.Lights.{IsNamed}
-use Rattle.run_threads.proofs.light.Light.from_module.Given as goal
-
-abbrev pub invariant-loop-which : goal.invariant-loop-which
-invariant-loop-which l = (m : ℕ) → IsNamed l.light m ↔ ((l.first ≤ m) × (m < l.which) × (m < MODULES))

@@ -5,19 +5,20 @@ use std::sync::Wait;
 use std::test::Fail;
 use std::thread::Threads;
 use whole_answer::Status;
-use worked_sessions::{PLAIN_CASE, REALISTIC_LINE};
+use worked_sessions::{PLAIN_CASE, REALISTIC_LINE, joined};
 
 #[test]
 fn canonical_forms(rt: HostRuntime) -> Result<(), Fail> {
     let deepest =
         b"flow 1\nmodule m\nreg x 8\nblock k 1\nat 0 set x ~ ~ ~ ~ ~ ~ ~ ~ ~ ~ ~ ~ ~ ~ ~ ~ ~ ~ ~ ~ ~ ~ ~ ~ ~ ~ ~ ~ ~ ~ ~ 1\nstop\nend\n";
+    let line = joined(rt.alloc(), REALISTIC_LINE)?;
     let rows = [
         (PLAIN_CASE, PLAIN_CASE),
         (
             b"# note\nflow  01\n\nlimits 5 007 # small\nend\n".as_slice(),
             b"flow 1\nlimits 5 7\nend\n".as_slice(),
         ),
-        (REALISTIC_LINE, REALISTIC_LINE),
+        (line.as_slice(), line.as_slice()),
         (deepest.as_slice(), deepest.as_slice()),
     ];
     for (text, told) in rows {

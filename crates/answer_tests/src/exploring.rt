@@ -1,104 +1,40 @@
 //! Worked sessions under the commands that do more than simulate.
 use crate::asking::answers;
+use crate::further::FILLS_OF_TWO_MODULES;
+use crate::waves::wave_of;
 use std::test::Fail;
 use whole_answer::Status;
-use worked_sessions::{LATE_CHANNEL, LATER_STALL, REALISTIC_LINE, TWO_MODULES};
+use worked_sessions::{
+    DEADLOCK_AT_ONCE, EMPTY_DESIGN, LATE_CHANNEL, LATER_STALL, LONG_BLOCK, REALISTIC_LINE,
+    THREE_VALUES, TWO_MODULES, Text, joined,
+};
 
 /// A question about a session, and the answer, which was worked out by hand from the machine's rules.
 struct Asked {
     command: &'static str,
     options: &'static [&'static str],
-    text: &'static [u8],
+    text: Text,
     told: &'static [u8],
     status: Status,
 }
 
-/// Three values go through a FIFO of depth two, one in each clock.
-const THREE_VALUES: &[u8] = b"\
+/// The beginning of a loop whose iterations start one clock apart. It reads a source into a register.
+const READING_LOOP: &[u8] = b"\
 flow 1
-fifo b 8
-module P
-reg i 8
-reg g 1
-loop l 1 1 while g
-at 0 write b i
-at 0 set i + i 1
-at 0 set g <u i 2
-stop
-module Q
-reg x 8
-reg i 8
-reg g 1
-loop l 1 1 while g
-at 0 read b x
-at 0 set i + i 1
-at 0 set g <u i 2
-stop
-end
-";
-
-/// Two modules, each of which begins with a wait for the other.
-const DEADLOCK_AT_ONCE: &[u8] = b"\
-flow 1
-fifo ab 8
-fifo ba 8
-module A
-reg x 8
-block k 2
-at 0 read ba x
-at 1 write ab 1
-stop
-module B
-reg x 8
-block k 2
-at 0 read ab x
-at 1 write ba 1
-stop
-end
-";
-
-/// A block of 10^12 clocks: a simulator that goes through all clocks does not come to its end.
-const LONG_BLOCK: &[u8] = b"\
-flow 1
+source a 8
 sink y 8
 module m
-block k 1000000000000
-at 999999999999 write y 1
-stop
-limits 1000000000000000 100000
-end
+reg x 8
+reg g 1
+loop l 1 3 while g
+at 0 read a x
 ";
 
 /// A loop that reads a register in the iteration that writes it, but after the next iteration has started.
-const WIDE_REGISTER: &[u8] = b"\
-flow 1
-source a 8
-sink y 8
-module m
-reg x 8
-reg g 1
-loop l 1 3 while g
-at 0 read a x
-at 2 write y x
-stop
-end
-";
+const WIDE_REGISTER: Text = &[READING_LOOP, b"at 2 write y x\nstop\nend\n"];
 
 /// A loop that reads such a register, and that also learns too late whether there is another iteration.
-const LATE_DECISION: &[u8] = b"\
-flow 1
-source a 8
-sink y 8
-module m
-reg x 8
-reg g 1
-loop l 1 3 while g
-at 0 read a x
-at 1 set g 0
-at 2 write y x
-stop
-end
-";
+const LATE_DECISION: Text = &[READING_LOOP, b"at 1 set g 0\nat 2 write y x\nstop\nend\n"];
 
 const ADVISED: &[Asked] = &[
     // three values through depth two
@@ -136,48 +72,6 @@ advise
 verdict deadlock 0
 depth ab 1
 depth ba 1
-",
-        status: Status::Deadlock,
-    },
-];
-
-const WAVES: &[Asked] = &[
-    // visibility one clock later
-    Asked {
-        command: "wave",
-        options: &[],
-        text: TWO_MODULES,
-        told: b"\
-$timescale 1 ns $end
-$scope module flow $end
-$var wire 32 f0 b $end
-$upscope $end
-$enddefinitions $end
-#0
-b0 f0
-#2
-b1 f0
-#3
-b0 f0
-#4
-",
-        status: Status::Done,
-    },
-    // deadlock at once
-    Asked {
-        command: "wave",
-        options: &[],
-        text: DEADLOCK_AT_ONCE,
-        told: b"\
-$timescale 1 ns $end
-$scope module flow $end
-$var wire 32 f0 ab $end
-$var wire 32 f1 ba $end
-$upscope $end
-$enddefinitions $end
-#0
-b0 f0
-b0 f1
 ",
         status: Status::Deadlock,
     },
@@ -271,10 +165,7 @@ best none
     Asked {
         command: "sweep",
         options: &["1", "1"],
-        text: b"\
-flow 1
-end
-",
+        text: EMPTY_DESIGN,
         told: b"\
 point done 0
 best
@@ -283,6 +174,7 @@ best
     },
 ];
 
+/// A simulator that goes through all clocks of the long block does not come to its end.
 const LONG_BLOCKS: &[Asked] = &[
     Asked {
         command: "log",
@@ -328,20 +220,6 @@ link m 0 999999999999
 {\"ph\":\"M\",\"pid\":0,\"tid\":0,\"name\":\"thread_name\",\"args\":{\"name\":\"m\"}},
 {\"ph\":\"X\",\"pid\":0,\"tid\":0,\"ts\":0,\"dur\":1000000000000,\"name\":\"moves\"}
 ]}
-",
-        status: Status::Done,
-    },
-    Asked {
-        command: "wave",
-        options: &[],
-        text: LONG_BLOCK,
-        told: b"\
-$timescale 1 ns $end
-$scope module flow $end
-$upscope $end
-$enddefinitions $end
-#0
-#1000000000000
 ",
         status: Status::Done,
     },
@@ -403,7 +281,7 @@ end
 const POLLED: &[Asked] = &[Asked {
     command: "path",
     options: &["--polls", "--events"],
-    text: POLLED_TWICE,
+    text: &[POLLED_TWICE],
     told: b"\
 path
 verdict done 8
@@ -418,7 +296,7 @@ link poller 6 7
 
 #[test]
 fn worked_sessions_explored(rt: HostRuntime) -> Result<(), Fail> {
-    for table in [ADVISED, WAVES, ORDERED, SWEPT, LONG_BLOCKS, POLLED] {
+    for table in [ADVISED, ORDERED, SWEPT, LONG_BLOCKS, POLLED] {
         for asked in table {
             let Asked {
                 command,
@@ -427,8 +305,35 @@ fn worked_sessions_explored(rt: HostRuntime) -> Result<(), Fail> {
                 told,
                 status,
             } = asked;
-            answers(&rt, command, options, text, told, *status)?;
+            let text = joined(rt.alloc(), text)?;
+            answers(&rt, command, options, text.as_slice(), told, *status)?;
         }
+    }
+    Ok(())
+}
+
+/// A session, the FIFOs that its wave names, the fills that it shows from clock 0 on, and the status.
+type Waved = (Text, &'static [&'static str], &'static [u8], Status);
+
+const WAVES: &[Waved] = &[
+    // visibility one clock later
+    (TWO_MODULES, &["b"], FILLS_OF_TWO_MODULES, Status::Done),
+    // deadlock at once
+    (
+        DEADLOCK_AT_ONCE,
+        &["ab", "ba"],
+        b"#0\nb0 f0\nb0 f1\n",
+        Status::Deadlock,
+    ),
+    (LONG_BLOCK, &[], b"#0\n#1000000000000\n", Status::Done),
+];
+
+#[test]
+fn waves_of_worked_sessions(rt: HostRuntime) -> Result<(), Fail> {
+    for (text, fifos, fills, status) in WAVES {
+        let text = joined(rt.alloc(), text)?;
+        let told = wave_of(rt.alloc(), fifos, fills)?;
+        answers(&rt, "wave", &[], text.as_slice(), told.as_slice(), *status)?;
     }
     Ok(())
 }

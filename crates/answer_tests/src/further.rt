@@ -1,16 +1,20 @@
 //! What `advise`, `wave`, `order` and `sweep` answer.
 use crate::asking::{answer, answers, words_of};
+use crate::waves::wave_of;
 use std::test::Fail;
 use vcd_wave::wave_fill;
 use whole_answer::Status;
-use worked_sessions::{LATE_CHANNEL, REALISTIC_LINE, TWO_MODULES};
+use worked_sessions::{EMPTY_DESIGN, LATE_CHANNEL, REALISTIC_LINE, TWO_MODULES, Text, joined};
 
 /// A session, and what `advise`, `wave`, `order` and `sweep` answer to it.
 struct Explored {
-    text: &'static [u8],
+    text: Text,
     advised: &'static [u8],
     advice: Status,
-    wave: &'static [u8],
+    /// The FIFOs that the wave names.
+    fifos: &'static [&'static str],
+    /// The fills that the wave shows from clock 0 on.
+    fills: &'static [u8],
     /// The status of the wave.
     waved: Status,
     order: &'static [u8],
@@ -78,12 +82,8 @@ limits 100 9
 end
 ";
 
-const WAVE_OF_TWO_MODULES: &[u8] = b"\
-$timescale 1 ns $end
-$scope module flow $end
-$var wire 32 f0 b $end
-$upscope $end
-$enddefinitions $end
+/// The fills that the wave of `TWO_MODULES` shows.
+pub const FILLS_OF_TWO_MODULES: &[u8] = b"\
 #0
 b0 f0
 #2
@@ -96,20 +96,14 @@ b0 f0
 const EXPLORED: &[Explored] = &[
     // No module and no channel.
     Explored {
-        text: b"\
-flow 1
-end
-",
+        text: EMPTY_DESIGN,
         advised: b"\
 advise
 verdict done 0
 ",
         advice: Status::Done,
-        wave: b"\
-$timescale 1 ns $end
-$scope module flow $end
-$upscope $end
-$enddefinitions $end
+        fifos: &[],
+        fills: b"\
 #0
 ",
         waved: Status::Done,
@@ -130,7 +124,8 @@ verdict done 4
 depth b 2
 ",
         advice: Status::Done,
-        wave: WAVE_OF_TWO_MODULES,
+        fifos: &["b"],
+        fills: FILLS_OF_TWO_MODULES,
         waved: Status::Done,
         order: b"\
 order p serial
@@ -153,13 +148,8 @@ depth b 4
 depth c 2
 ",
         advice: Status::Done,
-        wave: b"\
-$timescale 1 ns $end
-$scope module flow $end
-$var wire 32 f0 b $end
-$var wire 32 f1 c $end
-$upscope $end
-$enddefinitions $end
+        fifos: &["b", "c"],
+        fills: b"\
 #0
 b0 f0
 b0 f1
@@ -184,7 +174,7 @@ best none
     },
     // Three FIFOs, two of them with a delay.
     Explored {
-        text: THREE_FIFOS,
+        text: &[THREE_FIFOS],
         advised: b"\
 advise
 verdict done 10
@@ -193,14 +183,8 @@ depth c 2
 depth d 2
 ",
         advice: Status::Done,
-        wave: b"\
-$timescale 1 ns $end
-$scope module flow $end
-$var wire 32 f0 b $end
-$var wire 32 f1 c $end
-$var wire 32 f2 d $end
-$upscope $end
-$enddefinitions $end
+        fifos: &["b", "c", "d"],
+        fills: b"\
 #0
 b0 f0
 b0 f1
@@ -239,7 +223,7 @@ best 1 1 1
     },
     // A module that polls until its operations are used up.
     Explored {
-        text: POLLING,
+        text: &[POLLING],
         advised: b"\
 advise
 verdict ops 11
@@ -247,13 +231,8 @@ depth b 2
 depth tries 3
 ",
         advice: Status::Ops,
-        wave: b"\
-$timescale 1 ns $end
-$scope module flow $end
-$var wire 32 f0 b $end
-$var wire 32 f1 tries $end
-$upscope $end
-$enddefinitions $end
+        fifos: &["b", "tries"],
+        fills: b"\
 #0
 b0 f0
 b0 f1
@@ -284,7 +263,8 @@ best none
     },
     // For each rule of serial modules, a module whose loop breaks it, and one whose loop keeps it.
     Explored {
-        text: b"\
+        text: &[
+            b"\
 flow 1
 source a 8
 source b 8
@@ -345,18 +325,15 @@ at 0 read c x
 stop
 end
 ",
+        ],
         advised: b"\
 advise
 verdict deadlock 6
 depth c 2
 ",
         advice: Status::Deadlock,
-        wave: b"\
-$timescale 1 ns $end
-$scope module flow $end
-$var wire 32 f0 c $end
-$upscope $end
-$enddefinitions $end
+        fifos: &["c"],
+        fills: b"\
 #0
 b0 f0
 #4
@@ -384,7 +361,8 @@ best none
     },
     // Two values, 10^12 clocks apart.
     Explored {
-        text: b"\
+        text: &[
+            b"\
 flow 1
 fifo b 8
 module p
@@ -403,18 +381,15 @@ stop
 limits 1000000000000 5
 end
 ",
+        ],
         advised: b"\
 advise
 verdict cycles 1000000000000
 depth b 2
 ",
         advice: Status::Cycles,
-        wave: b"\
-$timescale 1 ns $end
-$scope module flow $end
-$var wire 32 f0 b $end
-$upscope $end
-$enddefinitions $end
+        fifos: &["b"],
+        fills: b"\
 #0
 b0 f0
 #1
@@ -441,9 +416,11 @@ best none
 #[test]
 fn further_commands(rt: HostRuntime) -> Result<(), Fail> {
     for explored in EXPLORED {
-        let text = explored.text;
+        let text = joined(rt.alloc(), explored.text)?;
+        let text = text.as_slice();
         answers(&rt, "advise", &[], text, explored.advised, explored.advice)?;
-        answers(&rt, "wave", &[], text, explored.wave, explored.waved)?;
+        let wave = wave_of(rt.alloc(), explored.fifos, explored.fills)?;
+        answers(&rt, "wave", &[], text, wave.as_slice(), explored.waved)?;
         answers(&rt, "order", &[], text, explored.order, Status::Done)?;
         answers(
             &rt,
@@ -471,20 +448,21 @@ fn the_largest_grid(rt: HostRuntime) -> Result<(), Fail> {
         sink.held()
             .ends_with(b"point 16 16 16 done 10\nbest 1 1 1\n")
     );
+    let line = joined(rt.alloc(), REALISTIC_LINE)?;
     let told = b"refused 0 21\n";
     answers(&rt, "sweep", &["1", "17"], THREE_FIFOS, told, Status::Text)?;
     answers(
         &rt,
         "sweep",
         &["1", "64"],
-        REALISTIC_LINE,
+        line.as_slice(),
         told,
         Status::Text,
     )
 }
 
 /// The number of a FIFO, a clock, and what the wave of two modules says that the FIFO holds then.
-const FILLS_OF_TWO_MODULES: &[(u32, u64, Option<u64>)] = &[
+const FILLS_AT_CLOCKS: &[(u32, u64, Option<u64>)] = &[
     (0, 0, Some(0)),
     (0, 2, Some(1)),
     (0, 4, Some(0)),
@@ -494,8 +472,9 @@ const FILLS_OF_TWO_MODULES: &[(u32, u64, Option<u64>)] = &[
 
 #[test]
 fn a_wave_says_its_fills(rt: HostRuntime) -> Result<(), Fail> {
-    for (fifo, clock, fill) in FILLS_OF_TWO_MODULES {
-        assert_eq!(rt; wave_fill(WAVE_OF_TWO_MODULES, *fifo, *clock), *fill);
+    let wave = wave_of(rt.alloc(), &["b"], FILLS_OF_TWO_MODULES)?;
+    for (fifo, clock, fill) in FILLS_AT_CLOCKS {
+        assert_eq!(rt; wave_fill(wave.as_slice(), *fifo, *clock), *fill);
     }
     Ok(())
 }

@@ -10,7 +10,7 @@ use std::sync::atomic::{AtomicBool, AtomicU64, Ordering};
 use std::test::Fail;
 use std::thread::{Threads, yield_now};
 use whole_answer::{Status, omnisim};
-use worked_sessions::{REALISTIC_LINE, TWO_MODULES, TWO_MODULES_ANSWER};
+use worked_sessions::{REALISTIC_LINE, TWO_MODULES, TWO_MODULES_ANSWER, Text, joined};
 
 /// How often a burst that waits for another one yields before it gives up.
 const PATIENCE: u64 = 10_000_000;
@@ -20,12 +20,13 @@ fn answer_with<R: Threads + Wait + Sync + AllocGlobal, G: Gate + Sync>(
     rt: &R,
     command: &str,
     options: &[&str],
-    text: &[u8],
+    text: Text,
     gate: &G,
 ) -> Result<(Status, MemSink), Fail> {
     let alloc = rt.alloc();
     let words = words_of(rt, command, options)?;
-    let mut source = MemSource::new(alloc, text, 64, &[])?;
+    let text = joined(alloc, text)?;
+    let mut source = MemSource::new(alloc, text.as_slice(), 64, &[])?;
     let mut sink = MemSink::new(alloc, 8192, 4, &[])?;
     let status = omnisim(rt, alloc, words.as_slice(), &mut source, &mut sink, gate);
     Ok((status, sink))

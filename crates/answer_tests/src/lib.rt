@@ -24,4 +24,6 @@ mod scales;
 #[cfg(test)]
 mod views;
 #[cfg(test)]
+mod waves;
+#[cfg(test)]
 mod working;

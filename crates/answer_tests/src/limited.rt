@@ -1,6 +1,7 @@
 //! Limits on the command line, which take the place of the session's.
 use crate::asking::answers;
 use crate::further::POLLING;
+use crate::waves::wave_of;
 use std::test::Fail;
 use whole_answer::Status;
 
@@ -27,40 +28,6 @@ advise
 verdict ops 1
 depth b 1
 depth tries 1
-",
-        Status::Ops,
-    ),
-    (
-        "wave",
-        &["--cycles", "4"],
-        b"\
-$timescale 1 ns $end
-$scope module flow $end
-$var wire 32 f0 b $end
-$var wire 32 f1 tries $end
-$upscope $end
-$enddefinitions $end
-#0
-b0 f0
-b0 f1
-#4
-",
-        Status::Cycles,
-    ),
-    (
-        "wave",
-        &["--ops", "2"],
-        b"\
-$timescale 1 ns $end
-$scope module flow $end
-$var wire 32 f0 b $end
-$var wire 32 f1 tries $end
-$upscope $end
-$enddefinitions $end
-#0
-b0 f0
-b0 f1
-#1
 ",
         Status::Ops,
     ),
@@ -211,6 +178,19 @@ depth tries 1
 fn commands_up_to_a_limit(rt: HostRuntime) -> Result<(), Fail> {
     for (command, options, told, status) in LIMITED {
         answers(&rt, command, options, POLLING, told, *status)?;
+    }
+    Ok(())
+}
+
+#[test]
+fn waves_up_to_a_limit(rt: HostRuntime) -> Result<(), Fail> {
+    let rows = [
+        (["--cycles", "4"], b"#0\nb0 f0\nb0 f1\n#4\n", Status::Cycles),
+        (["--ops", "2"], b"#0\nb0 f0\nb0 f1\n#1\n", Status::Ops),
+    ];
+    for (options, fills, status) in rows {
+        let told = wave_of(rt.alloc(), &["b", "tries"], fills)?;
+        answers(&rt, "wave", &options, POLLING, told.as_slice(), status)?;
     }
     Ok(())
 }

@@ -4,12 +4,13 @@ use crate::further::THREE_FIFOS;
 use std::test::Fail;
 use whole_answer::Status;
 use worked_sessions::{
-    BOTH_ENDS_IN_ONE_MODULE, LATE_CHANNEL, LATER_STALL, POLLING_LOOP, TWO_MODULES,
+    BOTH_ENDS_IN_ONE_MODULE, EMPTY_DESIGN, LATE_CHANNEL, LATER_STALL, POLLING_LOOP,
+    THREE_PUSHES_AND_POPS, TWO_MODULES, Text, joined,
 };
 
 /// A session, what each view shows of it, and the answer to `size`.
 struct Viewed {
-    text: &'static [u8],
+    text: Text,
     log: &'static [u8],
     stalls: &'static [u8],
     /// The answer to `path` with its links.
@@ -25,10 +26,7 @@ struct Viewed {
 const VIEWED: &[Viewed] = &[
     // No module and no channel.
     Viewed {
-        text: b"\
-flow 1
-end
-",
+        text: EMPTY_DESIGN,
         log: b"\
 log
 verdict done 0
@@ -106,28 +104,7 @@ depth b 1
     },
     // A FIFO of depth two, whose elements are in flight for five clocks.
     Viewed {
-        text: b"\
-flow 2
-fifo b 8 2 5
-module P
-reg i 8
-reg g 1
-loop l 1 1 while g
-at 0 write b i
-at 0 set i + i 1
-at 0 set g <u i 2
-stop
-module Q
-reg x 8
-reg i 8
-reg g 1
-loop l 1 1 while g
-at 0 read b x
-at 0 set i + i 1
-at 0 set g <u i 2
-stop
-end
-",
+        text: &[b"flow 2\nfifo b 8 2 5\n", THREE_PUSHES_AND_POPS, b"end\n"],
         log: b"\
 log
 verdict done 12
@@ -318,7 +295,8 @@ depth b 1
     },
     // A push that is seen nine clocks later.
     Viewed {
-        text: b"\
+        text: &[
+            b"\
 flow 2
 fifo b 8 1 9
 module m
@@ -332,6 +310,7 @@ at 0 read b x
 stop
 end
 ",
+        ],
         log: b"\
 log
 verdict done 10
@@ -444,7 +423,8 @@ depth c 1
     },
     // A stall whose cause changes: first there is no element in one FIFO, then no place in another.
     Viewed {
-        text: b"\
+        text: &[
+            b"\
 flow 1
 fifo b 8
 fifo c 8 1
@@ -467,6 +447,7 @@ at 7 read c y
 stop
 end
 ",
+        ],
         log: b"\
 log
 verdict done 8
@@ -530,7 +511,7 @@ depth c 1
     },
     // Three FIFOs, two of them with a delay.
     Viewed {
-        text: THREE_FIFOS,
+        text: &[THREE_FIFOS],
         log: b"\
 log
 verdict done 10
@@ -609,18 +590,14 @@ depth d 1
 #[test]
 fn views(rt: HostRuntime) -> Result<(), Fail> {
     for viewed in VIEWED {
-        answers(&rt, "log", &[], viewed.text, viewed.log, viewed.shown)?;
-        answers(&rt, "stalls", &[], viewed.text, viewed.stalls, viewed.shown)?;
-        answers(
-            &rt,
-            "path",
-            &["--events"],
-            viewed.text,
-            viewed.path,
-            viewed.shown,
-        )?;
-        answers(&rt, "trace", &[], viewed.text, viewed.trace, viewed.shown)?;
-        answers(&rt, "size", &[], viewed.text, viewed.size, viewed.sized)?;
+        let text = joined(rt.alloc(), viewed.text)?;
+        let text = text.as_slice();
+        let links = &["--events"];
+        answers(&rt, "log", &[], text, viewed.log, viewed.shown)?;
+        answers(&rt, "stalls", &[], text, viewed.stalls, viewed.shown)?;
+        answers(&rt, "path", links, text, viewed.path, viewed.shown)?;
+        answers(&rt, "trace", &[], text, viewed.trace, viewed.shown)?;
+        answers(&rt, "size", &[], text, viewed.size, viewed.sized)?;
     }
     Ok(())
 }

@@ -4,7 +4,7 @@ use std::process::Abort;
 use std::sync::Wait;
 use std::test::Fail;
 use std::thread::Threads;
-use worked_sessions::{DEADLOCKS, DELAYS, DESIGNS, EDITS, LIMITS, QUERIES, Worked};
+use worked_sessions::{DEADLOCKS, DELAYS, DESIGNS, EDITS, LIMITS, QUERIES, Worked, joined};
 
 /// Asserts that the program answers each of these sessions under this command as it was worked out.
 fn are_answered<R: Threads + Wait + Sync + AllocGlobal + Abort>(
@@ -14,7 +14,8 @@ fn are_answered<R: Threads + Wait + Sync + AllocGlobal + Abort>(
 ) -> Result<(), Fail> {
     for worked in table {
         let words = words_of(rt, command, worked.options)?;
-        let (status, sink) = answer(rt, words.as_slice(), worked.text, &[], &[])?;
+        let text = joined(rt.alloc(), worked.text)?;
+        let (status, sink) = answer(rt, words.as_slice(), text.as_slice(), &[], &[])?;
         assert_eq!(rt; sink.held(), worked.told);
         assert_eq!(rt; status.number(), worked.status);
     }

@@ -11,23 +11,12 @@ use std::marker::Brand;
 use std::process::Abort;
 use std::sync::ledger::{Blank, Ledger};
 use std::test::Fail;
-use worked_sessions::{TWO_LEAST_QUERIES, read_plan};
+use worked_sessions::{TRY_BEFORE_PUSH, TWO_LEAST_QUERIES, Text, plan_of};
 
 /// Two modules, each with a query that waits for the other's push: the first in clock 0, the second in clock 1.
-const ONE_LEAST_QUERY: &[u8] = b"\
-flow 1
-fifo ab 8
-fifo ba 8
-sink y 8
-sink z 8
-module A
-reg x 8
-reg ok 1
-block k 2
-at 0 tryread ba x ok
-at 1 write ab 1
-at 1 write y ok
-stop
+const ONE_LEAST_QUERY: Text = &[
+    TRY_BEFORE_PUSH,
+    b"\
 module B
 reg x 8
 reg ok 1
@@ -37,7 +26,8 @@ at 2 write ba 1
 at 2 write z ok
 stop
 end
-";
+",
+];
 
 /// The module that an action is of.
 pub fn owner_of(action: Action) -> u32
@@ -64,7 +54,7 @@ pub fn act_same<L: Ledger, R: Abort>(rt: &R, core: &mut Core, action: Action, st
 /// What a core answers to `tried` after it did the actions `done`, which are permitted.
 fn answer_behind<L: Ledger, R: AllocGlobal + Abort>(
     rt: &R,
-    text: &[u8],
+    text: Text,
     done: &[Action],
     tried: Action,
     blank: Blank,
@@ -73,7 +63,7 @@ fn answer_behind<L: Ledger, R: AllocGlobal + Abort>(
     requires parts { blank.parts ≡ L.parts }
     requires one { L.parts ≡ 1 }
 {
-    let mut core = Core::new(rt.alloc(), read_plan(rt.alloc(), text)?)?;
+    let mut core = Core::new(rt.alloc(), plan_of(rt.alloc(), text)?)?;
     let mut steps = Steps::<L>::new(blank);
     for action in done {
         act_same(rt, &mut core, *action, &mut steps);
@@ -87,7 +77,7 @@ fn answer_behind<L: Ledger, R: AllocGlobal + Abort>(
 /// Why `tried` is not permitted after the actions `done`, which are permitted.
 fn cause_behind<R: AllocGlobal + Abort>(
     rt: &R,
-    text: &[u8],
+    text: Text,
     done: &[Action],
     tried: Action,
 ) -> Result<Cause, Fail> {

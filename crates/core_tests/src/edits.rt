@@ -16,57 +16,21 @@ use std::marker::Brand;
 use std::process::Abort;
 use std::sync::ledger::{Blank, Ledger};
 use std::test::Fail;
+use worked_sessions::{THREE_PUSHES_AND_POPS, Text, joined};
 
 /// Three values go through a FIFO of depth two. It holds one element in clock 1, and never two.
-const THROUGH_DEPTH_TWO: &[u8] = b"\
-flow 1
-fifo b 8
-module P
-reg i 8
-reg g 1
-loop l 1 1 while g
-at 0 write b i
-at 0 set i + i 1
-at 0 set g <u i 2
-stop
-module Q
-reg x 8
-reg i 8
-reg g 1
-loop l 1 1 while g
-at 0 read b x
-at 0 set i + i 1
-at 0 set g <u i 2
-stop
-depth b 1
-depth b 5
-end
-";
+const THROUGH_DEPTH_TWO: Text = &[
+    b"flow 1\nfifo b 8\n",
+    THREE_PUSHES_AND_POPS,
+    b"depth b 1\ndepth b 5\nend\n",
+];
 
 /// Three values go through a FIFO of depth one.
-const THROUGH_DEPTH_ONE: &[u8] = b"\
-flow 1
-fifo b 8 1
-module P
-reg i 8
-reg g 1
-loop l 1 1 while g
-at 0 write b i
-at 0 set i + i 1
-at 0 set g <u i 2
-stop
-module Q
-reg x 8
-reg i 8
-reg g 1
-loop l 1 1 while g
-at 0 read b x
-at 0 set i + i 1
-at 0 set g <u i 2
-stop
-depth b 1
-end
-";
+const THROUGH_DEPTH_ONE: Text = &[
+    b"flow 1\nfifo b 8 1\n",
+    THREE_PUSHES_AND_POPS,
+    b"depth b 1\nend\n",
+];
 
 /// The accesses of a log before this clock. The log is in order of clocks.
 fn accesses_before(log: &[LoggedAccess], clock: u64) -> &[LoggedAccess] {
@@ -129,8 +93,10 @@ fn moved_from<R: AllocGlobal + Abort>(
 
 #[test]
 fn edits_set_cycles_from_the_first_touched_clock(rt: HostRuntime) -> Result<(), Fail> {
-    assert_eq!(rt; moved_from(&rt, THROUGH_DEPTH_TWO, 0, 1)?, 5);
-    assert_eq!(rt; moved_from(&rt, THROUGH_DEPTH_TWO, 1, u64::MAX)?, 0);
-    assert_eq!(rt; moved_from(&rt, THROUGH_DEPTH_ONE, 0, u64::MAX)?, 0);
+    let two = joined(rt.alloc(), THROUGH_DEPTH_TWO)?;
+    assert_eq!(rt; moved_from(&rt, two.as_slice(), 0, 1)?, 5);
+    assert_eq!(rt; moved_from(&rt, two.as_slice(), 1, u64::MAX)?, 0);
+    let one = joined(rt.alloc(), THROUGH_DEPTH_ONE)?;
+    assert_eq!(rt; moved_from(&rt, one.as_slice(), 0, u64::MAX)?, 0);
     Ok(())
 }

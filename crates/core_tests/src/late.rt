@@ -7,7 +7,7 @@ use path_check::{Target, asks_nothing, ends_after, find_latest, late_depth, neve
 use sim_core::{FinalCore, run_alone};
 use std::process::Abort;
 use std::test::Fail;
-use worked_sessions::{TWO_LEAST_QUERIES, read_plan};
+use worked_sessions::{TWO_LEAST_QUERIES, plan_of, read_plan};
 
 /// The greatest depth of a FIFO, in elements.
 const DEEPEST: u64 = 1_000_000;
@@ -81,7 +81,7 @@ fn compare_cut<R: AllocGlobal + Abort>(
     clock: u64,
     expected: &[Need],
 ) -> Result<(), Fail> {
-    match find_cut(rt.alloc(), core.engine(), core.ends(), depths, clock)? {
+    match find_cut(rt.alloc(), core.engine(), depths, clock)? {
         Some(cut) => assert_eq!(rt; cut.needs.as_slice(), expected),
         None => panic!(rt; "no cut is found"),
     }
@@ -102,7 +102,7 @@ fn finds_cuts(rt: HostRuntime) -> Result<(), Fail> {
     compare_cut(&rt, &core, &[1, 1], 26, [need(0, 2)].as_slice())?;
     compare_cut(&rt, &core, &[1, 4], 24, [need(0, 3)].as_slice())?;
     compare_cut(&rt, &core, &[4, 4], 23, &[])?;
-    let found = find_cut(rt.alloc(), core.engine(), core.ends(), &[2, 1], 25)?;
+    let found = find_cut(rt.alloc(), core.engine(), &[2, 1], 25)?;
     assert!(&rt; found.is_none());
     let held = run_alone(rt.alloc(), read_plan(rt.alloc(), LAST_FIRST)?)?;
     compare_cut(
@@ -123,24 +123,10 @@ fn checks_paths(rt: HostRuntime) -> Result<(), Fail> {
     let depths = [DEEPEST, DEEPEST];
     for (depth, clock, late) in [(2, 24, true), (2, 25, false), (3, 24, false)] {
         let edit = Some(Edit { channel: 0, depth });
-        let shown = ends_after(
-            core.engine(),
-            core.ends(),
-            &depths,
-            edit,
-            &[pop, push],
-            clock,
-        );
+        let shown = ends_after(core.engine(), &depths, edit, &[pop, push], clock);
         assert_eq!(&rt; shown, late);
         let listed = [depth, 1];
-        let shown = ends_after(
-            core.engine(),
-            core.ends(),
-            &listed,
-            None,
-            &[pop, push],
-            clock,
-        );
+        let shown = ends_after(core.engine(), &listed, None, &[pop, push], clock);
         assert_eq!(&rt; shown, late);
     }
     assert!(&rt; !never_ends(core.engine(), &[1, 1], None, &[pop]));
@@ -151,13 +137,12 @@ fn checks_paths(rt: HostRuntime) -> Result<(), Fail> {
 fn bounds_depths(rt: HostRuntime) -> Result<(), Fail> {
     let run = run_alone(rt.alloc(), read_plan(rt.alloc(), TWO_FIFOS)?)?;
     let core = FinalCore::new(&run);
-    let latest = find_latest(rt.alloc(), core.engine(), core.ends(), 24)?;
+    let latest = find_latest(rt.alloc(), core.engine(), 24)?;
     for (channel, expected) in [(0, 3), (1, 1)] {
         let target = Target { channel, clock: 24 };
         let depth = late_depth(
             rt.alloc(),
             core.engine(),
-            core.ends(),
             core.plan().depths.as_slice(),
             &latest,
             &target,
@@ -171,7 +156,7 @@ fn bounds_depths(rt: HostRuntime) -> Result<(), Fail> {
 fn finds_queries(rt: HostRuntime) -> Result<(), Fail> {
     let plain = read_plan(rt.alloc(), TWO_FIFOS)?;
     assert!(&rt; asks_nothing(plain.plan()));
-    let asking = read_plan(rt.alloc(), TWO_LEAST_QUERIES)?;
+    let asking = plan_of(rt.alloc(), TWO_LEAST_QUERIES)?;
     assert!(&rt; !asks_nothing(asking.plan()));
     Ok(())
 }

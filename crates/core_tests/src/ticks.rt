@@ -20,6 +20,7 @@ use std::marker::Brand;
 use std::process::Abort;
 use std::sync::ledger::{Blank, Ledger};
 use std::test::Fail;
+use worked_sessions::{THREE_PUSHES_AND_POPS, Text, joined};
 
 /// How many numbers of one list differ from those at the same places in the other. What one list has more counts too.
 fn count_others(old: &[u64], new: &[u64]) -> usize
@@ -121,27 +122,10 @@ fn moved_by<R: AllocGlobal + Abort>(rt: &R, text: &[u8], number: usize) -> Resul
 }
 
 /// Three values go through FIFO `b`, which holds one element in clock 1, and never two. Meanwhile 300 values go through FIFO `c`.
-const BESIDE_A_LONG_LOOP: &[u8] = b"\
-flow 1
-fifo b 8
-fifo c 16
-module P
-reg i 8
-reg g 1
-loop l 1 1 while g
-at 0 write b i
-at 0 set i + i 1
-at 0 set g <u i 2
-stop
-module Q
-reg x 8
-reg i 8
-reg g 1
-loop l 1 1 while g
-at 0 read b x
-at 0 set i + i 1
-at 0 set g <u i 2
-stop
+const BESIDE_A_LONG_LOOP: Text = &[
+    b"flow 1\nfifo b 8\nfifo c 16\n",
+    THREE_PUSHES_AND_POPS,
+    b"\
 module R
 reg i 16
 reg g 1
@@ -163,15 +147,17 @@ depth b 2
 depth b 1
 depth c 1
 end
-";
+",
+];
 
 #[test]
 fn edits_tick_for_cycles_that_change(rt: HostRuntime) -> Result<(), Fail> {
+    let text = joined(rt.alloc(), BESIDE_A_LONG_LOOP)?;
     // the edit leaves the depth as it is
-    assert_eq!(rt; moved_by(&rt, BESIDE_A_LONG_LOOP, 0)?, 0);
+    assert_eq!(rt; moved_by(&rt, text.as_slice(), 0)?, 0);
     // b holds one element in clock 1: five steps are in or after it, and of these only the first read keeps its cycle
-    assert_eq!(rt; moved_by(&rt, BESIDE_A_LONG_LOOP, 1)?, 4);
+    assert_eq!(rt; moved_by(&rt, text.as_slice(), 1)?, 4);
     // c holds one element in clock 1: all steps but the first write and the first read get other cycles
-    assert_eq!(rt; moved_by(&rt, BESIDE_A_LONG_LOOP, 2)?, 598);
+    assert_eq!(rt; moved_by(&rt, text.as_slice(), 2)?, 598);
     Ok(())
 }

@@ -1,8 +1,8 @@
 //! Reading the statements of channels.
-ghost use Rattle.std.specs.Prelude.{◌≡◌, map, ◌&&◌, IfOk};
+ghost use Rattle.std.specs.Prelude.{◌≡◌, map, false, ◌&&◌, IfOk};
 ghost use Rattle.flow_design.specs.declared.session.Statement.TheVariants.{Source, Sink, Fifo};
 ghost use Rattle.flow_grammar.specs.{Tokens.is_number, Tokens.token_is_name, Tokens.number_of, Forms.only_if, Forms.name_width};
-ghost use Rattle.flow_grammar.specs.{Forms.fifo_of, Gives.LineGives, Parts.default_depth, Parts.default_delay};
+ghost use Rattle.flow_grammar.specs.{Forms.fifo_of, Before.is_among, Gives.LineGives, Parts.default_depth, Parts.default_delay};
 ghost use Rattle.flow_text.specs.{TablesOf.tables_with, TablesOf.IsOfStatements, TableTests.reading_by};
 
 use crate::ensure::{Parsed, ensure, syntax};
@@ -10,20 +10,18 @@ use crate::tables::Tables;
 use flow_design::limits::{FIFO_DELAY, FIFO_DEPTH};
 use flow_design::{Name, Statement};
 use flow_grammar::{Code, LineFail, is_identifier, is_numeral, number_in, width_of};
+use flow_word::Width;
 use std::alloc::Global;
 
-/// The name and the width of a new source or sink, after its keyword.
+/// The width of a new source or sink with this name, if it may stand here.
 #[tactic(auto, unfolding(crate::specs::TableTests::fault_by))]
-fn new_stream<'a>(tables: &Tables<'a>, tokens: &[&'a [u8]]) -> Parsed<(&'a [u8], Width)>
-    ensures source { LineGives (λ s. Source s.0.now s.1) result
-        (reading_by tables.now (name_width Source (map (λ t. t.now) tokens.now))) }
-    ensures sink { LineGives (λ s. Sink s.0.now s.1) result
-        (reading_by tables.now (name_width Sink (map (λ t. t.now) tokens.now))) }
-    ensures new { IfOk result (λ s. is_among tables.now.channels s.0.now ≡ false) }
+fn new_stream(tables: &Tables<'_>, name: &[u8], width: &[u8]) -> Parsed<Width>
+    ensures source { LineGives (λ w. Source name.now w) result
+        (reading_by tables.now (only_if (token_is_name name.now && is_number width.now) (Source name.now (number_of width.now)))) }
+    ensures sink { LineGives (λ w. Sink name.now w) result
+        (reading_by tables.now (only_if (token_is_name name.now && is_number width.now) (Sink name.now (number_of width.now)))) }
+    ensures new { IfOk result (λ _. is_among tables.now.channels name.now ≡ false) }
 {
-    let [name, width] = tokens else {
-        return Err(LineFail::Fault(Code::Syntax));
-    };
     syntax(tables.place.takes_channels() && is_identifier(name) && is_numeral(width))?;
     let width = width_of(width).ok_or(LineFail::Fault(Code::BadNumber))?;
     ensure(!tables.channels.has(name), Code::DoubleName)?;
@@ -31,7 +29,7 @@ fn new_stream<'a>(tables: &Tables<'a>, tokens: &[&'a [u8]]) -> Parsed<(&'a [u8],
         tables.channels.has_room(tables.limits.channels),
         Code::TooMany,
     )?;
-    Ok((*name, width))
+    Ok(width)
 }
 
 /// `source N W`, after its keyword.
@@ -40,9 +38,12 @@ pub fn source<'a>(alloc: Global, tables: &mut Tables<'a>, tokens: &[&'a [u8]]) -
     ensures given { LineGives (λ s. s) result (reading_by tables.old (name_width Source (map (λ t. t.now) tokens.now))) }
     ensures kept { IfOk result (λ s. tables.new ≡ tables_with tables.old s) }
 {
-    let (name, width) = new_stream(tables, tokens)?;
-    tables.add_source(name)?;
-    Ok(Statement::Source(Name::new(alloc, name)?, width))
+    let [name, width] = tokens else {
+        return Err(LineFail::Fault(Code::Syntax));
+    };
+    let width = new_stream(tables, name, width)?;
+    tables.add_source(*name)?;
+    Ok(Statement::Source(Name::new(alloc, *name)?, width))
 }
 
 /// `sink N W`, after its keyword.
@@ -50,9 +51,12 @@ pub fn sink<'a>(alloc: Global, tables: &mut Tables<'a>, tokens: &[&'a [u8]]) -> 
     ensures given { LineGives (λ s. s) result (reading_by tables.old (name_width Sink (map (λ t. t.now) tokens.now))) }
     ensures kept { IfOk result (λ s. tables.new ≡ tables_with tables.old s) }
 {
-    let (name, width) = new_stream(tables, tokens)?;
-    tables.add_sink(name)?;
-    Ok(Statement::Sink(Name::new(alloc, name)?, width))
+    let [name, width] = tokens else {
+        return Err(LineFail::Fault(Code::Syntax));
+    };
+    let width = new_stream(tables, name, width)?;
+    tables.add_sink(*name)?;
+    Ok(Statement::Sink(Name::new(alloc, *name)?, width))
 }
 
 /// A FIFO with this name, width, depth and delay.

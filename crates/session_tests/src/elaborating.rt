@@ -5,7 +5,7 @@ use flow_text::read_session;
 use session_plan::elaborate;
 use std::process::Abort;
 use std::test::Fail;
-use worked_sessions::{REALISTIC_LINE, read_plan};
+use worked_sessions::{REALISTIC_LINE, plan_of};
 
 /// A source with two values, of which one is too wide, and a FIFO with an edit of its depth.
 const EDITED: &[u8] = b"\
@@ -36,7 +36,7 @@ fn names_become_numbers(rt: HostRuntime) -> Result<(), Fail> {
 
 #[test]
 fn a_plan_is_copied(rt: HostRuntime) -> Result<(), Fail> {
-    let plan = read_plan(rt.alloc(), REALISTIC_LINE)?.into_plan();
+    let plan = plan_of(rt.alloc(), REALISTIC_LINE)?.into_plan();
     let copy = copy_plan(rt.alloc(), &plan)?;
     assert_eq!(rt; copy, plan);
     Ok(())

@@ -9,19 +9,7 @@ use flow_word::{Access, Kind};
 use module_interp::{Advance, ModuleRun};
 use std::process::Abort;
 use std::test::Fail;
-use worked_sessions::{LATER_STALL, POLLING_LOOP, read_plan};
-
-/// A session with one operation, in the last local clock of a block as long as a block can be.
-const LONG_BLOCK: &[u8] = b"\
-flow 1
-sink y 8
-module m
-block k 1000000000000
-at 999999999999 write y 1
-stop
-limits 1000000000000000 100000
-end
-";
+use worked_sessions::{LATER_STALL, LONG_BLOCK, POLLING_LOOP, joined, read_plan};
 
 /// Two iterations, of which the second starts where the first ends. A temp counts from 0 in each.
 const ITERATIONS_IN_TURN: &[u8] = b"\
@@ -407,7 +395,8 @@ fn jumps_over_a_long_block<R: Abort>(rt: &R, run: &mut ModuleRun) -> Result<(), 
 
 #[test]
 fn a_long_block_is_jumped_over(rt: HostRuntime) -> Result<(), Fail> {
-    let mut run = first_run(&rt, LONG_BLOCK)?;
+    let text = joined(rt.alloc(), LONG_BLOCK)?;
+    let mut run = first_run(&rt, text.as_slice())?;
     jumps_over_a_long_block(&rt, &mut run)
 }
 
@@ -428,7 +417,8 @@ fn commits_the_older_first<R: Abort>(rt: &R, run: &mut ModuleRun) -> Result<(), 
 
 #[test]
 fn the_older_iteration_commits_first(rt: HostRuntime) -> Result<(), Fail> {
-    let mut run = first_run(&rt, LATER_STALL)?;
+    let text = joined(rt.alloc(), LATER_STALL)?;
+    let mut run = first_run(&rt, text.as_slice())?;
     commits_the_older_first(&rt, &mut run)
 }
 
@@ -446,7 +436,8 @@ fn polls<R: Abort>(rt: &R, run: &mut ModuleRun) -> Result<(), Fail>
 
 #[test]
 fn a_polling_loop_is_spent(rt: HostRuntime) -> Result<(), Fail> {
-    let mut run = first_run(&rt, POLLING_LOOP)?;
+    let text = joined(rt.alloc(), POLLING_LOOP)?;
+    let mut run = first_run(&rt, text.as_slice())?;
     polls(&rt, &mut run)
 }
 

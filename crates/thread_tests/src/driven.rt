@@ -3,7 +3,7 @@ use crate::passes::{Answer, closes_with, module_turns, open, perf_turn};
 use std::process::Abort;
 use std::sync::Wait;
 use std::test::Fail;
-use worked_sessions::{TWO_LEAST_QUERIES, TWO_MODULES};
+use worked_sessions::{TWO_LEAST_QUERIES, TWO_MODULES, Text};
 
 /// Which pass takes the next turns.
 #[derive(Clone, Copy, Debug, PartialEq, Eq)]
@@ -15,7 +15,7 @@ enum Next {
 /// Asserts that the passes are answered so, one after the other, and that all is over then.
 fn is_driven<R: AllocGlobal + Wait + Abort>(
     rt: &R,
-    text: &[u8],
+    text: Text,
     turns: &[(Next, Answer)],
 ) -> Result<(), Fail> {
     let (hub, passes, report) = open(rt, text)?;

@@ -11,7 +11,7 @@ use std::alloc::Global;
 use std::process::Abort;
 use std::sync::Wait;
 use std::test::Fail;
-use worked_sessions::read_plan;
+use worked_sessions::{Text, plan_of};
 
 /// All passes of a hub, while none has a turn.
 #[derive(Drop)]
@@ -36,10 +36,10 @@ pub enum Answer {
 }
 
 /// The hub of a session with its passes, and the lockstep machine's report of the session.
-pub fn open<R: AllocGlobal>(rt: &R, text: &[u8]) -> Result<(Hub, Passes, Report), Fail>
+pub fn open<R: AllocGlobal>(rt: &R, text: Text) -> Result<(Hub, Passes, Report), Fail>
     ensures resting { IfOk result (λ r. AreResting (hub_id r.0) r.1.perf r.1.modules.items) }
 {
-    let plan = read_plan(rt.alloc(), text)?;
+    let plan = plan_of(rt.alloc(), text)?;
     let expected = clock_run(rt.alloc(), &plan)?;
     let core = Core::new(rt.alloc(), plan)?;
     let (hub, perf, modules) = Hub::new(rt.alloc(), core)?;

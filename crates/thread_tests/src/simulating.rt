@@ -11,7 +11,7 @@ use std::sync::atomic::{AtomicBool, AtomicU64, Ordering};
 use std::sync::{Mutex, Wait};
 use std::test::Fail;
 use std::thread::Threads;
-use worked_sessions::{LATER_STALL, REALISTIC_LINE, TWO_MODULES, read_plan};
+use worked_sessions::{LATER_STALL, REALISTIC_LINE, TWO_MODULES, joined, plan_of, read_plan};
 
 /// Whether the turns that returned desks of this module have the noted numbers of marks, in order, each with the module's pass.
 fn are_noted(turns: &[HubTurn], notes: &[(u32, u64)], owner: u32) -> bool {
@@ -54,7 +54,7 @@ fn first_bursts_meet(rt: HostRuntime) -> Result<(), Fail> {
         begun: [AtomicBool::new(false), AtomicBool::new(false)],
         missed: AtomicBool::new(false),
     };
-    let threaded = run_threads(&rt, rt.alloc(), read_plan(rt.alloc(), TWO_MODULES)?, &gate)?;
+    let threaded = run_threads(&rt, rt.alloc(), plan_of(rt.alloc(), TWO_MODULES)?, &gate)?;
     assert!(rt; !gate.missed.load(Ordering::SeqCst));
     assert!(rt; are_noted(&threaded.turns, &[(0, 3)], 0));
     assert!(rt; are_noted(&threaded.turns, &[(1, 1), (1, 2)], 1));
@@ -169,12 +169,7 @@ fn uneven_ports(rt: HostRuntime) -> Result<(), Fail> {
 #[test]
 fn turns_are_bursts(rt: HostRuntime) -> Result<(), Fail> {
     let gate = notes_for(&rt);
-    let threaded = run_threads(
-        &rt,
-        rt.alloc(),
-        read_plan(rt.alloc(), REALISTIC_LINE)?,
-        &gate,
-    )?;
+    let threaded = run_threads(&rt, rt.alloc(), plan_of(rt.alloc(), REALISTIC_LINE)?, &gate)?;
     let Notes { marks, lost, .. } = gate;
     assert!(rt; !lost.load(Ordering::SeqCst));
     let marks = marks.into_inner();
@@ -205,9 +200,10 @@ fn is_reported<R: Threads + Wait + Sync + AllocGlobal + Abort>(
 
 #[test]
 fn fewer_threads(rt: HostRuntime) -> Result<(), Fail> {
-    let expected = clock_run(rt.alloc(), &read_plan(rt.alloc(), LATER_STALL)?)?;
+    let text = joined(rt.alloc(), LATER_STALL)?;
+    let expected = clock_run(rt.alloc(), &read_plan(rt.alloc(), text.as_slice())?)?;
     for started in 0..3u32 {
-        is_reported(&rt, LATER_STALL, started, &expected)?;
+        is_reported(&rt, text.as_slice(), started, &expected)?;
     }
     Ok(())
 }
@@ -225,8 +221,8 @@ fn fewer_threads_of_many(rt: HostRuntime) -> Result<(), Fail> {
 #[test]
 fn slow_bursts(rt: HostRuntime) -> Result<(), Fail> {
     let alloc = rt.alloc();
-    let expected = clock_run(alloc, &read_plan(rt.alloc(), TWO_MODULES)?)?;
-    let threaded = run_threads(&rt, alloc, read_plan(rt.alloc(), TWO_MODULES)?, &Slow)?;
+    let expected = clock_run(alloc, &plan_of(rt.alloc(), TWO_MODULES)?)?;
+    let threaded = run_threads(&rt, alloc, plan_of(rt.alloc(), TWO_MODULES)?, &Slow)?;
     let report = threaded.core.final_report(alloc, true)?;
     assert!(rt; report.is_some_and(|found| found == expected));
     Ok(())

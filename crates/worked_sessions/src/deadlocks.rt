@@ -1,29 +1,17 @@
 //! Designs whose modules wait for ever.
+use crate::modules::MUTUAL_WAIT;
+use crate::text::Text;
 use crate::worked::Worked;
+
+/// Two modules, each of which begins with a wait for the other.
+pub const DEADLOCK_AT_ONCE: Text = &[b"flow 1\nfifo ab 8\nfifo ba 8\n", MUTUAL_WAIT, b"end\n"];
 
 /// Designs whose modules wait for ever.
 pub const DEADLOCKS: &[Worked] = &[
     // deadlock at once
     Worked {
         options: &[],
-        text: b"\
-flow 1
-fifo ab 8
-fifo ba 8
-module A
-reg x 8
-block k 2
-at 0 read ba x
-at 1 write ab 1
-stop
-module B
-reg x 8
-block k 2
-at 0 read ab x
-at 1 write ba 1
-stop
-end
-",
+        text: DEADLOCK_AT_ONCE,
         told: b"\
 report 0
 verdict deadlock 0
@@ -36,7 +24,8 @@ runs 1
     // run ahead past a full FIFO
     Worked {
         options: &[],
-        text: b"\
+        text: &[
+            b"\
 flow 1
 fifo b 8
 module P
@@ -53,6 +42,7 @@ at 0 if z read b x
 stop
 end
 ",
+        ],
         told: b"\
 report 0
 verdict deadlock 2
@@ -64,7 +54,8 @@ runs 1
     // exhausted source
     Worked {
         options: &[],
-        text: b"\
+        text: &[
+            b"\
 flow 1
 source a 8
 sink y 8
@@ -76,6 +67,7 @@ at 2 write y + x 1
 stop
 end
 ",
+        ],
         told: b"\
 report 0
 verdict deadlock 0

@@ -1,4 +1,5 @@
 //! Designs with FIFOs that show an element later than in the next clock.
+use crate::modules::{MUTUAL_WAIT, PUSH_IN_CLOCK_5, RELAY, THREE_PUSHES_AND_POPS, TRY_IN_CLOCK_6};
 use crate::worked::Worked;
 
 /// Designs with FIFOs that show an element later than in the next clock.
@@ -6,26 +7,11 @@ pub const DELAYS: &[Worked] = &[
     // visibility five clocks later
     Worked {
         options: &[],
-        text: b"\
-flow 2
-source a 8
-fifo b 8 2 5
-sink y 8
-module p
-reg x 8
-block k 2
-at 0 read a x
-at 1 write b x
-stop
-module q
-reg z 8
-block k 2
-at 0 read b z
-at 1 write y z
-stop
-input a 5
-end
-",
+        text: &[
+            b"flow 2\nsource a 8\nfifo b 8 2 5\nsink y 8\n",
+            RELAY,
+            b"input a 5\nend\n",
+        ],
         told: b"\
 report 0
 verdict done 8
@@ -37,29 +23,11 @@ runs 1
     // three values through depth two, on their way for five clocks, and an edit
     Worked {
         options: &[],
-        text: b"\
-flow 2
-fifo b 8 2 5
-module P
-reg i 8
-reg g 1
-loop l 1 1 while g
-at 0 write b i
-at 0 set i + i 1
-at 0 set g <u i 2
-stop
-module Q
-reg x 8
-reg i 8
-reg g 1
-loop l 1 1 while g
-at 0 read b x
-at 0 set i + i 1
-at 0 set g <u i 2
-stop
-depth b 3
-end
-",
+        text: &[
+            b"flow 2\nfifo b 8 2 5\n",
+            THREE_PUSHES_AND_POPS,
+            b"depth b 3\nend\n",
+        ],
         told: b"\
 report 0
 verdict done 12
@@ -72,23 +40,12 @@ runs 1
     // tie in the clock, one later, with a delay of two
     Worked {
         options: &[],
-        text: b"\
-flow 2
-fifo b 8 2 2
-sink y 8
-module p
-block k 6
-at 5 write b 3
-stop
-module q
-reg x 8
-reg ok 1
-block k 8
-at 6 tryread b x ok
-at 7 write y ok
-stop
-end
-",
+        text: &[
+            b"flow 2\nfifo b 8 2 2\nsink y 8\n",
+            PUSH_IN_CLOCK_5,
+            TRY_IN_CLOCK_6,
+            b"end\n",
+        ],
         told: b"\
 report 0
 verdict done 8
@@ -100,24 +57,7 @@ runs 1
     // deadlock at once, with a delay
     Worked {
         options: &[],
-        text: b"\
-flow 2
-fifo ab 8 2 9
-fifo ba 8
-module A
-reg x 8
-block k 2
-at 0 read ba x
-at 1 write ab 1
-stop
-module B
-reg x 8
-block k 2
-at 0 read ab x
-at 1 write ba 1
-stop
-end
-",
+        text: &[b"flow 2\nfifo ab 8 2 9\nfifo ba 8\n", MUTUAL_WAIT, b"end\n"],
         told: b"\
 report 0
 verdict deadlock 0

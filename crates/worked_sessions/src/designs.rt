@@ -1,5 +1,10 @@
 //! Designs whose modules all end.
+use crate::modules::{RELAY, THREE_PUSHES_AND_POPS};
+use crate::text::Text;
 use crate::worked::Worked;
+
+/// A design without modules and channels.
+pub const EMPTY_DESIGN: Text = &[b"flow 1\nend\n"];
 
 /// A design with one source, one sink, and one module that adds one.
 pub const PLAIN_CASE: &[u8] = b"\
@@ -25,26 +30,11 @@ runs 1
 ";
 
 /// A design of two modules with a FIFO between them, whose element is seen one clock after its push.
-pub const TWO_MODULES: &[u8] = b"\
-flow 1
-source a 8
-fifo b 8
-sink y 8
-module p
-reg x 8
-block k 2
-at 0 read a x
-at 1 write b x
-stop
-module q
-reg z 8
-block k 2
-at 0 read b z
-at 1 write y z
-stop
-input a 5
-end
-";
+pub const TWO_MODULES: Text = &[
+    b"flow 1\nsource a 8\nfifo b 8\nsink y 8\n",
+    RELAY,
+    b"input a 5\nend\n",
+];
 
 /// The answer to `TWO_MODULES`.
 pub const TWO_MODULES_ANSWER: &[u8] = b"\
@@ -55,35 +45,28 @@ runs 1
 ";
 
 /// A design in which three values go through a FIFO of depth two.
-pub const THREE_VALUES: &[u8] = b"\
+pub const THREE_VALUES: Text = &[b"flow 1\nfifo b 8\n", THREE_PUSHES_AND_POPS, b"end\n"];
+
+/// A module with one operation, in the last local clock of a block of 10^12 clocks, which is as long as a block can be.
+pub const LONG_BLOCK: Text = &[
+    b"\
 flow 1
-fifo b 8
-module P
-reg i 8
-reg g 1
-loop l 1 1 while g
-at 0 write b i
-at 0 set i + i 1
-at 0 set g <u i 2
+sink y 8
+module m
+block k 1000000000000
+at 999999999999 write y 1
 stop
-module Q
-reg x 8
-reg i 8
-reg g 1
-loop l 1 1 while g
-at 0 read b x
-at 0 set i + i 1
-at 0 set g <u i 2
-stop
+limits 1000000000000000 100000
 end
-";
+",
+];
 
 /// Designs whose modules all end.
 pub const DESIGNS: &[Worked] = &[
     // plain case
     Worked {
         options: &[],
-        text: PLAIN_CASE,
+        text: &[PLAIN_CASE],
         told: PLAIN_ANSWER,
         status: 0,
     },
@@ -125,10 +108,7 @@ runs 1
     // empty design
     Worked {
         options: &[],
-        text: b"\
-flow 1
-end
-",
+        text: EMPTY_DESIGN,
         told: b"\
 report 0
 verdict done 0
@@ -139,7 +119,8 @@ runs 1
     // word arithmetic
     Worked {
         options: &[],
-        text: b"\
+        text: &[
+            b"\
 flow 1
 sink y 64
 module m
@@ -156,6 +137,7 @@ at 8 write y <u 18446744073709551615 1
 stop
 end
 ",
+        ],
         told: b"\
 report 0
 verdict done 9
@@ -167,7 +149,8 @@ runs 1
     // commit order
     Worked {
         options: &[],
-        text: b"\
+        text: &[
+            b"\
 flow 1
 sink y 8
 module m
@@ -179,6 +162,7 @@ at 1 write y x
 stop
 end
 ",
+        ],
         told: b"\
 report 0
 verdict done 2

@@ -1,9 +1,12 @@
 //! Designs with depth edits.
+use crate::modules::THREE_PUSHES_AND_POPS;
+use crate::text::Text;
 use crate::worked::Worked;
 
 /// A reader, a filter with four taps, a decimator that polls, and a writer, with inputs and depth edits. The text is in canonical
 /// form.
-pub const REALISTIC_LINE: &[u8] = b"\
+pub const REALISTIC_LINE: Text = &[
+    b"\
 flow 1
 source a 16
 fifo p 16 2
@@ -87,10 +90,12 @@ depth p 2
 depth q 1
 depth q 8
 end
-";
+",
+];
 
 /// Three values wait in one FIFO until the other has one; an edit deepens the first.
-pub const LATE_CHANNEL: &[u8] = b"\
+pub const LATE_CHANNEL: Text = &[
+    b"\
 flow 1
 fifo b 8
 fifo c 8
@@ -113,36 +118,19 @@ at 4 write y x
 stop
 depth b 3
 end
-";
+",
+];
 
 /// Designs with depth edits.
 pub const EDITS: &[Worked] = &[
     // edit without a new run
     Worked {
         options: &["--events"],
-        text: b"\
-flow 1
-fifo b 8
-module P
-reg i 8
-reg g 1
-loop l 1 1 while g
-at 0 write b i
-at 0 set i + i 1
-at 0 set g <u i 2
-stop
-module Q
-reg x 8
-reg i 8
-reg g 1
-loop l 1 1 while g
-at 0 read b x
-at 0 set i + i 1
-at 0 set g <u i 2
-stop
-depth b 1
-end
-",
+        text: &[
+            b"flow 1\nfifo b 8\n",
+            THREE_PUSHES_AND_POPS,
+            b"depth b 1\nend\n",
+        ],
         told: b"\
 report 0
 verdict done 4
@@ -167,7 +155,8 @@ runs 1
     // outcome that turns
     Worked {
         options: &[],
-        text: b"\
+        text: &[
+            b"\
 flow 1
 fifo b 8 1
 sink y 8
@@ -186,6 +175,7 @@ stop
 depth b 2
 end
 ",
+        ],
         told: b"\
 report 0
 verdict done 10

@@ -1,9 +1,11 @@
 //! Designs that reach a limit, and designs that just do not.
 use crate::designs::{PLAIN_ANSWER, PLAIN_CASE};
+use crate::text::Text;
 use crate::worked::Worked;
 
 /// A loop without end that tries a read in each local clock, with an operation limit of 10.
-pub const POLLING_LOOP: &[u8] = b"\
+pub const POLLING_LOOP: Text = &[
+    b"\
 flow 1
 fifo b 8
 module P
@@ -21,7 +23,8 @@ at 0 if z write b 1
 stop
 limits 1000 10
 end
-";
+",
+];
 
 /// Designs that reach a limit, and designs that just do not.
 pub const LIMITS: &[Worked] = &[
@@ -39,7 +42,7 @@ runs 1
     // exact end, one clock less
     Worked {
         options: &["--cycles", "2"],
-        text: PLAIN_CASE,
+        text: &[PLAIN_CASE],
         told: b"\
 report 0
 verdict cycles 2
@@ -51,21 +54,21 @@ runs 1
     // exact end
     Worked {
         options: &["--cycles", "3"],
-        text: PLAIN_CASE,
+        text: &[PLAIN_CASE],
         told: PLAIN_ANSWER,
         status: 0,
     },
     // exact end, its value in the same word
     Worked {
         options: &["--cycles=3"],
-        text: PLAIN_CASE,
+        text: &[PLAIN_CASE],
         told: PLAIN_ANSWER,
         status: 0,
     },
     // exact operation limit, one less
     Worked {
         options: &["--ops", "2"],
-        text: PLAIN_CASE,
+        text: &[PLAIN_CASE],
         told: b"\
 report 0
 verdict ops 1
@@ -77,7 +80,7 @@ runs 1
     // exact operation limit
     Worked {
         options: &["--ops", "3"],
-        text: PLAIN_CASE,
+        text: &[PLAIN_CASE],
         told: PLAIN_ANSWER,
         status: 0,
     },

@@ -1,40 +1,20 @@
 //! Designs whose modules ask whether an access is possible.
+use crate::modules::{PUSH_IN_CLOCK_5, TRY_BEFORE_PUSH, TRY_IN_CLOCK_6};
+use crate::text::Text;
 use crate::worked::Worked;
 
 /// A pop that is tried in the clock after the push.
-pub const TIE_ONE_LATER: &[u8] = b"\
-flow 1
-fifo b 8
-sink y 8
-module p
-block k 6
-at 5 write b 3
-stop
-module q
-reg x 8
-reg ok 1
-block k 8
-at 6 tryread b x ok
-at 7 write y ok
-stop
-end
-";
+pub const TIE_ONE_LATER: Text = &[
+    b"flow 1\nfifo b 8\nsink y 8\n",
+    PUSH_IN_CLOCK_5,
+    TRY_IN_CLOCK_6,
+    b"end\n",
+];
 
 /// Two modules, each with a query in clock 0 that waits for the other's push.
-pub const TWO_LEAST_QUERIES: &[u8] = b"\
-flow 1
-fifo ab 8
-fifo ba 8
-sink y 8
-sink z 8
-module A
-reg x 8
-reg ok 1
-block k 2
-at 0 tryread ba x ok
-at 1 write ab 1
-at 1 write y ok
-stop
+pub const TWO_LEAST_QUERIES: Text = &[
+    TRY_BEFORE_PUSH,
+    b"\
 module B
 reg x 8
 reg ok 1
@@ -44,10 +24,12 @@ at 1 write ba 1
 at 1 write z ok
 stop
 end
-";
+",
+];
 
 /// Two iterations that overlap. Each has a read, a test two local clocks later, and a write one local clock after that.
-pub const LATER_STALL: &[u8] = b"\
+pub const LATER_STALL: Text = &[
+    b"\
 flow 1
 fifo b 8
 fifo c 8
@@ -71,10 +53,12 @@ at 9 write b 2
 at 10 write c 1
 stop
 end
-";
+",
+];
 
 /// One module pushes into a FIFO and tries to pop from it.
-pub const BOTH_ENDS_IN_ONE_MODULE: &[u8] = b"\
+pub const BOTH_ENDS_IN_ONE_MODULE: Text = &[
+    b"\
 flow 1
 fifo b 8
 sink y 8
@@ -89,21 +73,18 @@ at 1 tryread b x p
 at 2 write y | << p 1 o
 stop
 end
-";
+",
+];
 
 /// Designs whose modules ask whether an access is possible.
 pub const QUERIES: &[Worked] = &[
     // tie in the clock
     Worked {
         options: &[],
-        text: b"\
-flow 1
-fifo b 8
-sink y 8
-module p
-block k 6
-at 5 write b 3
-stop
+        text: &[
+            b"flow 1\nfifo b 8\nsink y 8\n",
+            PUSH_IN_CLOCK_5,
+            b"\
 module q
 reg x 8
 reg ok 1
@@ -113,6 +94,7 @@ at 6 write y ok
 stop
 end
 ",
+        ],
         told: b"\
 report 0
 verdict done 7

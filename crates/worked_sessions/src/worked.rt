@@ -1,4 +1,5 @@
 //! The form of a worked session.
+use crate::text::Text;
 
 /// A session with options, and the answer that `run`, `alone` and `clock` must give. It was worked out by hand from the machine's
 /// rules.
@@ -7,7 +8,7 @@ pub struct Worked {
     /// The words after the command.
     pub options: &'static [&'static str],
     /// The session's text.
-    pub text: &'static [u8],
+    pub text: Text,
     /// The text of the answer.
     pub told: &'static [u8],
     /// The exit status of the program.

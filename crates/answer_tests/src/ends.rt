@@ -94,18 +94,16 @@ const EDITED_PARTS: [&[u8]; 4] = [
     b"report 0\nverdict done 2\nreport 1\nverdict done 2\nruns 1\n",
 ];
 
-/// What the program answers to these words and a text, with a sink that has this room, takes all bytes of a call, and fails in the
-/// calls `puts`.
-fn answer_in_room<R: Threads + Wait + Sync + AllocGlobal>(
+/// What the program answers to these words and a text, with a sink that takes all bytes of a call, and fails in the calls `puts`.
+fn answer_in_pieces<R: Threads + Wait + Sync + AllocGlobal>(
     rt: &R,
     words: &[String],
     text: &[u8],
-    room: u64,
     puts: &[u64],
 ) -> Result<(Status, MemSink), Fail> {
     let alloc = rt.alloc();
     let mut source = MemSource::new(alloc, text, 64, &[])?;
-    let mut sink = MemSink::new(alloc, room, room, puts)?;
+    let mut sink = MemSink::new(alloc, 2 << 20, 2 << 20, puts)?;
     let status = omnisim(rt, alloc, words, &mut source, &mut sink, &FreeGate);
     Ok((status, sink))
 }
@@ -116,7 +114,7 @@ fn each_report_is_one_write(rt: HostRuntime) -> Result<(), Fail> {
         let words = words_of(&rt, command, &[])?;
         for (call, told) in EDITED_PARTS.iter().enumerate() {
             let puts = [call as u64];
-            let (status, sink) = answer_in_room(&rt, words.as_slice(), EDITED, 64, &puts)?;
+            let (status, sink) = answer_in_pieces(&rt, words.as_slice(), EDITED, &puts)?;
             assert_eq!(rt; sink.held(), *told);
             assert_eq!(rt; status, Status::WriteFault);
         }
@@ -142,10 +140,10 @@ end
 #[test]
 fn a_log_is_written_in_pieces(rt: HostRuntime) -> Result<(), Fail> {
     let words = words_of(&rt, "log", &[])?;
-    let (status, whole) = answer_in_room(&rt, words.as_slice(), LONG_LOG, 2 << 20, &[])?;
+    let (status, whole) = answer_in_pieces(&rt, words.as_slice(), LONG_LOG, &[])?;
     assert_eq!(rt; status, Status::Done);
     // the second write fails after one piece was written, which exceeds `PIECE` by less than its last line
-    let (status, sink) = answer_in_room(&rt, words.as_slice(), LONG_LOG, 2 << 20, &[1])?;
+    let (status, sink) = answer_in_pieces(&rt, words.as_slice(), LONG_LOG, &[1])?;
     assert_eq!(rt; status, Status::WriteFault);
     let piece = sink.held();
     assert!(rt; piece.len() as u64 >= PIECE && (piece.len() as u64) < PIECE + 160);

@@ -182,15 +182,23 @@ fn commands_up_to_a_limit(rt: HostRuntime) -> Result<(), Fail> {
     Ok(())
 }
 
+/// Limits, the fills of the wave of the polling session up to them, and the status.
+type LimitedWave = (&'static [&'static str], &'static [u8], Status);
+
+const LIMITED_WAVES: &[LimitedWave] = &[
+    (
+        &["--cycles", "4"],
+        b"#0\nb0 f0\nb0 f1\n#4\n",
+        Status::Cycles,
+    ),
+    (&["--ops", "2"], b"#0\nb0 f0\nb0 f1\n#1\n", Status::Ops),
+];
+
 #[test]
 fn waves_up_to_a_limit(rt: HostRuntime) -> Result<(), Fail> {
-    let rows = [
-        (["--cycles", "4"], b"#0\nb0 f0\nb0 f1\n#4\n", Status::Cycles),
-        (["--ops", "2"], b"#0\nb0 f0\nb0 f1\n#1\n", Status::Ops),
-    ];
-    for (options, fills, status) in rows {
+    for (options, fills, status) in LIMITED_WAVES {
         let told = wave_of(rt.alloc(), &["b", "tries"], fills)?;
-        answers(&rt, "wave", &options, POLLING, told.as_slice(), status)?;
+        answers(&rt, "wave", options, POLLING, told.as_slice(), *status)?;
     }
     Ok(())
 }

@@ -1,7 +1,7 @@
 //! The rules of commands: which options and positionals each one takes.
 ghost use Rattle.std.specs.Prelude.{◌≡◌, ◌≤◌, ◌^◌, ℕ, IfSome, Some, option_map};
 ghost use Rattle.cli_words.specs.CommandWords.{AreLimits, asked, IsInRange, IsLimit, command_of, gen_of, has_options, limit_in, name_of};
-ghost use Rattle.cli_words.specs.CommandWords.{no_more, number_in, options_alone, options_of, slack_in, sweep_of, tells_events, scale_of};
+ghost use Rattle.cli_words.specs.CommandWords.{no_more, number_in, options_alone, options_of, sweep_of, tells_events, scale_of};
 ghost use Rattle.cli_words.specs.CommandWords.{tells_polls, with_slack, without_option};
 ghost use Rattle.cli_words.specs.Given.{further_positionals, said_of, text_of};
 

@@ -32,11 +32,11 @@ pub record IsRemembered (p : Plan) (codes : List (List BlockCode)) (clock i : �
 
 -- each module is kept as of a clock
 pub record AreRemembered (p : Plan) (codes : List (List BlockCode)) (clock : ℕ) (states : List ModuleState) (memos : List Memo) : Type 0
-    where
-  pub state_count : length states ≡ length p.design.modules
-  pub memo_count : length memos ≡ length p.design.modules
-  pub each : (i : ℕ) → i < length p.design.modules
-      → IsRemembered p codes clock i (slice_index_or states i nobody) (slice_index_or memos i no_memo)
+  where
+    pub state_count : length states ≡ length p.design.modules
+    pub memo_count : length memos ≡ length p.design.modules
+    pub each : (i : ℕ) → i < length p.design.modules
+        → IsRemembered p codes clock i (slice_index_or states i nobody) (slice_index_or memos i no_memo)
 
 -- module i moves in a clock without asking for anything
 pub record MovesQuietly (p : Plan) (clock i : ℕ) : Type 0 where

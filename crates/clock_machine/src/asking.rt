@@ -1,5 +1,5 @@
 //! What a module asks of the channels.
-ghost use Rattle.std.specs.Prelude.{◌≡◌, ◌<◌, ◌≤◌, ◌^◌, IfOk, OnOk, true, length, slice_index_or};
+ghost use Rattle.std.specs.Prelude.{◌≡◌, ◌<◌, ◌^◌, IfOk, OnOk, true, length, slice_index_or};
 ghost use Rattle.flow_design.specs.Module.{block_of};
 ghost use Rattle.lockstep_defs.specs.{Machine.is_over, Machine.nobody, Machine.requests, Channels.all_ready};
 ghost use Rattle.lockstep_defs.specs.Lockstep.{module_at, moves, state_at};

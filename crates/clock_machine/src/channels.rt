@@ -1,6 +1,5 @@
 //! What is possible on the contents of the channels, and the replies.
-ghost use Rattle.std.specs.Prelude.{◌≡◌, ◌++◌, ◌∷◌, true, false, length, slice_index, slice_index_or, [], if◌then◌else◌, Some, None};
-ghost use Rattle.std.specs.Prelude.{is_some, IfOk, OnOk};
+ghost use Rattle.std.specs.Prelude.{◌≡◌, ◌++◌, ◌∷◌, true, false, length, slice_index, [], if◌then◌else◌, Some, None, is_some, IfOk, OnOk};
 ghost use Rattle.std.specs.List.{list_any};
 ghost use Rattle.flow_design.specs.{Plans.is_fifo, Plans.kind_at, Plans.delay_at, declared.state.Reply.TheVariants.Flag};
 ghost use Rattle.lockstep_defs.specs.Channels.{contents_of, front, is_empty, all_ready, is_full, can_take, stalls, reply};
@@ -9,8 +8,8 @@ ghost use Rattle.clock_machine.specs.Parts.{outcomes_in, popped, pushed};
 
 use crate::memo::{Pushed, Traffic};
 use crate::standing::Standing;
-use flow_design::{ChannelKind, CheckedPlan, Element, Reply, Request};
-use flow_word::{Flags, Kind, List, OutOfMemory, Queue, Side};
+use flow_design::{CheckedPlan, Element, Reply, Request};
+use flow_word::{Flags, Kind, OutOfMemory, Queue, Side};
 
 /// How many elements a channel holds.
 #[inline(always)]

@@ -1,5 +1,5 @@
 //! The contents of the channels after a clock.
-ghost use Rattle.std.specs.Prelude.{◌≡◌, ◌==◌, if◌then◌else◌, [], ◌∷◌, ◌++◌, map, drop, length, OnOk, ◌≤◌};
+ghost use Rattle.std.specs.Prelude.{◌≡◌, ◌==◌, if◌then◌else◌, [], ◌∷◌, ◌++◌, map, drop, OnOk, ◌≤◌};
 ghost use Rattle.std.specs.List.{enumerate_from};
 ghost use Rattle.clock_machine.specs.Parts.{after_pops, after_pushes};
 

@@ -1,5 +1,5 @@
 //! The state at clock 0.
-ghost use Rattle.std.specs.Prelude.{◌≡◌, ◌<◌, ◌++◌, ℕ, [], map, length, replicate, IfOk};
+ghost use Rattle.std.specs.Prelude.{◌≡◌, ◌<◌, [], map, length, replicate, IfOk};
 ghost use Rattle.std.specs.List.{range_with_len};
 ghost use Rattle.flow_design.specs.Words.{cut_to};
 ghost use Rattle.lockstep_defs.specs.{Machine.opened, Channels.element_from, Lockstep.module_at, Lockstep.inputs_of, Lockstep.opening};

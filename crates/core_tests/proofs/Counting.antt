@@ -1,6 +1,6 @@
 -- Counting what differs in two lists.
 use Rattle.std.proofs.Common.{◌≡◌, refl, ap, ℕ, zero, suc, ◌+◌, ◌-◌, ◌<◌, ◌≤◌, List, [], ◌∷◌, length, drop, map, get_or, max, min, add-one}
-use Rattle.std.proofs.Common.{drop-cons, arith, sym, ◌∙◌, inl, inr, ap₂, subst, ◌++◌, take}
+use Rattle.std.proofs.Common.{drop-cons, arith, sym, ◌∙◌, inl, inr, ◌++◌, take}
 use Rattle.std.proofs.{lemmas.Bool.eq-eqb, lemmas.List.get_or-map, lemmas.List.map-append, lemmas.List.take_more, lemmas.List.take_all}
 use Rattle.cycle_changes.specs.Moved.{others_in, moved_in}
 use Rattle.flow_design.specs.declared.plan.Edit.{Edit}

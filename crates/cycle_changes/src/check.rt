@@ -1,5 +1,5 @@
 //! The check: whether new cycles are right, as seen from the steps that changed.
-ghost use Rattle.std.specs.Prelude.{◌≡◌, suc, ◌<◌, ◌≤◌, [], true, length, slice_index_or, All};
+ghost use Rattle.std.specs.Prelude.{◌≡◌, suc, ◌<◌, ◌≤◌, true, length, slice_index_or, All};
 ghost use Rattle.event_graph.specs.Lanes.{HasStep, lane_at, cycle_bound};
 ghost use Rattle.engine_view.specs.{Engines.held_in, Turns.IsSomeCore, Turns.first_of};
 ghost use Rattle.cycle_changes.specs.{Looks.IsLooked, Around.IsLookedAround, Around.NoneIsDue};

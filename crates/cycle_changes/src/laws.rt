@@ -1,5 +1,5 @@
 //! The laws of changes.
-ghost use Rattle.std.specs.Prelude.{ℕ, ◌<◌, [], List, length};
+ghost use Rattle.std.specs.Prelude.{ℕ, ◌<◌, List, length};
 ghost use Rattle.flow_design.specs.declared.plan.Edit.{Edit};
 ghost use Rattle.flow_word.specs.declared.access.Place.{Place as place};
 ghost use Rattle.fifo_table.specs.Channels.{IsFifo, channel_at};

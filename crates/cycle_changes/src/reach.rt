@@ -1,5 +1,5 @@
 //! The steps that wait for a step.
-ghost use Rattle.std.specs.Prelude.{◌≡◌, ℕ, ◌<◌, ◌≤◌, [], true, false, length, All, Contains, Some};
+ghost use Rattle.std.specs.Prelude.{◌≡◌, ℕ, ◌<◌, ◌≤◌, true, false, length, All, Contains, Some};
 ghost use Rattle.flow_word.specs.Kinds.{side_of, other_side};
 ghost use Rattle.event_graph.specs.Lanes.{HasStep};
 ghost use Rattle.engine_view.specs.{Held.step_of, Engines.held_in, Turns.IsSomeCore, Turns.first_of};

@@ -1,5 +1,5 @@
 //! The steps in which a new depth is felt.
-ghost use Rattle.std.specs.Prelude.{◌≡◌, ◌<◌, ◌⊎◌, [], true, length, Contains};
+ghost use Rattle.std.specs.Prelude.{◌≡◌, ◌<◌, ◌⊎◌, true, length, Contains};
 ghost use Rattle.flow_word.specs.declared.access.Place.{Place as place};
 ghost use Rattle.event_graph.specs.Lanes.{HasStep};
 ghost use Rattle.engine_view.specs.{Held.step_of, Engines.held_in, Turns.IsSomeCore, Turns.first_of};

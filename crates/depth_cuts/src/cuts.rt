@@ -1,5 +1,5 @@
 //! Cuts: lists of needs, and the demands on the depths of channels.
-ghost use Rattle.std.specs.Prelude.{◌≡◌, ◌<◌, ◌≤◌, true, false, length, slice_index, All};
+ghost use Rattle.std.specs.Prelude.{◌≡◌, ◌<◌, ◌≤◌, true, false, length, All};
 ghost use Rattle.depth_cuts.specs.Met.{IsMet, IsUnmet, MeetsBetween, cut_at};
 
 use flow_word::{List, Words};

@@ -1,6 +1,5 @@
 //! The cheapest depths that meet cuts.
-ghost use Rattle.std.specs.Prelude.{◌≡◌, ◌≤◌, ◌*◌, length, slice_index, All, IfOk, ℕ};
-ghost use Rattle.flow_design.specs.declared.limits.TheConstants.{CHANNELS, FIFO_DEPTH};
+ghost use Rattle.std.specs.Prelude.{IfOk};
 ghost use Rattle.depth_cuts.specs.Cuts.{bits_of, AreCheapest, AreDemands};
 
 use crate::cuts::Demands;

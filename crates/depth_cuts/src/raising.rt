@@ -1,5 +1,4 @@
 //! Raises depths as far as a plan still ends late with them.
-ghost use Rattle.std.specs.Prelude.{◌≡◌};
 ghost use Rattle.time_engine.specs.Conditions.{HasAccesses};
 
 use crate::clocks::{item, put};

@@ -1,5 +1,4 @@
 //! Paths of steps that wait for one another with other depths.
-ghost use Rattle.std.specs.Prelude.{◌≡◌};
 ghost use Rattle.time_engine.specs.Conditions.{HasAccesses};
 
 use crate::clocks::{Clocks, find_clocks, is_timed, item, put};

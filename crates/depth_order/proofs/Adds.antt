@@ -8,7 +8,7 @@ use Rattle.flow_design.specs.{declared.plan.Plan.Plan, declared.state.Request.Re
 use Rattle.flow_design.specs.declared.state.ModuleState.{ModuleState}
 use Rattle.lockstep_defs.specs.{Channels.stalls, Ports.owner, Ports.StandsAtPort, Verdict.verdict, Verdict.is_settled, Laws.NoneBefore}
 use Rattle.lockstep_defs.specs.Lockstep.{requests_of, state, state_at}
-use Rattle.event_timing.specs.Histories.{Trace, IsHistory, can_do, can_all, is_possible}
+use Rattle.event_timing.specs.Histories.{can_do, can_all, is_possible}
 use Rattle.event_timing.specs.Histories as counted
 use Rattle.event_timing.proofs.Standing.{moves_can}
 use Rattle.timing_bridge.specs.Designs.{design, lockstep_run, seen_request, lag_in}

@@ -13,8 +13,7 @@ use Rattle.flow_design.specs.{StaticRules.FitsEngine, declared.state.ClockState.
 use Rattle.lockstep_defs.specs.{Channels.stalls, Ports.owner, Verdict.verdict, Verdict.some_moves, Verdict.is_settled, Machine.nobody}
 use Rattle.lockstep_defs.specs.Lockstep.{requests_of, moves, state, state_at}
 use Rattle.lockstep_defs.proofs.{Settled.state-suc, Settled.still_step, Settled.settled_at, Agrees.all_modules}
-use Rattle.event_timing.specs.Machines.{Design, IsDesign}
-use Rattle.event_timing.specs.Histories.{Trace, IsHistory, can_do, can_all, is_possible}
+use Rattle.event_timing.specs.{Machines.Design, Machines.IsDesign, Histories.Trace, Histories.can_all, Histories.is_possible}
 use Rattle.event_timing.specs.Histories as counted
 use Rattle.event_timing.proofs.Standing.{moves_lives, moves_can, moves_from}
 use Rattle.timing_bridge.specs.Designs.{design, lockstep_run, seen_request, lag_in}

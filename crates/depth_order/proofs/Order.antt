@@ -16,7 +16,7 @@ use Rattle.lockstep_defs.specs.{Ports.owner, Quiet.quiet, Quiet.quiet_below, Qui
 use Rattle.lockstep_defs.specs.Lockstep.{no_module, module_at, requests_of, moves, opening, moment, state, state_at}
 use Rattle.lockstep_defs.specs.Verdict.{settled_verdict, verdict, is_settled}
 use Rattle.lockstep_defs.proofs.{Found.verdict_none, Once.asks_once, Rules.keeps_ports, Settled.settled_from, Settled.settled_stays}
-use Rattle.event_timing.specs.{Machines.Design, Machines.Each, Machines.IsDesign, Histories.Trace, Histories.IsHistory}
+use Rattle.event_timing.specs.{Machines.Design, Machines.Each, Machines.IsDesign, Histories.IsHistory}
 use Rattle.event_timing.specs.Histories as counted
 use Rattle.event_timing.proofs.Standing.{moves_lives}
 use Rattle.timing_bridge.specs.Designs.{design, lockstep_run, seen_request, start_in, lag_in}

@@ -3,10 +3,7 @@ ghost use Rattle.std.specs.Prelude.{◌≡◌, ◌+◌, ◌<◌, ◌≤◌, true
 ghost use Rattle.flow_design.specs.Plans.{EditFits};
 ghost use Rattle.lockstep_defs.specs.Report.{report};
 ghost use Rattle.lockstep_defs.specs.Verdict as lockstep;
-ghost use Rattle.event_timing.specs.Actions.{IsFinal};
-ghost use Rattle.timing_bridge.specs.Designs.{design};
 ghost use Rattle.engine_report.specs.Finished.{report_with};
-ghost use Rattle.sim_core.specs.Views.{theory_of};
 ghost use Rattle.depth_order.specs.Depths.{AsksNothing};
 ghost use Rattle.depth_session.specs.Records.{RepeatsAnswers};
 ghost use Rattle.depth_session.specs.Sessions.{opening_session, plan_behind, with_edit, IsBroken};
@@ -138,8 +135,7 @@ impl DepthSession {
     /// The final core of the present plan.
     pub fn core(&self) -> FinalCore<'_>
         requires { self.now.live ≡ true }
-        ensures plan { result.plan ≡ self.now.plan }
-        ensures is_final { IsFinal (design result.plan) result.plan.cycles (theory_of result) }
+        ensures { result.plan ≡ self.now.plan }
     {
         match &self.state {
             State::Core(core) => FinalCore::new(core),

@@ -6,7 +6,7 @@ ghost use Rattle.time_engine.specs.Conditions.{HasPlaces};
 ghost use Rattle.engine_report.specs.Read.{timed_values, outputs_of};
 
 use engine_view::Engine;
-use flow_design::{ChannelKind, Plan};
+use flow_design::Plan;
 use flow_word::{List, OutOfMemory, Words};
 use std::alloc::Global;
 

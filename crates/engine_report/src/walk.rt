@@ -1,6 +1,6 @@
 //! A walk over the steps of a graph.
-ghost use Rattle.std.specs.Prelude.{◌≡◌, ◌+◌, ◌<◌, ◌∷◌, ◌++◌, [], ℕ, length, map, is_some, IfOk, IfSome, IsNone, List as Items, Option};
-ghost use Rattle.std.specs.Prelude.{◌^◌, Some, min, slice_index, slice_set};
+ghost use Rattle.std.specs.Prelude.{◌≡◌, ◌+◌, ◌<◌, ◌∷◌, ◌++◌, [], length, map, IfOk, IfSome, IsNone, List as Items, Option, ◌^◌, Some, min};
+ghost use Rattle.std.specs.Prelude.{slice_index, slice_set};
 ghost use Rattle.flow_design.specs.{declared.plan.Plan.Plan, declared.state.Advance.Advance, Reports.clock_of};
 ghost use Rattle.lockstep_defs.specs.{Lockstep.history, Verdict.verdict};
 ghost use Rattle.timing_bridge.specs.{Designs.design, CoreReports.steps_at};
@@ -90,6 +90,7 @@ impl StepWalk {
     fn give(&mut self, graph: &Graph, owner: u32) -> TimedStep
         requires walk { IsWalk graph.now.lanes self.old }
         requires inside { owner < length graph.now.lanes }
+        requires few { length graph.now.lanes < 2 ^ 32 }
         requires turn { self.old.module ≡ owner }
         requires due { slice_index self.old.next owner ≡ self.old.clock }
         ensures walk { IsWalk graph.now.lanes self.new }

@@ -1,8 +1,7 @@
 //! The ports that a module uses, and when.
-ghost use Rattle.std.specs.Prelude.{◌≡◌, ◌||◌, [], map, option_map, if◌then◌else◌, IfOk, OnOk};
-ghost use Rattle.std.specs.List.{list_any};
+ghost use Rattle.std.specs.{Prelude.◌≡◌, Prelude.◌||◌, Prelude.[], Prelude.IfOk, Prelude.OnOk, List.list_any};
 ghost use Rattle.flow_word.specs.declared.access.Port.{Port as PortOf};
-ghost use Rattle.flow_design.specs.{Operations.used_port, StaticRules.uses, StaticRules.is_port};
+ghost use Rattle.flow_design.specs.{Operations.used_port, StaticRules.is_port};
 ghost use Rattle.flow_check.specs.{Ports.has, Ports.has_slot, Ports.has_this, Ports.HasPorts, Ports.HavePorts, First.first_behind};
 ghost use Rattle.flow_check.specs.Rules.{phase, slot, clashes, is_slot, Slot as SlotOf};
 

@@ -1,6 +1,6 @@
 -- A ring of rows, seen as the list of the rows from the first on.
 use Rattle.std.proofs.Common.{◌≡◌, refl, sym, ◌∙◌, ap, arith, ℕ, ◌+◌, ◌-◌, ◌<◌, ◌≤◌, ◌⊎◌, inl, inr, List, [], ◌∷◌, ◌++◌, length, get_or}
-use Rattle.std.proofs.Common.{take, drop, set, length-append, length-drop, length-set, length-take-le, get_or-drop, get_or-take}
+use Rattle.std.proofs.Common.{drop, set, length-append, length-drop, length-set, length-take-le, get_or-drop, get_or-take}
 use Rattle.std.proofs.lemmas.List.{same_lists, get_or_append_left, get_or-append_right}
 use Rattle.std.proofs.{lemmas.Bool.cases_lt, lemmas.Bool.cases_eq, lemmas.Bool.lt-ltb, lemmas.Bool.le-ltb, lemmas.Grind.common_steps}
 use Rattle.std.specs.List.{refill}

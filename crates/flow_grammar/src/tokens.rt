@@ -1,5 +1,5 @@
 //! The tokens of a line, and what they are.
-ghost use Rattle.std.specs.Prelude.{◌≡◌, ◌<◌, ◌≤◌, position, [], ◌∷◌, ◌++◌, length, map, not, IfOk, IfSome, MatchOption};
+ghost use Rattle.std.specs.Prelude.{◌≡◌, ◌<◌, ◌≤◌, position, [], ◌∷◌, length, map, IfOk, IfSome, MatchOption};
 ghost use Rattle.std.specs.List.{position_or_len};
 ghost use Rattle.flow_grammar.specs.Tokens.{tokens_of, is_separator, is_filler};
 

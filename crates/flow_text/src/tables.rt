@@ -1,5 +1,5 @@
 //! Tables of what is declared before a line.
-ghost use Rattle.std.specs.Prelude.{◌≡◌, ◌+◌, ◌<◌, ◌≤◌, ◌^◌, [], false, length, OnOk, OnErr, ◌⊎◌};
+ghost use Rattle.std.specs.Prelude.{◌≡◌, ◌+◌, ◌<◌, ◌≤◌, ◌^◌, [], false, OnOk, OnErr, ◌⊎◌};
 ghost use Rattle.flow_design.specs.declared.limits.TheConstants.{ALL_MEMORY_WORDS, EDITS};
 ghost use Rattle.flow_grammar.specs.Before as before;
 ghost use Rattle.flow_grammar.specs.{Before.is_among, Parts.RegisterName, Parts.TempName, Parts.AVariable};

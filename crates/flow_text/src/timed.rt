@@ -1,5 +1,5 @@
 //! Reading `at`.
-ghost use Rattle.std.specs.Prelude.{◌≡◌, ◌+◌, ◌<◌, ◌^◌, ◌∷◌, true, nat_lt, map, option_map, IfOk, Option, Some, None, Ok, Err};
+ghost use Rattle.std.specs.Prelude.{◌≡◌, ◌+◌, ◌<◌, ◌^◌, true, nat_lt, map, option_map, IfOk, Option, Some, None, Ok, Err};
 ghost use Rattle.flow_design.specs.{declared.session.Statement.TheVariants.At, Names.Name as NameValue};
 ghost use Rattle.flow_grammar.specs.{Tokens.is_number, Tokens.token_is_name, Tokens.number_of, Gives.LineGives, Places.takes_operations};
 ghost use Rattle.flow_grammar.specs.Forms.{op_form_of, op_of, if_then, guarded_of, at_of};

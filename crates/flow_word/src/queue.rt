@@ -1,5 +1,5 @@
 //! A queue, which contracts see as the list of its items, the front first.
-ghost use Rattle.std.specs.Prelude.{◌≡◌, [], ◌∷◌, ◌++◌, length, drop, slice_get, OnOk, OnErr, is_some};
+ghost use Rattle.std.specs.Prelude.{◌≡◌, [], ◌∷◌, ◌++◌, length, drop, slice_get, OnOk, OnErr};
 
 use crate::memory::OutOfMemory;
 use std::alloc::Global;

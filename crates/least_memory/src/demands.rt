@@ -5,7 +5,7 @@ ghost use Rattle.path_check.specs.Late.{IsLateBelow};
 ghost use Rattle.lockstep_defs.specs.Verdict.{verdict};
 ghost use Rattle.depth_order.specs.Depths.{AsksNothing, IsDoneBy};
 ghost use Rattle.depth_cuts.specs.{PlanCuts.AreDeepest, Cuts.IsCheapest};
-ghost use Rattle.least_memory.specs.{Choices.widths_of, Needed.IsFloor, Needed.AreFloorsOf, Needed.AreNeeded};
+ghost use Rattle.least_memory.specs.{Choices.widths_of, Needed.IsFloor, Needed.AreNeeded};
 
 use depth_cuts::{Demands, cheapest};
 use depth_session::FinalCore;

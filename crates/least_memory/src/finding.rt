@@ -86,7 +86,6 @@ fn fewest_bits<R: Threads + Wait + Sync, U: Runner>(
     core.agrees();
     let mut demands = first_demands(alloc, core, clock)?;
     loop {
-        let _cuts = demands.cuts.len();
         let depths = cheapest_of(alloc, core, &demands, clock)?;
         match try_depths(rt, alloc, core, depths.as_slice(), clock, runner)? {
             Outcome::Late(cut) => demands.cuts.push(cut)?,

@@ -1,7 +1,6 @@
 //! Expressions as flat code.
-ghost use Rattle.std.specs.Prelude.{◌≡◌, ℕ, ◌+◌, ◌<◌, ◌≤◌, ◌++◌, [], List as Items, length, take, drop, true, ◌∷◌, All, IfOk, IfSome, OnOk};
-ghost use Rattle.std.specs.Prelude.{slice_index, slice_set};
-ghost use Rattle.flow_design.specs.{declared.expr.Expr.Binary as BinaryOf, Words.binary, Words.value, Words.reach};
+ghost use Rattle.std.specs.Prelude.{◌≡◌, ℕ, ◌+◌, ◌<◌, ◌≤◌, ◌++◌, [], List as Items, length, take, true, ◌∷◌, IfOk, IfSome, OnOk};
+ghost use Rattle.flow_design.specs.{declared.expr.Expr.Binary as BinaryOf, Words.binary};
 ghost use Rattle.module_code.specs.declared.flat.Instruction.{Instruction as InstructionOf};
 ghost use Rattle.module_code.specs.declared.flat.Argument.TheVariants.{Result as ResultAt};
 ghost use Rattle.module_code.specs.Flat.{argument_value, result_of, ran, IsArgumentSound, IsInstructionSound, AreSound, IsCodeOf};

@@ -1,5 +1,5 @@
 //! What is noted of a due operation before the replies.
-ghost use Rattle.std.specs.Prelude.{◌≡◌, ℕ, List as Items, map};
+ghost use Rattle.std.specs.Prelude.{◌≡◌, List as Items, map};
 ghost use Rattle.flow_design.specs.{declared.design.Block.Block as BlockOf, declared.state.Due.Due as DueOf};
 ghost use Rattle.flow_design.specs.{declared.state.ModuleState.ModuleState as StateOf, declared.state.Reply.Reply as ReplyOf};
 ghost use Rattle.lockstep_defs.specs.Machine.{effects};

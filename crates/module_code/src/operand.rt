@@ -1,6 +1,6 @@
 //! The operands of actions: expressions, of which short ones need no list of instructions.
-ghost use Rattle.std.specs.Prelude.{◌≡◌, ℕ, ◌+◌, ◌≤◌, [], List as Items, length, IfOk};
-ghost use Rattle.flow_design.specs.{declared.expr.Expr.Expr as ExprOf, Words.value, Words.reach};
+ghost use Rattle.std.specs.Prelude.{◌≡◌, ℕ, ◌+◌, ◌≤◌, [], length, IfOk};
+ghost use Rattle.flow_design.specs.{declared.expr.Expr.Expr as ExprOf, Words.value};
 ghost use Rattle.module_code.specs.Flat.{IsCodeOf, IsInstructionSound, result_of};
 ghost use Rattle.module_code.specs.Operands.{operand_value, IsOperandSound, operand_room, IsOperandOf};
 

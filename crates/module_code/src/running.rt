@@ -1,5 +1,5 @@
 //! Running an action: first what it takes from the state before the clock, then its writes on the reply.
-ghost use Rattle.std.specs.Prelude.{◌≡◌, ◌<◌, ◌≤◌, ℕ, length, slice_index};
+ghost use Rattle.std.specs.Prelude.{◌≡◌, ◌<◌, ◌≤◌, length, slice_index};
 ghost use Rattle.flow_design.specs.Module.{temps_of};
 ghost use Rattle.lockstep_defs.specs.Machine.{memory_of, address_in};
 ghost use Rattle.module_code.specs.{Operands.IsOperandSound, Operands.operand_room, Ready.places_in};

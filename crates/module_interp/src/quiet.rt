@@ -1,12 +1,12 @@
 //! The local clocks in which a module asks nothing of the channels.
-ghost use Rattle.std.specs.Prelude.{◌≡◌, ◌≢◌, ℕ, ◌<◌, ◌≤◌, ◌^◌, ◌⊎◌, [], true, false, IfOk, OnOk, OnErr};
+ghost use Rattle.std.specs.Prelude.{◌≡◌, ◌≢◌, ◌<◌, ◌≤◌, ◌⊎◌, [], true, false, IfOk, OnOk};
 ghost use Rattle.flow_design.specs.Module.{block_of};
 ghost use Rattle.lockstep_defs.specs.Machine.{move, is_over};
-ghost use Rattle.module_code.specs.Moves.{ticked_to, gone_on};
+ghost use Rattle.module_code.specs.Moves.{gone_on};
 ghost use Rattle.block_schedule.specs.Work.{IsNextDue};
 ghost use Rattle.module_interp.specs.declared.path.Stage.TheVariants.{Begun, Asked, Ticked};
-ghost use Rattle.module_interp.specs.Paths.{after_move, HasAsked, HasNoted, RequestsNothing, CanAnswer, IsPath, KeepsRest, clocks_to_end};
-ghost use Rattle.module_interp.specs.Paths.{IsAtStep, IsAtEnd};
+ghost use Rattle.module_interp.specs.Paths.{HasAsked, HasNoted, RequestsNothing, CanAnswer, IsPath, KeepsRest, clocks_to_end, IsAtStep};
+ghost use Rattle.module_interp.specs.Paths.{IsAtEnd};
 
 use crate::path::{Path, Stage};
 use flow_design::Reply;

@@ -1,5 +1,4 @@
 //! The path from a pop that comes too late to the end of the plan.
-ghost use Rattle.std.specs.Prelude.{◌≡◌};
 ghost use Rattle.time_engine.specs.Conditions.{HasAccesses};
 
 use crate::bounds::TooFew;

@@ -1,7 +1,7 @@
 //! The walk back along the chain.
 ghost use Rattle.std.specs.Prelude.{◌≡◌, ℕ, ◌<◌, ◌≤◌, ◌++◌, filter, length, IfOk, IfSome, OnOk};
 ghost use Rattle.flow_word.specs.declared.access.Side.TheVariants as side;
-ghost use Rattle.flow_design.specs.{declared.plan.Plan.Plan, Plans.delay_of, StaticRules.FitsEngine, Reports.clock_of};
+ghost use Rattle.flow_design.specs.{declared.plan.Plan.Plan, StaticRules.FitsEngine, Reports.clock_of};
 ghost use Rattle.timing_bridge.specs.Designs.{lag_in};
 ghost use Rattle.lockstep_defs.specs.Verdict.{verdict};
 ghost use Rattle.path_text.specs.{Owners.owners_at, Walks.HasSpans, Walks.IsLastMove, Walks.before_link, Walks.last_with};
@@ -15,7 +15,7 @@ use crate::owners::owners;
 use crate::search::latest;
 use crate::spans::{link_to, moving_end};
 use depth_order::Link;
-use flow_design::{ChannelKind, Plan};
+use flow_design::Plan;
 use flow_word::{List, OutOfMemory, Side};
 use sim_core::LoggedAccess;
 use std::alloc::Global;

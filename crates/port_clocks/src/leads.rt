@@ -1,6 +1,5 @@
 //! Two rising lists of clocks, and by how many one is ahead of the other.
-ghost use Rattle.std.specs.Prelude.{◌≡◌, ◌+◌, ◌-◌, ◌<◌, ◌≤◌, ◌^◌, ℕ, true, max, length, slice_get, option_map, unwrap_or, nat_lt, All};
-ghost use Rattle.std.specs.Prelude.{AllPairs};
+ghost use Rattle.std.specs.Prelude.{◌≡◌, ◌+◌, ◌-◌, ◌<◌, ◌≤◌, ◌^◌, ℕ, true, max, slice_get, option_map, unwrap_or, nat_lt, All, AllPairs};
 ghost use Rattle.port_clocks.specs.Leads as counts;
 
 /// In how many clocks below `clock` the first list is ahead of the second by at least `margin`: at least that many more of its

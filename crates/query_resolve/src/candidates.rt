@@ -1,5 +1,5 @@
 //! A list of candidates that tells the first of the least.
-ghost use Rattle.std.specs.Prelude.{◌≡◌, ◌<◌, ◌↔◌, ℕ, length, slice_set, All, None, IfOk, IfSome, IsNone};
+ghost use Rattle.std.specs.Prelude.{◌≡◌, ◌<◌, ◌↔◌, length, slice_set, All, None, IfOk, IfSome, IsNone};
 ghost use Rattle.query_resolve.specs.Earliest.{determined_cycle, IsEarliest};
 
 use crate::rounds::{First, find_winners, told};

@@ -1,5 +1,5 @@
 //! The text of a report.
-ghost use Rattle.std.specs.Prelude.{◌≡◌, ◌<◌, ◌++◌, length, map, true, All, OnOk, OnErr};
+ghost use Rattle.std.specs.Prelude.{◌≡◌, ◌<◌, ◌++◌, length, All, OnOk, OnErr};
 ghost use Rattle.std.specs.Io.{StartsWith};
 ghost use Rattle.report_text.specs.Lines.{line, text_of_lines};
 ghost use Rattle.report_text.specs.ReportText.{IsReportOf, report_text_of, sink_names, output_tokens, output_lines, held_lines};
@@ -8,7 +8,7 @@ ghost use Rattle.flow_design.specs.Plans.{is_sink};
 
 use crate::lines::{print_numbers, print_verdict, push_token, push_value, push_values};
 use crate::names::{channel_name, kind_word, module_name};
-use flow_design::{Channel, ChannelKind, Design, EventLine, Held, Report, Verdict};
+use flow_design::{Channel, Design, EventLine, Held, Report, Verdict};
 use flow_word::{List, OutOfMemory, Words};
 
 /// Adds the text of report `number`, with its events if asked. It must be a report of this design: its module and channel numbers

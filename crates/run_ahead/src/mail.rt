@@ -1,6 +1,6 @@
 //! A module's run with its mail, and how far it goes on that alone.
-ghost use Rattle.std.specs.Prelude.{◌≡◌, ◌≢◌, ℕ, ◌<◌, [], length, drop, slice_set, List as Items, Some, None, true, false, IsTrue, IsFalse};
-ghost use Rattle.std.specs.Prelude.{IsNone, IfOk, IfSome, OnErr};
+ghost use Rattle.std.specs.Prelude.{◌≡◌, ◌≢◌, ℕ, ◌<◌, [], length, drop, slice_set, Some, None, true, false, IsTrue, IsFalse, IsNone, IfOk};
+ghost use Rattle.std.specs.Prelude.{IfSome, OnErr};
 ghost use Rattle.flow_design.specs.declared.plan.Plan.{Plan as PlanOf};
 ghost use Rattle.lockstep_defs.specs.OwnRun.{Own};
 ghost use Rattle.module_interp.specs.{OwnChannels.place_in, OwnRests.accesses_at, Runs.StandsAt, Runs.waits, Runs.is_step as is_step_of};

@@ -1,7 +1,6 @@
 //! Checks the rules of serial modules on one module.
-ghost use Rattle.std.specs.Prelude.{◌≡◌, ◌<◌, ◌≤◌, ◌^◌, length, All};
-ghost use Rattle.std.specs.List.{enumerate_from, flat_map};
-ghost use Rattle.flow_design.specs.{declared.limits.TheConstants.CHANNELS, StaticRules.IsModuleSound};
+ghost use Rattle.std.specs.{Prelude.◌≡◌, Prelude.◌<◌, Prelude.◌^◌, Prelude.length, Prelude.All, List.enumerate_from, List.flat_map};
+ghost use Rattle.flow_design.specs.StaticRules.{IsModuleSound};
 ghost use Rattle.serial_order.specs.Orders.{head, query_orders, faults_by, faults_of, all_faults, order_of, DesignHasModule};
 ghost use Rattle.serial_order.specs.SerialRun.{EqualsPlainLoops};
 

@@ -1,13 +1,12 @@
 //! Channels with their inputs and depths, limits and edits.
-ghost use Rattle.std.specs.Prelude.{◌≡◌, ◌≤◌, ◌^◌, map, replicate, [], length, IfOk, OnOk};
-ghost use Rattle.std.specs.List.{filter_map, enumerate_from};
-ghost use Rattle.session_plan.specs.Plans.{channel, channel_names, channels_of, depth_in, session_limits, edit, inputs_for};
+ghost use Rattle.std.specs.{Prelude.◌≡◌, Prelude.◌≤◌, Prelude.◌^◌, Prelude.map, Prelude.length, Prelude.IfOk, List.filter_map};
+ghost use Rattle.session_plan.specs.Plans.{channel, channel_names, channels_of, depth_in, session_limits, edit};
 
 use crate::defaults;
 use crate::names::Names;
 use flow_design::limits::Scale;
 use flow_design::{Channel, ChannelKind, Edit, Statement};
-use flow_word::{List, OutOfMemory, TryCopy, Width, Words, cut};
+use flow_word::{List, OutOfMemory, TryCopy, Words};
 use std::alloc::Global;
 
 /// The channel that a statement declares. `None` where it declares none.

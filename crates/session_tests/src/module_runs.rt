@@ -1,6 +1,5 @@
 //! A module of a session, run ahead on replies that the test feeds to it. The expected steps were worked out from the clock rules.
-ghost use Rattle.std.specs.Prelude.{ℕ, ◌≡◌, ◌<◌, true, false, length, IfOk, OnOk};
-ghost use Rattle.flow_word.specs.declared.access.Kind.{Kind as KindOf};
+ghost use Rattle.std.specs.Prelude.{◌≡◌, ◌<◌, true, false, IfOk, OnOk};
 ghost use Rattle.module_interp.specs.{OwnRests.fits_kind, OwnRests.all_fit, Runs.waits};
 ghost use Rattle.session_tests.specs.Runs.{IsSomeRun};
 

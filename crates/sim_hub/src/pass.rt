@@ -1,5 +1,5 @@
 //! The passes of a hub.
-ghost use Rattle.std.specs.Prelude.{◌≡◌, ◌+◌, []};
+ghost use Rattle.std.specs.Prelude.{◌≡◌, ◌+◌};
 ghost use Rattle.turn_lock.specs.Passes.{view_of};
 ghost use Rattle.sim_hub.specs.Places.{IsPlace, HasMadeAll, HasModule};
 

@@ -1,7 +1,7 @@
 //! Reading all of a source.
 ghost use Rattle.std.specs.Prelude.{◌≡◌, ◌+◌, ◌≤◌, ◌<◌, length, vec_len, IfOk, OnOk, IsErrOf};
 ghost use Rattle.std.specs.Io.KnownBytes.{Consumes, IsAtEnd, Keeps};
-ghost use Rattle.sim_io.specs.Causes.{Rose, LosesCount, LosesAtMost, Moves};
+ghost use Rattle.sim_io.specs.Causes.{HasCauseOf, LosesCount, LosesAtMost, Moves};
 
 use crate::traits::Source;
 use flow_word::{List, OutOfMemory};
@@ -46,12 +46,10 @@ pub fn read_all<S: Source>(alloc: Global, source: &mut S, limit: u64) -> Result<
     ensures end { OnOk result (IsAtEnd (S.left source.new)) }
     ensures within { IfOk result (λ bytes. length bytes ≤ limit) }
 
-    ensures read_fault { IsErrOf result TakeFault.ReadFault → Rose (S.faults source.old) (S.faults source.new) }
+    ensures cause { HasCauseOf TakeFault.ReadFault (S.faults source.old) (S.faults source.new) result }
     ensures read_some { IsErrOf result TakeFault.ReadFault → LosesAtMost (S.left source.old) (S.left source.new) limit }
     ensures too_long { IsErrOf result TakeFault.TooLong → LosesCount (S.left source.old) (S.left source.new) (limit + 1) }
     ensures no_memory { IsErrOf result TakeFault.OutOfMemory → LosesAtMost (S.left source.old) (S.left source.new) (limit + 1) }
-
-    ensures faults { S.faults source.old ≤ S.faults source.new }
 {
     let mut all = List::new(alloc);
     let mut chunk = chunk_room(alloc)?;
@@ -75,11 +73,10 @@ fn take_more<S: Source>(
     ensures ok { IfOk result (λ n. Moves (S.left source.old) (S.left source.new) all.old all.new n) }
     ensures end { IfOk result (λ n. n ≡ 0 → IsAtEnd (S.left source.new)) }
     ensures within { IfOk result (λ n. n ≤ length chunk.old) }
-    ensures read_fault { IsErrOf result TakeFault.ReadFault → Rose (S.faults source.old) (S.faults source.new) }
+    ensures cause { HasCauseOf TakeFault.ReadFault (S.faults source.old) (S.faults source.new) result }
     ensures kept { IsErrOf result TakeFault.ReadFault → Keeps (S.left source.old) (S.left source.new) }
     ensures never { IsErrOf result TakeFault.TooLong → ⊥ }
     ensures no_memory { IsErrOf result TakeFault.OutOfMemory → LosesAtMost (S.left source.old) (S.left source.new) (length chunk.old) }
-    ensures faults { S.faults source.old ≤ S.faults source.new }
 {
     let count = match source.take(chunk) {
         Ok(count) => count,

@@ -100,8 +100,11 @@ passing p o test f (a ∷ log) h = (f a h.0, passing p o test f log h.1)
 pub log_clocks : (p : Plan) (side : Side) (f : ℕ) → ArePortClocks p (on side f) (clock_list (moved_at (on side f)) (acts p))
 unfolding acts
 log_clocks p side f = record {
-  in_order = record { rise = list_rises p (moved_at (on side f)) (last_clock p); below = list_below p (moved_at (on side f)) (last_clock
-      p) };
+  in_order = record {
+    rise = list_rises p (moved_at (on side f)) (last_clock p);
+    below = list_below p (moved_at (on side f)) (last_clock
+        p);
+  };
   counts = λ c l.
       subst (λ (e : ℕ). before (clock_list (moved_at (on side f)) (acts_before p e)) c ≡ moved_before p side f c)
       (let z : (last_clock p - c) + c ≡ last_clock p = omega arith in z) (counted_before p side f c (last_clock p - c));

@@ -1,5 +1,5 @@
 //! The lines that tell how full each FIFO is.
-ghost use Rattle.std.specs.Prelude.{◌≡◌, ◌<◌, ◌≤◌, ◌++◌, [], true, if◌then◌else◌, length, map, slice_index, All, IfOk, OnOk};
+ghost use Rattle.std.specs.Prelude.{◌≡◌, ◌<◌, ◌≤◌, ◌++◌, [], true, if◌then◌else◌, length, map, All, IfOk, OnOk};
 ghost use Rattle.flow_design.specs.declared.limits.TheConstants.{CYCLES, FIFO_DELAY, FIFO_DEPTH};
 ghost use Rattle.flow_design.specs.Plans.{delay_at, is_fifo, kind_at};
 ghost use Rattle.report_text.specs.Lines.{line, text_of_lines};

@@ -5,9 +5,8 @@ use mathlib.Core.List.{reverse-cons}
 use Rattle.std.specs.List.{insert, remove}
 use Rattle.flow_design.specs.declared.plan.Plan.{Plan}
 use Rattle.turn_lock.specs.Passes.{TableId}
-use Rattle.sim_hub.specs.{declared.pass.ModulePass.ModulePass, declared.pass.PerfPass.PerfPass, Places.HasNoDeskOut}
-use Rattle.sim_hub.specs.Hubs.{module_of, module_hub, module_view, perf_hub, perf_view}
-use Rattle.sim_hub.specs.Closings.{AreNew, AreOfHub, AllHome, HasEachModule}
+use Rattle.sim_hub.specs.{declared.pass.ModulePass.ModulePass, declared.pass.PerfPass.PerfPass, Places.HasNoDeskOut, Hubs.module_of}
+use Rattle.sim_hub.specs.{Hubs.module_hub, Hubs.module_view, Hubs.perf_hub, Hubs.perf_view, Closings.AreNew, Closings.HasEachModule}
 use Rattle.sim_hub.proofs.{Lists.get_snoc, Lists.there, Openings.new_home}
 use Rattle.thread_tests.specs.Resting.{AreResting}
 

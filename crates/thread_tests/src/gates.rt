@@ -1,7 +1,5 @@
 //! Gates that watch or delay bursts, or let them run out of memory.
 ghost use Rattle.std.specs.Prelude.{◌<◌};
-ghost use Rattle.run_ahead.specs.Working.{StandsSomewhere};
-ghost use Rattle.sim_hub.specs.Hubs.{IsBurstOn};
 
 use run_threads::{Burst, Gate, Task, work};
 use std::alloc::Global;

@@ -1,5 +1,5 @@
 //! Simulations in rounds, which report as the lockstep machine does.
-ghost use Rattle.std.specs.Prelude.{◌≡◌, IfOk};
+ghost use Rattle.std.specs.Prelude.{IfOk};
 ghost use Rattle.sim_hub.specs.Hubs.{hub_id};
 ghost use Rattle.thread_tests.specs.Resting.{AreResting};
 

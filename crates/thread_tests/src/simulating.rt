@@ -3,7 +3,7 @@ use crate::gates::{Gathering, Meeting, Notes, Pairing, Slow};
 use clock_machine::clock_run;
 use flow_design::Report;
 use flow_gen::generate;
-use run_threads::{FreeGate, Gate, HubTurn, Threaded, Threadless, run_core, run_threads};
+use run_threads::{FreeGate, HubTurn, Threadless, run_core, run_threads};
 use sim_core::Core;
 use std::alloc::Global;
 use std::process::Abort;

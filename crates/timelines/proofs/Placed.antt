@@ -1,5 +1,5 @@
 -- Which step a module is at in a clock, and where it stands.
-use Rattle.std.proofs.Common.{◌≡◌, ℕ, zero, suc, ◌+◌, ◌-◌, ◌<◌, ◌≤◌, true, false, inl, inr, sym, ap, ap₂, ◌∙◌, subst, arith, ◌⊎◌}
+use Rattle.std.proofs.Common.{◌≡◌, ℕ, zero, suc, ◌+◌, ◌<◌, ◌≤◌, true, false, inl, inr, sym, ap, ap₂, ◌∙◌, subst, arith, ◌⊎◌}
 use Rattle.std.proofs.lemmas.Bool.{cases_Bool}
 use Rattle.event_timing.specs.{Machines.Design, Machines.IsDesign, Machines.ready, Histories.Trace, Histories.IsHistory, Histories.can_move}
 use Rattle.event_timing.specs.{Steps.steps, Steps.done, Steps.since, Steps.rest, Views.View, Views.Agrees, Views.from, Views.own}

@@ -13,7 +13,7 @@ use Rattle.lockstep_defs.specs.Channels.{front, values, can_take, stalls, reply,
 use Rattle.lockstep_defs.specs.Channels.{contents_of}
 use Rattle.lockstep_defs.specs.Lockstep.{requests_of, answered, state, history}
 use Rattle.lockstep_defs.proofs.{Queue.contents_are, Queue.channel_count, Rules.keeps_ports, Counts.is_counted}
-use Rattle.event_timing.specs.{Machines.takes_in, Machines.values_in, Machines.took, Histories.can_all, Histories.reply_to}
+use Rattle.event_timing.specs.{Machines.takes_in, Machines.values_in, Histories.can_all, Histories.reply_to}
 use Rattle.timing_bridge.specs.Designs.{design, lockstep_run, seen_request, told, told_all}
 use Rattle.timing_bridge.proofs.Requests.{stand}
 use Rattle.event_timing.specs.Machines as theory

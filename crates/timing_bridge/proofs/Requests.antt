@@ -15,7 +15,7 @@ use Rattle.flow_design.specs.StaticRules.{FitsEngine, same_port, is_port}
 use Rattle.lockstep_defs.specs.{Machine.requests, Machine.request_for, Lockstep.no_module, Lockstep.module_at, Lockstep.requests_of}
 use Rattle.lockstep_defs.specs.{Ports.owner, Ports.is_taker, Ports.has_port, Ports.StandsAtPort, States.IsDueIn}
 use Rattle.lockstep_defs.proofs.{Once.takers_once, Rules.keeps_ports, Standing.due_in_range, Standing.requests_stand}
-use Rattle.event_timing.specs.Machines.{Each, takes_at, takers}
+use Rattle.event_timing.specs.Machines.{Each, takers}
 use Rattle.timing_bridge.specs.Designs.{seen_request, due_accesses, is_source}
 use Rattle.lockstep_defs.specs.Ports as ports
 use Rattle.event_timing.specs.Machines as theory

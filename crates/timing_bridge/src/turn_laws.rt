@@ -1,5 +1,5 @@
 //! The laws of turns, for any design `d` over states of any type `S`, any history `h` of its lockstep machine, and any plan `p`.
-ghost use Rattle.std.specs.Prelude.{◌≡◌, ℕ, ◌≤◌, List, [], ◌∷◌, ◌++◌, false, None, Some};
+ghost use Rattle.std.specs.Prelude.{◌≡◌, ℕ, ◌≤◌, List, ◌++◌, false, Some};
 ghost use Rattle.flow_design.specs.{declared.plan.Plan.Plan, declared.state.ModuleState.ModuleState, StaticRules.FitsEngine};
 ghost use Rattle.timing_bridge.specs.{Designs.design, Designs.lockstep_run, declared.turn.HubTurn.HubTurn, Turned.Turned, Turned.lent_at};
 ghost use Rattle.timing_bridge.specs.{Turned.after_timed, Rounds.then_on, Rounds.timings, Rounds.earliest_of, Replays.turn_on};

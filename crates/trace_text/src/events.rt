@@ -1,8 +1,7 @@
 //! Writing single events of a trace, each on a line of its own.
-ghost use Rattle.std.specs.Prelude.{◌≡◌, ◌<◌, ◌≤◌, ◌+◌, ◌++◌, ◌∷◌, ◌==◌, [], not, if◌then◌else◌, codes, map, length, slice_index_or, All};
-ghost use Rattle.std.specs.Prelude.{IsErrOf, OnErr, OnOk};
-ghost use Rattle.sim_io.specs.{Causes.AppendsPrefix, Causes.Rose, Telling.IsTold};
-ghost use Rattle.report_text.specs.ReportText.{channel_name, module_name};
+ghost use Rattle.std.specs.Prelude.{◌≡◌, ◌<◌, ◌≤◌, ◌+◌, ◌++◌, ◌∷◌, ◌==◌, [], not, if◌then◌else◌, codes, map, All, OnErr, OnOk};
+ghost use Rattle.sim_io.specs.{Causes.AppendsPrefix, Causes.HasCauseOf, Telling.IsTold};
+ghost use Rattle.report_text.specs.ReportText.{channel_name};
 ghost use Rattle.timelines.specs.declared.span.Doing.{Doing};
 ghost use Rattle.trace_text.specs.Events.{name_event, span_event, fill_event, doing_name, IsDrawn};
 ghost use Rattle.trace_text.specs.TraceText.{further};
@@ -78,8 +77,7 @@ fn write_span<K: Sink>(
         (pending.old ++ (codes ",\n" ++ span_event design.now number span))) }
     ensures err { OnErr result (AppendsPrefix (K.held sink.old) (K.held sink.new)
         (pending.old ++ (codes ",\n" ++ span_event design.now number span))) }
-    ensures write_fault { IsErrOf result TellFault.WriteFault → Rose (K.faults sink.old) (K.faults sink.new) }
-    ensures faults { K.faults sink.old ≤ K.faults sink.new }
+    ensures cause { HasCauseOf TellFault.WriteFault (K.faults sink.old) (K.faults sink.new) result }
 {
     print_span(pending, design, number, span)?;
     write_full(sink, pending)?;
@@ -100,8 +98,7 @@ pub(crate) fn write_spans<K: Sink>(
         (pending.old ++ further (map (span_event design.now number) spans.now))) }
     ensures err { OnErr result (AppendsPrefix (K.held sink.old) (K.held sink.new)
         (pending.old ++ further (map (span_event design.now number) spans.now))) }
-    ensures write_fault { IsErrOf result TellFault.WriteFault → Rose (K.faults sink.old) (K.faults sink.new) }
-    ensures faults { K.faults sink.old ≤ K.faults sink.new }
+    ensures cause { HasCauseOf TellFault.WriteFault (K.faults sink.old) (K.faults sink.new) result }
 {
     for span in spans {
         write_span(pending, design, number, *span, sink)?;
@@ -138,8 +135,7 @@ pub(crate) fn write_fill<K: Sink>(
         (pending.old ++ (codes ",\n" ++ fill_event name.now clock fill))) }
     ensures err { OnErr result (AppendsPrefix (K.held sink.old) (K.held sink.new)
         (pending.old ++ (codes ",\n" ++ fill_event name.now clock fill))) }
-    ensures write_fault { IsErrOf result TellFault.WriteFault → Rose (K.faults sink.old) (K.faults sink.new) }
-    ensures faults { K.faults sink.old ≤ K.faults sink.new }
+    ensures cause { HasCauseOf TellFault.WriteFault (K.faults sink.old) (K.faults sink.new) result }
 {
     print_fill(pending, name, clock, fill)?;
     write_full(sink, pending)?;
@@ -160,8 +156,7 @@ pub(crate) fn write_change<K: Sink>(
         (pending.old ++ further (if not (now == before) then fill_event name.now clock now ∷ [] else []))) }
     ensures err { OnErr result (AppendsPrefix (K.held sink.old) (K.held sink.new)
         (pending.old ++ further (if not (now == before) then fill_event name.now clock now ∷ [] else []))) }
-    ensures write_fault { IsErrOf result TellFault.WriteFault → Rose (K.faults sink.old) (K.faults sink.new) }
-    ensures faults { K.faults sink.old ≤ K.faults sink.new }
+    ensures cause { HasCauseOf TellFault.WriteFault (K.faults sink.old) (K.faults sink.new) result }
 {
     if now == before {
         return Ok(());

@@ -1,7 +1,7 @@
 //! Writing what each FIFO holds, clock by clock.
-ghost use Rattle.std.specs.Prelude.{◌≡◌, ◌<◌, ◌≤◌, ◌++◌, [], length, if◌then◌else◌, IsErrOf, IsTrue, OnErr, OnOk};
+ghost use Rattle.std.specs.Prelude.{◌≡◌, ◌<◌, ◌++◌, [], length, if◌then◌else◌, IsTrue, OnErr, OnOk};
 ghost use Rattle.std.specs.List.{flat_map};
-ghost use Rattle.sim_io.specs.{Causes.AppendsPrefix, Causes.Rose, Telling.IsTold};
+ghost use Rattle.sim_io.specs.{Causes.AppendsPrefix, Causes.HasCauseOf, Telling.IsTold};
 ghost use Rattle.flow_design.specs.Plans.{is_fifo, kind_at};
 ghost use Rattle.timelines.specs.Fills.{fifos, last_clock};
 ghost use Rattle.trace_text.specs.{Events.fill_events, TraceText.further};
@@ -23,8 +23,7 @@ pub(crate) fn write_counters<K: Sink>(
         (pending.old ++ further (flat_map (λ f. fill_events core.now.plan f (last_clock core.now.plan)) (fifos core.now.plan)))) }
     ensures err { OnErr result (AppendsPrefix (K.held sink.old) (K.held sink.new)
         (pending.old ++ further (flat_map (λ f. fill_events core.now.plan f (last_clock core.now.plan)) (fifos core.now.plan)))) }
-    ensures write_fault { IsErrOf result TellFault.WriteFault → Rose (K.faults sink.old) (K.faults sink.new) }
-    ensures faults { K.faults sink.old ≤ K.faults sink.new }
+    ensures cause { HasCauseOf TellFault.WriteFault (K.faults sink.old) (K.faults sink.new) result }
 {
     core.agrees();
     let last = core.verdict().clock();
@@ -49,8 +48,7 @@ fn write_channel<K: Sink>(
         (pending.old ++ further (if is_fifo (kind_at core.now.plan channel) then fill_events core.now.plan channel last else []))) }
     ensures err { OnErr result (AppendsPrefix (K.held sink.old) (K.held sink.new)
         (pending.old ++ further (if is_fifo (kind_at core.now.plan channel) then fill_events core.now.plan channel last else []))) }
-    ensures write_fault { IsErrOf result TellFault.WriteFault → Rose (K.faults sink.old) (K.faults sink.new) }
-    ensures faults { K.faults sink.old ≤ K.faults sink.new }
+    ensures cause { HasCauseOf TellFault.WriteFault (K.faults sink.old) (K.faults sink.new) result }
 {
     let kind = core.plan().design.channels.as_slice()[channel as usize].kind;
     if !kind.is_fifo() {
@@ -75,8 +73,7 @@ fn write_fifo<K: Sink>(
         (pending.old ++ further (fill_events core.now.plan channel last))) }
     ensures err { OnErr result (AppendsPrefix (K.held sink.old) (K.held sink.new)
         (pending.old ++ further (fill_events core.now.plan channel last))) }
-    ensures write_fault { IsErrOf result TellFault.WriteFault → Rose (K.faults sink.old) (K.faults sink.new) }
-    ensures faults { K.faults sink.old ≤ K.faults sink.new }
+    ensures cause { HasCauseOf TellFault.WriteFault (K.faults sink.old) (K.faults sink.new) result }
 {
     core.agrees();
     let name = channel_name(&core.plan().design, channel);

@@ -1,7 +1,7 @@
 //! The log of a core's plan.
-ghost use Rattle.std.specs.Prelude.{◌≡◌, ◌≤◌, ◌++◌, ◌∷◌, [], map, All, IfOk, IsErrOf, OnErr, OnOk};
+ghost use Rattle.std.specs.Prelude.{◌≡◌, ◌++◌, ◌∷◌, map, All, IfOk, OnErr, OnOk};
 ghost use Rattle.std.specs.List.{flat_map};
-ghost use Rattle.sim_io.specs.{Causes.AppendsPrefix, Causes.Rose, Telling.IsTold};
+ghost use Rattle.sim_io.specs.{Causes.AppendsPrefix, Causes.HasCauseOf, Telling.IsTold};
 ghost use Rattle.report_text.specs.Lines.{line, text_of_lines};
 ghost use Rattle.sim_core.specs.AccessLog.{log_of};
 ghost use Rattle.trace_text.specs.LogText.{access_tokens, value_tokens, IsOfDesign};
@@ -29,8 +29,7 @@ pub fn log_text<K: Sink>(
 ) -> Result<List<u8>, TellFault>
     ensures rest { IfOk result (λ rest. IsTold (K.held sink.old) (K.held sink.new) rest (form.log_text core.now.plan)) }
     ensures prefix { OnErr result (AppendsPrefix (K.held sink.old) (K.held sink.new) (form.log_text core.now.plan)) }
-    ensures write_fault { IsErrOf result TellFault.WriteFault → Rose (K.faults sink.old) (K.faults sink.new) }
-    ensures faults { K.faults sink.old ≤ K.faults sink.new }
+    ensures cause { HasCauseOf TellFault.WriteFault (K.faults sink.old) (K.faults sink.new) result }
 {
     let mut pending = List::from_slice(alloc, b"log\n")?;
     print_verdict(&mut pending, core.verdict())?;
@@ -49,8 +48,7 @@ fn write_steps<K: Sink>(
         (pending.old ++ text_of_lines (map (access_tokens core.now.plan.design) (log_of core.now.plan)))) }
     ensures err { OnErr result (AppendsPrefix (K.held sink.old) (K.held sink.new)
         (pending.old ++ text_of_lines (map (access_tokens core.now.plan.design) (log_of core.now.plan)))) }
-    ensures write_fault { IsErrOf result TellFault.WriteFault → Rose (K.faults sink.old) (K.faults sink.new) }
-    ensures faults { K.faults sink.old ≤ K.faults sink.new }
+    ensures cause { HasCauseOf TellFault.WriteFault (K.faults sink.old) (K.faults sink.new) result }
 {
     reports_name_their_plans();
     let graph = &core.engine().graph;
@@ -78,8 +76,7 @@ fn write_log<K: Sink>(
         (pending.old ++ text_of_lines (map (access_tokens design.now) log.now))) }
     ensures err { OnErr result (AppendsPrefix (K.held sink.old) (K.held sink.new)
         (pending.old ++ text_of_lines (map (access_tokens design.now) log.now))) }
-    ensures write_fault { IsErrOf result TellFault.WriteFault → Rose (K.faults sink.old) (K.faults sink.new) }
-    ensures faults { K.faults sink.old ≤ K.faults sink.new }
+    ensures cause { HasCauseOf TellFault.WriteFault (K.faults sink.old) (K.faults sink.new) result }
 {
     for access in log {
         write_access(pending, design, access, sink)?;
@@ -100,8 +97,7 @@ fn write_access<K: Sink>(
         (pending.old ++ line (access_tokens design.now access.now))) }
     ensures err { OnErr result (AppendsPrefix (K.held sink.old) (K.held sink.new)
         (pending.old ++ line (access_tokens design.now access.now))) }
-    ensures write_fault { IsErrOf result TellFault.WriteFault → Rose (K.faults sink.old) (K.faults sink.new) }
-    ensures faults { K.faults sink.old ≤ K.faults sink.new }
+    ensures cause { HasCauseOf TellFault.WriteFault (K.faults sink.old) (K.faults sink.new) result }
 {
     print_access(pending, design, access)?;
     write_full(sink, pending)?;

@@ -1,7 +1,7 @@
 //! The trace of a core's plan.
-ghost use Rattle.std.specs.Prelude.{◌≡◌, ◌++◌, ◌<◌, ◌≤◌, ◌^◌, map, length, IfOk, IsErrOf, OnErr, OnOk};
+ghost use Rattle.std.specs.Prelude.{◌≡◌, ◌++◌, ◌<◌, ◌^◌, length, IfOk, OnErr, OnOk};
 ghost use Rattle.std.specs.List.{flat_map, range_with_len};
-ghost use Rattle.sim_io.specs.{Causes.AppendsPrefix, Causes.Rose, Telling.IsTold};
+ghost use Rattle.sim_io.specs.{Causes.AppendsPrefix, Causes.HasCauseOf, Telling.IsTold};
 ghost use Rattle.trace_text.specs.{Events.names_of, Events.span_events, TraceText.further, TraceText.joined_lines};
 ghost use Rattle.trace_text.specs.TraceText as form;
 
@@ -11,7 +11,7 @@ use flow_design::Design;
 use flow_word::{List, OutOfMemory};
 use report_text::module_name;
 use sim_core::FinalCore;
-use sim_io::{Sink, TellFault, write_full};
+use sim_io::{Sink, TellFault};
 use std::alloc::Global;
 
 /// Writes the trace of a final core's plan in pieces, and answers the part that is not yet written. The trace has each module's
@@ -26,8 +26,7 @@ pub fn trace_text<K: Sink>(
 ) -> Result<List<u8>, TellFault>
     ensures rest { IfOk result (λ rest. IsTold (K.held sink.old) (K.held sink.new) rest (form.trace_text core.now.plan)) }
     ensures prefix { OnErr result (AppendsPrefix (K.held sink.old) (K.held sink.new) (form.trace_text core.now.plan)) }
-    ensures write_fault { IsErrOf result TellFault.WriteFault → Rose (K.faults sink.old) (K.faults sink.new) }
-    ensures faults { K.faults sink.old ≤ K.faults sink.new }
+    ensures cause { HasCauseOf TellFault.WriteFault (K.faults sink.old) (K.faults sink.new) result }
 {
     core.agrees();
     let mut pending = List::from_slice(alloc, b"{\"displayTimeUnit\":\"ns\",\"traceEvents\":[")?;
@@ -65,8 +64,7 @@ fn write_tracks<K: Sink>(
         (pending.old ++ further (flat_map (span_events core.now.plan) (range_with_len 0 (length core.now.plan.design.modules))))) }
     ensures err { OnErr result (AppendsPrefix (K.held sink.old) (K.held sink.new)
         (pending.old ++ further (flat_map (span_events core.now.plan) (range_with_len 0 (length core.now.plan.design.modules))))) }
-    ensures write_fault { IsErrOf result TellFault.WriteFault → Rose (K.faults sink.old) (K.faults sink.new) }
-    ensures faults { K.faults sink.old ≤ K.faults sink.new }
+    ensures cause { HasCauseOf TellFault.WriteFault (K.faults sink.old) (K.faults sink.new) result }
 {
     let clock = core.verdict().clock();
     for owner in 0..core.modules() {

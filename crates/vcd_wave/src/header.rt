@@ -1,5 +1,5 @@
 //! Reading what comes in a wave before its later clocks.
-ghost use Rattle.std.specs.Prelude.{◌≡◌, ◌<◌, ◌^◌, ◌∷◌, ◌++◌, ℕ, List, IfSome, MatchOption, IsTrue, length};
+ghost use Rattle.std.specs.Prelude.{◌≡◌, ◌<◌, ◌∷◌, ◌++◌, ℕ, List, IfSome, MatchOption, IsTrue};
 ghost use Rattle.flow_design.specs.Names.{is_name};
 ghost use Rattle.vcd_wave.specs.{Digits.numeral, Headers.declaring, Headers.Names, Headers.Headed, Headers.empty_text};
 

@@ -1,7 +1,7 @@
 //! The lines of a wave.
-ghost use Rattle.std.specs.Prelude.{◌≡◌, ◌≤◌, ◌∷◌, ◌++◌, decimal, map, length, OnOk, OnErr, IfOk, IsErrOf};
+ghost use Rattle.std.specs.Prelude.{◌≡◌, ◌∷◌, ◌++◌, map, length, OnOk, OnErr, IfOk};
 ghost use Rattle.std.specs.List.{flat_map, enumerate_from};
-ghost use Rattle.sim_io.specs.{Causes.AppendsPrefix, Causes.Rose, Telling.IsTold};
+ghost use Rattle.sim_io.specs.{Causes.AppendsPrefix, Causes.HasCauseOf, Telling.IsTold};
 ghost use Rattle.report_text.specs.Lines.{line, text_of_lines};
 ghost use Rattle.vcd_wave.specs.{Wave.fifo_names, Wave.has_some, Wave.instant_of, Walks.change_of};
 ghost use Rattle.vcd_wave.specs.WaveText.{fifo_code, var_tokens, time_tokens, change_tokens, header_lines, opening_instant, instant_lines};
@@ -131,8 +131,7 @@ pub(crate) fn write_instant<K: Sink>(
     ensures some { IfOk result (λ some. some ≡ has_some (map change_of changes.now)) }
     ensures err { OnErr result (AppendsPrefix (K.held sink.old) (K.held sink.new)
         (pending.old ++ text_of_lines (flat_map instant_lines (instant_of clock (map change_of changes.now))))) }
-    ensures write_fault { IsErrOf result TellFault.WriteFault → Rose (K.faults sink.old) (K.faults sink.new) }
-    ensures faults { K.faults sink.old ≤ K.faults sink.new }
+    ensures cause { HasCauseOf TellFault.WriteFault (K.faults sink.old) (K.faults sink.new) result }
 {
     let some = print_instant(pending, clock, changes)?;
     write_full(sink, pending)?;

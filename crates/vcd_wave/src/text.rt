@@ -1,10 +1,8 @@
 //! The wave of a core's plan.
-ghost use Rattle.std.specs.Prelude.{◌≡◌, ◌≤◌, ◌++◌, IfOk, IsErrOf, OnErr, OnOk};
-ghost use Rattle.std.specs.List.{flat_map};
-ghost use Rattle.sim_io.specs.{Causes.AppendsPrefix, Causes.Rose, Telling.IsTold};
+ghost use Rattle.std.specs.{Prelude.◌≡◌, Prelude.◌++◌, Prelude.IfOk, Prelude.OnErr, Prelude.OnOk, List.flat_map};
+ghost use Rattle.sim_io.specs.{Causes.AppendsPrefix, Causes.HasCauseOf, Telling.IsTold};
 ghost use Rattle.report_text.specs.Lines.{text_of_lines};
-ghost use Rattle.timelines.specs.Fills.{last_clock};
-ghost use Rattle.vcd_wave.specs.Wave.{wave_of, instants_to, closing_instant};
+ghost use Rattle.vcd_wave.specs.Wave.{wave_of};
 ghost use Rattle.vcd_wave.specs.WaveText as form;
 
 use crate::lines::{print_header, print_opening, print_time, write_instant};
@@ -29,8 +27,7 @@ pub fn wave_text<K: Sink>(
     requires { design.now ≡ core.now.plan.design }
     ensures rest { IfOk result (λ rest. IsTold (K.held sink.old) (K.held sink.new) rest (form.wave_text (wave_of core.now.plan))) }
     ensures prefix { OnErr result (AppendsPrefix (K.held sink.old) (K.held sink.new) (form.wave_text (wave_of core.now.plan))) }
-    ensures write_fault { IsErrOf result TellFault.WriteFault → Rose (K.faults sink.old) (K.faults sink.new) }
-    ensures faults { K.faults sink.old ≤ K.faults sink.new }
+    ensures cause { HasCauseOf TellFault.WriteFault (K.faults sink.old) (K.faults sink.new) result }
 {
     core.agrees();
     let mut pending = List::new(alloc);
@@ -52,8 +49,7 @@ fn write_later<K: Sink>(
         (pending.old ++ text_of_lines (flat_map form.instant_lines (wave_of core.now.plan).later))) }
     ensures err { OnErr result (AppendsPrefix (K.held sink.old) (K.held sink.new)
         (pending.old ++ text_of_lines (flat_map form.instant_lines (wave_of core.now.plan).later))) }
-    ensures write_fault { IsErrOf result TellFault.WriteFault → Rose (K.faults sink.old) (K.faults sink.new) }
-    ensures faults { K.faults sink.old ≤ K.faults sink.new }
+    ensures cause { HasCauseOf TellFault.WriteFault (K.faults sink.old) (K.faults sink.new) result }
 {
     core.agrees();
     let last = core.verdict().clock();

@@ -1,5 +1,5 @@
 //! A walk over the clocks of all FIFOs.
-ghost use Rattle.std.specs.Prelude.{◌≡◌, ◌+◌, ◌<◌, ◌≤◌, ◌++◌, [], IfOk, OnOk, length, map, slice_set};
+ghost use Rattle.std.specs.Prelude.{◌≡◌, ◌+◌, ◌<◌, ◌++◌, IfOk, OnOk, length, map, slice_set};
 ghost use Rattle.timelines.specs.Fills.{fill, fills, last_clock};
 ghost use Rattle.vcd_wave.specs.Wave.{changes_between};
 ghost use Rattle.vcd_wave.specs.Walks.{AreWalks, StandsBy, least_next, change_if, change_of, other_fill};

@@ -1,6 +1,6 @@
 //! Makes the whole answer: it reads what the words ask for, checks it, runs it, and writes what comes of it.
-ghost use Rattle.std.specs.Prelude.{◌≡◌, ◌≢◌, ◌≤◌, ◌↔◌, [], false, map, string_bytes, IfOk, IfSome, IsErrOf, Some};
-ghost use Rattle.sim_io.specs.Causes.{Rose};
+ghost use Rattle.std.specs.Prelude.{◌≡◌, ◌≢◌, ◌↔◌, [], false, map, string_bytes, IfOk, IfSome, Some};
+ghost use Rattle.sim_io.specs.Causes.{HasCauseOf};
 ghost use Rattle.flow_grammar.specs.Text.{IsAnswer, session_of};
 ghost use Rattle.cli_words.specs.CommandWords.{accepted, IsInRange, IsWithinBounds};
 ghost use Rattle.whole_answer.specs.Made.{refused_words, refused, generated, code_number};
@@ -86,11 +86,9 @@ pub(crate) fn answer_words<R: Threads + Wait + Sync, S: Source, G: Gate + Sync, 
 ) -> Result<Answer, Unanswered>
     ensures answers { IfSome (S.left source.old) (λ bytes.
         BeginsAnswer (Answers (map string_bytes words.now) bytes) (K.held sink.old) (K.held sink.new) result) }
-    ensures read_fault { result ≡ Err Unanswered.ReadFault → Rose (S.faults source.old) (S.faults source.new) }
+    ensures source_cause { HasCauseOf Unanswered.ReadFault (S.faults source.old) (S.faults source.new) result }
     ensures unwritten { result ≡ Err Unanswered.ReadFault → sink.new ≡ sink.old }
-    ensures source_faults { S.faults source.old ≤ S.faults source.new }
-    ensures write_fault { result ≡ Err Unanswered.WriteFault → Rose (K.faults sink.old) (K.faults sink.new) }
-    ensures sink_faults { K.faults sink.old ≤ K.faults sink.new }
+    ensures sink_cause { HasCauseOf Unanswered.WriteFault (K.faults sink.old) (K.faults sink.new) result }
 
     ensures without_input { takes_input (accepted (map string_bytes words.now)) ≡ false
         → BeginsAnswer (Answers (map string_bytes words.now) []) (K.held sink.old) (K.held sink.new) result }
@@ -117,11 +115,9 @@ fn obey<R: Threads + Wait + Sync, S: Source, G: Gate + Sync, K: Sink>(
     requires { IsInRange command }
     ensures answers { IfSome (S.left source.old) (λ bytes.
         BeginsAnswer (AnswersCommand (Some command) bytes) (K.held sink.old) (K.held sink.new) result) }
-    ensures read_fault { result ≡ Err Unanswered.ReadFault → Rose (S.faults source.old) (S.faults source.new) }
+    ensures source_cause { HasCauseOf Unanswered.ReadFault (S.faults source.old) (S.faults source.new) result }
     ensures unwritten { result ≡ Err Unanswered.ReadFault → sink.new ≡ sink.old }
-    ensures source_faults { S.faults source.old ≤ S.faults source.new }
-    ensures write_fault { result ≡ Err Unanswered.WriteFault → Rose (K.faults sink.old) (K.faults sink.new) }
-    ensures sink_faults { K.faults sink.old ≤ K.faults sink.new }
+    ensures sink_cause { HasCauseOf Unanswered.WriteFault (K.faults sink.old) (K.faults sink.new) result }
 
     ensures without_input { takes_input (Some command) ≡ false
         → BeginsAnswer (AnswersCommand (Some command) []) (K.held sink.old) (K.held sink.new) result }
@@ -146,11 +142,9 @@ fn answer_source<R: Threads + Wait + Sync, S: Source, G: Gate + Sync, K: Sink>(
     requires { IsWithinBounds asked.now.scale asked.now.task }
     ensures answers { IfSome (S.left source.old) (λ bytes.
         BeginsAnswer (AnswersText asked.now bytes) (K.held sink.old) (K.held sink.new) result) }
-    ensures read_fault { result ≡ Err Unanswered.ReadFault → Rose (S.faults source.old) (S.faults source.new) }
+    ensures source_cause { HasCauseOf Unanswered.ReadFault (S.faults source.old) (S.faults source.new) result }
     ensures unwritten { result ≡ Err Unanswered.ReadFault → sink.new ≡ sink.old }
-    ensures source_faults { S.faults source.old ≤ S.faults source.new }
-    ensures write_fault { result ≡ Err Unanswered.WriteFault → Rose (K.faults sink.old) (K.faults sink.new) }
-    ensures sink_faults { K.faults sink.old ≤ K.faults sink.new }
+    ensures sink_cause { HasCauseOf Unanswered.WriteFault (K.faults sink.old) (K.faults sink.new) result }
 {
     one_text_answer();
     match read_all(alloc, source, asked.scale.limits().text_bytes) {
@@ -191,8 +185,7 @@ fn answer_text<R: Threads + Wait + Sync, G: Gate + Sync, K: Sink>(
 ) -> Result<Answer, TellFault>
     requires { IsWithinBounds asked.now.scale asked.now.task }
     ensures answers { BeginsAnswer (AnswersText asked.now text) (K.held sink.old) (K.held sink.new) result }
-    ensures write_fault { IsErrOf result TellFault.WriteFault → Rose (K.faults sink.old) (K.faults sink.new) }
-    ensures faults { K.faults sink.old ≤ K.faults sink.new }
+    ensures cause { HasCauseOf TellFault.WriteFault (K.faults sink.old) (K.faults sink.new) result }
 {
     keeps_rules();
     one_text_answer();

@@ -1,7 +1,6 @@
 //! The job of a plan and its edits: a report of the plan, and one more after each edit.
-ghost use Rattle.std.specs.Prelude.{◌≡◌, ◌≤◌, All, IfOk, IsErrOf, OnErr, OnOk};
-ghost use Rattle.std.specs.Io.KnownBytes.{Appends};
-ghost use Rattle.sim_io.specs.Causes.{AppendsPrefix, Rose};
+ghost use Rattle.std.specs.{Prelude.◌≡◌, Prelude.All, Prelude.IfOk, Prelude.OnErr, Prelude.OnOk, Io.KnownBytes.Appends};
+ghost use Rattle.sim_io.specs.Causes.{AppendsPrefix, HasCauseOf};
 ghost use Rattle.flow_design.specs.{Plans.EditFits, StaticRules.FitsEngine};
 ghost use Rattle.lockstep_defs.specs.Report.{report};
 ghost use Rattle.engine_report.specs.Finished.{report_with};
@@ -40,8 +39,7 @@ pub(crate) fn job<R: Threads + Wait + Sync, G: Gate + Sync, K: Sink>(
     requires { All (EditFits plan) edits.now }
     ensures rest { IfOk result (λ rest. IsRest (job events plan edits.now) (K.held sink.old) (K.held sink.new) rest) }
     ensures prefix { OnErr result (AppendsPrefix (K.held sink.old) (K.held sink.new) (job events plan edits.now).text) }
-    ensures write_fault { IsErrOf result TellFault.WriteFault → Rose (K.faults sink.old) (K.faults sink.new) }
-    ensures faults { K.faults sink.old ≤ K.faults sink.new }
+    ensures cause { HasCauseOf TellFault.WriteFault (K.faults sink.old) (K.faults sink.new) result }
 {
     match by {
         Simulator::Threads => {
@@ -66,8 +64,7 @@ fn engine_job<R: Threads + Wait + Sync, G: Gate + Sync, U: Runner, K: Sink>(
     requires { All (EditFits plan) edits.now }
     ensures rest { IfOk result (λ rest. IsRest (job events plan edits.now) (K.held sink.old) (K.held sink.new) rest) }
     ensures prefix { OnErr result (AppendsPrefix (K.held sink.old) (K.held sink.new) (job events plan edits.now).text) }
-    ensures write_fault { IsErrOf result TellFault.WriteFault → Rose (K.faults sink.old) (K.faults sink.new) }
-    ensures faults { K.faults sink.old ≤ K.faults sink.new }
+    ensures cause { HasCauseOf TellFault.WriteFault (K.faults sink.old) (K.faults sink.new) result }
 {
     edits_in_order();
     edited_plans_agree();
@@ -101,8 +98,7 @@ fn clock_job<K: Sink>(
     requires { All (EditFits plan) edits.now }
     ensures rest { IfOk result (λ rest. IsRest (job events plan edits.now) (K.held sink.old) (K.held sink.new) rest) }
     ensures prefix { OnErr result (AppendsPrefix (K.held sink.old) (K.held sink.new) (job events plan edits.now).text) }
-    ensures write_fault { IsErrOf result TellFault.WriteFault → Rose (K.faults sink.old) (K.faults sink.new) }
-    ensures faults { K.faults sink.old ≤ K.faults sink.new }
+    ensures cause { HasCauseOf TellFault.WriteFault (K.faults sink.old) (K.faults sink.new) result }
 {
     edits_in_order();
     edited_plans_agree();
@@ -141,8 +137,7 @@ fn write_report<K: Sink>(
         (report_text_of plan.now.design (report plan.now) number events)) }
     ensures err { OnErr result (AppendsPrefix (K.held sink.old) (K.held sink.new)
         (report_text_of plan.now.design (report plan.now) number events)) }
-    ensures write_fault { IsErrOf result TellFault.WriteFault → Rose (K.faults sink.old) (K.faults sink.new) }
-    ensures faults { K.faults sink.old ≤ K.faults sink.new }
+    ensures cause { HasCauseOf TellFault.WriteFault (K.faults sink.old) (K.faults sink.new) result }
 {
     reports_without_events();
     let mut text = List::new(alloc);

@@ -1,6 +1,6 @@
 //! What a task makes of a session that reading and checking accept.
-ghost use Rattle.std.specs.Prelude.{◌≡◌, ◌≤◌, ◌++◌, ◌%◌, ◌^◌, ℕ, List as Items, Option, sum_by, All, IfOk, IsErrOf, OnErr, OnOk};
-ghost use Rattle.sim_io.specs.Causes.{AppendsPrefix, Rose};
+ghost use Rattle.std.specs.Prelude.{◌≡◌, ◌++◌, ◌%◌, ◌^◌, ℕ, List as Items, Option, sum_by, All, IfOk, IsErrOf, OnErr, OnOk};
+ghost use Rattle.sim_io.specs.Causes.{AppendsPrefix, HasCauseOf};
 ghost use Rattle.flow_design.specs.{Plans.EditFits, StaticRules.FitsEngine};
 ghost use Rattle.session_plan.specs.Plans.{plan_of, edits_of};
 ghost use Rattle.report_text.specs.Lines.{line, text_of_lines};
@@ -50,8 +50,7 @@ pub(crate) fn make<R: Threads + Wait + Sync, G: Gate + Sync, K: Sink>(
         (K.held sink.old) (K.held sink.new) rest) }
     ensures prefix { OnErr result (AppendsPrefix (K.held sink.old) (K.held sink.new)
         (made asked.now.scale asked.now.task session.statements).text) }
-    ensures write_fault { IsErrOf result TellFault.WriteFault → Rose (K.faults sink.old) (K.faults sink.new) }
-    ensures faults { K.faults sink.old ≤ K.faults sink.new }
+    ensures cause { HasCauseOf TellFault.WriteFault (K.faults sink.old) (K.faults sink.new) result }
 {
     plan.fits();
     let Host { rt, alloc, gate } = *host;
@@ -118,8 +117,7 @@ fn simulate<R: Threads + Wait + Sync, G: Gate + Sync, K: Sink>(
         (K.held sink.old) (K.held sink.new) rest) }
     ensures prefix { OnErr result (AppendsPrefix (K.held sink.old) (K.held sink.new)
         (job options.now.events (with_limits options.now plan) edits.now).text) }
-    ensures write_fault { IsErrOf result TellFault.WriteFault → Rose (K.faults sink.old) (K.faults sink.new) }
-    ensures faults { K.faults sink.old ≤ K.faults sink.new }
+    ensures cause { HasCauseOf TellFault.WriteFault (K.faults sink.old) (K.faults sink.new) result }
 {
     let plan = under_limits(plan, options);
     job(host, by, options.events, plan, edits, sink)

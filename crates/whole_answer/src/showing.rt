@@ -1,6 +1,6 @@
 //! The answers to the commands that show a simulation.
-ghost use Rattle.std.specs.Prelude.{◌≤◌, IfOk, IsErrOf, OnErr};
-ghost use Rattle.sim_io.specs.{Causes.AppendsPrefix, Causes.Rose, Telling.IsTold};
+ghost use Rattle.std.specs.Prelude.{IfOk, OnErr};
+ghost use Rattle.sim_io.specs.{Causes.AppendsPrefix, Causes.HasCauseOf, Telling.IsTold};
 ghost use Rattle.whole_answer.specs.{Answer.IsRest, Views.shown, Views.view_text};
 
 use crate::answer::Answer;
@@ -33,8 +33,7 @@ pub(crate) fn show<R: Threads + Wait + Sync, G: Gate + Sync, K: Sink>(
 ) -> Result<Answer, TellFault>
     ensures rest { IfOk result (λ rest. IsRest (shown view options.now plan) (K.held sink.old) (K.held sink.new) rest) }
     ensures prefix { OnErr result (AppendsPrefix (K.held sink.old) (K.held sink.new) (shown view options.now plan).text) }
-    ensures write_fault { IsErrOf result TellFault.WriteFault → Rose (K.faults sink.old) (K.faults sink.new) }
-    ensures faults { K.faults sink.old ≤ K.faults sink.new }
+    ensures cause { HasCauseOf TellFault.WriteFault (K.faults sink.old) (K.faults sink.new) result }
 {
     let run = ThreadRunner::new(host.gate).run_plan(host.rt, host.alloc, plan)?;
     let core = FinalCore::new(&run);
@@ -54,8 +53,7 @@ fn view_text<K: Sink>(
 ) -> Result<List<u8>, TellFault>
     ensures rest { IfOk result (λ rest. IsTold (K.held sink.old) (K.held sink.new) rest (view_text view options.now core.now.plan)) }
     ensures prefix { OnErr result (AppendsPrefix (K.held sink.old) (K.held sink.new) (view_text view options.now core.now.plan)) }
-    ensures write_fault { IsErrOf result TellFault.WriteFault → Rose (K.faults sink.old) (K.faults sink.new) }
-    ensures faults { K.faults sink.old ≤ K.faults sink.new }
+    ensures cause { HasCauseOf TellFault.WriteFault (K.faults sink.old) (K.faults sink.new) result }
 {
     match view {
         View::Wave => wave_text(alloc, &core.plan().design, core, sink),

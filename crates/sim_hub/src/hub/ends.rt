@@ -1,5 +1,5 @@
 //! How a hub begins and ends.
-ghost use Rattle.std.specs.Prelude.{◌≡◌, ℕ, ◌+◌, ◌^◌, ◌<◌, ◌≤◌, List, [], ◌∷◌, ◌++◌, length, IfOk};
+ghost use Rattle.std.specs.Prelude.{◌≡◌, ℕ, ◌+◌, ◌^◌, ◌<◌, List, [], length, IfOk};
 ghost use Rattle.event_timing.specs.Core.{opening_core};
 ghost use Rattle.timing_bridge.specs.{Designs.design, declared.entry.HubEntry.HubEntry, Entries.bearer, Entries.history_of};
 ghost use Rattle.turn_lock.specs.{Entries.entries_of, Passes.view_of, Passes.pass_lock, Passes.lock_id};

@@ -1,5 +1,5 @@
 //! Beginning and ending a turn.
-ghost use Rattle.std.specs.Prelude.{◌≡◌, ℕ, ◌+◌, ◌^◌, ◌<◌, List, [], ◌∷◌, ◌++◌, length};
+ghost use Rattle.std.specs.Prelude.{◌≡◌, ℕ, ◌<◌};
 ghost use Rattle.turn_lock.specs.Passes.{view_of, pass_lock, turn_view, turn_lock_of, begun_at};
 ghost use Rattle.turn_lock.specs.Turns.{BeginsTurn};
 ghost use Rattle.timing_bridge.specs.Entries.{bearer};

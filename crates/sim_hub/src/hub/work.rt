@@ -1,5 +1,5 @@
 //! What passes do in their turns.
-ghost use Rattle.std.specs.Prelude.{◌≡◌, ◌⊎◌, ℕ, ◌+◌, ◌^◌, ◌<◌, List, [], ◌∷◌, ◌++◌, length, true, false};
+ghost use Rattle.std.specs.Prelude.{◌≡◌, ◌<◌, length, true, false};
 ghost use Rattle.sim_hub.specs.Places.{HasDeskOut, HasNoDeskOut, IsLater};
 ghost use Rattle.sim_hub.specs.Hubs.{module_of, module_view, perf_view, IsOfHub, IsPerfOf, DeskIs, OutIs, PerfIs, ReturnIs, IsDeskBurst};
 ghost use Rattle.sim_hub.specs.Hubs.{TellsReady};

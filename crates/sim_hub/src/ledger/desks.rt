@@ -1,5 +1,5 @@
 //! Lending runs of a ledger's core, and taking them back.
-ghost use Rattle.std.specs.Prelude.{◌≡◌, ℕ, ◌+◌, ◌<◌, ◌≤◌, [], true, false, length, IfOk};
+ghost use Rattle.std.specs.Prelude.{◌≡◌, ◌+◌, ◌<◌, ◌≤◌, [], true, false, length, IfOk};
 ghost use Rattle.event_timing.specs.Core.{opening_core};
 ghost use Rattle.timing_bridge.specs.{Designs.design, declared.turn.HubTurn.TheVariants.Short, Entries.history_of};
 ghost use Rattle.sim_core.specs.{Drives.AreOwn, Views.theory_of};

@@ -1,4 +1,3 @@
-use Rattle.std.proofs.Common.{◌<◌, length, arith}
 use Rattle.flow_design.specs.declared.limits.Scale.TheVariants.{Standard}
 use Rattle.core_tests.proofs.edits.moved_from.Goals as goal
 

@@ -1,4 +1,4 @@
-use Rattle.std.proofs.Common.{◌≡◌, [], ap₂, ◌∙◌, sym, ap, map, get_or, length, arith}
+use Rattle.std.proofs.Common.{◌≡◌, [], ap₂, ◌∙◌, sym, map, get_or, length, arith}
 use Rattle.std.proofs.lemmas.List.{length-map}
 use Rattle.cycle_changes.specs.Moved.{others_in}
 use Rattle.core_tests.proofs.Counting.{others_more, list_at}

@@ -1,4 +1,4 @@
-use Rattle.std.proofs.Common.{◌≡◌, ◌≤◌, ◌+◌, length, drop}
+use Rattle.std.proofs.Common.{◌≡◌, ◌≤◌, ◌+◌, drop}
 use Rattle.cycle_changes.specs.Moved.{others_in}
 use Rattle.core_tests.proofs.ticks.count_others.Given as goal
 

@@ -1,4 +1,3 @@
-use Rattle.std.proofs.Common.{◌<◌, length, arith}
 use Rattle.flow_design.specs.declared.limits.Scale.TheVariants.{Standard}
 use Rattle.core_tests.proofs.ticks.moved_by.Goals as goal
 

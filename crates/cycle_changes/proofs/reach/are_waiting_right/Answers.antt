@@ -25,8 +25,12 @@ pub are_enabled_right-requires-clause-access : goal.are_enabled_right-requires-c
 are_enabled_right-requires-clause-access c =
     let is = parts (goal.at.are_enabled_right-requires-clause-access c).In-Some in
     let xs = c.into_iter-access-iterator.result in
-    rw (held (goal.at.are_enabled_right-requires-clause-access c).After-into_iter-access-iterator) (length c.loop-access.yielded, within
-    xs _ _ _ is, here xs _ _ _ is c.in-Some.access)
+    rw (held (goal.at.are_enabled_right-requires-clause-access c).After-into_iter-access-iterator) (
+      length c.loop-access.yielded,
+      within
+          xs _ _ _ is,
+      here xs _ _ _ is c.in-Some.access,
+    )
 
 pub loop-access-preserved : goal.loop-access-preserved
 loop-access-preserved c = (

@@ -21,7 +21,7 @@ loop-channel-init g c = record {
 
 pub is_fifo-requires : goal.is_fifo-requires
 is_fifo-requires g c =
-    let fits = subst FitsEngine c.core.ensures.plan c.agrees.ensures.fits in
+    let fits = subst FitsEngine c.core.ensures c.agrees.ensures.fits in
     let channels = same_channels c.args.session.now.plan fits c.args.clock c.loop-channel.channel c.loop-channel.session.plan
     c.loop-channel.invariant.plan in
     let count = c.len-channels.ensures ∙ ap (λ (p : Plan). length p.design.channels) c.plan.ensures in
@@ -29,21 +29,21 @@ is_fifo-requires g c =
 
 pub lower-requires-clause-depth : goal.lower-requires-clause-depth
 lower-requires-clause-depth g c = λ κs outlives.
-    let fits = subst FitsEngine c.core.ensures.plan c.agrees.ensures.fits in
+    let fits = subst FitsEngine c.core.ensures c.agrees.ensures.fits in
     next_depth c.args.session.now.plan fits c.args.clock c.loop-channel.channel c.loop-channel.session.plan c.loop-channel.invariant.plan
     (let count = c.len-channels.ensures ∙ ap (λ (p : Plan). length p.design.channels) c.plan.ensures in
     omega (arith, c.loop-channel-test.true)) (sym c.is_fifo.ensures ∙ c.if-is_fifo.true)
 
 pub lower-requires-clause-latest : goal.lower-requires-clause-latest
 lower-requires-clause-latest g c = λ κs outlives some.
-    let fits = subst FitsEngine c.core.ensures.plan c.agrees.ensures.fits in
+    let fits = subst FitsEngine c.core.ensures c.agrees.ensures.fits in
     quiet_lowered c.args.session.now.plan fits c.args.clock c.loop-channel.channel c.loop-channel.session.plan
     c.loop-channel.invariant.plan (c.requires.latest some)
 
 pub loop-channel-preserved : goal.loop-channel-preserved
 loop-channel-preserved g c =
     let p = c.args.session.now.plan in
-    let fits = subst FitsEngine c.core.ensures.plan c.agrees.ensures.fits in
+    let fits = subst FitsEngine c.core.ensures c.agrees.ensures.fits in
     let clock = c.args.clock in
     let n = c.loop-channel.channel in
     let x = c.loop-channel.invariant in
@@ -100,7 +100,7 @@ returns-in_err-tries-clause-made g c =
     let count = c.len-channels.ensures ∙ ap (λ (p : Plan). length p.design.channels) c.plan.ensures in
     let inside = c.loop-channel-test.true in
     let p = c.args.session.now.plan in
-    let fits = subst FitsEngine c.core.ensures.plan c.agrees.ensures.fits in
+    let fits = subst FitsEngine c.core.ensures c.agrees.ensures.fits in
     let tries = tries_within p fits c.args.clock n (length p.design.channels) c.loop-channel.session.plan c.loop-channel.tries
     (least_for c.loop-channel.session.plan c.args.clock n).tries (omega arith) x.plan
     (sym c.is_fifo.ensures ∙ c.if-is_fifo.true) x.tries refl in

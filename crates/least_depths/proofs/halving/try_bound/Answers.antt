@@ -10,7 +10,7 @@ returns-then-branch-clause-alike g c =
 
 pub returns-then-branch-clause-known : goal.returns-then-branch-clause-known
 returns-then-branch-clause-known g c =
-    let fits = subst FitsEngine c.core.ensures.plan c.agrees.ensures.fits in
+    let fits = subst FitsEngine c.core.ensures c.agrees.ensures.fits in
     known_timely c.args.session.now.plan fits (c.requires.quiet (omega (arith, c.if-late_below-le1.false)))
     c.args.target.now.clock c.args.target.now.channel c.args.late_below c.requires.depth c.requires.late
     (omega (arith, c.if-late_below-le1.false)) (sym c.in_ok-is_in_time.ensures.in_time ∙ c.if-branch.true)

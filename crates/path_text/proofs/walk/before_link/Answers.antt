@@ -25,8 +25,8 @@ returns-in-Pop c =
     let p = c.args.plan.now in
     let a = c.in_ok-port.port in
     let inside = subst (λ (o : Option Port). IfSome o (λ a. a.channel < length p.design.channels)) c.in_ok-port.was c.requires.crossed in
-    before_pop p c.args.link.now a c.args.pushers.now c.delay_of.result c.in_ok-port.was c.in-Pop.is inside c.requires.pushers
-    (c.delay_of.ensures ∙ ap (λ (ch : Channel). delay_of ch.kind) (channel_is p.design.channels c.as_slice.result.now a.channel
+    before_pop p c.args.link.now a c.args.pushers.now c.delay.result c.in_ok-port.was c.in-Pop.is inside c.requires.pushers
+    (c.delay.ensures ∙ ap (λ (ch : Channel). delay_of ch.kind) (channel_is p.design.channels c.as_slice.result.now a.channel
     c.index-as_slice-channel.result inside c.as_slice.ensures))
 
 pub returns-in-Push : goal.returns-in-Push

@@ -18,7 +18,7 @@ loop-span-preserved g c = record {
   told = told_as _ _ _ _ _ (told_more _ _ _ _ _ _ _ c.loop-span.invariant.told c.in_ok-write_span.ensures.ok)
       (span_more (span_event c.args.design.now c.args.number) c.args.spans.now c.loop-span.span-index
       (record { first = 0; until = 0; doing = Moves }) c.args.pending.now c.loop-span-test.true);
-  faults = omega (arith, c.loop-span.invariant.faults, c.in_ok-write_span.ensures.faults);
+  faults = omega (arith, c.loop-span.invariant.faults, c.in_ok-write_span.ensures.cause.later);
 }
 
 pub returns-in_err-write_span-clause-err : goal.returns-in_err-write_span-clause-err

@@ -27,7 +27,7 @@ loop-channel-preserved g c = record {
   told = told_as _ _ _ _ _ (told_more _ _ _ _ _ _ _ c.loop-channel.invariant.told c.in_ok-write_channel.ensures.ok)
       (channel_more c.args.core.now.plan c.loop-channel.channel c.clock-last.result c.args.pending.now
       (c.clock-last.ensures ∙ ap clock_of c.verdict.ensures));
-  faults = omega (arith, c.loop-channel.invariant.faults, c.in_ok-write_channel.ensures.faults);
+  faults = omega (arith, c.loop-channel.invariant.faults, c.in_ok-write_channel.ensures.cause.later);
 }
 
 pub returns-in_err-write_channel-clause-err : goal.returns-in_err-write_channel-clause-err

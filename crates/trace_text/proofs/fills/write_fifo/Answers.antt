@@ -76,7 +76,7 @@ loop-name-init g c =
           (opened p c.plan.result.now c.args.channel c.fill-held.result c.args.pending.now c.channel_name-name.result.now fits
           c.new-walk.result walk c.new-walk.ensures.channel c.new-walk.ensures.clock c.fill-held.ensures c.channel_name-name.ensures
           c.plan.ensures);
-      faults = omega (arith, c.in_ok-write_fill.ensures.faults);
+      faults = omega (arith, c.in_ok-write_fill.ensures.cause.later);
     }
 
 -- the walk and its line, one step on
@@ -106,7 +106,7 @@ loop-name-preserved g c =
       channel = c.pass.ensures.channel ∙ keeps.channel;
       held = on.0;
       told = told_as _ _ _ _ _ (told_more _ _ _ _ _ _ _ keeps.told c.in_ok-write_change.ensures.ok) on.1;
-      faults = omega (arith, keeps.faults, c.in_ok-write_change.ensures.faults);
+      faults = omega (arith, keeps.faults, c.in_ok-write_change.ensures.cause.later);
     }
 
 pub returns-in_err-write_change-clause-err : goal.returns-in_err-write_change-clause-err

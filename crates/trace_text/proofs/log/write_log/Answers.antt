@@ -10,7 +10,7 @@ pub loop-access-preserved : goal.loop-access-preserved
 loop-access-preserved g c = record {
   told = told_as _ _ _ _ _ (told_more _ _ _ _ _ _ _ c.loop-access.invariant.told c.in_ok-write_access.ensures.ok)
       (access_more c.args.design.now c.args.pending.now c.args.log.now c.loop-access.access-index _ c.loop-access-test.true);
-  faults = omega (arith, c.loop-access.invariant.faults, c.in_ok-write_access.ensures.faults);
+  faults = omega (arith, c.loop-access.invariant.faults, c.in_ok-write_access.ensures.cause.later);
 }
 
 pub returns-in_err-write_access-clause-err : goal.returns-in_err-write_access-clause-err

@@ -91,7 +91,7 @@ loop-step-preserved g c =
             (text_more p c.plan.result.now h c.args.pending.now telling.keys key c.log_step.new.log c.as_slice.result.now read
             c.as_slice.ensures c.plan.ensures);
       };
-      faults = omega (arith, c.loop-step.invariant.faults, c.in_ok-write_log.ensures.faults);
+      faults = omega (arith, c.loop-step.invariant.faults, c.in_ok-write_log.ensures.cause.later);
     }
 
 pub returns-in_err-write_log-clause-err : goal.returns-in_err-write_log-clause-err

@@ -35,7 +35,7 @@ loop-owner-preserved g c = record {
   told = told_as _ _ _ _ _ (told_more _ _ _ _ _ _ _ c.loop-owner.invariant.told c.in_ok-write_spans.ensures.ok)
       (owner_more c.args.core.now.plan c.plan.result.now c.loop-owner.owner c.in_ok-spans.spans _ c.args.pending.now c.plan.ensures
       c.as_slice.ensures c.in_ok-spans.ensures);
-  faults = omega (arith, c.loop-owner.invariant.faults, c.in_ok-write_spans.ensures.faults);
+  faults = omega (arith, c.loop-owner.invariant.faults, c.in_ok-write_spans.ensures.cause.later);
 }
 
 pub returns-in_err-spans-clause-err : goal.returns-in_err-spans-clause-err

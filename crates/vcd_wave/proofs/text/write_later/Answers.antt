@@ -107,7 +107,7 @@ loop-clock-preserved g c =
       text = told_as _ _ _ _ _ (told_more _ _ _ _ _ _ _ c.loop-clock.invariant.text c.in_ok-write_instant.ensures.ok)
           (clock_told p first at end _ early changes
           ∙ next_text p fits first c.pass_clock.new.walks (at + 1) next end c.in_ok-pass_clock.ensures.walks (omega arith) last least);
-      faults = omega (arith, c.loop-clock.invariant.faults, c.in_ok-write_instant.ensures.faults);
+      faults = omega (arith, c.loop-clock.invariant.faults, c.in_ok-write_instant.ensures.cause.later);
     }
 
 pub loop-clock-smaller : goal.loop-clock-smaller

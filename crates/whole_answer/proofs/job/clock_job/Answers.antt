@@ -34,7 +34,7 @@ loop-edit-init g c =
           first held (subst (report_in first held 0 events) c.plan.ensures.plan c.in_ok-write_report.ensures.ok));
       number = refl;
       codes = subst (AreCodes p) (sym c.as_slice-codes.ensures) c.in_ok-codes.ensures;
-      faults = c.in_ok-write_report.ensures.faults;
+      faults = c.in_ok-write_report.ensures.cause.later;
     }
 
 pub edit-requires : goal.edit-requires
@@ -98,7 +98,7 @@ loop-edit-preserved g c =
       number = number;
       codes = subst (λ (q : Plan). AreCodes q c.as_slice-codes.result.now) (sym c.edit.ensures)
           (codes_stay plan c.as_slice-codes.result.now _ _ c.loop-edit.invariant.codes);
-      faults = omega (arith, c.loop-edit.invariant.faults, c.in_ok-write_report-2.ensures.faults);
+      faults = omega (arith, c.loop-edit.invariant.faults, c.in_ok-write_report-2.ensures.cause.later);
     }
 
 pub returns-in_err-codes-clause-prefix : goal.returns-in_err-codes-clause-prefix

@@ -32,7 +32,7 @@ loop-edit-init g c =
           (subst (λ (t : Told). IsGoing events p c.args.edits.now 0 p t first held) (sym told) going);
       live = ap (λ (v : Session). v.live) begun;
       number = refl;
-      faults = c.in_ok-write_report.ensures.faults;
+      faults = c.in_ok-write_report.ensures.cause.later;
     }
 
 pub edit-requires-clause-fits : goal.edit-requires-clause-fits
@@ -87,7 +87,7 @@ loop-edit-preserved g c =
           written);
       live = ap (λ (v : Session). v.live) edited;
       number = number;
-      faults = omega (arith, c.loop-edit.invariant.faults, c.in_ok-write_report-2.ensures.faults);
+      faults = omega (arith, c.loop-edit.invariant.faults, c.in_ok-write_report-2.ensures.cause.later);
     }
 
 pub returns-in_err-session-clause-prefix : goal.returns-in_err-session-clause-prefix
